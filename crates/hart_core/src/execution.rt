@@ -1,0 +1,159 @@
+//! What a hart does in a turn.
+
+ghost use Rattle.std.specs.Prelude.{◌≡◌, ◌+◌, None, Some, length, IfOk, OnOk, IfErr, OnErr};
+ghost use Rattle.hart_core.specs.Scalar.{jump_fault, plus};
+ghost use Rattle.hart_core.specs.HartState.{register, advanced, with_register, at_pc};
+ghost use Rattle.hart_core.specs.Addresses.{wrap};
+ghost use Rattle.hart_core.specs.Turn.{step, fault, IsDone};
+
+use crate::harts::{Hart, Status};
+use crate::memory::{Bytes, read_for_amo, read_u32, write_u32};
+use rv_encoding::decode;
+use rv_insn::{AluImmOp, AluOp, BranchOp, Imm12, Insn, LoadOp, Outcome, Reg, StoreOp, Trap};
+
+impl Hart {
+    /// One turn of the hart: the instruction that stands at the program counter, or nothing where the
+    /// hart has finished or trapped. A trap changes nothing but the hart's status.
+    pub fn step<M: Bytes>(&mut self, memory: &mut M) -> Outcome
+        ensures hart { self.new ≡ (step (M.text memory.old) (M.memory memory.old) self.old).hart }
+        ensures memory { M.memory memory.new ≡ (step (M.text memory.old) (M.memory memory.old) self.old).memory }
+        ensures text { M.text memory.new ≡ M.text memory.old }
+        ensures outcome { result ≡ (step (M.text memory.old) (M.memory memory.old) self.old).outcome }
+    {
+        if self.status() != Status::Running {
+            return Outcome::Idle;
+        }
+        let Some(word) = memory.fetch(self.pc()) else {
+            return self.trap(Trap::FetchOutside);
+        };
+        let Some(insn) = decode(word) else {
+            return self.trap(Trap::IllegalInstruction);
+        };
+        match self.execute(insn, memory) {
+            Ok(outcome) => outcome,
+            Err(trap) => self.trap(trap),
+        }
+    }
+
+    /// Executes an instruction, or says which trap it makes and changes nothing.
+    fn execute<M: Bytes>(&mut self, insn: Insn, memory: &mut M) -> Result<Outcome, Trap>
+        ensures ok { IfOk result (λ outcome. IsDone (M.text memory.old) (M.memory memory.old) self.old insn self.new (M.memory memory.new) outcome) }
+        ensures trap { IfErr result (λ trap. fault (length (M.text memory.old)) (length (M.memory memory.old)) insn self.old ≡ Some trap) }
+        ensures hart { OnErr result (self.new ≡ self.old) }
+        ensures memory { OnErr result (M.memory memory.new ≡ M.memory memory.old) }
+        ensures text { M.text memory.new ≡ M.text memory.old }
+    {
+        match insn {
+            Insn::Lui { rd, imm } => Ok(self.give(rd, imm.value() << 12)),
+            Insn::Jal { rd, offset } => {
+                let target = self.pc().wrapping_add(offset.bytes().cast_unsigned());
+                self.jump_and_link(rd, target)
+            }
+            Insn::Branch {
+                op: BranchOp::Beq,
+                rs1,
+                rs2,
+                offset,
+            } => {
+                if self.register(rs1) == self.register(rs2) {
+                    let target = self.pc().wrapping_add(offset.bytes().cast_unsigned());
+                    self.jump(target)
+                } else {
+                    Ok(self.advance())
+                }
+            }
+            Insn::Load {
+                op: LoadOp::Lw,
+                rd,
+                rs1,
+                imm,
+            } => {
+                let word = read_u32(memory, self.address(rs1, imm))?;
+                Ok(self.give(rd, word))
+            }
+            Insn::Store {
+                op: StoreOp::Sw,
+                rs1,
+                rs2,
+                imm,
+            } => {
+                write_u32(memory, self.address(rs1, imm), self.register(rs2))?;
+                Ok(self.advance())
+            }
+            Insn::AluImm {
+                op: AluImmOp::Addi,
+                rd,
+                rs1,
+                imm,
+            } => {
+                let sum = self.address(rs1, imm);
+                Ok(self.give(rd, sum))
+            }
+            Insn::Alu {
+                op: AluOp::Add,
+                rd,
+                rs1,
+                rs2,
+            } => {
+                let sum = self.register(rs1).wrapping_add(self.register(rs2));
+                Ok(self.give(rd, sum))
+            }
+            Insn::AmoaddW { rd, rs1, rs2, .. } => {
+                let address = self.register(rs1);
+                let old = read_for_amo(memory, address)?;
+                write_u32(memory, address, old.wrapping_add(self.register(rs2)))?;
+                Ok(self.give(rd, old))
+            }
+            Insn::Ecall => {
+                self.finish();
+                Ok(Outcome::Finished)
+            }
+        }
+    }
+
+    /// A register plus an immediate, modulo 2^32.
+    fn address(&self, rs1: Reg, imm: Imm12) -> u32
+        ensures { result ≡ plus (register self.now rs1) imm }
+    {
+        self.register(rs1).wrapping_add(imm.value().cast_unsigned())
+    }
+
+    /// Writes a register and goes on at the next instruction.
+    fn give(&mut self, rd: Reg, value: u32) -> Outcome
+        ensures hart { self.new ≡ advanced (with_register self.old rd value) }
+        ensures outcome { result ≡ Outcome.Stepped }
+    {
+        self.set_register(rd, value);
+        self.advance()
+    }
+
+    /// Goes on at the target, or traps where that is no multiple of 4.
+    fn jump(&mut self, target: u32) -> Result<Outcome, Trap>
+        ensures ok { IfOk result (λ outcome. outcome ≡ Outcome.Stepped) }
+        ensures allowed { OnOk result (jump_fault (Some target) ≡ None) }
+        ensures hart { OnOk result (self.new ≡ at_pc self.old target) }
+        ensures err { IfErr result (λ trap. jump_fault (Some target) ≡ Some trap) }
+        ensures unchanged { OnErr result (self.new ≡ self.old) }
+    {
+        if target % 4 != 0 {
+            return Err(Trap::MisalignedTarget);
+        }
+        self.go_to(target);
+        Ok(Outcome::Stepped)
+    }
+
+    /// Jumps, with the address of the next instruction in `rd`; where the target traps, no link is
+    /// written.
+    fn jump_and_link(&mut self, rd: Reg, target: u32) -> Result<Outcome, Trap>
+        ensures ok { IfOk result (λ outcome. outcome ≡ Outcome.Stepped) }
+        ensures allowed { OnOk result (jump_fault (Some target) ≡ None) }
+        ensures hart { OnOk result (self.new ≡ at_pc (with_register self.old rd (wrap (self.old.pc + 4))) target) }
+        ensures err { IfErr result (λ trap. jump_fault (Some target) ≡ Some trap) }
+        ensures unchanged { OnErr result (self.new ≡ self.old) }
+    {
+        let link = self.pc().wrapping_add(4);
+        let outcome = self.jump(target)?;
+        self.set_register(rd, link);
+        Ok(outcome)
+    }
+}

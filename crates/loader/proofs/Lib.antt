@@ -1,0 +1,5 @@
+pub mod Numbers
+pub mod Frames
+pub mod Contents
+pub mod Laws
+pub mod Joined

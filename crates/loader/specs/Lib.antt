@@ -1,0 +1,4 @@
+pub mod Fault
+pub mod Image
+pub mod Loading
+pub mod Spelling

@@ -1,0 +1,21 @@
+-- The machine that an image makes, and what bytes and a number of harts are loaded as.
+-- This project's own.
+use Rattle.std.specs.Prelude.{ℕ, ◌&&◌, nat_le, if◌then◌else◌, List, Result, Ok, Err}
+use Rattle.multi_hart.specs.Run.{State, opened}
+use Rattle.loader.specs.declared.faults.LoadFault.{LoadFault}
+use Rattle.loader.specs.declared.faults.LoadFault.TheVariants.{HartCount}
+use Rattle.loader.specs.Image.{ImageContents}
+use Rattle.loader.specs.Spelling.{image_of}
+
+-- a machine at the start, of so many harts
+abbrev pub machine_of : ImageContents → ℕ → State
+machine_of image harts = opened image.entry image.words image.bytes harts
+
+-- there are 1 to 8 harts
+abbrev pub with_harts : ℕ → Result ImageContents LoadFault → Result State LoadFault
+with_harts harts (Ok image) = if nat_le 1 harts && nat_le harts 8 then Ok (machine_of image harts) else Err HartCount
+with_harts harts (Err fault) = Err fault
+
+-- the bytes are judged first, the number of harts last
+abbrev pub loaded : List ℕ → ℕ → Result State LoadFault
+loaded bytes harts = with_harts harts (image_of bytes)

@@ -1,0 +1,134 @@
+-- A turn depends on what it reads alone, and turns with no conflict commute.
+use Rattle.std.proofs.Common.{◌≡◌, ℕ, zero, suc, ◌+◌, ◌-◌, ◌<◌, ◌≤◌, List, [], ◌∷◌, ◌++◌, length, get_or, set, Option, Some, None, Bool, true, false, refl, ap, ◌∙◌, sym, subst, arith, length-set, get_or-set_other}
+use Rattle.std.specs.Prelude.{◌≢◌, map, slice_get, nat_lt, cond}
+use Rattle.std.proofs.lemmas.List.{set_comm}
+use Rattle.std.proofs.lemmas.Bool.{ltb-false, cond_both}
+use Rattle.rv_insn.specs.declared.instructions.Insn.{Insn}
+use Rattle.hart_core.specs.Addresses.{data_start, byte_at, put, put_byte}
+use Rattle.hart_core.specs.Access.{Access, touched, places_of, number_of, number_at, read_by}
+use Rattle.hart_core.specs.HartState.{HartState}
+use Rattle.hart_core.specs.Scalar.{kind_of, accesses}
+use Rattle.hart_core.specs.Turn.{Next, Rests, Traps, Does, next_of, made, done, effect, Effect, applied, step}
+use Rattle.multi_hart.specs.Run.{State, turn, turned, put_back}
+use Rattle.multi_hart.specs.Frame.{reads, writes, Agree, NotIn, Apart, NoConflict, Frame, Commute}
+
+-- ---- what is read
+
+map-agree : (f g : ℕ → ℕ) (places : List ℕ) → Agree f g places → map f places ≡ map g places
+map-agree f g [] same = refl
+map-agree f g (place ∷ places) same = ap (λ x. x ∷ map f places) same.0 ∙ ap (λ xs. g place ∷ xs) (map-agree f g places same.1)
+
+agree-parts : (f g : ℕ → ℕ) (places others : List ℕ) → Agree f g (places ++ others) → Agree f g places × Agree f g others
+agree-parts f g [] others same = (tt, same)
+agree-parts f g (place ∷ places) others same = let rest = agree-parts f g places others same.1 in ((same.0, rest.0), rest.1)
+
+numbers-agree : (text memory memory' : List ℕ) (all : List Access) → Agree (byte_at text memory) (byte_at text memory') (touched all) → map (number_at text memory) all ≡ map (number_at text memory') all
+numbers-agree text memory memory' [] same = refl
+numbers-agree text memory memory' (access ∷ all) same =
+    let parts = agree-parts (byte_at text memory) (byte_at text memory') (places_of access) (touched all) same in
+    let one : number_at text memory access ≡ number_at text memory' access = ap (number_of access.size) (map-agree (byte_at text memory) (byte_at text memory') (places_of access) parts.0) in
+    ap (λ n. n ∷ map (number_at text memory) all) one ∙ ap (λ ns. number_at text memory' access ∷ ns) (numbers-agree text memory memory' all parts.1)
+
+made-frame : (text memory memory' : List ℕ) (hart : HartState) (next : Next) → Agree (byte_at text memory) (byte_at text memory') (reads next hart) → made text memory hart next ≡ made text memory' hart next
+made-frame text memory memory' hart Rests same = refl
+made-frame text memory memory' hart (Traps trap) same = refl
+made-frame text memory memory' hart (Does insn) same = ap (done hart insn) (numbers-agree text memory memory' (read_by (kind_of insn) (accesses insn hart)) same)
+
+pub frame : Frame
+frame text memory memory' hart e same =
+    made-frame text memory memory' hart (next_of text (length memory) hart) same ∙ ap (λ n. made text memory' hart (next_of text n hart)) e
+
+-- ---- what is written
+
+length-put_byte : (memory : List ℕ) (place byte : ℕ) → length (put_byte memory place byte) ≡ length memory
+length-put_byte memory place byte = grind (arith, length-set {A = ℕ})
+
+pub length-put : (memory places bytes : List ℕ) → length (put memory places bytes) ≡ length memory
+length-put memory [] bytes = refl
+length-put memory (place ∷ places) [] = refl
+length-put memory (place ∷ places) (byte ∷ bytes) = length-put (put_byte memory place byte) places bytes ∙ length-put_byte memory place byte
+
+same-cond : {A : Type 0} (t : Bool) (x y z : A) → (t ≡ false → y ≡ z) → cond t x y ≡ cond t x z
+same-cond true x y z h = refl
+same-cond false x y z h = h refl
+
+put-other : (memory : List ℕ) (place byte x : ℕ) → data_start ≤ x → x ≢ place → get_or (put_byte memory place byte) (x - data_start) 0 ≡ get_or memory (x - data_start) 0
+put-other memory place byte x low other =
+    cond_both (nat_lt place data_start) memory (set memory (place - data_start) byte) (λ m. get_or m (x - data_start) 0 ≡ get_or memory (x - data_start) 0) (λ _. refl)
+    (λ e. let above = ltb-false place data_start e in let apart : x - data_start ≢ place - data_start = (λ q. other (omega arith)) in get_or-set_other memory (place - data_start) (x - data_start) byte 0 apart)
+
+byte-put_byte : (text memory : List ℕ) (place byte x : ℕ) → x ≢ place → byte_at text (put_byte memory place byte) x ≡ byte_at text memory x
+byte-put_byte text memory place byte x other = same-cond (nat_lt x data_start) _ _ _ (λ e. put-other memory place byte x (ltb-false x data_start e) other)
+
+pub byte-put : (text memory places bytes : List ℕ) (x : ℕ) → NotIn x places → byte_at text (put memory places bytes) x ≡ byte_at text memory x
+byte-put text memory [] bytes x h = refl
+byte-put text memory (place ∷ places) [] x h = refl
+byte-put text memory (place ∷ places) (byte ∷ bytes) x h = byte-put text (put_byte memory place byte) places bytes x h.1 ∙ byte-put_byte text memory place byte x h.0
+
+set_apart : (memory : List ℕ) (p b q c : ℕ) → data_start ≤ p → data_start ≤ q → p ≢ q → set (set memory (p - data_start) b) (q - data_start) c ≡ set (set memory (q - data_start) c) (p - data_start) b
+set_apart memory p b q c hp hq other = let apart : p - data_start ≢ q - data_start = (λ e. other (omega arith)) in set_comm memory (p - data_start) (q - data_start) b c apart
+
+put_byte-two : (s t : Bool) (memory : List ℕ) (p b q c : ℕ) → (s ≡ false → data_start ≤ p) → (t ≡ false → data_start ≤ q) → p ≢ q → cond t (cond s memory (set memory (p - data_start) b)) (set (cond s memory (set memory (p - data_start) b)) (q - data_start) c) ≡ cond s (cond t memory (set memory (q - data_start) c)) (set (cond t memory (set memory (q - data_start) c)) (p - data_start) b)
+put_byte-two true true memory p b q c hp hq other = refl
+put_byte-two true false memory p b q c hp hq other = refl
+put_byte-two false true memory p b q c hp hq other = refl
+put_byte-two false false memory p b q c hp hq other = set_apart memory p b q c (hp refl) (hq refl) other
+
+put_byte-comm : (memory : List ℕ) (p b q c : ℕ) → p ≢ q → put_byte (put_byte memory p b) q c ≡ put_byte (put_byte memory q c) p b
+put_byte-comm memory p b q c other = put_byte-two (nat_lt p data_start) (nat_lt q data_start) memory p b q c (ltb-false p data_start) (ltb-false q data_start) other
+
+put-past : (memory : List ℕ) (p b : ℕ) (qs cs : List ℕ) → NotIn p qs → put (put_byte memory p b) qs cs ≡ put_byte (put memory qs cs) p b
+put-past memory p b [] cs h = refl
+put-past memory p b (q ∷ qs) [] h = refl
+put-past memory p b (q ∷ qs) (c ∷ cs) h =
+    ap (λ m. put m qs cs) (put_byte-comm memory p b q c h.0) ∙ put-past (put_byte memory q c) p b qs cs h.1
+
+put-comm : (memory ps bs qs cs : List ℕ) → Apart ps qs → put (put memory ps bs) qs cs ≡ put (put memory qs cs) ps bs
+put-comm memory [] bs qs cs h = refl
+put-comm memory (p ∷ ps) [] qs cs h = refl
+put-comm memory (p ∷ ps) (b ∷ bs) qs cs h =
+    put-comm (put_byte memory p b) ps bs qs cs h.1 ∙ ap (λ m. put m ps bs) (put-past memory p b qs cs h.0)
+
+agree-put : (text memory places bytes xs : List ℕ) → Apart xs places → Agree (byte_at text memory) (byte_at text (put memory places bytes)) xs
+agree-put text memory places bytes [] h = tt
+agree-put text memory places bytes (x ∷ xs) h = (sym (byte-put text memory places bytes x h.0), agree-put text memory places bytes xs h.1)
+
+places-are : (text memory : List ℕ) (hart : HartState) (next : Next) → (made text memory hart next).places ≡ writes next hart
+places-are text memory hart Rests = refl
+places-are text memory hart (Traps trap) = refl
+places-are text memory hart (Does insn) = refl
+
+-- ---- two turns
+
+slice_get-set_other : {X : Type 0} (xs : List X) (i j : ℕ) (y : X) → i ≢ j → slice_get (set xs i y) j ≡ slice_get xs j
+slice_get-set_other [] i j y other = refl
+slice_get-set_other (x ∷ xs) zero zero y other = absurd (other refl)
+slice_get-set_other (x ∷ xs) zero (suc j) y other = refl
+slice_get-set_other (x ∷ xs) (suc i) zero y other = refl
+slice_get-set_other (x ∷ xs) (suc i) (suc j) y other = slice_get-set_other xs i j y (λ e. other (ap suc e))
+
+-- the second of two turns finds the same bytes
+second : (state : State) (g h : HartState) → Apart (reads (next_of state.text (length state.memory) h) h) (writes (next_of state.text (length state.memory) g) g) → effect state.text (step state.text state.memory g).memory h ≡ effect state.text state.memory h
+second state g h free =
+    let e = effect state.text state.memory g in
+    let free' = subst (λ ps. Apart (reads (next_of state.text (length state.memory) h) h) ps) (sym (places-are state.text state.memory g (next_of state.text (length state.memory) g))) free in
+    sym (frame state.text state.memory (put state.memory e.places e.bytes) h (sym (length-put state.memory e.places e.bytes)) (agree-put state.text state.memory e.places e.bytes _ free'))
+
+-- two turns, where both harts are there
+two : (state : State) (a b : ℕ) (g h : HartState) → a ≢ b → slice_get state.harts a ≡ Some g → slice_get state.harts b ≡ Some h → Apart (reads (next_of state.text (length state.memory) h) h) (writes (next_of state.text (length state.memory) g) g) → turn (turn state a) b ≡ put_back (put_back state a (step state.text state.memory g)) b (applied (step state.text state.memory g).memory (effect state.text state.memory h))
+two state a b g h other ea eb free =
+    let s1 = put_back state a (step state.text state.memory g) in
+    let e1 : turn state a ≡ s1 = ap (turned state a) ea in
+    let e2 : slice_get s1.harts b ≡ Some h = slice_get-set_other state.harts a b _ other ∙ eb in
+    ap (λ x. turn x b) e1 ∙ ap (turned s1 b) e2 ∙ ap (λ e. put_back s1 b (applied s1.memory e)) (second state g h free)
+
+pub commute : Commute
+commute state a b g h other ea eb free =
+    let e = effect state.text state.memory g in
+    let f = effect state.text state.memory h in
+    let n = length state.memory in
+    let w : Apart e.places f.places = subst (λ ps. Apart ps f.places) (sym (places-are state.text state.memory g (next_of state.text n g))) (subst (λ qs. Apart (writes (next_of state.text n g) g) qs) (sym (places-are state.text state.memory h (next_of state.text n h))) free.both_write) in
+    two state a b g h other ea eb free.second_reads
+    ∙ ap (λ m. put_back (put_back state a (step state.text state.memory g)) b (record { hart = f.hart; memory = m; outcome = f.outcome })) (put-comm state.memory e.places e.bytes f.places f.bytes w)
+    ∙ ap (λ hs. record { text = state.text; memory = put (put state.memory f.places f.bytes) e.places e.bytes; harts = hs }) (set_comm state.harts a b e.hart f.hart other)
+    ∙ sym (two state b a h g (λ q. other (sym q)) eb ea free.first_reads)

@@ -1,0 +1,167 @@
+//! Harts over one memory, stepped one at a time.
+
+ghost use Rattle.std.specs.Prelude.{◌≡◌, ◌<◌, ◌≤◌, length, take, slice_index, OnOk, IfOk, IfErr, All, IsTrue};
+ghost use Rattle.hart_core.specs.Addresses.{most_words, most_bytes, is_text_word};
+ghost use Rattle.hart_core.specs.HartState.{register, vector};
+ghost use Rattle.multi_hart.specs.Finished.{all_finished};
+ghost use Rattle.multi_hart.specs.Run.{opened, turn, outcome, run, KeepsShape, hart_at, word_in};
+
+use hart_core::{Bytes, Hart, Memory, Status, read_u32};
+use rv_insn::{Outcome, Reg, VReg};
+use std::alloc::{AllocError, Global};
+use std::marker::Model;
+
+/// A list of turns names a hart that the machine doesn't have.
+#[derive(Clone, Copy, Debug, PartialEq, Eq)]
+pub struct UnknownHart {
+    /// The place in the list, from 0 on.
+    pub at: usize,
+}
+
+/// One to eight harts over one memory. A contract sees text, data and the harts as a `State`.
+#[derive(Drop)]
+pub struct Machine {
+    memory: Memory,
+    harts: Vec<Hart>,
+}
+
+impl Model for Machine {
+    ghost use Rattle.multi_hart.specs.Run.{State};
+
+    ghost Value = { State };
+
+    ghost view = { λ m. record { text = m.memory.text; memory = m.memory.memory; harts = m.harts.items } };
+}
+
+impl Machine {
+    /// A machine at the start: 1 to 8 harts, all at the entry, over 1 to 262,144 words of text and at
+    /// most 33,554,432 bytes of data. The entry is the address of a text word.
+    pub fn new(
+        alloc: Global,
+        entry: u32,
+        words: Vec<u32>,
+        bytes: Vec<u8>,
+        harts: usize,
+    ) -> Result<Machine, AllocError>
+        requires words { length words.items ≤ most_words }
+        requires bytes { length bytes.items ≤ most_bytes }
+        requires entry { IsTrue (is_text_word (length words.items) entry) }
+        requires one { 1 ≤ harts }
+        requires eight { harts ≤ 8 }
+        ensures opened { IfOk result (λ machine. machine ≡ opened entry words.items bytes.items harts) }
+        ensures harts { IfOk result (λ machine. length machine.harts ≡ harts) }
+    {
+        let mut all = Vec::new(alloc);
+        for number in 0..harts {
+            all.push(Hart::new(entry, harts as u32, number as u32))?;
+        }
+        Ok(Machine {
+            memory: Memory::new(words, bytes),
+            harts: all,
+        })
+    }
+
+    /// One turn of a hart, as the instruction table has it. Takes no memory.
+    pub fn turn(&mut self, hart: usize) -> Outcome
+        requires { hart < length self.old.harts }
+        ensures state { self.new ≡ turn self.old hart }
+        ensures outcome { result ≡ outcome self.old hart }
+    {
+        let one = &mut self.harts[hart];
+        one.step(&mut self.memory)
+    }
+
+    /// The turns, one after the other, up to the first that names a hart which isn't there. Takes no
+    /// memory.
+    pub fn run(&mut self, turns: &[u8]) -> Result<(), UnknownHart>
+        ensures shape { KeepsShape self.old self.new }
+        ensures ok { OnOk result (self.new ≡ run self.old turns.now) }
+        ensures all_known { OnOk result (All (λ hart. hart < length self.old.harts) turns.now) }
+        ensures err { IfErr result (λ e. self.new ≡ run self.old (take e.at turns.now)) }
+        ensures within { IfErr result (λ e. e.at < length turns.now) }
+        ensures unknown { IfErr result (λ e. length self.old.harts ≤ slice_index turns.now e.at) }
+        ensures first { IfErr result (λ e. All (λ hart. hart < length self.old.harts) (take e.at turns.now)) }
+    {
+        for (at, hart) in turns.iter().enumerate() {
+            let hart = *hart as usize;
+            if hart >= self.harts() {
+                return Err(UnknownHart { at });
+            }
+            let _ = self.turn(hart);
+        }
+        Ok(())
+    }
+
+    /// How many harts there are.
+    pub fn harts(&self) -> usize
+        ensures { result ≡ length self.now.harts }
+    {
+        self.harts.len()
+    }
+
+    /// A hart's program counter.
+    pub fn pc(&self, hart: usize) -> u32
+        requires { hart < length self.now.harts }
+        ensures { result ≡ (hart_at self.now hart).pc }
+    {
+        self.harts[hart].pc()
+    }
+
+    /// What an integer register of a hart holds.
+    pub fn register(&self, hart: usize, r: Reg) -> u32
+        requires { hart < length self.now.harts }
+        ensures { result ≡ register (hart_at self.now hart) r }
+    {
+        self.harts[hart].register(r)
+    }
+
+    /// The 16 bytes of a vector register of a hart, byte 0 first.
+    pub fn vector(&self, hart: usize, v: VReg) -> [u8; 16]
+        requires { hart < length self.now.harts }
+        ensures { result ≡ vector (hart_at self.now hart) v }
+    {
+        self.harts[hart].vector(v)
+    }
+
+    /// A hart's vl, the number of elements that vector instructions work on.
+    pub fn vl(&self, hart: usize) -> u32
+        requires { hart < length self.now.harts }
+        ensures { result ≡ (hart_at self.now hart).vl }
+    {
+        self.harts[hart].vl()
+    }
+
+    /// A hart's vtype register.
+    pub fn vtype(&self, hart: usize) -> u32
+        requires { hart < length self.now.harts }
+        ensures { result ≡ (hart_at self.now hart).vtype }
+    {
+        self.harts[hart].vtype()
+    }
+
+    /// Whether a hart runs, has finished, or has trapped.
+    pub fn status(&self, hart: usize) -> Status
+        requires { hart < length self.now.harts }
+        ensures { result ≡ (hart_at self.now hart).status }
+    {
+        self.harts[hart].status()
+    }
+
+    /// Whether all harts have finished.
+    pub fn is_finished(&self) -> bool
+        ensures { result ≡ all_finished self.now }
+    {
+        self.harts.iter().all(|hart| hart.has_finished())
+    }
+
+    /// The word at an address, and `None` where the address is no multiple of 4 or not all four bytes
+    /// are text or data.
+    pub fn word(&self, address: u32) -> Option<u32>
+        ensures { result ≡ word_in self.now address }
+    {
+        match read_u32(&self.memory, address) {
+            Ok(word) => Some(word),
+            Err(_) => None,
+        }
+    }
+}

@@ -1,0 +1,75 @@
+-- Each operation's keys fit their fields, and an operation is found by its keys and by no others.
+use Rattle.std.proofs.Common.{◌≡◌, ℕ, ◌<◌, ◌^◌, ◌==◌, ◌&&◌, Some, refl, lit<}
+use Rattle.std.proofs.lemmas.Bool.{eqb-true}
+use Rattle.rv_insn.specs.declared.operations.BranchOp.{BranchOp}
+use Rattle.rv_insn.specs.declared.operations.BranchOp.TheVariants as branches
+use Rattle.rv_insn.specs.declared.operations.LoadOp.{LoadOp}
+use Rattle.rv_insn.specs.declared.operations.LoadOp.TheVariants as loads
+use Rattle.rv_insn.specs.declared.operations.StoreOp.{StoreOp}
+use Rattle.rv_insn.specs.declared.operations.StoreOp.TheVariants as stores
+use Rattle.rv_insn.specs.declared.operations.AluImmOp.{AluImmOp}
+use Rattle.rv_insn.specs.declared.operations.AluImmOp.TheVariants as alu_imms
+use Rattle.rv_insn.specs.declared.operations.AluOp.{AluOp}
+use Rattle.rv_insn.specs.declared.operations.AluOp.TheVariants as alus
+use Rattle.rv_encoding.specs.Operations.{branch_funct3, all_branches, branch_of, load_funct3, all_loads, load_of, store_funct3, all_stores, store_of, alu_imm_funct3, all_alu_imms, alu_imm_of, alu_funct3, alu_funct7, all_alus, alu_of}
+use Rattle.rv_encoding.proofs.Lists.{both_true, find_passes}
+
+-- ---- branches
+
+pub branch_funct3-lt : (op : BranchOp) → branch_funct3 op < 2 ^ 3
+branch_funct3-lt branches.Beq = lit< tt
+
+pub branch_of-funct3 : (op : BranchOp) → branch_of (branch_funct3 op) ≡ Some op
+branch_of-funct3 branches.Beq = refl
+
+pub branch_found : (funct3 : ℕ) (op : BranchOp) → branch_of funct3 ≡ Some op → branch_funct3 op ≡ funct3
+branch_found funct3 op e = eqb-true _ funct3 (find_passes (λ op. branch_funct3 op == funct3) all_branches op e)
+
+-- ---- loads
+
+pub load_funct3-lt : (op : LoadOp) → load_funct3 op < 2 ^ 3
+load_funct3-lt loads.Lw = lit< tt
+
+pub load_of-funct3 : (op : LoadOp) → load_of (load_funct3 op) ≡ Some op
+load_of-funct3 loads.Lw = refl
+
+pub load_found : (funct3 : ℕ) (op : LoadOp) → load_of funct3 ≡ Some op → load_funct3 op ≡ funct3
+load_found funct3 op e = eqb-true _ funct3 (find_passes (λ op. load_funct3 op == funct3) all_loads op e)
+
+-- ---- stores
+
+pub store_funct3-lt : (op : StoreOp) → store_funct3 op < 2 ^ 3
+store_funct3-lt stores.Sw = lit< tt
+
+pub store_of-funct3 : (op : StoreOp) → store_of (store_funct3 op) ≡ Some op
+store_of-funct3 stores.Sw = refl
+
+pub store_found : (funct3 : ℕ) (op : StoreOp) → store_of funct3 ≡ Some op → store_funct3 op ≡ funct3
+store_found funct3 op e = eqb-true _ funct3 (find_passes (λ op. store_funct3 op == funct3) all_stores op e)
+
+-- ---- operations on a register and an immediate
+
+pub alu_imm_funct3-lt : (op : AluImmOp) → alu_imm_funct3 op < 2 ^ 3
+alu_imm_funct3-lt alu_imms.Addi = lit< tt
+
+pub alu_imm_of-funct3 : (op : AluImmOp) → alu_imm_of (alu_imm_funct3 op) ≡ Some op
+alu_imm_of-funct3 alu_imms.Addi = refl
+
+pub alu_imm_found : (funct3 : ℕ) (op : AluImmOp) → alu_imm_of funct3 ≡ Some op → alu_imm_funct3 op ≡ funct3
+alu_imm_found funct3 op e = eqb-true _ funct3 (find_passes (λ op. alu_imm_funct3 op == funct3) all_alu_imms op e)
+
+-- ---- operations on two registers
+
+pub alu_funct3-lt : (op : AluOp) → alu_funct3 op < 2 ^ 3
+alu_funct3-lt alus.Add = lit< tt
+
+pub alu_funct7-lt : (op : AluOp) → alu_funct7 op < 2 ^ 7
+alu_funct7-lt alus.Add = lit< tt
+
+pub alu_of-keys : (op : AluOp) → alu_of (alu_funct3 op) (alu_funct7 op) ≡ Some op
+alu_of-keys alus.Add = refl
+
+pub alu_found : (funct3 funct7 : ℕ) (op : AluOp) → alu_of funct3 funct7 ≡ Some op → (alu_funct3 op ≡ funct3) × (alu_funct7 op ≡ funct7)
+alu_found funct3 funct7 op e =
+    let both = both_true _ _ (find_passes (λ op. (alu_funct3 op == funct3) && (alu_funct7 op == funct7)) all_alus op e) in
+    (eqb-true _ funct3 both.0, eqb-true _ funct7 both.1)

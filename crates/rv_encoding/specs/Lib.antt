@@ -1,0 +1,3 @@
+pub mod Decoding
+pub mod Formats
+pub mod Operations

@@ -1,0 +1,138 @@
+//! Decoding: the instruction that a word means.
+
+ghost use Rattle.std.specs.Prelude.{◌≡◌, ◌/◌, ◌%◌, ◌^◌, IfSome, IfNone};
+ghost use Rattle.rv_insn.specs.Meaning.{Means};
+ghost use Rattle.rv_insn.specs.declared.instructions.Insn.{Insn};
+ghost use Rattle.rv_encoding.specs.Decoding.{part, branch_in, load_in, store_in, alu_imm_in, alu_in, amo_in, system_in, decoded};
+
+use crate::fields::{
+    b_offset, flag, funct3, funct5, funct7, i_immediate, j_offset, opcode, rd, rs1, rs2,
+    s_immediate, u_immediate,
+};
+use crate::keys::{alu_imm_op, alu_op, branch_op, load_op, store_op};
+use crate::opcodes;
+use rv_insn::Insn;
+
+fn branch(word: u32) -> Option<Insn>
+    ensures { result ≡ branch_in (part word 12 3) word }
+{
+    let op = branch_op(funct3(word))?;
+    Some(Insn::Branch {
+        op,
+        rs1: rs1(word),
+        rs2: rs2(word),
+        offset: b_offset(word),
+    })
+}
+
+fn load(word: u32) -> Option<Insn>
+    ensures { result ≡ load_in (part word 12 3) word }
+{
+    let op = load_op(funct3(word))?;
+    Some(Insn::Load {
+        op,
+        rd: rd(word),
+        rs1: rs1(word),
+        imm: i_immediate(word),
+    })
+}
+
+fn store(word: u32) -> Option<Insn>
+    ensures { result ≡ store_in (part word 12 3) word }
+{
+    let op = store_op(funct3(word))?;
+    Some(Insn::Store {
+        op,
+        rs1: rs1(word),
+        rs2: rs2(word),
+        imm: s_immediate(word),
+    })
+}
+
+fn alu_imm(word: u32) -> Option<Insn>
+    ensures { result ≡ alu_imm_in (part word 12 3) word }
+{
+    let op = alu_imm_op(funct3(word))?;
+    Some(Insn::AluImm {
+        op,
+        rd: rd(word),
+        rs1: rs1(word),
+        imm: i_immediate(word),
+    })
+}
+
+fn alu(word: u32) -> Option<Insn>
+    ensures { result ≡ alu_in (part word 12 3) (part word 25 7) word }
+{
+    let op = alu_op(funct3(word), funct7(word))?;
+    Some(Insn::Alu {
+        op,
+        rd: rd(word),
+        rs1: rs1(word),
+        rs2: rs2(word),
+    })
+}
+
+// The only atomic operation is the addition of words: funct3 is 0b010 and funct5 is 0.
+fn amo(word: u32) -> Option<Insn>
+    ensures { result ≡ amo_in (part word 12 3) word }
+{
+    if funct3(word) == 0b010 && funct5(word) == 0b00000 {
+        Some(Insn::AmoaddW {
+            rd: rd(word),
+            rs1: rs1(word),
+            rs2: rs2(word),
+            aq: flag(word, 26),
+            rl: flag(word, 25),
+        })
+    } else {
+        None
+    }
+}
+
+fn system(word: u32) -> Option<Insn>
+    ensures { result ≡ system_in word }
+{
+    match word {
+        opcodes::ECALL => Some(Insn::Ecall),
+        _ => None,
+    }
+}
+
+#[tactic(auto, unfolding(crate::specs::Decoding::decoded))]
+fn decode_by_opcode(word: u32) -> Option<Insn>
+    ensures { result ≡ decoded word }
+{
+    match opcode(word) {
+        opcodes::LUI => Some(Insn::Lui {
+            rd: rd(word),
+            imm: u_immediate(word),
+        }),
+        opcodes::JAL => Some(Insn::Jal {
+            rd: rd(word),
+            offset: j_offset(word),
+        }),
+        opcodes::BRANCH => branch(word),
+        opcodes::LOAD => load(word),
+        opcodes::STORE => store(word),
+        opcodes::OP_IMM => alu_imm(word),
+        opcodes::OP => alu(word),
+        opcodes::AMO => amo(word),
+        opcodes::SYSTEM => system(word),
+        _ => None,
+    }
+}
+
+/// The instruction that a word means, and `None` exactly where no row of the table fits it.
+///
+/// Words are those of the manual's chapter 24. All 32 bits count: a word with a fixed bit changed
+/// has no meaning here, but for the bits `aq` and `rl` of an atomic operation, which are fields
+/// (section 8.4).
+#[tactic(auto, using(crate::proofs::Meanings::sound))]
+pub fn decode(word: u32) -> Option<Insn>
+    ensures some { IfSome result (Means word) }
+    ensures none { IfNone result ((insn : Insn) → Means word insn → ⊥) }
+    ensures exact { result ≡ decoded word }
+{
+    decode_by_opcode(word)
+}

@@ -1,0 +1,4 @@
+pub mod Encoding
+pub mod Meaning
+pub mod Table
+pub mod Trap

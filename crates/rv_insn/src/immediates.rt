@@ -1,0 +1,180 @@
+//! The numbers that stand in an instruction, each in the range that its bits can spell.
+
+ghost use Rattle.std.specs.Prelude.{◌≡◌, ◌<◌, ◌^◌, pos, negsuc, ◌≤ℤ◌, ◌*ℤ◌, SomeIff};
+
+use std::marker::Model;
+
+/// A signed number of 12 bits, -2048 to 2047: the immediate of the I and S formats.
+#[derive(Clone, Copy, Debug, PartialEq, Eq)]
+pub struct Imm12 {
+    value: i32,
+}
+
+impl Model for Imm12 {
+    ghost use Rattle.std.specs.Prelude.{ℤ, pos, negsuc, ◌≤ℤ◌};
+
+    ghost Value = { ℤ };
+
+    ghost view = { λ imm. imm.value };
+
+    ghost invariant = { λ imm. (negsuc 2047 ≤ℤ imm.value) × (imm.value ≤ℤ pos 2047) };
+
+    ghost inverse = { λ z. record { value = z } };
+}
+
+impl Imm12 {
+    /// The immediate of a number from -2048 to 2047, and `None` for any other number.
+    pub fn new(value: i32) -> Option<Imm12>
+        ensures { SomeIff result ((negsuc 2047 ≤ℤ value) × (value ≤ℤ pos 2047)) value }
+    {
+        if value >= -2048 && value <= 2047 {
+            Some(Imm12 { value })
+        } else {
+            None
+        }
+    }
+
+    /// The number itself.
+    pub fn value(self) -> i32
+        ensures value { result ≡ self }
+        ensures low { negsuc 2047 ≤ℤ result }
+        ensures high { result ≤ℤ pos 2047 }
+    {
+        self.value
+    }
+}
+
+/// The upper 20 bits of a word, 0 to 1,048,575: the immediate of the U format.
+#[derive(Clone, Copy, Debug, PartialEq, Eq)]
+pub struct Imm20 {
+    value: u32,
+}
+
+impl Model for Imm20 {
+    ghost use Rattle.std.specs.Prelude.{ℕ, ◌<◌, ◌^◌};
+
+    ghost Value = { ℕ };
+
+    ghost view = { λ imm. imm.value };
+
+    ghost invariant = { λ imm. imm.value < 2 ^ 20 };
+
+    ghost inverse = { λ n. record { value = n } };
+}
+
+impl Imm20 {
+    /// The immediate of a number below 2^20, and `None` for any other number.
+    pub fn new(value: u32) -> Option<Imm20>
+        ensures { SomeIff result (value < 2 ^ 20) value }
+    {
+        if value < 1 << 20 {
+            Some(Imm20 { value })
+        } else {
+            None
+        }
+    }
+
+    /// The 20 bits as a number, not yet shifted to their place.
+    pub fn value(self) -> u32
+        ensures value { result ≡ self }
+        ensures in_range { result < 2 ^ 20 }
+    {
+        self.value
+    }
+}
+
+/// How far a branch goes: -2048 to 2047 half-words, that is -4096 to 4094 bytes. A contract sees
+/// the half-words, which are what the B format spells, so that no offset is ever odd.
+#[derive(Clone, Copy, Debug, PartialEq, Eq)]
+pub struct BranchOffset {
+    halves: i32,
+}
+
+impl Model for BranchOffset {
+    ghost use Rattle.std.specs.Prelude.{ℤ, pos, negsuc, ◌≤ℤ◌};
+
+    ghost Value = { ℤ };
+
+    ghost view = { λ offset. offset.halves };
+
+    ghost invariant = { λ offset. (negsuc 2047 ≤ℤ offset.halves) × (offset.halves ≤ℤ pos 2047) };
+
+    ghost inverse = { λ z. record { halves = z } };
+}
+
+impl BranchOffset {
+    /// The offset of -2048 to 2047 half-words, and `None` for any other number.
+    pub fn new(halves: i32) -> Option<BranchOffset>
+        ensures { SomeIff result ((negsuc 2047 ≤ℤ halves) × (halves ≤ℤ pos 2047)) halves }
+    {
+        if halves >= -2048 && halves <= 2047 {
+            Some(BranchOffset { halves })
+        } else {
+            None
+        }
+    }
+
+    /// The offset in half-words.
+    pub fn halves(self) -> i32
+        ensures value { result ≡ self }
+        ensures low { negsuc 2047 ≤ℤ result }
+        ensures high { result ≤ℤ pos 2047 }
+    {
+        self.halves
+    }
+
+    /// The offset in bytes, always even.
+    pub fn bytes(self) -> i32
+        ensures { result ≡ pos 2 *ℤ self }
+    {
+        2 * self.halves
+    }
+}
+
+/// How far a jump goes: -524,288 to 524,287 half-words, that is -1,048,576 to 1,048,574 bytes. A
+/// contract sees the half-words, which are what the J format spells.
+#[derive(Clone, Copy, Debug, PartialEq, Eq)]
+pub struct JumpOffset {
+    halves: i32,
+}
+
+impl Model for JumpOffset {
+    ghost use Rattle.std.specs.Prelude.{ℤ, pos, negsuc, ◌≤ℤ◌};
+
+    ghost Value = { ℤ };
+
+    ghost view = { λ offset. offset.halves };
+
+    ghost invariant = { λ offset. (negsuc 524287 ≤ℤ offset.halves) × (offset.halves ≤ℤ pos 524287) };
+
+    ghost inverse = { λ z. record { halves = z } };
+}
+
+impl JumpOffset {
+    /// The offset of -524,288 to 524,287 half-words, and `None` for any other number.
+    pub fn new(halves: i32) -> Option<JumpOffset>
+        ensures { SomeIff result ((negsuc 524287 ≤ℤ halves) × (halves ≤ℤ pos 524287)) halves }
+    {
+        if halves >= -524288 && halves <= 524287 {
+            Some(JumpOffset { halves })
+        } else {
+            None
+        }
+    }
+
+    /// The offset in half-words.
+    pub fn halves(self) -> i32
+        ensures value { result ≡ self }
+        ensures low { negsuc 524287 ≤ℤ result }
+        ensures high { result ≤ℤ pos 524287 }
+    {
+        self.halves
+    }
+
+    /// The offset in bytes, always even.
+    pub fn bytes(self) -> i32
+        ensures { result ≡ pos 2 *ℤ self }
+    {
+        2 * self.halves
+    }
+}

@@ -1,0 +1,60 @@
+//! Instructions as values.
+
+use crate::immediates::{BranchOffset, Imm12, Imm20, JumpOffset};
+use crate::operations::{AluImmOp, AluOp, BranchOp, LoadOp, StoreOp};
+use crate::registers::Reg;
+
+/// An instruction with all the fields of its row of the instruction table.
+#[derive(Clone, Copy)]
+pub enum Insn {
+    /// `lui rd,imm`: the immediate becomes the upper 20 bits of `rd`, the lower 12 are 0.
+    Lui { rd: Reg, imm: Imm20 },
+    /// `jal rd,offset`: goes on at the offset from this instruction, and links in `rd`.
+    Jal { rd: Reg, offset: JumpOffset },
+    /// A conditional branch on `rs1` and `rs2`, as far as the offset from this instruction.
+    Branch {
+        op: BranchOp,
+        rs1: Reg,
+        rs2: Reg,
+        offset: BranchOffset,
+    },
+    /// A load into `rd` from the address `rs1 + imm`.
+    Load {
+        op: LoadOp,
+        rd: Reg,
+        rs1: Reg,
+        imm: Imm12,
+    },
+    /// A store of `rs2` at the address `rs1 + imm`.
+    Store {
+        op: StoreOp,
+        rs1: Reg,
+        rs2: Reg,
+        imm: Imm12,
+    },
+    /// An operation on `rs1` and an immediate, with its result in `rd`.
+    AluImm {
+        op: AluImmOp,
+        rd: Reg,
+        rs1: Reg,
+        imm: Imm12,
+    },
+    /// An operation on `rs1` and `rs2`, with its result in `rd`.
+    Alu {
+        op: AluOp,
+        rd: Reg,
+        rs1: Reg,
+        rs2: Reg,
+    },
+    /// `amoadd.w rd,rs2,(rs1)`: adds `rs2` to the word at `rs1`, and gives `rd` the word before, in
+    /// one step. The bits `aq` and `rl` change nothing on a machine of one order.
+    AmoaddW {
+        rd: Reg,
+        rs1: Reg,
+        rs2: Reg,
+        aq: bool,
+        rl: bool,
+    },
+    /// `ecall`: the hart has finished.
+    Ecall,
+}

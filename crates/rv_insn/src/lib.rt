@@ -1,0 +1,21 @@
+//! The machine's instructions as values, and the table that says which words mean them.
+//!
+//! An instruction is a value of [`Insn`]: an enum of groups, each with its operands and, where the
+//! group has several rows of the instruction table, the operation that names the row. Every value
+//! has all the fields of its row and nothing else, so each one is spelled by exactly one word.
+//!
+//! The table itself stands in `specs/Table.antt` as literal data, and `specs/Encoding.antt` says
+//! what it is for a word to mean an instruction. The crate `rv_encoding` computes both directions.
+#![tactic(auto)]
+
+pub mod immediates;
+pub mod instructions;
+pub mod operations;
+pub mod outcomes;
+pub mod registers;
+
+pub use crate::immediates::{BranchOffset, Imm12, Imm20, JumpOffset};
+pub use crate::instructions::Insn;
+pub use crate::operations::{AluImmOp, AluOp, BranchOp, LoadOp, StoreOp};
+pub use crate::outcomes::{Outcome, Trap};
+pub use crate::registers::{Reg, VReg};
