@@ -8,9 +8,15 @@ use crate::registers::Reg;
 #[derive(Clone, Copy)]
 pub enum Insn {
     /// `lui rd,imm`: the immediate becomes the upper 20 bits of `rd`, the lower 12 are 0.
-    Lui { rd: Reg, imm: Imm20 },
+    Lui {
+        rd: Reg,
+        imm: Imm20,
+    },
     /// `jal rd,offset`: goes on at the offset from this instruction, and links in `rd`.
-    Jal { rd: Reg, offset: JumpOffset },
+    Jal {
+        rd: Reg,
+        offset: JumpOffset,
+    },
     /// A conditional branch on `rs1` and `rs2`, as far as the offset from this instruction.
     Branch {
         op: BranchOp,
