@@ -1,0 +1,5 @@
+mod HelpOnly
+mod Parses
+pub mod Pixels
+pub mod Printing
+mod ReplayWords

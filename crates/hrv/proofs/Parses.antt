@@ -1,0 +1,130 @@
+-- What a parse of the program's command line gives.
+use Rattle.std.proofs.Common.{true≢false, ◌≡◌, ◌∙◌, ◌⊎◌, codes, false, true, refl, sym, ap, ap₂, subst, List, [], ◌∷◌, Option, Some, None, IsSome, inl, inr}
+use Rattle.std.specs.Prelude.{is_some, option_and_then, option_map, unwrap_or}
+use Rattle.std.specs.Str.{bytes_eq}
+use Rattle.std.specs.Borrow.{Bor}
+use Rattle.clap.proofs.CallerLemmas.{some_of_text}
+use Rattle.clap.proofs.WalkLemmas.{first_value-rows}
+use Rattle.clap.specs.Walk.{Row, Text, first_of, rows_of}
+use Rattle.clap.specs.Simple.{HasMatchesOf, app_of, is_simple, subcommand_of, subcommand_rows_of}
+use Rattle.clap.specs.Matches.{first_value, found_of, subcommand_name_of}
+use Rattle.clap.specs.declared.parser.matches.Found.{Found}
+use Rattle.clap.specs.Faults.{fault_of, is_simple_and_free}
+use Rattle.clap.specs.declared.builder.command.Command.{Command}
+use Rattle.clap.specs.declared.parser.matches.ArgMatches.{ArgMatches}
+use Rattle.std.specs.Box.{box_value}
+use Rattle.std.specs.Prelude.{Box, Err, IfErr, IsErrAnd, Ok, Result}
+use Rattle.clap.specs.Kinds.{HasKind}
+use Rattle.clap.specs.Values.{kind_of}
+use Rattle.clap.specs.Simple.{subcommand_rows}
+use Rattle.clap.specs.declared.error.Error.{Error}
+use Rattle.clap.specs.declared.error.ErrorKind.{ErrorKind}
+use Rattle.clap.specs.declared.error.ErrorKind.TheVariants.{OutOfMemory}
+use Rattle.clap.specs.declared.parser.matches.SubCommand.{SubCommand}
+use Rattle.clap.specs.declared.parser.matches.ArgMatches.TheViews.{out-ArgMatches, out-SubCommand}
+use Rattle.hrv.specs.Refusals.{fault_for}
+use Rattle.hrv.specs.declared.command_lines.Invocation.{Invocation}
+use Rattle.hrv.specs.declared.faults.Fault.{Fault}
+use Rattle.hrv.specs.declared.faults.Fault.TheVariants.{CommandLine, Memory}
+use Rattle.hrv.specs.CommandLine.{Asked, IsRefusal, IsSpelled, Makes, Replays, asked_of, hrv_app, named, replay_of, unless_fault, unmarked}
+use Rattle.hrv.proofs.ReplayWords.{AsksReplay, replay_asked}
+
+-- the program's command is one that `clap` gives the matches and the faults of
+pub simple : is_simple_and_free hrv_app ≡ true
+simple = refl
+
+pub is_simple_app : is_simple hrv_app ≡ true
+is_simple_app = refl
+
+-- an answer to the words, with the matches that were found
+pub record Taken (words : List Text) (m : ArgMatches) : Type 0 where
+  pub asked : AsksReplay words
+  pub met : subcommand_rows_of m ≡ Some (codes "replay", asked.rows)
+  pub is_named : named words ≡ Some (Replays asked.image asked.log)
+
+pub taken : (command : Command) (words : List Text) (m : ArgMatches) → Makes hrv_app command
+    → (is_simple_and_free (app_of command) ≡ true → fault_of (app_of command) words ≡ [])
+    → HasMatchesOf (app_of command) words m → Taken words m
+taken command words m made passes matches =
+    let pass : fault_of hrv_app words ≡ [] = subst (λ a. fault_of a words ≡ []) made.app (passes (ap is_simple_and_free made.app ∙ simple)) in
+    let asked = replay_asked words pass in
+    let rows = (matches (ap is_simple made.app ∙ is_simple_app)).1 ∙ ap (λ a. subcommand_of a words) made.app in
+    record {
+      asked = asked;
+      met = rows ∙ asked.met;
+      is_named = ap (λ k. unless_fault k (option_and_then asked_of (subcommand_of hrv_app words))) pass
+          ∙ ap (option_and_then asked_of) asked.met ∙ asked.asks;
+    }
+
+-- ---- what a subcommand is given
+
+-- the value of an argument, as `get_str` gives it
+pub read : (f : Found) (id : Text) (o : Option (Bor Text)) (x : Bor Text) → option_map (λ s. s.now) o ≡ first_value f id → o ≡ Some x
+    → first_of id (rows_of f) ≡ Some x.now
+read f id o x gives is = sym (first_value-rows f id) ∙ sym gives ∙ ap (option_map (λ s. s.now)) is
+
+pub is_given : (f : Found) (id : Text) (o : Option (Bor Text)) → option_map (λ s. s.now) o ≡ first_value f id → IsSome (first_of id (rows_of f)) → IsSome o
+is_given f id o gives has = some_of_text (λ s. s.now) o (first_value f id) gives (ap is_some (first_value-rows f id) ∙ has)
+
+both_given : (image log : Option Text) → IsSome (option_and_then (λ i. option_map (λ l. Replays i l) log) image) → IsSome image × IsSome log
+both_given None log e = absurd (true≢false (sym e))
+both_given (Some i) None e = absurd (true≢false (sym e))
+both_given (Some i) (Some l) e = (refl, refl)
+
+-- both values of a replay are there
+pub replay_given : (name : Text) (rows : List Row) → name ≡ codes "replay" → IsSome (asked_of (name, rows))
+    → IsSome (first_of (codes "IMAGE") rows) × IsSome (first_of (codes "LOG") rows)
+replay_given name rows is some = both_given (first_of (codes "IMAGE") rows) (first_of (codes "LOG") rows) (subst (λ n. IsSome (asked_of (n, rows))) is some)
+
+pub replay_read : (name : Text) (rows : List Row) (image log : Text) → name ≡ codes "replay" → first_of (codes "IMAGE") rows ≡ Some image
+    → first_of (codes "LOG") rows ≡ Some log → asked_of (name, rows) ≡ Some (Replays image log)
+replay_read name rows image log is first second =
+    ap (λ n. asked_of (n, rows)) is ∙ ap₂ (λ i l. option_and_then (λ x. option_map (λ y. Replays x y) l) i) first second
+
+-- ---- the subcommand that a parse met
+
+name_of : (m : ArgMatches) → option_map (λ (p : Text × List Row). p.0) (subcommand_rows_of m) ≡ subcommand_name_of m
+name_of m = go (out-ArgMatches m).subcommand
+  where
+    go : {Z : Type 0} (o : Option (Box SubCommand Z)) → option_map (λ (p : Text × List Row). p.0) (subcommand_rows o) ≡ option_map (λ b. (out-SubCommand (box_value b)).name.now) o
+    go None = refl
+    go (Some b) = refl
+
+-- what `subcommand` gives of the matches
+pub met_as : (m : ArgMatches) (name : Text) (rows : List Row) (o : Option (Bor Text × Bor ArgMatches)) (x : Bor Text × Bor ArgMatches) → o ≡ Some x
+    → option_map (λ p. p.0.now) o ≡ subcommand_name_of m → option_map (λ p. rows_of (found_of p.1.now)) o ≡ option_map (λ p. p.1) (subcommand_rows_of m)
+    → subcommand_rows_of m ≡ Some (name, rows) → asked_of (x.0.now, rows_of (found_of x.1.now)) ≡ asked_of (name, rows)
+met_as m name rows o x is names gives met =
+    let first : Some x.0.now ≡ Some name = sym (ap (option_map (λ p. p.0.now)) is) ∙ names ∙ sym (name_of m) ∙ ap (option_map (λ p. p.0)) met in
+    let second : Some (rows_of (found_of x.1.now)) ≡ Some rows = sym (ap (option_map (λ p. rows_of (found_of p.1.now))) is) ∙ gives ∙ ap (option_map (λ p. p.1)) met in
+    ap₂ (λ n r. asked_of (n, r)) (ap (λ o. unwrap_or o name) first) (ap (λ o. unwrap_or o rows) second)
+
+-- so the matches ask for what the words do
+pub asked_here : (words : List Text) (m : ArgMatches) (t : Taken words m) (o : Option (Bor Text × Bor ArgMatches)) (x : Bor Text × Bor ArgMatches) → o ≡ Some x
+    → option_map (λ p. p.0.now) o ≡ subcommand_name_of m → option_map (λ p. rows_of (found_of p.1.now)) o ≡ option_map (λ p. p.1) (subcommand_rows_of m)
+    → asked_of (x.0.now, rows_of (found_of x.1.now)) ≡ Some (Replays t.asked.image t.asked.log)
+asked_here words m t o x is names gives = met_as m (codes "replay") t.asked.rows o x is names gives t.met ∙ t.asked.asks
+
+pub spelled_as : (words : List Text) (m : ArgMatches) (t : Taken words m) (asked : Asked) → Some (Replays t.asked.image t.asked.log) ≡ Some asked → IsSpelled words asked
+spelled_as words m t asked same = subst (IsSpelled words) (ap (λ o. unwrap_or o asked) same) t.asked.spelled
+
+-- ---- refusals
+
+fault_cases : (k : ErrorKind) (error : Error) → (fault_for k error ≡ Memory) ⊎ (fault_for k error ≡ CommandLine error)
+fault_cases OutOfMemory error = inl refl
+fault_cases _ error = inr refl
+
+pub kinds_of : (command : Command) (words : List Text) (error : Error) → Makes hrv_app command
+    → (is_simple_and_free (app_of command) ≡ true → HasKind (fault_of (app_of command) words) error) → HasKind (fault_of hrv_app words) error
+kinds_of command words error made kinds =
+    subst (λ a. HasKind (fault_of a words) error) made.app (kinds (ap is_simple_and_free made.app ∙ simple))
+
+-- memory runs out, or the error's kind is one that the words have
+pub refused : (r : Result Invocation Fault) (words : List Text) (error : Error) → IsErrAnd r (λ f. f ≡ fault_for (kind_of error) error)
+    → HasKind (fault_of hrv_app words) error → IfErr r (IsRefusal words)
+refused (Ok i) words error is kinds = absurd is
+refused (Err f) words error is (inl memory) = inl (is ∙ ap (λ k. fault_for k error) memory)
+refused (Err f) words error is (inr among) = elim (fault_cases (kind_of error) error) [
+  | inl memory ↦ inl (is ∙ memory)
+  | inr kept ↦ inr (error, is ∙ kept, among)
+]

@@ -1,0 +1,9 @@
+use Rattle.std.proofs.Common.{◌≡◌, ◌++◌}
+use Rattle.std.specs.String.{string_bytes}
+use Rattle.std.specs.Fmt.{decimal}
+use Rattle.std.specs.Prelude.{codes}
+use Rattle.hrv.specs.Dump.{picture_heading, rows}
+use Rattle.hrv.proofs.pictures.push_picture.Given as goal
+
+abbrev pub invariant-loop-y : goal.invariant-loop-y
+invariant-loop-y l = string_bytes l.text ≡ string_bytes l.fn.text ++ (picture_heading l.output ++ rows l.machine l.output l.y)

@@ -1,0 +1,85 @@
+-- What the words of a command line ask for, by what `clap` says of a command and words.
+use Rattle.std.specs.Prelude.{◌≡◌, ◌≢◌, ◌⊎◌, ℕ, false, true, List, [], ◌∷◌, Option, None, codes, if◌then◌else◌}
+use Rattle.std.specs.Prelude.{option_and_then, option_map}
+use Rattle.std.specs.Str.{bytes_eq}
+use Rattle.clap.specs.Simple.{on_top}
+use Rattle.clap.specs.Words.{App, IsAmong, Kinds, Row, Rule, Text, app_of, fault_of, first_of, kind_of}
+use Rattle.clap.specs.Words.{new_app, new_rule, subcommand_of, with_rule, with_subcommand}
+use Rattle.clap.specs.declared.builder.command.Command.{Command}
+use Rattle.clap.specs.declared.builder.command.Command.TheViews.{out-Command}
+use Rattle.clap.specs.declared.error.Error.{Error}
+use Rattle.hrv.specs.declared.command_lines.Invocation.{Invocation}
+use Rattle.hrv.specs.declared.command_lines.Invocation.TheVariants.{Replay}
+use Rattle.hrv.specs.declared.faults.Fault.{Fault}
+use Rattle.hrv.specs.declared.faults.Fault.TheVariants.{CommandLine, Memory}
+
+-- what the program may be asked for
+pub data Asked : Type 0 where
+  Replays : (image log : List ℕ) → Asked
+
+abbrev pub asked_by : Invocation → Asked
+asked_by (Replay image log) = Replays image.now log.now
+
+-- ---- the program's command
+
+-- a positional argument that has to be there
+abbrev pub required_rule : Text → Rule
+required_rule id = record (new_rule id) { required = true }
+
+-- `replay IMAGE LOG`
+abbrev pub replay_app : App
+replay_app = with_rule (with_rule (new_app (codes "replay")) (required_rule (codes "IMAGE")))
+    (required_rule (codes "LOG"))
+
+-- the words are all arguments, and one of the subcommands has to be there
+abbrev pub hrv_app : App
+hrv_app = with_subcommand
+    (on_top (λ s. record s { no_binary_name = true; subcommand_required = true })
+    (new_app (codes "hrv")))
+    replay_app.top
+
+-- the command is the one that is described, and no argument of it is another command's too
+pub record Makes (wanted : App) (command : Command) : Type 0 where
+  pub app : app_of command ≡ wanted
+  pub local : (out-Command command).has_globals ≡ false
+
+-- ---- what the words ask for
+
+abbrev pub replay_of : List Row → Option Asked
+replay_of given = option_and_then (λ image. option_map (λ log. Replays image log)
+    (first_of (codes "LOG") given)) (first_of (codes "IMAGE") given)
+
+-- by the subcommand's name and what it is given
+abbrev pub asked_of : Text × List Row → Option Asked
+asked_of met = if bytes_eq met.0 (codes "replay") then replay_of met.1 else None
+
+-- nothing, where there is a fault
+abbrev pub unless_fault : Kinds → Option Asked → Option Asked
+unless_fault [] asked = asked
+unless_fault (kind ∷ kinds) asked = None
+
+-- what these words name, if `clap` finds no fault with them
+abbrev pub named : List Text → Option Asked
+named words = unless_fault (fault_of hrv_app words)
+    (option_and_then asked_of (subcommand_of hrv_app words))
+
+-- memory was refused, or the error is of a kind that `clap` finds in the words
+abbrev pub IsRefusal : List Text → Fault → Type 0
+IsRefusal words fault = (fault ≡ Memory)
+    ⊎ ((error : Error) × (fault ≡ CommandLine error) × IsAmong (kind_of error) (fault_of hrv_app words))
+
+-- ---- the same in plain words
+
+-- the words without the first `--`
+abbrev pub unmarked : List Text → List Text
+unmarked [] = []
+unmarked (word ∷ rest) = if bytes_eq word (codes "--") then rest else word ∷ unmarked rest
+
+-- a word that is taken as it stands: it begins with no `-` (45), unless that is all of it
+abbrev pub IsPlainWord : Text → Type 0
+IsPlainWord (byte ∷ next ∷ rest) = byte ≢ 45
+IsPlainWord _ = Unit {0}
+
+-- but for a first `--`, the words are the command's name and what it is given
+abbrev pub IsSpelled : List Text → Asked → Type 0
+IsSpelled words (Replays image log) = unmarked words ≡ codes "replay" ∷ image ∷ log ∷ []

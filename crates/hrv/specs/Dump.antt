@@ -1,0 +1,124 @@
+-- What the program prints of a machine: a heading and the registers of each hart, and the picture.
+-- The text is this project's own.
+use Rattle.std.specs.Prelude.{ℕ, zero, suc, ◌+◌, ◌-◌, ◌*◌, ◌/◌, ◌%◌, ◌==◌, Bool, true, false, nat_lt, if◌then◌else◌, List, [], ◌∷◌, ◌++◌, length, codes, slice_index, Option, Some, None, ℤ}
+use Rattle.std.specs.List.{list_all}
+use Rattle.std.specs.Int.{w32, cast_signed, to_be_bytes}
+use Rattle.std.specs.Fmt.{decimal, signed_decimal}
+use Rattle.rv_insn.specs.Trap.{trap_number}
+use Rattle.hart_core.specs.declared.harts.Status.{Status}
+use Rattle.hart_core.specs.declared.harts.Status.TheVariants.{Running, Finished, Trapped}
+use Rattle.hart_core.specs.Access.{word_at}
+use Rattle.hart_core.specs.HartState.{HartState, register, vector}
+use Rattle.multi_hart.specs.Run.{State, hart_at}
+use Rattle.multi_hart.specs.Finished.{all_finished}
+use Rattle.multi_hart.specs.TurnLog.{count_of}
+use Rattle.loader.specs.declared.outputs.Output.{Output}
+
+-- ---- numbers
+
+-- a hexadecimal digit, `0` to `9` or `a` to `f`
+abbrev pub hex_digit : ℕ → ℕ
+hex_digit d = if nat_lt d 10 then 48 + d else 87 + d
+
+-- two digits a byte
+abbrev pub hex_of : List ℕ → List ℕ
+hex_of [] = []
+hex_of (byte ∷ bytes) = hex_digit (byte / 16) ∷ hex_digit (byte % 16) ∷ hex_of bytes
+
+-- `0x` and eight digits
+unfoldable pub hex_word : ℕ → List ℕ
+hex_word n = codes "0x" ++ hex_of (to_be_bytes w32 n)
+
+abbrev pub newline : List ℕ
+newline = 10 ∷ []
+
+-- ---- a hart
+
+unfoldable pub status_text : Status → List ℕ
+status_text Running = codes "running"
+status_text Finished = codes "finished"
+status_text (Trapped trap) = codes "trap " ++ decimal (trap_number trap)
+
+-- `hart H STATUS pc 0xPPPPPPPP turns N`
+unfoldable pub heading : ℕ → Status → ℕ → ℕ → List ℕ
+heading number status pc turns =
+    codes "hart " ++ decimal number ++ codes " " ++ status_text status ++ codes " pc " ++ hex_word pc
+    ++ codes " turns " ++ decimal turns ++ newline
+
+-- `  xR 0xVVVVVVVV`, where the register isn't 0
+unfoldable pub register_line : ℕ → ℕ → List ℕ
+register_line r value = if value == 0 then [] else codes "  x" ++ decimal r ++ codes " " ++ hex_word value ++ newline
+
+-- the lines of the registers numbered below so many
+unfoldable pub register_lines : HartState → ℕ → List ℕ
+register_lines hart zero = []
+register_lines hart (suc r) = register_lines hart r ++ register_line r (register hart r)
+
+-- `  vl N vtype 0xVVVVVVVV`
+unfoldable pub configuration_line : ℕ → ℕ → List ℕ
+configuration_line vl vtype = codes "  vl " ++ decimal vl ++ codes " vtype " ++ hex_word vtype ++ newline
+
+-- `  vR ` and 32 digits, byte 0 first, where not all bytes are 0
+unfoldable pub vector_line : ℕ → List ℕ → List ℕ
+vector_line v bytes =
+    if list_all (λ byte. byte == 0) bytes then [] else codes "  v" ++ decimal v ++ codes " " ++ hex_of bytes ++ newline
+
+-- the lines of the vector registers numbered below so many
+unfoldable pub vector_lines : HartState → ℕ → List ℕ
+vector_lines hart zero = []
+vector_lines hart (suc v) = vector_lines hart v ++ vector_line v (vector hart v)
+
+unfoldable pub hart_text : ℕ → HartState → ℕ → List ℕ
+hart_text number hart turns =
+    heading number hart.status hart.pc turns ++ register_lines hart 32 ++ configuration_line hart.vl hart.vtype ++ vector_lines hart 32
+
+-- the harts numbered below so many, each with the count of its turns
+unfoldable pub hart_texts : State → List ℕ → ℕ → List ℕ
+hart_texts state turns zero = []
+hart_texts state turns (suc number) = hart_texts state turns number ++ hart_text number (hart_at state number) (count_of turns number)
+
+-- ---- the picture
+
+-- the address of a pixel
+abbrev pub pixel_address : Output → ℕ → ℕ → ℕ
+pixel_address output x y = output.address + y * output.stride + 4 * x
+
+-- the signed number that stands there
+unfoldable pub pixel : State → Output → ℕ → ℕ → ℤ
+pixel state output x y = cast_signed w32 (word_at state.text state.memory (pixel_address output x y))
+
+-- a number of a row; each but the first has a space before it
+unfoldable pub number_text : ℕ → ℤ → List ℕ
+number_text x value = (if x == 0 then [] else codes " ") ++ signed_decimal value
+
+-- the first so many numbers of a row
+unfoldable pub numbers : State → Output → ℕ → ℕ → List ℕ
+numbers state output y zero = []
+numbers state output y (suc x) = numbers state output y x ++ number_text x (pixel state output x y)
+
+-- a row
+unfoldable pub row_text : State → Output → ℕ → List ℕ
+row_text state output y = numbers state output y output.width ++ newline
+
+-- the first so many rows
+unfoldable pub rows : State → Output → ℕ → List ℕ
+rows state output zero = []
+rows state output (suc y) = rows state output y ++ row_text state output y
+
+-- `picture W H`
+unfoldable pub picture_heading : Output → List ℕ
+picture_heading output = codes "picture " ++ decimal output.width ++ codes " " ++ decimal output.height ++ newline
+
+-- and a line for each row
+unfoldable pub picture_text : State → Output → List ℕ
+picture_text state output = picture_heading output ++ rows state output output.height
+
+-- the picture is printed where there is an output and all harts have finished
+unfoldable pub picture_part : State → Option Output → List ℕ
+picture_part state None = []
+picture_part state (Some output) = if all_finished state then picture_text state output else []
+
+-- ---- the dump of a state that turns led to
+
+unfoldable pub dumped : State → List ℕ → Option Output → List ℕ
+dumped state turns output = hart_texts state turns (length state.harts) ++ picture_part state output

@@ -1,0 +1,57 @@
+-- What a fault of the program says, part by part.
+use Rattle.std.specs.Prelude.{ℕ, List}
+use Rattle.std.specs.String.{string_bytes}
+use Rattle.hrv.specs.declared.faults.Fault.{Fault}
+use Rattle.hrv.specs.declared.faults.Fault.TheVariants.{CommandLine, NotText, Load, Log, File, Memory}
+use Rattle.loader.specs.declared.faults.LoadFault.{LoadFault}
+use Rattle.multi_hart.specs.declared.log_faults.LogFault.{LogFault}
+
+-- why two files are refused
+pub data Refusal : Type 0 where
+  RefusedLoad : (fault : LoadFault) → Refusal
+  RefusedLog : (fault : LogFault) → Refusal
+
+-- a fact for a refusal of what the files hold
+abbrev pub OnRefusal : Fault → (Refusal → Type 0) → Type 0
+OnRefusal (CommandLine error) P = Unit {0}
+OnRefusal NotText P = Unit {0}
+OnRefusal (Load fault) P = P (RefusedLoad fault)
+OnRefusal (Log fault) P = P (RefusedLog fault)
+OnRefusal (File path) P = Unit {0}
+OnRefusal Memory P = Unit {0}
+
+-- a fact for a device fault, of the path that it names
+abbrev pub OnFile : Fault → (List ℕ → Type 0) → Type 0
+OnFile (CommandLine error) P = Unit {0}
+OnFile NotText P = Unit {0}
+OnFile (Load fault) P = Unit {0}
+OnFile (Log fault) P = Unit {0}
+OnFile (File path) P = P (string_bytes path)
+OnFile Memory P = Unit {0}
+
+-- a fault that a replay may come to
+abbrev pub IsReplayFault : Fault → Type 0
+IsReplayFault (CommandLine error) = ⊥
+IsReplayFault NotText = ⊥
+IsReplayFault (Load fault) = Unit {0}
+IsReplayFault (Log fault) = Unit {0}
+IsReplayFault (File path) = Unit {0}
+IsReplayFault Memory = Unit {0}
+
+-- the exit status: 2 for the command line, 1 for all else
+abbrev pub status_of : Fault → ℕ
+status_of (CommandLine error) = 2
+status_of NotText = 2
+status_of (Load fault) = 1
+status_of (Log fault) = 1
+status_of (File path) = 1
+status_of Memory = 1
+
+-- a fault that needs no word of what the files hold
+abbrev pub IsDeviceFault : Fault → Type 0
+IsDeviceFault (CommandLine error) = ⊥
+IsDeviceFault NotText = ⊥
+IsDeviceFault (Load fault) = ⊥
+IsDeviceFault (Log fault) = ⊥
+IsDeviceFault (File path) = Unit {0}
+IsDeviceFault Memory = Unit {0}

@@ -1,0 +1,22 @@
+-- A lower crate's fault as the program's: want of memory is one fault for all.
+use Rattle.hrv.specs.declared.faults.Fault.{Fault}
+use Rattle.hrv.specs.declared.faults.Fault.TheVariants.{CommandLine, Load, Log, Memory}
+use Rattle.clap.specs.declared.error.Error.{Error}
+use Rattle.clap.specs.declared.error.kind.ErrorKind.{ErrorKind}
+use Rattle.clap.specs.declared.error.kind.ErrorKind.TheVariants as kinds
+use Rattle.loader.specs.declared.faults.LoadFault.{LoadFault}
+use Rattle.loader.specs.declared.faults.LoadFault.TheVariants as load
+use Rattle.multi_hart.specs.declared.log_faults.LogFault.{LogFault}
+use Rattle.multi_hart.specs.declared.log_faults.LogFault.TheVariants as log
+
+abbrev pub fault_of_load : LoadFault → Fault
+fault_of_load load.OutOfMemory = Memory
+fault_of_load fault = Load fault
+
+abbrev pub fault_of_log : LogFault → Fault
+fault_of_log log.OutOfMemory = Memory
+fault_of_log fault = Log fault
+
+abbrev pub fault_for : ErrorKind → Error → Fault
+fault_for kinds.OutOfMemory error = Memory
+fault_for _ error = CommandLine error

@@ -1,0 +1,126 @@
+//! The system's files and its standard output, as devices.
+//!
+//! What a file or a terminal gives and takes is outside of what a proof can know, so the facts of bytes
+//! of these two devices hold of any bytes. That each failure is counted is proved.
+
+ghost use Rattle.std.specs.Prelude.{◌≡◌, ◌≤◌, length, codes, IfOk};
+
+use crate::devices::{Sink, Source};
+use std::io::{Read, Write};
+use std::rt::Files;
+use std::{fs, io};
+
+/// A file to be read. It is opened at its first read, so that files are refused in the order in which
+/// they are read.
+#[derive(Drop)]
+pub struct FileSource<'a, R: Files> {
+    rt: &'a R,
+    path: &'a str,
+    file: Option<R::File>,
+    failures: u64,
+}
+
+impl<'a, R: Files> FileSource<'a, R> {
+    /// The file at a path, not yet opened.
+    pub fn new(rt: &'a R, path: &'a str) -> FileSource<'a, R>
+        ensures { result.failures ≡ 0 }
+    {
+        FileSource {
+            rt,
+            path,
+            file: None,
+            failures: 0,
+        }
+    }
+
+    /// How many bytes the file gave; it is opened first where it isn't open.
+    fn try_read(&mut self, buffer: &mut [u8]) -> io::Result<usize>
+        ensures count { IfOk result (λ n. n ≤ length buffer.old) }
+        ensures path { self.new.path.now ≡ self.old.path.now }
+        ensures failures { self.new.failures ≡ self.old.failures }
+    {
+        if self.file.is_none() {
+            self.file = Some(fs::open(self.rt, self.path)?);
+        }
+        match &mut self.file {
+            Some(file) => file.read(buffer),
+            None => Ok(0),
+        }
+    }
+}
+
+impl<'a, R: Files> Source for FileSource<'a, R> {
+    ghost place = { λ s. s.path.now };
+
+    ghost failed = { λ s. s.failures };
+
+    ghost gave = { λ _ _ _. Unit {0} };
+
+    ghost ended = { λ _. Unit {0} };
+
+    ghost gave_nothing = { λ _. tt };
+
+    ghost gave_more = { λ _ _ _ _ _ _ _. tt };
+
+    fn path(&self) -> &str {
+        self.path
+    }
+
+    fn failures(&self) -> u64 {
+        self.failures
+    }
+
+    fn read(&mut self, buffer: &mut [u8]) -> io::Result<usize> {
+        let count = self.try_read(buffer);
+        if count.is_err() {
+            self.failures += 1;
+        }
+        count
+    }
+}
+
+/// Standard output. Its path is `-`.
+#[derive(Drop)]
+pub struct StandardOutput<'a, P: Print> {
+    rt: &'a P,
+    failures: u64,
+}
+
+impl<'a, P: Print> StandardOutput<'a, P> {
+    /// Standard output before any write.
+    pub fn new(rt: &'a P) -> StandardOutput<'a, P>
+        ensures { result.failures ≡ 0 }
+    {
+        StandardOutput { rt, failures: 0 }
+    }
+}
+
+impl<'a, P: Print> Sink for StandardOutput<'a, P> {
+    ghost place = { λ _. codes "-" };
+
+    ghost failed = { λ s. s.failures };
+
+    ghost took = { λ _ _ _. Unit {0} };
+
+    ghost took_nothing = { λ _. tt };
+
+    ghost took_more = { λ _ _ _ _ _ _ _. tt };
+
+    fn path(&self) -> &str {
+        "-"
+    }
+
+    fn failures(&self) -> u64 {
+        self.failures
+    }
+
+    fn write(&mut self, bytes: &[u8]) -> io::Result<usize> {
+        let count = io::writer(self.rt).write(bytes);
+        match count {
+            Ok(0) if !bytes.is_empty() => self.failures += 1,
+            Ok(_) => {}
+            Err(_) => self.failures += 1,
+        }
+        count
+    }
+}

@@ -1,0 +1,62 @@
+//! `hrv`: the machine for stencil programs, as a program.
+//!
+//! - [`command_lines`]: what the words of a command line ask for.
+//! - [`replay`]: an image and a log of turns become a dump; [`replay::replay_bytes`] has the contract
+//!   of the whole command, over `specs/Replay.antt` and `specs/Dump.antt`.
+//! - [`dumps`], [`pictures`]: the text of a dump and of its picture.
+//! - [`devices`]: what is read from and written to; [`files`]: the system's files and standard output.
+//! - [`faults`]: why the program refuses, and its exit status.
+#![tactic(auto)]
+
+mod command_lines;
+mod devices;
+mod dumps;
+mod faults;
+mod files;
+mod pictures;
+mod replay;
+
+use crate::command_lines::{Invocation, command};
+use crate::faults::Fault;
+use crate::files::{FileSource, StandardOutput};
+use crate::replay::replay_bytes;
+use std::process::ExitCode;
+use std::rt::{Env, Files};
+use std::{env, io};
+
+#[cfg(test)]
+mod tests;
+
+fn main(rt: HostRuntime) -> ExitCode {
+    match run(&rt) {
+        Ok(()) => ExitCode::SUCCESS,
+        Err(fault) => {
+            // Where standard error is closed, the status still tells.
+            let _ = eprintln!(rt; "{fault}");
+            ExitCode::from(fault.status())
+        }
+    }
+}
+
+/// Does what the command line asks for.
+fn run<R: Files + Env + Print + AllocGlobal>(rt: &R) -> Result<(), Fault> {
+    let alloc = rt.alloc();
+    let arguments: Vec<String> = env::args(rt).map_err(word_fault)?.skip(1).collect(alloc)?;
+    let words: Vec<&str> = arguments.iter().map(|word| word.as_str()).collect(alloc)?;
+    match command(alloc, &words)? {
+        Invocation::Replay { image, log } => replay_bytes(
+            alloc,
+            &mut FileSource::new(rt, image),
+            &mut FileSource::new(rt, log),
+            &mut StandardOutput::new(rt),
+        ),
+    }
+}
+
+/// The fault of words that can't be taken as text.
+fn word_fault(error: io::Error) -> Fault {
+    match error.kind() {
+        io::ErrorKind::OutOfMemory => Fault::Memory,
+        _ => Fault::NotText,
+    }
+}
