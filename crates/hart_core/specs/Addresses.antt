@@ -1,6 +1,7 @@
 -- Text and data by their addresses: where they lie, what stands at an address, and what a write leaves.
--- The addresses and limits are this project's own. That a number lies in memory with its lowest byte first
--- is RISC-V Unprivileged ISA 20191213, section 1.4 "Memory".
+-- The addresses, the limits, and that a number lies with its lowest byte first (RISC-V Unprivileged ISA
+-- 20191213, section 2.6, leaves the choice) are this project's own; that addresses are modulo 2^32 is section
+-- 1.4 "Memory".
 use Rattle.std.specs.Prelude.{ℕ, ◌+◌, ◌-◌, ◌*◌, ◌/◌, ◌%◌, ◌^◌, ◌==◌, ◌&&◌, ◌||◌, Bool, nat_lt, nat_le, if◌then◌else◌, List, [], ◌∷◌, slice_index, slice_get, slice_set, Option, Some, None}
 
 -- 0x0001_0000

@@ -1,8 +1,8 @@
 -- The rows of the instruction table that need no vector state: one line an instruction. What an instruction
 -- touches is known from its own hart's state alone; what it leaves, from that state and the numbers read.
 -- RISC-V Unprivileged ISA 20191213: sections 2.4 "Integer Computational Instructions", 2.5 "Control Transfer
--- Instructions", 2.6 "Load and Store Instructions", 8.4 "Atomic Memory Operations". That ECALL finishes the
--- hart, and that aq and rl change nothing, is this project's own.
+-- Instructions", 2.6 "Load and Store Instructions", 2.8 "Environment Call and Breakpoints", 8.4 "Atomic Memory
+-- Operations". That ECALL finishes the hart, and that aq and rl change nothing, is this project's own.
 use Rattle.std.specs.Prelude.{ℕ, ◌+◌, ◌*◌, ◌%◌, ◌^◌, ◌==◌, if◌then◌else◌, List, [], ◌∷◌, slice_index, Option, Some, None, ℤ, pos, ◌*ℤ◌}
 use Rattle.std.specs.Int.{w32, cast_unsigned}
 use Rattle.rv_insn.specs.declared.outcomes.Trap.{Trap}

@@ -1,17 +1,16 @@
 -- The words of a command whose only option is `--help`, and what `clap` finds wrong with them.
-use Rattle.std.proofs.Common.{◌≡◌, ◌∙◌, ◌⊎◌, ◌||◌, ℕ, Bool, cond, codes, true, false, zero, suc, ne_eqb, refl, sym, ap, ap₂, subst, List, [], ◌∷◌, length, Option, Some, None, inl, inr}
+use Rattle.std.proofs.Common.{◌≡◌, ◌∙◌, ◌||◌, ℕ, Bool, cond, codes, true, false, ne_eqb, refl, ap, subst, List, [], ◌∷◌, length, Option, Some, None}
 use Rattle.std.specs.Prelude.{◌==◌, ◌&&◌, option_and_then, drop, encode_utf8, slice_get}
 use Rattle.std.specs.Option.{option_map_or}
 use Rattle.std.specs.Str.{bytes_eq, chars}
-use Rattle.clap.proofs.OnLiterals.{clap_on_literals}
 use Rattle.clap.specs.Lexer.{long_of, long_of_rest, short_of, short_of_rest, strip_byte}
-use Rattle.clap.specs.Walk.{Held, after_flag, bundle_met, bundle_step, long_or_other, plain, reacted, short_or_plain, Names, Row, Rule, Step, Text, Walk, idle, value, after_step, arg_by_index, arg_by_long, arg_by_short, subcommand_met, to_positional, trailing, walked, word_met}
+use Rattle.clap.specs.Walk.{Held, after_flag, bundle_met, bundle_step, long_or_other, plain, reacted, short_or_plain, Names, Row, Rule, Text, idle, value, arg_by_long, arg_by_short, subcommand_met, trailing, word_met}
 use Rattle.clap.specs.Simple.{Shape, filled, help_rule}
 use Rattle.clap.specs.Kinds.{Kinds, or_else}
 use Rattle.clap.specs.declared.error.ErrorKind.{ErrorKind}
 use Rattle.clap.specs.declared.error.ErrorKind.TheVariants as kind
 use Rattle.hrv.specs.CommandLine.{IsPlainWord}
-use Rattle.clap.specs.Faults.{bundle_fault, bundle_step_fault, flags_fault, react_fault, settle_fault, flag_word_fault, long_fault, short_fault, step_fault, turn_fault, word_fault}
+use Rattle.clap.specs.Faults.{bundle_fault, bundle_step_fault, flags_fault, react_fault, settle_fault, flag_word_fault, long_fault, short_fault, word_fault}
 
 -- a fault is there
 pub some_fault : (k : ErrorKind) (ks : Kinds) → k ∷ ks ≡ [] → ⊥
@@ -85,12 +84,12 @@ value_met shape names only position word rows pending unnamed unmarked e =
     go None bad = short_met_value shape only word rows pending (short_of word) bad
 
 -- how a plain word looks
-record LooksPlain (word : Text) : Type 0 where
-  long : long_of word ≡ None
-  short : short_of word ≡ None
-  unmarked : bytes_eq word (codes "--") ≡ false
+pub record LooksPlain (word : Text) : Type 0 where
+  pub long : long_of word ≡ None
+  pub short : short_of word ≡ None
+  pub unmarked : bytes_eq word (codes "--") ≡ false
 
-looks_plain : (word : Text) → IsPlainWord word → LooksPlain word
+pub looks_plain : (word : Text) → IsPlainWord word → LooksPlain word
 looks_plain [] plain_word = record { long = refl; short = refl; unmarked = refl }
 looks_plain (byte ∷ []) plain_word = record { long = long (byte == 45); short = short (byte == 45); unmarked = unmarked (byte == 45) }
   where

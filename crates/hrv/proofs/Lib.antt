@@ -1,5 +1,6 @@
 mod HelpOnly
 mod Parses
 pub mod Pixels
+mod Positionals
 pub mod Printing
 mod ReplayWords

@@ -1,7 +1,6 @@
 -- What a parse of the program's command line gives.
-use Rattle.std.proofs.Common.{true≢false, ◌≡◌, ◌∙◌, ◌⊎◌, codes, false, true, refl, sym, ap, ap₂, subst, List, [], ◌∷◌, Option, Some, None, IsSome, inl, inr}
+use Rattle.std.proofs.Common.{true≢false, ◌≡◌, ◌∙◌, ◌⊎◌, codes, true, refl, sym, ap, ap₂, subst, List, [], Option, Some, None, IsSome, inl, inr}
 use Rattle.std.specs.Prelude.{is_some, option_and_then, option_map, unwrap_or}
-use Rattle.std.specs.Str.{bytes_eq}
 use Rattle.std.specs.Borrow.{Bor}
 use Rattle.clap.proofs.CallerLemmas.{some_of_text}
 use Rattle.clap.proofs.WalkLemmas.{first_value-rows}
@@ -14,7 +13,7 @@ use Rattle.clap.specs.declared.builder.command.Command.{Command}
 use Rattle.clap.specs.declared.parser.matches.ArgMatches.{ArgMatches}
 use Rattle.std.specs.Box.{box_value}
 use Rattle.std.specs.Prelude.{Box, Err, IfErr, IsErrAnd, Ok, Result}
-use Rattle.clap.specs.Kinds.{HasKind}
+use Rattle.clap.specs.Kinds.{HasKind, IsAmong}
 use Rattle.clap.specs.Values.{kind_of}
 use Rattle.clap.specs.Simple.{subcommand_rows}
 use Rattle.clap.specs.declared.error.Error.{Error}
@@ -26,8 +25,8 @@ use Rattle.hrv.specs.Refusals.{fault_for}
 use Rattle.hrv.specs.declared.command_lines.Invocation.{Invocation}
 use Rattle.hrv.specs.declared.faults.Fault.{Fault}
 use Rattle.hrv.specs.declared.faults.Fault.TheVariants.{CommandLine, Memory}
-use Rattle.hrv.specs.CommandLine.{Asked, IsRefusal, IsSpelled, Makes, Replays, asked_of, hrv_app, named, replay_of, unless_fault, unmarked}
-use Rattle.hrv.proofs.ReplayWords.{AsksReplay, replay_asked}
+use Rattle.hrv.specs.CommandLine.{Asked, IsRefusal, IsSpelled, Makes, Replays, asked_of, hrv_app, named}
+use Rattle.hrv.proofs.ReplayWords.{AsksReplay, fault_of-named, replay_asked, replay_named}
 
 -- the program's command is one that `clap` gives the matches and the faults of
 pub simple : is_simple_and_free hrv_app ≡ true
@@ -52,8 +51,7 @@ taken command words m made passes matches =
     record {
       asked = asked;
       met = rows ∙ asked.met;
-      is_named = ap (λ k. unless_fault k (option_and_then asked_of (subcommand_of hrv_app words))) pass
-          ∙ ap (option_and_then asked_of) asked.met ∙ asked.asks;
+      is_named = replay_named words pass asked;
     }
 
 -- ---- what a subcommand is given
@@ -128,3 +126,12 @@ refused (Err f) words error is (inr among) = elim (fault_cases (kind_of error) e
   | inl memory ↦ inl (is ∙ memory)
   | inr kept ↦ inr (error, is ∙ kept, among)
 ]
+
+-- what is named is refused for memory alone
+memory_alone : (words : List Text) (f : Fault) → IsSome (named words) → IsRefusal words f → f ≡ Memory
+memory_alone words f some (inl memory) = memory
+memory_alone words f some (inr kept) = absurd (subst (IsAmong (kind_of kept.0)) (fault_of-named words some) kept.2)
+
+pub refused_named : (r : Result Invocation Fault) (words : List Text) → IfErr r (IsRefusal words) → IfErr r (λ f. IsSome (named words) → f ≡ Memory)
+refused_named (Ok i) words h = tt
+refused_named (Err f) words h = λ some. memory_alone words f some h

@@ -1,187 +1,94 @@
 -- The words that `clap` takes for a replay.
-use Rattle.std.proofs.Common.{◌≡◌, ◌∙◌, ◌⊎◌, ℕ, Bool, cond, codes, true, false, refl, sym, ap, subst, List, [], ◌∷◌, ◌++◌, append-nil, append_assoc, Option, Some, None, inl, inr}
-use Rattle.std.specs.Prelude.{fold}
+use Rattle.std.proofs.Common.{◌≡◌, ◌<◌, ◌∙◌, Bool, arith, codes, true, false, suc, refl, sym, ap, ap₂, subst, List, [], ◌∷◌, ◌++◌, length, append-nil, append_assoc, Option, Some, None, IsSome, true≢false}
+use Rattle.std.specs.Prelude.{fold, is_some, option_and_then, unwrap_or}
 use Rattle.std.specs.Str.{bytes_eq}
 use Rattle.std.proofs.lemmas.Slice.Eq.{bytes_eq-Decides}
 use Rattle.clap.proofs.OnLiterals.{clap_on_literals}
-use Rattle.clap.specs.Walk.{Held, Step, settled, stop_after, finished, nothing_held, rows_after, walk_from, Names, Row, Rule, Text, Walk, arg_by_index, idle, subcommand_met, to_positional, value, walked, word_met}
-use Rattle.clap.specs.Simple.{App, Shape, built, entered, names_of, subcommand_of, built_leaf, inherited, marked_built, with_leaf_noted}
+use Rattle.clap.specs.Walk.{Held, arg_by_index, to_positional, value, Row, Step, Text, Walk, finished, idle, nothing_held, rows_after, settled, stop_after, subcommand_met, walk, walk_from, walked, word_met}
+use Rattle.clap.specs.Simple.{App, Shape, built, built_leaf, entered, inherited, marked_built, names_of, subcommand_of, with_leaf_noted}
 use Rattle.clap.specs.Kinds.{Kinds, or_else}
 use Rattle.clap.specs.Faults.{check_fault, defaults_fault, entered_fault, fault_of, level_fault, settle_fault, step_fault, turn_fault, walk_fault, word_fault}
 use Rattle.clap.specs.declared.builder.value_parser.Reading.TheVariants.{AsWritten}
 use Rattle.clap.specs.declared.parser.matches.ValueSource.TheVariants.{CommandLine}
 use Rattle.clap.specs.declared.error.ErrorKind.TheVariants as kind
-use Rattle.hrv.specs.CommandLine.{Replays, unmarked, replay_of, hrv_app, replay_app}
+use Rattle.hrv.specs.CommandLine.{Asked, IsPlainWord, IsSpelled, Replays, asked_of, hrv_app, named, replay_app, replay_of, unless_fault, unmarked}
 use Rattle.hrv.proofs.HelpOnly.{HasHelpOnly, both_pass, held, some_fault, value_met}
+use Rattle.hrv.proofs.Positionals.{ArePlain, marked, none, plain, unmarked-plain, at, end_fault, TakesValues, passes_all, takes_all}
+
+-- ---- the subcommand
 
 -- `replay` as it is built below the program's command
 abbrev leaf : Shape
 leaf = built_leaf (inherited (with_leaf_noted (marked_built hrv_app.top)) replay_app.top)
 
-leaf_help : HasHelpOnly leaf.rules
-leaf_help = record { long = λ name. refl; short = λ x. refl }
+-- what is held once the values are read: all but the last have their rows
+abbrev row : Text → Text → Row
+row id word = record { id = id; values = word ∷ []; count = None; source = Some CommandLine; reading = AsWritten }
 
--- where a walk stands that has met no subcommand
-abbrev at : Bool → ℕ → Held → Walk
-at is_trailing position h = record { held = h; waiting = idle; position = position; is_trailing = is_trailing; stopped = None }
+abbrev rows : List Text → List Row
+rows (image ∷ log ∷ others) = row (codes "IMAGE") image ∷ []
+rows _ = []
 
-abbrev Turns : Shape → Bool → ℕ → Held → Text → Type 0
-Turns shape t k h word = (step_fault shape k h value ≡ []) × (walked shape.rules [] (at t k h) word ≡ to_positional shape.rules (arg_by_index shape.rules k) word (at t k h) h)
+abbrev pending : List Text → Option (Text × List Text)
+pending [] = None
+pending (image ∷ []) = Some (codes "IMAGE", image ∷ [])
+pending (image ∷ log ∷ others) = Some (codes "LOG", log ∷ [])
 
--- past `--` each word is a value
-turn_trailing : (shape : Shape) (k : ℕ) (h : Held) (word : Text) → turn_fault shape [] (at true k h) word ≡ [] → Turns shape true k h word
-unfolding walked
-turn_trailing shape k h word e = (e, refl)
+abbrev given : List Text → Held
+given values = held (rows values) (pending values)
 
--- before it a word is `--` or a value
-turn_open : (shape : Shape) → HasHelpOnly shape.rules → (k : ℕ) (rows : List Row) (pending : Option (Text × List Text)) (word : Text)
-    → turn_fault shape [] (at false k (held rows pending)) word ≡ []
-    → ((bytes_eq word (codes "--") ≡ true) × (walked shape.rules [] (at false k (held rows pending)) word ≡ at true k (held rows pending)))
-    ⊎ ((bytes_eq word (codes "--") ≡ false) × Turns shape false k (held rows pending) word)
-unfolding walked
-turn_open shape only k rows pending word e = go (bytes_eq word (codes "--")) refl
-  where
-    go : (b : Bool) → bytes_eq word (codes "--") ≡ b
-        → ((bytes_eq word (codes "--") ≡ true) × (walked shape.rules [] (at false k (held rows pending)) word ≡ at true k (held rows pending)))
-        ⊎ ((bytes_eq word (codes "--") ≡ false) × Turns shape false k (held rows pending) word)
-    go true mark = inl (mark, rw mark refl)
-    go false unmarked =
-        let parts = both_pass (word_fault shape [] false idle word (held rows pending)) _ e in
-        let met = value_met shape [] only k word rows pending refl unmarked parts.0 in
-        inr (unmarked, (rw met at parts.1, rw met refl))
+fits : (values : List Text) → length values < 2 → step_fault leaf (suc (length values)) (given values) value ≡ []
+fits [] lt = refl
+fits (image ∷ []) lt = refl
+fits (image ∷ log ∷ others) lt = absurd (omega arith)
 
--- what is held after none, one and both of the two values
-abbrev nothing : Held
-nothing = held [] None
+moves : (t : Bool) (values : List Text) (word : Text) → length values < 2
+    → to_positional leaf.rules (arg_by_index leaf.rules (suc (length values))) word (at t (suc (length values)) (given values)) (given values)
+    ≡ at t (suc (suc (length values))) (given (values ++ word ∷ []))
+moves true [] word lt = refl
+moves false [] word lt = refl
+moves true (image ∷ []) word lt = refl
+moves false (image ∷ []) word lt = refl
+moves t (image ∷ log ∷ others) word lt = absurd (omega arith)
 
-abbrev one : Text → Held
-one image = held [] (Some (codes "IMAGE", image ∷ []))
+full : (values : List Text) → length values ≡ 2 → step_fault leaf (suc (length values)) (given values) value ≡ [] → ⊥
+full [] all e = absurd (omega arith)
+full (image ∷ []) all e = absurd (omega arith)
+full (image ∷ log ∷ []) all e = some_fault kind.UnknownArgument [] e
+full (image ∷ log ∷ more ∷ others) all e = absurd (omega arith)
 
-abbrev image_row : Text → Row
-image_row image = record { id = codes "IMAGE"; values = image ∷ []; count = None; source = Some CommandLine; reading = AsWritten }
-
-abbrev two : Text → Text → Held
-two image log = held (image_row image ∷ []) (Some (codes "LOG", log ∷ []))
-
-to_one : (t : Bool) (w : Text) → to_positional leaf.rules (arg_by_index leaf.rules 1) w (at t 1 nothing) nothing ≡ at t 2 (one w)
-to_one true w = refl
-to_one false w = refl
-
-to_two : (t : Bool) (a w : Text) → to_positional leaf.rules (arg_by_index leaf.rules 2) w (at t 2 (one a)) (one a) ≡ at t 3 (two a w)
-to_two true a w = refl
-to_two false a w = refl
-
-no_third : (a b : Text) → step_fault leaf 3 (two a b) value ≡ [] → ⊥
-no_third a b e = some_fault _ _ e
-
--- what is held once the walk is over
-abbrev ends : Walk → List Text → Held
-ends from words = (fold (walked leaf.rules []) from words).held
-
--- the values to come
-abbrev left : Bool → List Text → List Text
-left t words = cond t words (unmarked words)
-
--- the next word is the `--`
-abbrev Marks : Bool → ℕ → Held → Text → List Text → Type 0
-Marks t k h word rest = (left t (word ∷ rest) ≡ rest) × (walk_fault leaf [] (at true k h) rest ≡ []) × (ends (at t k h) (word ∷ rest) ≡ ends (at true k h) rest)
-
--- the next word is a value
-abbrev Takes : Bool → ℕ → Held → Text → List Text → Type 0
-Takes t k h word rest = (left t (word ∷ rest) ≡ word ∷ left t rest) × (step_fault leaf k h value ≡ [])
-    × (walk_fault leaf [] (to_positional leaf.rules (arg_by_index leaf.rules k) word (at t k h) h) rest ≡ [])
-    × (ends (at t k h) (word ∷ rest) ≡ ends (to_positional leaf.rules (arg_by_index leaf.rules k) word (at t k h) h) rest)
-
-next_word : (t : Bool) (k : ℕ) (rows : List Row) (pending : Option (Text × List Text)) (word : Text) (rest : List Text)
-    → walk_fault leaf [] (at t k (held rows pending)) (word ∷ rest) ≡ []
-    → Marks t k (held rows pending) word rest ⊎ Takes t k (held rows pending) word rest
-unfolding walk_fault
-next_word true k rows pending word rest e =
-    let h = held rows pending in
-    let parts = both_pass (turn_fault leaf [] (at true k h) word) _ e in
-    let turn = turn_trailing leaf k h word parts.0 in
-    inr (refl, turn.0, subst (λ w. walk_fault leaf [] w rest ≡ []) turn.1 parts.1, ap (λ w. ends w rest) turn.1)
-next_word false k rows pending word rest e =
-    let h = held rows pending in
-    let parts = both_pass (turn_fault leaf [] (at false k h) word) _ e in
-    elim (turn_open leaf leaf_help k rows pending word parts.0) [
-      | inl mark ↦ inl (ap (λ b. cond b rest (word ∷ unmarked rest)) mark.0, subst (λ w. walk_fault leaf [] w rest ≡ []) mark.1 parts.1, ap (λ w. ends w rest) mark.1)
-      | inr turn ↦ inr (ap (λ b. cond b rest (word ∷ unmarked rest)) turn.0, turn.1.0, subst (λ w. walk_fault leaf [] w rest ≡ []) turn.1.1 parts.1, ap (λ w. ends w rest) turn.1.1)
-    ]
-
--- after both values
-after_two : (t : Bool) (image log : Text) (words : List Text) → walk_fault leaf [] (at t 3 (two image log)) words ≡ []
-    → (ends (at t 3 (two image log)) words ≡ two image log) × (left t words ≡ [])
-after_two true image log [] e = (refl, refl)
-after_two false image log [] e = (refl, refl)
-after_two t image log (word ∷ rest) e = elim (next_word t 3 (image_row image ∷ []) (Some (codes "LOG", log ∷ [])) word rest e) [
-  | inl mark ↦ let more = after_two true image log rest mark.1 in (mark.2 ∙ more.0, mark.0 ∙ more.1)
-  | inr turn ↦ absurd (no_third image log turn.1)
-]
-
--- after the first value: no more, or the second
-abbrev OneMore : Bool → Text → List Text → Type 0
-OneMore t image words = (ends (at t 2 (one image)) words ≡ one image)
-    ⊎ ((log : Text) × (ends (at t 2 (one image)) words ≡ two image log) × (left t words ≡ log ∷ []))
-
-after_one : (t : Bool) (image : Text) (words : List Text) → walk_fault leaf [] (at t 2 (one image)) words ≡ [] → OneMore t image words
-after_one t image [] e = inl refl
-after_one t image (word ∷ rest) e = elim (next_word t 2 [] (Some (codes "IMAGE", image ∷ [])) word rest e) [
-  | inl mark ↦ elim (after_one true image rest mark.1) [
-    | inl none ↦ inl (mark.2 ∙ none)
-    | inr more ↦ inr (more.0, mark.2 ∙ more.1, mark.0 ∙ more.2)
-  ]
-  | inr turn ↦
-      let more = after_two t image word rest (subst (λ w. walk_fault leaf [] w rest ≡ []) (to_two t image word) turn.2) in
-      inr (word, turn.3 ∙ ap (λ w. ends w rest) (to_two t image word) ∙ more.0, turn.0 ∙ ap (λ ws. word ∷ ws) more.1)
-]
-
--- at the start: none, one or both
-abbrev BothToCome : Bool → List Text → Type 0
-BothToCome t words = (ends (at t 1 nothing) words ≡ nothing)
-    ⊎ ((image : Text) × (ends (at t 1 nothing) words ≡ one image))
-    ⊎ ((image log : Text) × (ends (at t 1 nothing) words ≡ two image log) × (left t words ≡ image ∷ log ∷ []))
-
-after_none : (t : Bool) (words : List Text) → walk_fault leaf [] (at t 1 nothing) words ≡ [] → BothToCome t words
-after_none t [] e = inl refl
-after_none t (word ∷ rest) e = elim (next_word t 1 [] None word rest e) [
-  | inl mark ↦ elim (after_none true rest mark.1) [
-    | inl none ↦ inl (mark.2 ∙ none)
-    | inr (inl some) ↦ inr (inl (some.0, mark.2 ∙ some.1))
-    | inr (inr both) ↦ inr (inr (both.0, both.1, mark.2 ∙ both.2, mark.0 ∙ both.3))
-  ]
-  | inr turn ↦
-      let go : walk_fault leaf [] (at t 2 (one word)) rest ≡ [] = subst (λ w. walk_fault leaf [] w rest ≡ []) (to_one t word) turn.2 in
-      let moved : ends (at t 1 nothing) (word ∷ rest) ≡ ends (at t 2 (one word)) rest = turn.3 ∙ ap (λ w. ends w rest) (to_one t word) in
-      elim (after_one t word rest go) [
-        | inl none ↦ inr (inl (word, moved ∙ none))
-        | inr more ↦ inr (inr (word, more.0, moved ∙ more.1, turn.0 ∙ ap (λ ws. word ∷ ws) more.2))
-      ]
-]
-
--- what is wrong at the end
-abbrev end_fault : Held → Kinds
-end_fault h = or_else (settle_fault leaf.rules leaf.args_override_self h)
-    (or_else (defaults_fault (settled leaf.rules h).rows leaf.rules) (check_fault leaf (finished leaf.rules h) false))
-
-no_value : end_fault nothing ≡ [] → ⊥
+lacks : (values : List Text) → length values < 2 → end_fault leaf (given values) ≡ [] → ⊥
 unfolding clap_on_literals
-no_value e = some_fault kind.MissingRequiredArgument [] e
+lacks [] lt e = some_fault kind.MissingRequiredArgument [] e
+lacks (image ∷ []) lt e = some_fault kind.MissingRequiredArgument [] e
+lacks (image ∷ log ∷ others) lt e = absurd (omega arith)
 
-one_value : (image : Text) → end_fault (one image) ≡ [] → ⊥
+ends : (values : List Text) → length values ≡ 2 → end_fault leaf (given values) ≡ []
 unfolding clap_on_literals
-one_value image e = some_fault kind.MissingRequiredArgument [] e
+ends [] all = absurd (omega arith)
+ends (image ∷ []) all = absurd (omega arith)
+ends (image ∷ log ∷ others) all = refl
 
--- the words after `replay`, with no fault: both values are there
-pub given : (words : List Text) → level_fault leaf [] nothing_held words false [] ≡ []
-    → (image log : Text) × (rows_after leaf.rules [] words ≡ finished leaf.rules (two image log)) × (unmarked words ≡ image ∷ log ∷ [])
-given words e =
-    let parts = both_pass (walk_fault leaf [] (walk_from nothing_held) words) (end_fault (ends (at false 1 nothing) words)) e in
-    elim (after_none false words parts.0) [
-      | inl none ↦ absurd (no_value (subst (λ h. end_fault h ≡ []) none parts.1))
-      | inr (inl some) ↦ absurd (one_value some.0 (subst (λ h. end_fault h ≡ []) some.1 parts.1))
-      | inr (inr both) ↦ (both.0, both.1, ap (finished leaf.rules) both.2, both.3)
-    ]
+takes_two : TakesValues leaf 2
+takes_two = record {
+  help = record { long = λ name. refl; short = λ x. refl };
+  rows = rows;
+  pending = pending;
+  starts = refl;
+  fits = fits;
+  moves = moves;
+  full = full;
+  lacks = lacks;
+  ends = ends;
+}
+
+-- what is given, by the values
+pub two_values : (values : List Text) → length values ≡ 2
+    → (image log : Text) × (values ≡ image ∷ log ∷ []) × (replay_of (finished leaf.rules (given values)) ≡ Some (Replays image log))
+two_values [] all = absurd (omega arith)
+two_values (image ∷ []) all = absurd (omega arith)
+two_values (image ∷ log ∷ []) all = (image, log, refl, refl)
+two_values (image ∷ log ∷ more ∷ others) all = absurd (omega arith)
 
 -- ---- the program's words
 
@@ -189,12 +96,20 @@ abbrev app : App
 app = built hrv_app
 
 -- past the subcommand, the words are its own
+abbrev stopped : Held → Text → List Text → Walk
+stopped h name words = record (walk_from h) { stopped = Some (name, words) }
+
 after_stop : (name : Text) (h : Held) (before words : List Text)
-    → (fold (walked app.top.rules (names_of app)) (record (walk_from h) { stopped = Some (name, before) }) words).stopped ≡ Some (name, before ++ words)
+    → fold (walked app.top.rules (names_of app)) (stopped h name before) words ≡ stopped h name (before ++ words)
 unfolding walked
-after_stop name h before [] = ap (λ ws. Some (name, ws)) (sym (append-nil before))
+after_stop name h before [] = ap (stopped h name) (sym (append-nil before))
 after_stop name h before (word ∷ rest) =
-    after_stop name h (before ++ word ∷ []) rest ∙ ap (λ ws. Some (name, ws)) (append_assoc before (word ∷ []) rest)
+    after_stop name h (before ++ word ∷ []) rest ∙ ap (stopped h name) (append_assoc before (word ∷ []) rest)
+
+no_more_faults : (name : Text) (h : Held) (before words : List Text) → walk_fault app.top (names_of app) (stopped h name before) words ≡ []
+unfolding walked walk_fault
+no_more_faults name h before [] = refl
+no_more_faults name h before (word ∷ rest) = no_more_faults name h (before ++ word ∷ []) rest
 
 fault_none : fault_of hrv_app [] ≡ [] → ⊥
 unfolding clap_on_literals
@@ -243,9 +158,12 @@ first_is_replay (word ∷ rest) e = by_name (bytes_eq (codes "replay") word) ref
     by_name true same = (rest, ap (λ w. w ∷ rest) (sym ((bytes_eq-Decides (codes "replay") word).0 same)))
     by_name false other = by_help (bytes_eq (codes "help") word) refl other
 
-replay_stops : (words : List Text) → stop_after app.top.rules (names_of app) (codes "replay" ∷ words) ≡ Some (codes "replay", words)
+replay_stops : (words : List Text) → walk app.top.rules (names_of app) nothing_held (codes "replay" ∷ words) ≡ stopped nothing_held (codes "replay") words
 unfolding clap_on_literals
-replay_stops words = after_stop (codes "replay") nothing [] words
+replay_stops words = after_stop (codes "replay") nothing_held [] words
+
+replay_met : (words : List Text) → stop_after app.top.rules (names_of app) (codes "replay" ∷ words) ≡ Some (codes "replay", words)
+replay_met words = ap (λ (w : Walk). w.stopped) (replay_stops words)
 
 -- the words after `replay` have no fault of their own
 replay_passes : (words : List Text) → fault_of hrv_app (codes "replay" ∷ words) ≡ [] → level_fault leaf [] nothing_held words false [] ≡ []
@@ -253,7 +171,23 @@ replay_passes words e =
     let stop = stop_after app.top.rules (names_of app) (codes "replay" ∷ words) in
     let parts = both_pass (walk_fault app.top (names_of app) (walk_from nothing_held) (codes "replay" ∷ words)) _ e in
     let below : entered_fault app stop ≡ [] = (both_pass (entered_fault app stop) _ parts.1).0 in
-    subst (λ s. entered_fault app s ≡ []) (replay_stops words) below
+    subst (λ s. entered_fault app s ≡ []) (replay_met words) below
+
+-- what is wrong once the program's words are read, by what the subcommand's are
+abbrev closing : Kinds → Walk → Kinds
+closing below w = or_else below (or_else (settle_fault app.top.rules app.top.args_override_self w.held)
+    (or_else (defaults_fault (settled app.top.rules w.held).rows app.top.rules)
+    (check_fault app.top (finished app.top.rules w.held) (is_some (entered app w.stopped)))))
+
+-- and if they have none, there is none
+replay_free : (words : List Text) → level_fault leaf [] nothing_held words false [] ≡ [] → fault_of hrv_app (codes "replay" ∷ words) ≡ []
+unfolding clap_on_literals
+replay_free words e =
+    ap₂ or_else (no_more_faults (codes "replay") nothing_held [] words)
+    (ap (λ (w : Walk). closing (entered_fault app w.stopped) w) (replay_stops words)
+    ∙ ap (λ k. closing k (stopped nothing_held (codes "replay") words)) e)
+
+-- ---- what the words ask for
 
 -- what words with no fault ask for
 pub record AsksReplay (words : List Text) : Type 0 where
@@ -265,14 +199,60 @@ pub record AsksReplay (words : List Text) : Type 0 where
   pub spelled : unmarked words ≡ codes "replay" ∷ image ∷ log ∷ []
 
 pub replay_asked : (words : List Text) → fault_of hrv_app words ≡ [] → AsksReplay words
+unfolding takes_two
 replay_asked words e =
     let first = first_is_replay words e in
-    let both = given first.0 (replay_passes first.0 (subst (λ ws. fault_of hrv_app ws ≡ []) first.1 e)) in
+    let all = takes_all takes_two first.0 (replay_passes first.0 (subst (λ ws. fault_of hrv_app ws ≡ []) first.1 e)) in
+    let both = two_values (unmarked first.0) all.1 in
     record {
       image = both.0;
       log = both.1;
       rows = rows_after leaf.rules [] first.0;
-      met = ap (subcommand_of hrv_app) first.1 ∙ ap (entered app) (replay_stops first.0);
-      asks = ap replay_of both.2;
-      spelled = ap unmarked first.1 ∙ ap (λ ws. codes "replay" ∷ ws) both.3;
+      met = ap (subcommand_of hrv_app) first.1 ∙ ap (entered app) (replay_met first.0);
+      asks = ap replay_of all.0 ∙ both.3;
+      spelled = ap unmarked first.1 ∙ ap (λ ws. codes "replay" ∷ ws) both.2;
     }
+
+-- and they name it
+pub replay_named : (words : List Text) (pass : fault_of hrv_app words ≡ []) (asked : AsksReplay words) → named words ≡ Some (Replays asked.image asked.log)
+replay_named words pass asked =
+    ap (λ kinds. unless_fault kinds (option_and_then asked_of (subcommand_of hrv_app words))) pass
+    ∙ ap (option_and_then asked_of) asked.met ∙ asked.asks
+
+abbrev asked_in : List Text → Asked
+asked_in (name ∷ image ∷ log ∷ []) = Replays image log
+asked_in _ = Replays [] []
+
+-- two values, of which those before a first `--` are plain, name a replay
+pub values_named : (words : List Text) (image log : Text) → ArePlain words → unmarked words ≡ image ∷ log ∷ []
+    → named (codes "replay" ∷ words) ≡ Some (Replays image log)
+values_named words image log are_plain two =
+    let pass = replay_free words (passes_all takes_two words are_plain (ap length two)) in
+    let asked = replay_asked (codes "replay" ∷ words) pass in
+    let same : asked_in (codes "replay" ∷ asked.image ∷ asked.log ∷ []) ≡ asked_in (codes "replay" ∷ image ∷ log ∷ []) =
+    ap asked_in (sym asked.spelled ∙ ap (λ ws. codes "replay" ∷ ws) two) in
+    replay_named (codes "replay" ∷ words) pass asked ∙ ap (λ a. Some a) same
+
+pub plain_named : (image log : Text) → IsPlainWord image → IsPlainWord log → named (codes "replay" ∷ image ∷ log ∷ []) ≡ Some (Replays image log)
+plain_named image log image_plain log_plain =
+    let two = unmarked-plain image (log ∷ []) image_plain ∙ ap (λ ws. image ∷ ws) (unmarked-plain log [] log_plain) in
+    values_named (image ∷ log ∷ []) image log (plain image_plain (plain log_plain none)) two
+
+pub marked_named : (image log : Text) → named (codes "replay" ∷ codes "--" ∷ image ∷ log ∷ []) ≡ Some (Replays image log)
+marked_named image log = values_named (codes "--" ∷ image ∷ log ∷ []) image log (marked (image ∷ log ∷ [])) refl
+
+-- what is named has no fault
+no_fault : (kinds : Kinds) (asked : Option Asked) → IsSome (unless_fault kinds asked) → kinds ≡ []
+no_fault [] asked some = refl
+no_fault (kind ∷ kinds) asked some = absurd (true≢false (sym some))
+
+pub fault_of-named : (words : List Text) → IsSome (named words) → fault_of hrv_app words ≡ []
+fault_of-named words some = no_fault (fault_of hrv_app words) (option_and_then asked_of (subcommand_of hrv_app words)) some
+
+-- so nothing else than a replay is named
+pub only_replay : (words : List Text) (asked : Asked) → named words ≡ Some asked → IsSpelled words asked
+only_replay words asked is =
+    let pass = fault_of-named words (ap is_some is) in
+    let found = replay_asked words pass in
+    let same : Some (Replays found.image found.log) ≡ Some asked = sym (replay_named words pass found) ∙ is in
+    subst (IsSpelled words) (ap (λ o. unwrap_or o asked) same) found.spelled

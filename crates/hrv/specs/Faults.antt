@@ -1,4 +1,5 @@
 -- What a fault of the program says, part by part.
+-- This project's own.
 use Rattle.std.specs.Prelude.{ℕ, List}
 use Rattle.std.specs.String.{string_bytes}
 use Rattle.hrv.specs.declared.faults.Fault.{Fault}

@@ -1,4 +1,5 @@
 -- A lower crate's fault as the program's: want of memory is one fault for all.
+-- This project's own.
 use Rattle.hrv.specs.declared.faults.Fault.{Fault}
 use Rattle.hrv.specs.declared.faults.Fault.TheVariants.{CommandLine, Load, Log, Memory}
 use Rattle.clap.specs.declared.error.Error.{Error}

@@ -1,4 +1,5 @@
 -- What the program makes of an image and a log: the dump after the log's turns, or the first refusal.
+-- This project's own.
 use Rattle.std.specs.Prelude.{◌≡◌, ℕ, List, [], take, Result, Ok, Err}
 use Rattle.multi_hart.specs.Run.{State, run}
 use Rattle.multi_hart.specs.TurnLog.{LogState}

@@ -1,8 +1,8 @@
 //! What a command line asks of the program.
-ghost use Rattle.std.specs.Prelude.{◌≡◌, ℕ, List, [], ◌∷◌, IfOk, IfErr, Some, IsSome};
+ghost use Rattle.std.specs.Prelude.{◌≡◌, ℕ, List, [], ◌∷◌, codes, IfOk, IfErr, Some, IsSome};
 ghost use Rattle.clap.specs.Words.{found_of, rows_of};
 ghost use Rattle.clap.specs.Walk.{texts};
-ghost use Rattle.hrv.specs.CommandLine.{IsRefusal, IsSpelled, Makes, Replays};
+ghost use Rattle.hrv.specs.CommandLine.{Asked, IsPlainWord, IsRefusal, IsSpelled, Makes, Replays};
 ghost use Rattle.hrv.specs.CommandLine.{asked_by, asked_of, hrv_app, named, replay_app};
 
 use crate::faults::Fault;
@@ -23,6 +23,8 @@ pub fn command<'a>(alloc: Global, words: &'a [&'a str]) -> Result<Invocation<'a>
     ensures spelled { IfOk result (λ invocation.
         IsSpelled (texts words.now) (asked_by invocation)) }
     ensures refused { IfErr result (IsRefusal (texts words.now)) }
+    ensures memory { IfErr result (λ fault.
+        IsSome (named (texts words.now)) → fault ≡ Fault.Memory) }
 {
     let matches = program(alloc)?.try_get_matches_from(words)?;
     let (name, given) = matches.subcommand().unwrap();
@@ -43,12 +45,23 @@ fn asked_for<'a>(name: &str, given: &ArgMatches<'a>) -> Invocation<'a>
     }
 }
 
+/// Which words name a replay: `replay` and two names, after `--` where one begins with `-`.
+pub fn replay_is_named()
+    ensures plain { (image log : List ℕ) → IsPlainWord image → IsPlainWord log
+        → named (codes "replay" ∷ image ∷ log ∷ []) ≡ Some (Replays image log) }
+    ensures marked { (image log : List ℕ)
+        → named (codes "replay" ∷ codes "--" ∷ image ∷ log ∷ []) ≡ Some (Replays image log) }
+    ensures only { (words : List (List ℕ)) (asked : Asked)
+        → named words ≡ Some asked → IsSpelled words asked }
+{}
+
 // The program's command.
 fn program<'a>(alloc: Global) -> Result<Command<'a>, AllocError>
     ensures { IfOk result (Makes hrv_app) }
 {
     Command::new(alloc, "hrv")
         .about("Runs programs for several RISC-V harts over one memory")
+        .bin_name("hrv")?
         .no_binary_name(true)
         .subcommand_required(true)
         .subcommand(replay_command(alloc)?)

@@ -23,7 +23,8 @@ pub struct FileSource<'a, R: Files> {
 impl<'a, R: Files> FileSource<'a, R> {
     /// The file at a path, not yet opened.
     pub fn new(rt: &'a R, path: &'a str) -> FileSource<'a, R>
-        ensures { result.failures ≡ 0 }
+        ensures path { result.path.now ≡ path.entry.now }
+        ensures failures { result.failures ≡ 0 }
     {
         FileSource {
             rt,

@@ -1,6 +1,6 @@
 //! Replaying a log of turns over an image.
 
-ghost use Rattle.std.specs.Prelude.{◌≡◌, ◌≢◌, ◌+◌, ◌<◌, ◌≤◌, ◌^◌, ◌⊎◌, List, [], Err, Ok, OnOk, IfOk, IfErr};
+ghost use Rattle.std.specs.Prelude.{◌≡◌, ◌≢◌, ℕ, ◌+◌, ◌<◌, ◌≤◌, ◌^◌, ◌⊎◌, List, [], Err, Ok, OnOk, IfOk, IfErr};
 ghost use Rattle.std.specs.String.{string_bytes};
 ghost use Rattle.hrv.specs.Faults.{OnRefusal, OnFile, IsReplayFault};
 ghost use Rattle.hrv.specs.Replay.{answer, dump_of, Answered, Refused, Begun};
@@ -14,7 +14,7 @@ use std::alloc::{AllocError, Global};
 
 /// Reads an image and a log of turns, replays the log over the image, and writes the dump.
 ///
-/// Both files are read first. Where one is refused, or memory runs out, nothing is written. A device
+/// Both files are read first, the image before the log. Where one is refused, or memory runs out, nothing is written. A device
 /// fault is answered only where that device's count of failures grew in this call; after one of the
 /// sink, it has taken a beginning of the dump.
 pub fn replay_bytes<I: Source, L: Source, O: Sink>(
@@ -38,7 +38,8 @@ pub fn replay_bytes<I: Source, L: Source, O: Sink>(
     ensures kinds { IfErr result IsReplayFault }
     ensures device { IfErr result (λ fault. OnFile fault (λ path.
         ((path ≡ I.place image.old) × (I.failed image.old < I.failed image.new) × O.took out.old [] out.new)
-        ⊎ ((path ≡ L.place log.old) × (L.failed log.old < L.failed log.new) × O.took out.old [] out.new)
+        ⊎ ((path ≡ L.place log.old) × (L.failed log.old < L.failed log.new) × O.took out.old [] out.new
+        × ((bytes : List ℕ) × I.gave image.old bytes image.new × I.ended image.new))
         ⊎ ((path ≡ O.place out.old) × (O.failed out.old < O.failed out.new) × Begun
         (λ bytes. I.gave image.old bytes image.new × I.ended image.new)
         (λ bytes. L.gave log.old bytes log.new × L.ended log.new)

@@ -58,6 +58,7 @@ hart 1 running pc 0x00010000 turns 0
 /// Bytes that are read a few at a time. The read of a number fails, where there is one.
 #[derive(Drop)]
 struct Tape<'a> {
+    name: &'a str,
     bytes: &'a [u8],
     step: usize,
     reads_left: Option<u32>,
@@ -65,11 +66,11 @@ struct Tape<'a> {
 }
 
 impl Source for Tape<'_> {
-    ghost use Rattle.std.specs.Prelude.{◌≡◌, ◌++◌, [], codes, refl};
+    ghost use Rattle.std.specs.Prelude.{◌≡◌, ◌++◌, [], refl};
     ghost use Rattle.std.proofs.Common.{◌∙◌, ap, sym};
     ghost use Rattle.std.proofs.lemmas.List.{append_assoc};
 
-    ghost place = { λ _. codes "tape" };
+    ghost place = { λ s. s.name.now };
 
     ghost failed = { λ s. s.failures };
 
@@ -82,7 +83,7 @@ impl Source for Tape<'_> {
     ghost gave_more = { λ s t u xs ys a b. a ∙ ap (λ rest. xs ++ rest) b ∙ sym (append_assoc xs ys u.bytes.now) };
 
     fn path(&self) -> &str {
-        "tape"
+        self.name
     }
 
     fn failures(&self) -> u64 {
@@ -153,10 +154,11 @@ impl Sink for Page {
     }
 }
 
-fn tape_of(bytes: &[u8]) -> Tape<'_>
+fn tape_of<'a>(name: &'a str, bytes: &'a [u8]) -> Tape<'a>
     ensures { result.failures ≡ 0 }
 {
     Tape {
+        name,
         bytes,
         step: 7,
         reads_left: None,
@@ -178,7 +180,12 @@ fn empty_page(alloc: Global) -> Page
 /// What a replay of the bytes writes, and the line of its refusal, if any.
 fn replayed(alloc: Global, image: &[u8], log: &[u8]) -> Result<(Vec<u8>, String), AllocError> {
     let mut out = empty_page(alloc);
-    let answered = replay_bytes(alloc, &mut tape_of(image), &mut tape_of(log), &mut out);
+    let answered = replay_bytes(
+        alloc,
+        &mut tape_of("image", image),
+        &mut tape_of("log", log),
+        &mut out,
+    );
     let line = match answered {
         Ok(()) => String::new(alloc),
         Err(fault) => format!(in alloc; "{fault}")?,
@@ -268,10 +275,15 @@ fn refuses_damaged_files(rt: HostRuntime) -> Result<(), Fail> {
 #[test]
 fn counts_failures(rt: HostRuntime) -> Result<(), Fail> {
     for reads in 0..8u32 {
-        for (image_reads, log_reads) in [(Some(reads), None), (None, Some(reads))] {
-            let mut image = tape_of(&COUNTER);
+        let cases = [
+            (Some(reads), None, "refused file image"),
+            (None, Some(reads), "refused file log"),
+            (Some(reads), Some(0), "refused file image"),
+        ];
+        for (image_reads, log_reads, line) in cases {
+            let mut image = tape_of("image", &COUNTER);
             image.reads_left = image_reads;
-            let mut log = tape_of(&TURNS);
+            let mut log = tape_of("log", &TURNS);
             log.reads_left = log_reads;
             let mut out = empty_page(rt.alloc());
             let answered = replay_bytes(rt.alloc(), &mut image, &mut log, &mut out);
@@ -289,8 +301,8 @@ fn counts_failures(rt: HostRuntime) -> Result<(), Fail> {
         out.writes_left = Some(writes);
         let answered = replay_bytes(
             rt.alloc(),
-            &mut tape_of(&COUNTER),
-            &mut tape_of(&TURNS),
+            &mut tape_of("image", &COUNTER),
+            &mut tape_of("log", &TURNS),
             &mut out,
         );
         let fault = answered.expect_err(&rt, "a write failed");

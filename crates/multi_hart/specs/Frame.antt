@@ -1,5 +1,6 @@
 -- Which bytes a turn depends on and which it changes, and the two laws that follow: a turn depends on its
 -- hart and on the bytes that it reads alone, and turns that do not conflict may be made in either order.
+-- This project's own.
 use Rattle.std.specs.Prelude.{◌≡◌, ◌≢◌, ℕ, List, [], ◌∷◌, length, slice_get, Some}
 use Rattle.hart_core.specs.Addresses.{byte_at}
 use Rattle.hart_core.specs.Access.{touched, read_by, written_by}

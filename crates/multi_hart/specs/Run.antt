@@ -1,6 +1,5 @@
--- The whole machine, its state at the start, one turn of a named hart, and runs of turns.
--- One event is one whole instruction of one named hart: RISC-V Unprivileged ISA 20191213, section 1.4
--- "Memory", at its strongest order. The state at the start is this project's own.
+-- The whole machine, its state at the start, one turn of a named hart, and runs of turns: one event is one
+-- whole instruction of one named hart, and events come one after the other. This project's own.
 use Rattle.std.specs.Prelude.{◌≡◌, ℕ, zero, suc, ◌+◌, List, [], ◌∷◌, ◌++◌, length, slice_get, slice_set, slice_index_or, Option, Some, None}
 use Rattle.rv_insn.specs.declared.outcomes.Outcome.{Outcome}
 use Rattle.rv_insn.specs.declared.outcomes.Outcome.TheVariants.{Idle}

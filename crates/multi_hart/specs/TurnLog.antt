@@ -1,4 +1,5 @@
 -- What a log of turns is: how many harts there are, and which hart made each turn.
+-- This project's own.
 use Rattle.std.specs.Prelude.{ℕ, ◌^◌, ◌<◌, ◌≤◌, ◌==◌, List, All, count_by}
 
 -- the number of harts, and the hart of each turn, the first turn first

@@ -126,8 +126,8 @@ fn decode_by_opcode(word: u32) -> Option<Insn>
 /// The instruction that a word means, and `None` exactly where no row of the table fits it.
 ///
 /// Words are those of the manual's chapter 24. All 32 bits count: a word with a fixed bit changed
-/// has no meaning here, but for the bits `aq` and `rl` of an atomic operation, which are fields
-/// (section 8.4).
+/// has no meaning, unless it fits another row. The bits `aq` and `rl` of an atomic operation are
+/// fields (section 8.4).
 #[tactic(auto, using(crate::proofs::Meanings::sound))]
 pub fn decode(word: u32) -> Option<Insn>
     ensures some { IfSome result (Means word) }

@@ -1,4 +1,5 @@
--- What it is for a word to mean an instruction, by the instruction table.
+-- What it is for a word to mean an instruction, by the instruction table, which is chapter 24 of the RISC-V
+-- Unprivileged ISA 20191213.
 use Rattle.std.specs.Prelude.{◌≡◌, ℕ, ℤ, pos, Bool, cond, List, [], ◌∷◌, map, codes}
 use Rattle.std.specs.List.{Contains}
 use Rattle.rv_insn.specs.Encoding.{Holds, Row, field_of}
