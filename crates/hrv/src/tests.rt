@@ -288,10 +288,7 @@ fn counts_failures(rt: HostRuntime) -> Result<(), Fail> {
             let mut out = empty_page(rt.alloc());
             let answered = replay_bytes(rt.alloc(), &mut image, &mut log, &mut out);
             let fault = answered.expect_err(&rt, "a read failed");
-            assert_eq!(rt;
-                format!(in rt.alloc(); "{fault}")?.as_str(),
-                "refused file tape"
-            );
+            assert_eq!(rt; format!(in rt.alloc(); "{fault}")?.as_str(), line);
             assert_eq!(rt; fault.status(), 1);
             assert!(rt; out.bytes.is_empty());
         }
