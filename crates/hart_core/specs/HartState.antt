@@ -1,10 +1,10 @@
 -- The state of one hart.
 -- RISC-V Unprivileged ISA 20191213, section 2.1 "Programmers' Model for Base Integer ISA"; Vector Extension
 -- 1.0, chapter 3 "Vector Extension Programmer's Model". The status is this project's own.
-use Rattle.std.specs.Prelude.{ℕ, zero, suc, ◌+◌, Bool, true, false, List, slice_index, slice_index_or, slice_set, replicate, []}
+use Rattle.std.specs.Prelude.{ℕ, zero, suc, Bool, true, false, List, slice_index, slice_index_or, slice_set, replicate, []}
 use Rattle.hart_core.specs.declared.harts.Status.{Status}
 use Rattle.hart_core.specs.declared.harts.Status.TheVariants.{Running, Finished, Trapped}
-use Rattle.hart_core.specs.Addresses.{wrap}
+use Rattle.lanes.specs.Words as word
 
 pub record HartState : Type 0 where
   pub pc : ℕ
@@ -32,9 +32,13 @@ with_register hart r value = record hart { registers = registers_after hart.regi
 abbrev pub at_pc : HartState → ℕ → HartState
 at_pc hart pc = record hart { pc = pc }
 
+-- the address of the next instruction in text, modulo 2^32: section 1.4 "Memory"
+abbrev pub next_pc : HartState → ℕ
+next_pc hart = word.add 32 hart.pc 4
+
 -- the next instruction in text is due
 abbrev pub advanced : HartState → HartState
-advanced hart = at_pc hart (wrap (hart.pc + 4))
+advanced hart = at_pc hart (next_pc hart)
 
 abbrev pub with_status : HartState → Status → HartState
 with_status hart status = record hart { status = status }

@@ -1,5 +1,4 @@
-pub mod Addresses
-pub mod Access
+pub mod Alu
 pub mod HartState
 pub mod Scalar
 pub mod Turn

@@ -1,6 +1,6 @@
 -- One turn of a hart, with the order of the traps. The order and the numbers of the traps, and that a hart
 -- which doesn't run rests, are this project's own; what an instruction does is in Scalar.
-use Rattle.std.specs.Prelude.{◌≡◌, ℕ, List, [], ◌∷◌, length, map, Option, Some, None}
+use Rattle.std.specs.Prelude.{◌≡◌, ℕ, List, [], length, map, Option, Some, None}
 use Rattle.rv_insn.specs.declared.outcomes.Trap.{Trap}
 use Rattle.rv_insn.specs.declared.outcomes.Trap.TheVariants.{IllegalInstruction, FetchOutside}
 use Rattle.rv_insn.specs.declared.outcomes.Outcome.{Outcome}
@@ -9,10 +9,10 @@ use Rattle.rv_insn.specs.declared.instructions.Insn.{Insn}
 use Rattle.rv_encoding.specs.Decoding.{decoded}
 use Rattle.hart_core.specs.declared.harts.Status.{Status}
 use Rattle.hart_core.specs.declared.harts.Status.TheVariants.{Running, Finished, Trapped as HasTrapped}
-use Rattle.hart_core.specs.Addresses.{fetched, put}
-use Rattle.hart_core.specs.Access.{touched, number_at, spread, read_by, written_by, first_fault, or_else}
+use Rattle.memory.specs.Addresses.{fetched, put}
+use Rattle.memory.specs.Access.{touched, number_at, spread, read_by, written_by, first_fault, or_else}
 use Rattle.hart_core.specs.HartState.{HartState, with_status}
-use Rattle.hart_core.specs.Scalar.{kind_of, accesses, jump_of, jump_fault, after, stored, outcome_of}
+use Rattle.hart_core.specs.Scalar.{kind_of, accesses, jump_of, jump_fault, own_fault, after, stored, outcome_of}
 
 -- what a hart's turn is, known from its own state, the text and the number of data bytes
 pub data Next : Type 0 where
@@ -20,10 +20,10 @@ pub data Next : Type 0 where
   Traps : (trap : Trap) → Next
   Does : (insn : Insn) → Next
 
--- the trap of an instruction, if it makes one: a misaligned target before an access
+-- the trap of an instruction, if it makes one: a misaligned target before an access, EBREAK's own last
 abbrev pub fault : ℕ → ℕ → Insn → HartState → Option Trap
 fault words bytes insn hart =
-    or_else (jump_fault (jump_of insn hart)) (first_fault words bytes (kind_of insn) (accesses insn hart))
+    or_else (jump_fault (jump_of insn hart)) (or_else (first_fault words bytes (kind_of insn) (accesses insn hart)) (own_fault insn))
 
 abbrev pub judged : Insn → Option Trap → Next
 judged insn None = Does insn

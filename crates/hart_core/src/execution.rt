@@ -1,15 +1,17 @@
 //! What a hart does in a turn.
 
-ghost use Rattle.std.specs.Prelude.{◌≡◌, ◌+◌, None, Some, length, IfOk, OnOk, IfErr, OnErr};
-ghost use Rattle.hart_core.specs.Scalar.{jump_fault, plus};
-ghost use Rattle.hart_core.specs.HartState.{register, advanced, with_register, at_pc};
-ghost use Rattle.hart_core.specs.Addresses.{wrap};
+ghost use Rattle.std.specs.Prelude.{◌≡◌, None, Some, length, IfOk, OnOk, IfErr, OnErr};
+ghost use Rattle.hart_core.specs.Alu.{extended, plus};
+ghost use Rattle.hart_core.specs.Scalar.{jump_fault, given, linked};
+ghost use Rattle.hart_core.specs.HartState.{register, at_pc};
 ghost use Rattle.hart_core.specs.Turn.{step, fault, IsDone};
 
+use crate::accesses::{load, store};
+use crate::alu::{computed, computed_with_immediate, is_taken, shifted};
 use crate::harts::{Hart, Status};
-use crate::memory::{Bytes, read_for_amo, read_u32, write_u32};
+use memory::{Bytes, read_for_amo, write_u32};
 use rv_encoding::decode;
-use rv_insn::{AluImmOp, AluOp, BranchOp, Imm12, Insn, LoadOp, Outcome, Reg, StoreOp, Trap};
+use rv_insn::{Imm12, Insn, Outcome, Reg, Trap};
 
 impl Hart {
     /// One turn of the hart: the instruction that stands at the program counter, or nothing where the
@@ -45,58 +47,55 @@ impl Hart {
     {
         match insn {
             Insn::Lui { rd, imm } => Ok(self.give(rd, imm.value() << 12)),
+            Insn::Auipc { rd, imm } => {
+                let sum = self.pc().wrapping_add(imm.value() << 12);
+                Ok(self.give(rd, sum))
+            }
             Insn::Jal { rd, offset } => {
                 let target = self.pc().wrapping_add(offset.bytes().cast_unsigned());
                 self.jump_and_link(rd, target)
             }
+            Insn::Jalr { rd, rs1, imm } => {
+                let target = self.address(rs1, imm) & !1;
+                self.jump_and_link(rd, target)
+            }
             Insn::Branch {
-                op: BranchOp::Beq,
+                op,
                 rs1,
                 rs2,
                 offset,
             } => {
-                if self.register(rs1) == self.register(rs2) {
+                if is_taken(op, self.register(rs1), self.register(rs2)) {
                     let target = self.pc().wrapping_add(offset.bytes().cast_unsigned());
                     self.jump(target)
                 } else {
                     Ok(self.advance())
                 }
             }
-            Insn::Load {
-                op: LoadOp::Lw,
-                rd,
-                rs1,
-                imm,
-            } => {
-                let word = read_u32(memory, self.address(rs1, imm))?;
-                Ok(self.give(rd, word))
+            Insn::Load { op, rd, rs1, imm } => {
+                let value = load(op, memory, self.address(rs1, imm))?;
+                Ok(self.give(rd, value))
             }
-            Insn::Store {
-                op: StoreOp::Sw,
-                rs1,
-                rs2,
-                imm,
-            } => {
-                write_u32(memory, self.address(rs1, imm), self.register(rs2))?;
+            Insn::Store { op, rs1, rs2, imm } => {
+                store(op, memory, self.address(rs1, imm), self.register(rs2))?;
                 Ok(self.advance())
             }
-            Insn::AluImm {
-                op: AluImmOp::Addi,
-                rd,
-                rs1,
-                imm,
-            } => {
-                let sum = self.address(rs1, imm);
-                Ok(self.give(rd, sum))
+            Insn::AluImm { op, rd, rs1, imm } => {
+                let value = computed_with_immediate(op, self.register(rs1), extend(imm));
+                Ok(self.give(rd, value))
             }
-            Insn::Alu {
-                op: AluOp::Add,
+            Insn::Shift {
+                op,
                 rd,
                 rs1,
-                rs2,
+                amount,
             } => {
-                let sum = self.register(rs1).wrapping_add(self.register(rs2));
-                Ok(self.give(rd, sum))
+                let value = shifted(op, self.register(rs1), u32::from(amount.value()));
+                Ok(self.give(rd, value))
+            }
+            Insn::Alu { op, rd, rs1, rs2 } => {
+                let value = computed(op, self.register(rs1), self.register(rs2));
+                Ok(self.give(rd, value))
             }
             Insn::AmoaddW { rd, rs1, rs2, .. } => {
                 let address = self.register(rs1);
@@ -104,10 +103,12 @@ impl Hart {
                 write_u32(memory, address, old.wrapping_add(self.register(rs2)))?;
                 Ok(self.give(rd, old))
             }
+            Insn::Fence => Ok(self.advance()),
             Insn::Ecall => {
                 self.finish();
                 Ok(Outcome::Finished)
             }
+            Insn::Ebreak => Err(Trap::Breakpoint),
         }
     }
 
@@ -115,12 +116,12 @@ impl Hart {
     fn address(&self, rs1: Reg, imm: Imm12) -> u32
         ensures { result ≡ plus (register self.now rs1) imm }
     {
-        self.register(rs1).wrapping_add(imm.value().cast_unsigned())
+        self.register(rs1).wrapping_add(extend(imm))
     }
 
     /// Writes a register and goes on at the next instruction.
     fn give(&mut self, rd: Reg, value: u32) -> Outcome
-        ensures hart { self.new ≡ advanced (with_register self.old rd value) }
+        ensures hart { self.new ≡ given self.old rd value }
         ensures outcome { result ≡ Outcome.Stepped }
     {
         self.set_register(rd, value);
@@ -147,7 +148,7 @@ impl Hart {
     fn jump_and_link(&mut self, rd: Reg, target: u32) -> Result<Outcome, Trap>
         ensures ok { IfOk result (λ outcome. outcome ≡ Outcome.Stepped) }
         ensures allowed { OnOk result (jump_fault (Some target) ≡ None) }
-        ensures hart { OnOk result (self.new ≡ at_pc (with_register self.old rd (wrap (self.old.pc + 4))) target) }
+        ensures hart { OnOk result (self.new ≡ linked self.old rd target) }
         ensures err { IfErr result (λ trap. jump_fault (Some target) ≡ Some trap) }
         ensures unchanged { OnErr result (self.new ≡ self.old) }
     {
@@ -156,4 +157,11 @@ impl Hart {
         self.set_register(rd, link);
         Ok(outcome)
     }
+}
+
+/// An immediate as a word, its sign extended.
+fn extend(imm: Imm12) -> u32
+    ensures { result ≡ extended imm }
+{
+    imm.value().cast_unsigned()
 }

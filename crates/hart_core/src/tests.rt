@@ -1,19 +1,22 @@
 //! Turns of one hart over a small memory. What each instruction leaves was worked out by hand from the
 //! manual.
 
-use crate::{Bytes, Hart, Memory, Status, read_u32, write_u32};
+ghost use Rattle.std.specs.Prelude.{◌≡◌, ◌<◌, ◌/◌, ◌%◌, ◌^◌};
+
+use crate::{Hart, Status};
+use memory::{Bytes, DATA_START, Memory, TEXT_START, read_u32};
 use rv_insn::{Outcome, Reg, Trap, VReg};
 use std::process::Abort;
 use std::test::Fail;
 
 /// A hart at the first of some text words, over eight bytes of data.
-fn start(rt: &(impl Abort + AllocGlobal), words: &[u32]) -> Result<(Hart, Memory), Fail> {
+pub fn start(rt: &(impl Abort + AllocGlobal), words: &[u32]) -> Result<(Hart, Memory), Fail> {
     assert!(rt; words.len() <= 16);
     let memory = Memory::new(words.to_vec(rt.alloc())?, vec![in rt.alloc(); 0u8; 8]?);
     Ok((Hart::new(0x0001_0000, 2, 1), memory))
 }
 
-fn register(rt: &impl Abort, hart: &Hart, number: u8) -> u32 {
+pub fn register(rt: &impl Abort, hart: &Hart, number: u8) -> u32 {
     hart.register(Reg::new(number).expect(rt, "a register"))
 }
 
@@ -92,10 +95,15 @@ fn branches_and_jumps(rt: HostRuntime) -> Result<(), Fail> {
 #[test]
 fn traps(rt: HostRuntime) -> Result<(), Fail> {
     let cases = [
-        (0x0010_0073, Trap::IllegalInstruction),
+        (0x0221_80d7, Trap::IllegalInstruction), // vadd.vv v1,v2,v3
+        (0x0020_0073, Trap::IllegalInstruction),
+        (0x0010_0073, Trap::Breakpoint),
         (0x0060_00ef, Trap::MisalignedTarget),
         (0x0000_0163, Trap::MisalignedTarget),
+        (0x0030_02e7, Trap::MisalignedTarget), // jalr x5,3(x0)
         (0x0010_2283, Trap::LoadMisaligned),
+        (0x0010_1283, Trap::LoadMisaligned), // lh x5,1(x0)
+        (0x0000_0283, Trap::LoadOutside), // lb x5,0(x0)
         (0x0000_2283, Trap::LoadOutside),
         (0x0000_20a3, Trap::StoreMisaligned),
         (0x0000_2023, Trap::StoreOutside),
@@ -125,32 +133,133 @@ fn traps(rt: HostRuntime) -> Result<(), Fail> {
     Ok(())
 }
 
+/// jalr to an odd sum goes to the even address below: lui x6,0x10; jalr x5,9(x6).
 #[test]
-fn memory_has_limits(rt: HostRuntime) -> Result<(), Fail> {
-    let (_hart, mut memory) = start(&rt, &[0x0000_0073])?;
-    assert_eq!(rt; write_u32(&mut memory, 0x0020_0004, 0x0403_0201), Ok(()));
-    assert_eq!(rt; read_u32(&memory, 0x0020_0004), Ok(0x0403_0201));
-    assert_eq!(rt; memory.read(0x0020_0004), 1);
-    assert_eq!(rt;
-        write_u32(&mut memory, 0x0020_0006, 0),
-        Err(Trap::StoreMisaligned)
-    );
-    assert_eq!(rt;
-        write_u32(&mut memory, 0x0020_0008, 0),
-        Err(Trap::StoreOutside)
-    );
-    assert_eq!(rt;
-        write_u32(&mut memory, 0x0001_0000, 0),
-        Err(Trap::StoreOutside)
-    );
-    assert_eq!(rt;
-        write_u32(&mut memory, 0xffff_fffc, 0),
-        Err(Trap::StoreOutside)
-    );
-    assert_eq!(rt; read_u32(&memory, 0x0001_0004), Err(Trap::LoadOutside));
-    assert_eq!(rt; read_u32(&memory, 0xffff_fffc), Err(Trap::LoadOutside));
-    assert_eq!(rt; memory.fetch(0x0001_0000), Some(0x0000_0073));
-    assert_eq!(rt; memory.fetch(0x0001_0004), None);
-    assert_eq!(rt; memory.fetch(0x0000_fffc), None);
+fn jumps_to_an_even_address(rt: HostRuntime) -> Result<(), Fail> {
+    let (mut hart, mut memory) = start(&rt, &[0x0001_0337, 0x0093_02e7])?;
+    for pc in [0x0001_0004, 0x0001_0008] {
+        assert_eq!(rt; hart.step(&mut memory), Outcome::Stepped);
+        assert_eq!(rt; hart.pc(), pc);
+    }
+    assert_eq!(rt; register(&rt, &hart, 5), 0x0001_0008);
     Ok(())
+}
+
+/// jalr by way of its own destination: lui x5,0x10; jalr x5,0(x5).
+#[test]
+fn links_behind_the_target(rt: HostRuntime) -> Result<(), Fail> {
+    let (mut hart, mut memory) = start(&rt, &[0x0001_02b7, 0x0002_82e7])?;
+    for pc in [0x0001_0004, 0x0001_0000] {
+        assert_eq!(rt; hart.step(&mut memory), Outcome::Stepped);
+        assert_eq!(rt; hart.pc(), pc);
+    }
+    assert_eq!(rt; register(&rt, &hart, 5), 0x0001_0008);
+    Ok(())
+}
+
+/// auipc x5,0xfffff; auipc x6,1; fence.
+#[test]
+fn adds_to_the_program_counter(rt: HostRuntime) -> Result<(), Fail> {
+    let (mut hart, mut memory) = start(&rt, &[0xffff_f297, 0x0000_1317, 0x0ff0_000f])?;
+    for pc in [0x0001_0004, 0x0001_0008, 0x0001_000c] {
+        assert_eq!(rt; hart.step(&mut memory), Outcome::Stepped);
+        assert_eq!(rt; hart.pc(), pc);
+    }
+    assert_eq!(rt; register(&rt, &hart, 5), 0x0000_f000);
+    assert_eq!(rt; register(&rt, &hart, 6), 0x0001_1004);
+    Ok(())
+}
+
+fn byte_of(word: u32, place: u32) -> u8
+    requires { place < 4 }
+    ensures { result ≡ word / 256 ^ place % 256 }
+{
+    word.to_le_bytes()[place as usize]
+}
+
+/// A memory of two words of text and no data.
+#[derive(Drop)]
+struct TextAlone {
+    words: [u32; 2],
+}
+
+impl Bytes for TextAlone {
+    ghost use Rattle.std.specs.Prelude.{[]};
+
+    ghost text = { λ m. m.words };
+
+    ghost memory = { λ m. [] };
+
+    fn fetch(&self, pc: u32) -> Option<u32> {
+        match pc {
+            0x0001_0000 => Some(self.words[0]),
+            0x0001_0004 => Some(self.words[1]),
+            _ => None,
+        }
+    }
+
+    fn covers_load(&self, address: u32, count: u32) -> bool {
+        let end = u64::from(address) + u64::from(count);
+        let in_text = address >= TEXT_START && end <= u64::from(TEXT_START) + 8;
+        in_text || self.covers_store(address, count)
+    }
+
+    // Only nothing at all lies in no data.
+    fn covers_store(&self, address: u32, count: u32) -> bool {
+        address == DATA_START && count == 0
+    }
+
+    fn read(&self, address: u32) -> u8 {
+        if address >= DATA_START {
+            0
+        } else {
+            let offset = address - TEXT_START;
+            byte_of(self.words[(offset / 4) as usize], offset % 4)
+        }
+    }
+
+    fn write(&mut self, _address: u32, _value: u8) {}
+}
+
+/// Over text alone each aligned load outside text is trap 5, and each aligned store trap 7:
+/// the instruction at x5 = 0x00200000, or at 0.
+#[test]
+fn text_alone_is_a_memory(rt: HostRuntime) {
+    let cases = [
+        (0x0002_8283, Trap::LoadOutside), // lb x5,0(x5)
+        (0x0002_9283, Trap::LoadOutside), // lh
+        (0x0002_a283, Trap::LoadOutside), // lw
+        (0x0002_c283, Trap::LoadOutside), // lbu
+        (0x0002_d283, Trap::LoadOutside), // lhu
+        (0x0000_2283, Trap::LoadOutside), // lw x5,0(x0)
+        (0x0002_8023, Trap::StoreOutside), // sb x0,0(x5)
+        (0x0002_9023, Trap::StoreOutside), // sh
+        (0x0002_a023, Trap::StoreOutside), // sw
+        (0x0002_a2af, Trap::StoreOutside), // amoadd.w x5,x0,(x5)
+    ];
+    for (word, trap) in cases {
+        let mut memory = TextAlone {
+            words: [0x0020_02b7, word], // lui x5,0x200
+        };
+        let mut hart = Hart::new(0x0001_0000, 1, 0);
+        assert_eq!(rt; hart.step(&mut memory), Outcome::Stepped);
+        assert_eq!(rt;
+            hart.step(&mut memory),
+            Outcome::Trapped(trap),
+            "{word:08x}"
+        );
+        assert_eq!(rt; register(&rt, &hart, 5), 0x0020_0000);
+    }
+}
+
+/// Over the same memory, lw of the text: lui x5,0x10; lw x6,0(x5).
+#[test]
+fn text_can_be_loaded(rt: HostRuntime) {
+    let mut memory = TextAlone {
+        words: [0x0001_02b7, 0x0002_a303],
+    };
+    let mut hart = Hart::new(0x0001_0000, 1, 0);
+    assert_eq!(rt; hart.step(&mut memory), Outcome::Stepped);
+    assert_eq!(rt; hart.step(&mut memory), Outcome::Stepped);
+    assert_eq!(rt; register(&rt, &hart, 6), 0x0001_02b7);
 }

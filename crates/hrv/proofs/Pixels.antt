@@ -1,10 +1,10 @@
 -- Where the pixels of an output stand.
-use Rattle.std.proofs.Common.{◌≡◌, ℕ, ◌+◌, ◌-◌, ◌*◌, ◌/◌, ◌%◌, ◌<◌, ◌≤◌, ◌==◌, ◌&&◌, ◌||◌, Bool, true, false, length, Some, None, refl, sym, ap, ◌∙◌, arith, rules}
-use Rattle.std.specs.Prelude.{IsTrue, nat_le}
+use Rattle.std.proofs.Common.{◌≡◌, ℕ, ◌+◌, ◌-◌, ◌*◌, ◌/◌, ◌%◌, ◌<◌, ◌≤◌, length, Some, None, ap, arith}
+use Rattle.std.specs.Prelude.{IsTrue}
 use Rattle.std.proofs.Math.Nat.{mul-le-mul_left}
 use Rattle.std.proofs.lemmas.Bool.Decides.{nat_tests}
-use Rattle.hart_core.specs.Addresses.{data_start, in_text, in_data, covers_load}
-use Rattle.hart_core.specs.Access.{Reads, fault_of, word_at}
+use Rattle.memory.specs.Addresses.{data_start}
+use Rattle.memory.specs.Access.{Reads, fault_of, word_at}
 use Rattle.loader.specs.declared.outputs.Output.{Output}
 use Rattle.loader.specs.Image.{is_output, end_of}
 use Rattle.multi_hart.specs.Run.{State, if_no_fault, word_in}

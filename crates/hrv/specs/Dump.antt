@@ -1,13 +1,13 @@
 -- What the program prints of a machine: a heading and the registers of each hart, and the picture.
 -- The text is this project's own.
-use Rattle.std.specs.Prelude.{ℕ, zero, suc, ◌+◌, ◌-◌, ◌*◌, ◌/◌, ◌%◌, ◌==◌, Bool, true, false, nat_lt, if◌then◌else◌, List, [], ◌∷◌, ◌++◌, length, codes, slice_index, Option, Some, None, ℤ}
+use Rattle.std.specs.Prelude.{ℕ, zero, suc, ◌+◌, ◌*◌, ◌/◌, ◌%◌, ◌==◌, nat_lt, if◌then◌else◌, List, [], ◌∷◌, ◌++◌, length, codes, Option, Some, None, ℤ}
 use Rattle.std.specs.List.{list_all}
 use Rattle.std.specs.Int.{w32, cast_signed, to_be_bytes}
 use Rattle.std.specs.Fmt.{decimal, signed_decimal}
 use Rattle.rv_insn.specs.Trap.{trap_number}
 use Rattle.hart_core.specs.declared.harts.Status.{Status}
 use Rattle.hart_core.specs.declared.harts.Status.TheVariants.{Running, Finished, Trapped}
-use Rattle.hart_core.specs.Access.{word_at}
+use Rattle.memory.specs.Access.{word_at}
 use Rattle.hart_core.specs.HartState.{HartState, register, vector}
 use Rattle.multi_hart.specs.Run.{State, hart_at}
 use Rattle.multi_hart.specs.Finished.{all_finished}

@@ -25,6 +25,8 @@ use std::rt::{Env, Files};
 use std::{env, io};
 
 #[cfg(test)]
+mod program_tests;
+#[cfg(test)]
 mod tests;
 
 fn main(rt: HostRuntime) -> ExitCode {

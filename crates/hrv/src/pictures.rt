@@ -2,8 +2,8 @@
 
 ghost use Rattle.std.specs.Prelude.{◌≡◌, ◌<◌, ◌≤◌, ◌+◌, ◌*◌, ◌++◌, ◌^◌, length, OnOk, IsTrue};
 ghost use Rattle.std.specs.String.{string_bytes};
-ghost use Rattle.hart_core.specs.Addresses.{most_bytes};
-ghost use Rattle.hart_core.specs.Access.{word_at};
+ghost use Rattle.memory.specs.Addresses.{most_bytes};
+ghost use Rattle.memory.specs.Access.{word_at};
 ghost use Rattle.std.specs.Int.{w32, cast_signed};
 ghost use Rattle.loader.specs.Image.{is_output};
 ghost use Rattle.hrv.specs.Dump.{pixel_address, number_text, numbers, row_text, rows, picture_heading, picture_text};

@@ -178,7 +178,7 @@ fn empty_page(alloc: Global) -> Page
 }
 
 /// What a replay of the bytes writes, and the line of its refusal, if any.
-fn replayed(alloc: Global, image: &[u8], log: &[u8]) -> Result<(Vec<u8>, String), AllocError> {
+pub fn replayed(alloc: Global, image: &[u8], log: &[u8]) -> Result<(Vec<u8>, String), AllocError> {
     let mut out = empty_page(alloc);
     let answered = replay_bytes(
         alloc,

@@ -7,7 +7,7 @@ use Rattle.std.proofs.lemmas.Bool.{and_parts, and_left, and_right, leb-true, ltb
 use Rattle.std.proofs.lemmas.List.{drop-drop, drop_at, take_at, length-append}
 use Rattle.std.proofs.lemmas.List.Elements.{recursion_from_All}
 use Rattle.std.proofs.lemmas.Nat.{from_le_bytes-to_le_bytes_4}
-use Rattle.hart_core.specs.Addresses.{most_words, most_bytes, text_start, data_start}
+use Rattle.memory.specs.Addresses.{most_words, most_bytes, text_start, data_start}
 use Rattle.loader.specs.declared.outputs.Output.{Output}
 use Rattle.loader.specs.Image.{ImageContents, IsImage, IsInWords, is_output_or_none, is_output, is_picture, end_of, most_pixels}
 use Rattle.loader.specs.Spelling.{magic, spelled_numbers, output_fields, spelled_header, spelled, number_at, numbers_in, output_at, word_count, byte_count, contents_in}

@@ -1,8 +1,8 @@
 -- What an image holds, and the rules that it keeps: where a machine starts, its text and data, and which
 -- part of the data, if any, is a picture. The rules are this project's own.
-use Rattle.std.specs.Prelude.{ℕ, ◌+◌, ◌-◌, ◌*◌, ◌%◌, ◌^◌, ◌<◌, ◌==◌, ◌&&◌, Bool, true, not, nat_lt, nat_le, if◌then◌else◌, IsTrue, List, length, Option, Some, None, IfSome, Result, Ok, Err}
+use Rattle.std.specs.Prelude.{ℕ, ◌+◌, ◌-◌, ◌*◌, ◌%◌, ◌^◌, ◌<◌, ◌==◌, ◌&&◌, Bool, true, not, nat_le, if◌then◌else◌, IsTrue, List, length, Option, Some, None, IfSome, Result, Ok, Err}
 use Rattle.std.specs.List.{All}
-use Rattle.hart_core.specs.Addresses.{is_text_word, data_start, most_words, most_bytes}
+use Rattle.memory.specs.Addresses.{is_text_word, data_start, most_words, most_bytes}
 use Rattle.loader.specs.declared.outputs.Output.{Output}
 use Rattle.loader.specs.declared.faults.LoadFault.{LoadFault}
 use Rattle.loader.specs.declared.faults.LoadFault.TheVariants.{OverLimit, Entry, OutputRange}

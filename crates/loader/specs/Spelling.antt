@@ -9,7 +9,7 @@
 use Rattle.std.specs.Prelude.{◌≡◌, ℕ, zero, suc, ◌+◌, ◌*◌, ◌==◌, ◌&&◌, ◌||◌, not, nat_eq, nat_lt, if◌then◌else◌, List, [], ◌∷◌, ◌++◌, length, take, drop, codes, Option, Some, None, Result, Ok, Err}
 use Rattle.std.specs.List.{flat_map, starts_with}
 use Rattle.std.specs.Int.{w32, to_le_bytes, from_le_bytes}
-use Rattle.hart_core.specs.Addresses.{most_words, most_bytes}
+use Rattle.memory.specs.Addresses.{most_words, most_bytes}
 use Rattle.loader.specs.declared.outputs.Output.{Output}
 use Rattle.loader.specs.declared.faults.LoadFault.{LoadFault}
 use Rattle.loader.specs.declared.faults.LoadFault.TheVariants.{Magic, Truncated, TrailingBytes, OverLimit, OutOfMemory}

@@ -5,7 +5,7 @@ ghost use Rattle.loader.specs.Image.{IsImage, judged, is_entry, is_output_or_non
 
 use crate::faults::LoadFault;
 use crate::outputs::Output;
-use hart_core::{MOST_BYTES, MOST_WORDS, TEXT_START};
+use memory::{MOST_BYTES, MOST_WORDS, TEXT_START};
 use std::marker::Model;
 
 /// What a machine starts from: the address at which every hart starts, the words of text, the bytes

@@ -3,7 +3,7 @@
 ghost use Rattle.std.specs.Prelude.{◌≡◌, ◌≤◌, IsTrue};
 ghost use Rattle.loader.specs.Image.{is_picture, end_of, is_output, most_pixels};
 
-use hart_core::DATA_START;
+use memory::DATA_START;
 
 /// The most pixels that a picture has.
 const MOST_PIXELS: u64 = 1_048_576;

@@ -8,7 +8,7 @@ use crate::faults::LoadFault;
 use crate::images::Image;
 use crate::outputs::Output;
 use byteorder::{ByteOrder, LittleEndian};
-use hart_core::{MOST_BYTES, MOST_WORDS};
+use memory::{MOST_BYTES, MOST_WORDS};
 use std::alloc::{AllocError, Global};
 
 /// What every image begins with.

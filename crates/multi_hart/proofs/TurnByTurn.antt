@@ -5,7 +5,7 @@ use Rattle.std.proofs.lemmas.List.{take_more}
 use Rattle.hart_core.specs.HartState.{HartState}
 use Rattle.multi_hart.specs.Run.{State, turn, turned, run, KeepsShape, opening_harts}
 use Rattle.hart_core.specs.Turn.{effect}
-use Rattle.multi_hart.proofs.Framing.{length-put}
+use Rattle.memory.proofs.Putting.{length-put}
 
 pub run-push : (state : State) (turns : List ℕ) (hart : ℕ) → run state (turns ++ hart ∷ []) ≡ turn (run state turns) hart
 run-push state [] hart = refl

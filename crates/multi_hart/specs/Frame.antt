@@ -2,8 +2,8 @@
 -- hart and on the bytes that it reads alone, and turns that do not conflict may be made in either order.
 -- This project's own.
 use Rattle.std.specs.Prelude.{◌≡◌, ◌≢◌, ℕ, List, [], ◌∷◌, length, slice_get, Some}
-use Rattle.hart_core.specs.Addresses.{byte_at}
-use Rattle.hart_core.specs.Access.{touched, read_by, written_by}
+use Rattle.memory.specs.Addresses.{byte_at, NotIn}
+use Rattle.memory.specs.Access.{touched, read_by, written_by}
 use Rattle.hart_core.specs.HartState.{HartState}
 use Rattle.hart_core.specs.Scalar.{kind_of, accesses}
 use Rattle.hart_core.specs.Turn.{Next, Rests, Traps, Does, next_of, effect}
@@ -24,10 +24,6 @@ writes (Does insn) hart = touched (written_by (kind_of insn) (accesses insn hart
 abbrev pub Agree : (ℕ → ℕ) → (ℕ → ℕ) → List ℕ → Type 0
 Agree f g [] = Unit {0}
 Agree f g (place ∷ places) = (f place ≡ g place) × Agree f g places
-
-abbrev pub NotIn : ℕ → List ℕ → Type 0
-NotIn place [] = Unit {0}
-NotIn place (other ∷ others) = (place ≢ other) × NotIn place others
 
 -- no place of the first list is in the second
 abbrev pub Apart : List ℕ → List ℕ → Type 0

@@ -1,10 +1,10 @@
 -- The whole machine, its state at the start, one turn of a named hart, and runs of turns: one event is one
 -- whole instruction of one named hart, and events come one after the other. This project's own.
-use Rattle.std.specs.Prelude.{◌≡◌, ℕ, zero, suc, ◌+◌, List, [], ◌∷◌, ◌++◌, length, slice_get, slice_set, slice_index_or, Option, Some, None}
+use Rattle.std.specs.Prelude.{◌≡◌, ℕ, zero, suc, List, [], ◌∷◌, ◌++◌, length, slice_get, slice_set, slice_index_or, Option, Some, None}
 use Rattle.rv_insn.specs.declared.outcomes.Outcome.{Outcome}
 use Rattle.rv_insn.specs.declared.outcomes.Outcome.TheVariants.{Idle}
 use Rattle.rv_insn.specs.declared.outcomes.Trap.{Trap}
-use Rattle.hart_core.specs.Access.{Reads, fault_of, word_at}
+use Rattle.memory.specs.Access.{Reads, fault_of, word_at}
 use Rattle.hart_core.specs.HartState.{HartState, opening_hart}
 use Rattle.hart_core.specs.Turn.{Step, step}
 

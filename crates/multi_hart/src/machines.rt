@@ -1,12 +1,13 @@
 //! Harts over one memory, stepped one at a time.
 
 ghost use Rattle.std.specs.Prelude.{◌≡◌, ◌<◌, ◌≤◌, length, take, slice_index, OnOk, IfOk, IfErr, All, IsTrue};
-ghost use Rattle.hart_core.specs.Addresses.{most_words, most_bytes, is_text_word};
+ghost use Rattle.memory.specs.Addresses.{most_words, most_bytes, is_text_word};
 ghost use Rattle.hart_core.specs.HartState.{register, vector};
 ghost use Rattle.multi_hart.specs.Finished.{all_finished};
 ghost use Rattle.multi_hart.specs.Run.{opened, turn, outcome, run, KeepsShape, hart_at, word_in};
 
-use hart_core::{Bytes, Hart, Memory, Status, read_u32};
+use hart_core::{Hart, Status};
+use memory::{Bytes, Memory, read_u32};
 use rv_insn::{Outcome, Reg, VReg};
 use std::alloc::{AllocError, Global};
 use std::marker::Model;

@@ -3,8 +3,9 @@
 use Rattle.std.specs.Prelude.{ℕ, ◌+◌, ◌*◌, ◌/◌, ◌%◌, ◌^◌, ℤ, Bool, Option, Some, None, ◌==◌, if◌then◌else◌}
 use Rattle.rv_insn.specs.Encoding.{signed}
 use Rattle.rv_insn.specs.declared.instructions.Insn.{Insn}
-use Rattle.rv_insn.specs.declared.instructions.Insn.TheVariants.{Lui, Jal, Branch, Load, Store, AluImm, Alu, AmoaddW, Ecall}
-use Rattle.rv_encoding.specs.Operations.{branch_of, load_of, store_of, alu_imm_of, alu_of}
+use Rattle.rv_insn.specs.declared.instructions.Insn.TheVariants.{Lui, Auipc, Jal, Jalr, Branch, Load, Store, AluImm, Shift, Alu, AmoaddW, Fence, Ecall, Ebreak}
+use Rattle.rv_insn.specs.declared.operations.AluImmOp.{AluImmOp}
+use Rattle.rv_encoding.specs.Operations.{branch_of, load_of, store_of, alu_imm_of, shift_of, alu_of}
 
 -- the number in so many bits of the word, from the bit `low` up
 abbrev pub part : ℕ → ℕ → ℕ → ℕ
@@ -55,8 +56,19 @@ load_in funct3 word = with_op (λ op. Load op (rd_of word) (rs1_of word) (i_imme
 abbrev pub store_in : ℕ → ℕ → Option Insn
 store_in funct3 word = with_op (λ op. Store op (rs1_of word) (rs2_of word) (s_immediate_of word)) (store_of funct3)
 
-abbrev pub alu_imm_in : ℕ → ℕ → Option Insn
-alu_imm_in funct3 word = with_op (λ op. AluImm op (rd_of word) (rs1_of word) (i_immediate_of word)) (alu_imm_of funct3)
+abbrev pub jalr_in : ℕ → ℕ → Option Insn
+jalr_in funct3 word = if funct3 == 0b000 then Some (Jalr (rd_of word) (rs1_of word) (i_immediate_of word)) else None
+
+abbrev pub shift_in : ℕ → ℕ → ℕ → Option Insn
+shift_in funct3 funct7 word = with_op (λ op. Shift op (rd_of word) (rs1_of word) (rs2_of word)) (shift_of funct3 funct7)
+
+-- the operation with an immediate that funct3 tells, else a shift
+abbrev pub op_imm_from : Option AluImmOp → ℕ → ℕ → ℕ → Option Insn
+op_imm_from (Some op) funct3 funct7 word = Some (AluImm op (rd_of word) (rs1_of word) (i_immediate_of word))
+op_imm_from None funct3 funct7 word = shift_in funct3 funct7 word
+
+abbrev pub op_imm_in : ℕ → ℕ → ℕ → Option Insn
+op_imm_in funct3 funct7 word = op_imm_from (alu_imm_of funct3) funct3 funct7 word
 
 abbrev pub alu_in : ℕ → ℕ → ℕ → Option Insn
 alu_in funct3 funct7 word = with_op (λ op. Alu op (rd_of word) (rs1_of word) (rs2_of word)) (alu_of funct3 funct7)
@@ -67,21 +79,27 @@ amo_in funct3 word =
     then (if part word 27 5 == 0b00000 then Some (AmoaddW (rd_of word) (rs1_of word) (rs2_of word) (flag_of word 26) (flag_of word 25)) else None)
     else None
 
+abbrev pub misc_mem_in : ℕ → Option Insn
+misc_mem_in word = if word == 0x0FF0000F then Some Fence else None
+
 abbrev pub system_in : ℕ → Option Insn
-system_in word = if word == 0x00000073 then Some Ecall else None
+system_in word = if word == 0x00000073 then Some Ecall else (if word == 0x00100073 then Some Ebreak else None)
 
 -- ---- the whole word
 
 abbrev pub by_keys : ℕ → ℕ → ℕ → ℕ → Option Insn
 by_keys opcode funct3 funct7 word =
     if opcode == 0b0110111 then Some (Lui (rd_of word) (u_immediate_of word)) else
+    if opcode == 0b0010111 then Some (Auipc (rd_of word) (u_immediate_of word)) else
     if opcode == 0b1101111 then Some (Jal (rd_of word) (j_offset_of word)) else
+    if opcode == 0b1100111 then jalr_in funct3 word else
     if opcode == 0b1100011 then branch_in funct3 word else
     if opcode == 0b0000011 then load_in funct3 word else
     if opcode == 0b0100011 then store_in funct3 word else
-    if opcode == 0b0010011 then alu_imm_in funct3 word else
+    if opcode == 0b0010011 then op_imm_in funct3 funct7 word else
     if opcode == 0b0110011 then alu_in funct3 funct7 word else
     if opcode == 0b0101111 then amo_in funct3 word else
+    if opcode == 0b0001111 then misc_mem_in word else
     if opcode == 0b1110011 then system_in word else None
 
 unfoldable pub decoded : ℕ → Option Insn

@@ -3,13 +3,13 @@
 ghost use Rattle.std.specs.Prelude.{◌≡◌, ◌/◌, ◌%◌, ◌^◌, IfSome, IfNone};
 ghost use Rattle.rv_insn.specs.Meaning.{Means};
 ghost use Rattle.rv_insn.specs.declared.instructions.Insn.{Insn};
-ghost use Rattle.rv_encoding.specs.Decoding.{part, branch_in, load_in, store_in, alu_imm_in, alu_in, amo_in, system_in, decoded};
+ghost use Rattle.rv_encoding.specs.Decoding.{part, branch_in, load_in, store_in, op_imm_in, shift_in, alu_in, amo_in, misc_mem_in, jalr_in, system_in, decoded};
 
 use crate::fields::{
     b_offset, flag, funct3, funct5, funct7, i_immediate, j_offset, opcode, rd, rs1, rs2,
-    s_immediate, u_immediate,
+    s_immediate, shift_amount, u_immediate,
 };
-use crate::keys::{alu_imm_op, alu_op, branch_op, load_op, store_op};
+use crate::keys::{alu_imm_op, alu_op, branch_op, load_op, shift_op, store_op};
 use crate::opcodes;
 use rv_insn::Insn;
 
@@ -49,15 +49,44 @@ fn store(word: u32) -> Option<Insn>
     })
 }
 
-fn alu_imm(word: u32) -> Option<Insn>
-    ensures { result ≡ alu_imm_in (part word 12 3) word }
+fn jalr(word: u32) -> Option<Insn>
+    ensures { result ≡ jalr_in (part word 12 3) word }
 {
-    let op = alu_imm_op(funct3(word))?;
-    Some(Insn::AluImm {
+    if funct3(word) == 0b000 {
+        Some(Insn::Jalr {
+            rd: rd(word),
+            rs1: rs1(word),
+            imm: i_immediate(word),
+        })
+    } else {
+        None
+    }
+}
+
+// An operation that has an immediate is told by funct3 alone, a shift by funct7 too.
+fn op_imm(word: u32) -> Option<Insn>
+    ensures { result ≡ op_imm_in (part word 12 3) (part word 25 7) word }
+{
+    match alu_imm_op(funct3(word)) {
+        Some(op) => Some(Insn::AluImm {
+            op,
+            rd: rd(word),
+            rs1: rs1(word),
+            imm: i_immediate(word),
+        }),
+        None => shift(word),
+    }
+}
+
+fn shift(word: u32) -> Option<Insn>
+    ensures { result ≡ shift_in (part word 12 3) (part word 25 7) word }
+{
+    let op = shift_op(funct3(word), funct7(word))?;
+    Some(Insn::Shift {
         op,
         rd: rd(word),
         rs1: rs1(word),
-        imm: i_immediate(word),
+        amount: shift_amount(word),
     })
 }
 
@@ -90,11 +119,21 @@ fn amo(word: u32) -> Option<Insn>
     }
 }
 
+fn misc_mem(word: u32) -> Option<Insn>
+    ensures { result ≡ misc_mem_in word }
+{
+    match word {
+        opcodes::FENCE => Some(Insn::Fence),
+        _ => None,
+    }
+}
+
 fn system(word: u32) -> Option<Insn>
     ensures { result ≡ system_in word }
 {
     match word {
         opcodes::ECALL => Some(Insn::Ecall),
+        opcodes::EBREAK => Some(Insn::Ebreak),
         _ => None,
     }
 }
@@ -108,16 +147,22 @@ fn decode_by_opcode(word: u32) -> Option<Insn>
             rd: rd(word),
             imm: u_immediate(word),
         }),
+        opcodes::AUIPC => Some(Insn::Auipc {
+            rd: rd(word),
+            imm: u_immediate(word),
+        }),
         opcodes::JAL => Some(Insn::Jal {
             rd: rd(word),
             offset: j_offset(word),
         }),
+        opcodes::JALR => jalr(word),
         opcodes::BRANCH => branch(word),
         opcodes::LOAD => load(word),
         opcodes::STORE => store(word),
-        opcodes::OP_IMM => alu_imm(word),
+        opcodes::OP_IMM => op_imm(word),
         opcodes::OP => alu(word),
         opcodes::AMO => amo(word),
+        opcodes::MISC_MEM => misc_mem(word),
         opcodes::SYSTEM => system(word),
         _ => None,
     }

@@ -6,11 +6,12 @@ ghost use Rattle.rv_insn.specs.Table.{r_type, i_type, s_type, b_type, u_type, j_
 ghost use Rattle.rv_encoding.specs.Formats.{Stands, StandsFor};
 
 use crate::keys::{
-    alu_funct3, alu_funct7, alu_imm_funct3, branch_funct3, load_funct3, store_funct3,
+    alu_funct3, alu_funct7, alu_imm_funct3, branch_funct3, load_funct3, shift_funct3, shift_funct7,
+    store_funct3,
 };
 use crate::opcodes;
 use crate::packing::{digits_12, digits_20, pack_b, pack_i, pack_j, pack_r, pack_s, pack_u};
-use rv_insn::{BranchOffset, Imm12, Imm20, Insn, JumpOffset, Reg};
+use rv_insn::{BranchOffset, Imm12, Imm20, Insn, JumpOffset, Reg, ShiftAmount};
 
 #[tactic(auto, using(crate::proofs::Formats::r_made), unfolding(crate::specs::Decoding::rd_of, crate::specs::Decoding::rs1_of, crate::specs::Decoding::rs2_of))]
 fn r_word(opcode: u32, funct3: u32, funct7: u32, rd: Reg, rs1: Reg, rs2: Reg) -> u32
@@ -25,6 +26,24 @@ fn r_word(opcode: u32, funct3: u32, funct7: u32, rd: Reg, rs1: Reg, rs2: Reg) ->
         funct3,
         rs1.number() as u32,
         rs2.number() as u32,
+        funct7,
+    )
+}
+
+// The amount of a shift stands where the R format has its second source.
+#[tactic(auto, using(crate::proofs::Formats::r_made), unfolding(crate::specs::Decoding::rd_of, crate::specs::Decoding::rs1_of, crate::specs::Decoding::rs2_of))]
+fn shift_word(opcode: u32, funct3: u32, funct7: u32, rd: Reg, rs1: Reg, amount: ShiftAmount) -> u32
+    requires opcode { opcode < 2 ^ 7 }
+    requires funct3 { funct3 < 2 ^ 3 }
+    requires funct7 { funct7 < 2 ^ 7 }
+    ensures { Stands result (r_type [] opcode funct3 funct7) (pos rd ∷ pos rs1 ∷ pos amount ∷ []) }
+{
+    pack_r(
+        opcode,
+        rd.number() as u32,
+        funct3,
+        rs1.number() as u32,
+        amount.value() as u32,
         funct7,
     )
 }
@@ -118,7 +137,9 @@ fn word_of(insn: &Insn) -> u32
 {
     match *insn {
         Insn::Lui { rd, imm } => u_word(opcodes::LUI, rd, imm),
+        Insn::Auipc { rd, imm } => u_word(opcodes::AUIPC, rd, imm),
         Insn::Jal { rd, offset } => j_word(opcodes::JAL, rd, offset),
+        Insn::Jalr { rd, rs1, imm } => i_word(opcodes::JALR, 0b000, rd, rs1, imm),
         Insn::Branch {
             op,
             rs1,
@@ -132,6 +153,19 @@ fn word_of(insn: &Insn) -> u32
         Insn::AluImm { op, rd, rs1, imm } => {
             i_word(opcodes::OP_IMM, alu_imm_funct3(op), rd, rs1, imm)
         }
+        Insn::Shift {
+            op,
+            rd,
+            rs1,
+            amount,
+        } => shift_word(
+            opcodes::OP_IMM,
+            shift_funct3(op),
+            shift_funct7(op),
+            rd,
+            rs1,
+            amount,
+        ),
         Insn::Alu { op, rd, rs1, rs2 } => {
             r_word(opcodes::OP, alu_funct3(op), alu_funct7(op), rd, rs1, rs2)
         }
@@ -142,7 +176,9 @@ fn word_of(insn: &Insn) -> u32
             aq,
             rl,
         } => amo_word(rd, rs1, rs2, aq, rl),
+        Insn::Fence => fixed_word(opcodes::FENCE),
         Insn::Ecall => fixed_word(opcodes::ECALL),
+        Insn::Ebreak => fixed_word(opcodes::EBREAK),
     }
 }
 

@@ -4,7 +4,7 @@ ghost use Rattle.std.specs.Prelude.{◌≡◌, ◌+◌, ◌*◌, ◌/◌, ◌%�
 ghost use Rattle.rv_insn.specs.Encoding.{signed};
 ghost use Rattle.rv_encoding.specs.Decoding.{part, rd_of, rs1_of, rs2_of, i_immediate_of, s_immediate_of, b_offset_of, u_immediate_of, j_offset_of, flag_of};
 
-use rv_insn::{BranchOffset, Imm12, Imm20, JumpOffset, Reg};
+use rv_insn::{BranchOffset, Imm12, Imm20, JumpOffset, Reg, ShiftAmount};
 
 /// Bits 6 to 0.
 pub fn opcode(word: u32) -> u32
@@ -72,6 +72,14 @@ pub fn rs2(word: u32) -> Reg
     ensures { result ≡ rs2_of word }
 {
     register(word, 20)
+}
+
+/// The amount of a shift, in bits 24 to 20.
+#[tactic(auto, unfolding(crate::specs::Decoding::rs2_of))]
+pub fn shift_amount(word: u32) -> ShiftAmount
+    ensures { result ≡ rs2_of word }
+{
+    ShiftAmount::new((word >> 20 & 31) as u8).unwrap()
 }
 
 // Twelve digits, of which the highest counts negative.

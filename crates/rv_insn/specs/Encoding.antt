@@ -1,6 +1,6 @@
 -- Rows of an instruction table: which bits of a word are fixed, and where its fields stand.
 -- RISC-V Unprivileged ISA 20191213, sections 2.2 "Base Instruction Formats" and 2.3 "Immediate Encoding Variants".
-use Rattle.std.specs.Prelude.{◌≡◌, ℕ, ◌+◌, ◌-◌, ◌*◌, ◌/◌, ◌%◌, ◌^◌, ℤ, pos, ◌-ℤ◌, List, [], ◌∷◌, ◌++◌, length, cond, nat_lt}
+use Rattle.std.specs.Prelude.{◌≡◌, ℕ, ◌+◌, ◌-◌, ◌*◌, ◌/◌, ◌%◌, ◌^◌, ℤ, pos, ◌-ℤ◌, List, [], ◌∷◌, length, cond, nat_lt}
 use Rattle.std.proofs.Common.{zero, suc}
 use Rattle.std.specs.Int.{bit_at}
 

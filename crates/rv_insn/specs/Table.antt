@@ -1,6 +1,7 @@
 -- The instruction table: one row for each instruction that the machine knows.
 -- RISC-V Unprivileged ISA 20191213, chapter 24 "RV32/64G Instruction Set Listings"; the formats are
--- those of sections 2.2 and 2.3, the atomic addition is of section 8.4.
+-- those of sections 2.2 and 2.3, multiplication and division are of chapter 7, the atomic addition is of section 8.4.
+-- That the one word of FENCE here orders all accesses of all kinds, and that no other word of FENCE has a row, is this project's own.
 use Rattle.std.specs.Prelude.{ℕ, List, [], ◌∷◌, ◌++◌, codes}
 use Rattle.rv_insn.specs.Encoding.{span, fixed, Field, Row}
 use Rattle.rv_insn.specs.Encoding.Field.{Unsigned, Signed}
@@ -13,6 +14,7 @@ rd = Unsigned (span 7 5)
 abbrev pub rs1 : Field
 rs1 = Unsigned (span 15 5)
 
+-- the amount of a shift in the word stands here too: section 2.4.1
 abbrev pub rs2 : Field
 rs2 = Unsigned (span 20 5)
 
@@ -97,12 +99,52 @@ whole_word name word = record { name = name; pairs = fixed (span 0 32) word; fie
 unfoldable pub table : List Row
 table =
     u_type (codes "lui") 0b0110111 ∷
+    u_type (codes "auipc") 0b0010111 ∷
     j_type (codes "jal") 0b1101111 ∷
+    i_type (codes "jalr") 0b1100111 0b000 ∷
     b_type (codes "beq") 0b1100011 0b000 ∷
+    b_type (codes "bne") 0b1100011 0b001 ∷
+    b_type (codes "blt") 0b1100011 0b100 ∷
+    b_type (codes "bge") 0b1100011 0b101 ∷
+    b_type (codes "bltu") 0b1100011 0b110 ∷
+    b_type (codes "bgeu") 0b1100011 0b111 ∷
+    i_type (codes "lb") 0b0000011 0b000 ∷
+    i_type (codes "lh") 0b0000011 0b001 ∷
     i_type (codes "lw") 0b0000011 0b010 ∷
+    i_type (codes "lbu") 0b0000011 0b100 ∷
+    i_type (codes "lhu") 0b0000011 0b101 ∷
+    s_type (codes "sb") 0b0100011 0b000 ∷
+    s_type (codes "sh") 0b0100011 0b001 ∷
     s_type (codes "sw") 0b0100011 0b010 ∷
     i_type (codes "addi") 0b0010011 0b000 ∷
+    i_type (codes "slti") 0b0010011 0b010 ∷
+    i_type (codes "sltiu") 0b0010011 0b011 ∷
+    i_type (codes "xori") 0b0010011 0b100 ∷
+    i_type (codes "ori") 0b0010011 0b110 ∷
+    i_type (codes "andi") 0b0010011 0b111 ∷
+    r_type (codes "slli") 0b0010011 0b001 0b0000000 ∷
+    r_type (codes "srli") 0b0010011 0b101 0b0000000 ∷
+    r_type (codes "srai") 0b0010011 0b101 0b0100000 ∷
     r_type (codes "add") 0b0110011 0b000 0b0000000 ∷
+    r_type (codes "sub") 0b0110011 0b000 0b0100000 ∷
+    r_type (codes "sll") 0b0110011 0b001 0b0000000 ∷
+    r_type (codes "slt") 0b0110011 0b010 0b0000000 ∷
+    r_type (codes "sltu") 0b0110011 0b011 0b0000000 ∷
+    r_type (codes "xor") 0b0110011 0b100 0b0000000 ∷
+    r_type (codes "srl") 0b0110011 0b101 0b0000000 ∷
+    r_type (codes "sra") 0b0110011 0b101 0b0100000 ∷
+    r_type (codes "or") 0b0110011 0b110 0b0000000 ∷
+    r_type (codes "and") 0b0110011 0b111 0b0000000 ∷
+    r_type (codes "mul") 0b0110011 0b000 0b0000001 ∷
+    r_type (codes "mulh") 0b0110011 0b001 0b0000001 ∷
+    r_type (codes "mulhsu") 0b0110011 0b010 0b0000001 ∷
+    r_type (codes "mulhu") 0b0110011 0b011 0b0000001 ∷
+    r_type (codes "div") 0b0110011 0b100 0b0000001 ∷
+    r_type (codes "divu") 0b0110011 0b101 0b0000001 ∷
+    r_type (codes "rem") 0b0110011 0b110 0b0000001 ∷
+    r_type (codes "remu") 0b0110011 0b111 0b0000001 ∷
     amo_type (codes "amoadd.w") 0b0101111 0b010 0b00000 ∷
+    whole_word (codes "fence") 0x0FF0000F ∷
     whole_word (codes "ecall") 0x00000073 ∷
+    whole_word (codes "ebreak") 0x00100073 ∷
     []

@@ -178,3 +178,42 @@ impl JumpOffset {
         2 * self.halves
     }
 }
+
+/// How far a shift goes, 0 to 31 bits.
+#[derive(Clone, Copy, Debug, PartialEq, Eq)]
+pub struct ShiftAmount {
+    value: u8,
+}
+
+impl Model for ShiftAmount {
+    ghost use Rattle.std.specs.Prelude.{ℕ, ◌<◌};
+
+    ghost Value = { ℕ };
+
+    ghost view = { λ amount. amount.value };
+
+    ghost invariant = { λ amount. amount.value < 32 };
+
+    ghost inverse = { λ n. record { value = n } };
+}
+
+impl ShiftAmount {
+    /// The amount of a number from 0 to 31, and `None` for any other number.
+    pub fn new(value: u8) -> Option<ShiftAmount>
+        ensures { SomeIff result (value < 32) value }
+    {
+        if value < 32 {
+            Some(ShiftAmount { value })
+        } else {
+            None
+        }
+    }
+
+    /// The number of bits.
+    pub fn value(self) -> u8
+        ensures value { result ≡ self }
+        ensures in_range { result < 32 }
+    {
+        self.value
+    }
+}

@@ -1,7 +1,7 @@
 //! Instructions as values.
 
-use crate::immediates::{BranchOffset, Imm12, Imm20, JumpOffset};
-use crate::operations::{AluImmOp, AluOp, BranchOp, LoadOp, StoreOp};
+use crate::immediates::{BranchOffset, Imm12, Imm20, JumpOffset, ShiftAmount};
+use crate::operations::{AluImmOp, AluOp, BranchOp, LoadOp, ShiftOp, StoreOp};
 use crate::registers::Reg;
 
 /// An instruction with all the fields of its row of the instruction table.
@@ -12,10 +12,22 @@ pub enum Insn {
         rd: Reg,
         imm: Imm20,
     },
+    /// `auipc rd,imm`: the immediate's 20 bits, shifted to the upper end of a word, are added to the
+    /// address of this instruction.
+    Auipc {
+        rd: Reg,
+        imm: Imm20,
+    },
     /// `jal rd,offset`: goes on at the offset from this instruction, and links in `rd`.
     Jal {
         rd: Reg,
         offset: JumpOffset,
+    },
+    /// `jalr rd,imm(rs1)`: goes on at `rs1 + imm`, with the lowest bit cleared, and links in `rd`.
+    Jalr {
+        rd: Reg,
+        rs1: Reg,
+        imm: Imm12,
     },
     /// A conditional branch on `rs1` and `rs2`, as far as the offset from this instruction.
     Branch {
@@ -45,6 +57,13 @@ pub enum Insn {
         rs1: Reg,
         imm: Imm12,
     },
+    /// A shift of `rs1` by an amount in the word, with its result in `rd`.
+    Shift {
+        op: ShiftOp,
+        rd: Reg,
+        rs1: Reg,
+        amount: ShiftAmount,
+    },
     /// An operation on `rs1` and `rs2`, with its result in `rd`.
     Alu {
         op: AluOp,
@@ -61,6 +80,10 @@ pub enum Insn {
         aq: bool,
         rl: bool,
     },
+    /// `fence`, in its one form that orders all accesses: changes nothing on a machine of one order.
+    Fence,
     /// `ecall`: the hart has finished.
     Ecall,
+    /// `ebreak`: a trap.
+    Ebreak,
 }

@@ -14,8 +14,8 @@ pub mod operations;
 pub mod outcomes;
 pub mod registers;
 
-pub use crate::immediates::{BranchOffset, Imm12, Imm20, JumpOffset};
+pub use crate::immediates::{BranchOffset, Imm12, Imm20, JumpOffset, ShiftAmount};
 pub use crate::instructions::Insn;
-pub use crate::operations::{AluImmOp, AluOp, BranchOp, LoadOp, StoreOp};
+pub use crate::operations::{AluImmOp, AluOp, BranchOp, LoadOp, ShiftOp, StoreOp};
 pub use crate::outcomes::{Outcome, Trap};
 pub use crate::registers::{Reg, VReg};

@@ -20,6 +20,8 @@ pub enum Trap {
     StoreMisaligned,
     /// 7: a store or an atomic addition touches a byte that isn't data.
     StoreOutside,
+    /// 8: the instruction is `ebreak`.
+    Breakpoint,
 }
 
 impl Trap {
@@ -35,6 +37,7 @@ impl Trap {
             Trap::LoadOutside => 5,
             Trap::StoreMisaligned => 6,
             Trap::StoreOutside => 7,
+            Trap::Breakpoint => 8,
         }
     }
 }

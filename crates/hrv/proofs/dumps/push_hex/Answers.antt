@@ -1,5 +1,4 @@
-use Rattle.std.proofs.Common.{◌≡◌, ℕ, List, ◌++◌, ◌<◌, ◌^◌, ◌∷◌, [], length, take, get_or, sym, ap, ◌∙◌, arith}
-use Rattle.std.proofs.lemmas.List.{append_assoc}
+use Rattle.std.proofs.Common.{◌++◌, ◌∷◌, [], take, get_or, ap, ◌∙◌, arith}
 use Rattle.std.specs.String.{string_bytes}
 use Rattle.hrv.specs.Dump.{hex_of}
 use Rattle.hrv.proofs.Printing.{hex_of-more, hex_of-one, joined}

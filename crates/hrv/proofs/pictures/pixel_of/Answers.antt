@@ -1,6 +1,6 @@
 use Rattle.std.proofs.Common.{◌≡◌, Some, sym, ◌∙◌, subst, refl}
 use Rattle.std.specs.Prelude.{IsSome}
-use Rattle.hart_core.specs.Access.{word_at}
+use Rattle.memory.specs.Access.{word_at}
 use Rattle.hrv.specs.Dump.{pixel_address}
 use Rattle.hrv.proofs.Pixels.{pixel_word}
 use Rattle.hrv.proofs.pictures.pixel_of.Goals as goal

@@ -1,7 +1,5 @@
 use Rattle.std.proofs.Common.{◌≡◌, ◌++◌}
 use Rattle.std.specs.String.{string_bytes}
-use Rattle.std.specs.Fmt.{decimal}
-use Rattle.std.specs.Prelude.{codes}
 use Rattle.hrv.specs.Dump.{picture_heading, rows}
 use Rattle.hrv.proofs.pictures.push_picture.Given as goal
 

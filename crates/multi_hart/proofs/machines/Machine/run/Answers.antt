@@ -1,4 +1,4 @@
-use Rattle.std.proofs.Common.{length, get_or, ap, ◌∙◌, sym, arith, subst, refl}
+use Rattle.std.proofs.Common.{get_or, ap, ◌∙◌, sym, arith, subst, refl}
 use Rattle.std.proofs.lemmas.Grind.{elements}
 use Rattle.multi_hart.proofs.TurnByTurn.{run-more, shape-turn, shape-then}
 use Rattle.multi_hart.specs.Run.{turn, KeepsShape}

@@ -1,0 +1,7 @@
+pub mod Products
+pub mod Bytes
+pub mod Elements
+pub mod HighWords
+pub mod MaskBits
+pub mod MaskReadings
+pub mod Readings

@@ -1,0 +1,4 @@
+pub mod Words
+pub mod Registers
+pub mod Masks
+pub mod Elementwise

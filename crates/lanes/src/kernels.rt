@@ -1,0 +1,70 @@
+//! The loops over N elements. Each is generic over the operation, and says which answers of the operation
+//! stand in which place.
+
+ghost use Rattle.std.specs.Prelude.{◌≡◌, ◌<◌, ℕ, length};
+ghost use Rattle.lanes.specs.Elementwise.{EachPair, EachFrom, LeadsTo, chosen_of, merged};
+
+/// The answers to each pair, written over `results`.
+pub(crate) fn each_pair<A: Copy, B: Copy, const N: usize, F: Fn(A, A) -> B>(
+    first: &[A; N],
+    second: &[A; N],
+    mut results: [B; N],
+    operation: F,
+) -> [B; N]
+    requires { F.IsAlwaysCallable operation }
+    ensures { EachPair (λ a b r. F.post operation a b r) first.now second.now result }
+{
+    for i in 0..N {
+        results[i] = operation(first[i], second[i]);
+    }
+    results
+}
+
+/// The answers to each index, written over `results`.
+pub(crate) fn each_index<B: Copy, const N: usize, F: Fn(usize) -> B>(
+    mut results: [B; N],
+    operation: F,
+) -> [B; N]
+    requires { (i : ℕ) → i < N → F.pre operation i }
+    ensures each { EachFrom (λ i r. (i < N) × F.post operation i r) 0 result }
+    ensures count { length result ≡ N }
+{
+    for i in 0..N {
+        results[i] = operation(i);
+    }
+    results
+}
+
+/// The first value, joined with each active element in turn.
+pub(crate) fn reduce<A: Copy, const N: usize, F: Fn(A, A) -> A>(
+    start: A,
+    elements: &[A; N],
+    active: &[bool; N],
+    operation: F,
+) -> A
+    requires { F.IsAlwaysCallable operation }
+    ensures { LeadsTo (λ a b r. F.post operation a b r) start (chosen_of active.now elements.now) result }
+{
+    let mut total = start;
+    for i in 0..N {
+        if active[i] {
+            total = operation(total, elements[i]);
+        }
+    }
+    total
+}
+
+/// The new element where it is chosen, else the old one.
+pub(crate) fn merge<A: Copy, const N: usize>(
+    chosen: &[bool; N],
+    new: &[A; N],
+    old: &[A; N],
+) -> [A; N]
+    ensures { result ≡ merged chosen.now new.now old.now }
+{
+    let mut results = *old;
+    for i in 0..N {
+        results[i] = if chosen[i] { new[i] } else { old[i] };
+    }
+    results
+}

@@ -1,0 +1,68 @@
+//! Masks: which elements are active, and results that are written as bits of a register.
+
+ghost use Rattle.std.specs.Prelude.{◌≡◌, ◌<◌, ◌≤◌};
+ghost use Rattle.lanes.specs.Masks.{mask_bit, mask_bits, active, with_bit, with_mask_bit, with_mask_bits};
+
+use crate::kernels::each_index;
+
+/// Bit `index` of a mask register.
+pub fn mask_bit(register: &[u8; 16], index: usize) -> bool
+    requires { index < 128 }
+    ensures { result ≡ mask_bit register.now index }
+{
+    register[index / 8] >> (index % 8) & 1 == 1
+}
+
+/// The first N bits of a mask register.
+#[tactic(auto, using(crate::proofs::Elements::tests_from_indices), unfolding(crate::specs::Masks::mask_bits))]
+pub fn mask_bits<const N: usize>(register: &[u8; 16]) -> [bool; N]
+    requires { N ≤ 128 }
+    ensures { result ≡ mask_bits N register.now }
+{
+    each_index([false; N], |index| mask_bit(register, index))
+}
+
+/// Which of N elements an instruction works on: those below `vl`, and of them, where it is not
+/// `unmasked`, those whose bit in the mask register is 1.
+#[tactic(auto, using(crate::proofs::Elements::tests_from_indices), unfolding(crate::specs::Masks::active))]
+pub fn active<const N: usize>(vl: usize, unmasked: bool, mask: &[u8; 16]) -> [bool; N]
+    requires { N ≤ 128 }
+    ensures { result ≡ active N vl unmasked mask.now }
+{
+    each_index([false; N], |index| {
+        index < vl && (unmasked || mask_bit(mask, index))
+    })
+}
+
+/// Writes the bits of the active elements into a mask register, and keeps every other bit.
+pub fn write_mask_bits<const N: usize>(
+    register: &mut [u8; 16],
+    active: &[bool; N],
+    bits: &[bool; N],
+)
+    requires { N ≤ 128 }
+    ensures { register.new ≡ with_mask_bits active.now bits.now register.old }
+{
+    for index in 0..N {
+        if active[index] {
+            write_mask_bit(register, index, bits[index]);
+        }
+    }
+}
+
+// Writes bit `index` of a mask register.
+fn write_mask_bit(register: &mut [u8; 16], index: usize, bit: bool)
+    requires { index < 128 }
+    ensures { register.new ≡ with_mask_bit register.old index bit }
+{
+    register[index / 8] = with_bit(register[index / 8], index % 8, bit);
+}
+
+// A byte whose bit `place` is written.
+fn with_bit(byte: u8, place: usize, bit: bool) -> u8
+    requires { place < 8 }
+    ensures { result ≡ with_bit byte place bit }
+{
+    let one = 1 << place;
+    if bit { byte | one } else { byte & !one }
+}

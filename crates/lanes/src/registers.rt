@@ -1,0 +1,103 @@
+//! A vector register as N elements of one kind.
+
+ghost use Rattle.std.specs.Prelude.{◌≡◌, ◌*◌, ◌<◌, ◌≤◌, ◌%◌, ◌^◌, map, slice_index, slice_set, replicate};
+ghost use Rattle.std.specs.List.{range_with_len};
+ghost use Rattle.lanes.specs.Registers.{elements, register_of};
+ghost use Rattle.lanes.specs.Elementwise.{merged};
+
+use crate::kernels;
+use crate::kinds::LaneKind;
+use std::marker::Model;
+
+/// N elements of one kind. A contract sees them as the list of their numbers, element 0 first.
+#[derive(Drop)]
+pub struct Lanes<K: LaneKind, const N: usize> {
+    pub(crate) elements: [K; N],
+}
+
+impl<K: LaneKind, const N: usize> Model for Lanes<K, N> {
+    ghost use Rattle.std.specs.Prelude.{List, ℕ, map};
+
+    ghost Value = { List ℕ };
+
+    ghost view = { λ l. map K.number l.elements };
+}
+
+#[tactic(auto, using(crate::proofs::Elements::seen_lists))]
+impl<K: LaneKind, const N: usize> Lanes<K, N> {
+    /// The same element N times.
+    pub fn splat(value: K) -> Lanes<K, N>
+        ensures { result ≡ replicate N (K.number value) }
+    {
+        Lanes {
+            elements: [value; N],
+        }
+    }
+
+    /// The element at an index.
+    pub fn get(&self, index: usize) -> K
+        requires { index < N }
+        ensures { K.number result ≡ slice_index self.now index }
+    {
+        self.elements[index]
+    }
+
+    /// Replaces the element at an index.
+    pub fn set(&mut self, index: usize, value: K)
+        requires { index < N }
+        ensures { self.new ≡ slice_set self.old index (K.number value) }
+    {
+        self.elements[index] = value;
+    }
+
+    /// The new elements where they are chosen, and these ones elsewhere.
+    pub fn merge(&self, new: &Lanes<K, N>, chosen: &[bool; N]) -> Lanes<K, N>
+        ensures { result ≡ merged chosen.now new.now self.now }
+    {
+        Lanes {
+            elements: kernels::merge(chosen, &new.elements, &self.elements),
+        }
+    }
+
+    /// A register's elements.
+    #[tactic(auto, using(crate::proofs::Elements::map_from_indices), unfolding(crate::specs::Registers::elements))]
+    pub fn from_register(register: &[u8; 16]) -> Lanes<K, N>
+        requires { N * K.width ≡ 128 }
+        ensures { result ≡ elements K.width register.now }
+    {
+        Lanes {
+            elements: kernels::each_index([K::from_u32(0); N], |index| K::read(register, index)),
+        }
+    }
+
+    /// The elements 0, 1, .., as far as they fit the width.
+    #[tactic(auto, using(crate::proofs::Elements::map_from_indices))]
+    pub fn indices() -> Lanes<K, N>
+        requires { N * K.width ≡ 128 }
+        ensures { result ≡ map (λ i. i % 2 ^ K.width) (range_with_len 0 N) }
+    {
+        Lanes {
+            elements: kernels::each_index([K::from_u32(0); N], |index| K::from_u32(index as u32)),
+        }
+    }
+
+    /// The bytes of a register that holds the elements.
+    pub fn to_register(&self) -> [u8; 16]
+        requires { N * K.width ≡ 128 }
+        ensures { result ≡ register_of K.width self.now }
+    {
+        bytes_of(&self.elements)
+    }
+}
+
+// Writes one element after the other.
+fn bytes_of<K: LaneKind, const N: usize>(elements: &[K; N]) -> [u8; 16]
+    requires { N * K.width ≡ 128 }
+    ensures { result ≡ register_of K.width (map K.number elements.now) }
+{
+    let mut register = [0; 16];
+    for index in 0..N {
+        elements[index].write(&mut register, index);
+    }
+    register
+}

@@ -1,0 +1,6 @@
+use Rattle.std.proofs.Common.{◌≡◌, ◌+◌, min, take}
+use Rattle.line_text.specs.Numbers.{decimal_number}
+use Rattle.line_text.proofs.numbers.saturating_number.Given as goal
+
+abbrev pub invariant-loop-digit : goal.invariant-loop-digit
+invariant-loop-digit l = l.number ≡ min (decimal_number (take l.digit-index l.digits)) (l.most + 1)

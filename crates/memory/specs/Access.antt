@@ -1,0 +1,112 @@
+-- How an instruction reaches memory: the numbers that it reads or writes, each by its address and size, and
+-- which trap an access makes.
+-- RISC-V Unprivileged ISA 20191213, section 2.6 "Load and Store Instructions" and 8.4 "Atomic Memory
+-- Operations"; the numbers of the traps are this project's own.
+use Rattle.std.specs.Prelude.{ℕ, ◌+◌, ◌%◌, ◌==◌, if◌then◌else◌, List, [], ◌∷◌, ◌++◌, map, Option, Some, None}
+use Rattle.std.specs.Int.{w8, w16, w32, from_le_bytes, to_le_bytes}
+use Rattle.rv_insn.specs.declared.outcomes.Trap.{Trap}
+use Rattle.rv_insn.specs.declared.outcomes.Trap.TheVariants.{LoadMisaligned, LoadOutside, StoreMisaligned, StoreOutside}
+use Rattle.memory.specs.Addresses.{byte_at, covers_load, in_data, put}
+
+pub data Size : Type 0 where
+  Byte : Size
+  Half : Size
+  Word : Size
+
+abbrev pub bytes_in : Size → ℕ
+bytes_in Byte = 1
+bytes_in Half = 2
+bytes_in Word = 4
+
+-- what an instruction does with the numbers that it touches
+pub data Kind : Type 0 where
+  NoAccess : Kind
+  Reads : Kind
+  Writes : Kind
+  Updates : Kind
+
+pub record Access : Type 0 where
+  pub address : ℕ
+  pub size : Size
+
+-- the places of a number's bytes, its lowest byte first
+abbrev pub places_of : Access → List ℕ
+places_of access = elim access.size [
+  | Byte ↦ access.address ∷ []
+  | Half ↦ access.address ∷ (access.address + 1) ∷ []
+  | Word ↦ access.address ∷ (access.address + 1) ∷ (access.address + 2) ∷ (access.address + 3) ∷ []
+]
+
+-- every byte that is touched, in order
+abbrev pub touched : List Access → List ℕ
+touched [] = []
+touched (access ∷ accesses) = places_of access ++ touched accesses
+
+-- a number of a size, and its bytes, the lowest first
+abbrev pub number_of : Size → List ℕ → ℕ
+number_of Byte bytes = from_le_bytes w8 bytes
+number_of Half bytes = from_le_bytes w16 bytes
+number_of Word bytes = from_le_bytes w32 bytes
+
+abbrev pub bytes_of : Size → ℕ → List ℕ
+bytes_of Byte n = to_le_bytes w8 n
+bytes_of Half n = to_le_bytes w16 n
+bytes_of Word n = to_le_bytes w32 n
+
+-- the number that an access finds
+abbrev pub number_at : List ℕ → List ℕ → Access → ℕ
+number_at text memory access = number_of access.size (map (byte_at text memory) (places_of access))
+
+-- the bytes of the numbers that are stored, one for each access
+abbrev pub spread : List Access → List ℕ → List ℕ
+spread [] numbers = []
+spread (access ∷ accesses) [] = []
+spread (access ∷ accesses) (n ∷ numbers) = bytes_of access.size n ++ spread accesses numbers
+
+-- which accesses read, and which write
+abbrev pub read_by : Kind → List Access → List Access
+read_by NoAccess accesses = []
+read_by Reads accesses = accesses
+read_by Writes accesses = []
+read_by Updates accesses = accesses
+
+abbrev pub written_by : Kind → List Access → List Access
+written_by NoAccess accesses = []
+written_by Reads accesses = []
+written_by Writes accesses = accesses
+written_by Updates accesses = accesses
+
+-- The trap that an access makes in a text of so many words and a data of so many bytes: misaligned before
+-- outside, and loads may touch text and data, stores and atomic additions data alone.
+abbrev pub fault_of : ℕ → ℕ → Kind → ℕ → ℕ → Option Trap
+fault_of words bytes NoAccess address count = None
+fault_of words bytes Reads address count =
+    if address % count == 0 then (if covers_load words bytes address count then None else Some LoadOutside) else Some LoadMisaligned
+fault_of words bytes Writes address count =
+    if address % count == 0 then (if in_data bytes address count then None else Some StoreOutside) else Some StoreMisaligned
+fault_of words bytes Updates address count =
+    if address % count == 0 then (if in_data bytes address count then None else Some StoreOutside) else Some StoreMisaligned
+
+abbrev pub or_else : Option Trap → Option Trap → Option Trap
+or_else None other = other
+or_else (Some trap) other = Some trap
+
+-- the first access that faults decides
+abbrev pub first_fault : ℕ → ℕ → Kind → List Access → Option Trap
+first_fault words bytes kind [] = None
+first_fault words bytes kind (access ∷ accesses) =
+    or_else (fault_of words bytes kind access.address (bytes_in access.size)) (first_fault words bytes kind accesses)
+
+abbrev pub access_at : Size → ℕ → Access
+access_at size address = record { address = address; size = size }
+
+-- the number of a size at an address
+abbrev pub number_in : List ℕ → List ℕ → Size → ℕ → ℕ
+number_in text memory size address = number_at text memory (access_at size address)
+
+-- data after a number of a size is put at an address
+abbrev pub put_number : List ℕ → Size → ℕ → ℕ → List ℕ
+put_number memory size address n = put memory (places_of (access_at size address)) (bytes_of size n)
+
+abbrev pub word_at : List ℕ → List ℕ → ℕ → ℕ
+word_at text memory address = number_in text memory Word address

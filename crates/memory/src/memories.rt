@@ -1,0 +1,75 @@
+//! The plain memory.
+
+ghost use Rattle.std.specs.Prelude.{◌≡◌, ◌≤◌, length};
+ghost use Rattle.memory.specs.Addresses.{most_words, most_bytes};
+
+use crate::bytes::{Bytes, DATA_START, TEXT_START};
+use std::marker::Model;
+
+/// Text and data in two vectors: the plain memory. A contract sees both as lists.
+#[derive(Drop)]
+pub struct Memory {
+    words: Vec<u32>,
+    bytes: Vec<u8>,
+}
+
+impl Model for Memory {
+    ghost use Rattle.std.specs.Prelude.{length, ◌≤◌};
+    ghost use Rattle.memory.specs.Addresses.{Contents, most_words, most_bytes};
+
+    ghost Value = { Contents };
+
+    ghost view = { λ m. record { text = m.words.items; memory = m.bytes.items } };
+
+    ghost invariant = { λ m. (length m.words.items ≤ most_words) × (length m.bytes.items ≤ most_bytes) };
+}
+
+impl Memory {
+    /// A memory of at most 262,144 words of text and 33,554,432 bytes of data.
+    pub fn new(words: Vec<u32>, bytes: Vec<u8>) -> Memory
+        requires words { length words.items ≤ most_words }
+        requires bytes { length bytes.items ≤ most_bytes }
+        ensures text { result.text ≡ words.items }
+        ensures memory { result.memory ≡ bytes.items }
+    {
+        Memory { words, bytes }
+    }
+}
+
+impl Bytes for Memory {
+    ghost text = { λ m. m.text };
+
+    ghost memory = { λ m. m.memory };
+
+    fn fetch(&self, pc: u32) -> Option<u32> {
+        if pc < TEXT_START || pc % 4 != 0 {
+            return None;
+        }
+        self.words.get(((pc - TEXT_START) / 4) as usize).copied()
+    }
+
+    fn covers_load(&self, address: u32, count: u32) -> bool {
+        let end = address as usize + count as usize;
+        let in_text = address >= TEXT_START && end <= TEXT_START as usize + 4 * self.words.len();
+        in_text || self.covers_store(address, count)
+    }
+
+    fn covers_store(&self, address: u32, count: u32) -> bool {
+        let end = address as usize + count as usize;
+        address >= DATA_START && end <= DATA_START as usize + self.bytes.len()
+    }
+
+    fn read(&self, address: u32) -> u8 {
+        if address >= DATA_START {
+            self.bytes[(address - DATA_START) as usize]
+        } else {
+            let offset = address - TEXT_START;
+            let word = self.words[(offset / 4) as usize];
+            word.to_le_bytes()[(offset % 4) as usize]
+        }
+    }
+
+    fn write(&mut self, address: u32, value: u8) {
+        self.bytes[(address - DATA_START) as usize] = value;
+    }
+}
