@@ -33,9 +33,9 @@ with_mask_bit bytes i bit = slice_set bytes (i / 8) (with_bit (slice_index bytes
 -- a mask register whose bits from i on are written where the elements are active; every other bit is kept
 abbrev pub with_mask_bits_from : ℕ → List Bool → List Bool → List ℕ → List ℕ
 with_mask_bits_from i [] bits bytes = bytes
-with_mask_bits_from i (a ∷ active) [] bytes = bytes
-with_mask_bits_from i (a ∷ active) (b ∷ bits) bytes =
-    with_mask_bits_from (i + 1) active bits (if a then with_mask_bit bytes i b else bytes)
+with_mask_bits_from i (a ∷ others) [] bytes = bytes
+with_mask_bits_from i (a ∷ others) (b ∷ bits) bytes =
+    with_mask_bits_from (i + 1) others bits (if a then with_mask_bit bytes i b else bytes)
 
 abbrev pub with_mask_bits : List Bool → List Bool → List ℕ → List ℕ
 with_mask_bits active bits bytes = with_mask_bits_from 0 active bits bytes

@@ -1,6 +1,6 @@
 //! Theorems about the definitions, as contracts of functions that do nothing.
 
-ghost use Rattle.std.specs.Prelude.{◌≡◌, ◌<◌, ◌≤◌, ◌*◌, ◌^◌, ℕ, Bool, false, List, length, if◌then◌else◌, slice_index_or};
+ghost use Rattle.std.specs.Prelude.{◌≡◌, ◌<◌, ◌≤◌, ◌+◌, ◌*◌, ◌^◌, ◌*ℤ◌, pos, ℕ, Bool, false, List, length, if◌then◌else◌, slice_index_or};
 ghost use Rattle.std.specs.List.{AllByRecursion};
 ghost use Rattle.lanes.specs.Words as word;
 ghost use Rattle.lanes.specs.Words.{IsWidth, signed, wrapped};
@@ -38,5 +38,15 @@ pub fn quotient_and_remainder_give_the_dividend()
         → word.add w (word.multiply w (word.divide_unsigned w a b) b) (word.remainder_unsigned w a b) ≡ a }
     ensures signed { (w a b : ℕ) → IsWidth w → a < 2 ^ w → b < 2 ^ w
         → word.add w (word.multiply w (word.divide_signed w a b) b) (word.remainder_signed w a b) ≡ a }
-{
-}
+{}
+
+/// The high half and the low half of a product are the product: modulo 2 to twice the width, where an
+/// operand is signed.
+pub fn halves_give_the_product()
+    ensures unsigned { (w a b : ℕ) → IsWidth w → a < 2 ^ w → b < 2 ^ w
+        → word.multiply_high_unsigned w a b * 2 ^ w + word.multiply w a b ≡ a * b }
+    ensures signed { (w a b : ℕ) → IsWidth w → a < 2 ^ w → b < 2 ^ w
+        → word.multiply_high_signed w a b * 2 ^ w + word.multiply w a b ≡ wrapped (w + w) (signed w a *ℤ signed w b) }
+    ensures mixed { (w a b : ℕ) → IsWidth w → a < 2 ^ w → b < 2 ^ w
+        → word.multiply_high_signed_unsigned w a b * 2 ^ w + word.multiply w a b ≡ wrapped (w + w) (signed w a *ℤ pos b) }
+{}

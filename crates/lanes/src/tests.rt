@@ -22,6 +22,7 @@ mod bytes;
 mod halves;
 mod masks;
 mod registers;
+mod scalars;
 mod words;
 
 use crate::{LaneKind, Lanes};
