@@ -1,10 +1,10 @@
 //! Turns of one hart over a small memory. What each instruction leaves was worked out by hand from the
 //! manual.
 
-ghost use Rattle.std.specs.Prelude.{◌≡◌, ◌<◌, ◌/◌, ◌%◌, ◌^◌};
+ghost use Rattle.std.specs.Prelude.{◌≤◌, length};
 
 use crate::{Hart, Status};
-use memory::{Bytes, DATA_START, Memory, TEXT_START, read_u32};
+use memory::{Bytes, Memory, read_u32};
 use rv_insn::{Outcome, Reg, Trap, VReg};
 use std::process::Abort;
 use std::test::Fail;
@@ -170,61 +170,50 @@ fn adds_to_the_program_counter(rt: HostRuntime) -> Result<(), Fail> {
     Ok(())
 }
 
-fn byte_of(word: u32, place: u32) -> u8
-    requires { place < 4 }
-    ensures { result ≡ word / 256 ^ place % 256 }
-{
-    word.to_le_bytes()[place as usize]
-}
-
-/// A memory of two words of text and no data.
+/// Another memory than the plain one, though it keeps its bytes in one.
 #[derive(Drop)]
-struct TextAlone {
-    words: [u32; 2],
+struct Wrapped {
+    memory: Memory,
 }
 
-impl Bytes for TextAlone {
-    ghost use Rattle.std.specs.Prelude.{[]};
+impl Bytes for Wrapped {
+    ghost text = { λ m. m.memory.text };
 
-    ghost text = { λ m. m.words };
-
-    ghost memory = { λ m. [] };
+    ghost memory = { λ m. m.memory.memory };
 
     fn fetch(&self, pc: u32) -> Option<u32> {
-        match pc {
-            0x0001_0000 => Some(self.words[0]),
-            0x0001_0004 => Some(self.words[1]),
-            _ => None,
-        }
+        self.memory.fetch(pc)
     }
 
     fn covers_load(&self, address: u32, count: u32) -> bool {
-        let end = u64::from(address) + u64::from(count);
-        let in_text = address >= TEXT_START && end <= u64::from(TEXT_START) + 8;
-        in_text || self.covers_store(address, count)
+        self.memory.covers_load(address, count)
     }
 
-    // Only nothing at all lies in no data.
     fn covers_store(&self, address: u32, count: u32) -> bool {
-        address == DATA_START && count == 0
+        self.memory.covers_store(address, count)
     }
 
     fn read(&self, address: u32) -> u8 {
-        if address >= DATA_START {
-            0
-        } else {
-            let offset = address - TEXT_START;
-            byte_of(self.words[(offset / 4) as usize], offset % 4)
-        }
+        self.memory.read(address)
     }
 
-    fn write(&mut self, _address: u32, _value: u8) {}
+    fn write(&mut self, address: u32, value: u8) {
+        self.memory.write(address, value);
+    }
+}
+
+/// A memory of text alone.
+fn text_alone(rt: &impl AllocGlobal, words: &[u32]) -> Result<Wrapped, Fail>
+    requires { length words.now ≤ 16 }
+{
+    let memory = Memory::new(words.to_vec(rt.alloc())?, Vec::new(rt.alloc()));
+    Ok(Wrapped { memory })
 }
 
 /// Over text alone each aligned load outside text is trap 5, and each aligned store trap 7:
 /// the instruction at x5 = 0x00200000, or at 0.
 #[test]
-fn text_alone_is_a_memory(rt: HostRuntime) {
+fn text_alone_is_a_memory(rt: HostRuntime) -> Result<(), Fail> {
     let cases = [
         (0x0002_8283, Trap::LoadOutside), // lb x5,0(x5)
         (0x0002_9283, Trap::LoadOutside), // lh
@@ -238,9 +227,7 @@ fn text_alone_is_a_memory(rt: HostRuntime) {
         (0x0002_a2af, Trap::StoreOutside), // amoadd.w x5,x0,(x5)
     ];
     for (word, trap) in cases {
-        let mut memory = TextAlone {
-            words: [0x0020_02b7, word], // lui x5,0x200
-        };
+        let mut memory = text_alone(&rt, &[0x0020_02b7, word])?; // lui x5,0x200
         let mut hart = Hart::new(0x0001_0000, 1, 0);
         assert_eq!(rt; hart.step(&mut memory), Outcome::Stepped);
         assert_eq!(rt;
@@ -250,16 +237,16 @@ fn text_alone_is_a_memory(rt: HostRuntime) {
         );
         assert_eq!(rt; register(&rt, &hart, 5), 0x0020_0000);
     }
+    Ok(())
 }
 
 /// Over the same memory, lw of the text: lui x5,0x10; lw x6,0(x5).
 #[test]
-fn text_can_be_loaded(rt: HostRuntime) {
-    let mut memory = TextAlone {
-        words: [0x0001_02b7, 0x0002_a303],
-    };
+fn text_can_be_loaded(rt: HostRuntime) -> Result<(), Fail> {
+    let mut memory = text_alone(&rt, &[0x0001_02b7, 0x0002_a303])?;
     let mut hart = Hart::new(0x0001_0000, 1, 0);
     assert_eq!(rt; hart.step(&mut memory), Outcome::Stepped);
     assert_eq!(rt; hart.step(&mut memory), Outcome::Stepped);
     assert_eq!(rt; register(&rt, &hart, 6), 0x0001_02b7);
+    Ok(())
 }

@@ -17,24 +17,24 @@ fn push_word(out: &mut Vec<u8>, word: u32) -> Result<(), AllocError> {
 fn image_of(
     alloc: Global,
     words: &[u32],
-    data: &[u8],
+    bytes: &[u8],
     output: [u32; 4],
 ) -> Result<Vec<u8>, AllocError>
     requires words { length words.now ≤ 64 }
-    requires data { length data.now ≤ 1024 }
+    requires bytes { length bytes.now ≤ 1024 }
 {
     let mut out = Vec::new(alloc);
     out.extend_from_slice(b"HRV1".as_slice())?;
     push_word(&mut out, 0x0001_0000)?;
     push_word(&mut out, words.len() as u32)?;
-    push_word(&mut out, data.len() as u32)?;
+    push_word(&mut out, bytes.len() as u32)?;
     for field in output {
         push_word(&mut out, field)?;
     }
     for word in words {
         push_word(&mut out, *word)?;
     }
-    out.extend_from_slice(data)?;
+    out.extend_from_slice(bytes)?;
     Ok(out)
 }
 
