@@ -148,6 +148,7 @@ stored Fence hart read = []
 stored Ecall hart read = []
 stored Ebreak hart read = []
 
+-- what a turn that makes no trap comes to; EBREAK makes one
 abbrev pub outcome_of : Insn → Outcome
 outcome_of (Lui rd imm) = Stepped
 outcome_of (Auipc rd imm) = Stepped

@@ -1,6 +1,5 @@
 -- The 16 bytes of a vector register as a list of elements, and back.
--- Vector Extension 1.0: section 4.1 "Mapping for LMUL = 1"; RISC-V Unprivileged ISA 20191213, section 2.6 "Load and
--- Store Instructions", for the order of bytes. That a register has 16 bytes is this project's own choice.
+-- Vector Extension 1.0: section 4.1 "Mapping for LMUL = 1". That a register has 16 bytes is this project's own choice.
 use Rattle.std.specs.Prelude.{ℕ, zero, suc, ◌+◌, ◌*◌, ◌/◌, ◌%◌, List, [], ◌∷◌, ◌++◌, map, take, drop}
 use Rattle.std.specs.List.{flat_map, range_with_len}
 

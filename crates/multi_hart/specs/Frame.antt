@@ -1,5 +1,5 @@
--- Which bytes a turn depends on and which it changes, and the two laws that follow: a turn depends on its
--- hart and on the bytes that it reads alone, and turns that do not conflict may be made in either order.
+-- Which bytes a turn depends on and which it changes, and the two laws that follow: over one text and one size
+-- of data, a turn depends on its hart and on the bytes that it reads alone, and turns that do not conflict may be made in either order.
 -- This project's own.
 use Rattle.std.specs.Prelude.{◌≡◌, ◌≢◌, ℕ, List, [], ◌∷◌, length, slice_get, Some}
 use Rattle.memory.specs.Addresses.{byte_at, NotIn}

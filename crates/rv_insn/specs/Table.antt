@@ -1,7 +1,7 @@
 -- The instruction table: one row for each instruction that the machine knows.
 -- RISC-V Unprivileged ISA 20191213, chapter 24 "RV32/64G Instruction Set Listings"; the formats are
 -- those of sections 2.2 and 2.3, multiplication and division are of chapter 7, the atomic addition is of section 8.4.
--- That the one word of FENCE here orders all accesses of all kinds, and that no other word of FENCE has a row, is this project's own.
+-- That no other word of FENCE than `fence iorw,iorw` (section 2.7) has a row is this project's own.
 use Rattle.std.specs.Prelude.{ℕ, List, [], ◌∷◌, ◌++◌, codes}
 use Rattle.rv_insn.specs.Encoding.{span, fixed, Field, Row}
 use Rattle.rv_insn.specs.Encoding.Field.{Unsigned, Signed}
@@ -14,7 +14,7 @@ rd = Unsigned (span 7 5)
 abbrev pub rs1 : Field
 rs1 = Unsigned (span 15 5)
 
--- the amount of a shift in the word stands here too: section 2.4.1
+-- the amount of a shift in the word stands here too: section 2.4
 abbrev pub rs2 : Field
 rs2 = Unsigned (span 20 5)
 
