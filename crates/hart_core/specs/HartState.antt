@@ -5,6 +5,7 @@ use Rattle.std.specs.Prelude.{ℕ, zero, suc, Bool, true, false, List, slice_ind
 use Rattle.hart_core.specs.declared.harts.Status.{Status}
 use Rattle.hart_core.specs.declared.harts.Status.TheVariants.{Running, Finished, Trapped}
 use Rattle.lanes.specs.Words as word
+use Rattle.vector_unit.specs.VectorState.{Vectors, opening_vector_state}
 
 pub record HartState : Type 0 where
   pub pc : ℕ
@@ -40,6 +41,10 @@ next_pc hart = word.add 32 hart.pc 4
 abbrev pub advanced : HartState → HartState
 advanced hart = at_pc hart (next_pc hart)
 
+-- a register is written, and the next instruction is due
+abbrev pub given : HartState → ℕ → ℕ → HartState
+given hart rd value = advanced (with_register hart rd value)
+
 abbrev pub with_status : HartState → Status → HartState
 with_status hart status = record hart { status = status }
 
@@ -49,18 +54,21 @@ has_finished Running = false
 has_finished Finished = true
 has_finished (Trapped trap) = false
 
--- vtype with nothing but vill set: no vector configuration
-abbrev pub vill : ℕ
-vill = 2147483648
+-- the part that is the vector unit's
+abbrev pub vectors_of : HartState → Vectors
+vectors_of hart = record { registers = hart.vectors; vl = hart.vl; vtype = hart.vtype }
+
+abbrev pub with_vectors : HartState → Vectors → HartState
+with_vectors hart state = record hart { vectors = state.registers; vl = state.vl; vtype = state.vtype }
 
 -- a hart at the start: x10 is its number, x11 the number of harts, all else is 0
 abbrev pub opening_hart : ℕ → ℕ → ℕ → HartState
 opening_hart entry count number = record {
   pc = entry;
   registers = slice_set (slice_set (replicate 32 0) 10 number) 11 count;
-  vectors = replicate 32 (replicate 16 0);
-  vl = 0;
-  vtype = vill;
+  vectors = opening_vector_state.registers;
+  vl = opening_vector_state.vl;
+  vtype = opening_vector_state.vtype;
   status = Running;
 }
 

@@ -2,3 +2,4 @@ pub mod Alu
 pub mod HartState
 pub mod Scalar
 pub mod Turn
+pub mod VectorRows

@@ -1,4 +1,4 @@
--- The rows of the instruction table that need no vector state: one line an instruction. What an instruction
+-- The rows of the instruction table, those of vector instructions through VectorRows: one line an instruction. What an instruction
 -- touches is known from its own hart's state alone; what it leaves, from that state and the numbers read.
 -- RISC-V Unprivileged ISA 20191213: sections 2.4 "Integer Computational Instructions", 2.5 "Control Transfer
 -- Instructions", 2.6 "Load and Store Instructions", 2.7 "Memory Ordering Instructions", 2.8 "Environment Call and
@@ -7,15 +7,18 @@
 use Rattle.std.specs.Prelude.{ℕ, ◌*◌, ◌/◌, ◌%◌, ◌^◌, ◌==◌, if◌then◌else◌, List, [], ◌∷◌, slice_index, Option, Some, None, ℤ, pos, ◌*ℤ◌}
 use Rattle.lanes.specs.Words as word
 use Rattle.rv_insn.specs.declared.outcomes.Trap.{Trap}
-use Rattle.rv_insn.specs.declared.outcomes.Trap.TheVariants.{MisalignedTarget, Breakpoint}
+use Rattle.rv_insn.specs.declared.outcomes.Trap.TheVariants.{IllegalInstruction, MisalignedTarget, Breakpoint}
 use Rattle.rv_insn.specs.declared.outcomes.Outcome.{Outcome}
 use Rattle.rv_insn.specs.declared.outcomes.Outcome.TheVariants.{Stepped, Finished}
 use Rattle.rv_insn.specs.declared.instructions.Insn.{Insn}
-use Rattle.rv_insn.specs.declared.instructions.Insn.TheVariants.{Lui, Auipc, Jal, Jalr, Branch, Load, Store, AluImm, Shift, Alu, AmoaddW, Fence, Ecall, Ebreak}
+use Rattle.rv_insn.specs.declared.instructions.Insn.TheVariants.{Lui, Auipc, Jal, Jalr, Branch, Load, Store, AluImm, Shift, Alu, AmoaddW, Fence, Ecall, Ebreak, Vector}
 use Rattle.memory.specs.Access.{Size, Word, Kind, NoAccess, Reads, Writes, Updates, Access, access_at}
 use Rattle.hart_core.specs.declared.harts.Status.TheVariants.{Finished as HasFinished}
 use Rattle.hart_core.specs.Alu.{extended, plus, computed, computed_with_immediate, shifted, is_taken, load_size, loaded, store_size, kept}
-use Rattle.hart_core.specs.HartState.{HartState, register, with_register, at_pc, next_pc, advanced, with_status}
+use Rattle.vector_unit.specs.Accesses.{stored_numbers}
+use Rattle.vector_unit.specs.Vector.{is_illegal}
+use Rattle.hart_core.specs.VectorRows.{vector_kind, vector_accesses, vector_after_turn}
+use Rattle.hart_core.specs.HartState.{HartState, vectors_of, register, with_register, at_pc, next_pc, advanced, given, with_status}
 
 -- offsets are kept in half-words
 abbrev pub offset_from : ℕ → ℤ → ℕ
@@ -43,6 +46,7 @@ kind_of (AmoaddW rd rs1 rs2 aq rl) = Updates
 kind_of Fence = NoAccess
 kind_of Ecall = NoAccess
 kind_of Ebreak = NoAccess
+kind_of (Vector insn) = vector_kind insn
 
 -- the numbers in memory that an instruction touches, in order
 abbrev pub accesses : Insn → HartState → List Access
@@ -60,6 +64,7 @@ accesses (AmoaddW rd rs1 rs2 aq rl) hart = one_access Word (register hart rs1)
 accesses Fence hart = []
 accesses Ecall hart = []
 accesses Ebreak hart = []
+accesses (Vector insn) hart = vector_accesses insn hart
 
 -- where an instruction goes on, if not at the next one: a branch that is not taken goes nowhere
 abbrev pub jump_of : Insn → HartState → Option ℕ
@@ -78,11 +83,30 @@ jump_of (AmoaddW rd rs1 rs2 aq rl) hart = None
 jump_of Fence hart = None
 jump_of Ecall hart = None
 jump_of Ebreak hart = None
+jump_of (Vector insn) hart = None
 
 -- a target that is no multiple of 4 is a trap
 abbrev pub jump_fault : Option ℕ → Option Trap
 jump_fault None = None
 jump_fault (Some target) = if target % 4 == 0 then None else Some MisalignedTarget
+
+-- the trap of an instruction that is illegal in the hart's state
+abbrev pub illegal_fault : Insn → HartState → Option Trap
+illegal_fault (Lui rd imm) hart = None
+illegal_fault (Auipc rd imm) hart = None
+illegal_fault (Jal rd offset) hart = None
+illegal_fault (Jalr rd rs1 imm) hart = None
+illegal_fault (Branch op rs1 rs2 offset) hart = None
+illegal_fault (Load op rd rs1 imm) hart = None
+illegal_fault (Store op rs1 rs2 imm) hart = None
+illegal_fault (AluImm op rd rs1 imm) hart = None
+illegal_fault (Shift op rd rs1 amount) hart = None
+illegal_fault (Alu op rd rs1 rs2) hart = None
+illegal_fault (AmoaddW rd rs1 rs2 aq rl) hart = None
+illegal_fault Fence hart = None
+illegal_fault Ecall hart = None
+illegal_fault Ebreak hart = None
+illegal_fault (Vector insn) hart = if is_illegal insn (register hart) (vectors_of hart) then Some IllegalInstruction else None
 
 -- the trap that an instruction makes whatever the state
 abbrev pub own_fault : Insn → Option Trap
@@ -100,14 +124,11 @@ own_fault (AmoaddW rd rs1 rs2 aq rl) = None
 own_fault Fence = None
 own_fault Ecall = None
 own_fault Ebreak = Some Breakpoint
+own_fault (Vector insn) = None
 
 abbrev pub jumped : HartState → Option ℕ → HartState
 jumped hart None = advanced hart
 jumped hart (Some target) = at_pc hart target
-
--- a register is written, and the next instruction is due
-abbrev pub given : HartState → ℕ → ℕ → HartState
-given hart rd value = advanced (with_register hart rd value)
 
 -- the address of the next instruction is written, and the target is due
 abbrev pub linked : HartState → ℕ → ℕ → HartState
@@ -130,6 +151,7 @@ after (AmoaddW rd rs1 rs2 aq rl) hart read = given hart rd (slice_index read 0)
 after Fence hart read = advanced hart
 after Ecall hart read = with_status hart HasFinished
 after Ebreak hart read = hart
+after (Vector insn) hart read = vector_after_turn insn hart read
 
 -- the numbers that are written, one for each access that writes
 abbrev pub stored : Insn → HartState → List ℕ → List ℕ
@@ -147,6 +169,7 @@ stored (AmoaddW rd rs1 rs2 aq rl) hart read = word.add 32 (slice_index read 0) (
 stored Fence hart read = []
 stored Ecall hart read = []
 stored Ebreak hart read = []
+stored (Vector insn) hart read = stored_numbers insn (vectors_of hart)
 
 -- what a turn that makes no trap comes to; EBREAK makes one
 abbrev pub outcome_of : Insn → Outcome
@@ -164,3 +187,4 @@ outcome_of (AmoaddW rd rs1 rs2 aq rl) = Stepped
 outcome_of Fence = Stepped
 outcome_of Ecall = Finished
 outcome_of Ebreak = Stepped
+outcome_of (Vector insn) = Stepped

@@ -12,7 +12,7 @@ use Rattle.hart_core.specs.declared.harts.Status.TheVariants.{Running, Finished,
 use Rattle.memory.specs.Addresses.{fetched, put}
 use Rattle.memory.specs.Access.{touched, number_at, spread, read_by, written_by, first_fault, or_else}
 use Rattle.hart_core.specs.HartState.{HartState, with_status}
-use Rattle.hart_core.specs.Scalar.{kind_of, accesses, jump_of, jump_fault, own_fault, after, stored, outcome_of}
+use Rattle.hart_core.specs.Scalar.{kind_of, accesses, jump_of, illegal_fault, jump_fault, own_fault, after, stored, outcome_of}
 
 -- what a hart's turn is, known from its own state, the text and the number of data bytes
 pub data Next : Type 0 where
@@ -20,10 +20,12 @@ pub data Next : Type 0 where
   Traps : (trap : Trap) → Next
   Does : (insn : Insn) → Next
 
--- the trap of an instruction, if it makes one: a misaligned target before an access, EBREAK's own last
+-- the trap of an instruction, if it makes one: one that is illegal before a misaligned target, that before an access, EBREAK's own
+-- last
 abbrev pub fault : ℕ → ℕ → Insn → HartState → Option Trap
 fault words bytes insn hart =
-    or_else (jump_fault (jump_of insn hart)) (or_else (first_fault words bytes (kind_of insn) (accesses insn hart)) (own_fault insn))
+    or_else (illegal_fault insn hart)
+    (or_else (jump_fault (jump_of insn hart)) (or_else (first_fault words bytes (kind_of insn) (accesses insn hart)) (own_fault insn)))
 
 abbrev pub judged : Insn → Option Trap → Next
 judged insn None = Does insn

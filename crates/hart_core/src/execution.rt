@@ -2,7 +2,7 @@
 
 ghost use Rattle.std.specs.Prelude.{◌≡◌, None, Some, length, IfOk, OnOk, IfErr, OnErr};
 ghost use Rattle.hart_core.specs.Alu.{extended, plus};
-ghost use Rattle.hart_core.specs.Scalar.{jump_fault, given, linked};
+ghost use Rattle.hart_core.specs.Scalar.{jump_fault, linked};
 ghost use Rattle.hart_core.specs.HartState.{register, at_pc};
 ghost use Rattle.hart_core.specs.Turn.{step, fault, IsDone};
 
@@ -109,6 +109,7 @@ impl Hart {
                 Ok(Outcome::Finished)
             }
             Insn::Ebreak => Err(Trap::Breakpoint),
+            Insn::Vector(insn) => self.execute_vector(&insn, memory),
         }
     }
 
@@ -117,15 +118,6 @@ impl Hart {
         ensures { result ≡ plus (register self.now rs1) imm }
     {
         self.register(rs1).wrapping_add(extend(imm))
-    }
-
-    /// Writes a register and goes on at the next instruction.
-    fn give(&mut self, rd: Reg, value: u32) -> Outcome
-        ensures hart { self.new ≡ given self.old rd value }
-        ensures outcome { result ≡ Outcome.Stepped }
-    {
-        self.set_register(rd, value);
-        self.advance()
     }
 
     /// Goes on at the target, or traps where that is no multiple of 4.

@@ -1,10 +1,14 @@
 //! The state of one hart.
 
-ghost use Rattle.std.specs.Prelude.{◌≡◌, ◌<◌, ◌≤◌, ◌^◌, slice_index};
-ghost use Rattle.hart_core.specs.HartState.{register, vector, has_finished, with_register, at_pc, advanced, with_status, opening_hart};
+ghost use Rattle.std.specs.Prelude.{◌≡◌, ◌<◌, ◌≤◌, ◌^◌, ◌&&◌, not, true, false, slice_index, OnOk, OnErr, IfOk, IfErr};
+ghost use Rattle.vector_unit.specs.VectorState.{configured, has_vill, is_illegal_configuration};
+ghost use Rattle.vector_unit.specs.Vector.{is_own, is_refused, vector_after, scalar_given, number_of};
+ghost use Rattle.vector_unit.specs.Accesses.{loaded};
+ghost use Rattle.hart_core.specs.HartState.{register, vector, has_finished, with_register, at_pc, advanced, with_status, opening_hart, vectors_of, with_vectors, given};
 
-use rv_insn::{Outcome, Reg, Trap, VReg};
+use rv_insn::{Outcome, Reg, Trap, VReg, VectorInsn};
 use std::marker::Model;
+use vector_unit::{Asked, VectorState};
 
 /// Whether a hart runs, or why it doesn't.
 #[derive(Clone, Copy, Debug, PartialEq, Eq)]
@@ -17,18 +21,13 @@ pub enum Status {
     Trapped(Trap),
 }
 
-/// The vtype of a hart that has no vector configuration: the bit vill alone.
-pub const VILL: u32 = 0x8000_0000;
-
 /// One hart: program counter, integer and vector registers, vector configuration and status. A
 /// contract sees all of them as a `HartState`.
 #[derive(Drop)]
 pub struct Hart {
     pc: u32,
     registers: [u32; 32],
-    vectors: [[u8; 16]; 32],
-    vl: u32,
-    vtype: u32,
+    unit: VectorState,
     status: Status,
 }
 
@@ -37,7 +36,7 @@ impl Model for Hart {
 
     ghost Value = { HartState };
 
-    ghost view = { λ h. record { pc = h.pc; registers = h.registers; vectors = h.vectors; vl = h.vl; vtype = h.vtype; status = h.status } };
+    ghost view = { λ h. record { pc = h.pc; registers = h.registers; vectors = h.unit.registers; vl = h.unit.vl; vtype = h.unit.vtype; status = h.status } };
 }
 
 impl Hart {
@@ -52,9 +51,7 @@ impl Hart {
         Hart {
             pc: entry,
             registers,
-            vectors: [[0; 16]; 32],
-            vl: 0,
-            vtype: VILL,
+            unit: VectorState::new(),
             status: Status::Running,
         }
     }
@@ -78,21 +75,21 @@ impl Hart {
     pub fn vector(&self, v: VReg) -> [u8; 16]
         ensures { result ≡ vector self.now v }
     {
-        self.vectors[v.number() as usize]
+        self.unit.register(v)
     }
 
     /// The number of elements that vector instructions work on.
     pub fn vl(&self) -> u32
         ensures { result ≡ self.now.vl }
     {
-        self.vl
+        self.unit.vl()
     }
 
     /// The vector configuration, as the vtype register spells it.
     pub fn vtype(&self) -> u32
         ensures { result ≡ self.now.vtype }
     {
-        self.vtype
+        self.unit.vtype()
     }
 
     /// Whether the hart runs, or why it doesn't.
@@ -149,5 +146,55 @@ impl Hart {
     {
         self.status = Status::Trapped(trap);
         Outcome::Trapped(trap)
+    }
+
+    /// Writes a register and goes on at the next instruction.
+    pub(crate) fn give(&mut self, rd: Reg, value: u32) -> Outcome
+        ensures hart { self.new ≡ given self.old rd value }
+        ensures outcome { result ≡ Outcome.Stepped }
+    {
+        self.set_register(rd, value);
+        self.advance()
+    }
+
+    /// The vector unit's part.
+    pub(crate) fn vectors(&self) -> &VectorState
+        ensures { result.now ≡ vectors_of self.now }
+    {
+        &self.unit
+    }
+
+    /// Configures the vector unit.
+    pub(crate) fn configure(&mut self, vtype: u32, asked: Asked) -> Result<u32, Trap>
+        ensures legal { OnOk result (is_illegal_configuration (vectors_of self.old) vtype asked ≡ false) }
+        ensures done { OnOk result (self.new ≡ with_vectors self.old (configured (vectors_of self.old) vtype asked)) }
+        ensures vl { IfOk result (λ vl. vl ≡ (configured (vectors_of self.old) vtype asked).vl) }
+        ensures illegal { OnErr result (is_illegal_configuration (vectors_of self.old) vtype asked ≡ true) }
+        ensures trap { IfErr result (λ trap. trap ≡ Trap.IllegalInstruction) }
+        ensures unchanged { OnErr result (self.new ≡ self.old) }
+    {
+        self.unit.configure(vtype, asked)
+    }
+
+    /// Executes a vector instruction that neither configures the unit nor touches memory, but for the number
+    /// that its `rd` gets.
+    pub(crate) fn compute(&mut self, insn: &VectorInsn, scalar: u32) -> Result<Option<u32>, Trap>
+        ensures own { OnOk result (is_own insn.now ≡ true) }
+        ensures legal { OnOk result (is_refused insn.now (vectors_of self.old) ≡ false) }
+        ensures state { OnOk result (self.new ≡ with_vectors self.old (vector_after insn.now (λ r. scalar) (vectors_of self.old))) }
+        ensures given { IfOk result (λ number. number ≡ number_of (scalar_given insn.now (vectors_of self.old))) }
+        ensures illegal { OnErr result (is_own insn.now && not (is_refused insn.now (vectors_of self.old)) ≡ false) }
+        ensures trap { IfErr result (λ trap. trap ≡ Trap.IllegalInstruction) }
+        ensures unchanged { OnErr result (self.new ≡ self.old) }
+    {
+        self.unit.execute(insn, scalar)
+    }
+
+    /// Writes numbers to the active elements of a vector register.
+    pub(crate) fn load_elements(&mut self, vd: VReg, vm: bool, numbers: &[u32])
+        requires { has_vill (vectors_of self.old) ≡ false }
+        ensures { self.new ≡ with_vectors self.old (loaded (vectors_of self.old) vd vm numbers.now) }
+    {
+        self.unit.load(vd, vm, numbers);
     }
 }

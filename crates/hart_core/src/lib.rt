@@ -8,8 +8,10 @@
 
 mod accesses;
 mod alu;
+mod element_accesses;
 pub mod execution;
 pub mod harts;
+mod vectors;
 
 pub use crate::harts::{Hart, Status};
 
@@ -17,3 +19,5 @@ pub use crate::harts::{Hart, Status};
 mod operation_tests;
 #[cfg(test)]
 mod tests;
+#[cfg(test)]
+mod vector_tests;

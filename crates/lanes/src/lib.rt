@@ -3,8 +3,7 @@
 //!
 //! [`LaneKind`] is a kind of element with the operations on two of them. [`Lanes`] is a register's N
 //! elements, with one loop for each shape of operation, whatever the kind. [`masks`] says which elements
-//! are active, and writes results as bits of a register. [`words32`] has the operations on two words of 32
-//! bits, as the scalar instructions have them. Nothing here allocates.
+//! are active, and writes results as bits of a register. Nothing here allocates.
 //!
 //! `specs/Words.antt` defines each operation on two words, over the width; `specs/Registers.antt` the
 //! elements of a register; `specs/Masks.antt` masks; `specs/Elementwise.antt` what is done with each element.
@@ -17,7 +16,6 @@ pub mod laws;
 pub mod masks;
 mod operations;
 pub mod registers;
-pub mod words32;
 
 pub use crate::kinds::LaneKind;
 pub use crate::masks::{active, mask_bit, mask_bits, write_mask_bits};

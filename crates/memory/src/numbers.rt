@@ -25,7 +25,7 @@ fn check_load<M: Bytes>(memory: &M, address: u32, count: u32) -> Result<(), Trap
 
 /// Whether so many bytes from an address on may be stored: trap 6 where the address is no multiple of
 /// their number, else trap 7 where one isn't data.
-fn check_store<M: Bytes>(memory: &M, address: u32, count: u32) -> Result<(), Trap>
+pub fn check_store<M: Bytes>(memory: &M, address: u32, count: u32) -> Result<(), Trap>
     requires { 0 < count }
     ensures ok { OnOk result (fault_of (length (M.text memory.now)) (length (M.memory memory.now)) Writes address count ≡ None) }
     ensures err { IfErr result (λ trap. fault_of (length (M.text memory.now)) (length (M.memory memory.now)) Writes address count ≡ Some trap) }

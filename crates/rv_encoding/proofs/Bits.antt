@@ -1,10 +1,10 @@
 -- Numbers whose digits stand at positions of a word, and pairs that hold there.
-use Rattle.std.proofs.Common.{◌≡◌, ℕ, zero, suc, ◌+◌, ◌*◌, ◌/◌, ◌%◌, ◌^◌, ◌<◌, List, [], ◌∷◌, ◌++◌, length, sym, ◌∙◌, ap, arith, lit<, pow-suc}
+use Rattle.std.proofs.Common.{◌≡◌, ℕ, zero, suc, ◌+◌, ◌*◌, ◌/◌, ◌%◌, ◌^◌, ◌<◌, List, [], ◌∷◌, ◌++◌, length, refl, sym, ◌∙◌, ap, subst, arith, lit<, pow-suc}
 use Rattle.std.specs.Int.{bit_at}
 use Rattle.std.proofs.lemmas.Nat.{mod-pow-add}
 use Rattle.std.proofs.Math.Nat.{div-div-eq-div-mul}
 use Rattle.std.proofs.Math.Numerals.{add-one}
-use Rattle.rv_insn.specs.Encoding.{Holds, number_at, span, fixed}
+use Rattle.rv_insn.specs.Encoding.{Holds, number_at, span, fixed, in_parts}
 
 pub bit_at-lt : (word place : ℕ) → bit_at word place < 2
 bit_at-lt word place = omega arith
@@ -61,3 +61,34 @@ number_at-fixed word (place ∷ places) value within h =
     let doubled : 2 ^ suc (length places) ≡ 2 ^ length places * 2 = pow-suc 2 (length places) in
     let rest = number_at-fixed word places (value / 2) (omega (arith, within, doubled)) h.1 in
     omega (arith, rest, h.0)
+
+-- ---- numbers at spans of positions
+
+-- the numbers stand there
+abbrev pub PartsAre : ℕ → List (ℕ × ℕ × ℕ) → Type 0
+PartsAre word [] = Unit {0}
+PartsAre word (p ∷ parts) = (word / 2 ^ p.0 % 2 ^ p.1 ≡ p.2) × PartsAre word parts
+
+-- and have no more digits than there are positions
+abbrev pub PartsFit : List (ℕ × ℕ × ℕ) → Type 0
+PartsFit [] = Unit {0}
+PartsFit (p ∷ parts) = (p.2 < 2 ^ p.1) × PartsFit parts
+
+length-span : (low count : ℕ) → length (span low count) ≡ count
+unfolding span
+length-span low zero = refl
+length-span low (suc count) = ap suc (length-span (low + 1) count)
+
+pub parts_made : (word : ℕ) (parts : List (ℕ × ℕ × ℕ)) → PartsAre word parts → Holds word (in_parts parts)
+unfolding in_parts Holds
+parts_made word [] are = tt
+parts_made word (p ∷ parts) are =
+    Holds-append word (fixed (span p.0 p.1) p.2) (in_parts parts) (Holds-fixed word (span p.0 p.1) p.2 (number_at-span word p.0 p.1 ∙ are.0)) (parts_made word parts are.1)
+
+pub parts_read : (word : ℕ) (parts : List (ℕ × ℕ × ℕ)) → PartsFit parts → Holds word (in_parts parts) → PartsAre word parts
+unfolding in_parts
+parts_read word [] fit h = tt
+parts_read word (p ∷ parts) fit h =
+    let both = Holds-parts word (fixed (span p.0 p.1) p.2) (in_parts parts) h in
+    let small : p.2 < 2 ^ length (span p.0 p.1) = subst (λ n. p.2 < 2 ^ n) (sym (length-span p.0 p.1)) fit.0 in
+    (sym (number_at-span word p.0 p.1) ∙ number_at-fixed word (span p.0 p.1) p.2 small both.0, parts_read word parts fit.1 both.1)

@@ -4,7 +4,7 @@ use Rattle.rv_insn.specs.Encoding.{Holds, number_at, span, fixed, signed, field_
 use Rattle.rv_insn.specs.Encoding.Field.{Unsigned, Signed}
 use Rattle.rv_insn.specs.Table as table
 use Rattle.rv_insn.specs.Table.{i_places, s_places, b_places, u_places, j_places, r_type, i_type, s_type, b_type, u_type, j_type, amo_type, whole_word}
-use Rattle.rv_insn.specs.Meaning.{bit_of}
+use Rattle.rv_insn.specs.Encoding.{bit_of}
 use Rattle.rv_insn.specs.declared.instructions.Insn.{Insn}
 use Rattle.rv_encoding.specs.Formats.{Stands}
 use Rattle.rv_encoding.specs.Decoding.{part, rd_of, rs1_of, rs2_of, i_immediate_of, s_immediate_of, b_offset_of, u_immediate_of, j_offset_of, flag_of, by_keys, decoded}
@@ -54,15 +54,15 @@ number_at-j word =
     let c = number_at-append word (span 21 10) (span 20 1) in
     omega (arith, a, b, c, number_at-span word 21 10, number_at-span word 20 1, number_at-span word 12 8, number_at-span word 31 1)
 
-rd_read : (word : ℕ) → field_of word table.rd ≡ pos (rd_of word)
+pub rd_read : (word : ℕ) → field_of word table.rd ≡ pos (rd_of word)
 unfolding rd_of
 rd_read word = ap pos (number_at-span word 7 5)
 
-rs1_read : (word : ℕ) → field_of word table.rs1 ≡ pos (rs1_of word)
+pub rs1_read : (word : ℕ) → field_of word table.rs1 ≡ pos (rs1_of word)
 unfolding rs1_of
 rs1_read word = ap pos (number_at-span word 15 5)
 
-rs2_read : (word : ℕ) → field_of word table.rs2 ≡ pos (rs2_of word)
+pub rs2_read : (word : ℕ) → field_of word table.rs2 ≡ pos (rs2_of word)
 unfolding rs2_of
 rs2_read word = ap pos (number_at-span word 20 5)
 
@@ -87,10 +87,10 @@ unfolding span j_offset_of
 j_read word = ap (signed 20) (number_at-j word)
 
 -- lists of operands, joined by equations of their elements
-values_2 : {a a' b b' : ℤ} → a ≡ a' → b ≡ b' → (a ∷ b ∷ []) ≡ (a' ∷ b' ∷ [])
+pub values_2 : {a a' b b' : ℤ} → a ≡ a' → b ≡ b' → (a ∷ b ∷ []) ≡ (a' ∷ b' ∷ [])
 values_2 p q = cc
 
-values_3 : {a a' b b' c c' : ℤ} → a ≡ a' → b ≡ b' → c ≡ c' → (a ∷ b ∷ c ∷ []) ≡ (a' ∷ b' ∷ c' ∷ [])
+pub values_3 : {a a' b b' c c' : ℤ} → a ≡ a' → b ≡ b' → c ≡ c' → (a ∷ b ∷ c ∷ []) ≡ (a' ∷ b' ∷ c' ∷ [])
 values_3 p q r = cc
 
 -- ---- from the parts of a word to a row that it stands for
@@ -147,7 +147,7 @@ r_made opcode funct3 funct7 word rd rs1 rs2 opcode_is funct3_is funct7_is rd_is 
   values_3 (ap pos rd_is ∙ sym (rd_read word)) (ap pos rs1_is ∙ sym (rs1_read word)) (ap pos rs2_is ∙ sym (rs2_read word)),
 )
 
-flag_read : (word place : ℕ) → number_at word (span place 1) ≡ part word place 1
+pub flag_read : (word place : ℕ) → number_at word (span place 1) ≡ part word place 1
 flag_read word place = number_at-span word place 1
 
 values_5 : {a a' b b' c c' d d' e e' : ℤ} → a ≡ a' → b ≡ b' → c ≡ c' → d ≡ d' → e ≡ e' → (a ∷ b ∷ c ∷ d ∷ e ∷ []) ≡ (a' ∷ b' ∷ c' ∷ d' ∷ e' ∷ [])
@@ -176,7 +176,7 @@ bit_of-lt false = lit< tt
 pub bit_of-flag : (n : ℕ) → n < 2 → bit_of (nat_eq n 1) ≡ n
 bit_of-flag n small = grind arith
 
-flag_of-bit : (b : Bool) (n : ℕ) → n < 2 → bit_of b ≡ n → nat_eq n 1 ≡ b
+pub flag_of-bit : (b : Bool) (n : ℕ) → n < 2 → bit_of b ≡ n → nat_eq n 1 ≡ b
 flag_of-bit true n small e = grind arith
 flag_of-bit false n small e = grind arith
 

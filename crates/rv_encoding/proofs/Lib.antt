@@ -4,3 +4,6 @@ pub mod Lists
 pub mod Meanings
 pub mod Operations
 pub mod Rows
+pub mod VectorFormats
+pub mod VectorMeanings
+pub mod VectorOperations

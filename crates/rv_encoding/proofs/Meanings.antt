@@ -4,10 +4,10 @@ use Rattle.std.specs.Prelude.{Contains, IfSome, IfNone, map, find}
 use Rattle.std.specs.Str.{bytes_eq}
 use Rattle.std.proofs.lemmas.Bool.{eqb-true}
 use Rattle.rv_insn.specs.Encoding.{Holds, field_of, Row}
-use Rattle.rv_insn.specs.Table.{table, r_type, i_type, s_type, b_type, u_type, j_type, amo_type, whole_word}
+use Rattle.rv_insn.specs.Table.{table, scalar_table, r_type, i_type, s_type, b_type, u_type, j_type, amo_type, whole_word}
 use Rattle.rv_insn.specs.Meaning.{name_of, fields_of, Means}
 use Rattle.rv_insn.specs.declared.instructions.Insn.{Insn}
-use Rattle.rv_insn.specs.declared.instructions.Insn.TheVariants.{Lui, Auipc, Jal, Jalr, Branch, Load, Store, AluImm, Shift, Alu, AmoaddW, Fence, Ecall, Ebreak}
+use Rattle.rv_insn.specs.declared.instructions.Insn.TheVariants.{Lui, Auipc, Jal, Jalr, Branch, Load, Store, AluImm, Shift, Alu, AmoaddW, Fence, Ecall, Ebreak, Vector}
 use Rattle.rv_insn.specs.declared.operations.BranchOp.TheVariants as branches
 use Rattle.rv_insn.specs.declared.operations.LoadOp.TheVariants as loads
 use Rattle.rv_insn.specs.declared.operations.StoreOp.TheVariants as stores
@@ -15,6 +15,20 @@ use Rattle.rv_insn.specs.declared.operations.AluImmOp.TheVariants as alu_imms
 use Rattle.rv_insn.specs.declared.operations.ShiftOp.{ShiftOp}
 use Rattle.rv_insn.specs.declared.operations.ShiftOp.TheVariants as shifts
 use Rattle.rv_insn.specs.declared.operations.AluOp.TheVariants as alus
+use Rattle.rv_insn.specs.declared.vector_operations.ArithmeticVvOp.TheVariants as arithmetic_vvs
+use Rattle.rv_insn.specs.declared.vector_operations.ArithmeticVxOp.TheVariants as arithmetic_vxs
+use Rattle.rv_insn.specs.declared.vector_operations.ArithmeticViOp.TheVariants as arithmetic_vis
+use Rattle.rv_insn.specs.declared.vector_operations.ShiftViOp.TheVariants as shift_vis
+use Rattle.rv_insn.specs.declared.vector_operations.CompareVvOp.TheVariants as compare_vvs
+use Rattle.rv_insn.specs.declared.vector_operations.CompareVxOp.TheVariants as compare_vxs
+use Rattle.rv_insn.specs.declared.vector_operations.CompareViOp.TheVariants as compare_vis
+use Rattle.rv_insn.specs.declared.vector_operations.MultiplyOp.TheVariants as multiplies
+use Rattle.rv_insn.specs.declared.vector_operations.ReductionOp.TheVariants as reductions
+use Rattle.rv_insn.specs.declared.vector_operations.ElementWidth.TheVariants as widths
+use Rattle.rv_insn.specs.declared.vector_instructions.VectorInsn.{VectorInsn}
+use Rattle.rv_insn.specs.declared.vector_instructions.VectorInsn.TheVariants as v
+use Rattle.rv_insn.specs.VectorTable.{vector_table}
+use Rattle.rv_insn.specs.VectorMeaning.{vector_name_of}
 use Rattle.rv_encoding.specs.Operations.{branch_funct3, branch_of, load_funct3, load_of, store_funct3, store_of, alu_imm_funct3, alu_imm_of, shift_funct3, shift_funct7, shift_of, alu_funct3, alu_funct7, alu_of}
 use Rattle.rv_encoding.specs.Formats.{Stands, shape_of, StandsFor}
 use Rattle.rv_encoding.specs.Decoding.{part, rd_of, rs1_of, rs2_of, i_immediate_of, s_immediate_of, b_offset_of, with_op, op_imm_from, op_imm_in, decoded}
@@ -22,6 +36,7 @@ use Rattle.rv_encoding.proofs.Formats.{u_made, j_made, i_made, s_made, b_made, r
 use Rattle.rv_encoding.proofs.Lists.{some_same, Contains-find}
 use Rattle.rv_encoding.proofs.Operations.{branch_funct3-lt, branch_of-funct3, branch_found, load_funct3-lt, load_of-funct3, load_found, store_funct3-lt, store_of-funct3, store_found, alu_imm_funct3-lt, alu_imm_of-funct3, alu_imm_found, shift_funct3-lt, shift_funct7-lt, shift_of-keys, shift_found, shift_is_no_alu_imm, alu_funct3-lt, alu_funct7-lt, alu_of-keys, alu_found}
 use Rattle.rv_encoding.proofs.Rows.{same_row}
+use Rattle.rv_encoding.proofs.VectorMeanings.{vector_decoded, tried, with_found, op_v_stands, load_stands, store_stands}
 
 -- ---- the row by cases is the table's row of that name
 
@@ -33,7 +48,7 @@ abbrev pub row_of : Insn → Row
 row_of insn = record (shape_of insn) { name = name_of insn }
 
 pub row_named-name_of : (insn : Insn) → row_named (name_of insn) ≡ Some (row_of insn)
-unfolding table r_type i_type s_type b_type u_type j_type amo_type whole_word
+unfolding table scalar_table vector_table r_type i_type s_type b_type u_type j_type amo_type whole_word
 row_named-name_of (Lui rd imm) = refl
 row_named-name_of (Auipc rd imm) = refl
 row_named-name_of (Jal rd offset) = refl
@@ -83,6 +98,110 @@ row_named-name_of (AmoaddW rd rs1 rs2 aq rl) = refl
 row_named-name_of Fence = refl
 row_named-name_of Ecall = refl
 row_named-name_of Ebreak = refl
+row_named-name_of (Vector (v.ArithmeticVv arithmetic_vvs.Vadd vd vs2 vs1 vm)) = refl
+row_named-name_of (Vector (v.ArithmeticVv arithmetic_vvs.Vsub vd vs2 vs1 vm)) = refl
+row_named-name_of (Vector (v.ArithmeticVv arithmetic_vvs.Vminu vd vs2 vs1 vm)) = refl
+row_named-name_of (Vector (v.ArithmeticVv arithmetic_vvs.Vmin vd vs2 vs1 vm)) = refl
+row_named-name_of (Vector (v.ArithmeticVv arithmetic_vvs.Vmaxu vd vs2 vs1 vm)) = refl
+row_named-name_of (Vector (v.ArithmeticVv arithmetic_vvs.Vmax vd vs2 vs1 vm)) = refl
+row_named-name_of (Vector (v.ArithmeticVv arithmetic_vvs.Vand vd vs2 vs1 vm)) = refl
+row_named-name_of (Vector (v.ArithmeticVv arithmetic_vvs.Vor vd vs2 vs1 vm)) = refl
+row_named-name_of (Vector (v.ArithmeticVv arithmetic_vvs.Vxor vd vs2 vs1 vm)) = refl
+row_named-name_of (Vector (v.ArithmeticVv arithmetic_vvs.Vsll vd vs2 vs1 vm)) = refl
+row_named-name_of (Vector (v.ArithmeticVv arithmetic_vvs.Vsrl vd vs2 vs1 vm)) = refl
+row_named-name_of (Vector (v.ArithmeticVv arithmetic_vvs.Vsra vd vs2 vs1 vm)) = refl
+row_named-name_of (Vector (v.ArithmeticVx arithmetic_vxs.Vadd vd vs2 rs1 vm)) = refl
+row_named-name_of (Vector (v.ArithmeticVx arithmetic_vxs.Vsub vd vs2 rs1 vm)) = refl
+row_named-name_of (Vector (v.ArithmeticVx arithmetic_vxs.Vrsub vd vs2 rs1 vm)) = refl
+row_named-name_of (Vector (v.ArithmeticVx arithmetic_vxs.Vminu vd vs2 rs1 vm)) = refl
+row_named-name_of (Vector (v.ArithmeticVx arithmetic_vxs.Vmin vd vs2 rs1 vm)) = refl
+row_named-name_of (Vector (v.ArithmeticVx arithmetic_vxs.Vmaxu vd vs2 rs1 vm)) = refl
+row_named-name_of (Vector (v.ArithmeticVx arithmetic_vxs.Vmax vd vs2 rs1 vm)) = refl
+row_named-name_of (Vector (v.ArithmeticVx arithmetic_vxs.Vand vd vs2 rs1 vm)) = refl
+row_named-name_of (Vector (v.ArithmeticVx arithmetic_vxs.Vor vd vs2 rs1 vm)) = refl
+row_named-name_of (Vector (v.ArithmeticVx arithmetic_vxs.Vxor vd vs2 rs1 vm)) = refl
+row_named-name_of (Vector (v.ArithmeticVx arithmetic_vxs.Vsll vd vs2 rs1 vm)) = refl
+row_named-name_of (Vector (v.ArithmeticVx arithmetic_vxs.Vsrl vd vs2 rs1 vm)) = refl
+row_named-name_of (Vector (v.ArithmeticVx arithmetic_vxs.Vsra vd vs2 rs1 vm)) = refl
+row_named-name_of (Vector (v.ArithmeticVi arithmetic_vis.Vadd vd vs2 imm vm)) = refl
+row_named-name_of (Vector (v.ArithmeticVi arithmetic_vis.Vrsub vd vs2 imm vm)) = refl
+row_named-name_of (Vector (v.ArithmeticVi arithmetic_vis.Vand vd vs2 imm vm)) = refl
+row_named-name_of (Vector (v.ArithmeticVi arithmetic_vis.Vor vd vs2 imm vm)) = refl
+row_named-name_of (Vector (v.ArithmeticVi arithmetic_vis.Vxor vd vs2 imm vm)) = refl
+row_named-name_of (Vector (v.ShiftVi shift_vis.Vsll vd vs2 amount vm)) = refl
+row_named-name_of (Vector (v.ShiftVi shift_vis.Vsrl vd vs2 amount vm)) = refl
+row_named-name_of (Vector (v.ShiftVi shift_vis.Vsra vd vs2 amount vm)) = refl
+row_named-name_of (Vector (v.CompareVv compare_vvs.Vmseq vd vs2 vs1 vm)) = refl
+row_named-name_of (Vector (v.CompareVv compare_vvs.Vmsne vd vs2 vs1 vm)) = refl
+row_named-name_of (Vector (v.CompareVv compare_vvs.Vmsltu vd vs2 vs1 vm)) = refl
+row_named-name_of (Vector (v.CompareVv compare_vvs.Vmslt vd vs2 vs1 vm)) = refl
+row_named-name_of (Vector (v.CompareVv compare_vvs.Vmsleu vd vs2 vs1 vm)) = refl
+row_named-name_of (Vector (v.CompareVv compare_vvs.Vmsle vd vs2 vs1 vm)) = refl
+row_named-name_of (Vector (v.CompareVx compare_vxs.Vmseq vd vs2 rs1 vm)) = refl
+row_named-name_of (Vector (v.CompareVx compare_vxs.Vmsne vd vs2 rs1 vm)) = refl
+row_named-name_of (Vector (v.CompareVx compare_vxs.Vmsltu vd vs2 rs1 vm)) = refl
+row_named-name_of (Vector (v.CompareVx compare_vxs.Vmslt vd vs2 rs1 vm)) = refl
+row_named-name_of (Vector (v.CompareVx compare_vxs.Vmsleu vd vs2 rs1 vm)) = refl
+row_named-name_of (Vector (v.CompareVx compare_vxs.Vmsle vd vs2 rs1 vm)) = refl
+row_named-name_of (Vector (v.CompareVx compare_vxs.Vmsgtu vd vs2 rs1 vm)) = refl
+row_named-name_of (Vector (v.CompareVx compare_vxs.Vmsgt vd vs2 rs1 vm)) = refl
+row_named-name_of (Vector (v.CompareVi compare_vis.Vmseq vd vs2 imm vm)) = refl
+row_named-name_of (Vector (v.CompareVi compare_vis.Vmsne vd vs2 imm vm)) = refl
+row_named-name_of (Vector (v.CompareVi compare_vis.Vmsleu vd vs2 imm vm)) = refl
+row_named-name_of (Vector (v.CompareVi compare_vis.Vmsle vd vs2 imm vm)) = refl
+row_named-name_of (Vector (v.CompareVi compare_vis.Vmsgtu vd vs2 imm vm)) = refl
+row_named-name_of (Vector (v.CompareVi compare_vis.Vmsgt vd vs2 imm vm)) = refl
+row_named-name_of (Vector (v.MultiplyVv multiplies.Vdivu vd vs2 vs1 vm)) = refl
+row_named-name_of (Vector (v.MultiplyVv multiplies.Vdiv vd vs2 vs1 vm)) = refl
+row_named-name_of (Vector (v.MultiplyVv multiplies.Vremu vd vs2 vs1 vm)) = refl
+row_named-name_of (Vector (v.MultiplyVv multiplies.Vrem vd vs2 vs1 vm)) = refl
+row_named-name_of (Vector (v.MultiplyVv multiplies.Vmulhu vd vs2 vs1 vm)) = refl
+row_named-name_of (Vector (v.MultiplyVv multiplies.Vmul vd vs2 vs1 vm)) = refl
+row_named-name_of (Vector (v.MultiplyVv multiplies.Vmulhsu vd vs2 vs1 vm)) = refl
+row_named-name_of (Vector (v.MultiplyVv multiplies.Vmulh vd vs2 vs1 vm)) = refl
+row_named-name_of (Vector (v.MultiplyVx multiplies.Vdivu vd vs2 rs1 vm)) = refl
+row_named-name_of (Vector (v.MultiplyVx multiplies.Vdiv vd vs2 rs1 vm)) = refl
+row_named-name_of (Vector (v.MultiplyVx multiplies.Vremu vd vs2 rs1 vm)) = refl
+row_named-name_of (Vector (v.MultiplyVx multiplies.Vrem vd vs2 rs1 vm)) = refl
+row_named-name_of (Vector (v.MultiplyVx multiplies.Vmulhu vd vs2 rs1 vm)) = refl
+row_named-name_of (Vector (v.MultiplyVx multiplies.Vmul vd vs2 rs1 vm)) = refl
+row_named-name_of (Vector (v.MultiplyVx multiplies.Vmulhsu vd vs2 rs1 vm)) = refl
+row_named-name_of (Vector (v.MultiplyVx multiplies.Vmulh vd vs2 rs1 vm)) = refl
+row_named-name_of (Vector (v.Reduce reductions.Vredsum vd vs2 vs1 vm)) = refl
+row_named-name_of (Vector (v.Reduce reductions.Vredminu vd vs2 vs1 vm)) = refl
+row_named-name_of (Vector (v.Reduce reductions.Vredmin vd vs2 vs1 vm)) = refl
+row_named-name_of (Vector (v.Reduce reductions.Vredmaxu vd vs2 vs1 vm)) = refl
+row_named-name_of (Vector (v.Reduce reductions.Vredmax vd vs2 vs1 vm)) = refl
+row_named-name_of (Vector (v.MergeVv vd vs2 vs1)) = refl
+row_named-name_of (Vector (v.MergeVx vd vs2 rs1)) = refl
+row_named-name_of (Vector (v.MergeVi vd vs2 imm)) = refl
+row_named-name_of (Vector (v.MoveVv vd vs1)) = refl
+row_named-name_of (Vector (v.MoveVx vd rs1)) = refl
+row_named-name_of (Vector (v.MoveVi vd imm)) = refl
+row_named-name_of (Vector (v.MoveToScalar rd vs2)) = refl
+row_named-name_of (Vector (v.MoveFromScalar vd rs1)) = refl
+row_named-name_of (Vector (v.ElementNumbers vd vm)) = refl
+row_named-name_of (Vector (v.Vsetvli rd rs1 vtype)) = refl
+row_named-name_of (Vector (v.Vsetivli rd length vtype)) = refl
+row_named-name_of (Vector (v.Vsetvl rd rs1 rs2)) = refl
+row_named-name_of (Vector (v.LoadUnit widths.Bits8 vd rs1 vm)) = refl
+row_named-name_of (Vector (v.LoadUnit widths.Bits16 vd rs1 vm)) = refl
+row_named-name_of (Vector (v.LoadUnit widths.Bits32 vd rs1 vm)) = refl
+row_named-name_of (Vector (v.LoadStrided widths.Bits8 vd rs1 rs2 vm)) = refl
+row_named-name_of (Vector (v.LoadStrided widths.Bits16 vd rs1 rs2 vm)) = refl
+row_named-name_of (Vector (v.LoadStrided widths.Bits32 vd rs1 rs2 vm)) = refl
+row_named-name_of (Vector (v.LoadIndexed widths.Bits8 vd rs1 vs2 vm)) = refl
+row_named-name_of (Vector (v.LoadIndexed widths.Bits16 vd rs1 vs2 vm)) = refl
+row_named-name_of (Vector (v.LoadIndexed widths.Bits32 vd rs1 vs2 vm)) = refl
+row_named-name_of (Vector (v.StoreUnit widths.Bits8 vs3 rs1 vm)) = refl
+row_named-name_of (Vector (v.StoreUnit widths.Bits16 vs3 rs1 vm)) = refl
+row_named-name_of (Vector (v.StoreUnit widths.Bits32 vs3 rs1 vm)) = refl
+row_named-name_of (Vector (v.StoreStrided widths.Bits8 vs3 rs1 rs2 vm)) = refl
+row_named-name_of (Vector (v.StoreStrided widths.Bits16 vs3 rs1 rs2 vm)) = refl
+row_named-name_of (Vector (v.StoreStrided widths.Bits32 vs3 rs1 rs2 vm)) = refl
+row_named-name_of (Vector (v.StoreIndexed widths.Bits8 vs3 rs1 vs2 vm)) = refl
+row_named-name_of (Vector (v.StoreIndexed widths.Bits16 vs3 rs1 vs2 vm)) = refl
+row_named-name_of (Vector (v.StoreIndexed widths.Bits32 vs3 rs1 vs2 vm)) = refl
 
 Contains-row_of : (insn : Insn) → Contains table (row_of insn)
 Contains-row_of insn = Contains-find _ table (row_of insn) (row_named-name_of insn)
@@ -147,16 +266,9 @@ decoded_from_stands word (AmoaddW rd rs1 rs2 aq rl) small h =
 decoded_from_stands word Fence small h = whole_case 0x0FF0000F (lit< tt) Fence fence_decoded word small h
 decoded_from_stands word Ecall small h = whole_case 0x00000073 (lit< tt) Ecall ecall_decoded word small h
 decoded_from_stands word Ebreak small h = whole_case 0x00100073 (lit< tt) Ebreak ebreak_decoded word small h
+decoded_from_stands word (Vector insn) small h = vector_decoded word insn h
 
 -- ---- and what is decoded stands for its instruction
-
--- a group that is tried first, and what is tried after it
-tried : (a b : ℕ) (group rest : Option Insn) (P : Insn → Type 0) → (a ≡ b → IfSome group P) → IfSome rest P → IfSome (cond (nat_eq a b) group rest) P
-tried a b group rest P h k = elim (nat_eq a b) as (λ t. (nat_eq a b ≡ t) → IfSome (cond t group rest) P) [ true ↦ λ e. h (eqb-true a b e) | false ↦ λ e. k ] refl
-
-with_found : {Op : Type 0} (make : Op → Insn) (o : Option Op) (P : Insn → Type 0) → ((op : Op) → o ≡ Some op → P (make op)) → IfSome (with_op make o) P
-with_found make None P h = tt
-with_found make (Some op) P h = h op refl
 
 -- an operation with an immediate, and where there is none a shift
 op_imm_stands : (word : ℕ) → part word 0 7 ≡ 0b0010011 → IfSome (op_imm_in (funct3_of word) (funct7_of word) word) (StandsFor word)
@@ -186,10 +298,13 @@ stands_if_decoded word small =
     tried (part word 0 7) 0b0101111 _ _ (StandsFor word) (λ o. tried (funct3_of word) 0b010 _ _ (StandsFor word) (λ f. tried (part word 27 5) 0b00000 _ _ (StandsFor word)
     (λ s. amo_made 0b0101111 0b010 0b00000 word _ _ _ _ _ o f s refl refl refl (bit_of-flag (part word 26 1) (omega arith)) (bit_of-flag (part word 25 1) (omega arith))) tt) tt) (
     tried (part word 0 7) 0b0001111 _ _ (StandsFor word) (λ o. tried word 0x0FF0000F _ _ (StandsFor word)
-    (λ e. subst (λ v. StandsFor v Fence) (sym e) (whole_made 0x0FF0000F (lit< tt))) tt) (
+    (λ e. subst (λ w. StandsFor w Fence) (sym e) (whole_made 0x0FF0000F (lit< tt))) tt) (
     tried (part word 0 7) 0b1110011 _ _ (StandsFor word) (λ o. tried word 0x00000073 _ _ (StandsFor word)
-    (λ e. subst (λ v. StandsFor v Ecall) (sym e) (whole_made 0x00000073 (lit< tt)))
-    (tried word 0x00100073 _ _ (StandsFor word) (λ e. subst (λ v. StandsFor v Ebreak) (sym e) (whole_made 0x00100073 (lit< tt))) tt)) tt)))))))))))
+    (λ e. subst (λ w. StandsFor w Ecall) (sym e) (whole_made 0x00000073 (lit< tt)))
+    (tried word 0x00100073 _ _ (StandsFor word) (λ e. subst (λ w. StandsFor w Ebreak) (sym e) (whole_made 0x00100073 (lit< tt))) tt)) (
+    tried (part word 0 7) 0b1010111 _ _ (StandsFor word) (op_v_stands word) (
+    tried (part word 0 7) 0b0000111 _ _ (StandsFor word) (load_stands word) (
+    tried (part word 0 7) 0b0100111 _ _ (StandsFor word) (store_stands word) tt))))))))))))))
 
 stands_from_decoded : (word : ℕ) (insn : Insn) → word < 2 ^ 32 → decoded word ≡ Some insn → StandsFor word insn
 stands_from_decoded word insn small e = subst (λ o. IfSome o (StandsFor word)) e (stands_if_decoded word small)

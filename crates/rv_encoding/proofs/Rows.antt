@@ -10,9 +10,10 @@ use Rattle.std.proofs.lemmas.Int.{ints}
 use Rattle.std.proofs.lemmas.List.{get_or_default}
 use Rattle.std.proofs.lemmas.List.Elements.{All-contains}
 use Rattle.std.proofs.lemmas.Nat.Bits.{same_from_bits_below}
-use Rattle.rv_insn.specs.Encoding.{Holds, number_at, span, fixed, signed, Field, field_of, Row}
+use Rattle.rv_insn.specs.Encoding.{Holds, number_at, span, fixed, in_parts, signed, Field, field_of, Row}
 use Rattle.rv_insn.specs.Encoding.Field.{Unsigned, Signed}
-use Rattle.rv_insn.specs.Table.{table, r_type, i_type, s_type, b_type, u_type, j_type, amo_type, whole_word}
+use Rattle.rv_insn.specs.VectorTable.{vector_table}
+use Rattle.rv_insn.specs.Table.{table, scalar_table, r_type, i_type, s_type, b_type, u_type, j_type, amo_type, whole_word}
 use Rattle.rv_insn.specs.Meaning.{fields_of, Means}
 use Rattle.rv_insn.specs.declared.instructions.Insn.{Insn}
 use Rattle.rv_encoding.proofs.Bits.{number_at-lt}
@@ -40,15 +41,15 @@ covers zero row = true
 covers (suc place) row = (is_fixed place row.pairs || list_any (is_read place) row.fields) && covers place row
 
 pub names_apart : pairs_pass are_named_apart table ≡ true
-unfolding table r_type i_type s_type b_type u_type j_type amo_type whole_word
+unfolding table scalar_table vector_table r_type i_type s_type b_type u_type j_type amo_type whole_word
 names_apart = refl
 
 pub bits_apart : pairs_pass are_apart table ≡ true
-unfolding table span fixed r_type i_type s_type b_type u_type j_type amo_type whole_word
+unfolding table scalar_table vector_table in_parts span fixed r_type i_type s_type b_type u_type j_type amo_type whole_word
 bits_apart = refl
 
 pub all_covered : list_all (covers 32) table ≡ true
-unfolding table span fixed r_type i_type s_type b_type u_type j_type amo_type whole_word
+unfolding table scalar_table vector_table in_parts span fixed r_type i_type s_type b_type u_type j_type amo_type whole_word
 all_covered = refl
 
 -- ---- the laws of the table

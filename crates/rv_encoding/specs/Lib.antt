@@ -1,3 +1,4 @@
 pub mod Decoding
 pub mod Formats
 pub mod Operations
+pub mod VectorOperations

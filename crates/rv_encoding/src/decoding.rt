@@ -11,6 +11,7 @@ use crate::fields::{
 };
 use crate::keys::{alu_imm_op, alu_op, branch_op, load_op, shift_op, store_op};
 use crate::opcodes;
+use crate::vector_decoding::vector;
 use rv_insn::Insn;
 
 fn branch(word: u32) -> Option<Insn>
@@ -164,7 +165,7 @@ fn decode_by_opcode(word: u32) -> Option<Insn>
         opcodes::AMO => amo(word),
         opcodes::MISC_MEM => misc_mem(word),
         opcodes::SYSTEM => system(word),
-        _ => None,
+        _ => vector(word),
     }
 }
 

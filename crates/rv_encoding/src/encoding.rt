@@ -1,7 +1,8 @@
 //! Encoding: the word that means an instruction.
 
 ghost use Rattle.std.specs.Prelude.{◌≡◌, ℕ, pos, ◌^◌, ◌<◌, [], ◌∷◌};
-ghost use Rattle.rv_insn.specs.Meaning.{Means, bit_of};
+ghost use Rattle.rv_insn.specs.Meaning.{Means};
+ghost use Rattle.rv_insn.specs.Encoding.{bit_of};
 ghost use Rattle.rv_insn.specs.Table.{r_type, i_type, s_type, b_type, u_type, j_type, amo_type, whole_word};
 ghost use Rattle.rv_encoding.specs.Formats.{Stands, StandsFor};
 
@@ -11,6 +12,7 @@ use crate::keys::{
 };
 use crate::opcodes;
 use crate::packing::{digits_12, digits_20, pack_b, pack_i, pack_j, pack_r, pack_s, pack_u};
+use crate::vector_encoding::vector_word;
 use rv_insn::{BranchOffset, Imm12, Imm20, Insn, JumpOffset, Reg, ShiftAmount};
 
 #[tactic(auto, using(crate::proofs::Formats::r_made), unfolding(crate::specs::Decoding::rd_of, crate::specs::Decoding::rs1_of, crate::specs::Decoding::rs2_of))]
@@ -179,6 +181,7 @@ fn word_of(insn: &Insn) -> u32
         Insn::Fence => fixed_word(opcodes::FENCE),
         Insn::Ecall => fixed_word(opcodes::ECALL),
         Insn::Ebreak => fixed_word(opcodes::EBREAK),
+        Insn::Vector(insn) => vector_word(insn),
     }
 }
 

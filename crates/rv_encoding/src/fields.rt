@@ -2,9 +2,11 @@
 
 ghost use Rattle.std.specs.Prelude.{◌≡◌, ◌+◌, ◌*◌, ◌/◌, ◌%◌, ◌^◌, ◌<◌, pos, negsuc, ◌≤ℤ◌};
 ghost use Rattle.rv_insn.specs.Encoding.{signed};
-ghost use Rattle.rv_encoding.specs.Decoding.{part, rd_of, rs1_of, rs2_of, i_immediate_of, s_immediate_of, b_offset_of, u_immediate_of, j_offset_of, flag_of};
+ghost use Rattle.rv_encoding.specs.Decoding.{part, rd_of, rs1_of, rs2_of, i_immediate_of, s_immediate_of, b_offset_of, u_immediate_of, j_offset_of, vector_immediate_of, vtype10_of, vtype11_of, flag_of};
 
-use rv_insn::{BranchOffset, Imm12, Imm20, JumpOffset, Reg, ShiftAmount};
+use rv_insn::{
+    BranchOffset, Imm5, Imm12, Imm20, JumpOffset, Length5, Reg, ShiftAmount, VReg, Vtype10, Vtype11,
+};
 
 /// Bits 6 to 0.
 pub fn opcode(word: u32) -> u32
@@ -174,4 +176,93 @@ pub fn j_offset(word: u32) -> JumpOffset
     ensures { result ≡ j_offset_of word }
 {
     JumpOffset::new(signed_of_20(j_digits(word))).unwrap()
+}
+
+/// Bits 31 to 26.
+pub fn funct6(word: u32) -> u32
+    ensures { result ≡ part word 26 6 }
+{
+    word >> 26
+}
+
+/// So many bits, from the bit `low` up.
+pub fn bits(word: u32, low: u32, count: u32) -> u32
+    requires low { low < 32 }
+    requires count { count < 32 }
+    ensures { result ≡ part word low count }
+{
+    (word >> low) % (1 << count)
+}
+
+// Five bits, from the bit `low` up, name a vector register.
+fn vector_register(word: u32, low: u32) -> VReg
+    requires { low < 32 }
+    ensures { result ≡ part word low 5 }
+{
+    VReg::new((word >> low & 31) as u8).unwrap()
+}
+
+/// The vector destination, in bits 11 to 7; of a store, what is stored.
+#[tactic(auto, unfolding(crate::specs::Decoding::rd_of))]
+pub fn vd(word: u32) -> VReg
+    ensures { result ≡ rd_of word }
+{
+    vector_register(word, 7)
+}
+
+/// The vector source in bits 19 to 15.
+#[tactic(auto, unfolding(crate::specs::Decoding::rs1_of))]
+pub fn vs1(word: u32) -> VReg
+    ensures { result ≡ rs1_of word }
+{
+    vector_register(word, 15)
+}
+
+/// The vector source in bits 24 to 20.
+#[tactic(auto, unfolding(crate::specs::Decoding::rs2_of))]
+pub fn vs2(word: u32) -> VReg
+    ensures { result ≡ rs2_of word }
+{
+    vector_register(word, 20)
+}
+
+/// The signed immediate in bits 19 to 15.
+#[tactic(auto, unfolding(crate::specs::Decoding::vector_immediate_of))]
+pub fn vector_immediate(word: u32) -> Imm5
+    ensures { result ≡ vector_immediate_of word }
+{
+    let value = (word >> 15 & 31) as i32;
+    Imm5::new(if value < 16 { value } else { value - 32 }).unwrap()
+}
+
+/// The amount of a vector shift, in bits 19 to 15.
+#[tactic(auto, unfolding(crate::specs::Decoding::rs1_of))]
+pub fn vector_amount(word: u32) -> ShiftAmount
+    ensures { result ≡ rs1_of word }
+{
+    ShiftAmount::new((word >> 15 & 31) as u8).unwrap()
+}
+
+/// The number of elements that vsetivli asks for, in bits 19 to 15.
+#[tactic(auto, unfolding(crate::specs::Decoding::rs1_of))]
+pub fn length(word: u32) -> Length5
+    ensures { result ≡ rs1_of word }
+{
+    Length5::new(word >> 15 & 31).unwrap()
+}
+
+/// The vtype of vsetivli, in bits 29 to 20.
+#[tactic(auto, unfolding(crate::specs::Decoding::vtype10_of))]
+pub fn vtype10(word: u32) -> Vtype10
+    ensures { result ≡ vtype10_of word }
+{
+    Vtype10::new(word >> 20 & 0x3ff).unwrap()
+}
+
+/// The vtype of vsetvli, in bits 30 to 20.
+#[tactic(auto, unfolding(crate::specs::Decoding::vtype11_of))]
+pub fn vtype11(word: u32) -> Vtype11
+    ensures { result ≡ vtype11_of word }
+{
+    Vtype11::new(word >> 20 & 0x7ff).unwrap()
 }

@@ -21,6 +21,11 @@ mod opcodes;
 mod packing;
 #[cfg(test)]
 mod tests;
+mod vector_decoding;
+mod vector_encoding;
+mod vector_keys;
+#[cfg(test)]
+mod vector_tests;
 
 pub use crate::decoding::decode;
 pub use crate::encoding::encode;

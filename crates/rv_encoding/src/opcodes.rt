@@ -5,17 +5,23 @@ pub const LOAD: u32 = 0b000_0011;
 
 pub const OP_IMM: u32 = 0b001_0011;
 
+pub const LOAD_VECTOR: u32 = 0b000_0111;
+
 pub const MISC_MEM: u32 = 0b000_1111;
 
 pub const AUIPC: u32 = 0b001_0111;
 
 pub const STORE: u32 = 0b010_0011;
 
+pub const STORE_VECTOR: u32 = 0b010_0111;
+
 pub const AMO: u32 = 0b010_1111;
 
 pub const OP: u32 = 0b011_0011;
 
 pub const LUI: u32 = 0b011_0111;
+
+pub const OP_V: u32 = 0b101_0111;
 
 pub const BRANCH: u32 = 0b110_0011;
 

@@ -3,7 +3,7 @@
 //! These functions know nothing of instructions, which keeps their goals to plain arithmetic.
 
 ghost use Rattle.std.specs.Prelude.{◌≡◌, ◌+◌, ◌*◌, ◌/◌, ◌%◌, ◌^◌, ◌<◌, pos, negsuc, ◌≤ℤ◌};
-ghost use Rattle.rv_insn.specs.Encoding.{signed};
+ghost use Rattle.rv_insn.specs.Encoding.{signed, bit_of};
 ghost use Rattle.rv_encoding.specs.Decoding.{part};
 
 /// The twelve digits that spell a number from -2048 to 2047.
@@ -134,4 +134,39 @@ pub fn pack_j(opcode: u32, rd: u32, halves: u32) -> u32
         | (halves >> 10 & 1) << 20
         | (halves & 1023) << 21
         | (halves >> 19) << 31
+}
+
+/// The five digits that spell a number from -16 to 15.
+pub fn digits_5(value: i32) -> u32
+    requires low { negsuc 15 ≤ℤ value }
+    requires high { value ≤ℤ pos 15 }
+    ensures in_range { result < 2 ^ 5 }
+    ensures spelled { value ≡ signed 5 result }
+{
+    if value < 0 {
+        (value + 32) as u32
+    } else {
+        value as u32
+    }
+}
+
+/// The vector formats: the R format with the mask bit below funct6. In loads and stores funct6 has the
+/// addressing mode.
+pub fn pack_v(opcode: u32, vd: u32, funct3: u32, vs1: u32, vs2: u32, vm: bool, funct6: u32) -> u32
+    requires opcode { opcode < 2 ^ 7 }
+    requires vd { vd < 2 ^ 5 }
+    requires funct3 { funct3 < 2 ^ 3 }
+    requires vs1 { vs1 < 2 ^ 5 }
+    requires vs2 { vs2 < 2 ^ 5 }
+    requires funct6 { funct6 < 2 ^ 6 }
+    ensures opcode { part result 0 7 ≡ opcode }
+    ensures vd { vd ≡ part result 7 5 }
+    ensures funct3 { part result 12 3 ≡ funct3 }
+    ensures vs1 { vs1 ≡ part result 15 5 }
+    ensures vs2 { vs2 ≡ part result 20 5 }
+    ensures vm { bit_of vm ≡ part result 25 1 }
+    ensures funct6 { part result 26 6 ≡ funct6 }
+{
+    let mask = if vm { 1 } else { 0 };
+    pack_r(opcode, vd, funct3, vs1, vs2, funct6 << 1 | mask)
 }

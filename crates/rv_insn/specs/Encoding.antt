@@ -1,6 +1,6 @@
 -- Rows of an instruction table: which bits of a word are fixed, and where its fields stand.
 -- RISC-V Unprivileged ISA 20191213, sections 2.2 "Base Instruction Formats" and 2.3 "Immediate Encoding Variants".
-use Rattle.std.specs.Prelude.{◌≡◌, ℕ, ◌+◌, ◌-◌, ◌*◌, ◌/◌, ◌%◌, ◌^◌, ℤ, pos, ◌-ℤ◌, List, [], ◌∷◌, length, cond, nat_lt}
+use Rattle.std.specs.Prelude.{◌≡◌, ℕ, ◌+◌, ◌-◌, ◌*◌, ◌/◌, ◌%◌, ◌^◌, ℤ, pos, ◌-ℤ◌, List, [], ◌∷◌, ◌++◌, length, cond, nat_lt, Bool}
 use Rattle.std.proofs.Common.{zero, suc}
 use Rattle.std.specs.Int.{bit_at}
 
@@ -18,6 +18,10 @@ number_at word (place ∷ places) = bit_at word place + 2 * number_at word place
 abbrev pub signed : ℕ → ℕ → ℤ
 signed digits n = cond (nat_lt n (2 ^ (digits - 1))) (pos n) (pos n -ℤ pos (2 ^ digits))
 
+-- a flag as a digit
+abbrev pub bit_of : Bool → ℕ
+bit_of b = cond b 1 0
+
 -- so many positions from `low` upwards
 unfoldable pub span : ℕ → ℕ → List ℕ
 span low zero = []
@@ -27,6 +31,11 @@ span low (suc count) = low ∷ span (low + 1) count
 unfoldable pub fixed : List ℕ → ℕ → List (ℕ × ℕ)
 fixed [] value = []
 fixed (place ∷ places) value = (place, value % 2) ∷ fixed places (value / 2)
+
+-- the pairs that put numbers at spans of positions: each is a lowest position, a count of digits and a number
+unfoldable pub in_parts : List (ℕ × ℕ × ℕ) → List (ℕ × ℕ)
+in_parts [] = []
+in_parts (p ∷ parts) = fixed (span p.0 p.1) p.2 ++ in_parts parts
 
 -- where a field's digits stand, the lowest first, and whether the highest counts negative
 pub data Field : Type 0 where

@@ -1,11 +1,12 @@
 -- What it is for a word to mean an instruction, by the instruction table, which is chapter 24 of the RISC-V
--- Unprivileged ISA 20191213.
-use Rattle.std.specs.Prelude.{◌≡◌, ℕ, ℤ, pos, Bool, cond, List, [], ◌∷◌, map, codes}
+-- Unprivileged ISA 20191213 and chapter 19 of the Vector Extension 1.0.
+use Rattle.std.specs.Prelude.{◌≡◌, ℕ, ℤ, pos, List, [], ◌∷◌, map, codes}
 use Rattle.std.specs.List.{Contains}
-use Rattle.rv_insn.specs.Encoding.{Holds, Row, field_of}
+use Rattle.rv_insn.specs.Encoding.{Holds, Row, field_of, bit_of}
 use Rattle.rv_insn.specs.Table.{table}
+use Rattle.rv_insn.specs.VectorMeaning.{vector_name_of, vector_fields_of}
 use Rattle.rv_insn.specs.declared.instructions.Insn.{Insn}
-use Rattle.rv_insn.specs.declared.instructions.Insn.TheVariants.{Lui, Auipc, Jal, Jalr, Branch, Load, Store, AluImm, Shift, Alu, AmoaddW, Fence, Ecall, Ebreak}
+use Rattle.rv_insn.specs.declared.instructions.Insn.TheVariants.{Lui, Auipc, Jal, Jalr, Branch, Load, Store, AluImm, Shift, Alu, AmoaddW, Fence, Ecall, Ebreak, Vector}
 use Rattle.rv_insn.specs.declared.operations.BranchOp.{BranchOp}
 use Rattle.rv_insn.specs.declared.operations.BranchOp.TheVariants as branches
 use Rattle.rv_insn.specs.declared.operations.LoadOp.{LoadOp}
@@ -89,11 +90,9 @@ name_of (AmoaddW rd rs1 rs2 aq rl) = codes "amoadd.w"
 name_of Fence = codes "fence"
 name_of Ecall = codes "ecall"
 name_of Ebreak = codes "ebreak"
+name_of (Vector insn) = vector_name_of insn
 
 -- ---- the numbers in its fields, in the order of its row
-
-abbrev pub bit_of : Bool → ℕ
-bit_of b = cond b 1 0
 
 abbrev pub fields_of : Insn → List ℤ
 fields_of (Lui rd imm) = pos rd ∷ pos imm ∷ []
@@ -110,6 +109,7 @@ fields_of (AmoaddW rd rs1 rs2 aq rl) = pos rd ∷ pos rs1 ∷ pos rs2 ∷ pos (b
 fields_of Fence = []
 fields_of Ecall = []
 fields_of Ebreak = []
+fields_of (Vector insn) = vector_fields_of insn
 
 -- Some row of the table has the instruction's name, its fixed pairs hold in the word, and the
 -- instruction's fields are the numbers that stand at the row's places.

@@ -5,6 +5,7 @@
 use Rattle.std.specs.Prelude.{ℕ, List, [], ◌∷◌, ◌++◌, codes}
 use Rattle.rv_insn.specs.Encoding.{span, fixed, Field, Row}
 use Rattle.rv_insn.specs.Encoding.Field.{Unsigned, Signed}
+use Rattle.rv_insn.specs.VectorTable.{vector_table}
 
 -- ---- the fields of the formats, each by its positions from the lowest digit up
 
@@ -96,8 +97,8 @@ whole_word name word = record { name = name; pairs = fixed (span 0 32) word; fie
 
 -- ---- the table
 
-unfoldable pub table : List Row
-table =
+unfoldable pub scalar_table : List Row
+scalar_table =
     u_type (codes "lui") 0b0110111 ∷
     u_type (codes "auipc") 0b0010111 ∷
     j_type (codes "jal") 0b1101111 ∷
@@ -148,3 +149,7 @@ table =
     whole_word (codes "ecall") 0x00000073 ∷
     whole_word (codes "ebreak") 0x00100073 ∷
     []
+
+-- the scalar rows, and then the vector rows
+unfoldable pub table : List Row
+table = scalar_table ++ vector_table

@@ -217,3 +217,160 @@ impl ShiftAmount {
         self.value
     }
 }
+
+/// A signed number of 5 bits, -16 to 15: the immediate of vector instructions.
+#[derive(Clone, Copy, Debug, PartialEq, Eq)]
+pub struct Imm5 {
+    value: i32,
+}
+
+impl Model for Imm5 {
+    ghost use Rattle.std.specs.Prelude.{ℤ, pos, negsuc, ◌≤ℤ◌};
+
+    ghost Value = { ℤ };
+
+    ghost view = { λ imm. imm.value };
+
+    ghost invariant = { λ imm. (negsuc 15 ≤ℤ imm.value) × (imm.value ≤ℤ pos 15) };
+
+    ghost inverse = { λ z. record { value = z } };
+}
+
+impl Imm5 {
+    /// The immediate of a number from -16 to 15, and `None` for any other number.
+    pub fn new(value: i32) -> Option<Imm5>
+        ensures { SomeIff result ((negsuc 15 ≤ℤ value) × (value ≤ℤ pos 15)) value }
+    {
+        if value >= -16 && value <= 15 {
+            Some(Imm5 { value })
+        } else {
+            None
+        }
+    }
+
+    /// The number itself.
+    pub fn value(self) -> i32
+        ensures value { result ≡ self }
+        ensures low { negsuc 15 ≤ℤ result }
+        ensures high { result ≤ℤ pos 15 }
+    {
+        self.value
+    }
+}
+
+/// How many elements `vsetivli` asks for, 0 to 31.
+#[derive(Clone, Copy, Debug, PartialEq, Eq)]
+pub struct Length5 {
+    value: u32,
+}
+
+impl Model for Length5 {
+    ghost use Rattle.std.specs.Prelude.{ℕ, ◌<◌, ◌^◌};
+
+    ghost Value = { ℕ };
+
+    ghost view = { λ v. v.value };
+
+    ghost invariant = { λ v. v.value < 2 ^ 5 };
+
+    ghost inverse = { λ n. record { value = n } };
+}
+
+impl Length5 {
+    /// The value of a number below 2^5, and `None` for any other number.
+    pub fn new(value: u32) -> Option<Length5>
+        ensures { SomeIff result (value < 2 ^ 5) value }
+    {
+        if value < 1 << 5 {
+            Some(Length5 { value })
+        } else {
+            None
+        }
+    }
+
+    /// The number of elements.
+    pub fn value(self) -> u32
+        ensures value { result ≡ self }
+        ensures in_range { result < 2 ^ 5 }
+    {
+        self.value
+    }
+}
+
+/// The low 10 bits of a vtype, 0 to 1,023, which `vsetivli` carries.
+#[derive(Clone, Copy, Debug, PartialEq, Eq)]
+pub struct Vtype10 {
+    value: u32,
+}
+
+impl Model for Vtype10 {
+    ghost use Rattle.std.specs.Prelude.{ℕ, ◌<◌, ◌^◌};
+
+    ghost Value = { ℕ };
+
+    ghost view = { λ v. v.value };
+
+    ghost invariant = { λ v. v.value < 2 ^ 10 };
+
+    ghost inverse = { λ n. record { value = n } };
+}
+
+impl Vtype10 {
+    /// The value of a number below 2^10, and `None` for any other number.
+    pub fn new(value: u32) -> Option<Vtype10>
+        ensures { SomeIff result (value < 2 ^ 10) value }
+    {
+        if value < 1 << 10 {
+            Some(Vtype10 { value })
+        } else {
+            None
+        }
+    }
+
+    /// The bits as a number.
+    pub fn value(self) -> u32
+        ensures value { result ≡ self }
+        ensures in_range { result < 2 ^ 10 }
+    {
+        self.value
+    }
+}
+
+/// The low 11 bits of a vtype, 0 to 2,047, which `vsetvli` carries.
+#[derive(Clone, Copy, Debug, PartialEq, Eq)]
+pub struct Vtype11 {
+    value: u32,
+}
+
+impl Model for Vtype11 {
+    ghost use Rattle.std.specs.Prelude.{ℕ, ◌<◌, ◌^◌};
+
+    ghost Value = { ℕ };
+
+    ghost view = { λ v. v.value };
+
+    ghost invariant = { λ v. v.value < 2 ^ 11 };
+
+    ghost inverse = { λ n. record { value = n } };
+}
+
+impl Vtype11 {
+    /// The value of a number below 2^11, and `None` for any other number.
+    pub fn new(value: u32) -> Option<Vtype11>
+        ensures { SomeIff result (value < 2 ^ 11) value }
+    {
+        if value < 1 << 11 {
+            Some(Vtype11 { value })
+        } else {
+            None
+        }
+    }
+
+    /// The bits as a number.
+    pub fn value(self) -> u32
+        ensures value { result ≡ self }
+        ensures in_range { result < 2 ^ 11 }
+    {
+        self.value
+    }
+}

@@ -3,6 +3,7 @@
 use crate::immediates::{BranchOffset, Imm12, Imm20, JumpOffset, ShiftAmount};
 use crate::operations::{AluImmOp, AluOp, BranchOp, LoadOp, ShiftOp, StoreOp};
 use crate::registers::Reg;
+use crate::vector_instructions::VectorInsn;
 
 /// An instruction with all the fields of its row of the instruction table.
 #[derive(Clone, Copy)]
@@ -86,4 +87,6 @@ pub enum Insn {
     Ecall,
     /// `ebreak`: a trap.
     Ebreak,
+    /// A vector instruction.
+    Vector(VectorInsn),
 }

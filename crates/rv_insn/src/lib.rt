@@ -13,9 +13,18 @@ pub mod instructions;
 pub mod operations;
 pub mod outcomes;
 pub mod registers;
+pub mod vector_instructions;
+pub mod vector_operations;
 
-pub use crate::immediates::{BranchOffset, Imm12, Imm20, JumpOffset, ShiftAmount};
+pub use crate::immediates::{
+    BranchOffset, Imm5, Imm12, Imm20, JumpOffset, Length5, ShiftAmount, Vtype10, Vtype11,
+};
 pub use crate::instructions::Insn;
 pub use crate::operations::{AluImmOp, AluOp, BranchOp, LoadOp, ShiftOp, StoreOp};
 pub use crate::outcomes::{Outcome, Trap};
 pub use crate::registers::{Reg, VReg};
+pub use crate::vector_instructions::VectorInsn;
+pub use crate::vector_operations::{
+    ArithmeticViOp, ArithmeticVvOp, ArithmeticVxOp, CompareViOp, CompareVvOp, CompareVxOp,
+    ElementWidth, MultiplyOp, ReductionOp, ShiftViOp,
+};

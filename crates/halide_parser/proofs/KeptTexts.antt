@@ -1,0 +1,136 @@
+-- A text that is read names a pipeline that keeps the rules.
+use Rattle.std.proofs.Common.{◌≡◌, ℕ, ◌+◌, false, List, [], ◌∷◌, length, Option, Some, None, Result, Ok, Err, refl, subst}
+use Rattle.std.specs.declared.alloc.Global.{Global}
+use Rattle.line_text.specs.Reading.{◌>>=◌}
+use Rattle.line_text.specs.Lines.{lines_of}
+use Rattle.line_text.specs.LineReading.{located, taken_from}
+use Rattle.halide_pipeline.specs.declared.pipelines.Pipeline.{Pipeline}
+use Rattle.halide_pipeline.specs.declared.definitions.Output.{Output}
+use Rattle.halide_pipeline.specs.WellFormed.{IsWellFormed}
+use Rattle.halide_syntax.specs.declared.faults.ParseFault.{ParseFault}
+use Rattle.halide_syntax.specs.declared.tokens.Token.{Token}
+use Rattle.halide_syntax.specs.declared.tokens.Token.TheVariants as t
+use Rattle.halide_syntax.specs.declared.lines.Line.{Line}
+use Rattle.halide_syntax.specs.declared.lines.Line.TheVariants as line
+use Rattle.halide_syntax.specs.declared.lines.Change.{Change}
+use Rattle.halide_syntax.specs.Algebra.{writing}
+use Rattle.halide_syntax.specs.Grammar.{Written, spell}
+use Rattle.halide_syntax.specs.LineGrammar.{spell_line, spell_index, spell_argument, spell_bounds, spell_second_bounds}
+use Rattle.halide_syntax.specs.LineReading.{read_line}
+use Rattle.halide_syntax.specs.Tokens.{tokens_of}
+use Rattle.halide_syntax.proofs.LinesBack.{line_written}
+use Rattle.halide_parser.specs.declared.readers.Reader.{Reader}
+use Rattle.halide_parser.specs.Meaning.{applied}
+use Rattle.halide_parser.specs.Parsing.{judged, judged_line, settled, settled_as, taken, start, finished, finished_as, parsed}
+use Rattle.halide_parser.specs.Rules.{fault_of, has_large}
+use Rattle.halide_parser.proofs.Faultless.{faultless, IsFaultless}
+use Rattle.halide_parser.proofs.Keeping.{IsKept}
+use Rattle.halide_parser.proofs.KeptLines.{input_keeps, func_keeps, output_keeps}
+use Rattle.halide_parser.proofs.KeptUpdates.{update_keeps, IsSmallChange, IsSmallIndex}
+use Rattle.halide_parser.proofs.Numbers.{AreSmall, IsSmall, small}
+
+-- ---- numbers
+
+small_definition : (name first : List ℕ) (second : Option (List ℕ)) (right : Written) → AreSmall (t.Func ∷ t.Name name ∷ t.Open ∷ t.Name first ∷ spell_argument second (t.Close ∷ t.Assign ∷ spell right [])) → IsSmall right
+small_definition name first None right e = (small right [] e).0
+small_definition name first (Some second) right e = (small right [] e).0
+
+small_index : (index : Option Written) (rest : List Token) → AreSmall (spell_index index rest) → IsSmallIndex index × AreSmall rest
+small_index None rest e = (tt, e)
+small_index (Some index) rest e = small index rest e
+
+small_change : (u : Change Written) → AreSmall (spell_line (line.Update u)) → IsSmallChange u
+small_change u e =
+    let behind = t.Over ∷ spell_bounds u.first (spell_second_bounds u.second) in
+    let assigned = t.Close ∷ t.Assign ∷ spell u.right behind in
+    let x = small u.left_x (spell_index u.left_y assigned) e in
+    let y = small_index u.left_y assigned x.1 in
+    let right = small u.right behind y.1 in
+    record { left_x = x.0; left_y = y.0; right = right.0 }
+
+-- ---- a line
+
+line_keeps : (reader : Reader) (tokens : List Token) (w : Line Written) → tokens ≡ spell_line w → IsKept reader → AreSmall tokens → IsFaultless reader tokens (judged_line reader w) → IsKept (applied reader (judged_line reader w))
+line_keeps reader tokens line.Blank is kept few right = kept
+line_keeps reader tokens (line.Input e) is kept few right = input_keeps reader tokens e kept right
+line_keeps reader tokens (line.Func d) is kept few right = func_keeps reader tokens d kept (small_definition d.name d.first_argument d.second_argument d.right (subst AreSmall is few)) right
+line_keeps reader tokens (line.Update u) is kept few right = update_keeps reader tokens u kept (small_change u (subst AreSmall is few)) right
+line_keeps reader tokens (line.Output e) is kept few right = output_keeps reader tokens e kept right
+
+are_small : (tokens : List Token) → has_large tokens ≡ false → AreSmall tokens
+unfolding has_large
+are_small tokens e = e
+
+by_fault : (reader : Reader) (tokens : List Token) (w : Line Written) (fault : Option ParseFault) (next : Reader) → tokens ≡ spell_line w → IsKept reader → fault_of reader tokens (judged_line reader w) ≡ fault
+    → settled_as reader (judged_line reader w) fault ≡ Ok next → IsKept next
+by_fault reader tokens w (Some fault) next is kept faulty e = cc
+by_fault reader tokens w None next is kept faulty e =
+    let right = faultless reader tokens (judged_line reader w) faulty in
+    let same : applied reader (judged_line reader w) ≡ next = cc in
+    subst IsKept same (line_keeps reader tokens w is kept (are_small tokens right.small) right)
+
+by_written : (reader : Reader) (tokens : List Token) (given : Result (Line Written) ParseFault) (next : Reader) → read_line writing tokens ≡ given → IsKept reader
+    → ((given >>= λ w. Ok (judged_line reader w)) >>= λ l. settled reader tokens l) ≡ Ok next → IsKept next
+by_written reader tokens (Err fault) next is kept e = cc
+by_written reader tokens (Ok w) next is kept e =
+    by_fault reader tokens w (fault_of reader tokens (judged_line reader w)) next (line_written tokens w is).1 kept refl e
+
+by_tokens : (reader : Reader) (given : Result (List Token) ParseFault) (next : Reader) → IsKept reader → (given >>= λ tokens. judged reader tokens >>= λ l. settled reader tokens l) ≡ Ok next → IsKept next
+unfolding judged
+by_tokens reader (Err fault) next kept e = cc
+by_tokens reader (Ok tokens) next kept e = by_written reader tokens (read_line writing tokens) next refl kept e
+
+taken_keeps : (reader : Reader) (line : List ℕ) (next : Reader) → IsKept reader → taken reader line ≡ Ok next → IsKept next
+unfolding taken
+taken_keeps reader line next kept e = by_tokens reader (tokens_of line) next kept e
+
+-- ---- all lines
+
+by_taken : (given : Result Reader ParseFault) (number : ℕ) (lines : List (List ℕ)) (last : Reader) → ((next : Reader) → given ≡ Ok next → IsKept next)
+    → ((next : Reader) → IsKept next → taken_from taken (number + 1) next lines ≡ Ok last → IsKept last) → located number given (λ next. taken_from taken (number + 1) next lines) ≡ Ok last → IsKept last
+by_taken (Err fault) number lines last one others e = cc
+by_taken (Ok next) number lines last one others e = others next (one next refl) e
+
+lines_keep : (number : ℕ) (reader : Reader) (lines : List (List ℕ)) (last : Reader) → IsKept reader → taken_from taken number reader lines ≡ Ok last → IsKept last
+unfolding taken_from
+lines_keep number reader [] last kept e = let same : reader ≡ last = cc in subst IsKept same kept
+lines_keep number reader (line ∷ lines) last kept e =
+    by_taken (taken reader line) number lines last (λ next is. taken_keeps reader line next kept is) (λ next is. lines_keep (number + 1) next lines last is) e
+
+start_kept : (alloc : Global) (text : List ℕ) → IsKept (start alloc text)
+start_kept alloc text = record {
+  few_inputs = refl;
+  few_funcs = refl;
+  inputs = λ place input found. cc;
+  funcs = λ place func found. cc;
+  names = λ name source found. cc;
+  last = λ place is. cc;
+  output = λ o is. cc;
+}
+
+-- ---- the whole
+
+by_output : (count : ℕ) (reader : Reader) (output : Option Output) (pipeline : Pipeline) → reader.output ≡ output → IsKept reader → finished_as count reader output ≡ Ok pipeline → IsWellFormed pipeline
+by_output count reader None pipeline is kept e = cc
+by_output count reader (Some o) pipeline is kept e =
+    let drawn = kept.output o is in
+    let same : record { names = reader.names; inputs = reader.inputs; funcs = reader.funcs; output = o } ≡ pipeline = cc in
+    subst IsWellFormed same (record {
+      few_inputs = kept.few_inputs;
+      few_funcs = kept.few_funcs;
+      inputs = kept.inputs;
+      funcs = kept.funcs;
+      names = kept.names;
+      output = drawn.output;
+      drawn = drawn.drawn;
+      dimensions = drawn.dimensions;
+    })
+
+by_reader : (count : ℕ) (given : Result Reader (ℕ × ParseFault)) (pipeline : Pipeline) → ((reader : Reader) → given ≡ Ok reader → IsKept reader) → (given >>= λ reader. finished count reader) ≡ Ok pipeline → IsWellFormed pipeline
+by_reader count (Err fault) pipeline kept e = cc
+by_reader count (Ok reader) pipeline kept e = by_output count reader reader.output pipeline refl (kept reader refl) e
+
+pub parsed_keeps : (alloc : Global) (text : List ℕ) (pipeline : Pipeline) → parsed alloc text ≡ Ok pipeline → IsWellFormed pipeline
+unfolding parsed
+parsed_keeps alloc text pipeline e =
+    by_reader (length (lines_of text)) (taken_from taken 1 (start alloc text) (lines_of text)) pipeline (λ reader is. lines_keep 1 (start alloc text) (lines_of text) reader (start_kept alloc text) is) e

@@ -1,0 +1,209 @@
+-- An update that breaks no rule keeps the rules of a pipeline.
+use Rattle.std.proofs.Common.{◌≡◌, ℕ, zero, suc, ◌-◌, ◌+◌, ◌≤◌, ◌<◌, inl, inr, Bool, true, false, cond, not, List, length, Option, Some, None, refl, sym, ap, subst, ◌∙◌, arith}
+use Rattle.std.specs.Prelude.{◌==◌, ◌&&◌, ◌||◌, ◌^◌, ◌%◌, nat_le, nat_lt, slice_get, is_some}
+use Rattle.std.proofs.Math.Nat.{mod-eq_of_lt}
+use Rattle.std.proofs.lemmas.Bool.{and_from, or_parts, or_left, or_right, not-false, ltb-false, le-leb, eqb-true}
+use Rattle.halide_pipeline.specs.declared.definitions.Func.{Func}
+use Rattle.halide_pipeline.specs.declared.definitions.Update.{Update}
+use Rattle.halide_pipeline.specs.declared.expressions.Variable.{Variable}
+use Rattle.halide_pipeline.specs.Definitions.{dimensions}
+use Rattle.halide_pipeline.specs.Words.{subtract}
+use Rattle.halide_pipeline.specs.WellFormed as w
+use Rattle.halide_pipeline.specs.WellFormed.{IsFunc, IsUpdate, is_read, is_update_variable, keeps, keeps_index, is_minimum, is_second_minimum, is_box, is_width, is_height}
+use Rattle.halide_syntax.specs.declared.lines.Bounds.{Bounds}
+use Rattle.halide_syntax.specs.declared.lines.Change.{Change}
+use Rattle.halide_syntax.specs.declared.lines.Line.TheVariants as line
+use Rattle.halide_syntax.specs.declared.tokens.Token.{Token}
+use Rattle.halide_syntax.specs.Algebra.{made}
+use Rattle.halide_syntax.specs.Grammar.{Written}
+use Rattle.halide_syntax.specs.LineGrammar.{made_index}
+use Rattle.halide_parser.specs.declared.judging.Judged.{Judged}
+use Rattle.halide_parser.specs.declared.readers.Reader.{Reader}
+use Rattle.halide_parser.specs.declared.scopes.Scope.{Scope}
+use Rattle.halide_parser.specs.Judging as j
+use Rattle.halide_parser.specs.Meaning.{known_scope, change_scope, change_scope_of, bounds_name, tree_of, second_tree, reduction_of, second_reduction, update_of, with_update, applied}
+use Rattle.halide_parser.specs.Readers as rd
+use Rattle.halide_parser.specs.Rules as r
+use Rattle.halide_parser.specs.Scopes.{is_named, variable}
+use Rattle.halide_parser.proofs.Faultless.{IsFaultless}
+use Rattle.halide_parser.proofs.Growing.{get-last, updates_grow, func_grows, update_grows, source-update, get-update, length-update, updated}
+use Rattle.halide_parser.proofs.Keeping.{IsKept, IsNamed, may, may_before, box, named, none_of_three}
+use Rattle.halide_parser.proofs.KeptLines.{picked, two_arguments, no_output, one_more}
+use Rattle.halide_parser.proofs.KeptTrees.{Clean, clean_parts, sound, tree_kept}
+use Rattle.halide_parser.proofs.Numbers.{IsSmall}
+
+-- ---- variables
+
+second_there : (second : Option Bounds) (name : List ℕ) → is_named (bounds_name second) name ≡ true → is_some (second_reduction second) ≡ true
+second_there None name e = cc
+second_there (Some bounds) name e = refl
+
+update_known : (f : Func) (own : Option ℕ) (u : Change Written) (name : List ℕ) (v : Variable) → variable (known_scope f own u) name ≡ Some v → is_update_variable (dimensions f) (second_reduction u.second) v ≡ true
+unfolding variable
+update_known f own u name v e =
+    picked (is_update_variable (dimensions f) (second_reduction u.second)) (is_named (Some f.first_argument) name) (is_named f.second_argument name) (is_named (Some u.first.name) name) (is_named (bounds_name u.second) name) v e
+    refl (two_arguments f.second_argument name) (λ is. refl) (second_there u.second name)
+
+-- ---- reductions
+
+word_of : (is_negative : Bool) (minimum : ℕ) → nat_lt 0x1000000 minimum ≡ false → is_minimum (cond is_negative (subtract 0 minimum) minimum) ≡ true
+unfolding subtract
+word_of false minimum near = or_left (nat_le minimum 0x1000000) _ (le-leb minimum 0x1000000 (ltb-false 0x1000000 minimum near))
+word_of true zero near = refl
+word_of true (suc n) near =
+    let few : suc n ≤ 0x1000000 = ltb-false 0x1000000 (suc n) near in
+    let below : 0 + (0x100000000 - suc n) < 0x100000000 = omega arith in
+    let plain : 0 + (0x100000000 - suc n) ≡ 0x100000000 - suc n = omega arith in
+    let word : (0 + (2 ^ 32 - suc n)) % 2 ^ 32 ≡ 0x100000000 - suc n = mod-eq_of_lt below ∙ plain in
+    rw word (or_right (nat_le (0x100000000 - suc n) 0x1000000) _ (and_from (nat_le 0xff000000 (0x100000000 - suc n)) (nat_le (0x100000000 - suc n) 0xffffffff)
+    (le-leb 0xff000000 (0x100000000 - suc n) (omega (arith, few))) (le-leb (0x100000000 - suc n) 0xffffffff (omega (arith, few)))))
+
+minimum_is : (b : Bounds) → nat_lt 0x1000000 b.minimum ≡ false → is_minimum (reduction_of b).minimum ≡ true
+minimum_is b near = word_of b.is_negative b.minimum near
+
+second_minimum_is : (second : Option Bounds) → r.is_second_far second ≡ false → is_second_minimum (second_reduction second) ≡ true
+second_minimum_is None near = refl
+second_minimum_is (Some b) near = minimum_is b near
+
+box_is : (first : Bounds) (second : Option Bounds) → r.is_bad_box first.extent (r.second_extent second) ≡ false → (is_width first.extent && is_height first.extent (w.second_extent (second_reduction second))) ≡ true
+box_is first None e = let sizes = box first.extent 1 e in and_from (is_width first.extent) (is_height first.extent 1) sizes.0 sizes.1
+box_is first (Some b) e = let sizes = box first.extent b.extent e in and_from (is_width first.extent) (is_height first.extent b.extent) sizes.0 sizes.1
+
+-- ---- expressions
+
+none_of_four : (a b c d : Bool) → (a || b || c || d) ≡ false → (a ≡ false) × (b ≡ false) × (c ≡ false) × (d ≡ false)
+none_of_four true b c d e = cc
+none_of_four false true c d e = cc
+none_of_four false false true d e = cc
+none_of_four false false false true e = cc
+none_of_four false false false false e = (refl, refl, refl, refl)
+
+same_last : (last : Option ℕ) (place : ℕ) → r.same_place last (Some place) ≡ true → last ≡ Some place
+same_last None place e = cc
+same_last (Some p) place e = ap Some (eqb-true p place e)
+
+abbrev judged_change : Reader → Scope → Change Written → Change Judged
+judged_change reader scope u = record {
+  name = u.name;
+  left_x = made (j.judging reader scope) u.left_x;
+  left_y = made_index (j.judging reader scope) u.left_y;
+  right = made (j.judging reader scope) u.right;
+  first = u.first;
+  second = u.second;
+}
+
+abbrev pub IsSmallIndex : Option Written → Type 0
+IsSmallIndex None = Unit {0}
+IsSmallIndex (Some index) = IsSmall index
+
+pub record IsSmallChange (u : Change Written) : Type 0 where
+  pub left_x : IsSmall u.left_x
+  pub left_y : IsSmallIndex u.left_y
+  pub right : IsSmall u.right
+
+module _ (reader : Reader) (scope : Scope) (u : Change Written) (kept : IsKept reader) (is : IsNamed reader u.name) (scope_is : scope ≡ known_scope is.func (Some is.place) u)
+    (last : suc is.place ≡ length reader.funcs) where
+  abbrev has : Variable → Bool
+  has = is_update_variable (dimensions is.func) (second_reduction u.second)
+
+  known : (name : List ℕ) (v : Variable) → variable scope name ≡ Some v → has v ≡ true
+  known name v e = update_known is.func (Some is.place) u name v (rw scope_is at e)
+
+  own : scope.own ≡ Some is.place
+  own = ap (λ (s : Scope). s.own) scope_is
+
+  abbrev judge : Written → Judged
+  judge = made (j.judging reader scope)
+
+  left_kept : (index : Written) → IsSmall index → Clean true (judge index).marks → keeps (is_read reader.inputs reader.funcs is.place) has (tree_of (judge index).tree) ≡ true
+  left_kept index is_small clean =
+      let reads = is_read reader.inputs reader.funcs is.place in
+      tree_kept reads has (judge index).tree (sound reads has true reader scope (may_before reader scope is.place kept own last) known index is_small clean)
+
+  index_kept : (index : Option Written) → IsSmallIndex index → Clean true (r.marks_of (made_index (j.judging reader scope) index)) → (dimensions is.func == r.count_with (made_index (j.judging reader scope) index)) ≡ true
+      → keeps_index (is_read reader.inputs reader.funcs is.place) has (dimensions is.func) (second_tree (made_index (j.judging reader scope) index)) ≡ true
+  index_kept None is_small clean counts = counts
+  index_kept (Some index) is_small clean counts =
+      and_from (dimensions is.func == 2) (keeps (is_read reader.inputs reader.funcs is.place) has (tree_of (judge index).tree)) counts (left_kept index is_small clean)
+
+  right_kept : IsSmall u.right → Clean false (judge u.right).marks → keeps (is_read reader.inputs reader.funcs (suc is.place)) has (tree_of (judge u.right).tree) ≡ true
+  right_kept is_small clean =
+      let reads = is_read reader.inputs reader.funcs (length reader.funcs) in
+      let tree = tree_kept reads has (judge u.right).tree (sound reads has false reader scope (may reader scope kept) known u.right is_small clean) in
+      subst (λ (n : ℕ). keeps (is_read reader.inputs reader.funcs n) has (tree_of (judge u.right).tree) ≡ true) (sym last) tree
+
+  abbrev change : Change Judged
+  change = judged_change reader scope u
+
+  new_update : (tokens : List Token) → IsSmallChange u → IsFaultless reader tokens (line.Update change) → IsUpdate reader.inputs reader.funcs is.place (dimensions is.func) (update_of change)
+  new_update tokens is_small right =
+      let limits = none_of_four (r.is_full reader u.name) (r.exceeds change.left_x || r.second_exceeds change.left_y || r.exceeds change.right) (nat_lt 0x1000000 u.first.minimum || r.is_second_far u.second) (r.is_bad_box u.first.extent (r.second_extent u.second)) right.within in
+      let far = or_parts (nat_lt 0x1000000 u.first.minimum) (r.is_second_far u.second) limits.2 in
+      let shape = or_parts (not (r.same_place reader.last_func (rd.func_place reader u.name))) (r.is_moved change) right.shaped in
+      let moved = none_of_three (r.left_marks change).calls_own _ _ shape.1 in
+      let counts = or_parts (r.is_other_count reader u.name (r.count_with change.left_y)) (r.change_marks change).is_wrong_count right.counts in
+      let sides = or_parts (r.left_marks change).is_wrong_count change.right.marks.is_wrong_count counts.1 in
+      let left = clean_parts true change.left_x.marks (r.marks_of change.left_y) (record { counts = sides.0; own = moved.0 }) in
+      let other : not (dimensions is.func == r.count_with change.left_y) ≡ false = ap (λ (f : Option Func). r.is_other_count_of f (r.count_with change.left_y)) (sym is.func_is) ∙ counts.0 in
+      record {
+        left_x = left_kept u.left_x is_small.left_x left.0;
+        left_y = index_kept u.left_y is_small.left_y left.1 (not-false (dimensions is.func == r.count_with change.left_y) other);
+        right = right_kept is_small.right (record { counts = sides.1; own = refl });
+        minimum = minimum_is u.first far.0;
+        second_minimum = second_minimum_is u.second far.1;
+        box = box_is u.first u.second limits.3;
+      }
+
+-- ---- the Func with its update
+
+updates_of : (reader : Reader) (f : Func) (place : ℕ) (update : Update) → IsFunc reader.inputs reader.funcs place f → nat_le 4 (length f.updates) ≡ false → IsUpdate reader.inputs reader.funcs place (dimensions f) update
+    → IsFunc reader.inputs (with_update reader.funcs update) place (updated f update)
+updates_of reader f place update is few new =
+    let grows = updates_grow reader.inputs reader.funcs update in
+    let old = func_grows reader.inputs reader.funcs reader.inputs (with_update reader.funcs update) grows place f is in
+    record {
+      pure = old.pure;
+      few_updates = one_more f.updates update 4 few;
+      updates = λ at u found. elim (get-last f.updates update at u found) [
+        | inl before ↦ old.updates at u before
+        | inr last ↦ subst (λ (x : Update). IsUpdate reader.inputs (with_update reader.funcs update) place (dimensions f) x) last.1
+            (update_grows reader.inputs reader.funcs reader.inputs (with_update reader.funcs update) grows place (dimensions f) update new)
+      ];
+    }
+
+same_func : (reader : Reader) (place k : ℕ) (f g : Func) → suc place ≡ length reader.funcs → suc k ≡ length reader.funcs → slice_get reader.funcs place ≡ Some f → slice_get reader.funcs k ≡ Some g → (place ≡ k) × (f ≡ g)
+same_func reader place k f g last last' found found' =
+    let e : place ≡ k = omega (arith, last, last') in
+    let is : Some f ≡ Some g = sym found ∙ ap (slice_get reader.funcs) e ∙ found' in
+    (e, cc)
+
+pub update_keeps : (reader : Reader) (tokens : List Token) (u : Change Written) → IsKept reader → IsSmallChange u → IsFaultless reader tokens (line.Update (judged_change reader (change_scope reader u) u))
+    → IsKept (applied reader (line.Update (judged_change reader (change_scope reader u) u)))
+update_keeps reader tokens u kept is_small right =
+    let scope = change_scope reader u in
+    let change = judged_change reader scope u in
+    let update = update_of change in
+    let is = named reader u.name kept (or_parts (not (r.is_func reader u.name)) _ right.known).0 in
+    let scope_is : scope ≡ known_scope is.func (Some is.place) u = ap (λ (f : Option Func). change_scope_of f (rd.func_place reader u.name) u) is.func_is ∙ ap (λ (p : Option ℕ). known_scope is.func p u) is.place_is in
+    let shape = or_parts (not (r.same_place reader.last_func (rd.func_place reader u.name))) (r.is_moved change) right.shaped in
+    let below : reader.last_func ≡ Some is.place = same_last reader.last_func is.place (ap (r.same_place reader.last_func) (sym is.place_is) ∙ not-false (r.same_place reader.last_func (rd.func_place reader u.name)) shape.0) in
+    let last : suc is.place ≡ length reader.funcs = kept.last is.place below in
+    let new = new_update reader scope u kept is scope_is last tokens is_small right in
+    let limits = none_of_four (r.is_full reader u.name) _ _ _ right.within in
+    let few : nat_le 4 (length is.func.updates) ≡ false = ap r.is_full_of (sym is.func_is) ∙ limits.0 in
+    let whole : IsFunc reader.inputs (with_update reader.funcs update) is.place (updated is.func update) = updates_of reader is.func is.place update (kept.funcs is.place is.func is.found) few new in
+    record {
+      few_inputs = kept.few_inputs;
+      few_funcs = rw (length-update reader.funcs update) kept.few_funcs;
+      inputs = kept.inputs;
+      funcs = λ place func found. elim (get-update reader.funcs update place func found) [
+        | inl before ↦ func_grows reader.inputs reader.funcs reader.inputs (with_update reader.funcs update) (updates_grow reader.inputs reader.funcs update) place func (kept.funcs place func before.1)
+        | inr at ↦
+            let same = same_func reader is.place place is.func at.0 last at.1 is.found at.2 in
+            subst (λ (f : Func). IsFunc reader.inputs (with_update reader.funcs update) place f) (ap (λ (f : Func). updated f update) same.1 ∙ at.3)
+            (subst (λ (p : ℕ). IsFunc reader.inputs (with_update reader.funcs update) p (updated is.func update)) same.0 whole)
+      ];
+      names = λ name s found. source-update reader.inputs reader.funcs update s (kept.names name s found);
+      last = λ place at. kept.last place at ∙ sym (length-update reader.funcs update);
+      output = λ o at. absurd (no_output reader.output o right.first at);
+    }

@@ -1,0 +1,12 @@
+pub mod Faultless
+pub mod Growing
+pub mod Judgement
+pub mod Keeping
+pub mod KeptLines
+pub mod KeptTexts
+pub mod KeptTrees
+pub mod KeptUpdates
+pub mod Numbers
+pub mod PassLoop
+pub mod Updates
+pub mod Whole

@@ -1,0 +1,6 @@
+pub mod Judging
+pub mod Meaning
+pub mod Parsing
+pub mod Readers
+pub mod Rules
+pub mod Scopes

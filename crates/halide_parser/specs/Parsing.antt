@@ -1,0 +1,61 @@
+-- The pipeline that a text names, or its first faulty line and that line's least fault.
+-- This project's own.
+use Rattle.std.specs.Prelude.{ℕ, ◌+◌, Bool, nat_lt, List, [], length, Option, Some, None, Result, Ok, Err}
+use Rattle.std.specs.declared.alloc.Global.{Global}
+use Rattle.line_text.specs.Reading.{◌>>=◌}
+use Rattle.line_text.specs.Lines.{lines_of}
+use Rattle.line_text.specs.LineReading.{taken_from}
+use Rattle.halide_pipeline.specs.declared.pipelines.Pipeline.{Pipeline}
+use Rattle.halide_pipeline.specs.declared.definitions.Output.{Output}
+use Rattle.halide_syntax.specs.declared.faults.ParseFault.{ParseFault}
+use Rattle.halide_syntax.specs.declared.faults.ParseFault.TheVariants.{NoOutput}
+use Rattle.halide_syntax.specs.declared.tokens.Token.{Token}
+use Rattle.halide_syntax.specs.declared.lines.Line.{Line}
+use Rattle.halide_syntax.specs.Algebra.{writing}
+use Rattle.halide_syntax.specs.Grammar.{Written}
+use Rattle.halide_syntax.specs.LineGrammar.{made_line}
+use Rattle.halide_syntax.specs.LineReading.{read_line}
+use Rattle.halide_syntax.specs.Tokens.{tokens_of}
+use Rattle.halide_parser.specs.declared.judging.Judged.{Judged}
+use Rattle.halide_parser.specs.declared.readers.Reader.{Reader}
+use Rattle.halide_parser.specs.Judging.{judging}
+use Rattle.halide_parser.specs.Meaning.{scope_of, applied}
+use Rattle.halide_parser.specs.Rules.{fault_of}
+
+-- a line with what is known of its expressions
+abbrev pub judged_line : Reader → Line Written → Line Judged
+judged_line reader w = made_line (judging reader (scope_of reader w)) w
+
+-- the line that tokens spell, judged; a syntax fault where they spell none
+unfoldable pub judged : Reader → List Token → Result (Line Judged) ParseFault
+judged reader tokens = read_line writing tokens >>= λ w. Ok (judged_line reader w)
+
+abbrev pub settled_as : Reader → Line Judged → Option ParseFault → Result Reader ParseFault
+settled_as reader l None = Ok (applied reader l)
+settled_as reader l (Some fault) = Err fault
+
+-- the lines so far and this one, or its least fault
+abbrev pub settled : Reader → List Token → Line Judged → Result Reader ParseFault
+settled reader tokens l = settled_as reader l (fault_of reader tokens l)
+
+unfoldable pub taken : Reader → List ℕ → Result Reader ParseFault
+taken reader line = tokens_of line >>= λ tokens. judged reader tokens >>= λ l. settled reader tokens l
+
+-- a text of more than 65536 bytes is above its limit
+abbrev pub is_oversized : List ℕ → Bool
+is_oversized text = nat_lt 65536 (length text)
+
+abbrev pub start : Global → List ℕ → Reader
+start alloc text = record { alloc = alloc; is_oversized = is_oversized text; names = []; inputs = []; funcs = []; output = None; last_func = None }
+
+-- A text without an output line is faulty in the line behind its last one.
+abbrev pub finished_as : ℕ → Reader → Option Output → Result Pipeline (ℕ × ParseFault)
+finished_as count reader None = Err (count + 1, NoOutput)
+finished_as count reader (Some output) = Ok (record { names = reader.names; inputs = reader.inputs; funcs = reader.funcs; output = output })
+
+abbrev pub finished : ℕ → Reader → Result Pipeline (ℕ × ParseFault)
+finished count reader = finished_as count reader reader.output
+
+-- what a text names, or its first faulty line and that line's least fault
+unfoldable pub parsed : Global → List ℕ → Result Pipeline (ℕ × ParseFault)
+parsed alloc text = taken_from taken 1 (start alloc text) (lines_of text) >>= λ reader. finished (length (lines_of text)) reader

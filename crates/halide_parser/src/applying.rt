@@ -1,0 +1,256 @@
+//! What a faultless line adds to the lines before it.
+
+ghost use Rattle.std.specs.Prelude.{◌≡◌, IfOk, OnOk, None};
+ghost use Rattle.halide_pipeline.specs.Names.{lookup};
+ghost use Rattle.halide_parser.specs.Meaning as spec;
+
+use crate::judging::Judged;
+use crate::readers::{Reader, func, func_place};
+use crate::rules::height_of;
+use crate::scopes::Scope;
+use halide_pipeline::{Expr, Func, Input, Output, Reduction, Source, Update};
+use halide_syntax::{Bounds, Change, Definition, Extents, Line};
+use sqlite_items::Items;
+use std::alloc::{AllocError, Global};
+
+fn copied(alloc: Global, name: &Items<u8>) -> Result<Items<u8>, AllocError>
+    ensures { IfOk result (λ copy. copy ≡ name.now) }
+{
+    Items::from_slice(alloc, name.as_slice())
+}
+
+fn copied_second(alloc: Global, name: &Option<Items<u8>>) -> Result<Option<Items<u8>>, AllocError>
+    ensures { IfOk result (λ copy. copy ≡ name.now) }
+{
+    match name {
+        None => Ok(None),
+        Some(name) => Ok(Some(copied(alloc, name)?)),
+    }
+}
+
+fn copied_bounds(alloc: Global, bounds: &Option<Bounds>) -> Result<Option<Items<u8>>, AllocError>
+    ensures { IfOk result (λ name. name ≡ spec.bounds_name bounds.now) }
+{
+    match bounds {
+        None => Ok(None),
+        Some(bounds) => Ok(Some(copied(alloc, &bounds.name)?)),
+    }
+}
+
+/// The scope of an update of a name that is no Func.
+fn unknown_scope(
+    alloc: Global,
+    own: Option<usize>,
+    change: &Change<Judged>,
+) -> Result<Scope, AllocError>
+    ensures { IfOk result (λ scope. scope ≡ spec.unknown_scope own change.now) }
+{
+    Ok(Scope {
+        first_argument: None,
+        second_argument: None,
+        first_reduction: Some(copied(alloc, &change.first.name)?),
+        second_reduction: copied_bounds(alloc, &change.second)?,
+        own,
+    })
+}
+
+/// The scope of an update of this Func.
+fn known_scope(
+    alloc: Global,
+    func: &Func,
+    own: Option<usize>,
+    change: &Change<Judged>,
+) -> Result<Scope, AllocError>
+    ensures { IfOk result (λ scope. scope ≡ spec.known_scope func.now own change.now) }
+{
+    Ok(Scope {
+        first_argument: Some(copied(alloc, &func.first_argument)?),
+        second_argument: copied_second(alloc, &func.second_argument)?,
+        first_reduction: Some(copied(alloc, &change.first.name)?),
+        second_reduction: copied_bounds(alloc, &change.second)?,
+        own,
+    })
+}
+
+/// The scope of an update.
+fn change_scope(reader: &Reader, change: &Change<Judged>) -> Result<Scope, AllocError>
+    ensures { IfOk result (λ scope. scope ≡ spec.change_scope reader.now change.now) }
+{
+    let name = change.name.as_slice();
+    let own = func_place(reader, name);
+    match func(reader, name) {
+        None => Ok(unknown_scope(reader.alloc, own, change)?),
+        Some(func) => Ok(known_scope(reader.alloc, func, own, change)?),
+    }
+}
+
+/// The variables of a line.
+pub fn scope_of(reader: &Reader, line: &Line<Judged>) -> Result<Scope, AllocError>
+    ensures { IfOk result (λ scope. scope ≡ spec.scope_of reader.now line.now) }
+{
+    match line {
+        Line::Func(definition) => Ok(Scope {
+            first_argument: Some(copied(reader.alloc, &definition.first_argument)?),
+            second_argument: copied_second(reader.alloc, &definition.second_argument)?,
+            ..Scope::empty()
+        }),
+        Line::Update(change) => Ok(change_scope(reader, change)?),
+        _ => Ok(Scope::empty()),
+    }
+}
+
+/// The tree of an expression; one without faults has one.
+fn tree_of(judged: Judged) -> Expr
+    ensures { result ≡ spec.tree_of judged.tree }
+{
+    match judged.tree {
+        Some(tree) => tree,
+        None => Expr::Number(0),
+    }
+}
+
+fn second_tree(index: Option<Judged>) -> Option<Expr>
+    ensures { result ≡ spec.second_tree index }
+{
+    match index {
+        None => None,
+        Some(judged) => Some(tree_of(judged)),
+    }
+}
+
+fn reduction_of(bounds: Bounds) -> Reduction
+    ensures { result ≡ spec.reduction_of bounds }
+{
+    let minimum = if bounds.is_negative {
+        halide_pipeline::words::subtract(0, bounds.minimum)
+    } else {
+        bounds.minimum
+    };
+    Reduction {
+        name: bounds.name,
+        minimum,
+        extent: bounds.extent,
+    }
+}
+
+fn second_reduction(bounds: Option<Bounds>) -> Option<Reduction>
+    ensures { result ≡ spec.second_reduction bounds }
+{
+    match bounds {
+        None => None,
+        Some(bounds) => Some(reduction_of(bounds)),
+    }
+}
+
+fn update_of(change: Change<Judged>) -> Update
+    ensures { result ≡ spec.update_of change }
+{
+    let Change {
+        left_x,
+        left_y,
+        right,
+        first,
+        second,
+        ..
+    } = change;
+    Update {
+        left_x: tree_of(left_x),
+        left_y: second_tree(left_y),
+        right: tree_of(right),
+        first: reduction_of(first),
+        second: second_reduction(second),
+    }
+}
+
+/// Adds an input.
+fn add_input(reader: &mut Reader, extents: Extents) -> Result<(), AllocError>
+    requires { lookup extents.name reader.old.names ≡ None }
+    ensures { OnOk result (reader.new ≡ spec.with_input reader.old extents) }
+{
+    let height = height_of(&extents);
+    let dimensions = if extents.height.is_some() { 2 } else { 1 };
+    let place = reader.inputs.len();
+    reader.inputs.push(Input {
+        width: extents.width,
+        height,
+        dimensions,
+    })?;
+    let source = Source::Input(place);
+    reader
+        .names
+        .add(reader.alloc, extents.name.as_slice(), source)?;
+    reader.last_func = None;
+    Ok(())
+}
+
+/// Adds a Func.
+fn add_func(reader: &mut Reader, definition: Definition<Judged>) -> Result<(), AllocError>
+    requires { lookup definition.name reader.old.names ≡ None }
+    ensures { OnOk result (reader.new ≡ spec.with_func reader.old definition) }
+{
+    let Definition {
+        name,
+        first_argument,
+        second_argument,
+        right,
+    } = definition;
+    let place = reader.funcs.len();
+    reader.funcs.push(Func {
+        first_argument,
+        second_argument,
+        pure: tree_of(right),
+        updates: Items::new(reader.alloc),
+    })?;
+    reader
+        .names
+        .add(reader.alloc, name.as_slice(), Source::Func(place))?;
+    reader.last_func = Some(place);
+    Ok(())
+}
+
+/// Adds an update to the last Func.
+#[tactic(auto, using(crate::proofs::Updates::updates_last, crate::proofs::Updates::updates_none))]
+fn add_update(funcs: &mut Items<Func>, update: Update) -> Result<(), AllocError>
+    ensures { OnOk result (funcs.new ≡ spec.with_update funcs.old update) }
+{
+    match funcs.pop() {
+        None => Ok(()),
+        Some(func) => {
+            let mut func = func;
+            func.updates.push(update)?;
+            funcs.push(func)?;
+            Ok(())
+        }
+    }
+}
+
+/// Adds what a faultless line says.
+pub fn apply(reader: &mut Reader, line: Line<Judged>) -> Result<(), AllocError>
+    requires { spec.IsFree reader.old line }
+    ensures { OnOk result (reader.new ≡ spec.applied reader.old line) }
+{
+    match line {
+        Line::Blank => Ok(()),
+        Line::Input(extents) => Ok(add_input(reader, extents)?),
+        Line::Func(definition) => Ok(add_func(reader, definition)?),
+        Line::Update(change) => {
+            add_update(&mut reader.funcs, update_of(change))?;
+            Ok(())
+        }
+        Line::Output(extents) => {
+            let height = height_of(&extents);
+            let dimensions = if extents.height.is_some() { 2 } else { 1 };
+            let func = match func_place(reader, extents.name.as_slice()) {
+                Some(place) => place,
+                None => 0,
+            };
+            reader.output = Some(Output {
+                func,
+                width: extents.width,
+                height,
+                dimensions,
+            });
+            Ok(())
+        }
+    }
+}

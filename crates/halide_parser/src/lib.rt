@@ -1,0 +1,23 @@
+//! Reads algorithm texts: [`parse`] gives the pipeline that a text names, or its first faulty line and that
+//! line's least fault.
+//!
+//! A line is cut into tokens (`halide_syntax`), and one pass over them, with a stack of open brackets in
+//! place of recursion, says whether they are of the grammar and what is known of each expression
+//! ([`judging`], [`passes`], [`line_reading`]): the rules that it breaks, its size, and its tree where it is
+//! not too large. Then the rules of the line are tested from the least fault on ([`rules`]), and a faultless
+//! line adds to what the lines before it have named ([`applying`]).
+#![tactic(auto)]
+
+pub mod applying;
+pub mod judging;
+pub mod line_reading;
+pub mod parsing;
+pub mod passes;
+pub mod readers;
+pub mod rules;
+pub mod scopes;
+
+pub use crate::parsing::parse;
+
+#[cfg(test)]
+mod tests;

@@ -1,0 +1,108 @@
+//! A line read from its tokens, its expressions judged.
+
+ghost use Rattle.std.specs.Prelude.{◌≡◌};
+ghost use Rattle.line_text.specs.Reading.{Gives};
+ghost use Rattle.halide_syntax.specs.LineReading as reading;
+ghost use Rattle.halide_parser.specs.Judging.{judging};
+
+use crate::judging::Judged;
+use crate::passes::expression;
+use crate::readers::Reader;
+use crate::scopes::Scope;
+use halide_syntax::line_parts::{arguments, assigned, bounds, extents, more_bounds, over};
+use halide_syntax::{Change, Definition, Line, ParseFault, Token};
+use line_text::ReadError;
+use sqlite_items::Items;
+
+/// Nothing, or a comma and a second index.
+#[tactic(auto, unfolding(halide_syntax::specs::LineReading::index))]
+fn index<'a>(
+    reader: &Reader,
+    scope: &Scope,
+    tokens: &'a [Token],
+) -> Result<(Option<Judged>, &'a [Token]), ReadError<ParseFault>>
+    ensures { Gives (λ x. (x.0, x.1.now)) result (reading.index (judging reader.now scope.now) tokens.now) }
+{
+    match tokens {
+        [Token::Comma, rest @ ..] => {
+            let (value, rest) = expression(reader, scope, rest)?;
+            Ok((Some(value), rest))
+        }
+        _ => Ok((None, tokens)),
+    }
+}
+
+/// What stands behind `func`, the name and its bracket.
+#[tactic(auto, unfolding(halide_syntax::specs::LineReading::definition))]
+fn definition(
+    reader: &Reader,
+    scope: &Scope,
+    name: &Items<u8>,
+    tokens: &[Token],
+) -> Result<Line<Judged>, ReadError<ParseFault>>
+    ensures { Gives (λ x. x) result (reading.definition (judging reader.now scope.now) name.now tokens.now) }
+{
+    let ((first_argument, second_argument), behind) = arguments(reader.alloc, tokens)?;
+    let (right, rest) = expression(reader, scope, behind)?;
+    if !rest.is_empty() {
+        return Err(ReadError::Fault(ParseFault::Syntax));
+    }
+    Ok(Line::Func(Definition {
+        name: Items::from_slice(reader.alloc, name.as_slice())?,
+        first_argument,
+        second_argument,
+        right,
+    }))
+}
+
+/// What stands behind `update`, the name and its bracket.
+#[tactic(auto, unfolding(halide_syntax::specs::LineReading::change))]
+fn change(
+    reader: &Reader,
+    scope: &Scope,
+    name: &Items<u8>,
+    tokens: &[Token],
+) -> Result<Line<Judged>, ReadError<ParseFault>>
+    ensures { Gives (λ x. x) result (reading.change (judging reader.now scope.now) name.now tokens.now) }
+{
+    let (left_x, rest) = expression(reader, scope, tokens)?;
+    let (left_y, rest) = index(reader, scope, rest)?;
+    let (right, rest) = expression(reader, scope, assigned(rest)?)?;
+    let (first, rest) = bounds(reader.alloc, over(rest)?)?;
+    let second = more_bounds(reader.alloc, rest)?;
+    Ok(Line::Update(Change {
+        name: Items::from_slice(reader.alloc, name.as_slice())?,
+        left_x,
+        left_y,
+        right,
+        first,
+        second,
+    }))
+}
+
+/// What the tokens of a line say.
+///
+/// # Errors
+///
+/// `Syntax` where they are not of the grammar; memory ran out.
+#[tactic(auto, unfolding(halide_syntax::specs::LineReading::read_line))]
+pub fn read_line(
+    reader: &Reader,
+    scope: &Scope,
+    tokens: &[Token],
+) -> Result<Line<Judged>, ReadError<ParseFault>>
+    ensures { Gives (λ x. x) result (reading.read_line (judging reader.now scope.now) tokens.now) }
+{
+    match tokens {
+        [] => Ok(Line::Blank),
+        [Token::Input, rest @ ..] => Ok(Line::Input(extents(reader.alloc, rest)?)),
+        [Token::Output, rest @ ..] => Ok(Line::Output(extents(reader.alloc, rest)?)),
+        [Token::Func, Token::Name(name), Token::Open, rest @ ..] => {
+            Ok(definition(reader, scope, name, rest)?)
+        }
+        [Token::Update, Token::Name(name), Token::Open, rest @ ..] => {
+            Ok(change(reader, scope, name, rest)?)
+        }
+        _ => Err(ReadError::Fault(ParseFault::Syntax)),
+    }
+}

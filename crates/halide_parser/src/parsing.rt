@@ -1,0 +1,104 @@
+//! Reading a whole text.
+
+ghost use Rattle.std.specs.Prelude.{◌≡◌, ◌+◌, ◌<◌, ◌^◌, IfOk, IsTrue};
+ghost use Rattle.halide_pipeline.specs.WellFormed.{IsWellFormed, is_output};
+ghost use Rattle.line_text.specs.Reading.{Gives, GivesLocated};
+ghost use Rattle.halide_parser.specs.Parsing as spec;
+
+use crate::applying::{apply, scope_of};
+use crate::judging::Judged;
+use crate::line_reading::read_line;
+use crate::readers::Reader;
+use crate::rules::fault_of;
+use crate::scopes::Scope;
+use halide_pipeline::{Names, Pipeline};
+use halide_syntax::{Line, ParseFault, Token, tokens_of};
+use line_text::{LineReader, LocatedError, ReadError, read_lines};
+use sqlite_items::Items;
+use std::alloc::Global;
+
+/// What the tokens of a line say, judged. A line is read twice, since what an update's variables are
+/// stands at its end.
+#[tactic(auto, unfolding(crate::specs::Parsing::judged))]
+fn judged(reader: &Reader, tokens: &[Token]) -> Result<Line<Judged>, ReadError<ParseFault>>
+    ensures { Gives (λ x. x) result (spec.judged reader.now tokens.now) }
+{
+    let plain = read_line(reader, &Scope::empty(), tokens)?;
+    let scope = scope_of(reader, &plain)?;
+    Ok(read_line(reader, &scope, tokens)?)
+}
+
+impl LineReader for Reader {
+    type Fault = ParseFault;
+
+    ghost takes = { spec.taken };
+
+    #[tactic(auto, unfolding(crate::specs::Parsing::taken), using(crate::proofs::Faultless::free))]
+    fn take_line(&mut self, line: &[u8]) -> Result<(), ReadError<ParseFault>> {
+        let tokens = tokens_of(self.alloc, line)?;
+        let line = judged(self, tokens.as_slice())?;
+        match fault_of(self, tokens.as_slice(), &line) {
+            Some(fault) => Err(ReadError::Fault(fault)),
+            None => {
+                apply(self, line)?;
+                Ok(())
+            }
+        }
+    }
+}
+
+/// A reader before the first line.
+fn start(alloc: Global, text: &[u8]) -> Reader
+    ensures { result ≡ spec.start alloc text.now }
+{
+    Reader {
+        alloc,
+        is_oversized: text.len() > 65536,
+        names: Names::new(alloc),
+        inputs: Items::new(alloc),
+        funcs: Items::new(alloc),
+        output: None,
+        last_func: None,
+    }
+}
+
+/// What so many lines named.
+fn finished(reader: Reader, count: u64) -> Result<Pipeline, LocatedError<ParseFault>>
+    requires { count + 1 < 2 ^ 64 }
+    ensures { GivesLocated (λ x. x) result (spec.finished count reader) }
+{
+    let Reader {
+        names,
+        inputs,
+        funcs,
+        output,
+        ..
+    } = reader;
+    match output {
+        None => Err(LocatedError::Fault(count + 1, ParseFault::NoOutput)),
+        Some(output) => Ok(Pipeline {
+            names,
+            inputs,
+            funcs,
+            output,
+        }),
+    }
+}
+
+/// The pipeline that an algorithm text names. It keeps what evaluating it needs: its output fits a picture,
+/// calls go to inputs and earlier Funcs with an index for each dimension, divisors are not 0, and all limits
+/// hold (`specs/WellFormed.antt` of `halide_pipeline`).
+///
+/// # Errors
+///
+/// The number of the first faulty line, from 1, and its least fault; memory ran out.
+pub fn parse(text: &str, alloc: Global) -> Result<Pipeline, LocatedError<ParseFault>>
+    ensures given { GivesLocated (λ x. x) result (spec.parsed alloc text.now) }
+    ensures well_formed { IfOk result (λ pipeline. IsWellFormed pipeline) }
+    ensures output { IfOk result (λ pipeline. IsTrue (is_output pipeline.output)) }
+{
+    let bytes = text.as_bytes();
+    let mut reader = start(alloc, bytes);
+    let count = read_lines(&mut reader, bytes)?;
+    Ok(finished(reader, count)?)
+}

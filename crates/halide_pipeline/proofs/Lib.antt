@@ -1,0 +1,3 @@
+pub mod Keeping
+pub mod Pairs
+pub mod Trees

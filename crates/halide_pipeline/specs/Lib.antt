@@ -1,0 +1,5 @@
+pub mod Definitions
+pub mod Expressions
+pub mod Names
+pub mod Words
+pub mod WellFormed

@@ -1,0 +1,18 @@
+-- Names with what they stand for, in order.
+-- This project's own.
+use Rattle.std.specs.Prelude.{ℕ, List, [], ◌∷◌, map, Option, Some, None, if◌then◌else◌, Vec}
+use Rattle.std.specs.Str.{bytes_eq}
+use Rattle.std.specs.declared.alloc.Global.{Global}
+use Rattle.halide_pipeline.specs.declared.expressions.Source.{Source}
+
+-- a name and what it stands for
+abbrev pub Named : Type 0
+Named = List ℕ × Source
+
+abbrev pub pairs_of : List (Vec ℕ Global × Source) → List Named
+pairs_of entries = map (λ entry. (entry.0.items, entry.1)) entries
+
+-- what a name stands for: the first that has it
+abbrev pub lookup : List ℕ → List Named → Option Source
+lookup name [] = None
+lookup name (named ∷ others) = if bytes_eq name named.0 then Some named.1 else lookup name others

@@ -1,0 +1,154 @@
+-- What every pipeline keeps that a text names.
+-- This project's own.
+use Rattle.std.specs.Prelude.{◌≡◌, ℕ, suc, ◌*◌, ◌==◌, ◌&&◌, ◌||◌, Bool, true, false, nat_le, nat_lt, IsTrue, List, length, slice_get, Option, Some, None, is_some}
+use Rattle.halide_pipeline.specs.declared.definitions.Func.{Func}
+use Rattle.halide_pipeline.specs.declared.definitions.Input.{Input}
+use Rattle.halide_pipeline.specs.declared.definitions.Output.{Output}
+use Rattle.halide_pipeline.specs.declared.definitions.Reduction.{Reduction}
+use Rattle.halide_pipeline.specs.declared.definitions.Update.{Update}
+use Rattle.halide_pipeline.specs.declared.expressions.Expr.{Expr, fold-Expr}
+use Rattle.halide_pipeline.specs.declared.expressions.Expr.TheOpen.{Expr-F}
+use Rattle.halide_pipeline.specs.declared.expressions.Expr.TheOpen as layer
+use Rattle.halide_pipeline.specs.declared.expressions.Source.{Source}
+use Rattle.halide_pipeline.specs.declared.expressions.Source.TheVariants as sources
+use Rattle.halide_pipeline.specs.declared.expressions.Variable.{Variable}
+use Rattle.halide_pipeline.specs.declared.expressions.Variable.TheVariants as variables
+use Rattle.halide_pipeline.specs.declared.pipelines.Pipeline.{Pipeline}
+use Rattle.halide_pipeline.specs.Definitions.{dimensions}
+use Rattle.halide_pipeline.specs.Expressions.{nodes}
+use Rattle.halide_pipeline.specs.Names.{lookup}
+
+-- ---- boxes
+
+-- a box is at most so wide and so high
+abbrev pub most_extent : ℕ
+most_extent = 65536
+
+-- and has at most so many points
+abbrev pub most_points : ℕ
+most_points = 1048576
+
+abbrev pub is_width : ℕ → Bool
+is_width width = nat_le 1 width && nat_le width most_extent
+
+-- a height, beside this width
+abbrev pub is_height : ℕ → ℕ → Bool
+is_height width height = nat_le 1 height && nat_le height most_extent && nat_le (width * height) most_points
+
+-- one dimension with a height of 1, or two
+abbrev pub are_dimensions : ℕ → ℕ → Bool
+are_dimensions count height = (count == 1 && height == 1) || count == 2
+
+abbrev pub is_input : Input → Bool
+is_input input = is_width input.width && is_height input.width input.height && are_dimensions input.dimensions input.height
+
+-- an output that fits a picture
+abbrev pub is_output : Output → Bool
+is_output output = is_width output.width && is_height output.width output.height
+
+-- ---- reads
+
+abbrev pub is_input_of : Option Input → ℕ → Bool
+is_input_of None count = false
+is_input_of (Some input) count = input.dimensions == count
+
+abbrev pub is_func_of : Option Func → ℕ → Bool
+is_func_of None count = false
+is_func_of (Some func) count = dimensions func == count
+
+-- The source has so many dimensions, and is an input or one of the first so many Funcs.
+abbrev pub is_read : List Input → List Func → ℕ → Source → ℕ → Bool
+is_read inputs funcs below (sources.Input place) count = is_input_of (slice_get inputs place) count
+is_read inputs funcs below (sources.Func place) count = nat_lt place below && is_func_of (slice_get funcs place) count
+
+abbrev pub is_source : List Input → List Func → Source → Bool
+is_source inputs funcs (sources.Input place) = is_some (slice_get inputs place)
+is_source inputs funcs (sources.Func place) = is_some (slice_get funcs place)
+
+-- ---- expressions
+
+abbrev pub most_number : ℕ
+most_number = 0x7fffffff
+
+abbrev pub is_divisor : ℕ → Bool
+is_divisor n = nat_le 1 n && nat_le n most_number
+
+-- one level of an expression: calls that may be read, variables that are there, numbers and divisors
+abbrev pub keeps_at : (Source → ℕ → Bool) → (Variable → Bool) → Expr-F Bool → Bool
+keeps_at reads has (layer.Number n) = nat_le n most_number
+keeps_at reads has (layer.Variable v) = has v
+keeps_at reads has (layer.Binary op a b) = a && b
+keeps_at reads has (layer.Divide a c) = a && is_divisor c
+keeps_at reads has (layer.Remainder a c) = a && is_divisor c
+keeps_at reads has (layer.Select c a b) = c && (a && b)
+keeps_at reads has (layer.Call1 s a) = a && reads s 1
+keeps_at reads has (layer.Call2 s a b) = (a && b) && reads s 2
+
+-- all levels
+unfoldable pub keeps : (Source → ℕ → Bool) → (Variable → Bool) → Expr → Bool
+keeps reads has e = fold-Expr Bool (keeps_at reads has) e
+
+-- the variables of a pure definition of so many dimensions
+abbrev pub is_argument : ℕ → Variable → Bool
+is_argument count variables.FirstArgument = true
+is_argument count variables.SecondArgument = count == 2
+is_argument count variables.FirstReduction = false
+is_argument count variables.SecondReduction = false
+
+-- the variables of an update
+abbrev pub is_update_variable : ℕ → Option Reduction → Variable → Bool
+is_update_variable count second variables.FirstArgument = true
+is_update_variable count second variables.SecondArgument = count == 2
+is_update_variable count second variables.FirstReduction = true
+is_update_variable count second variables.SecondReduction = is_some second
+
+-- ---- Funcs
+
+-- a word that stands for a number from -2^24 to 2^24
+abbrev pub is_minimum : ℕ → Bool
+is_minimum minimum = nat_le minimum 0x1000000 || (nat_le 0xff000000 minimum && nat_le minimum 0xffffffff)
+
+abbrev pub is_second_minimum : Option Reduction → Bool
+is_second_minimum None = true
+is_second_minimum (Some reduction) = is_minimum reduction.minimum
+
+abbrev pub second_extent : Option Reduction → ℕ
+second_extent None = 1
+second_extent (Some reduction) = reduction.extent
+
+abbrev pub is_box : Update → Bool
+is_box update = is_width update.first.extent && is_height update.first.extent (second_extent update.second)
+
+-- a second index exactly where there are two dimensions
+abbrev pub keeps_index : (Source → ℕ → Bool) → (Variable → Bool) → ℕ → Option Expr → Bool
+keeps_index reads has count None = count == 1
+keeps_index reads has count (Some index) = count == 2 && keeps reads has index
+
+-- An update of the Func at this place, of so many dimensions. Only its right side may call its own Func.
+pub record IsUpdate (inputs : List Input) (funcs : List Func) (place count : ℕ) (update : Update) : Type 0 where
+  pub left_x : IsTrue (keeps (is_read inputs funcs place) (is_update_variable count update.second) update.left_x)
+  pub left_y : IsTrue (keeps_index (is_read inputs funcs place) (is_update_variable count update.second) count update.left_y)
+  pub right : IsTrue (keeps (is_read inputs funcs (suc place)) (is_update_variable count update.second) update.right)
+  pub minimum : IsTrue (is_minimum update.first.minimum)
+  pub second_minimum : IsTrue (is_second_minimum update.second)
+  pub box : IsTrue (is_box update)
+
+-- The Func at this place. It calls inputs and the Funcs before it.
+pub record IsFunc (inputs : List Input) (funcs : List Func) (place : ℕ) (func : Func) : Type 0 where
+  pub pure : IsTrue (keeps (is_read inputs funcs place) (is_argument (dimensions func)) func.pure)
+  pub few_updates : IsTrue (nat_le (length func.updates) 4)
+  pub updates : (at : ℕ) (update : Update) → slice_get func.updates at ≡ Some update → IsUpdate inputs funcs place (dimensions func) update
+
+-- ---- the whole
+
+pub record IsWellFormed (pipeline : Pipeline) : Type 0 where
+  pub few_inputs : IsTrue (nat_le (length pipeline.inputs) 4)
+  pub few_funcs : IsTrue (nat_le (length pipeline.funcs) 12)
+  pub inputs : (place : ℕ) (input : Input) → slice_get pipeline.inputs place ≡ Some input → IsTrue (is_input input)
+  pub funcs : (place : ℕ) (func : Func) → slice_get pipeline.funcs place ≡ Some func → IsFunc pipeline.inputs pipeline.funcs place func
+  -- a name stands for an input or a Func that is there
+  pub names : (name : List ℕ) (source : Source) → lookup name pipeline.names ≡ Some source → IsTrue (is_source pipeline.inputs pipeline.funcs source)
+  -- the output is a Func that is there, with its dimensions
+  pub output : IsTrue (is_output pipeline.output)
+  pub drawn : IsTrue (is_func_of (slice_get pipeline.funcs pipeline.output.func) pipeline.output.dimensions)
+  pub dimensions : IsTrue (are_dimensions pipeline.output.dimensions pipeline.output.height)

@@ -1,0 +1,7 @@
+pub mod Complete
+pub mod LinesBack
+pub mod Making
+pub mod MakingLines
+pub mod Sound
+pub mod TokenLoop
+pub mod Tops

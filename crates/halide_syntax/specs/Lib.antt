@@ -1,0 +1,9 @@
+pub mod Algebra
+pub mod Faults
+pub mod Grammar
+pub mod LineGrammar
+pub mod LineReading
+pub mod Machine
+pub mod Reversed
+pub mod Stacks
+pub mod Tokens

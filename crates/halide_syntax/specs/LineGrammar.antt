@@ -1,0 +1,73 @@
+-- The grammar of lines as a spelling: what a line says, and its tokens.
+-- This project's own.
+use Rattle.std.specs.Prelude.{ℕ, Bool, true, false, List, [], ◌∷◌, Option, Some, None}
+use Rattle.halide_syntax.specs.declared.tokens.Token.{Token}
+use Rattle.halide_syntax.specs.declared.tokens.Token.TheVariants as t
+use Rattle.halide_syntax.specs.declared.tokens.SumOperator.TheVariants.{Subtract}
+use Rattle.halide_syntax.specs.declared.lines.Extents.{Extents}
+use Rattle.halide_syntax.specs.declared.lines.Bounds.{Bounds}
+use Rattle.halide_syntax.specs.declared.lines.Line.{Line}
+use Rattle.halide_syntax.specs.declared.lines.Line.TheVariants as line
+use Rattle.halide_syntax.specs.Algebra.{Algebra, made}
+use Rattle.halide_syntax.specs.Grammar.{Written, spell, IsRight}
+
+abbrev pub spell_height : Option ℕ → List Token
+spell_height None = []
+spell_height (Some height) = t.Number height ∷ []
+
+-- name number [number]
+abbrev pub spell_extents : Extents → List Token
+spell_extents e = t.Name e.name ∷ t.Number e.width ∷ spell_height e.height
+
+abbrev pub spell_sign : Bool → List Token → List Token
+spell_sign false rest = rest
+spell_sign true rest = t.Sum Subtract ∷ rest
+
+-- name [-] number number
+abbrev pub spell_bounds : Bounds → List Token → List Token
+spell_bounds b rest = t.Name b.name ∷ spell_sign b.is_negative (t.Number b.minimum ∷ t.Number b.extent ∷ rest)
+
+abbrev pub spell_second_bounds : Option Bounds → List Token
+spell_second_bounds None = []
+spell_second_bounds (Some b) = t.Comma ∷ spell_bounds b []
+
+abbrev pub spell_argument : Option (List ℕ) → List Token → List Token
+spell_argument None rest = rest
+spell_argument (Some name) rest = t.Comma ∷ t.Name name ∷ rest
+
+abbrev pub spell_index : Option Written → List Token → List Token
+spell_index None rest = rest
+spell_index (Some w) rest = t.Comma ∷ spell w rest
+
+-- the tokens of a line
+abbrev pub spell_line : Line Written → List Token
+spell_line line.Blank = []
+spell_line (line.Input e) = t.Input ∷ spell_extents e
+spell_line (line.Func d) = t.Func ∷ t.Name d.name ∷ t.Open ∷ t.Name d.first_argument ∷ spell_argument d.second_argument (t.Close ∷ t.Assign ∷ spell d.right [])
+spell_line (line.Update u) =
+    t.Update ∷ t.Name u.name ∷ t.Open ∷ spell u.left_x (spell_index u.left_y (t.Close ∷ t.Assign ∷ spell u.right (t.Over ∷ spell_bounds u.first (spell_second_bounds u.second))))
+spell_line (line.Output e) = t.Output ∷ spell_extents e
+
+abbrev pub IsRightIndex : Option Written → Type 0
+IsRightIndex None = Unit {0}
+IsRightIndex (Some w) = IsRight w
+
+-- All expressions of the line are of the grammar.
+abbrev pub IsRightLine : Line Written → Type 0
+IsRightLine line.Blank = Unit {0}
+IsRightLine (line.Input e) = Unit {0}
+IsRightLine (line.Func d) = IsRight d.right
+IsRightLine (line.Update u) = IsRight u.left_x × IsRightIndex u.left_y × IsRight u.right
+IsRightLine (line.Output e) = Unit {0}
+
+abbrev pub made_index : {V : Type 0} → Algebra V → Option Written → Option V
+made_index alg None = None
+made_index alg (Some w) = Some (made alg w)
+
+-- the line with what an algebra makes of its expressions
+abbrev pub made_line : {V : Type 0} → Algebra V → Line Written → Line V
+made_line alg line.Blank = line.Blank
+made_line alg (line.Input e) = line.Input e
+made_line alg (line.Func d) = line.Func (record { name = d.name; first_argument = d.first_argument; second_argument = d.second_argument; right = made alg d.right })
+made_line alg (line.Update u) = line.Update (record { name = u.name; left_x = made alg u.left_x; left_y = made_index alg u.left_y; right = made alg u.right; first = u.first; second = u.second })
+made_line alg (line.Output e) = line.Output e

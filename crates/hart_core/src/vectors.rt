@@ -1,0 +1,230 @@
+//! The vector instructions, as a hart executes them.
+
+ghost use Rattle.std.specs.Prelude.{◌≡◌, ◌&&◌, not, None, Some, length, map, IfOk, OnOk, IfErr, OnErr, true, false};
+ghost use Rattle.rv_insn.specs.declared.instructions.Insn.TheVariants as insns;
+ghost use Rattle.memory.specs.Addresses.{put};
+ghost use Rattle.memory.specs.Access.{first_fault, number_at, Reads, Writes, spread, touched};
+ghost use Rattle.vector_unit.specs.VectorState.{has_vill, is_illegal_configuration};
+ghost use Rattle.vector_unit.specs.Vector.{asked_of, is_own, is_refused, vector_after};
+ghost use Rattle.vector_unit.specs.Accesses.{active_numbers, addresses_by, loaded};
+ghost use Rattle.hart_core.specs.VectorRows.{accesses_at, computed_by, configured_by};
+ghost use Rattle.hart_core.specs.HartState.{register, advanced, vectors_of, with_vectors};
+ghost use Rattle.hart_core.specs.Turn.{fault, IsDone};
+
+use crate::element_accesses::{check_stores, read_numbers, write_numbers};
+use crate::harts::Hart;
+use memory::Bytes;
+use rv_insn::{ElementWidth, Outcome, Reg, Trap, VReg, VectorInsn};
+use vector_unit::{Asked, Numbers, Spacing};
+
+impl Hart {
+    /// Executes a vector instruction, or says which trap it makes and changes nothing.
+    pub(crate) fn execute_vector<M: Bytes>(
+        &mut self,
+        insn: &VectorInsn,
+        memory: &mut M,
+    ) -> Result<Outcome, Trap>
+        ensures ok { IfOk result (λ outcome. IsDone (M.text memory.old) (M.memory memory.old) self.old (insns.Vector insn.now) self.new (M.memory memory.new) outcome) }
+        ensures trap { IfErr result (λ trap. fault (length (M.text memory.old)) (length (M.memory memory.old)) (insns.Vector insn.now) self.old ≡ Some trap) }
+        ensures hart { OnErr result (self.new ≡ self.old) }
+        ensures memory { OnErr result (M.memory memory.new ≡ M.memory memory.old) }
+        ensures text { M.text memory.new ≡ M.text memory.old }
+    {
+        match *insn {
+            VectorInsn::Vsetvli { rd, rs1, vtype } => {
+                let asked = Asked::by(rd, rs1, self.register(rs1));
+                self.reconfigure(rd, u32::from(vtype.value()), asked)
+            }
+            VectorInsn::Vsetivli { rd, length, vtype } => {
+                let asked = Asked::AtMost(u32::from(length.value()));
+                self.reconfigure(rd, u32::from(vtype.value()), asked)
+            }
+            VectorInsn::Vsetvl { rd, rs1, rs2 } => {
+                let asked = Asked::by(rd, rs1, self.register(rs1));
+                self.reconfigure(rd, self.register(rs2), asked)
+            }
+            _ => self.execute_configured(insn, memory),
+        }
+    }
+
+    /// Executes a vector instruction that doesn't configure the unit, or says which trap it makes and changes nothing.
+    fn execute_configured<M: Bytes>(
+        &mut self,
+        insn: &VectorInsn,
+        memory: &mut M,
+    ) -> Result<Outcome, Trap>
+        requires { asked_of insn.now (register self.old) ≡ None }
+        ensures ok { IfOk result (λ outcome. IsDone (M.text memory.old) (M.memory memory.old) self.old (insns.Vector insn.now) self.new (M.memory memory.new) outcome) }
+        ensures trap { IfErr result (λ trap. fault (length (M.text memory.old)) (length (M.memory memory.old)) (insns.Vector insn.now) self.old ≡ Some trap) }
+        ensures hart { OnErr result (self.new ≡ self.old) }
+        ensures memory { OnErr result (M.memory memory.new ≡ M.memory memory.old) }
+        ensures text { M.text memory.new ≡ M.text memory.old }
+    {
+        self.check_legal(insn)?;
+        match *insn {
+            VectorInsn::LoadUnit { width, vd, rs1, vm } => {
+                self.load_vector(memory, width, vd, vm, rs1, Spacing::UnitStride)
+            }
+            VectorInsn::LoadStrided {
+                width,
+                vd,
+                rs1,
+                rs2,
+                vm,
+            } => {
+                let spacing = Spacing::Strided(self.register(rs2));
+                self.load_vector(memory, width, vd, vm, rs1, spacing)
+            }
+            VectorInsn::LoadIndexed {
+                width,
+                vd,
+                rs1,
+                vs2,
+                vm,
+            } => self.load_vector(memory, width, vd, vm, rs1, Spacing::Indexed(vs2)),
+            VectorInsn::StoreUnit {
+                width,
+                vs3,
+                rs1,
+                vm,
+            } => self.store_vector(memory, width, vs3, vm, rs1, Spacing::UnitStride),
+            VectorInsn::StoreStrided {
+                width,
+                vs3,
+                rs1,
+                rs2,
+                vm,
+            } => {
+                let spacing = Spacing::Strided(self.register(rs2));
+                self.store_vector(memory, width, vs3, vm, rs1, spacing)
+            }
+            VectorInsn::StoreIndexed {
+                width,
+                vs3,
+                rs1,
+                vs2,
+                vm,
+            } => self.store_vector(memory, width, vs3, vm, rs1, Spacing::Indexed(vs2)),
+            _ => self.execute_on_registers(insn),
+        }
+    }
+
+    /// Whether an instruction that doesn't configure the unit is legal in the hart's state.
+    fn check_legal(&self, insn: &VectorInsn) -> Result<(), Trap>
+        ensures legal { OnOk result (is_refused insn.now (vectors_of self.now) ≡ false) }
+        ensures illegal { OnErr result (is_refused insn.now (vectors_of self.now) ≡ true) }
+        ensures trap { IfErr result (λ trap. trap ≡ Trap.IllegalInstruction) }
+    {
+        if self.vectors().refuses(insn) {
+            return Err(Trap::IllegalInstruction);
+        }
+        Ok(())
+    }
+
+    /// Configures the vector unit, with the number of elements that it works on in `rd`.
+    fn reconfigure(&mut self, rd: Reg, vtype: u32, asked: Asked) -> Result<Outcome, Trap>
+        ensures legal { OnOk result (is_illegal_configuration (vectors_of self.old) vtype asked ≡ false) }
+        ensures hart { OnOk result (self.new ≡ configured_by self.old rd vtype asked) }
+        ensures outcome { IfOk result (λ outcome. outcome ≡ Outcome.Stepped) }
+        ensures illegal { OnErr result (is_illegal_configuration (vectors_of self.old) vtype asked ≡ true) }
+        ensures trap { IfErr result (λ trap. trap ≡ Trap.IllegalInstruction) }
+        ensures unchanged { OnErr result (self.new ≡ self.old) }
+    {
+        let vl = self.configure(vtype, asked)?;
+        Ok(self.give(rd, vl))
+    }
+
+    /// The number in the integer register that an instruction reads beside vector registers, if it does.
+    fn scalar_of(&self, insn: &VectorInsn) -> u32
+        ensures { vector_after insn.now (λ r. result) (vectors_of self.now) ≡ vector_after insn.now (register self.now) (vectors_of self.now) }
+    {
+        match *insn {
+            VectorInsn::ArithmeticVx { rs1, .. }
+            | VectorInsn::CompareVx { rs1, .. }
+            | VectorInsn::MultiplyVx { rs1, .. }
+            | VectorInsn::MergeVx { rs1, .. }
+            | VectorInsn::MoveVx { rs1, .. }
+            | VectorInsn::MoveFromScalar { rs1, .. } => self.register(rs1),
+            _ => 0,
+        }
+    }
+
+    /// Executes an instruction that neither configures the unit nor touches memory.
+    fn execute_on_registers(&mut self, insn: &VectorInsn) -> Result<Outcome, Trap>
+        ensures own { OnOk result (is_own insn.now ≡ true) }
+        ensures legal { OnOk result (is_refused insn.now (vectors_of self.old) ≡ false) }
+        ensures hart { OnOk result (self.new ≡ computed_by insn.now self.old) }
+        ensures outcome { IfOk result (λ outcome. outcome ≡ Outcome.Stepped) }
+        ensures illegal { OnErr result (is_own insn.now && not (is_refused insn.now (vectors_of self.old)) ≡ false) }
+        ensures trap { IfErr result (λ trap. trap ≡ Trap.IllegalInstruction) }
+        ensures unchanged { OnErr result (self.new ≡ self.old) }
+    {
+        let scalar = self.scalar_of(insn);
+        let given = self.compute(insn, scalar)?;
+        if let (Some(number), VectorInsn::MoveToScalar { rd, .. }) = (given, *insn) {
+            self.set_register(rd, number);
+        }
+        Ok(self.advance())
+    }
+
+    /// The addresses of the active elements of an access from the address in `rs1` on.
+    fn addresses(&self, spacing: Spacing, vm: bool, rs1: Reg) -> Numbers
+        requires { has_vill (vectors_of self.now) ≡ false }
+        ensures { result ≡ addresses_by (vectors_of self.now) spacing vm (register self.now rs1) }
+    {
+        self.vectors().addresses(spacing, vm, self.register(rs1))
+    }
+
+    /// Loads the active elements of a register, or says which trap the first that can't be loaded makes.
+    fn load_vector<M: Bytes>(
+        &mut self,
+        memory: &M,
+        width: ElementWidth,
+        vd: VReg,
+        vm: bool,
+        rs1: Reg,
+        spacing: Spacing,
+    ) -> Result<Outcome, Trap>
+        requires { has_vill (vectors_of self.old) ≡ false }
+        ensures fits { OnOk result (first_fault (length (M.text memory.now)) (length (M.memory memory.now)) Reads (accesses_at width (addresses_by (vectors_of self.old) spacing vm (register self.old rs1))) ≡ None) }
+        ensures hart { OnOk result (self.new ≡ advanced (with_vectors self.old (loaded (vectors_of self.old) vd vm
+            (map (number_at (M.text memory.now) (M.memory memory.now)) (accesses_at width (addresses_by (vectors_of self.old) spacing vm (register self.old rs1))))))) }
+        ensures outcome { IfOk result (λ outcome. outcome ≡ Outcome.Stepped) }
+        ensures err { IfErr result (λ trap. first_fault (length (M.text memory.now)) (length (M.memory memory.now)) Reads (accesses_at width (addresses_by (vectors_of self.old) spacing vm (register self.old rs1))) ≡ Some trap) }
+        ensures unchanged { OnErr result (self.new ≡ self.old) }
+    {
+        let addresses = self.addresses(spacing, vm, rs1);
+        let numbers = read_numbers(width, memory, addresses.as_slice())?;
+        self.load_elements(vd, vm, numbers.as_slice());
+        Ok(self.advance())
+    }
+
+    /// Stores the active elements of a register, or says which trap the first that can't be stored makes and
+    /// writes nothing.
+    fn store_vector<M: Bytes>(
+        &mut self,
+        memory: &mut M,
+        width: ElementWidth,
+        vs3: VReg,
+        vm: bool,
+        rs1: Reg,
+        spacing: Spacing,
+    ) -> Result<Outcome, Trap>
+        requires { has_vill (vectors_of self.old) ≡ false }
+        ensures fits { OnOk result (first_fault (length (M.text memory.old)) (length (M.memory memory.old)) Writes (accesses_at width (addresses_by (vectors_of self.old) spacing vm (register self.old rs1))) ≡ None) }
+        ensures hart { OnOk result (self.new ≡ advanced self.old) }
+        ensures put { OnOk result (M.memory memory.new ≡ put (M.memory memory.old) (touched (accesses_at width (addresses_by (vectors_of self.old) spacing vm (register self.old rs1))))
+            (spread (accesses_at width (addresses_by (vectors_of self.old) spacing vm (register self.old rs1))) (active_numbers (vectors_of self.old) vs3 vm))) }
+        ensures outcome { IfOk result (λ outcome. outcome ≡ Outcome.Stepped) }
+        ensures err { IfErr result (λ trap. first_fault (length (M.text memory.old)) (length (M.memory memory.old)) Writes (accesses_at width (addresses_by (vectors_of self.old) spacing vm (register self.old rs1))) ≡ Some trap) }
+        ensures unchanged { OnErr result (self.new ≡ self.old) }
+        ensures memory { OnErr result (M.memory memory.new ≡ M.memory memory.old) }
+        ensures text { M.text memory.new ≡ M.text memory.old }
+    {
+        let addresses = self.addresses(spacing, vm, rs1);
+        check_stores(width, memory, addresses.as_slice())?;
+        let numbers = self.vectors().active_numbers(vs3, vm);
+        write_numbers(width, memory, addresses.as_slice(), numbers.as_slice());
+        Ok(self.advance())
+    }
+}

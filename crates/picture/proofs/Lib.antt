@@ -1,0 +1,12 @@
+pub mod Loops
+pub mod Numerals
+pub mod Rows
+pub mod SpelledBack
+pub mod ReadBack
+pub mod Measures
+pub mod Levels
+pub mod Tables
+pub mod Outputs
+pub mod Fills
+pub mod Agrees
+pub mod Forward

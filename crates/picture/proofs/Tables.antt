@@ -1,0 +1,82 @@
+-- Reads of a table.
+use Rattle.std.proofs.Common.{◌≡◌, ℕ, zero, suc, ◌+◌, ◌*◌, ◌/◌, ◌%◌, ◌^◌, ◌<◌, ◌≤◌, List, [], ◌∷◌, ◌++◌, length, Some, ◌⊎◌, inl, inr, subst, get_or, refl, sym, ap, ◌∙◌, arith}
+use Rattle.std.proofs.lemmas.Nat.{div-mul-add, div-add-mod'}
+use Rattle.std.proofs.Math.Nat.{mul-le-mul_right}
+use Rattle.halide_pipeline.specs.Words as word
+use Rattle.picture.specs.declared.scenes.Known.{Known}
+use Rattle.picture.specs.declared.scenes.Table.{Table}
+use Rattle.picture.specs.Pixel.{Plane}
+use Rattle.picture.specs.Evaluation.{IsTable, AreTablesOf, AreKnownOf, IsKnown, plane_in, numbered_pixel}
+use Rattle.picture.specs.Picture.{PictureContents}
+use Rattle.halide_pipeline.specs.declared.definitions.Func.{Func}
+use Rattle.std.specs.Prelude.{slice_get}
+
+-- a corner, and what it takes from there
+pub add-subtract : (x corner : ℕ) → x < 2 ^ 32 → corner < 2 ^ 32 → word.add corner (word.subtract x corner) ≡ x
+unfolding word.add word.subtract
+add-subtract x corner fits corner_fits = omega arith
+
+pub pixel_at_place : (table : Table) (plane : Plane) (x y column row at : ℕ) → IsTable plane table → x < 2 ^ 32 → y < 2 ^ 32 → table.left < 2 ^ 32 → table.top < 2 ^ 32
+    → column ≡ word.subtract x table.left → row ≡ word.subtract y table.top → column < table.width → row < table.height → at ≡ row * table.width + column
+    → (at < length table.pixels.items) × (get_or table.pixels.items at 0 ≡ plane x y)
+unfolding numbered_pixel
+pixel_at_place table plane x y column row at is fits_x fits_y fits_left fits_top column_is row_is wide high at_is =
+    let w = table.width in
+    let quotient : (row * w + column) / w ≡ row = div-mul-add row w column wide in
+    let whole : (row * w + column) / w * w + (row * w + column) % w ≡ row * w + column = div-add-mod' (row * w + column) w in
+    let rows : (row * w + column) / w * w ≡ row * w = ap (λ (n : ℕ). n * w) quotient in
+    let remainder : (row * w + column) % w ≡ column = omega (arith, whole, rows) in
+    let more : suc row * w ≤ table.height * w = mul-le-mul_right w high in
+    let one : suc row * w ≡ row * w + w = omega arith in
+    let turned : table.height * w ≡ w * table.height = omega arith in
+    let within : row * w + column < length table.pixels.items = omega (arith, is.len, more, one, turned) in
+    let there = is.each (row * w + column) within
+    ∙ ap (λ (n : ℕ). plane (word.add table.left n) (word.add table.top ((row * w + column) / w))) (remainder ∙ column_is)
+    ∙ ap (λ (n : ℕ). plane (word.add table.left (word.subtract x table.left)) (word.add table.top n)) (quotient ∙ row_is)
+    ∙ ap (λ (n : ℕ). plane n (word.add table.top (word.subtract y table.top))) (add-subtract x table.left fits_x fits_left)
+    ∙ ap (plane x) (add-subtract y table.top fits_y fits_top) in
+    (omega (arith, within, at_is), ap (λ (n : ℕ). get_or table.pixels.items n 0) at_is ∙ there)
+
+-- ---- tables, one after the other
+
+pub no_tables : (funcs : List Func) (pictures : List PictureContents) (tables : List Table) → tables ≡ [] → AreTablesOf funcs pictures tables
+no_tables funcs pictures tables e = record { each = λ place table at. absurd (none place table (ap (λ (all : List Table). slice_get all place) (sym e) ∙ at)) }
+  where
+    none : (place : ℕ) (table : Table) → slice_get {X = Table} [] place ≡ Some table → ⊥
+    none place table e = cc
+
+-- an item behind others
+got : {X : Type 0} (tables : List X) (table : X) (place : ℕ) (other : X) → slice_get (tables ++ table ∷ []) place ≡ Some other → (slice_get tables place ≡ Some other) ⊎ ((place ≡ length tables) × (table ≡ other))
+got [] table zero other at = inr (refl, cc)
+got [] table (suc place) other at = absurd cc
+got (first ∷ tables) table zero other at = inl at
+got (first ∷ tables) table (suc place) other at = elim (got tables table place other at) [
+  | inl before ↦ inl before
+  | inr last ↦ inr (ap suc last.0, last.1)
+]
+
+pub one_more_table : (funcs : List Func) (pictures : List PictureContents) (tables next : List Table) (table : Table) → AreTablesOf funcs pictures tables → IsTable (plane_in funcs pictures (length tables)) table → next ≡ tables ++ table ∷ []
+    → AreTablesOf funcs pictures next
+one_more_table funcs pictures tables next table are is e =
+    subst (λ (all : List Table). AreTablesOf funcs pictures all) (sym e) (record { each = λ place other at. by_place place other (got tables table place other at) })
+  where
+    by_place : (place : ℕ) (other : Table) → (slice_get tables place ≡ Some other) ⊎ ((place ≡ length tables) × (table ≡ other)) → IsTable (plane_in funcs pictures place) other
+    by_place place other (inl before) = are.each place other before
+    by_place place other (inr last) =
+        subst (λ (t : Table). IsTable (plane_in funcs pictures place) t) last.1 (subst (λ (at : ℕ). IsTable (plane_in funcs pictures at) table) (sym last.0) is)
+
+-- ---- what updates come to, one after the other
+
+pub none_known : (funcs : List Func) (pictures : List PictureContents) (known : List Known) → known ≡ [] → AreKnownOf funcs pictures known
+none_known funcs pictures known e = record { each = λ at k is. absurd (none at k (ap (λ (all : List Known). slice_get all at) (sym e) ∙ is)) }
+  where
+    none : (at : ℕ) (k : Known) → slice_get {X = Known} [] at ≡ Some k → ⊥
+    none at k e = cc
+
+pub one_more_known : (funcs : List Func) (pictures : List PictureContents) (known next : List Known) (one : Known) → AreKnownOf funcs pictures known → IsKnown funcs pictures one → next ≡ known ++ one ∷ [] → AreKnownOf funcs pictures next
+one_more_known funcs pictures known next one are is e =
+    subst (λ (all : List Known). AreKnownOf funcs pictures all) (sym e) (record { each = λ at other there. by_place at other (got known one at other there) })
+  where
+    by_place : (at : ℕ) (other : Known) → (slice_get known at ≡ Some other) ⊎ ((at ≡ length known) × (one ≡ other)) → IsKnown funcs pictures other
+    by_place at other (inl before) = are.each at other before
+    by_place at other (inr last) = subst (λ (k : Known). IsKnown funcs pictures k) last.1 is

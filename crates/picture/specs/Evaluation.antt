@@ -1,0 +1,152 @@
+-- What the parts of the evaluator answer, in the words of `Pixel`. Nothing here is to be believed: the
+-- contract of `evaluate` doesn't speak of it.
+-- This project's own.
+use Rattle.std.specs.Prelude.{◌≡◌, ℕ, ◌+◌, ◌*◌, ◌/◌, ◌%◌, ◌^◌, ◌<◌, true, List, [], ◌∷◌, length, Option, Some, None, slice_get, slice_index}
+use Rattle.halide_pipeline.specs.declared.expressions.Expr.{Expr}
+use Rattle.halide_pipeline.specs.declared.definitions.Update.{Update}
+use Rattle.halide_pipeline.specs.declared.definitions.Func.{Func}
+use Rattle.halide_pipeline.specs.Expressions.{nodes}
+use Rattle.halide_pipeline.specs.Words as word
+use Rattle.picture.specs.declared.scenes.Scene.{Scene}
+use Rattle.picture.specs.declared.scenes.Known.{Known}
+use Rattle.picture.specs.declared.scenes.Slice.{Slice}
+use Rattle.picture.specs.declared.scenes.Table.{Table}
+use Rattle.picture.specs.declared.scenes.State.{State}
+use Rattle.picture.specs.declared.scenes.State.TheVariants as states
+use Rattle.picture.specs.Picture.{PictureContents}
+use Rattle.picture.specs.Slices.{is_on}
+use Rattle.picture.specs.Writes.{written}
+use Rattle.picture.specs.Pixel.{Plane, Planes, Reads, input_planes, reads_of, with_plane, after, stage, func_plane, pixels}
+
+-- ---- planes of a scene
+
+abbrev pub inputs_of : Scene → Planes
+inputs_of scene = input_planes scene.pictures.now
+
+-- the Funcs before this place
+abbrev pub earlier_of : Scene → ℕ → Planes
+earlier_of scene place = pixels scene.funcs.now (inputs_of scene) place
+
+-- the Func at this place, after all its updates
+abbrev pub plane_in : List Func → List PictureContents → ℕ → Plane
+plane_in funcs pictures place = func_plane place (slice_get funcs place) (input_planes pictures) (pixels funcs (input_planes pictures) place)
+
+abbrev pub plane_of : Scene → ℕ → Plane
+plane_of scene place = plane_in scene.funcs.now scene.pictures.now place
+
+-- after so many points of an update, if there is one
+abbrev pub after_some : ℕ → Option Update → Planes → Planes → Plane → ℕ → Plane
+after_some own None inputs earlier before number = before
+after_some own (Some update) inputs earlier before number = after own update inputs earlier before number
+
+abbrev pub after_of : ℕ → Option Func → Planes → Planes → ℕ → ℕ → Plane
+after_of own None inputs earlier updates number x y = 0
+after_of own (Some func) inputs earlier updates number x y =
+    after_some own (slice_get func.updates updates) inputs earlier (stage own func inputs earlier updates) number x y
+
+-- what the Funcs answer in a definition of the one at this place
+abbrev pub funcs_in : Scene → ℕ → State → Planes
+funcs_in scene own states.Earlier = earlier_of scene own
+funcs_in scene own (states.After updates number) =
+    with_plane own (after_of own (slice_get scene.funcs.now own) (inputs_of scene) (earlier_of scene own) updates number) (earlier_of scene own)
+funcs_in scene own (states.Forward updates number slice) =
+    with_plane own (after_of own (slice_get scene.funcs.now own) (inputs_of scene) (earlier_of scene own) updates number) (earlier_of scene own)
+
+-- and all sources
+abbrev pub reads_in : Scene → ℕ → State → Reads
+reads_in scene own state = reads_of (inputs_of scene) (funcs_in scene own state)
+
+-- ---- updates, run forward
+
+-- after so many whole updates
+abbrev pub stage_some : ℕ → Option Func → Planes → Planes → ℕ → Plane
+stage_some own None inputs earlier updates x y = 0
+stage_some own (Some func) inputs earlier updates x y = stage own func inputs earlier updates x y
+
+abbrev pub stage_of : Scene → ℕ → ℕ → Plane
+stage_of scene own updates = stage_some own (slice_get scene.funcs.now own) (inputs_of scene) (earlier_of scene own) updates
+
+-- what was written is what is there now, and where nothing was there is what was before
+abbrev pub Holds : Option ℕ → ℕ → ℕ → Type 0
+Holds (Some value) now before = value ≡ now
+Holds None now before = before ≡ now
+
+-- what a slice has written after so many points of an update
+pub record IsForward (scene : Scene) (own updates number : ℕ) (slice : Slice) : Type 0 where
+  pub each : (x y : ℕ) → x < 2 ^ 32 → y < 2 ^ 32 → is_on slice x y ≡ true
+      → Holds (written slice.writes x y) (after_of own (slice_get scene.funcs.now own) (inputs_of scene) (earlier_of scene own) updates number x y) (stage_of scene own updates x y)
+
+-- what a state says is so
+abbrev pub IsState : Scene → ℕ → State → Type 0
+IsState scene own states.Earlier = Unit {0}
+IsState scene own (states.After updates number) = Unit {0}
+IsState scene own (states.Forward updates number slice) = IsForward scene own updates number slice.now
+
+-- ---- tables
+
+-- the pixel with this number in a box, by rows
+unfoldable pub numbered_pixel : Plane → ℕ → ℕ → ℕ → ℕ → ℕ
+numbered_pixel plane left top width at = plane (word.add left (at % width)) (word.add top (at / width))
+
+-- a table has the pixels of this plane in its box
+pub record IsTable (plane : Plane) (table : Table) : Type 0 where
+  pub len : length table.pixels.items ≡ table.width * table.height
+  pub each : (at : ℕ) → at < length table.pixels.items
+      → slice_index table.pixels.items at ≡ numbered_pixel plane table.left table.top table.width at
+
+-- a table's box
+pub record IsAt (left top width height : ℕ) (table : Table) : Type 0 where
+  pub left_is : table.left ≡ left
+  pub top_is : table.top ≡ top
+  pub width_is : table.width ≡ width
+  pub height_is : table.height ≡ height
+
+-- each of the first Funcs' tables has the Func's pixels
+pub record AreTablesOf (funcs : List Func) (pictures : List PictureContents) (tables : List Table) : Type 0 where
+  pub each : (place : ℕ) (table : Table) → slice_get tables place ≡ Some table → IsTable (plane_in funcs pictures place) table
+
+-- after so many whole updates
+abbrev pub stage_in : List Func → List PictureContents → ℕ → ℕ → Plane
+stage_in funcs pictures own updates = stage_some own (slice_get funcs own) (input_planes pictures) (pixels funcs (input_planes pictures) own) updates
+
+-- what a slice has written after all points of an update
+pub record IsSliceOf (funcs : List Func) (pictures : List PictureContents) (own updates : ℕ) (slice : Slice) : Type 0 where
+  pub each : (x y : ℕ) → x < 2 ^ 32 → y < 2 ^ 32 → is_on slice x y ≡ true
+      → Holds (written slice.writes x y) (stage_in funcs pictures own (updates + 1) x y) (stage_in funcs pictures own updates x y)
+
+pub record AreSlicesOf (funcs : List Func) (pictures : List PictureContents) (own updates : ℕ) (slices : List Slice) : Type 0 where
+  pub each : (at : ℕ) (slice : Slice) → slice_get slices at ≡ Some slice → IsSliceOf funcs pictures own updates slice
+
+abbrev pub IsKnown : List Func → List PictureContents → Known → Type 0
+IsKnown funcs pictures known = AreSlicesOf funcs pictures known.own known.updates known.slices.items
+
+pub record AreKnownOf (funcs : List Func) (pictures : List PictureContents) (known : List Known) : Type 0 where
+  pub each : (at : ℕ) (k : Known) → slice_get known at ≡ Some k → IsKnown funcs pictures k
+
+-- tables and slices are what they should be
+pub record AreTables (scene : Scene) : Type 0 where
+  pub tables : AreTablesOf scene.funcs.now scene.pictures.now scene.tables.now
+  pub known : AreKnownOf scene.funcs.now scene.pictures.now scene.known.now
+
+-- ---- sizes, by which the recursion ends
+
+abbrev pub index_nodes : Option Expr → ℕ
+index_nodes None = 0
+index_nodes (Some index) = nodes index
+
+abbrev pub update_nodes : Update → ℕ
+update_nodes update = nodes update.left_x + index_nodes update.left_y + nodes update.right
+
+abbrev pub updates_nodes : List Update → ℕ
+updates_nodes [] = 0
+updates_nodes (update ∷ updates) = update_nodes update + updates_nodes updates
+
+-- how many nodes all expressions have
+unfoldable pub all_nodes : List Func → ℕ
+all_nodes [] = 0
+all_nodes (func ∷ funcs) = nodes func.pure + updates_nodes func.updates + all_nodes funcs
+
+-- how many updates there are
+unfoldable pub all_updates : List Func → ℕ
+all_updates [] = 0
+all_updates (func ∷ funcs) = length func.updates + all_updates funcs

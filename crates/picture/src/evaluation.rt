@@ -1,0 +1,318 @@
+//! The output of a pipeline.
+
+ghost use Rattle.std.specs.Prelude.{◌≡◌, ◌<◌, ◌≤◌, ◌+◌, ◌*◌, ◌/◌, ◌%◌, ◌^◌, ◌==◌, ◌&&◌, ℕ, Ok, Some, None, IfSome, OnOk, slice_get, IfOk, IfErr, IsTrue, true, length, slice_index};
+ghost use Rattle.std.specs.List.{AllZip, range_with_len};
+ghost use Rattle.halide_pipeline.specs.Words as word;
+ghost use Rattle.halide_pipeline.specs.WellFormed.{is_output};
+ghost use Rattle.picture.specs.Slices.{is_forward};
+ghost use Rattle.picture.specs.Evaluated.{is_size, are_sizes, judged, Evaluates};
+ghost use Rattle.picture.specs.Evaluation.{plane_of, numbered_pixel, AreTables, AreTablesOf, AreKnownOf, AreSlicesOf, IsSliceOf, IsTable, IsAt};
+
+use crate::boxes::{Bounds, Slices, Wanted, bounds_of, find, slices_of};
+use crate::faults::EvalError;
+use crate::pictures::Picture;
+use crate::plain::{func_at, is_forward, pixel, run_forward};
+use crate::scenes::{Known, Scene, Slice, Table};
+use halide_pipeline::{Func, Input, Pipeline, Update, words};
+use rayon::prelude::*;
+use std::alloc::{AllocError, Global};
+use std::thread::Threads;
+
+/// Whether a picture has the size that an input asks for.
+fn is_size(input: &Input, picture: &Picture) -> bool
+    ensures { result ≡ is_size input.now picture.now }
+{
+    picture.width() == input.width && picture.height() == input.height
+}
+
+/// Whether each picture has.
+fn are_sizes(inputs: &[Input], pictures: &[Picture]) -> bool
+    ensures { result ≡ are_sizes inputs.now pictures.now }
+{
+    match inputs {
+        [] => true,
+        [input, inputs @ ..] => match pictures {
+            [] => true,
+            [picture, pictures @ ..] => is_size(input, picture) && are_sizes(inputs, pictures),
+        },
+    }
+}
+
+/// Judges the pictures, their count first.
+fn judge(inputs: &[Input], pictures: &[Picture]) -> Option<EvalError>
+    ensures { result ≡ judged inputs.now pictures.now }
+{
+    if pictures.len() != inputs.len() {
+        return Some(EvalError::InputCount);
+    }
+    if !are_sizes(inputs, pictures) {
+        return Some(EvalError::InputSize);
+    }
+    None
+}
+
+/// The pixel with this number in a box of the Func at a place, by rows.
+#[tactic(auto, unfolding(crate::specs::Evaluation::numbered_pixel, halide_pipeline::specs::Words::add))]
+fn numbered(
+    alloc: Global,
+    scene: &Scene,
+    place: usize,
+    left: u32,
+    top: u32,
+    width: u32,
+    at: usize,
+) -> Result<u32, AllocError>
+    requires tables { AreTables scene.now }
+    requires wide { 0 < width }
+    ensures { IfOk result (λ pixel. pixel ≡ numbered_pixel (plane_of scene.now place) left top width at) }
+{
+    let x = words::add(left, (at % width as usize) as u32);
+    let y = words::add(top, ((at / width as usize) % (1 << 32)) as u32);
+    let pixel = pixel(alloc, scene, place, x, y)?;
+    Ok(pixel)
+}
+
+/// The pixels of the Func at a place in a box, by rows, from as many threads as there are
+/// processors.
+fn fill(
+    rt: &(impl Threads + Sync),
+    alloc: Global,
+    scene: &Scene,
+    place: usize,
+    left: u32,
+    top: u32,
+    width: u32,
+    height: u32,
+) -> Result<Vec<u32>, AllocError>
+    requires tables { AreTables scene.now }
+    requires wide { 0 < width }
+    ensures { IfOk result (λ pixels. AllZip (λ at pixel. pixel ≡ numbered_pixel (plane_of scene.now place) left top width at) (range_with_len 0 (width * height)) pixels.items) }
+{
+    let scene = *scene;
+    let pixels: Result<Vec<u32>, AllocError> = (0..width as usize * height as usize)
+        .into_par_iter()
+        .map(
+            move |at: usize| -> Result<u32, AllocError>
+                requires { AreTables scene × (0 < width) }
+                ensures { IfOk result (λ pixel. pixel ≡ numbered_pixel (plane_of scene.entry place) left top width at) }
+            { numbered(alloc, &scene, place, left, top, width, at) },
+        )
+        .collect(rt, alloc)?;
+    pixels
+}
+
+/// The table of the Func at a place in a box.
+fn tabulate(
+    rt: &(impl Threads + Sync),
+    alloc: Global,
+    scene: &Scene,
+    place: usize,
+    bounds: Bounds,
+) -> Result<Table, AllocError>
+    requires tables { AreTables scene.now }
+    requires wide { 0 < bounds.width }
+    ensures table { IfOk result (IsTable (plane_of scene.now place)) }
+    ensures bounds { IfOk result (IsAt bounds.left bounds.top bounds.width bounds.height) }
+{
+    let Bounds {
+        left,
+        top,
+        width,
+        height,
+    } = bounds;
+    let pixels = fill(rt, alloc, scene, place, left, top, width, height)?;
+    Ok(Table {
+        left,
+        top,
+        width,
+        height,
+        pixels,
+    })
+}
+
+/// What an update comes to on the slice with this number.
+fn numbered_slice(
+    alloc: Global,
+    scene: &Scene,
+    own: usize,
+    func: &Func,
+    updates: usize,
+    update: &Update,
+    wanted: Slices,
+    number: usize,
+) -> Result<Slice, AllocError>
+    requires tables { AreTables scene.now }
+    requires is { slice_get scene.now.funcs.now own ≡ Some func.now }
+    requires next { slice_get func.now.updates updates ≡ Some update.now }
+    requires forward { is_forward update.now ≡ true }
+    ensures { IfOk result (IsSliceOf scene.now.funcs.now scene.now.pictures.now own updates) }
+{
+    let step = (number % (1 << 32)) as u32;
+    let x = words::add(wanted.left, step);
+    let y = words::add(wanted.top, step);
+    let slice = run_forward(alloc, scene, own, func, updates, update, x, y)?;
+    Ok(slice)
+}
+
+/// What an update comes to on slices, each one further than the one before it, from as many threads
+/// as there are processors.
+fn run_slices(
+    rt: &(impl Threads + Sync),
+    alloc: Global,
+    scene: &Scene,
+    own: usize,
+    func: &Func,
+    updates: usize,
+    update: &Update,
+    wanted: Slices,
+) -> Result<Vec<Slice>, AllocError>
+    requires tables { AreTables scene.now }
+    requires is { slice_get scene.now.funcs.now own ≡ Some func.now }
+    requires next { slice_get func.now.updates updates ≡ Some update.now }
+    requires forward { is_forward update.now ≡ true }
+    ensures { IfOk result (λ slices. AreSlicesOf scene.now.funcs.now scene.now.pictures.now own updates slices.items) }
+{
+    let scene = *scene;
+    let slices: Result<Vec<Slice>, AllocError> = (0..wanted.count as usize)
+        .into_par_iter()
+        .map(
+            move |number: usize| -> Result<Slice, AllocError>
+                requires { AreTables scene × (slice_get scene.funcs.now own ≡ Some func.now) × (slice_get func.now.updates updates ≡ Some update.now) × (is_forward update.now ≡ true) }
+                ensures { IfOk result (IsSliceOf scene.entry.funcs.now scene.entry.pictures.now own updates) }
+            { numbered_slice(alloc, &scene, own, func, updates, update, wanted, number) },
+        )
+        .collect(rt, alloc)?;
+    slices
+}
+
+/// Adds what an update comes to on the slices that are wanted.
+fn know_update(
+    rt: &(impl Threads + Sync),
+    alloc: Global,
+    scene: &Scene,
+    own: usize,
+    func: &Func,
+    updates: usize,
+    update: &Update,
+    wanted: Wanted,
+    known: &mut Vec<Known>,
+) -> Result<(), AllocError>
+    requires tables { AreTablesOf scene.now.funcs.now scene.now.pictures.now scene.now.tables.now }
+    requires known { AreKnownOf scene.now.funcs.now scene.now.pictures.now known.old.items }
+    requires is { slice_get scene.now.funcs.now own ≡ Some func.now }
+    requires next { slice_get func.now.updates updates ≡ Some update.now }
+    requires forward { is_forward update.now ≡ true }
+    ensures { OnOk result (AreKnownOf scene.now.funcs.now scene.now.pictures.now known.new.items) }
+{
+    let wanted = slices_of(wanted, updates, update);
+    let now = Scene {
+        known: known.as_slice(),
+        ..*scene
+    };
+    let slices = run_slices(rt, alloc, &now, own, func, updates, update, wanted)?;
+    known.push(Known {
+        own,
+        updates,
+        slices,
+    })?;
+    Ok(())
+}
+
+/// Adds what the updates of a Func come to on slices.
+fn know_all(
+    rt: &(impl Threads + Sync),
+    alloc: Global,
+    scene: &Scene,
+    own: usize,
+    func: &Func,
+    wanted: Wanted,
+    known: &mut Vec<Known>,
+) -> Result<(), AllocError>
+    requires tables { AreTablesOf scene.now.funcs.now scene.now.pictures.now scene.now.tables.now }
+    requires known { AreKnownOf scene.now.funcs.now scene.now.pictures.now known.old.items }
+    requires is { slice_get scene.now.funcs.now own ≡ Some func.now }
+    ensures { OnOk result (AreKnownOf scene.now.funcs.now scene.now.pictures.now known.new.items) }
+{
+    for (updates, update) in func.updates.as_slice().iter().enumerate() {
+        if is_forward(update) {
+            know_update(rt, alloc, scene, own, func, updates, update, wanted, known)?;
+        }
+    }
+    Ok(())
+}
+
+/// The tables of the Funcs, one after the other, each where its pixels are wanted, and what updates
+/// come to on the whole plane.
+fn tabulate_all(
+    rt: &(impl Threads + Sync),
+    alloc: Global,
+    funcs: &[Func],
+    pictures: &[Picture],
+    wanted: &[Wanted],
+) -> Result<(Vec<Table>, Vec<Known>), AllocError>
+    ensures tables { IfOk result (λ all. AreTablesOf funcs.now pictures.now all.0.items) }
+    ensures known { IfOk result (λ all. AreKnownOf funcs.now pictures.now all.1.items) }
+{
+    let mut tables = Vec::new(alloc);
+    let mut known = Vec::new(alloc);
+    for own in wanted {
+        let bounds = bounds_of(*own);
+        if own.is_wanted()
+            && let Some(func) = func_at(funcs, tables.len())
+        {
+            let scene = Scene {
+                funcs,
+                pictures,
+                tables: &tables,
+                known: &[],
+            };
+            know_all(rt, alloc, &scene, tables.len(), func, *own, &mut known)?;
+        }
+        let scene = Scene {
+            funcs,
+            pictures,
+            tables: &tables,
+            known: &known,
+        };
+        let table = tabulate(rt, alloc, &scene, tables.len(), bounds)?;
+        tables.push(table)?;
+    }
+    Ok((tables, known))
+}
+
+/// The picture of a pipeline's output, from the pictures that its inputs ask for. Each pixel is the
+/// value that the pipeline's definition has there, in arithmetic on words (`specs/Pixel.antt`); an
+/// input is 0 outside its picture. Refused where there aren't as many pictures as inputs, else where
+/// a picture hasn't its input's size; and where memory runs out.
+pub fn evaluate(
+    rt: &(impl Threads + Sync),
+    alloc: Global,
+    pipeline: &Pipeline,
+    pictures: &[Picture],
+) -> Result<Picture, EvalError>
+    requires output { IsTrue (is_output pipeline.now.output) }
+    ensures { Evaluates pipeline.now pictures.now result }
+{
+    if let Some(error) = judge(pipeline.inputs.as_slice(), pictures) {
+        return Err(error);
+    }
+    let output = pipeline.output;
+    let funcs = pipeline.funcs.as_slice();
+    let wanted = find(alloc, funcs, pictures, output)?;
+    let (tables, known) = tabulate_all(rt, alloc, funcs, pictures, &wanted)?;
+    let scene = Scene {
+        funcs,
+        pictures,
+        tables: &tables,
+        known: &known,
+    };
+    let bounds = Bounds {
+        left: 0,
+        top: 0,
+        width: output.width,
+        height: output.height,
+    };
+    let table = tabulate(rt, alloc, &scene, output.func, bounds)?;
+    let picture = Picture::new(output.width, output.height, table.pixels).unwrap();
+    Ok(picture)
+}

@@ -1,0 +1,468 @@
+//! Encoding of the vector instructions.
+
+ghost use Rattle.std.specs.Prelude.{◌≡◌, ◌<◌, ◌^◌, ℕ, pos, [], ◌∷◌};
+ghost use Rattle.rv_insn.specs.Encoding.{bit_of};
+ghost use Rattle.rv_insn.specs.VectorMeaning.{vector_fields_of};
+ghost use Rattle.rv_insn.specs.VectorTable.{opivi_type, merge_vi_type, move_vi_type, to_scalar_type, from_scalar_type, numbers_type, vsetvli_type, vsetivli_type, vsetvl_type, unit_type};
+ghost use Rattle.rv_encoding.specs.Formats.{Stands, vector_shape_of, registers_shape, merge_shape, move_shape, offset_shape};
+
+use crate::opcodes;
+use crate::packing::{digits_5, pack_i, pack_r, pack_v};
+use crate::vector_keys::{
+    arithmetic_vi_funct6, arithmetic_vv_funct6, arithmetic_vx_funct6, compare_vi_funct6,
+    compare_vv_funct6, compare_vx_funct6, multiply_funct6, reduction_funct6, shift_vi_funct6,
+    width_funct3,
+};
+use rv_insn::{ElementWidth, Imm5, Length5, Reg, VReg, VectorInsn, Vtype10, Vtype11};
+
+/// The field funct3 of each form.
+const OPIVV: u32 = 0b000;
+
+const OPMVV: u32 = 0b010;
+
+const OPIVI: u32 = 0b011;
+
+const OPIVX: u32 = 0b100;
+
+const OPMVX: u32 = 0b110;
+
+const CONFIGURATION: u32 = 0b111;
+
+/// The fields funct6 of merges and moves, of the moves between a register and element 0, and of the
+/// elements' numbers.
+const MERGE: u32 = 0b01_0111;
+
+const SCALAR_MOVE: u32 = 0b01_0000;
+
+const NUMBERS: u32 = 0b01_0100;
+
+/// The addressing modes, in the place of funct6.
+const UNIT: u32 = 0b00;
+
+const INDEXED: u32 = 0b01;
+
+const STRIDED: u32 = 0b10;
+
+#[tactic(auto, using(crate::proofs::VectorFormats::registers_made), unfolding(crate::specs::Decoding::rd_of, crate::specs::Decoding::rs1_of, crate::specs::Decoding::rs2_of, crate::specs::Decoding::vector_immediate_of, crate::specs::Decoding::vtype10_of, crate::specs::Decoding::vtype11_of))]
+fn registers_word(funct3: u32, funct6: u32, vd: VReg, vs2: VReg, third: u32, vm: bool) -> u32
+    requires funct3 { funct3 < 2 ^ 3 }
+    requires funct6 { funct6 < 2 ^ 6 }
+    requires third { third < 2 ^ 5 }
+    ensures { Stands result (registers_shape funct3 funct6) (pos vd ∷ pos vs2 ∷ pos third ∷ pos (bit_of vm) ∷ []) }
+{
+    pack_v(
+        opcodes::OP_V,
+        vd.number() as u32,
+        funct3,
+        third,
+        vs2.number() as u32,
+        vm,
+        funct6,
+    )
+}
+
+#[tactic(auto, using(crate::proofs::VectorFormats::immediate_made), unfolding(crate::specs::Decoding::rd_of, crate::specs::Decoding::rs1_of, crate::specs::Decoding::rs2_of, crate::specs::Decoding::vector_immediate_of, crate::specs::Decoding::vtype10_of, crate::specs::Decoding::vtype11_of))]
+fn immediate_word(funct6: u32, vd: VReg, vs2: VReg, imm: Imm5, vm: bool) -> u32
+    requires { funct6 < 2 ^ 6 }
+    ensures { Stands result (opivi_type [] funct6) (pos vd ∷ pos vs2 ∷ imm ∷ pos (bit_of vm) ∷ []) }
+{
+    pack_v(
+        opcodes::OP_V,
+        vd.number() as u32,
+        OPIVI,
+        digits_5(imm.value()),
+        vs2.number() as u32,
+        vm,
+        funct6,
+    )
+}
+
+#[tactic(auto, using(crate::proofs::VectorFormats::merge_made), unfolding(crate::specs::Decoding::rd_of, crate::specs::Decoding::rs1_of, crate::specs::Decoding::rs2_of, crate::specs::Decoding::vector_immediate_of, crate::specs::Decoding::vtype10_of, crate::specs::Decoding::vtype11_of))]
+fn merge_word(funct3: u32, vd: VReg, vs2: VReg, third: u32) -> u32
+    requires funct3 { funct3 < 2 ^ 3 }
+    requires third { third < 2 ^ 5 }
+    ensures { Stands result (merge_shape funct3) (pos vd ∷ pos vs2 ∷ pos third ∷ []) }
+{
+    pack_v(
+        opcodes::OP_V,
+        vd.number() as u32,
+        funct3,
+        third,
+        vs2.number() as u32,
+        false,
+        MERGE,
+    )
+}
+
+#[tactic(auto, using(crate::proofs::VectorFormats::merge_immediate_made), unfolding(crate::specs::Decoding::rd_of, crate::specs::Decoding::rs1_of, crate::specs::Decoding::rs2_of, crate::specs::Decoding::vector_immediate_of, crate::specs::Decoding::vtype10_of, crate::specs::Decoding::vtype11_of))]
+fn merge_immediate_word(vd: VReg, vs2: VReg, imm: Imm5) -> u32
+    ensures { Stands result (merge_vi_type []) (pos vd ∷ pos vs2 ∷ imm ∷ []) }
+{
+    pack_v(
+        opcodes::OP_V,
+        vd.number() as u32,
+        OPIVI,
+        digits_5(imm.value()),
+        vs2.number() as u32,
+        false,
+        MERGE,
+    )
+}
+
+#[tactic(auto, using(crate::proofs::VectorFormats::move_made), unfolding(crate::specs::Decoding::rd_of, crate::specs::Decoding::rs1_of, crate::specs::Decoding::rs2_of, crate::specs::Decoding::vector_immediate_of, crate::specs::Decoding::vtype10_of, crate::specs::Decoding::vtype11_of))]
+fn move_word(funct3: u32, vd: VReg, third: u32) -> u32
+    requires funct3 { funct3 < 2 ^ 3 }
+    requires third { third < 2 ^ 5 }
+    ensures { Stands result (move_shape funct3) (pos vd ∷ pos third ∷ []) }
+{
+    pack_v(
+        opcodes::OP_V,
+        vd.number() as u32,
+        funct3,
+        third,
+        0,
+        true,
+        MERGE,
+    )
+}
+
+#[tactic(auto, using(crate::proofs::VectorFormats::move_immediate_made), unfolding(crate::specs::Decoding::rd_of, crate::specs::Decoding::rs1_of, crate::specs::Decoding::rs2_of, crate::specs::Decoding::vector_immediate_of, crate::specs::Decoding::vtype10_of, crate::specs::Decoding::vtype11_of))]
+fn move_immediate_word(vd: VReg, imm: Imm5) -> u32
+    ensures { Stands result (move_vi_type []) (pos vd ∷ imm ∷ []) }
+{
+    pack_v(
+        opcodes::OP_V,
+        vd.number() as u32,
+        OPIVI,
+        digits_5(imm.value()),
+        0,
+        true,
+        MERGE,
+    )
+}
+
+#[tactic(auto, using(crate::proofs::VectorFormats::to_scalar_made), unfolding(crate::specs::Decoding::rd_of, crate::specs::Decoding::rs1_of, crate::specs::Decoding::rs2_of, crate::specs::Decoding::vector_immediate_of, crate::specs::Decoding::vtype10_of, crate::specs::Decoding::vtype11_of))]
+fn to_scalar_word(rd: Reg, vs2: VReg) -> u32
+    ensures { Stands result (to_scalar_type []) (pos rd ∷ pos vs2 ∷ []) }
+{
+    pack_v(
+        opcodes::OP_V,
+        rd.number() as u32,
+        OPMVV,
+        0,
+        vs2.number() as u32,
+        true,
+        SCALAR_MOVE,
+    )
+}
+
+#[tactic(auto, using(crate::proofs::VectorFormats::from_scalar_made), unfolding(crate::specs::Decoding::rd_of, crate::specs::Decoding::rs1_of, crate::specs::Decoding::rs2_of, crate::specs::Decoding::vector_immediate_of, crate::specs::Decoding::vtype10_of, crate::specs::Decoding::vtype11_of))]
+fn from_scalar_word(vd: VReg, rs1: Reg) -> u32
+    ensures { Stands result (from_scalar_type []) (pos vd ∷ pos rs1 ∷ []) }
+{
+    pack_v(
+        opcodes::OP_V,
+        vd.number() as u32,
+        OPMVX,
+        rs1.number() as u32,
+        0,
+        true,
+        SCALAR_MOVE,
+    )
+}
+
+#[tactic(auto, using(crate::proofs::VectorFormats::numbers_made), unfolding(crate::specs::Decoding::rd_of, crate::specs::Decoding::rs1_of, crate::specs::Decoding::rs2_of, crate::specs::Decoding::vector_immediate_of, crate::specs::Decoding::vtype10_of, crate::specs::Decoding::vtype11_of))]
+fn numbers_word(vd: VReg, vm: bool) -> u32
+    ensures { Stands result (numbers_type []) (pos vd ∷ pos (bit_of vm) ∷ []) }
+{
+    pack_v(
+        opcodes::OP_V,
+        vd.number() as u32,
+        OPMVV,
+        0b1_0001,
+        0,
+        vm,
+        NUMBERS,
+    )
+}
+
+#[tactic(auto, using(crate::proofs::VectorFormats::vsetvli_made), unfolding(crate::specs::Decoding::rd_of, crate::specs::Decoding::rs1_of, crate::specs::Decoding::rs2_of, crate::specs::Decoding::vector_immediate_of, crate::specs::Decoding::vtype10_of, crate::specs::Decoding::vtype11_of))]
+fn vsetvli_word(rd: Reg, rs1: Reg, vtype: Vtype11) -> u32
+    ensures { Stands result (vsetvli_type []) (pos rd ∷ pos rs1 ∷ pos vtype ∷ []) }
+{
+    pack_i(
+        opcodes::OP_V,
+        rd.number() as u32,
+        CONFIGURATION,
+        rs1.number() as u32,
+        vtype.value(),
+    )
+}
+
+#[tactic(auto, using(crate::proofs::VectorFormats::vsetivli_made), unfolding(crate::specs::Decoding::rd_of, crate::specs::Decoding::rs1_of, crate::specs::Decoding::rs2_of, crate::specs::Decoding::vector_immediate_of, crate::specs::Decoding::vtype10_of, crate::specs::Decoding::vtype11_of))]
+fn vsetivli_word(rd: Reg, length: Length5, vtype: Vtype10) -> u32
+    ensures { Stands result (vsetivli_type []) (pos rd ∷ pos length ∷ pos vtype ∷ []) }
+{
+    pack_i(
+        opcodes::OP_V,
+        rd.number() as u32,
+        CONFIGURATION,
+        length.value(),
+        vtype.value() + 0xc00,
+    )
+}
+
+#[tactic(auto, using(crate::proofs::VectorFormats::vsetvl_made), unfolding(crate::specs::Decoding::rd_of, crate::specs::Decoding::rs1_of, crate::specs::Decoding::rs2_of, crate::specs::Decoding::vector_immediate_of, crate::specs::Decoding::vtype10_of, crate::specs::Decoding::vtype11_of))]
+fn vsetvl_word(rd: Reg, rs1: Reg, rs2: Reg) -> u32
+    ensures { Stands result (vsetvl_type []) (pos rd ∷ pos rs1 ∷ pos rs2 ∷ []) }
+{
+    pack_r(
+        opcodes::OP_V,
+        rd.number() as u32,
+        CONFIGURATION,
+        rs1.number() as u32,
+        rs2.number() as u32,
+        0b100_0000,
+    )
+}
+
+#[tactic(auto, using(crate::proofs::VectorFormats::unit_made), unfolding(crate::specs::Decoding::rd_of, crate::specs::Decoding::rs1_of, crate::specs::Decoding::rs2_of, crate::specs::Decoding::vector_immediate_of, crate::specs::Decoding::vtype10_of, crate::specs::Decoding::vtype11_of))]
+fn unit_word(opcode: u32, width: u32, vd: VReg, rs1: Reg, vm: bool) -> u32
+    requires opcode { opcode < 2 ^ 7 }
+    requires width { width < 2 ^ 3 }
+    ensures { Stands result (unit_type [] opcode width) (pos vd ∷ pos rs1 ∷ pos (bit_of vm) ∷ []) }
+{
+    pack_v(
+        opcode,
+        vd.number() as u32,
+        width,
+        rs1.number() as u32,
+        0,
+        vm,
+        UNIT,
+    )
+}
+
+#[tactic(auto, using(crate::proofs::VectorFormats::offset_made), unfolding(crate::specs::Decoding::rd_of, crate::specs::Decoding::rs1_of, crate::specs::Decoding::rs2_of, crate::specs::Decoding::vector_immediate_of, crate::specs::Decoding::vtype10_of, crate::specs::Decoding::vtype11_of))]
+fn offset_word(opcode: u32, width: u32, mode: u32, vd: VReg, rs1: Reg, offset: u32, vm: bool) -> u32
+    requires opcode { opcode < 2 ^ 7 }
+    requires width { width < 2 ^ 3 }
+    requires mode { mode < 2 ^ 2 }
+    requires offset { offset < 2 ^ 5 }
+    ensures { Stands result (offset_shape opcode width mode) (pos vd ∷ pos rs1 ∷ pos offset ∷ pos (bit_of vm) ∷ []) }
+{
+    pack_v(
+        opcode,
+        vd.number() as u32,
+        width,
+        rs1.number() as u32,
+        offset,
+        vm,
+        mode,
+    )
+}
+
+/// The word of a vector instruction.
+pub fn vector_word(insn: VectorInsn) -> u32
+    ensures { Stands result (vector_shape_of insn) (vector_fields_of insn) }
+{
+    match insn {
+        VectorInsn::ArithmeticVv {
+            op,
+            vd,
+            vs2,
+            vs1,
+            vm,
+        } => registers_word(
+            OPIVV,
+            arithmetic_vv_funct6(op),
+            vd,
+            vs2,
+            vs1.number() as u32,
+            vm,
+        ),
+        VectorInsn::ArithmeticVx {
+            op,
+            vd,
+            vs2,
+            rs1,
+            vm,
+        } => registers_word(
+            OPIVX,
+            arithmetic_vx_funct6(op),
+            vd,
+            vs2,
+            rs1.number() as u32,
+            vm,
+        ),
+        VectorInsn::ArithmeticVi {
+            op,
+            vd,
+            vs2,
+            imm,
+            vm,
+        } => immediate_word(arithmetic_vi_funct6(op), vd, vs2, imm, vm),
+        VectorInsn::ShiftVi {
+            op,
+            vd,
+            vs2,
+            amount,
+            vm,
+        } => registers_word(
+            OPIVI,
+            shift_vi_funct6(op),
+            vd,
+            vs2,
+            amount.value() as u32,
+            vm,
+        ),
+        VectorInsn::CompareVv {
+            op,
+            vd,
+            vs2,
+            vs1,
+            vm,
+        } => registers_word(
+            OPIVV,
+            compare_vv_funct6(op),
+            vd,
+            vs2,
+            vs1.number() as u32,
+            vm,
+        ),
+        VectorInsn::CompareVx {
+            op,
+            vd,
+            vs2,
+            rs1,
+            vm,
+        } => registers_word(
+            OPIVX,
+            compare_vx_funct6(op),
+            vd,
+            vs2,
+            rs1.number() as u32,
+            vm,
+        ),
+        VectorInsn::CompareVi {
+            op,
+            vd,
+            vs2,
+            imm,
+            vm,
+        } => immediate_word(compare_vi_funct6(op), vd, vs2, imm, vm),
+        VectorInsn::MultiplyVv {
+            op,
+            vd,
+            vs2,
+            vs1,
+            vm,
+        } => registers_word(OPMVV, multiply_funct6(op), vd, vs2, vs1.number() as u32, vm),
+        VectorInsn::MultiplyVx {
+            op,
+            vd,
+            vs2,
+            rs1,
+            vm,
+        } => registers_word(OPMVX, multiply_funct6(op), vd, vs2, rs1.number() as u32, vm),
+        VectorInsn::Reduce {
+            op,
+            vd,
+            vs2,
+            vs1,
+            vm,
+        } => registers_word(
+            OPMVV,
+            reduction_funct6(op),
+            vd,
+            vs2,
+            vs1.number() as u32,
+            vm,
+        ),
+        VectorInsn::MergeVv { vd, vs2, vs1 } => merge_word(OPIVV, vd, vs2, vs1.number() as u32),
+        VectorInsn::MergeVx { vd, vs2, rs1 } => merge_word(OPIVX, vd, vs2, rs1.number() as u32),
+        VectorInsn::MergeVi { vd, vs2, imm } => merge_immediate_word(vd, vs2, imm),
+        VectorInsn::MoveVv { vd, vs1 } => move_word(OPIVV, vd, vs1.number() as u32),
+        VectorInsn::MoveVx { vd, rs1 } => move_word(OPIVX, vd, rs1.number() as u32),
+        VectorInsn::MoveVi { vd, imm } => move_immediate_word(vd, imm),
+        VectorInsn::MoveToScalar { rd, vs2 } => to_scalar_word(rd, vs2),
+        VectorInsn::MoveFromScalar { vd, rs1 } => from_scalar_word(vd, rs1),
+        VectorInsn::ElementNumbers { vd, vm } => numbers_word(vd, vm),
+        VectorInsn::Vsetvli { rd, rs1, vtype } => vsetvli_word(rd, rs1, vtype),
+        VectorInsn::Vsetivli { rd, length, vtype } => vsetivli_word(rd, length, vtype),
+        VectorInsn::Vsetvl { rd, rs1, rs2 } => vsetvl_word(rd, rs1, rs2),
+        VectorInsn::LoadUnit { width, vd, rs1, vm } => unit_word(
+            opcodes::LOAD_VECTOR,
+            width_funct3(width),
+            vd,
+            rs1,
+            vm,
+        ),
+        VectorInsn::LoadStrided {
+            width,
+            vd,
+            rs1,
+            rs2,
+            vm,
+        } => offset_word(
+            opcodes::LOAD_VECTOR,
+            width_funct3(width),
+            STRIDED,
+            vd,
+            rs1,
+            rs2.number() as u32,
+            vm,
+        ),
+        VectorInsn::LoadIndexed {
+            width,
+            vd,
+            rs1,
+            vs2,
+            vm,
+        } => offset_word(
+            opcodes::LOAD_VECTOR,
+            width_funct3(width),
+            INDEXED,
+            vd,
+            rs1,
+            vs2.number() as u32,
+            vm,
+        ),
+        VectorInsn::StoreUnit {
+            width,
+            vs3,
+            rs1,
+            vm,
+        } => unit_word(opcodes::STORE_VECTOR, width_funct3(width), vs3, rs1, vm),
+        VectorInsn::StoreStrided {
+            width,
+            vs3,
+            rs1,
+            rs2,
+            vm,
+        } => offset_word(
+            opcodes::STORE_VECTOR,
+            width_funct3(width),
+            STRIDED,
+            vs3,
+            rs1,
+            rs2.number() as u32,
+            vm,
+        ),
+        VectorInsn::StoreIndexed {
+            width,
+            vs3,
+            rs1,
+            vs2,
+            vm,
+        } => offset_word(
+            opcodes::STORE_VECTOR,
+            width_funct3(width),
+            INDEXED,
+            vs3,
+            rs1,
+            vs2.number() as u32,
+            vm,
+        ),
+    }
+}

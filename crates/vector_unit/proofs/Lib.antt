@@ -1,0 +1,3 @@
+pub mod Choices
+pub mod Fillings
+pub mod Zips

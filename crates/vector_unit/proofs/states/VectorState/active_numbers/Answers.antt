@@ -1,0 +1,33 @@
+use Rattle.std.proofs.Common.{ℕ, arith, rules}
+use Rattle.std.proofs.lemmas.List.{map-id, length_push}
+use Rattle.lanes.specs.Masks.{active}
+use Rattle.lanes.specs.Registers.{elements}
+use Rattle.vector_unit.proofs.Choices.{left_at_start, left_after_active, left_after_other}
+use Rattle.vector_unit.specs.Accesses.{active_numbers}
+use Rattle.vector_unit.proofs.states.VectorState.active_numbers.Goals as goal
+use Rattle.vector_unit.proofs.states.VectorState.active_numbers.Goals.{then-is_active, else-is_active}
+
+pub loop-index-init : goal.loop-index-init
+unfolding active elements
+loop-index-init c = rw c.new-numbers.ensures (record {
+  few = omega arith;
+  end = c.count-index-end.ensures.value;
+  at_most = omega arith;
+  left = left_at_start _ _ _ _ _ (map-id (active_numbers c.args.self.now c.args.v c.args.vm));
+})
+
+pub loop-index-preserved : goal.loop-index-preserved
+loop-index-preserved c = elim c.if-is_active.branch [
+  | then-is_active w ↦ rw w.numbers-is (record {
+    few = rw w.push.ensures (omega (arith, length_push {X = ℕ}));
+    end = c.loop-index.invariant.end;
+    at_most = c.loop-index.invariant.at_most;
+    left = left_after_active _ _ _ _ _ _ _ _ (omega arith) (search rules) (search rules) c.loop-index.invariant.left;
+  })
+  | else-is_active w ↦ rw w.numbers-is (record {
+    few = omega arith;
+    end = c.loop-index.invariant.end;
+    at_most = c.loop-index.invariant.at_most;
+    left = left_after_other _ _ _ _ _ _ _ (omega arith) (search rules) c.loop-index.invariant.left;
+  })
+]

@@ -1,0 +1,5 @@
+pub mod Accesses
+pub mod Operands
+pub mod Operations
+pub mod Vector
+pub mod VectorState

@@ -1,0 +1,281 @@
+-- The rows of the vector instructions: what each that touches no memory leaves of the vector state, what it gives to an
+-- integer register, and which rows are illegal in a state.
+-- RISC-V Vector Extension 1.0, chapters 5 "Vector Instruction Formats", 7 "Vector Loads and Stores", with section 7.3
+-- "Vector Load/Store Width Encoding", 11 "Vector Integer Arithmetic Instructions", with sections 11.15 "Vector Integer Merge
+-- Instructions" and 11.16 "Vector Integer Move Instructions", 14 "Vector Reduction Operations"; sections 15.9 "Vector Element
+-- Index Instruction" and 16.1 "Integer Scalar Move Instructions". This project's own are that elements which are not active
+-- are kept, that a masked row whose destination is v0 is illegal (vmerge too, compares and reductions apart), and that a
+-- load's or store's width has to be the configured one.
+use Rattle.std.specs.Prelude.{ℕ, ◌%◌, ◌^◌, ◌==◌, ◌&&◌, ◌||◌, not, Bool, true, false, if◌then◌else◌, List, replicate, Option, Some, None, ℤ}
+use Rattle.std.specs.List.{range_with_len}
+use Rattle.lanes.specs.Words as word
+use Rattle.lanes.specs.Registers.{element, with_element, elements, register_of}
+use Rattle.lanes.specs.Masks.{active, mask_bits, with_mask_bits}
+use Rattle.lanes.specs.Elementwise.{zip_with, merged, reduced}
+use Rattle.rv_insn.specs.declared.vector_instructions.VectorInsn.{VectorInsn}
+use Rattle.rv_insn.specs.declared.vector_instructions.VectorInsn.TheVariants as v
+use Rattle.rv_insn.specs.declared.vector_operations.ElementWidth.{ElementWidth}
+use Rattle.rv_insn.specs.declared.vector_operations.ElementWidth.TheVariants as widths
+use Rattle.vector_unit.specs.VectorState.{Vectors, register, with_register, has_vill, width_of, most_elements, asked_by, is_illegal_configuration}
+use Rattle.vector_unit.specs.declared.configuration.Asked.{Asked}
+use Rattle.vector_unit.specs.declared.configuration.Asked.TheVariants.{AtMost}
+use Rattle.vector_unit.specs.Operations as op
+
+-- ---- operands, in the state's configuration
+
+abbrev pub width : Vectors → ℕ
+width state = width_of state.vtype
+
+abbrev pub count : Vectors → ℕ
+count state = most_elements state.vtype
+
+-- the elements of a vector register, of the low bits of an integer register, of a signed immediate
+abbrev pub of_register : Vectors → ℕ → List ℕ
+of_register state v = elements (width state) (register state v)
+
+abbrev pub of_scalar : Vectors → ℕ → List ℕ
+of_scalar state number = replicate (count state) (number % 2 ^ width state)
+
+abbrev pub of_immediate : Vectors → ℤ → List ℕ
+of_immediate state imm = replicate (count state) (word.wrapped (width state) imm)
+
+-- which elements are active, by the mask bit of the word
+abbrev pub active_in : Vectors → Bool → List Bool
+active_in state vm = active (count state) state.vl vm (register state 0)
+
+-- ---- results
+
+-- new elements where they are active, the old ones elsewhere
+abbrev pub with_elements : Vectors → ℕ → Bool → List ℕ → Vectors
+with_elements state vd vm new =
+    with_register state vd (register_of (width state) (merged (active_in state vm) new (of_register state vd)))
+
+-- new mask bits where the elements are active, the old ones elsewhere
+abbrev pub with_bits : Vectors → ℕ → Bool → List Bool → Vectors
+with_bits state vd vm bits = with_register state vd (with_mask_bits (active_in state vm) bits (register state vd))
+
+-- element 0, unless vl is 0
+abbrev pub with_first : Vectors → ℕ → ℕ → Vectors
+with_first state vd number =
+    if state.vl == 0 then state else with_register state vd (with_element (width state) (register state vd) 0 number)
+
+-- the other operand where v0 has a 1, else the elements of vs2
+abbrev pub merged_by_mask : Vectors → List ℕ → List ℕ → List ℕ
+merged_by_mask state other of_vs2 = merged (mask_bits (count state) (register state 0)) other of_vs2
+
+-- ---- configuration
+
+-- the vtype and the elements that are asked for, where x gives the integer registers
+abbrev pub asked_of : VectorInsn → (ℕ → ℕ) → Option (ℕ × Asked)
+asked_of (v.ArithmeticVv o vd vs2 vs1 vm) x = None
+asked_of (v.ArithmeticVx o vd vs2 rs1 vm) x = None
+asked_of (v.ArithmeticVi o vd vs2 imm vm) x = None
+asked_of (v.ShiftVi o vd vs2 amount vm) x = None
+asked_of (v.CompareVv o vd vs2 vs1 vm) x = None
+asked_of (v.CompareVx o vd vs2 rs1 vm) x = None
+asked_of (v.CompareVi o vd vs2 imm vm) x = None
+asked_of (v.MultiplyVv o vd vs2 vs1 vm) x = None
+asked_of (v.MultiplyVx o vd vs2 rs1 vm) x = None
+asked_of (v.Reduce o vd vs2 vs1 vm) x = None
+asked_of (v.MergeVv vd vs2 vs1) x = None
+asked_of (v.MergeVx vd vs2 rs1) x = None
+asked_of (v.MergeVi vd vs2 imm) x = None
+asked_of (v.MoveVv vd vs1) x = None
+asked_of (v.MoveVx vd rs1) x = None
+asked_of (v.MoveVi vd imm) x = None
+asked_of (v.MoveToScalar rd vs2) x = None
+asked_of (v.MoveFromScalar vd rs1) x = None
+asked_of (v.ElementNumbers vd vm) x = None
+asked_of (v.Vsetvli rd rs1 vtype) x = Some (vtype, asked_by rd rs1 (x rs1))
+asked_of (v.Vsetivli rd length vtype) x = Some (vtype, AtMost length)
+asked_of (v.Vsetvl rd rs1 rs2) x = Some (x rs2, asked_by rd rs1 (x rs1))
+asked_of (v.LoadUnit w vd rs1 vm) x = None
+asked_of (v.LoadStrided w vd rs1 rs2 vm) x = None
+asked_of (v.LoadIndexed w vd rs1 vs2 vm) x = None
+asked_of (v.StoreUnit w vs3 rs1 vm) x = None
+asked_of (v.StoreStrided w vs3 rs1 rs2 vm) x = None
+asked_of (v.StoreIndexed w vs3 rs1 vs2 vm) x = None
+
+-- ---- the vector state afterwards; configuration and memory are elsewhere
+
+abbrev pub vector_after : VectorInsn → (ℕ → ℕ) → Vectors → Vectors
+vector_after (v.ArithmeticVv o vd vs2 vs1 vm) x state = with_elements state vd vm (zip_with (op.arithmetic_vv o (width state)) (of_register state vs2) (of_register state vs1))
+vector_after (v.ArithmeticVx o vd vs2 rs1 vm) x state = with_elements state vd vm (zip_with (op.arithmetic_vx o (width state)) (of_register state vs2) (of_scalar state (x rs1)))
+vector_after (v.ArithmeticVi o vd vs2 imm vm) x state = with_elements state vd vm (zip_with (op.arithmetic_vi o (width state)) (of_register state vs2) (of_immediate state imm))
+vector_after (v.ShiftVi o vd vs2 amount vm) x state = with_elements state vd vm (zip_with (op.shift_vi o (width state)) (of_register state vs2) (replicate (count state) amount))
+vector_after (v.CompareVv o vd vs2 vs1 vm) x state = with_bits state vd vm (zip_with (op.compare_vv o (width state)) (of_register state vs2) (of_register state vs1))
+vector_after (v.CompareVx o vd vs2 rs1 vm) x state = with_bits state vd vm (zip_with (op.compare_vx o (width state)) (of_register state vs2) (of_scalar state (x rs1)))
+vector_after (v.CompareVi o vd vs2 imm vm) x state = with_bits state vd vm (zip_with (op.compare_vi o (width state)) (of_register state vs2) (of_immediate state imm))
+vector_after (v.MultiplyVv o vd vs2 vs1 vm) x state = with_elements state vd vm (zip_with (op.multiply o (width state)) (of_register state vs2) (of_register state vs1))
+vector_after (v.MultiplyVx o vd vs2 rs1 vm) x state = with_elements state vd vm (zip_with (op.multiply o (width state)) (of_register state vs2) (of_scalar state (x rs1)))
+vector_after (v.Reduce o vd vs2 vs1 vm) x state =
+    with_first state vd (reduced (op.reduction o (width state)) (active_in state vm) (element (width state) (register state vs1) 0) (of_register state vs2))
+vector_after (v.MergeVv vd vs2 vs1) x state = with_elements state vd true (merged_by_mask state (of_register state vs1) (of_register state vs2))
+vector_after (v.MergeVx vd vs2 rs1) x state = with_elements state vd true (merged_by_mask state (of_scalar state (x rs1)) (of_register state vs2))
+vector_after (v.MergeVi vd vs2 imm) x state = with_elements state vd true (merged_by_mask state (of_immediate state imm) (of_register state vs2))
+vector_after (v.MoveVv vd vs1) x state = with_elements state vd true (of_register state vs1)
+vector_after (v.MoveVx vd rs1) x state = with_elements state vd true (of_scalar state (x rs1))
+vector_after (v.MoveVi vd imm) x state = with_elements state vd true (of_immediate state imm)
+vector_after (v.MoveToScalar rd vs2) x state = state
+vector_after (v.MoveFromScalar vd rs1) x state = with_first state vd (x rs1 % 2 ^ width state)
+vector_after (v.ElementNumbers vd vm) x state = with_elements state vd vm (range_with_len 0 (count state))
+vector_after (v.Vsetvli rd rs1 vtype) x state = state
+vector_after (v.Vsetivli rd length vtype) x state = state
+vector_after (v.Vsetvl rd rs1 rs2) x state = state
+vector_after (v.LoadUnit w vd rs1 vm) x state = state
+vector_after (v.LoadStrided w vd rs1 rs2 vm) x state = state
+vector_after (v.LoadIndexed w vd rs1 vs2 vm) x state = state
+vector_after (v.StoreUnit w vs3 rs1 vm) x state = state
+vector_after (v.StoreStrided w vs3 rs1 rs2 vm) x state = state
+vector_after (v.StoreIndexed w vs3 rs1 vs2 vm) x state = state
+
+-- the number that an integer register gets, also with vl 0
+abbrev pub scalar_given : VectorInsn → Vectors → Option (ℕ × ℕ)
+scalar_given (v.ArithmeticVv o vd vs2 vs1 vm) state = None
+scalar_given (v.ArithmeticVx o vd vs2 rs1 vm) state = None
+scalar_given (v.ArithmeticVi o vd vs2 imm vm) state = None
+scalar_given (v.ShiftVi o vd vs2 amount vm) state = None
+scalar_given (v.CompareVv o vd vs2 vs1 vm) state = None
+scalar_given (v.CompareVx o vd vs2 rs1 vm) state = None
+scalar_given (v.CompareVi o vd vs2 imm vm) state = None
+scalar_given (v.MultiplyVv o vd vs2 vs1 vm) state = None
+scalar_given (v.MultiplyVx o vd vs2 rs1 vm) state = None
+scalar_given (v.Reduce o vd vs2 vs1 vm) state = None
+scalar_given (v.MergeVv vd vs2 vs1) state = None
+scalar_given (v.MergeVx vd vs2 rs1) state = None
+scalar_given (v.MergeVi vd vs2 imm) state = None
+scalar_given (v.MoveVv vd vs1) state = None
+scalar_given (v.MoveVx vd rs1) state = None
+scalar_given (v.MoveVi vd imm) state = None
+scalar_given (v.MoveToScalar rd vs2) state = Some (rd, word.wrapped 32 (word.signed (width state) (element (width state) (register state vs2) 0)))
+scalar_given (v.MoveFromScalar vd rs1) state = None
+scalar_given (v.ElementNumbers vd vm) state = None
+scalar_given (v.Vsetvli rd rs1 vtype) state = None
+scalar_given (v.Vsetivli rd length vtype) state = None
+scalar_given (v.Vsetvl rd rs1 rs2) state = None
+scalar_given (v.LoadUnit w vd rs1 vm) state = None
+scalar_given (v.LoadStrided w vd rs1 rs2 vm) state = None
+scalar_given (v.LoadIndexed w vd rs1 vs2 vm) state = None
+scalar_given (v.StoreUnit w vs3 rs1 vm) state = None
+scalar_given (v.StoreStrided w vs3 rs1 rs2 vm) state = None
+scalar_given (v.StoreIndexed w vs3 rs1 vs2 vm) state = None
+
+-- the number alone
+abbrev pub number_of : Option (ℕ × ℕ) → Option ℕ
+number_of None = None
+number_of (Some given) = Some given.1
+
+-- ---- what is illegal
+
+abbrev pub bits_of : ElementWidth → ℕ
+bits_of widths.Bits8 = 8
+bits_of widths.Bits16 = 16
+bits_of widths.Bits32 = 32
+
+-- a masked row whose destination is the mask
+abbrev pub overwrites_mask : VectorInsn → Bool
+overwrites_mask (v.ArithmeticVv o vd vs2 vs1 vm) = not vm && vd == 0
+overwrites_mask (v.ArithmeticVx o vd vs2 rs1 vm) = not vm && vd == 0
+overwrites_mask (v.ArithmeticVi o vd vs2 imm vm) = not vm && vd == 0
+overwrites_mask (v.ShiftVi o vd vs2 amount vm) = not vm && vd == 0
+overwrites_mask (v.CompareVv o vd vs2 vs1 vm) = false
+overwrites_mask (v.CompareVx o vd vs2 rs1 vm) = false
+overwrites_mask (v.CompareVi o vd vs2 imm vm) = false
+overwrites_mask (v.MultiplyVv o vd vs2 vs1 vm) = not vm && vd == 0
+overwrites_mask (v.MultiplyVx o vd vs2 rs1 vm) = not vm && vd == 0
+overwrites_mask (v.Reduce o vd vs2 vs1 vm) = false
+overwrites_mask (v.MergeVv vd vs2 vs1) = vd == 0
+overwrites_mask (v.MergeVx vd vs2 rs1) = vd == 0
+overwrites_mask (v.MergeVi vd vs2 imm) = vd == 0
+overwrites_mask (v.MoveVv vd vs1) = false
+overwrites_mask (v.MoveVx vd rs1) = false
+overwrites_mask (v.MoveVi vd imm) = false
+overwrites_mask (v.MoveToScalar rd vs2) = false
+overwrites_mask (v.MoveFromScalar vd rs1) = false
+overwrites_mask (v.ElementNumbers vd vm) = not vm && vd == 0
+overwrites_mask (v.Vsetvli rd rs1 vtype) = false
+overwrites_mask (v.Vsetivli rd length vtype) = false
+overwrites_mask (v.Vsetvl rd rs1 rs2) = false
+overwrites_mask (v.LoadUnit w vd rs1 vm) = not vm && vd == 0
+overwrites_mask (v.LoadStrided w vd rs1 rs2 vm) = not vm && vd == 0
+overwrites_mask (v.LoadIndexed w vd rs1 vs2 vm) = not vm && vd == 0
+overwrites_mask (v.StoreUnit w vs3 rs1 vm) = false
+overwrites_mask (v.StoreStrided w vs3 rs1 rs2 vm) = false
+overwrites_mask (v.StoreIndexed w vs3 rs1 vs2 vm) = false
+
+-- a load's or store's width, which has to be the configured one
+abbrev pub width_in : VectorInsn → Option ElementWidth
+width_in (v.ArithmeticVv o vd vs2 vs1 vm) = None
+width_in (v.ArithmeticVx o vd vs2 rs1 vm) = None
+width_in (v.ArithmeticVi o vd vs2 imm vm) = None
+width_in (v.ShiftVi o vd vs2 amount vm) = None
+width_in (v.CompareVv o vd vs2 vs1 vm) = None
+width_in (v.CompareVx o vd vs2 rs1 vm) = None
+width_in (v.CompareVi o vd vs2 imm vm) = None
+width_in (v.MultiplyVv o vd vs2 vs1 vm) = None
+width_in (v.MultiplyVx o vd vs2 rs1 vm) = None
+width_in (v.Reduce o vd vs2 vs1 vm) = None
+width_in (v.MergeVv vd vs2 vs1) = None
+width_in (v.MergeVx vd vs2 rs1) = None
+width_in (v.MergeVi vd vs2 imm) = None
+width_in (v.MoveVv vd vs1) = None
+width_in (v.MoveVx vd rs1) = None
+width_in (v.MoveVi vd imm) = None
+width_in (v.MoveToScalar rd vs2) = None
+width_in (v.MoveFromScalar vd rs1) = None
+width_in (v.ElementNumbers vd vm) = None
+width_in (v.Vsetvli rd rs1 vtype) = None
+width_in (v.Vsetivli rd length vtype) = None
+width_in (v.Vsetvl rd rs1 rs2) = None
+width_in (v.LoadUnit w vd rs1 vm) = Some w
+width_in (v.LoadStrided w vd rs1 rs2 vm) = Some w
+width_in (v.LoadIndexed w vd rs1 vs2 vm) = Some w
+width_in (v.StoreUnit w vs3 rs1 vm) = Some w
+width_in (v.StoreStrided w vs3 rs1 rs2 vm) = Some w
+width_in (v.StoreIndexed w vs3 rs1 vs2 vm) = Some w
+
+abbrev pub is_other_width : Vectors → Option ElementWidth → Bool
+is_other_width state None = false
+is_other_width state (Some w) = not (bits_of w == width state)
+
+-- whether the vector unit alone executes a row: one that neither configures it nor touches memory
+abbrev pub is_own : VectorInsn → Bool
+is_own (v.ArithmeticVv o vd vs2 vs1 vm) = true
+is_own (v.ArithmeticVx o vd vs2 rs1 vm) = true
+is_own (v.ArithmeticVi o vd vs2 imm vm) = true
+is_own (v.ShiftVi o vd vs2 amount vm) = true
+is_own (v.CompareVv o vd vs2 vs1 vm) = true
+is_own (v.CompareVx o vd vs2 rs1 vm) = true
+is_own (v.CompareVi o vd vs2 imm vm) = true
+is_own (v.MultiplyVv o vd vs2 vs1 vm) = true
+is_own (v.MultiplyVx o vd vs2 rs1 vm) = true
+is_own (v.Reduce o vd vs2 vs1 vm) = true
+is_own (v.MergeVv vd vs2 vs1) = true
+is_own (v.MergeVx vd vs2 rs1) = true
+is_own (v.MergeVi vd vs2 imm) = true
+is_own (v.MoveVv vd vs1) = true
+is_own (v.MoveVx vd rs1) = true
+is_own (v.MoveVi vd imm) = true
+is_own (v.MoveToScalar rd vs2) = true
+is_own (v.MoveFromScalar vd rs1) = true
+is_own (v.ElementNumbers vd vm) = true
+is_own (v.Vsetvli rd rs1 vtype) = false
+is_own (v.Vsetivli rd length vtype) = false
+is_own (v.Vsetvl rd rs1 rs2) = false
+is_own (v.LoadUnit w vd rs1 vm) = false
+is_own (v.LoadStrided w vd rs1 rs2 vm) = false
+is_own (v.LoadIndexed w vd rs1 vs2 vm) = false
+is_own (v.StoreUnit w vs3 rs1 vm) = false
+is_own (v.StoreStrided w vs3 rs1 rs2 vm) = false
+is_own (v.StoreIndexed w vs3 rs1 vs2 vm) = false
+
+-- whether a row that is no configuration is illegal
+abbrev pub is_refused : VectorInsn → Vectors → Bool
+is_refused insn state = has_vill state || overwrites_mask insn || is_other_width state (width_in insn)
+
+abbrev pub is_illegal_unless_asked : VectorInsn → Vectors → Option (ℕ × Asked) → Bool
+is_illegal_unless_asked insn state (Some asked) = is_illegal_configuration state asked.0 asked.1
+is_illegal_unless_asked insn state None = is_refused insn state
+
+abbrev pub is_illegal : VectorInsn → (ℕ → ℕ) → Vectors → Bool
+is_illegal insn x state = is_illegal_unless_asked insn state (asked_of insn x)

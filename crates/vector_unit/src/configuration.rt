@@ -1,0 +1,69 @@
+//! Configuration: how many elements of which width instructions work on.
+
+ghost use Rattle.std.specs.Prelude.{◌≡◌, true, false, OnOk, OnErr, IfOk, IfErr};
+ghost use Rattle.rv_insn.specs.declared.outcomes.Trap.TheVariants.{IllegalInstruction};
+ghost use Rattle.vector_unit.specs.VectorState.{asked_by, configured, is_illegal_configuration};
+
+use crate::states::{VILL, VectorState};
+use crate::vtypes::{is_supported, most_elements};
+use rv_insn::{Reg, Trap};
+
+/// How many elements a configuration asks for.
+#[derive(Clone, Copy, Debug, PartialEq, Eq)]
+pub enum Asked {
+    /// So many, if they fit.
+    AtMost(u32),
+    /// As many as a register has.
+    AsManyAsFit,
+    /// As many as before.
+    AsBefore,
+}
+
+impl Asked {
+    /// What vsetvli and vsetvl ask for, by their registers and the number in `rs1`.
+    pub fn by(rd: Reg, rs1: Reg, number: u32) -> Asked
+        ensures { result ≡ asked_by rd rs1 number }
+    {
+        if rs1.number() != 0 {
+            Asked::AtMost(number)
+        } else if rd.number() == 0 {
+            Asked::AsBefore
+        } else {
+            Asked::AsManyAsFit
+        }
+    }
+}
+
+impl VectorState {
+    /// Configures the unit, and says how many elements it works on now. A vtype that is not supported
+    /// leaves no configuration and no elements. Refused, with nothing changed, where the number of
+    /// elements is to be as before and can't be.
+    pub fn configure(&mut self, vtype: u32, asked: Asked) -> Result<u32, Trap>
+        ensures legal { OnOk result (is_illegal_configuration self.old vtype asked ≡ false) }
+        ensures done { OnOk result (self.new ≡ configured self.old vtype asked) }
+        ensures vl { IfOk result (λ vl. vl ≡ self.new.vl) }
+        ensures illegal { OnErr result (is_illegal_configuration self.old vtype asked ≡ true) }
+        ensures trap { IfErr result (λ trap. trap ≡ IllegalInstruction) }
+        ensures unchanged { OnErr result (self.new ≡ self.old) }
+    {
+        if !is_supported(vtype) {
+            self.vl = 0;
+            self.vtype = VILL;
+            return Ok(0);
+        }
+        let most = most_elements(vtype);
+        let vl = match asked {
+            Asked::AtMost(count) => count.min(most),
+            Asked::AsManyAsFit => most,
+            Asked::AsBefore => {
+                if self.has_vill() || most_elements(self.vtype) != most {
+                    return Err(Trap::IllegalInstruction);
+                }
+                self.vl
+            }
+        };
+        self.vl = vl;
+        self.vtype = vtype;
+        Ok(vl)
+    }
+}

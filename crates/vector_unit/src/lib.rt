@@ -1,0 +1,31 @@
+//! The vector unit of a hart: its registers, its configuration, and the vector instructions that touch no
+//! memory.
+//!
+//! [`VectorState::configure`] and [`VectorState::execute`] are the instructions. Loads and stores are executed
+//! by the crate that has a memory: [`VectorState::refuses`], [`VectorState::addresses`],
+//! [`VectorState::active_numbers`] and [`VectorState::load`] are the unit's part in them.
+//!
+//! `specs/VectorState.antt` has the state and its configuration, `specs/Operations.antt` what each operation
+//! makes of two elements, `specs/Vector.antt` what each instruction leaves, gives and refuses, and
+//! `specs/Accesses.antt` where the elements of loads and stores lie. Nothing here allocates.
+#![tactic(auto)]
+
+pub mod accesses;
+mod bits;
+mod comparisons;
+pub mod configuration;
+mod elements;
+pub mod execution;
+pub mod numbers;
+mod operands;
+mod operations;
+pub mod states;
+pub mod vtypes;
+
+pub use crate::accesses::Spacing;
+pub use crate::configuration::Asked;
+pub use crate::numbers::Numbers;
+pub use crate::states::{VILL, VectorState};
+
+#[cfg(test)]
+mod tests;

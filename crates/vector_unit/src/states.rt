@@ -1,0 +1,76 @@
+//! The vector state of a hart.
+
+ghost use Rattle.std.specs.Prelude.{◌≡◌};
+ghost use Rattle.vector_unit.specs.VectorState.{register, with_register, opening_vector_state, has_vill};
+
+use crate::vtypes::is_supported;
+use rv_insn::VReg;
+use std::marker::Model;
+
+/// A vtype that configures nothing: the bit vill alone.
+pub const VILL: u32 = 0x8000_0000;
+
+/// The 32 vector registers of 16 bytes, the number of elements that instructions work on, and the
+/// configuration as the vtype register spells it. A contract sees them as `VectorState`.
+#[derive(Drop)]
+pub struct VectorState {
+    pub(crate) registers: [[u8; 16]; 32],
+    pub(crate) vl: u32,
+    pub(crate) vtype: u32,
+}
+
+impl Model for VectorState {
+    ghost use Rattle.vector_unit.specs.VectorState.{Vectors};
+
+    ghost Value = { Vectors };
+
+    ghost view = { λ s. record { registers = s.registers; vl = s.vl; vtype = s.vtype } };
+}
+
+impl VectorState {
+    /// All registers 0, no elements, and no configuration.
+    pub fn new() -> VectorState
+        ensures { result ≡ opening_vector_state }
+    {
+        VectorState {
+            registers: [[0; 16]; 32],
+            vl: 0,
+            vtype: VILL,
+        }
+    }
+
+    /// The 16 bytes of a register, byte 0 first.
+    pub fn register(&self, v: VReg) -> [u8; 16]
+        ensures { result ≡ register self.now v }
+    {
+        self.registers[v.number() as usize]
+    }
+
+    /// Writes a register.
+    pub fn set_register(&mut self, v: VReg, bytes: [u8; 16])
+        ensures { self.new ≡ with_register self.old v bytes }
+    {
+        self.registers[v.number() as usize] = bytes;
+    }
+
+    /// The number of elements that instructions work on.
+    pub fn vl(&self) -> u32
+        ensures { result ≡ self.now.vl }
+    {
+        self.vl
+    }
+
+    /// The configuration, as the vtype register spells it.
+    pub fn vtype(&self) -> u32
+        ensures { result ≡ self.now.vtype }
+    {
+        self.vtype
+    }
+
+    /// Whether there is no configuration.
+    pub fn has_vill(&self) -> bool
+        ensures { result ≡ has_vill self.now }
+    {
+        !is_supported(self.vtype)
+    }
+}
