@@ -1,6 +1,6 @@
 -- The state of one hart.
 -- RISC-V Unprivileged ISA 20191213, section 2.1 "Programmers' Model for Base Integer ISA"; Vector Extension
--- 1.0, chapter 3 "Vector Extension Programmer's Model". The status is this project's own.
+-- 1.0, chapter 3 "Vector Extension Programmer's Model". The status, and what a hart holds at the start, are this project's own.
 use Rattle.std.specs.Prelude.{ℕ, zero, suc, Bool, true, false, List, slice_index, slice_index_or, slice_set, replicate, []}
 use Rattle.hart_core.specs.declared.harts.Status.{Status}
 use Rattle.hart_core.specs.declared.harts.Status.TheVariants.{Running, Finished, Trapped}

@@ -1,8 +1,8 @@
 -- The rows of the vector instructions as a hart executes them: which numbers in memory each touches, and what it leaves of the hart.
 -- What each makes of vector registers is the vector unit's (its definitions Vector and Accesses).
--- RISC-V Vector Extension 1.0, chapters 6 "Configuration-Setting Instructions", 7 "Vector Loads and Stores" and 16.1 "Integer Scalar
--- Move Instructions". That a fault of one element leaves all as it was, and that elements are touched in rising order, is this project's
--- own.
+-- RISC-V Vector Extension 1.0, chapters 6 "Configuration-Setting Instructions" and 7 "Vector Loads and Stores", section 16.1 "Integer
+-- Scalar Move Instructions". That a misaligned element is a trap (chapter 8 leaves it open), that a fault of one element leaves all as it
+-- was, and that elements are touched in rising order, is this project's own.
 use Rattle.std.specs.Prelude.{ℕ, List, [], map, Option, Some, None}
 use Rattle.rv_insn.specs.declared.vector_instructions.VectorInsn.{VectorInsn}
 use Rattle.rv_insn.specs.declared.vector_instructions.VectorInsn.TheVariants as v

@@ -3,7 +3,7 @@
 use crate::Hart;
 use crate::tests::register;
 use memory::{Memory, read_u32};
-use rv_insn::{Outcome, Trap};
+use rv_insn::{Outcome, Trap, VReg};
 use std::process::Abort;
 use std::test::Fail;
 
@@ -269,7 +269,6 @@ fn loads_and_stores_elements(rt: HostRuntime) -> Result<(), Fail> {
                 0xc101_7057,
                 0x5208_a157,
                 0x9621_3157,
-                0x0a23_4157,
                 0x0040_0313,
                 0x0a23_4157,
                 0x0623_e107,
@@ -419,6 +418,34 @@ fn configures_or_traps(rt: HostRuntime) -> Result<(), Fail> {
             text: &[0xc102_7057, 0x0000_7057],
             before: &[1],
             outcome: Outcome::Trapped(Trap::IllegalInstruction),
+            after: &[1],
+        },
+        Case {
+            name: "a misaligned load",
+            text: &[0x0020_02b7, 0x0022_8293, 0xc100_f057, 0x0202_e087],
+            before: &[1, 2],
+            outcome: Outcome::Trapped(Trap::LoadMisaligned),
+            after: &[1, 2],
+        },
+        Case {
+            name: "text may be loaded",
+            text: &[
+                0x0001_02b7,
+                0xc101_7057,
+                0x0202_e087,
+                0x0020_0337,
+                0x0203_60a7,
+                0x0000_0073,
+            ],
+            before: &[0, 0],
+            outcome: Outcome::Finished,
+            after: &[0x0001_02b7, 0xc101_7057],
+        },
+        Case {
+            name: "text may not be stored to",
+            text: &[0x0001_02b7, 0xc101_7057, 0x0202_e0a7],
+            before: &[1],
+            outcome: Outcome::Trapped(Trap::StoreOutside),
             after: &[1],
         },
     ];
@@ -630,5 +657,40 @@ fn moves_element_0(rt: HostRuntime) -> Result<(), Fail> {
     for number in [7, 8, 9] {
         assert_eq!(rt; register(&rt, &hart, number), 0xffff_fffd, "x{number}");
     }
+    Ok(())
+}
+
+/// A load whose second element lies outside leaves all of its hart but the status, its index register too.
+#[test]
+fn a_trap_leaves_the_registers(rt: HostRuntime) -> Result<(), Fail> {
+    let text = [
+        0x0020_02b7,
+        0xc101_7057,
+        0x5208_a157,
+        0x9622_3157,
+        0x0622_e107,
+    ];
+    let (hart, _memory, outcome) = run(&rt, &text, &[1, 2, 3, 4])?;
+    assert_eq!(rt; outcome, Outcome::Trapped(Trap::LoadOutside));
+    let indices = hart.vector(VReg::new(2).expect(&rt, "a register"));
+    assert_eq!(rt; indices, [0, 0, 0, 0, 16, 0, 0, 0, 0, 0, 0, 0, 0, 0, 0, 0]);
+    assert_eq!(rt;
+        (hart.vl(), hart.vtype(), hart.pc()),
+        (2, 0x10, 0x0001_0010)
+    );
+    assert_eq!(rt; register(&rt, &hart, 5), 0x0020_0000);
+    Ok(())
+}
+
+/// A vtype that isn't supported leaves no elements, gives 0, and the next vector instruction is illegal.
+#[test]
+fn other_vtypes_leave_no_configuration(rt: HostRuntime) -> Result<(), Fail> {
+    let (hart, _memory, outcome) = run(&rt, &[0x0050_0293, 0x0183_72d7, 0x0221_80d7], &[])?;
+    assert_eq!(rt; outcome, Outcome::Trapped(Trap::IllegalInstruction));
+    assert_eq!(rt; register(&rt, &hart, 5), 0);
+    assert_eq!(rt;
+        (hart.vl(), hart.vtype(), hart.pc()),
+        (0, 0x8000_0000, 0x0001_0008)
+    );
     Ok(())
 }

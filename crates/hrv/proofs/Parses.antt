@@ -1,18 +1,20 @@
 -- What a parse of the program's command line gives.
 use Rattle.std.proofs.Common.{true≢false, ◌≡◌, ◌∙◌, ◌⊎◌, codes, true, refl, sym, ap, ap₂, subst, List, [], Option, Some, None, IsSome, inl, inr}
-use Rattle.std.specs.Prelude.{is_some, option_and_then, option_map, unwrap_or}
+use Rattle.std.specs.Prelude.{is_some, map, option_and_then, option_map, unwrap_or}
 use Rattle.std.specs.Borrow.{Bor}
 use Rattle.clap.proofs.CallerLemmas.{some_of_text}
-use Rattle.clap.proofs.WalkLemmas.{first_value-rows}
-use Rattle.clap.specs.Walk.{Row, Text, first_of, rows_of}
+use Rattle.clap.proofs.WalkLemmas.{first_value-rows, raw_values-rows}
+use Rattle.clap.specs.Walk.{Row, Text, all_of, first_of, rows_of, texts}
 use Rattle.clap.specs.Simple.{HasMatchesOf, app_of, is_simple, subcommand_of, subcommand_rows_of}
-use Rattle.clap.specs.Matches.{first_value, found_of, subcommand_name_of}
+use Rattle.clap.specs.Matches.{first_value, found_of, matched_of, raw_values, subcommand_name_of}
 use Rattle.clap.specs.declared.parser.matches.Found.{Found}
 use Rattle.clap.specs.Faults.{fault_of, is_simple_and_free}
 use Rattle.clap.specs.declared.builder.command.Command.{Command}
 use Rattle.clap.specs.declared.parser.matches.ArgMatches.{ArgMatches}
 use Rattle.std.specs.Box.{box_value}
-use Rattle.std.specs.Prelude.{Box, Err, IfErr, IsErrAnd, Ok, Result}
+use Rattle.std.specs.Prelude.{Box, Err, IfErr, IfOk, IsErrAnd, Ok, Result, Vec}
+use Rattle.std.specs.declared.alloc.AllocError.{AllocError}
+use Rattle.std.specs.declared.alloc.Global.{Global}
 use Rattle.clap.specs.Kinds.{HasKind, IsAmong}
 use Rattle.clap.specs.Values.{kind_of}
 use Rattle.clap.specs.Simple.{subcommand_rows}
@@ -25,8 +27,8 @@ use Rattle.hrv.specs.Refusals.{fault_for}
 use Rattle.hrv.specs.declared.command_lines.Invocation.{Invocation}
 use Rattle.hrv.specs.declared.faults.Fault.{Fault}
 use Rattle.hrv.specs.declared.faults.Fault.TheVariants.{CommandLine, Memory}
-use Rattle.hrv.specs.CommandLine.{Asked, IsRefusal, IsSpelled, Makes, Replays, asked_of, hrv_app, named}
-use Rattle.hrv.proofs.ReplayWords.{AsksReplay, fault_of-named, replay_asked, replay_named}
+use Rattle.hrv.specs.CommandLine.{Asked, Draws, IsRefusal, IsSpelled, Makes, Replays, asked_of, hrv_app, named, picture_of, replay_of}
+use Rattle.hrv.proofs.AskedWords.{Asks, asked_named, fault_of-named, words_ask}
 
 -- the program's command is one that `clap` gives the matches and the faults of
 pub simple : is_simple_and_free hrv_app ≡ true
@@ -37,21 +39,21 @@ is_simple_app = refl
 
 -- an answer to the words, with the matches that were found
 pub record Taken (words : List Text) (m : ArgMatches) : Type 0 where
-  pub asked : AsksReplay words
-  pub met : subcommand_rows_of m ≡ Some (codes "replay", asked.rows)
-  pub is_named : named words ≡ Some (Replays asked.image asked.log)
+  pub asks : Asks words
+  pub met : subcommand_rows_of m ≡ Some (asks.name, asks.rows)
+  pub is_named : named words ≡ Some asks.asked
 
 pub taken : (command : Command) (words : List Text) (m : ArgMatches) → Makes hrv_app command
     → (is_simple_and_free (app_of command) ≡ true → fault_of (app_of command) words ≡ [])
     → HasMatchesOf (app_of command) words m → Taken words m
 taken command words m made passes matches =
     let pass : fault_of hrv_app words ≡ [] = subst (λ a. fault_of a words ≡ []) made.app (passes (ap is_simple_and_free made.app ∙ simple)) in
-    let asked = replay_asked words pass in
+    let asks = words_ask words pass in
     let rows = (matches (ap is_simple made.app ∙ is_simple_app)).1 ∙ ap (λ a. subcommand_of a words) made.app in
     record {
-      asked = asked;
-      met = rows ∙ asked.met;
-      is_named = replay_named words pass asked;
+      asks = asks;
+      met = rows ∙ asks.met;
+      is_named = asked_named words pass asks;
     }
 
 -- ---- what a subcommand is given
@@ -70,14 +72,43 @@ both_given (Some i) None e = absurd (true≢false (sym e))
 both_given (Some i) (Some l) e = (refl, refl)
 
 -- both values of a replay are there
-pub replay_given : (name : Text) (rows : List Row) → name ≡ codes "replay" → IsSome (asked_of (name, rows))
-    → IsSome (first_of (codes "IMAGE") rows) × IsSome (first_of (codes "LOG") rows)
-replay_given name rows is some = both_given (first_of (codes "IMAGE") rows) (first_of (codes "LOG") rows) (subst (λ n. IsSome (asked_of (n, rows))) is some)
+pub replay_given : (rows : List Row) → IsSome (replay_of rows) → IsSome (first_of (codes "IMAGE") rows) × IsSome (first_of (codes "LOG") rows)
+replay_given rows some = both_given (first_of (codes "IMAGE") rows) (first_of (codes "LOG") rows) some
 
-pub replay_read : (name : Text) (rows : List Row) (image log : Text) → name ≡ codes "replay" → first_of (codes "IMAGE") rows ≡ Some image
-    → first_of (codes "LOG") rows ≡ Some log → asked_of (name, rows) ≡ Some (Replays image log)
-replay_read name rows image log is first second =
-    ap (λ n. asked_of (n, rows)) is ∙ ap₂ (λ i l. option_and_then (λ x. option_map (λ y. Replays x y) l) i) first second
+pub replay_read : (rows : List Row) (image log : Text) → first_of (codes "IMAGE") rows ≡ Some image
+    → first_of (codes "LOG") rows ≡ Some log → replay_of rows ≡ Some (Replays image log)
+replay_read rows image log first second = ap₂ (λ i l. option_and_then (λ x. option_map (λ y. Replays x y) l) i) first second
+
+first_given : (inputs : List Text) (algorithm : Option Text) → IsSome (option_map (λ a. Draws a inputs) algorithm) → IsSome algorithm
+first_given inputs None e = absurd (true≢false (sym e))
+first_given inputs (Some a) e = refl
+
+-- the algorithm of a picture is there
+pub picture_given : (rows : List Row) → IsSome (picture_of rows) → IsSome (first_of (codes "ALGORITHM") rows)
+picture_given rows some = first_given (unwrap_or (all_of (codes "INPUT") rows) []) (first_of (codes "ALGORITHM") rows) some
+
+pub picture_read : (rows : List Row) (algorithm : Text) (inputs : List Text) → first_of (codes "ALGORITHM") rows ≡ Some algorithm
+    → inputs ≡ unwrap_or (all_of (codes "INPUT") rows) [] → picture_of rows ≡ Some (Draws algorithm inputs)
+picture_read rows algorithm inputs first rest = ap₂ (λ a is. option_map (λ x. Draws x is) a) first (sym rest)
+
+-- the values of an argument that takes the words left over
+rest_values : (f : Found) (id : Text) (o : Option (Bor (List (Bor Text)))) → option_map (λ s. map (λ v. v.now) s.now) o ≡ option_map raw_values (matched_of f id)
+    → unwrap_or (all_of id (rows_of f)) [] ≡ unwrap_or (option_map (λ s. texts s.now) o) []
+rest_values f id o gives = ap (λ r. unwrap_or r []) (sym (raw_values-rows f id) ∙ sym gives)
+
+some_left : (f : Found) (id : Text) (o : Option (Bor (List (Bor Text)))) (s : Bor (List (Bor Text)))
+    → option_map (λ s. map (λ v. v.now) s.now) o ≡ option_map raw_values (matched_of f id) → o ≡ Some s → texts s.now ≡ unwrap_or (all_of id (rows_of f)) []
+some_left f id o s gives is = sym (rest_values f id o gives ∙ ap (λ r. unwrap_or (option_map (λ s. texts s.now) r) []) is)
+
+pub some_kept : (f : Found) (id : Text) (o : Option (Bor (List (Bor Text)))) (s : Bor (List (Bor Text))) (r : Result (Vec (Bor Text) Global) AllocError)
+    → option_map (λ s. map (λ v. v.now) s.now) o ≡ option_map raw_values (matched_of f id) → o ≡ Some s → IfOk r (λ v. v.items ≡ s.now)
+    → IfOk r (λ v. texts v.items ≡ unwrap_or (all_of id (rows_of f)) [])
+some_kept f id o s (Ok v) gives is items = ap texts items ∙ some_left f id o s gives is
+some_kept f id o s (Err e) gives is items = tt
+
+pub none_left : (f : Found) (id : Text) (o : Option (Bor (List (Bor Text))))
+    → option_map (λ s. map (λ v. v.now) s.now) o ≡ option_map raw_values (matched_of f id) → o ≡ None → [] ≡ unwrap_or (all_of id (rows_of f)) []
+none_left f id o gives is = sym (rest_values f id o gives ∙ ap (λ r. unwrap_or (option_map (λ s. texts s.now) r) []) is)
 
 -- ---- the subcommand that a parse met
 
@@ -100,11 +131,11 @@ met_as m name rows o x is names gives met =
 -- so the matches ask for what the words do
 pub asked_here : (words : List Text) (m : ArgMatches) (t : Taken words m) (o : Option (Bor Text × Bor ArgMatches)) (x : Bor Text × Bor ArgMatches) → o ≡ Some x
     → option_map (λ p. p.0.now) o ≡ subcommand_name_of m → option_map (λ p. rows_of (found_of p.1.now)) o ≡ option_map (λ p. p.1) (subcommand_rows_of m)
-    → asked_of (x.0.now, rows_of (found_of x.1.now)) ≡ Some (Replays t.asked.image t.asked.log)
-asked_here words m t o x is names gives = met_as m (codes "replay") t.asked.rows o x is names gives t.met ∙ t.asked.asks
+    → asked_of (x.0.now, rows_of (found_of x.1.now)) ≡ Some t.asks.asked
+asked_here words m t o x is names gives = met_as m t.asks.name t.asks.rows o x is names gives t.met ∙ t.asks.asks
 
-pub spelled_as : (words : List Text) (m : ArgMatches) (t : Taken words m) (asked : Asked) → Some (Replays t.asked.image t.asked.log) ≡ Some asked → IsSpelled words asked
-spelled_as words m t asked same = subst (IsSpelled words) (ap (λ o. unwrap_or o asked) same) t.asked.spelled
+pub spelled_as : (words : List Text) (m : ArgMatches) (t : Taken words m) (asked : Asked) → Some t.asks.asked ≡ Some asked → IsSpelled words asked
+spelled_as words m t asked same = subst (IsSpelled words) (ap (λ o. unwrap_or o asked) same) t.asks.spelled
 
 -- ---- refusals
 

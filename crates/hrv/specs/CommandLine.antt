@@ -1,24 +1,28 @@
 -- What the words of a command line ask for, by what `clap` says of a command and words.
-use Rattle.std.specs.Prelude.{◌≡◌, ◌≢◌, ◌⊎◌, ℕ, false, true, List, [], ◌∷◌, Option, None, codes, if◌then◌else◌}
-use Rattle.std.specs.Prelude.{option_and_then, option_map}
+use Rattle.std.specs.Prelude.{◌≡◌, ◌≢◌, ◌⊎◌, ℕ, false, true, List, [], ◌∷◌, Option, Some, None, codes, if◌then◌else◌}
+use Rattle.std.specs.Prelude.{option_and_then, option_map, unwrap_or}
 use Rattle.std.specs.Str.{bytes_eq}
+use Rattle.clap.specs.Lexer.{usize_max}
 use Rattle.clap.specs.Simple.{on_top}
-use Rattle.clap.specs.Words.{App, IsAmong, Kinds, Row, Rule, Text, app_of, fault_of, first_of, kind_of}
+use Rattle.clap.specs.Walk.{texts}
+use Rattle.clap.specs.Words.{App, IsAmong, Kinds, Row, Rule, Text, all_of, app_of, fault_of, first_of, kind_of}
 use Rattle.clap.specs.Words.{new_app, new_rule, subcommand_of, with_rule, with_subcommand}
 use Rattle.clap.specs.declared.builder.command.Command.{Command}
 use Rattle.clap.specs.declared.builder.command.Command.TheViews.{out-Command}
 use Rattle.clap.specs.declared.error.Error.{Error}
 use Rattle.hrv.specs.declared.command_lines.Invocation.{Invocation}
-use Rattle.hrv.specs.declared.command_lines.Invocation.TheVariants.{Replay}
+use Rattle.hrv.specs.declared.command_lines.Invocation.TheVariants.{Picture, Replay}
 use Rattle.hrv.specs.declared.faults.Fault.{Fault}
 use Rattle.hrv.specs.declared.faults.Fault.TheVariants.{CommandLine, Memory}
 
 -- what the program may be asked for
 pub data Asked : Type 0 where
   Replays : (image log : List ℕ) → Asked
+  Draws : (algorithm : List ℕ) → (inputs : List (List ℕ)) → Asked
 
 abbrev pub asked_by : Invocation → Asked
 asked_by (Replay image log) = Replays image.now log.now
+asked_by (Picture algorithm inputs) = Draws algorithm.now (texts inputs.items)
 
 -- ---- the program's command
 
@@ -26,17 +30,26 @@ asked_by (Replay image log) = Replays image.now log.now
 abbrev pub required_rule : Text → Rule
 required_rule id = record (new_rule id) { required = true }
 
+-- a positional argument that takes the words left over, if any
+abbrev pub rest_rule : Text → Rule
+rest_rule id = record (new_rule id) { range = Some (record { start_inclusive = 0; end_inclusive = usize_max }) }
+
 -- `replay IMAGE LOG`
 abbrev pub replay_app : App
 replay_app = with_rule (with_rule (new_app (codes "replay")) (required_rule (codes "IMAGE")))
     (required_rule (codes "LOG"))
 
+-- `picture ALGORITHM [INPUT..]`
+abbrev pub picture_app : App
+picture_app = with_rule (with_rule (new_app (codes "picture")) (required_rule (codes "ALGORITHM")))
+    (rest_rule (codes "INPUT"))
+
 -- the words are all arguments, and one of the subcommands has to be there
 abbrev pub hrv_app : App
-hrv_app = with_subcommand
+hrv_app = with_subcommand (with_subcommand
     (on_top (λ s. record s { no_binary_name = true; subcommand_required = true })
     (new_app (codes "hrv")))
-    replay_app.top
+    replay_app.top) picture_app.top
 
 -- the command is the one that is described, and no argument of it is another command's too
 pub record Makes (wanted : App) (command : Command) : Type 0 where
@@ -49,9 +62,15 @@ abbrev pub replay_of : List Row → Option Asked
 replay_of given = option_and_then (λ image. option_map (λ log. Replays image log)
     (first_of (codes "LOG") given)) (first_of (codes "IMAGE") given)
 
+-- an argument that takes the words left over has no row where there are none
+abbrev pub picture_of : List Row → Option Asked
+picture_of given = option_map (λ algorithm. Draws algorithm (unwrap_or (all_of (codes "INPUT") given) []))
+    (first_of (codes "ALGORITHM") given)
+
 -- by the subcommand's name and what it is given
 abbrev pub asked_of : Text × List Row → Option Asked
-asked_of met = if bytes_eq met.0 (codes "replay") then replay_of met.1 else None
+asked_of met = if bytes_eq met.0 (codes "replay") then replay_of met.1
+    else (if bytes_eq met.0 (codes "picture") then picture_of met.1 else None)
 
 -- nothing, where there is a fault
 abbrev pub unless_fault : Kinds → Option Asked → Option Asked
@@ -83,3 +102,4 @@ IsPlainWord _ = Unit {0}
 -- but for a first `--`, the words are the command's name and what it is given
 abbrev pub IsSpelled : List Text → Asked → Type 0
 IsSpelled words (Replays image log) = unmarked words ≡ codes "replay" ∷ image ∷ log ∷ []
+IsSpelled words (Draws algorithm inputs) = unmarked words ≡ codes "picture" ∷ algorithm ∷ inputs

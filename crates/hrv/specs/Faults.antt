@@ -3,14 +3,20 @@
 use Rattle.std.specs.Prelude.{ℕ, List}
 use Rattle.std.specs.String.{string_bytes}
 use Rattle.hrv.specs.declared.faults.Fault.{Fault}
-use Rattle.hrv.specs.declared.faults.Fault.TheVariants.{CommandLine, NotText, Load, Log, File, Memory}
+use Rattle.hrv.specs.declared.faults.Fault.TheVariants.{CommandLine, NotText, Load, Log, Parse, Picture, Input, File, Memory}
 use Rattle.loader.specs.declared.faults.LoadFault.{LoadFault}
 use Rattle.multi_hart.specs.declared.log_faults.LogFault.{LogFault}
+use Rattle.halide_syntax.specs.declared.faults.ParseFault.{ParseFault}
+use Rattle.picture.specs.declared.faults.PictureFault.{PictureFault}
+use Rattle.picture.specs.declared.faults.EvalError.{EvalError}
 
--- why two files are refused
+-- why files are refused for what they hold
 pub data Refusal : Type 0 where
   RefusedLoad : (fault : LoadFault) → Refusal
   RefusedLog : (fault : LogFault) → Refusal
+  RefusedParse : (line : ℕ) → (fault : ParseFault) → Refusal
+  RefusedPicture : (fault : PictureFault) → Refusal
+  RefusedInput : (fault : EvalError) → Refusal
 
 -- a fact for a refusal of what the files hold
 abbrev pub OnRefusal : Fault → (Refusal → Type 0) → Type 0
@@ -18,6 +24,9 @@ OnRefusal (CommandLine error) P = Unit {0}
 OnRefusal NotText P = Unit {0}
 OnRefusal (Load fault) P = P (RefusedLoad fault)
 OnRefusal (Log fault) P = P (RefusedLog fault)
+OnRefusal (Parse line fault) P = P (RefusedParse line fault)
+OnRefusal (Picture fault) P = P (RefusedPicture fault)
+OnRefusal (Input fault) P = P (RefusedInput fault)
 OnRefusal (File path) P = Unit {0}
 OnRefusal Memory P = Unit {0}
 
@@ -27,6 +36,9 @@ OnFile (CommandLine error) P = Unit {0}
 OnFile NotText P = Unit {0}
 OnFile (Load fault) P = Unit {0}
 OnFile (Log fault) P = Unit {0}
+OnFile (Parse line fault) P = Unit {0}
+OnFile (Picture fault) P = Unit {0}
+OnFile (Input fault) P = Unit {0}
 OnFile (File path) P = P (string_bytes path)
 OnFile Memory P = Unit {0}
 
@@ -36,8 +48,35 @@ IsReplayFault (CommandLine error) = ⊥
 IsReplayFault NotText = ⊥
 IsReplayFault (Load fault) = Unit {0}
 IsReplayFault (Log fault) = Unit {0}
+IsReplayFault (Parse line fault) = ⊥
+IsReplayFault (Picture fault) = ⊥
+IsReplayFault (Input fault) = ⊥
 IsReplayFault (File path) = Unit {0}
 IsReplayFault Memory = Unit {0}
+
+-- a fault that a text of an input picture may come to
+abbrev pub IsPictureFault : Fault → Type 0
+IsPictureFault (CommandLine error) = ⊥
+IsPictureFault NotText = ⊥
+IsPictureFault (Load fault) = ⊥
+IsPictureFault (Log fault) = ⊥
+IsPictureFault (Parse line fault) = ⊥
+IsPictureFault (Picture fault) = Unit {0}
+IsPictureFault (Input fault) = ⊥
+IsPictureFault (File path) = ⊥
+IsPictureFault Memory = Unit {0}
+
+-- a fault that a drawing may come to
+abbrev pub IsDrawingFault : Fault → Type 0
+IsDrawingFault (CommandLine error) = ⊥
+IsDrawingFault NotText = ⊥
+IsDrawingFault (Load fault) = ⊥
+IsDrawingFault (Log fault) = ⊥
+IsDrawingFault (Parse line fault) = Unit {0}
+IsDrawingFault (Picture fault) = Unit {0}
+IsDrawingFault (Input fault) = Unit {0}
+IsDrawingFault (File path) = Unit {0}
+IsDrawingFault Memory = Unit {0}
 
 -- the exit status: 2 for the command line, 1 for all else
 abbrev pub status_of : Fault → ℕ
@@ -45,6 +84,9 @@ status_of (CommandLine error) = 2
 status_of NotText = 2
 status_of (Load fault) = 1
 status_of (Log fault) = 1
+status_of (Parse line fault) = 1
+status_of (Picture fault) = 1
+status_of (Input fault) = 1
 status_of (File path) = 1
 status_of Memory = 1
 
@@ -54,5 +96,8 @@ IsDeviceFault (CommandLine error) = ⊥
 IsDeviceFault NotText = ⊥
 IsDeviceFault (Load fault) = ⊥
 IsDeviceFault (Log fault) = ⊥
+IsDeviceFault (Parse line fault) = ⊥
+IsDeviceFault (Picture fault) = ⊥
+IsDeviceFault (Input fault) = ⊥
 IsDeviceFault (File path) = Unit {0}
 IsDeviceFault Memory = Unit {0}

@@ -1,4 +1,5 @@
 pub mod CommandLine
+pub mod Drawing
 pub mod Dump
 pub mod Faults
 pub mod Refusals

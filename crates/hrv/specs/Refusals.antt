@@ -1,7 +1,7 @@
 -- A lower crate's fault as the program's: want of memory is one fault for all.
 -- This project's own.
 use Rattle.hrv.specs.declared.faults.Fault.{Fault}
-use Rattle.hrv.specs.declared.faults.Fault.TheVariants.{CommandLine, Load, Log, Memory}
+use Rattle.hrv.specs.declared.faults.Fault.TheVariants.{CommandLine, Load, Log, Parse, Picture, Input, Memory}
 use Rattle.clap.specs.declared.error.Error.{Error}
 use Rattle.clap.specs.declared.error.kind.ErrorKind.{ErrorKind}
 use Rattle.clap.specs.declared.error.kind.ErrorKind.TheVariants as kinds
@@ -9,6 +9,14 @@ use Rattle.loader.specs.declared.faults.LoadFault.{LoadFault}
 use Rattle.loader.specs.declared.faults.LoadFault.TheVariants as load
 use Rattle.multi_hart.specs.declared.log_faults.LogFault.{LogFault}
 use Rattle.multi_hart.specs.declared.log_faults.LogFault.TheVariants as log
+use Rattle.line_text.specs.declared.read_errors.LocatedError.{LocatedError}
+use Rattle.line_text.specs.declared.read_errors.LocatedError.TheVariants as located
+use Rattle.line_text.specs.declared.read_errors.ReadError.{ReadError}
+use Rattle.line_text.specs.declared.read_errors.ReadError.TheVariants as read
+use Rattle.halide_syntax.specs.declared.faults.ParseFault.{ParseFault}
+use Rattle.picture.specs.declared.faults.PictureFault.{PictureFault}
+use Rattle.picture.specs.declared.faults.EvalError.{EvalError}
+use Rattle.picture.specs.declared.faults.EvalError.TheVariants as eval
 
 abbrev pub fault_of_load : LoadFault → Fault
 fault_of_load load.OutOfMemory = Memory
@@ -17,6 +25,18 @@ fault_of_load fault = Load fault
 abbrev pub fault_of_log : LogFault → Fault
 fault_of_log log.OutOfMemory = Memory
 fault_of_log fault = Log fault
+
+abbrev pub fault_of_parse : LocatedError ParseFault → Fault
+fault_of_parse located.Memory = Memory
+fault_of_parse (located.Fault line fault) = Parse line fault
+
+abbrev pub fault_of_picture : ReadError PictureFault → Fault
+fault_of_picture read.Memory = Memory
+fault_of_picture (read.Fault fault) = Picture fault
+
+abbrev pub fault_of_input : EvalError → Fault
+fault_of_input eval.OutOfMemory = Memory
+fault_of_input fault = Input fault
 
 abbrev pub fault_for : ErrorKind → Error → Fault
 fault_for kinds.OutOfMemory error = Memory

@@ -1,19 +1,29 @@
 //! What a command line asks of the program.
-ghost use Rattle.std.specs.Prelude.{◌≡◌, ℕ, List, [], ◌∷◌, codes, IfOk, IfErr, Some, IsSome};
-ghost use Rattle.clap.specs.Words.{found_of, rows_of};
+ghost use Rattle.std.specs.Prelude.{◌≡◌, ◌≤◌, ℕ, List, [], ◌∷◌, codes, false, length, unwrap_or, IfOk, IfErr, Some, IsSome};
+ghost use Rattle.std.specs.List.{AllByRecursion};
+ghost use Rattle.clap.specs.Lexer.{usize_max};
+ghost use Rattle.clap.specs.Words.{all_of, found_of, rows_of, rule_of};
 ghost use Rattle.clap.specs.Walk.{texts};
-ghost use Rattle.hrv.specs.CommandLine.{Asked, IsPlainWord, IsRefusal, IsSpelled, Makes, Replays};
-ghost use Rattle.hrv.specs.CommandLine.{asked_by, asked_of, hrv_app, named, replay_app};
+ghost use Rattle.hrv.specs.CommandLine.{Asked, Draws, IsPlainWord, IsRefusal, IsSpelled, Makes, Replays};
+ghost use Rattle.hrv.specs.CommandLine.{asked_by, asked_of, hrv_app, named, picture_app, picture_of, replay_app, replay_of, rest_rule};
 
 use crate::faults::Fault;
 use clap::{Arg, ArgMatches, Command};
 use std::alloc::{AllocError, Global};
 
 /// What the words of a command line ask for.
-#[derive(Clone, Copy, Debug, PartialEq, Eq)]
+#[derive(Debug, Drop)]
 pub enum Invocation<'a> {
     /// `replay IMAGE LOG`
-    Replay { image: &'a str, log: &'a str },
+    Replay {
+        image: &'a str,
+        log: &'a str,
+    },
+    /// `picture ALGORITHM [INPUT..]`
+    Picture {
+        algorithm: &'a str,
+        inputs: Vec<&'a str>,
+    },
 }
 
 /// Reads the words of a command line, the program's own name left out.
@@ -28,20 +38,54 @@ pub fn command<'a>(alloc: Global, words: &'a [&'a str]) -> Result<Invocation<'a>
 {
     let matches = program(alloc)?.try_get_matches_from(words)?;
     let (name, given) = matches.subcommand().unwrap();
-    Ok(asked_for(name, given))
+    let invocation = asked_for(alloc, name, given)?;
+    Ok(invocation)
 }
 
 // What a subcommand and its arguments ask for.
-fn asked_for<'a>(name: &str, given: &ArgMatches<'a>) -> Invocation<'a>
+fn asked_for<'a>(
+    alloc: Global,
+    name: &str,
+    given: &ArgMatches<'a>,
+) -> Result<Invocation<'a>, AllocError>
     requires { IsSome (asked_of (name.now, rows_of (found_of given.now))) }
-    ensures { asked_of (name.now, rows_of (found_of given.now)) ≡ Some (asked_by result) }
+    ensures { IfOk result (λ invocation. asked_of (name.now, rows_of (found_of given.now)) ≡ Some (asked_by invocation)) }
 {
     match name {
-        "replay" => Invocation::Replay {
-            image: given.get_str("IMAGE").unwrap(),
-            log: given.get_str("LOG").unwrap(),
-        },
+        "replay" => Ok(replay_asked(given)),
+        "picture" => picture_asked(alloc, given),
         _ => unreachable!(),
+    }
+}
+
+// What the arguments of `replay` ask for.
+fn replay_asked<'a>(given: &ArgMatches<'a>) -> Invocation<'a>
+    requires { IsSome (replay_of (rows_of (found_of given.now))) }
+    ensures { replay_of (rows_of (found_of given.now)) ≡ Some (asked_by result) }
+{
+    Invocation::Replay {
+        image: given.get_str("IMAGE").unwrap(),
+        log: given.get_str("LOG").unwrap(),
+    }
+}
+
+// What the arguments of `picture` ask for.
+fn picture_asked<'a>(alloc: Global, given: &ArgMatches<'a>) -> Result<Invocation<'a>, AllocError>
+    requires { IsSome (picture_of (rows_of (found_of given.now))) }
+    ensures { IfOk result (λ invocation. picture_of (rows_of (found_of given.now)) ≡ Some (asked_by invocation)) }
+{
+    let algorithm = given.get_str("ALGORITHM").unwrap();
+    let inputs = inputs_of(alloc, given)?;
+    Ok(Invocation::Picture { algorithm, inputs })
+}
+
+// The words for the inputs of a picture, in their order.
+fn inputs_of<'a>(alloc: Global, given: &ArgMatches<'a>) -> Result<Vec<&'a str>, AllocError>
+    ensures { IfOk result (λ inputs. texts inputs.items ≡ unwrap_or (all_of (codes "INPUT") (rows_of (found_of given.now))) []) }
+{
+    match given.get_strs("INPUT") {
+        Some(inputs) => Vec::from_slice(alloc, inputs),
+        None => Ok(Vec::new(alloc)),
     }
 }
 
@@ -55,6 +99,14 @@ pub fn replay_is_named()
         → named words ≡ Some asked → IsSpelled words asked }
 {}
 
+/// Which words name a picture: `picture`, an algorithm and any number of inputs, after `--` where one begins with `-`.
+pub fn picture_is_named()
+    ensures plain { (algorithm : List ℕ) (inputs : List (List ℕ)) → AllByRecursion IsPlainWord (algorithm ∷ inputs) → length inputs ≤ usize_max
+        → named (codes "picture" ∷ algorithm ∷ inputs) ≡ Some (Draws algorithm inputs) }
+    ensures marked { (algorithm : List ℕ) (inputs : List (List ℕ)) → length inputs ≤ usize_max
+        → named (codes "picture" ∷ codes "--" ∷ algorithm ∷ inputs) ≡ Some (Draws algorithm inputs) }
+{}
+
 // The program's command.
 fn program<'a>(alloc: Global) -> Result<Command<'a>, AllocError>
     ensures { IfOk result (Makes hrv_app) }
@@ -64,7 +116,8 @@ fn program<'a>(alloc: Global) -> Result<Command<'a>, AllocError>
         .bin_name("hrv")?
         .no_binary_name(true)
         .subcommand_required(true)
-        .subcommand(replay_command(alloc)?)
+        .subcommand(replay_command(alloc)?)?
+        .subcommand(picture_command(alloc)?)
 }
 
 // `replay IMAGE LOG`
@@ -75,6 +128,24 @@ fn replay_command<'a>(alloc: Global) -> Result<Command<'a>, AllocError>
         .about("Runs an image once more, turn by turn as the log says")
         .arg(Arg::new(alloc, "IMAGE").required(true))?
         .arg(Arg::new(alloc, "LOG").required(true))
+}
+
+// `picture ALGORITHM [INPUT..]`
+fn picture_command<'a>(alloc: Global) -> Result<Command<'a>, AllocError>
+    ensures { IfOk result (Makes picture_app) }
+{
+    Command::new(alloc, "picture")
+        .about("Draws the picture that an algorithm defines")
+        .arg(Arg::new(alloc, "ALGORITHM").required(true))?
+        .arg(rest_arg(alloc, "INPUT"))
+}
+
+// An argument that takes the words left over.
+fn rest_arg<'a>(alloc: Global, id: &'a str) -> Arg<'a>
+    ensures rule { rule_of result ≡ rest_rule id.now }
+    ensures local { result.global ≡ false }
+{
+    Arg::new(alloc, id).num_args(..)
 }
 
 #[cfg(test)]

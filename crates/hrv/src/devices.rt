@@ -4,6 +4,10 @@
 //! read and written, and a test can hand in devices that fail.
 
 ghost use Rattle.std.specs.Prelude.{◌≡◌, ◌≢◌, ℕ, ◌+◌, ◌<◌, ◌≤◌, ◌^◌, List, [], ◌++◌, length, take, OnOk, OnErr, IfOk, IfErr, Err};
+ghost use Rattle.std.specs.Prelude.{◌⊎◌};
+ghost use Rattle.std.specs.Str.{IsUtf8};
+ghost use Rattle.std.specs.String.{string_bytes};
+ghost use Rattle.hrv.specs.Drawing.{GaveNoText};
 ghost use Rattle.hrv.specs.Faults.{OnFile, IsDeviceFault};
 
 use crate::faults::Fault;
@@ -87,7 +91,7 @@ pub trait Sink {
     ghost took_more: { (s t u : Self) (xs ys : List ℕ) → took s xs t → took t ys u → took s (xs ++ ys) u };
 }
 
-/// The fault of a source that failed.
+/// The fault of a source that failed, or that isn't text.
 fn file_fault(alloc: Global, path: &str) -> Fault
     ensures path { OnFile result (λ named. named ≡ path.now) }
     ensures kind { IsDeviceFault result }
@@ -104,6 +108,7 @@ pub fn read_all<S: Source>(alloc: Global, source: &mut S) -> Result<Vec<u8>, Fau
     ensures given { IfOk result (λ bytes. S.gave source.old bytes.items source.new) }
     ensures ended { OnOk result (S.ended source.new) }
     ensures well { OnOk result (S.failed source.new ≡ S.failed source.old) }
+    ensures path { S.place source.new ≡ S.place source.old }
     ensures device { IfErr result (λ fault. OnFile fault (λ path. (path ≡ S.place source.old) × (S.failed source.old < S.failed source.new))) }
     ensures kinds { IfErr result IsDeviceFault }
 {
@@ -120,10 +125,27 @@ pub fn read_all<S: Source>(alloc: Global, source: &mut S) -> Result<Vec<u8>, Fau
     }
 }
 
+/// Reads all that a source has left, as a text.
+pub fn read_text<S: Source>(alloc: Global, source: &mut S) -> Result<String, Fault>
+    requires { S.failed source.old + 1 < 2 ^ 64 }
+    ensures given { IfOk result (λ text. S.gave source.old (string_bytes text) source.new) }
+    ensures utf8 { IfOk result (λ text. IsUtf8 (string_bytes text)) }
+    ensures ended { OnOk result (S.ended source.new) }
+    ensures device { IfErr result (λ fault. OnFile fault (λ path. (path ≡ S.place source.old)
+        × ((S.failed source.old < S.failed source.new) ⊎ GaveNoText (λ bytes. S.gave source.old bytes source.new × S.ended source.new)))) }
+    ensures kinds { IfErr result IsDeviceFault }
+{
+    let bytes = read_all(alloc, source)?;
+    match String::from_utf8(bytes) {
+        Ok(text) => Ok(text),
+        Err(_) => Err(file_fault(alloc, source.path())),
+    }
+}
+
 /// How many bytes are read at a time.
 const CHUNK: usize = 65_536;
 
-/// Writes all the bytes. After a device fault the sink has taken a front of them, else nothing.
+/// Writes all the bytes. After a device fault the sink has taken a front of them, and where memory ran out nothing.
 pub fn write_all<S: Sink>(alloc: Global, sink: &mut S, bytes: &[u8]) -> Result<(), Fault>
     requires { S.failed sink.old + 1 < 2 ^ 64 }
     ensures taken { OnOk result (S.took sink.old bytes.now sink.new) }

@@ -3,9 +3,12 @@
 ghost use Rattle.std.specs.Prelude.{◌≡◌};
 
 use clap::error::ErrorKind;
+use halide_syntax::ParseFault;
+use line_text::{LocatedError, ReadError};
 use loader::LoadFault;
 use multi_hart::LogFault;
-use std::alloc::AllocError;
+use picture::{EvalError, PictureFault};
+use std::alloc::{AllocError, AllocFailed};
 use thiserror::Error;
 
 /// A refusal of the program. Its text is the one line that the program prints.
@@ -23,7 +26,16 @@ pub enum Fault {
     /// The bytes of a log of turns are refused.
     #[error("refused log {}", .0.number().unwrap_or(0))]
     Log(LogFault),
-    /// A file can't be read or written: its path, or `-` for standard output.
+    /// An algorithm text is refused, in the line with this number.
+    #[error("refused parse {} line {line}", .fault.number())]
+    Parse { line: u64, fault: ParseFault },
+    /// The text of an input picture is refused.
+    #[error("refused picture {}", .0.number())]
+    Picture(PictureFault),
+    /// The input pictures are not those that the algorithm asks for.
+    #[error("refused input {}", .0.number().unwrap_or(0))]
+    Input(EvalError),
+    /// A file can't be read or written, or is no UTF-8 where it has to be: its path, or `-` for standard output.
     #[error("refused file {0}")]
     File(String),
     /// Memory ran out.
@@ -40,7 +52,13 @@ impl Fault {
     {
         match self {
             Fault::CommandLine(_) | Fault::NotText => 2,
-            Fault::Load(_) | Fault::Log(_) | Fault::File(_) | Fault::Memory => 1,
+            Fault::Load(_)
+            | Fault::Log(_)
+            | Fault::Parse { .. }
+            | Fault::Picture(_)
+            | Fault::Input(_)
+            | Fault::File(_)
+            | Fault::Memory => 1,
         }
     }
 }
@@ -69,6 +87,16 @@ impl From<AllocError> for Fault {
     }
 }
 
+impl<T: Drop> From<AllocFailed<T>> for Fault {
+    ghost use Rattle.hrv.specs.declared.faults.Fault.TheVariants.{Memory};
+
+    ghost from_gives = { λ _ fault. fault ≡ Memory };
+
+    fn from(_error: AllocFailed<T>) -> Fault {
+        Fault::Memory
+    }
+}
+
 impl From<LoadFault> for Fault {
     ghost use Rattle.hrv.specs.Refusals.{fault_of_load};
 
@@ -91,6 +119,45 @@ impl From<LogFault> for Fault {
         match fault {
             LogFault::OutOfMemory => Fault::Memory,
             _ => Fault::Log(fault),
+        }
+    }
+}
+
+impl From<LocatedError<ParseFault>> for Fault {
+    ghost use Rattle.hrv.specs.Refusals.{fault_of_parse};
+
+    ghost from_gives = { λ error answered. answered ≡ fault_of_parse error };
+
+    fn from(error: LocatedError<ParseFault>) -> Fault {
+        match error {
+            LocatedError::Memory => Fault::Memory,
+            LocatedError::Fault(line, fault) => Fault::Parse { line, fault },
+        }
+    }
+}
+
+impl From<ReadError<PictureFault>> for Fault {
+    ghost use Rattle.hrv.specs.Refusals.{fault_of_picture};
+
+    ghost from_gives = { λ error answered. answered ≡ fault_of_picture error };
+
+    fn from(error: ReadError<PictureFault>) -> Fault {
+        match error {
+            ReadError::Memory => Fault::Memory,
+            ReadError::Fault(fault) => Fault::Picture(fault),
+        }
+    }
+}
+
+impl From<EvalError> for Fault {
+    ghost use Rattle.hrv.specs.Refusals.{fault_of_input};
+
+    ghost from_gives = { λ error answered. answered ≡ fault_of_input error };
+
+    fn from(error: EvalError) -> Fault {
+        match error {
+            EvalError::OutOfMemory => Fault::Memory,
+            _ => Fault::Input(error),
         }
     }
 }

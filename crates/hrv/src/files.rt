@@ -3,9 +3,11 @@
 //! What a file or a terminal gives and takes is outside of what a proof can know, so the facts of bytes
 //! of these two devices hold of any bytes. That each failure is counted is proved.
 
-ghost use Rattle.std.specs.Prelude.{◌≡◌, ◌≤◌, length, codes, IfOk};
+ghost use Rattle.std.specs.Prelude.{◌≡◌, ◌≤◌, length, codes, map, IfOk};
+ghost use Rattle.std.specs.List.{All};
 
 use crate::devices::{Sink, Source};
+use std::alloc::{AllocError, Global};
 use std::io::{Read, Write};
 use std::rt::Files;
 use std::{fs, io};
@@ -78,6 +80,24 @@ impl<'a, R: Files> Source for FileSource<'a, R> {
         }
         count
     }
+}
+
+/// The files at paths, none of them opened yet.
+pub fn sources_of<'a, R: Files>(
+    rt: &'a R,
+    alloc: Global,
+    paths: &[&'a str],
+) -> Result<Vec<FileSource<'a, R>>, AllocError>
+    ensures fresh { IfOk result (λ sources. All (λ source. source.failures ≡ 0) sources.items) }
+    ensures paths { IfOk result (λ sources. map (λ source. source.path.now) sources.items ≡ map (λ path. path.now) paths.now) }
+{
+    let mut sources = Vec::new(alloc);
+    let mut rest = paths;
+    while let [path, others @ ..] = rest {
+        sources.push(FileSource::new(rt, path))?;
+        rest = others;
+    }
+    Ok(sources)
 }
 
 /// Standard output. Its path is `-`.

@@ -3,6 +3,8 @@
 //! - [`command_lines`]: what the words of a command line ask for.
 //! - [`replay`]: an image and a log of turns become a dump; [`replay::replay_bytes`] has the contract
 //!   of the whole command, over `specs/Replay.antt` and `specs/Dump.antt`.
+//! - [`drawing`]: an algorithm and input pictures become the reference picture; [`drawing::picture_bytes`] has the contract of the
+//!   whole command, over `specs/Drawing.antt`.
 //! - [`dumps`], [`pictures`]: the text of a dump and of its picture.
 //! - [`devices`]: what is read from and written to; [`files`]: the system's files and standard output.
 //! - [`faults`]: why the program refuses, and its exit status.
@@ -10,6 +12,7 @@
 
 mod command_lines;
 mod devices;
+mod drawing;
 mod dumps;
 mod faults;
 mod files;
@@ -17,13 +20,18 @@ mod pictures;
 mod replay;
 
 use crate::command_lines::{Invocation, command};
+use crate::drawing::picture_bytes;
 use crate::faults::Fault;
-use crate::files::{FileSource, StandardOutput};
+use crate::files::{FileSource, StandardOutput, sources_of};
 use crate::replay::replay_bytes;
+use std::alloc::Global;
 use std::process::ExitCode;
 use std::rt::{Env, Files};
+use std::thread::Threads;
 use std::{env, io};
 
+#[cfg(test)]
+mod drawing_tests;
 #[cfg(test)]
 mod program_tests;
 #[cfg(test)]
@@ -41,7 +49,7 @@ fn main(rt: HostRuntime) -> ExitCode {
 }
 
 /// Does what the command line asks for.
-fn run<R: Files + Env + Print + AllocGlobal>(rt: &R) -> Result<(), Fault> {
+fn run<R: Files + Env + Print + AllocGlobal + Threads + Sync>(rt: &R) -> Result<(), Fault> {
     let alloc = rt.alloc();
     let arguments: Vec<String> = env::args(rt).map_err(word_fault)?.skip(1).collect(alloc)?;
     let words: Vec<&str> = arguments.iter().map(|word| word.as_str()).collect(alloc)?;
@@ -52,7 +60,27 @@ fn run<R: Files + Env + Print + AllocGlobal>(rt: &R) -> Result<(), Fault> {
             &mut FileSource::new(rt, log),
             &mut StandardOutput::new(rt),
         ),
+        Invocation::Picture { algorithm, inputs } => {
+            draw_picture(rt, alloc, algorithm, inputs.as_slice())
+        }
     }
+}
+
+/// Draws the picture of the algorithm and the inputs at these paths.
+fn draw_picture<R: Files + Print + Threads + Sync>(
+    rt: &R,
+    alloc: Global,
+    algorithm: &str,
+    inputs: &[&str],
+) -> Result<(), Fault> {
+    let mut sources = sources_of(rt, alloc, inputs)?;
+    picture_bytes(
+        rt,
+        alloc,
+        &mut FileSource::new(rt, algorithm),
+        sources.as_mut_slice(),
+        &mut StandardOutput::new(rt),
+    )
 }
 
 /// The fault of words that can't be taken as text.

@@ -57,12 +57,12 @@ hart 1 running pc 0x00010000 turns 0
 
 /// Bytes that are read a few at a time. The read of a number fails, where there is one.
 #[derive(Drop)]
-struct Tape<'a> {
+pub struct Tape<'a> {
     name: &'a str,
     bytes: &'a [u8],
     step: usize,
-    reads_left: Option<u32>,
-    failures: u64,
+    pub reads_left: Option<u32>,
+    pub failures: u64,
 }
 
 impl Source for Tape<'_> {
@@ -108,11 +108,11 @@ impl Source for Tape<'_> {
 /// Bytes that are written a few at a time. The write of a number fails, where there is one, or takes
 /// nothing.
 #[derive(Drop)]
-struct Page {
-    bytes: Vec<u8>,
+pub struct Page {
+    pub bytes: Vec<u8>,
     step: usize,
-    writes_left: Option<u32>,
-    failures: u64,
+    pub writes_left: Option<u32>,
+    pub failures: u64,
 }
 
 impl Sink for Page {
@@ -154,7 +154,7 @@ impl Sink for Page {
     }
 }
 
-fn tape_of<'a>(name: &'a str, bytes: &'a [u8]) -> Tape<'a>
+pub fn tape_of<'a>(name: &'a str, bytes: &'a [u8]) -> Tape<'a>
     ensures { result.failures ≡ 0 }
 {
     Tape {
@@ -166,7 +166,7 @@ fn tape_of<'a>(name: &'a str, bytes: &'a [u8]) -> Tape<'a>
     }
 }
 
-fn empty_page(alloc: Global) -> Page
+pub fn empty_page(alloc: Global) -> Page
     ensures { result.failures ≡ 0 }
 {
     Page {

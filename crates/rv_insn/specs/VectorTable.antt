@@ -1,7 +1,8 @@
 -- The rows of the vector instructions.
--- RISC-V Vector Extension 1.0: the formats of sections 5 "Vector Instruction Formats", 6.1 "vsetvli/vsetivli/vsetvl
--- instructions" and 7.2 "Vector Load/Store Addressing Modes"; the numbers of the rows are those of chapter 19
--- "Vector Instruction Listing". Which rows there are is this project's own.
+-- RISC-V Vector Extension 1.0: the formats of chapters 5 "Vector Instruction Formats" and 6 "Configuration-Setting
+-- Instructions", of sections 7.1 "Vector Load/Store Instruction Encoding" and 10.1 "Vector Arithmetic Instruction
+-- encoding"; the numbers of the rows are those of chapter 19 "Vector Instruction Listing". Which rows there are is
+-- this project's own.
 use Rattle.std.specs.Prelude.{ℕ, List, [], ◌∷◌, codes}
 use Rattle.rv_insn.specs.Encoding.{span, in_parts, Field, Row}
 use Rattle.rv_insn.specs.Encoding.Field.{Unsigned, Signed}

@@ -1,4 +1,4 @@
-use super::{Invocation, command, replay_is_named};
+use super::{Invocation, command, picture_is_named, replay_is_named};
 use crate::faults::Fault;
 use std::alloc::{AllocError, Global};
 use std::test::Fail;
@@ -13,19 +13,51 @@ fn reads_a_replay(rt: HostRuntime) -> Result<(), Fail> {
     ];
     for (words, image, log) in lines {
         let invocation = command(rt.alloc(), words)?;
-        assert!(rt;
-            invocation == Invocation::Replay { image, log },
-            "{words:?}"
-        );
+        assert!(rt; is_replay(&invocation, image, log), "{words:?}");
     }
     replay_is_named();
     Ok(())
 }
 
+fn is_replay(invocation: &Invocation, image: &str, log: &str) -> bool {
+    match invocation {
+        Invocation::Replay { image: i, log: l } => *i == image && *l == log,
+        Invocation::Picture { .. } => false,
+    }
+}
+
+#[test]
+fn reads_a_picture(rt: HostRuntime) -> Result<(), Fail> {
+    let lines: [(&[&str], &str, &[&str]); 6] = [
+        (&["picture", "a"], "a", &[]),
+        (&["picture", "a", "b"], "a", &["b"]),
+        (&["picture", "a", "b", "a", "-"], "a", &["b", "a", "-"]),
+        (&["picture", "--", "-a", "-b"], "-a", &["-b"]),
+        (&["picture", "a", "b", "--", "-c"], "a", &["b", "-c"]),
+        (&["picture", "a", "--", "--"], "a", &["--"]),
+    ];
+    for (words, algorithm, inputs) in lines {
+        let invocation = command(rt.alloc(), words)?;
+        assert!(rt; is_picture(&invocation, algorithm, inputs), "{words:?}");
+    }
+    picture_is_named();
+    Ok(())
+}
+
+fn is_picture(invocation: &Invocation, algorithm: &str, inputs: &[&str]) -> bool {
+    match invocation {
+        Invocation::Picture {
+            algorithm: a,
+            inputs: given,
+        } => *a == algorithm && given.as_slice() == inputs,
+        Invocation::Replay { .. } => false,
+    }
+}
+
 // The starts of the texts are those of the Rust crate.
 #[test]
 fn refuses_other_words(rt: HostRuntime) -> Result<(), Fail> {
-    let lines: [(&[&str], &str); 11] = [
+    let lines: [(&[&str], &str); 14] = [
         (&[], "error: 'hrv' requires a subcommand"),
         (
             &["replay"],
@@ -48,6 +80,15 @@ fn refuses_other_words(rt: HostRuntime) -> Result<(), Fail> {
         (&["--help"], "Runs programs"),
         (&["help"], "Runs programs"),
         (&["replay", "--help"], "Runs an image"),
+        (
+            &["picture"],
+            "error: the following required arguments were not provided",
+        ),
+        (
+            &["picture", "a", "-b"],
+            "error: unexpected argument '-b' found",
+        ),
+        (&["picture", "--help"], "Draws the picture"),
         (&[""], "error: unrecognized subcommand ''"),
     ];
     for (words, start) in lines {

@@ -22,10 +22,10 @@ pub returns-clause-named : goal.returns-clause-named
 returns-clause-named c =
     let t = taken c.in_ok-program.field-0 (texts c.args.words.now) c.in_ok-matches.matches c.in_ok-program.ensures c.in_ok-matches.ensures.kinds c.in_ok-matches.ensures.matches in
     let here = asked_here _ _ t c.subcommand.result c.unwrap.result c.unwrap.ensures c.subcommand.ensures.name c.subcommand.ensures.rows in
-    t.is_named ∙ sym here ∙ c.asked_for.ensures
+    t.is_named ∙ sym here ∙ c.in_ok-invocation.ensures
 
 pub returns-clause-spelled : goal.returns-clause-spelled
 returns-clause-spelled c =
     let t = taken c.in_ok-program.field-0 (texts c.args.words.now) c.in_ok-matches.matches c.in_ok-program.ensures c.in_ok-matches.ensures.kinds c.in_ok-matches.ensures.matches in
     let here = asked_here _ _ t c.subcommand.result c.unwrap.result c.unwrap.ensures c.subcommand.ensures.name c.subcommand.ensures.rows in
-    spelled_as _ _ t _ (sym here ∙ c.asked_for.ensures)
+    spelled_as _ _ t _ (sym here ∙ c.in_ok-invocation.ensures)

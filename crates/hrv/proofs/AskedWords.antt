@@ -1,0 +1,151 @@
+-- What words without a fault ask for, and which words do.
+use Rattle.std.proofs.Common.{◌≡◌, ◌∙◌, codes, true, false, true≢false, refl, sym, ap, subst, List, [], ◌∷◌, ◌≤◌, length, Option, Some, None, IsSome}
+use Rattle.std.specs.Prelude.{is_some, option_and_then, unwrap_or, not}
+use Rattle.std.proofs.lemmas.Bool.{le-ltb}
+use Rattle.std.specs.List.{AllByRecursion}
+use Rattle.clap.specs.Lexer.{usize_max}
+use Rattle.clap.specs.Walk.{Row, Text, nothing_held, rows_after}
+use Rattle.clap.specs.Simple.{Shape, subcommand_of}
+use Rattle.clap.specs.Kinds.{Kinds}
+use Rattle.clap.specs.Faults.{fault_of, level_fault}
+use Rattle.hrv.specs.CommandLine.{Asked, Draws, IsPlainWord, IsSpelled, Replays, asked_of, hrv_app, named, picture_of, replay_of, unless_fault, unmarked}
+use Rattle.hrv.proofs.Positionals.{ArePlain, marked, none, passes_all, plain, takes_all, unmarked-plain}
+use Rattle.hrv.proofs.Subcommands.{IsName, IsSubcommand, Named, first_is_name, is_picture, is_replay, name_free, name_given, name_passes}
+use Rattle.hrv.proofs.ReplayWords as replay
+use Rattle.hrv.proofs.PictureWords as picture
+
+-- what words with no fault ask for
+pub record Asks (words : List Text) : Type 0 where
+  pub asked : Asked
+  pub name : Text
+  pub rows : List Row
+  pub met : subcommand_of hrv_app words ≡ Some (name, rows)
+  pub asks : asked_of (name, rows) ≡ Some asked
+  pub spelled : IsSpelled words asked
+
+asks_replay : (words rest : List Text) → fault_of hrv_app words ≡ [] → words ≡ codes "replay" ∷ rest → Asks words
+unfolding replay.takes_two
+asks_replay words rest e split =
+    let all = takes_all replay.takes_two rest (name_passes replay.replay_command rest (subst (λ ws. fault_of hrv_app ws ≡ []) split e)) in
+    let both = replay.two_values (unmarked rest) all.1 in
+    record {
+      asked = Replays both.0 both.1;
+      name = codes "replay";
+      rows = rows_after replay.leaf.rules [] rest;
+      met = ap (subcommand_of hrv_app) split ∙ name_given replay.replay_command rest;
+      asks = ap replay_of all.0 ∙ both.3;
+      spelled = ap unmarked split ∙ ap (λ ws. codes "replay" ∷ ws) both.2;
+    }
+
+asks_picture : (words rest : List Text) → fault_of hrv_app words ≡ [] → words ≡ codes "picture" ∷ rest → Asks words
+unfolding picture.takes_rest
+asks_picture words rest e split =
+    let all = takes_all picture.takes_rest rest (name_passes picture.picture_command rest (subst (λ ws. fault_of hrv_app ws ≡ []) split e)) in
+    let found = picture.all_values (unmarked rest) all.1 in
+    record {
+      asked = Draws found.0 found.1;
+      name = codes "picture";
+      rows = rows_after picture.leaf.rules [] rest;
+      met = ap (subcommand_of hrv_app) split ∙ name_given picture.picture_command rest;
+      asks = ap picture_of all.0 ∙ found.3;
+      spelled = ap unmarked split ∙ ap (λ ws. codes "picture" ∷ ws) found.2;
+    }
+
+pub words_ask : (words : List Text) → fault_of hrv_app words ≡ [] → Asks words
+words_ask words e =
+    let first = first_is_name words e in
+    by_name first.name first.is_name first.rest first.split
+  where
+    by_name : (name : Text) → IsName name → (rest : List Text) → words ≡ name ∷ rest → Asks words
+    by_name _ is_replay rest split = asks_replay words rest e split
+    by_name _ is_picture rest split = asks_picture words rest e split
+
+-- and they name it
+pub asked_named : (words : List Text) (pass : fault_of hrv_app words ≡ []) (asks : Asks words) → named words ≡ Some asks.asked
+asked_named words pass asks =
+    ap (λ kinds. unless_fault kinds (option_and_then asked_of (subcommand_of hrv_app words))) pass
+    ∙ ap (option_and_then asked_of) asks.met ∙ asks.asks
+
+-- what is named has no fault
+no_fault : (kinds : Kinds) (asked : Option Asked) → IsSome (unless_fault kinds asked) → kinds ≡ []
+no_fault [] asked some = refl
+no_fault (kind ∷ kinds) asked some = absurd (true≢false (sym some))
+
+pub fault_of-named : (words : List Text) → IsSome (named words) → fault_of hrv_app words ≡ []
+fault_of-named words some = no_fault (fault_of hrv_app words) (option_and_then asked_of (subcommand_of hrv_app words)) some
+
+-- so nothing is named but what is spelled
+pub only_spelled : (words : List Text) (asked : Asked) → named words ≡ Some asked → IsSpelled words asked
+only_spelled words asked is =
+    let pass = fault_of-named words (ap is_some is) in
+    let found = words_ask words pass in
+    let same : Some found.asked ≡ Some asked = sym (asked_named words pass found) ∙ is in
+    subst (IsSpelled words) (ap (λ o. unwrap_or o asked) same) found.spelled
+
+-- ---- words that name a replay or a picture
+
+-- what spelled words ask for
+abbrev asked_in : List Text → Asked
+asked_in (name ∷ image ∷ log ∷ []) = Replays image log
+asked_in _ = Replays [] []
+
+-- two values, of which those before a first `--` are plain, name a replay
+pub values_replay : (words : List Text) (image log : Text) → ArePlain words → unmarked words ≡ image ∷ log ∷ []
+    → named (codes "replay" ∷ words) ≡ Some (Replays image log)
+unfolding replay.takes_two
+values_replay words image log are_plain two =
+    let enough = ap replay.takes_two.is_enough two in
+    let free = passes_all replay.takes_two words are_plain enough in
+    let pass = name_free replay.replay_command words free in
+    let all = takes_all replay.takes_two words free in
+    let both = replay.two_values (unmarked words) enough in
+    let rows = ap replay_of all.0 ∙ both.3 in
+    let same : asked_in (codes "replay" ∷ both.0 ∷ both.1 ∷ []) ≡ asked_in (codes "replay" ∷ image ∷ log ∷ []) =
+    ap (λ ws. asked_in (codes "replay" ∷ ws)) (sym both.2 ∙ two) in
+    ap (λ kinds. unless_fault kinds (option_and_then asked_of (subcommand_of hrv_app (codes "replay" ∷ words)))) pass
+    ∙ ap (option_and_then asked_of) (name_given replay.replay_command words) ∙ rows ∙ ap (λ a. Some a) same
+
+pub plain_replay : (image log : Text) → IsPlainWord image → IsPlainWord log → named (codes "replay" ∷ image ∷ log ∷ []) ≡ Some (Replays image log)
+plain_replay image log image_plain log_plain =
+    let two = unmarked-plain image (log ∷ []) image_plain ∙ ap (λ ws. image ∷ ws) (unmarked-plain log [] log_plain) in
+    values_replay (image ∷ log ∷ []) image log (plain image_plain (plain log_plain none)) two
+
+pub marked_replay : (image log : Text) → named (codes "replay" ∷ codes "--" ∷ image ∷ log ∷ []) ≡ Some (Replays image log)
+marked_replay image log = values_replay (codes "--" ∷ image ∷ log ∷ []) image log (marked (image ∷ log ∷ [])) refl
+
+abbrev drawn_in : List Text → Asked
+drawn_in (algorithm ∷ inputs) = Draws algorithm inputs
+drawn_in [] = Draws [] []
+
+-- an algorithm and inputs, of which those before a first `--` are plain, name a picture
+pub values_picture : (words : List Text) (algorithm : Text) (inputs : List Text) → ArePlain words → unmarked words ≡ algorithm ∷ inputs
+    → length inputs ≤ usize_max → named (codes "picture" ∷ words) ≡ Some (Draws algorithm inputs)
+unfolding picture.takes_rest
+values_picture words algorithm inputs are_plain split fit =
+    let enough : picture.takes_rest.is_enough (unmarked words) ≡ true = ap picture.takes_rest.is_enough split ∙ ap not (le-ltb usize_max (length inputs) fit) in
+    let free = passes_all picture.takes_rest words are_plain enough in
+    let pass = name_free picture.picture_command words free in
+    let all = takes_all picture.takes_rest words free in
+    let found = picture.all_values (unmarked words) enough in
+    let rows = ap picture_of all.0 ∙ found.3 in
+    let same : drawn_in (found.0 ∷ found.1) ≡ drawn_in (algorithm ∷ inputs) = ap drawn_in (sym found.2 ∙ split) in
+    ap (λ kinds. unless_fault kinds (option_and_then asked_of (subcommand_of hrv_app (codes "picture" ∷ words)))) pass
+    ∙ ap (option_and_then asked_of) (name_given picture.picture_command words) ∙ rows ∙ ap (λ a. Some a) same
+
+-- all words are plain
+pub all_plain : (words : List Text) → AllByRecursion IsPlainWord words → ArePlain words × (unmarked words ≡ words)
+all_plain [] plains = (none, refl)
+all_plain (word ∷ rest) plains =
+    let more = all_plain rest plains.1 in
+    (plain plains.0 more.0, unmarked-plain word rest plains.0 ∙ ap (λ ws. word ∷ ws) more.1)
+
+pub plain_picture : (algorithm : Text) (inputs : List Text) → AllByRecursion IsPlainWord (algorithm ∷ inputs) → length inputs ≤ usize_max
+    → named (codes "picture" ∷ algorithm ∷ inputs) ≡ Some (Draws algorithm inputs)
+plain_picture algorithm inputs plains fit =
+    let whole = all_plain (algorithm ∷ inputs) plains in
+    values_picture (algorithm ∷ inputs) algorithm inputs whole.0 whole.1 fit
+
+pub marked_picture : (algorithm : Text) (inputs : List Text) → length inputs ≤ usize_max
+    → named (codes "picture" ∷ codes "--" ∷ algorithm ∷ inputs) ≡ Some (Draws algorithm inputs)
+marked_picture algorithm inputs fit =
+    values_picture (codes "--" ∷ algorithm ∷ inputs) algorithm inputs (marked (algorithm ∷ inputs)) refl fit
