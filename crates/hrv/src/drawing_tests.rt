@@ -9,6 +9,7 @@ use crate::tests::{Tape, empty_page, tape_of};
 use halide_syntax::ParseFault;
 use picture::{EvalError, PictureFault};
 use std::alloc::{AllocError, Global};
+use std::process::Abort;
 use std::test::Fail;
 use std::thread::Threads;
 
@@ -100,16 +101,15 @@ fn draws_without_an_input(rt: HostRuntime) -> Result<(), Fail> {
     Ok(())
 }
 
-/// The line of 64 numbers that a function gives, and a line feed.
-fn push_line(text: &mut String, number: impl Fn(u8) -> u32 + Copy) -> Result<(), AllocError> {
-    for x in 0..64u8 {
-        if x > 0 {
-            text.push_str(" ")?;
-        }
-        let value = number(x);
-        write!(text, "{value}")?;
+/// A line of 64 numbers: 9 x for each column x, but for the first and the last one.
+fn push_line(text: &mut String, first: u32, last: u32) -> Result<(), AllocError> {
+    write!(text, "{first}")?;
+    for x in 1..63u8 {
+        let value = 9 * u32::from(x);
+        write!(text, " {value}")?;
     }
-    text.push_str("\n")
+    writeln!(text, " {last}")?;
+    Ok(())
 }
 
 /// Two stages of blur over 9 x in each row: 3, then 9 x, and 564 at the right.
@@ -123,12 +123,8 @@ output by 64 48
     let mut input = String::from_str(rt.alloc(), "picture 64 48\n")?;
     let mut wanted = String::from_str(rt.alloc(), "picture 64 48\n")?;
     for _ in 0..48 {
-        push_line(&mut input, |x| 9 * u32::from(x))?;
-        push_line(&mut wanted, |x| match x {
-            0 => 3,
-            63 => 564,
-            _ => 9 * u32::from(x),
-        })?;
+        push_line(&mut input, 0, 567)?;
+        push_line(&mut wanted, 3, 564)?;
     }
     let (text, line) = drawn(&rt, rt.alloc(), algorithm.as_bytes(), &[input.as_bytes()])?;
     assert_eq!(rt; line.as_str(), "");
@@ -136,36 +132,50 @@ output by 64 48
     Ok(())
 }
 
-/// Refusals in their order: a file that is no text, the algorithm, each picture, then whether they are asked for.
+/// The drawing of these texts is refused by this line, and nothing is written.
+fn check_refusal(
+    rt: &(impl Threads + Sync + Abort + AllocGlobal),
+    algorithm: &[u8],
+    inputs: &[&[u8]],
+    wanted: &str,
+) -> Result<(), Fail> {
+    let (text, line) = drawn(rt, rt.alloc(), algorithm, inputs)?;
+    assert_eq!(rt; line.as_str(), wanted);
+    assert!(rt; text.is_empty(), "{wanted}");
+    Ok(())
+}
+
+/// The count of pictures is judged before their sizes, and both after each picture.
 #[test]
-fn refuses_in_order(rt: HostRuntime) -> Result<(), Fail> {
+fn refuses_pictures(rt: HostRuntime) -> Result<(), Fail> {
+    let blur = BLUR.as_bytes();
     let good = BLUR_INPUT.as_bytes();
-    let short = b"picture 2 1\n1 2\n".as_slice();
     let bad = b"picture 8 1\n0 3 6 9 12 15 18 2147483648\n".as_slice();
-    let wide = b"picture 70000 1\n".as_slice();
-    let no_text = b"# \xff\n".as_slice();
+    check_refusal(&rt, blur, &[], "refused input 1")?;
+    check_refusal(&rt, blur, &[good, good], "refused input 1")?;
+    check_refusal(&rt, blur, &[b"picture 2 1\n1 2\n"], "refused input 2")?;
+    check_refusal(&rt, blur, &[bad], "refused picture 3")?;
+    check_refusal(
+        &rt,
+        blur,
+        &[good, b"picture 70000 1\n"],
+        "refused picture 2",
+    )?;
+    check_refusal(&rt, blur, &[b"", bad], "refused picture 1")
+}
+
+/// A file that is no text comes before the algorithm's fault, and that before a picture's.
+#[test]
+fn refuses_algorithms(rt: HostRuntime) -> Result<(), Fail> {
     let unknown = b"input in 8\nfunc b(x) = c(x)\noutput b 8\n".as_slice();
     let zero = b"input in 8\nfunc b(x) = in(x) / 0\n".as_slice();
-    let cases: [(&[u8], &[&[u8]], &str); 12] = [
-        (BLUR.as_bytes(), &[], "refused input 1"),
-        (BLUR.as_bytes(), &[good, good], "refused input 1"),
-        (BLUR.as_bytes(), &[short], "refused input 2"),
-        (BLUR.as_bytes(), &[bad], "refused picture 3"),
-        (BLUR.as_bytes(), &[good, wide], "refused picture 2"),
-        (BLUR.as_bytes(), &[b"", bad], "refused picture 1"),
-        (unknown, &[bad], "refused parse 2 line 2"),
-        (zero, &[], "refused parse 5 line 2"),
-        (b"", &[], "refused parse 9 line 1"),
-        (unknown, &[no_text], "refused file input"),
-        (no_text, &[no_text], "refused file algorithm"),
-        (no_text, &[], "refused file algorithm"),
-    ];
-    for (algorithm, inputs, wanted) in cases {
-        let (text, line) = drawn(&rt, rt.alloc(), algorithm, inputs)?;
-        assert_eq!(rt; line.as_str(), wanted);
-        assert!(rt; text.is_empty(), "{wanted}");
-    }
-    Ok(())
+    let no_text = b"# \xff\n".as_slice();
+    check_refusal(&rt, unknown, &[b"picture"], "refused parse 2 line 2")?;
+    check_refusal(&rt, zero, &[], "refused parse 5 line 2")?;
+    check_refusal(&rt, b"", &[], "refused parse 9 line 1")?;
+    check_refusal(&rt, unknown, &[no_text], "refused file input")?;
+    check_refusal(&rt, no_text, &[no_text], "refused file algorithm")?;
+    check_refusal(&rt, no_text, &[], "refused file algorithm")
 }
 
 #[test]
