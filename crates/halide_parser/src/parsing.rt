@@ -86,8 +86,8 @@ fn finished(reader: Reader, count: u64) -> Result<Pipeline, LocatedError<ParseFa
 }
 
 /// The pipeline that an algorithm text names. It keeps what evaluating it needs: its output fits a picture,
-/// calls go to inputs and earlier Funcs with an index for each dimension, divisors are not 0, and all limits
-/// hold (`specs/WellFormed.antt` of `halide_pipeline`).
+/// calls go to inputs and earlier Funcs with an index for each dimension, divisors are not 0, and the limits on
+/// counts, boxes and least values hold (`specs/WellFormed.antt` of `halide_pipeline`).
 ///
 /// # Errors
 ///

@@ -1,4 +1,4 @@
--- How many nodes an expression has, and which variables it uses. `Layer` is one level of an expression, as
+-- How many nodes an expression has, and which variables it uses. `Expr-F` is one level of an expression, as
 -- `out-Expr` opens it, with something in place of each part.
 -- This project's own.
 use Rattle.std.specs.Prelude.{ℕ, ◌+◌, Bool, true, false, ◌||◌}

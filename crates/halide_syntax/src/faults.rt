@@ -6,7 +6,7 @@ ghost use Rattle.halide_syntax.specs.Faults as spec;
 /// What is wrong with a line, the least first.
 #[derive(Clone, Copy, Debug, PartialEq, Eq)]
 pub enum ParseFault {
-    /// The line is not of the grammar.
+    /// The line is not of the grammar, or stands behind the output.
     Syntax,
     /// A name stands for nothing that can stand there.
     UnknownName,
@@ -18,7 +18,8 @@ pub enum ParseFault {
     Divisor,
     /// A number is above 2147483647.
     NumberTooLarge,
-    /// An update does not stand below its Func, or moves an argument or a call of its own.
+    /// An update does not follow its Func, uses an argument that does not stand in place, or calls its own Func
+    /// with other arguments in place or on the left.
     UpdateShape,
     /// A limit is passed.
     Limit,

@@ -90,7 +90,7 @@ status_of (Input fault) = 1
 status_of (File path) = 1
 status_of Memory = 1
 
--- a fault that needs no word of what the files hold
+-- a fault of a device, or want of memory
 abbrev pub IsDeviceFault : Fault → Type 0
 IsDeviceFault (CommandLine error) = ⊥
 IsDeviceFault NotText = ⊥

@@ -1,7 +1,7 @@
 -- What the pixels of a pipeline are.
 --
 -- Coordinates and pixels are words. A Func has a pixel at each point of an unbounded plane. A source of
--- one dimension lies in row 0 of its plane: reads of it look there alone, and what stands in its other
+-- one dimension lies in the first row of its plane: reads of it look there alone, and what stands in its other
 -- rows is never read.
 -- This project's own.
 use Rattle.std.specs.Prelude.{ℕ, zero, suc, ◌*◌, ◌/◌, ◌%◌, ◌==◌, ◌&&◌, Bool, nat_lt, if◌then◌else◌, List, length, Option, Some, None, slice_get}
