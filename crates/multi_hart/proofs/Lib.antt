@@ -1,6 +1,3 @@
 pub mod Framing
-pub mod Judging
-pub mod LogFields
-pub mod LogLaws
-pub mod RunLaws
+pub mod Resting
 pub mod TurnByTurn

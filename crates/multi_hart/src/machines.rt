@@ -1,6 +1,6 @@
 //! Harts over one memory, stepped one at a time.
 
-ghost use Rattle.std.specs.Prelude.{◌≡◌, ◌<◌, ◌≤◌, length, take, slice_index, OnOk, IfOk, IfErr, All, IsTrue};
+ghost use Rattle.std.specs.Prelude.{◌≡◌, ◌-◌, ◌<◌, ◌≤◌, length, take, replicate, slice_index, OnOk, IfOk, IfErr, All, IsTrue};
 ghost use Rattle.memory.specs.Addresses.{most_words, most_bytes, is_text_word};
 ghost use Rattle.hart_core.specs.HartState.{register, vector};
 ghost use Rattle.multi_hart.specs.Finished.{all_finished};
@@ -91,6 +91,24 @@ impl Machine {
             let _ = self.turn(hart);
         }
         Ok(())
+    }
+
+    /// So many turns of one hart, one after the other, and the last one's outcome. A hart that isn't
+    /// running makes all that are left at once, since they change nothing. Takes no memory.
+    pub fn run_same(&mut self, hart: usize, turns: u64) -> Outcome
+        requires there { hart < length self.old.harts }
+        requires some { 1 ≤ turns }
+        ensures state { self.new ≡ run self.old (replicate turns hart) }
+        ensures outcome { result ≡ outcome (run self.old (replicate (turns - 1) hart)) hart }
+        ensures shape { KeepsShape self.old self.new }
+    {
+        for _made in 0..turns - 1 {
+            let Status::Running = self.status(hart) else {
+                return Outcome::Idle;
+            };
+            let _stepped = self.turn(hart);
+        }
+        self.turn(hart)
     }
 
     /// How many harts there are.

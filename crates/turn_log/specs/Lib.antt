@@ -1,0 +1,5 @@
+pub mod Kept
+pub mod LogSpelling
+pub mod RunAt
+pub mod SoFar
+pub mod TurnLog
