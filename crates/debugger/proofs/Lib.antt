@@ -1,0 +1,4 @@
+pub mod Passes
+pub mod Places
+pub mod Refusing
+pub mod Stopping

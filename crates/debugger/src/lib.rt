@@ -1,0 +1,27 @@
+//! The debugger: an image and a log of turns, looked at from any place of the log.
+//!
+//! A [`Session`] stands at a place, which is how many of the log's turns were made, and answers from
+//! the state there (`specs/Places.antt`). It goes forwards and backwards, by turns, to a place, or to the next
+//! or previous place at which a mark stops (`specs/Stops.antt`): a break at an address of text, or a watch of
+//! a word of data (`specs/Marks.antt`). A refused call leaves the session as it was.
+//!
+//! - [`sessions`]: the session, and going from place to place.
+//! - [`readers`]: what can be read of the state at its place.
+//! - [`marks`]: breaks and watches.
+//! - [`stops`]: going to the next and to the previous stop.
+//! - [`refusals`]: why a call is refused ([`Refusal`]).
+#![tactic(auto)]
+
+pub mod marks;
+mod passing;
+pub mod readers;
+pub mod refusals;
+pub mod sessions;
+pub mod stops;
+mod turns;
+
+pub use crate::refusals::Refusal;
+pub use crate::sessions::Session;
+
+#[cfg(test)]
+mod tests;

@@ -1,0 +1,75 @@
+//! Breaks and watches.
+
+ghost use Rattle.std.specs.Prelude.{◌≡◌, ◌≤◌, Ok, Err, OnOk, OnErr, IfErr};
+ghost use Rattle.memory.specs.Addresses.{is_text_word, most_words, most_bytes};
+ghost use Rattle.debugger.specs.Marks.{with_break, with_watch, is_data_word};
+ghost use Rattle.debugger.specs.Refusals.{UnlessMemory};
+
+use crate::refusals::Refusal;
+use crate::sessions::Session;
+use memory::{DATA_START, TEXT_START};
+
+/// The most marks that a session has, breaks and watches together.
+pub const MOST_MARKS: usize = 64;
+
+impl Session {
+    /// Sets a break at the address of a text word. Refused where it is none, else where 64 marks are set
+    /// and this isn't one of them. A break that is set stays so.
+    pub fn set_break(&mut self, pc: u32) -> Result<(), Refusal>
+        ensures ok { OnOk result (with_break self.old pc ≡ Ok self.new) }
+        ensures err { IfErr result (λ refusal. UnlessMemory refusal (with_break self.old pc ≡ Err refusal)) }
+        ensures unchanged { OnErr result (self.new ≡ self.old) }
+    {
+        if !is_text_word(self.image.words().len(), pc) {
+            return Err(Refusal::Address);
+        }
+        if self.breaks.contains(&pc) {
+            return Ok(());
+        }
+        if self.breaks.len() + self.watches.len() >= MOST_MARKS {
+            return Err(Refusal::TooManyMarks);
+        }
+        self.breaks.push(pc)?;
+        Ok(())
+    }
+
+    /// Sets a watch of an aligned word, of which all four bytes are data. Refused where it is none, else
+    /// where 64 marks are set and this isn't one of them. A watch that is set stays so.
+    pub fn set_watch(&mut self, address: u32) -> Result<(), Refusal>
+        ensures ok { OnOk result (with_watch self.old address ≡ Ok self.new) }
+        ensures err { IfErr result (λ refusal. UnlessMemory refusal (with_watch self.old address ≡ Err refusal)) }
+        ensures unchanged { OnErr result (self.new ≡ self.old) }
+    {
+        if !is_data_word(self.image.data().len(), address) {
+            return Err(Refusal::Address);
+        }
+        if self.watches.contains(&address) {
+            return Ok(());
+        }
+        if self.breaks.len() + self.watches.len() >= MOST_MARKS {
+            return Err(Refusal::TooManyMarks);
+        }
+        self.watches.push(address)?;
+        Ok(())
+    }
+}
+
+/// Whether a word begins at the address, where text has so many words.
+fn is_text_word(words: usize, address: u32) -> bool
+    requires { words ≤ most_words }
+    ensures { result ≡ is_text_word words address }
+{
+    address.is_multiple_of(4)
+        && address >= TEXT_START
+        && (address as usize) < TEXT_START as usize + 4 * words
+}
+
+/// Whether an aligned word at the address is all data, where data has so many bytes.
+fn is_data_word(bytes: usize, address: u32) -> bool
+    requires { bytes ≤ most_bytes }
+    ensures { result ≡ is_data_word bytes address }
+{
+    address.is_multiple_of(4)
+        && address >= DATA_START
+        && address as usize + 4 <= DATA_START as usize + bytes
+}

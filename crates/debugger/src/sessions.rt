@@ -1,0 +1,114 @@
+//! Sessions, and going from place to place.
+
+ghost use Rattle.std.specs.Prelude.{◌≡◌, ◌≢◌, ◌+◌, ◌-◌, ◌<◌, ◌≤◌, length, Err, OnOk, OnErr, IfOk, IfErr};
+ghost use Rattle.debugger.specs.Places.{state_at, opened, moved};
+ghost use Rattle.debugger.specs.Refusals.{UnlessMemory};
+
+use crate::refusals::Refusal;
+use crate::turns::make_turns;
+use loader::Image;
+use multi_hart::Machine;
+use std::alloc::{AllocError, Global};
+use std::marker::Model;
+use turn_log::TurnLog;
+
+/// An image, a log of turns, a place in the log, and the marks that are set. A contract sees it as a
+/// `SessionState`.
+#[derive(Drop)]
+pub struct Session {
+    pub(crate) image: Image,
+    pub(crate) log: TurnLog,
+    pub(crate) place: u64,
+    pub(crate) breaks: Vec<u32>,
+    pub(crate) watches: Vec<u32>,
+    /// The machine after the turns before the place.
+    pub(crate) machine: Machine,
+}
+
+impl Model for Session {
+    ghost use Rattle.debugger.specs.Places.{SessionState};
+    ghost use Rattle.debugger.specs.Held.{Held};
+
+    ghost Value = { SessionState };
+
+    ghost view = { λ s. record { image = s.image; log = s.log; place = s.place; breaks = s.breaks.items; watches = s.watches.items } };
+
+    ghost invariant = { λ s. Held (record { image = s.image; log = s.log; place = s.place; breaks = s.breaks.items; watches = s.watches.items }) s.machine };
+}
+
+impl Session {
+    /// A session at the start of a log, with no mark. A machine of the log's harts is made.
+    pub fn open(alloc: Global, image: Image, log: TurnLog) -> Result<Session, AllocError>
+        ensures { IfOk result (λ session. session ≡ opened image log) }
+    {
+        let machine = image.machine(alloc, log.harts())?;
+        Ok(Session {
+            image,
+            log,
+            place: 0,
+            breaks: Vec::new(alloc),
+            watches: Vec::new(alloc),
+            machine,
+        })
+    }
+
+    /// Goes to a place, refused where the log has fewer turns. Forwards it takes no memory; backwards the
+    /// turns are made again from the start, on a new machine.
+    pub fn goto(&mut self, alloc: Global, k: u64) -> Result<(), Refusal>
+        ensures ok { OnOk result (self.new ≡ moved self.old k) }
+        ensures within { OnOk result (k ≤ length self.old.log.turns) }
+        ensures err { IfErr result (λ refusal. UnlessMemory refusal ((refusal ≡ Refusal.PastEnd) × (length self.old.log.turns < k))) }
+        ensures unchanged { OnErr result (self.new ≡ self.old) }
+        ensures onwards { self.old.place ≤ k → result ≢ Err Refusal.OutOfMemory }
+    {
+        if k > self.log.len() {
+            return Err(Refusal::PastEnd);
+        }
+        if k < self.place {
+            self.machine = self.machine_at(alloc, k)?;
+        } else {
+            make_turns(&mut self.machine, &self.log, self.place, k);
+        }
+        self.place = k;
+        Ok(())
+    }
+
+    /// Makes one more turn, refused at the end of the log. It takes no memory.
+    pub fn next(&mut self, alloc: Global) -> Result<(), Refusal>
+        ensures ok { OnOk result (self.new ≡ moved self.old (self.old.place + 1)) }
+        ensures before_end { OnOk result (self.old.place < length self.old.log.turns) }
+        ensures err { IfErr result (λ refusal. (refusal ≡ Refusal.PastEnd) × (self.old.place ≡ length self.old.log.turns)) }
+        ensures unchanged { OnErr result (self.new ≡ self.old) }
+    {
+        if self.place >= self.log.len() {
+            return Err(Refusal::PastEnd);
+        }
+        self.goto(alloc, self.place + 1)?;
+        Ok(())
+    }
+
+    /// Goes back by one turn, refused at the start of the log.
+    pub fn back(&mut self, alloc: Global) -> Result<(), Refusal>
+        ensures ok { OnOk result (self.new ≡ moved self.old (self.old.place - 1)) }
+        ensures behind_start { OnOk result (1 ≤ self.old.place) }
+        ensures err { IfErr result (λ refusal. UnlessMemory refusal ((refusal ≡ Refusal.BeforeStart) × (self.old.place ≡ 0))) }
+        ensures unchanged { OnErr result (self.new ≡ self.old) }
+    {
+        if self.place == 0 {
+            return Err(Refusal::BeforeStart);
+        }
+        self.goto(alloc, self.place - 1)?;
+        Ok(())
+    }
+
+    /// A new machine after so many of the log's turns.
+    pub(crate) fn machine_at(&self, alloc: Global, place: u64) -> Result<Machine, AllocError>
+        requires { place ≤ length self.now.log.turns }
+        ensures state { IfOk result (λ machine. machine ≡ state_at self.now place) }
+        ensures harts { IfOk result (λ machine. length machine.harts ≡ self.now.log.harts) }
+    {
+        let mut machine = self.image.machine(alloc, self.log.harts())?;
+        make_turns(&mut machine, &self.log, 0, place);
+        Ok(machine)
+    }
+}
