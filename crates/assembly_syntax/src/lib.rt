@@ -1,0 +1,16 @@
+//! The lines of an assembly text: tokens, and what a line says before anything is known of its names.
+//!
+//! A line is `[label:] [mnemonic [operand {, operand}]]`, and `#` begins a comment. [`tokens_of`] cuts it
+//! into words, numbers and the marks `, : ( )` (`specs/Tokens.antt`), and [`statement_of`] reads these as a
+//! label, a mnemonic and operands (`specs/Statements.antt`). [`head_of`] reads the front of a line alone,
+//! which says where labels lie even where the rest of the line is faulty.
+#![tactic(auto)]
+
+pub mod statements;
+pub mod tokens;
+
+pub use crate::statements::{Command, Head, Operand, Statement, head_of, is_label, statement_of};
+pub use crate::tokens::{Token, tokens_of};
+
+#[cfg(test)]
+mod tests;
