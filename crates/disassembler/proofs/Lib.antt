@@ -1,0 +1,8 @@
+pub mod Digits
+pub mod Numerals
+pub mod Shown
+pub mod Single
+pub mod Slots
+pub mod Statements
+pub mod Tokens
+pub mod Words

@@ -1,0 +1,59 @@
+//! The line of a word.
+
+ghost use Rattle.std.specs.Prelude.{◌≡◌, ℕ, ◌++◌, OnOk, OnErr};
+ghost use Rattle.std.specs.String.{string_bytes};
+ghost use Rattle.rv_insn.specs.Meaning.{Means};
+ghost use Rattle.rv_encoding.specs.Decoding.{decoded};
+ghost use Rattle.disassembler.specs.Listing.{instruction_text, word_text, line_of, listed};
+
+use crate::numbers::push_hexadecimal;
+use crate::operands::push_operands;
+use mnemonics::laws::fields_fit;
+use mnemonics::{Fields, Form};
+use rv_encoding::decode;
+use rv_insn::Insn;
+use std::alloc::AllocError;
+
+/// Room for the line of most words, in bytes.
+const USUAL_LINE: usize = 64;
+
+/// Appends the line of a word and a line feed. An `Err` says that there was no memory, and leaves what
+/// stands in `out` as it was.
+pub fn write_line(word: u32, out: &mut Vec<u8>) -> Result<(), AllocError>
+    ensures appended { OnOk result (out.new.items ≡ out.old.items ++ listed word) }
+    ensures unchanged { OnErr result (out.new.items ≡ out.old.items) }
+{
+    let mut line = String::with_capacity(*out.allocator(), USUAL_LINE)?;
+    push_word(&mut line, word)?;
+    line.push_str("\n")?;
+    out.extend_from_slice(line.as_bytes())?;
+    Ok(())
+}
+
+/// The line without its line feed.
+#[tactic(auto, unfolding(crate::specs::Listing::word_text))]
+fn push_word(text: &mut String, word: u32) -> Result<(), AllocError>
+    ensures { OnOk result (string_bytes text.new ≡ string_bytes text.old ++ line_of word) }
+{
+    match decode(word) {
+        Some(insn) => push_instruction(text, &insn)?,
+        None => {
+            text.push_str(".word ")?;
+            push_hexadecimal(text, 8, u64::from(word))?;
+        }
+    }
+    Ok(())
+}
+
+/// An instruction that some word means.
+#[tactic(auto, unfolding(crate::specs::Listing::instruction_text))]
+fn push_instruction(text: &mut String, insn: &Insn) -> Result<(), AllocError>
+    requires { (word : ℕ) × Means word insn.now }
+    ensures { OnOk result (string_bytes text.new ≡ string_bytes text.old ++ instruction_text insn.now) }
+{
+    fields_fit();
+    let form = Form::of(insn);
+    text.push_str(form.mnemonic())?;
+    push_operands(text, form.shape(), &Fields::of(insn))?;
+    Ok(())
+}
