@@ -18,6 +18,3 @@ pub mod rules;
 pub mod scopes;
 
 pub use crate::parsing::parse;
-
-#[cfg(test)]
-mod tests;

@@ -29,6 +29,3 @@ pub use crate::evaluation::evaluate;
 pub use crate::faults::{EvalError, PictureFault};
 pub use crate::pictures::Picture;
 pub use crate::spellings::one_spelling;
-
-#[cfg(test)]
-mod tests;

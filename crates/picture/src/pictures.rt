@@ -32,14 +32,14 @@ impl Model for Picture {
 }
 
 /// Whether a picture can be so wide.
-pub(crate) fn is_width(width: u64) -> bool
+pub fn is_width(width: u64) -> bool
     ensures { result ≡ is_width width }
 {
     1 <= width && width <= u64::from(MOST_EXTENT)
 }
 
 /// Whether a picture of this width can be so high.
-pub(crate) fn is_height(width: u32, height: u64) -> bool
+pub fn is_height(width: u32, height: u64) -> bool
     ensures { result ≡ is_height width height }
 {
     1 <= height && height <= u64::from(MOST_EXTENT) && u64::from(width) * height <= MOST_PIXELS

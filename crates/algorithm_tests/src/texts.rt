@@ -1,4 +1,6 @@
-use super::*;
+//! What texts name, and which faults others have.
+
+use halide_parser::parse;
 use halide_pipeline::{Expr, Operation, Source, Variable, words};
 use halide_syntax::ParseFault;
 use line_text::LocatedError;

@@ -1,9 +1,7 @@
-mod pipelines;
-mod updates;
-mod values;
+//! Pictures as texts, and their limits.
 
-use super::*;
 use line_text::ReadError;
+use picture::{Picture, PictureFault};
 use std::test::*;
 
 #[test]

@@ -1,10 +1,10 @@
 //! Expressions, Funcs and pipelines, built by hand.
 
-use crate::pictures::{is_height, is_width};
-use crate::{EvalError, Picture, evaluate};
 use halide_pipeline::{
     Expr, Func, Input, Names, Operation, Output, Pipeline, Reduction, Source, Update, Variable,
 };
+use picture::pictures::{is_height, is_width};
+use picture::{EvalError, Picture, evaluate};
 use sqlite_items::{Boxed, Items};
 use std::alloc::{AllocError, Global};
 use std::process::Abort;

@@ -1,8 +1,8 @@
 //! Pipelines of pure definitions.
 
-use super::pipelines::*;
-use crate::EvalError;
+use crate::pipelines::*;
 use halide_pipeline::{Expr, Func, Operation};
+use picture::EvalError;
 use std::alloc::{AllocError, Global};
 use std::test::*;
 

@@ -1,6 +1,6 @@
 //! Pipelines with updates.
 
-use super::pipelines::*;
+use crate::pipelines::*;
 use halide_pipeline::{Expr, Func, Update};
 use std::alloc::{AllocError, Global};
 use std::test::*;

@@ -1,0 +1,18 @@
+//! Tests of algorithm texts, of pictures and of their evaluation. They stand in a crate of their own, since a
+//! crate that has tests is proved twice, and `halide_parser` and `picture` take long.
+//!
+//! - [`texts`]: what texts name, and which faults others have.
+//! - [`pictures`]: pictures as texts.
+//! - [`pipelines`], [`values`], [`updates`]: pipelines built by hand, and their pictures.
+#![tactic(auto)]
+
+#[cfg(test)]
+mod pictures;
+#[cfg(test)]
+mod pipelines;
+#[cfg(test)]
+mod texts;
+#[cfg(test)]
+mod updates;
+#[cfg(test)]
+mod values;
