@@ -8,10 +8,11 @@ use Rattle.clap.specs.Walk.{Row, Text, nothing_held, rows_after}
 use Rattle.clap.specs.Simple.{Shape, subcommand_of}
 use Rattle.clap.specs.Kinds.{Kinds}
 use Rattle.clap.specs.Faults.{fault_of, level_fault}
-use Rattle.hrv.specs.CommandLine.{Asked, Draws, IsPlainWord, IsSpelled, Replays, asked_of, hrv_app, named, picture_of, replay_of, unless_fault, unmarked}
+use Rattle.hrv.specs.CommandLine.{Asked, Debugs, Draws, IsPlainWord, IsSpelled, Replays, asked_of, debug_of, hrv_app, named, picture_of, replay_of, unless_fault, unmarked}
 use Rattle.hrv.proofs.Positionals.{ArePlain, marked, none, passes_all, plain, takes_all, unmarked-plain}
-use Rattle.hrv.proofs.Subcommands.{IsName, IsSubcommand, Named, first_is_name, is_picture, is_replay, name_free, name_given, name_passes}
+use Rattle.hrv.proofs.Subcommands.{IsName, IsSubcommand, Named, first_is_name, is_debug, is_picture, is_replay, name_free, name_given, name_passes}
 use Rattle.hrv.proofs.ReplayWords as replay
+use Rattle.hrv.proofs.DebugWords as debug
 use Rattle.hrv.proofs.PictureWords as picture
 
 -- what words with no fault ask for
@@ -37,6 +38,20 @@ asks_replay words rest e split =
       spelled = ap unmarked split ∙ ap (λ ws. codes "replay" ∷ ws) both.2;
     }
 
+asks_debug : (words rest : List Text) → fault_of hrv_app words ≡ [] → words ≡ codes "debug" ∷ rest → Asks words
+unfolding debug.takes_two
+asks_debug words rest e split =
+    let all = takes_all debug.takes_two rest (name_passes debug.debug_command rest (subst (λ ws. fault_of hrv_app ws ≡ []) split e)) in
+    let both = debug.two_values (unmarked rest) all.1 in
+    record {
+      asked = Debugs both.0 both.1;
+      name = codes "debug";
+      rows = rows_after debug.leaf.rules [] rest;
+      met = ap (subcommand_of hrv_app) split ∙ name_given debug.debug_command rest;
+      asks = ap debug_of all.0 ∙ both.3;
+      spelled = ap unmarked split ∙ ap (λ ws. codes "debug" ∷ ws) both.2;
+    }
+
 asks_picture : (words rest : List Text) → fault_of hrv_app words ≡ [] → words ≡ codes "picture" ∷ rest → Asks words
 unfolding picture.takes_rest
 asks_picture words rest e split =
@@ -58,6 +73,7 @@ words_ask words e =
   where
     by_name : (name : Text) → IsName name → (rest : List Text) → words ≡ name ∷ rest → Asks words
     by_name _ is_replay rest split = asks_replay words rest e split
+    by_name _ is_debug rest split = asks_debug words rest e split
     by_name _ is_picture rest split = asks_picture words rest e split
 
 -- and they name it
@@ -82,7 +98,7 @@ only_spelled words asked is =
     let same : Some found.asked ≡ Some asked = sym (asked_named words pass found) ∙ is in
     subst (IsSpelled words) (ap (λ o. unwrap_or o asked) same) found.spelled
 
--- ---- words that name a replay or a picture
+-- ---- words that name a replay, a talk or a picture
 
 -- what spelled words ask for
 abbrev asked_in : List Text → Asked
@@ -112,6 +128,35 @@ plain_replay image log image_plain log_plain =
 
 pub marked_replay : (image log : Text) → named (codes "replay" ∷ codes "--" ∷ image ∷ log ∷ []) ≡ Some (Replays image log)
 marked_replay image log = values_replay (codes "--" ∷ image ∷ log ∷ []) image log (marked (image ∷ log ∷ [])) refl
+
+-- the same for a talk with the debugger
+abbrev talked_in : List Text → Asked
+talked_in (name ∷ image ∷ log ∷ []) = Debugs image log
+talked_in _ = Debugs [] []
+
+-- two values, of which those before a first `--` are plain, name a talk
+pub values_debug : (words : List Text) (image log : Text) → ArePlain words → unmarked words ≡ image ∷ log ∷ []
+    → named (codes "debug" ∷ words) ≡ Some (Debugs image log)
+unfolding debug.takes_two
+values_debug words image log are_plain two =
+    let enough = ap debug.takes_two.is_enough two in
+    let free = passes_all debug.takes_two words are_plain enough in
+    let pass = name_free debug.debug_command words free in
+    let all = takes_all debug.takes_two words free in
+    let both = debug.two_values (unmarked words) enough in
+    let rows = ap debug_of all.0 ∙ both.3 in
+    let same : talked_in (codes "debug" ∷ both.0 ∷ both.1 ∷ []) ≡ talked_in (codes "debug" ∷ image ∷ log ∷ []) =
+    ap (λ ws. talked_in (codes "debug" ∷ ws)) (sym both.2 ∙ two) in
+    ap (λ kinds. unless_fault kinds (option_and_then asked_of (subcommand_of hrv_app (codes "debug" ∷ words)))) pass
+    ∙ ap (option_and_then asked_of) (name_given debug.debug_command words) ∙ rows ∙ ap (λ a. Some a) same
+
+pub plain_debug : (image log : Text) → IsPlainWord image → IsPlainWord log → named (codes "debug" ∷ image ∷ log ∷ []) ≡ Some (Debugs image log)
+plain_debug image log image_plain log_plain =
+    let two = unmarked-plain image (log ∷ []) image_plain ∙ ap (λ ws. image ∷ ws) (unmarked-plain log [] log_plain) in
+    values_debug (image ∷ log ∷ []) image log (plain image_plain (plain log_plain none)) two
+
+pub marked_debug : (image log : Text) → named (codes "debug" ∷ codes "--" ∷ image ∷ log ∷ []) ≡ Some (Debugs image log)
+marked_debug image log = values_debug (codes "--" ∷ image ∷ log ∷ []) image log (marked (image ∷ log ∷ [])) refl
 
 abbrev drawn_in : List Text → Asked
 drawn_in (algorithm ∷ inputs) = Draws algorithm inputs

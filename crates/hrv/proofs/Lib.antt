@@ -1,6 +1,8 @@
 mod AskedWords
+mod DebugWords
 pub mod Drawings
 mod HelpOnly
+pub mod Numbers
 mod Parses
 mod PictureWords
 pub mod Pixels
@@ -9,4 +11,7 @@ pub mod Printing
 pub mod Reading
 mod ReplayWords
 pub mod Sources
+pub mod Splits
+pub mod StopsFound
 mod Subcommands
+pub mod TalkSteps

@@ -27,7 +27,7 @@ use Rattle.hrv.specs.Refusals.{fault_for}
 use Rattle.hrv.specs.declared.command_lines.Invocation.{Invocation}
 use Rattle.hrv.specs.declared.faults.Fault.{Fault}
 use Rattle.hrv.specs.declared.faults.Fault.TheVariants.{CommandLine, Memory}
-use Rattle.hrv.specs.CommandLine.{Asked, Draws, IsRefusal, IsSpelled, Makes, Replays, asked_of, hrv_app, named, picture_of, replay_of}
+use Rattle.hrv.specs.CommandLine.{Asked, Debugs, Draws, IsRefusal, IsSpelled, Makes, Replays, asked_of, debug_of, hrv_app, named, picture_of, replay_of}
 use Rattle.hrv.proofs.AskedWords.{Asks, asked_named, fault_of-named, words_ask}
 
 -- the program's command is one that `clap` gives the matches and the faults of
@@ -66,18 +66,26 @@ read f id o x gives is = sym (first_value-rows f id) ∙ sym gives ∙ ap (optio
 pub is_given : (f : Found) (id : Text) (o : Option (Bor Text)) → option_map (λ s. s.now) o ≡ first_value f id → IsSome (first_of id (rows_of f)) → IsSome o
 is_given f id o gives has = some_of_text (λ s. s.now) o (first_value f id) gives (ap is_some (first_value-rows f id) ∙ has)
 
-both_given : (image log : Option Text) → IsSome (option_and_then (λ i. option_map (λ l. Replays i l) log) image) → IsSome image × IsSome log
-both_given None log e = absurd (true≢false (sym e))
-both_given (Some i) None e = absurd (true≢false (sym e))
-both_given (Some i) (Some l) e = (refl, refl)
+both_given : (make : Text → Text → Asked) (image log : Option Text) → IsSome (option_and_then (λ i. option_map (λ l. make i l) log) image) → IsSome image × IsSome log
+both_given make None log e = absurd (true≢false (sym e))
+both_given make (Some i) None e = absurd (true≢false (sym e))
+both_given make (Some i) (Some l) e = (refl, refl)
 
 -- both values of a replay are there
 pub replay_given : (rows : List Row) → IsSome (replay_of rows) → IsSome (first_of (codes "IMAGE") rows) × IsSome (first_of (codes "LOG") rows)
-replay_given rows some = both_given (first_of (codes "IMAGE") rows) (first_of (codes "LOG") rows) some
+replay_given rows some = both_given Replays (first_of (codes "IMAGE") rows) (first_of (codes "LOG") rows) some
 
 pub replay_read : (rows : List Row) (image log : Text) → first_of (codes "IMAGE") rows ≡ Some image
     → first_of (codes "LOG") rows ≡ Some log → replay_of rows ≡ Some (Replays image log)
 replay_read rows image log first second = ap₂ (λ i l. option_and_then (λ x. option_map (λ y. Replays x y) l) i) first second
+
+-- and those of a talk
+pub debug_given : (rows : List Row) → IsSome (debug_of rows) → IsSome (first_of (codes "IMAGE") rows) × IsSome (first_of (codes "LOG") rows)
+debug_given rows some = both_given Debugs (first_of (codes "IMAGE") rows) (first_of (codes "LOG") rows) some
+
+pub debug_read : (rows : List Row) (image log : Text) → first_of (codes "IMAGE") rows ≡ Some image
+    → first_of (codes "LOG") rows ≡ Some log → debug_of rows ≡ Some (Debugs image log)
+debug_read rows image log first second = ap₂ (λ i l. option_and_then (λ x. option_map (λ y. Debugs x y) l) i) first second
 
 first_given : (inputs : List Text) (algorithm : Option Text) → IsSome (option_map (λ a. Draws a inputs) algorithm) → IsSome algorithm
 first_given inputs None e = absurd (true≢false (sym e))

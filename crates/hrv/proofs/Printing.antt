@@ -7,7 +7,8 @@ use Rattle.std.proofs.lemmas.Fmt.{hex_byte}
 use Rattle.hart_core.specs.HartState.{HartState, register, vector}
 use Rattle.loader.specs.declared.outputs.Output.{Output}
 use Rattle.multi_hart.specs.Run.{State, hart_at}
-use Rattle.multi_hart.specs.TurnLog.{count_of}
+use Rattle.turn_log.specs.TurnLog.{count_of}
+use Rattle.hrv.specs.Talk.{hart_line, hart_lines}
 use Rattle.hrv.specs.Dump.{pixel, number_text, numbers, row_text, rows, hart_text, hart_texts, hex_digit, hex_of, register_line, register_lines, vector_line, vector_lines}
 
 pub hex_of-append : (xs ys : List ℕ) → hex_of (xs ++ ys) ≡ hex_of xs ++ hex_of ys
@@ -48,3 +49,8 @@ rows-more state output y = rw add-one refl
 pub hart_texts-more : (state : State) (turns : List ℕ) (number : ℕ) → hart_texts state turns (number + 1) ≡ hart_texts state turns number ++ hart_text number (hart_at state number) (count_of turns number)
 unfolding hart_texts
 hart_texts-more state turns number = rw add-one refl
+
+-- one more line
+pub hart_lines-more : (state : State) (number : ℕ) → hart_lines state (number + 1) ≡ hart_lines state number ++ hart_line number (hart_at state number)
+unfolding hart_lines
+hart_lines-more state number = rw add-one refl

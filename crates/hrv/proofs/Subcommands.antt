@@ -18,6 +18,7 @@ app = built hrv_app
 -- the names of the subcommands
 pub data IsName : Text → Type 0 where
   is_replay : IsName (codes "replay")
+  is_debug : IsName (codes "debug")
   is_picture : IsName (codes "picture")
 
 -- past the subcommand, the words are its own
@@ -84,18 +85,23 @@ first_is_name (word ∷ rest) e = by_replay (bytes_eq (codes "replay") word) ref
     by_mark true mark unnamed = absurd (fault_marked rest (subst (λ w. fault_of hrv_app (w ∷ rest) ≡ []) ((bytes_eq-Decides word (codes "--")).0 mark) e))
     by_mark false mark unnamed = absurd (stray word unnamed mark first)
 
-    by_help : (b : Bool) → bytes_eq (codes "help") word ≡ b → bytes_eq (codes "replay") word ≡ false → bytes_eq (codes "picture") word ≡ false
-        → Named (word ∷ rest)
-    by_help true help no_replay no_picture = absurd (some_fault _ _ (rw (no_replay, no_picture, help) at first))
-    by_help false help no_replay no_picture = by_mark (bytes_eq word (codes "--")) refl (rw (no_replay, no_picture, help) refl)
+    by_help : (b : Bool) → bytes_eq (codes "help") word ≡ b → bytes_eq (codes "replay") word ≡ false → bytes_eq (codes "debug") word ≡ false
+        → bytes_eq (codes "picture") word ≡ false → Named (word ∷ rest)
+    by_help true help no_replay no_debug no_picture = absurd (some_fault _ _ (rw (no_replay, no_debug, no_picture, help) at first))
+    by_help false help no_replay no_debug no_picture = by_mark (bytes_eq word (codes "--")) refl (rw (no_replay, no_debug, no_picture, help) refl)
 
-    by_picture : (b : Bool) → bytes_eq (codes "picture") word ≡ b → bytes_eq (codes "replay") word ≡ false → Named (word ∷ rest)
-    by_picture true same no_replay = begins word rest (codes "picture") is_picture same
-    by_picture false other no_replay = by_help (bytes_eq (codes "help") word) refl no_replay other
+    by_picture : (b : Bool) → bytes_eq (codes "picture") word ≡ b → bytes_eq (codes "replay") word ≡ false → bytes_eq (codes "debug") word ≡ false
+        → Named (word ∷ rest)
+    by_picture true same no_replay no_debug = begins word rest (codes "picture") is_picture same
+    by_picture false other no_replay no_debug = by_help (bytes_eq (codes "help") word) refl no_replay no_debug other
+
+    by_debug : (b : Bool) → bytes_eq (codes "debug") word ≡ b → bytes_eq (codes "replay") word ≡ false → Named (word ∷ rest)
+    by_debug true same no_replay = begins word rest (codes "debug") is_debug same
+    by_debug false other no_replay = by_picture (bytes_eq (codes "picture") word) refl no_replay other
 
     by_replay : (b : Bool) → bytes_eq (codes "replay") word ≡ b → Named (word ∷ rest)
     by_replay true same = begins word rest (codes "replay") is_replay same
-    by_replay false other = by_picture (bytes_eq (codes "picture") word) refl other
+    by_replay false other = by_debug (bytes_eq (codes "debug") word) refl other
 
 -- ---- a subcommand by its name
 

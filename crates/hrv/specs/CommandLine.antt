@@ -11,17 +11,19 @@ use Rattle.clap.specs.declared.builder.command.Command.{Command}
 use Rattle.clap.specs.declared.builder.command.Command.TheViews.{out-Command}
 use Rattle.clap.specs.declared.error.Error.{Error}
 use Rattle.hrv.specs.declared.command_lines.Invocation.{Invocation}
-use Rattle.hrv.specs.declared.command_lines.Invocation.TheVariants.{Picture, Replay}
+use Rattle.hrv.specs.declared.command_lines.Invocation.TheVariants.{Debug, Picture, Replay}
 use Rattle.hrv.specs.declared.faults.Fault.{Fault}
 use Rattle.hrv.specs.declared.faults.Fault.TheVariants.{CommandLine, Memory}
 
 -- what the program may be asked for
 pub data Asked : Type 0 where
   Replays : (image log : List ℕ) → Asked
+  Debugs : (image log : List ℕ) → Asked
   Draws : (algorithm : List ℕ) → (inputs : List (List ℕ)) → Asked
 
 abbrev pub asked_by : Invocation → Asked
 asked_by (Replay image log) = Replays image.now log.now
+asked_by (Debug image log) = Debugs image.now log.now
 asked_by (Picture algorithm inputs) = Draws algorithm.now (texts inputs.items)
 
 -- ---- the program's command
@@ -39,17 +41,26 @@ abbrev pub replay_app : App
 replay_app = with_rule (with_rule (new_app (codes "replay")) (required_rule (codes "IMAGE")))
     (required_rule (codes "LOG"))
 
+-- `debug IMAGE LOG`
+abbrev pub debug_app : App
+debug_app = with_rule (with_rule (new_app (codes "debug")) (required_rule (codes "IMAGE")))
+    (required_rule (codes "LOG"))
+
 -- `picture ALGORITHM [INPUT..]`
 abbrev pub picture_app : App
 picture_app = with_rule (with_rule (new_app (codes "picture")) (required_rule (codes "ALGORITHM")))
     (rest_rule (codes "INPUT"))
 
 -- the words are all arguments, and one of the subcommands has to be there
+abbrev pub bare_app : App
+bare_app = on_top (λ s. record s { no_binary_name = true; subcommand_required = true }) (new_app (codes "hrv"))
+
+-- with those that take a log
+abbrev pub log_app : App
+log_app = with_subcommand (with_subcommand bare_app replay_app.top) debug_app.top
+
 abbrev pub hrv_app : App
-hrv_app = with_subcommand (with_subcommand
-    (on_top (λ s. record s { no_binary_name = true; subcommand_required = true })
-    (new_app (codes "hrv")))
-    replay_app.top) picture_app.top
+hrv_app = with_subcommand log_app picture_app.top
 
 -- the command is the one that is described, and no argument of it is another command's too
 pub record Makes (wanted : App) (command : Command) : Type 0 where
@@ -62,6 +73,10 @@ abbrev pub replay_of : List Row → Option Asked
 replay_of given = option_and_then (λ image. option_map (λ log. Replays image log)
     (first_of (codes "LOG") given)) (first_of (codes "IMAGE") given)
 
+abbrev pub debug_of : List Row → Option Asked
+debug_of given = option_and_then (λ image. option_map (λ log. Debugs image log)
+    (first_of (codes "LOG") given)) (first_of (codes "IMAGE") given)
+
 -- an argument that takes the words left over has no row where there are none
 abbrev pub picture_of : List Row → Option Asked
 picture_of given = option_map (λ algorithm. Draws algorithm (unwrap_or (all_of (codes "INPUT") given) []))
@@ -70,7 +85,8 @@ picture_of given = option_map (λ algorithm. Draws algorithm (unwrap_or (all_of 
 -- by the subcommand's name and what it is given
 abbrev pub asked_of : Text × List Row → Option Asked
 asked_of met = if bytes_eq met.0 (codes "replay") then replay_of met.1
-    else (if bytes_eq met.0 (codes "picture") then picture_of met.1 else None)
+    else (if bytes_eq met.0 (codes "debug") then debug_of met.1
+    else (if bytes_eq met.0 (codes "picture") then picture_of met.1 else None))
 
 -- nothing, where there is a fault
 abbrev pub unless_fault : Kinds → Option Asked → Option Asked
@@ -102,4 +118,5 @@ IsPlainWord _ = Unit {0}
 -- but for a first `--`, the words are the command's name and what it is given
 abbrev pub IsSpelled : List Text → Asked → Type 0
 IsSpelled words (Replays image log) = unmarked words ≡ codes "replay" ∷ image ∷ log ∷ []
+IsSpelled words (Debugs image log) = unmarked words ≡ codes "debug" ∷ image ∷ log ∷ []
 IsSpelled words (Draws algorithm inputs) = unmarked words ≡ codes "picture" ∷ algorithm ∷ inputs

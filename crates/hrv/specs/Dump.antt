@@ -11,7 +11,7 @@ use Rattle.memory.specs.Access.{word_at}
 use Rattle.hart_core.specs.HartState.{HartState, register, vector}
 use Rattle.multi_hart.specs.Run.{State, hart_at}
 use Rattle.multi_hart.specs.Finished.{all_finished}
-use Rattle.multi_hart.specs.TurnLog.{count_of}
+use Rattle.turn_log.specs.TurnLog.{count_of}
 use Rattle.loader.specs.declared.outputs.Output.{Output}
 
 -- ---- numbers

@@ -5,7 +5,7 @@ use Rattle.std.specs.String.{string_bytes}
 use Rattle.hrv.specs.declared.faults.Fault.{Fault}
 use Rattle.hrv.specs.declared.faults.Fault.TheVariants.{CommandLine, NotText, Load, Log, Parse, Picture, Input, File, Memory}
 use Rattle.loader.specs.declared.faults.LoadFault.{LoadFault}
-use Rattle.multi_hart.specs.declared.log_faults.LogFault.{LogFault}
+use Rattle.turn_log.specs.declared.log_faults.LogFault.{LogFault}
 use Rattle.halide_syntax.specs.declared.faults.ParseFault.{ParseFault}
 use Rattle.picture.specs.declared.faults.PictureFault.{PictureFault}
 use Rattle.picture.specs.declared.faults.EvalError.{EvalError}

@@ -1,6 +1,10 @@
 pub mod CommandLine
+pub mod Commands
+pub mod Debugging
 pub mod Drawing
 pub mod Dump
 pub mod Faults
 pub mod Refusals
 pub mod Replay
+pub mod Talk
+pub mod TalkSoFar

@@ -7,8 +7,8 @@ use Rattle.clap.specs.declared.error.kind.ErrorKind.{ErrorKind}
 use Rattle.clap.specs.declared.error.kind.ErrorKind.TheVariants as kinds
 use Rattle.loader.specs.declared.faults.LoadFault.{LoadFault}
 use Rattle.loader.specs.declared.faults.LoadFault.TheVariants as load
-use Rattle.multi_hart.specs.declared.log_faults.LogFault.{LogFault}
-use Rattle.multi_hart.specs.declared.log_faults.LogFault.TheVariants as log
+use Rattle.turn_log.specs.declared.log_faults.LogFault.{LogFault}
+use Rattle.turn_log.specs.declared.log_faults.LogFault.TheVariants as log
 use Rattle.line_text.specs.declared.read_errors.LocatedError.{LocatedError}
 use Rattle.line_text.specs.declared.read_errors.LocatedError.TheVariants as located
 use Rattle.line_text.specs.declared.read_errors.ReadError.{ReadError}

@@ -2,9 +2,9 @@
 -- This project's own.
 use Rattle.std.specs.Prelude.{◌≡◌, ℕ, List, [], take, Result, Ok, Err}
 use Rattle.multi_hart.specs.Run.{State, run}
-use Rattle.multi_hart.specs.TurnLog.{LogState}
-use Rattle.multi_hart.specs.LogSpelling.{log_of}
-use Rattle.multi_hart.specs.declared.log_faults.LogFault.{LogFault}
+use Rattle.turn_log.specs.TurnLog.{LogState}
+use Rattle.turn_log.specs.LogSpelling.{log_of}
+use Rattle.turn_log.specs.declared.log_faults.LogFault.{LogFault}
 use Rattle.loader.specs.Image.{ImageContents}
 use Rattle.loader.specs.Spelling.{image_of}
 use Rattle.loader.specs.Loading.{machine_of}

@@ -4,8 +4,8 @@ ghost use Rattle.std.specs.List.{AllByRecursion};
 ghost use Rattle.clap.specs.Lexer.{usize_max};
 ghost use Rattle.clap.specs.Words.{all_of, found_of, rows_of, rule_of};
 ghost use Rattle.clap.specs.Walk.{texts};
-ghost use Rattle.hrv.specs.CommandLine.{Asked, Draws, IsPlainWord, IsRefusal, IsSpelled, Makes, Replays};
-ghost use Rattle.hrv.specs.CommandLine.{asked_by, asked_of, hrv_app, named, picture_app, picture_of, replay_app, replay_of, rest_rule};
+ghost use Rattle.hrv.specs.CommandLine.{Asked, Debugs, Draws, IsPlainWord, IsRefusal, IsSpelled, Makes, Replays};
+ghost use Rattle.hrv.specs.CommandLine.{asked_by, asked_of, debug_app, debug_of, hrv_app, log_app, named, picture_app, picture_of, replay_app, replay_of, rest_rule};
 
 use crate::faults::Fault;
 use clap::{Arg, ArgMatches, Command};
@@ -16,6 +16,11 @@ use std::alloc::{AllocError, Global};
 pub enum Invocation<'a> {
     /// `replay IMAGE LOG`
     Replay {
+        image: &'a str,
+        log: &'a str,
+    },
+    /// `debug IMAGE LOG`
+    Debug {
         image: &'a str,
         log: &'a str,
     },
@@ -53,6 +58,7 @@ fn asked_for<'a>(
 {
     match name {
         "replay" => Ok(replay_asked(given)),
+        "debug" => Ok(debug_asked(given)),
         "picture" => picture_asked(alloc, given),
         _ => unreachable!(),
     }
@@ -67,6 +73,16 @@ fn replay_asked<'a>(given: &ArgMatches<'a>) -> Invocation<'a>
         image: given.get_str("IMAGE").unwrap(),
         log: given.get_str("LOG").unwrap(),
     }
+}
+
+// What the arguments of `debug` ask for.
+fn debug_asked<'a>(given: &ArgMatches<'a>) -> Invocation<'a>
+    requires { IsSome (debug_of (rows_of (found_of given.now))) }
+    ensures { debug_of (rows_of (found_of given.now)) ≡ Some (asked_by result) }
+{
+    let image = given.get_str("IMAGE").unwrap();
+    let log = given.get_str("LOG").unwrap();
+    Invocation::Debug { image, log }
 }
 
 // What the arguments of `picture` ask for.
@@ -99,6 +115,14 @@ pub fn replay_is_named()
         → named words ≡ Some asked → IsSpelled words asked }
 {}
 
+/// Which words name a talk with the debugger: `debug` and two names, after `--` where one begins with `-`.
+pub fn debug_is_named()
+    ensures plain { (image log : List ℕ) → IsPlainWord image → IsPlainWord log
+        → named (codes "debug" ∷ image ∷ log ∷ []) ≡ Some (Debugs image log) }
+    ensures marked { (image log : List ℕ)
+        → named (codes "debug" ∷ codes "--" ∷ image ∷ log ∷ []) ≡ Some (Debugs image log) }
+{}
+
 /// Which words name a picture: `picture`, an algorithm and any number of inputs, after `--` where one begins with `-`.
 pub fn picture_is_named()
     ensures plain { (algorithm : List ℕ) (inputs : List (List ℕ)) → AllByRecursion IsPlainWord (algorithm ∷ inputs) → length inputs ≤ usize_max
@@ -111,13 +135,20 @@ pub fn picture_is_named()
 fn program<'a>(alloc: Global) -> Result<Command<'a>, AllocError>
     ensures { IfOk result (Makes hrv_app) }
 {
+    log_program(alloc)?.subcommand(picture_command(alloc)?)
+}
+
+// The program's command with the subcommands that take a log.
+fn log_program<'a>(alloc: Global) -> Result<Command<'a>, AllocError>
+    ensures { IfOk result (Makes log_app) }
+{
     Command::new(alloc, "hrv")
         .about("Runs programs for several RISC-V harts over one memory")
         .bin_name("hrv")?
         .no_binary_name(true)
         .subcommand_required(true)
         .subcommand(replay_command(alloc)?)?
-        .subcommand(picture_command(alloc)?)
+        .subcommand(debug_command(alloc)?)
 }
 
 // `replay IMAGE LOG`
@@ -126,6 +157,16 @@ fn replay_command<'a>(alloc: Global) -> Result<Command<'a>, AllocError>
 {
     Command::new(alloc, "replay")
         .about("Runs an image once more, turn by turn as the log says")
+        .arg(Arg::new(alloc, "IMAGE").required(true))?
+        .arg(Arg::new(alloc, "LOG").required(true))
+}
+
+// `debug IMAGE LOG`
+fn debug_command<'a>(alloc: Global) -> Result<Command<'a>, AllocError>
+    ensures { IfOk result (Makes debug_app) }
+{
+    Command::new(alloc, "debug")
+        .about("Answers questions about an image and a log, asked on standard input")
         .arg(Arg::new(alloc, "IMAGE").required(true))?
         .arg(Arg::new(alloc, "LOG").required(true))
 }

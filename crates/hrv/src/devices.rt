@@ -44,6 +44,7 @@ pub trait Source {
         ensures given { IfOk result (λ n. gave self.old (take n buffer.new) self.new) }
         ensures at_end { IfOk result (λ n. n ≡ 0 → 0 < length buffer.old → ended self.new) }
         ensures well { OnOk result (failed self.new ≡ failed self.old) }
+        ensures nothing { OnErr result (gave self.old [] self.new) }
         ensures grew { OnErr result (failed self.old < failed self.new) }
         ensures path { place self.new ≡ place self.old };
 
@@ -92,7 +93,7 @@ pub trait Sink {
 }
 
 /// The fault of a source that failed, or that isn't text.
-fn file_fault(alloc: Global, path: &str) -> Fault
+pub fn file_fault(alloc: Global, path: &str) -> Fault
     ensures path { OnFile result (λ named. named ≡ path.now) }
     ensures kind { IsDeviceFault result }
 {
@@ -143,7 +144,7 @@ pub fn read_text<S: Source>(alloc: Global, source: &mut S) -> Result<String, Fau
 }
 
 /// How many bytes are read at a time.
-const CHUNK: usize = 65_536;
+pub const CHUNK: usize = 65_536;
 
 /// Writes all the bytes. After a device fault the sink has taken a front of them, and where memory ran out nothing.
 pub fn write_all<S: Sink>(alloc: Global, sink: &mut S, bytes: &[u8]) -> Result<(), Fault>
@@ -151,6 +152,8 @@ pub fn write_all<S: Sink>(alloc: Global, sink: &mut S, bytes: &[u8]) -> Result<(
     ensures taken { OnOk result (S.took sink.old bytes.now sink.new) }
     ensures begun { OnErr result ((n : ℕ) × S.took sink.old (take n bytes.now) sink.new) }
     ensures memory { result ≡ Err Fault.Memory → S.took sink.old [] sink.new }
+    ensures well { OnOk result (S.failed sink.new ≡ S.failed sink.old) }
+    ensures path { S.place sink.new ≡ S.place sink.old }
     ensures device { IfErr result (λ fault. OnFile fault (λ path. (path ≡ S.place sink.old) × (S.failed sink.old < S.failed sink.new))) }
     ensures kinds { IfErr result IsDeviceFault }
 {

@@ -11,9 +11,10 @@ ghost use Rattle.hrv.specs.Dump.{hex_of, hex_word, status_text, heading, registe
 use crate::pictures::push_picture;
 use hart_core::Status;
 use loader::Output;
-use multi_hart::{Machine, TurnLog};
+use multi_hart::Machine;
 use rv_insn::{Reg, VReg};
 use std::alloc::{AllocError, Global};
+use turn_log::TurnLog;
 
 /// The dump of a machine after turns: each hart's state with the count of its turns, and the picture
 /// where there is an output and all harts have finished.
@@ -170,14 +171,16 @@ fn is_zero(bytes: &[u8]) -> bool
     bytes.iter().all(|byte| *byte == 0)
 }
 
-fn integer_register(number: u8) -> Reg
+/// The integer register of a number.
+pub fn integer_register(number: u8) -> Reg
     requires { number < 32 }
     ensures { result ≡ number }
 {
     Reg::new(number).unwrap()
 }
 
-fn vector_register(number: u8) -> VReg
+/// The vector register of a number.
+pub fn vector_register(number: u8) -> VReg
     requires { number < 32 }
     ensures { result ≡ number }
 {
@@ -186,7 +189,7 @@ fn vector_register(number: u8) -> VReg
 
 /// `running`, `finished` or `trap K`.
 #[tactic(auto, unfolding(crate::specs::Dump::status_text))]
-fn push_status(text: &mut String, status: Status) -> Result<(), AllocError>
+pub fn push_status(text: &mut String, status: Status) -> Result<(), AllocError>
     ensures { OnOk result (string_bytes text.new ≡ string_bytes text.old ++ status_text status) }
 {
     match status {
@@ -201,7 +204,7 @@ fn push_status(text: &mut String, status: Status) -> Result<(), AllocError>
 
 /// `0x` and eight hexadecimal digits.
 #[tactic(auto, unfolding(crate::specs::Dump::hex_word))]
-fn push_hex_word(text: &mut String, word: u32) -> Result<(), AllocError>
+pub fn push_hex_word(text: &mut String, word: u32) -> Result<(), AllocError>
     ensures { OnOk result (string_bytes text.new ≡ string_bytes text.old ++ hex_word word) }
 {
     text.push_str("0x")?;
@@ -210,7 +213,7 @@ fn push_hex_word(text: &mut String, word: u32) -> Result<(), AllocError>
 }
 
 /// Two hexadecimal digits for each byte.
-fn push_hex(text: &mut String, bytes: &[u8]) -> Result<(), AllocError>
+pub fn push_hex(text: &mut String, bytes: &[u8]) -> Result<(), AllocError>
     ensures { OnOk result (string_bytes text.new ≡ string_bytes text.old ++ hex_of bytes.now) }
 {
     for byte in bytes {

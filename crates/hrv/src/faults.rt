@@ -6,10 +6,10 @@ use clap::error::ErrorKind;
 use halide_syntax::ParseFault;
 use line_text::{LocatedError, ReadError};
 use loader::LoadFault;
-use multi_hart::LogFault;
 use picture::{EvalError, PictureFault};
 use std::alloc::{AllocError, AllocFailed};
 use thiserror::Error;
+use turn_log::LogFault;
 
 /// A refusal of the program. Its text is the one line that the program prints.
 #[derive(Debug, Drop, Error)]
@@ -35,7 +35,7 @@ pub enum Fault {
     /// The input pictures are not those that the algorithm asks for.
     #[error("refused input {}", .0.number().unwrap_or(0))]
     Input(EvalError),
-    /// A file can't be read or written, or is no UTF-8 where it has to be: its path, or `-` for standard output.
+    /// A file can't be read or written, or is no UTF-8 where it has to be: its path, or `-` for standard input and output.
     #[error("refused file {0}")]
     File(String),
     /// Memory ran out.

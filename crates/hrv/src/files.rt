@@ -1,7 +1,7 @@
-//! The system's files and its standard output, as devices.
+//! The system's files, and its standard input and output, as devices.
 //!
 //! What a file or a terminal gives and takes is outside of what a proof can know, so the facts of bytes
-//! of these two devices hold of any bytes. That each failure is counted is proved.
+//! of these devices hold of any bytes. That each failure is counted is proved.
 
 ghost use Rattle.std.specs.Prelude.{◌≡◌, ◌≤◌, length, codes, map, IfOk};
 ghost use Rattle.std.specs.List.{All};
@@ -98,6 +98,55 @@ pub fn sources_of<'a, R: Files>(
         rest = others;
     }
     Ok(sources)
+}
+
+/// Standard input. Its path is `-`. A read gives what there is, so that a terminal's lines come one by one.
+#[derive(Drop)]
+pub struct StandardInput<R: Input> {
+    reader: R::Reader,
+    failures: u64,
+}
+
+impl<R: Input> StandardInput<R> {
+    /// Standard input before any read.
+    pub fn new(rt: &R) -> StandardInput<R>
+        ensures { result.failures ≡ 0 }
+    {
+        StandardInput {
+            reader: rt.reader(),
+            failures: 0,
+        }
+    }
+}
+
+impl<R: Input> Source for StandardInput<R> {
+    ghost place = { λ _. codes "-" };
+
+    ghost failed = { λ s. s.failures };
+
+    ghost gave = { λ _ _ _. Unit {0} };
+
+    ghost ended = { λ _. Unit {0} };
+
+    ghost gave_nothing = { λ _. tt };
+
+    ghost gave_more = { λ _ _ _ _ _ _ _. tt };
+
+    fn path(&self) -> &str {
+        "-"
+    }
+
+    fn failures(&self) -> u64 {
+        self.failures
+    }
+
+    fn read(&mut self, buffer: &mut [u8]) -> io::Result<usize> {
+        let count = self.reader.read(buffer);
+        if count.is_err() {
+            self.failures += 1;
+        }
+        count
+    }
 }
 
 /// Standard output. Its path is `-`.

@@ -3,14 +3,20 @@
 //! - [`command_lines`]: what the words of a command line ask for.
 //! - [`replay`]: an image and a log of turns become a dump; [`replay::replay_bytes`] has the contract
 //!   of the whole command, over `specs/Replay.antt` and `specs/Dump.antt`.
+//! - [`debugging`]: an image, a log of turns and lines of commands become a talk; [`debugging::debug_bytes`] has the contract of the
+//!   whole command, over `specs/Debugging.antt` and `specs/Talk.antt`.
 //! - [`drawing`]: an algorithm and input pictures become the reference picture; [`drawing::picture_bytes`] has the contract of the
 //!   whole command, over `specs/Drawing.antt`.
+//! - [`commands`], [`talks`]: what a line commands, and what is answered to it.
 //! - [`dumps`], [`pictures`]: the text of a dump and of its picture.
-//! - [`devices`]: what is read from and written to; [`files`]: the system's files and standard output.
+//! - [`devices`]: what is read from and written to; [`files`]: the system's files and standard input and output.
 //! - [`faults`]: why the program refuses, and its exit status.
 #![tactic(auto)]
 
 mod command_lines;
+mod commands;
+mod cuts;
+mod debugging;
 mod devices;
 mod drawing;
 mod dumps;
@@ -18,11 +24,13 @@ mod faults;
 mod files;
 mod pictures;
 mod replay;
+mod talks;
 
 use crate::command_lines::{Invocation, command};
+use crate::debugging::debug_bytes;
 use crate::drawing::picture_bytes;
 use crate::faults::Fault;
-use crate::files::{FileSource, StandardOutput, sources_of};
+use crate::files::{FileSource, StandardInput, StandardOutput, sources_of};
 use crate::replay::replay_bytes;
 use std::alloc::Global;
 use std::process::ExitCode;
@@ -30,6 +38,8 @@ use std::rt::{Env, Files};
 use std::thread::Threads;
 use std::{env, io};
 
+#[cfg(test)]
+mod debugging_tests;
 #[cfg(test)]
 mod drawing_tests;
 #[cfg(test)]
@@ -49,7 +59,7 @@ fn main(rt: HostRuntime) -> ExitCode {
 }
 
 /// Does what the command line asks for.
-fn run<R: Files + Env + Print + AllocGlobal + Threads + Sync>(rt: &R) -> Result<(), Fault> {
+fn run<R: Files + Env + Input + Print + AllocGlobal + Threads + Sync>(rt: &R) -> Result<(), Fault> {
     let alloc = rt.alloc();
     let arguments: Vec<String> = env::args(rt).map_err(word_fault)?.skip(1).collect(alloc)?;
     let words: Vec<&str> = arguments.iter().map(|word| word.as_str()).collect(alloc)?;
@@ -58,6 +68,13 @@ fn run<R: Files + Env + Print + AllocGlobal + Threads + Sync>(rt: &R) -> Result<
             alloc,
             &mut FileSource::new(rt, image),
             &mut FileSource::new(rt, log),
+            &mut StandardOutput::new(rt),
+        ),
+        Invocation::Debug { image, log } => debug_bytes(
+            alloc,
+            &mut FileSource::new(rt, image),
+            &mut FileSource::new(rt, log),
+            &mut StandardInput::new(rt),
             &mut StandardOutput::new(rt),
         ),
         Invocation::Picture { algorithm, inputs } => {

@@ -1,16 +1,19 @@
 //! Replaying a log of turns over an image.
 
-ghost use Rattle.std.specs.Prelude.{◌≡◌, ◌≢◌, ℕ, ◌+◌, ◌<◌, ◌≤◌, ◌^◌, ◌⊎◌, List, [], Err, Ok, OnOk, IfOk, IfErr};
+ghost use Rattle.std.specs.Prelude.{◌≡◌, ◌≢◌, ℕ, ◌+◌, ◌<◌, ◌≤◌, ◌^◌, ◌⊎◌, List, [], length, Err, Ok, OnOk, IfOk, IfErr};
 ghost use Rattle.std.specs.String.{string_bytes};
 ghost use Rattle.hrv.specs.Faults.{OnRefusal, OnFile, IsReplayFault};
+ghost use Rattle.multi_hart.specs.Run.{run, KeepsShape};
+ghost use Rattle.turn_log.specs.TurnLog.{IsLog};
 ghost use Rattle.hrv.specs.Replay.{answer, dump_of, Answered, Refused, Begun};
 
 use crate::devices::{Sink, Source, read_all, write_all};
 use crate::dumps::dump;
 use crate::faults::Fault;
 use loader::{Image, read_image};
-use multi_hart::TurnLog;
+use multi_hart::Machine;
 use std::alloc::{AllocError, Global};
+use turn_log::TurnLog;
 
 /// Reads an image and a log of turns, replays the log over the image, and writes the dump.
 ///
@@ -56,9 +59,21 @@ fn replay(alloc: Global, image: &Image, log: &TurnLog) -> Result<String, AllocEr
     ensures { IfOk result (λ text. string_bytes text ≡ dump_of image.now log.now) }
 {
     let mut machine = image.machine(alloc, log.harts())?;
-    match machine.run(log.turns()) {
-        Ok(()) => dump(alloc, &machine, log, image.output()),
-        Err(_) => unreachable!(),
+    make_turns(&mut machine, log);
+    dump(alloc, &machine, log, image.output())
+}
+
+/// Makes the log's turns, run by run, so that the turns of a hart that has halted take no time.
+fn make_turns(machine: &mut Machine, log: &TurnLog)
+    requires log { IsLog log.now }
+    requires harts { length machine.old.harts ≡ log.now.harts }
+    ensures state { machine.new ≡ run machine.old log.now.turns }
+    ensures shape { KeepsShape machine.old machine.new }
+{
+    let mut place = 0;
+    while let Some((hart, count)) = log.run_at(place) {
+        machine.run_same(hart, count);
+        place += count;
     }
 }
 

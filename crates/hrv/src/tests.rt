@@ -7,28 +7,28 @@ use crate::devices::{Sink, Source};
 use crate::faults::Fault;
 use crate::replay::replay_bytes;
 use loader::LoadFault;
-use multi_hart::LogFault;
 use std::alloc::{AllocError, Global};
 use std::io;
 use std::process::Abort;
 use std::test::Fail;
+use turn_log::LogFault;
 
 /// Two harts add 1 to one word and finish; the word is the picture.
-static COUNTER: [u8; 52] = [
+pub static COUNTER: [u8; 52] = [
     0x48, 0x52, 0x56, 0x31, 0, 0, 1, 0, 4, 0, 0, 0, 4, 0, 0, 0, 0, 0, 0x20, 0, 1, 0, 0, 0, 1, 0, 0,
     0, 4, 0, 0, 0, 0xb7, 0x02, 0x20, 0, 0x13, 0x03, 0x10, 0, 0xaf, 0xa3, 0x62, 0, 0x73, 0, 0, 0, 0,
     0, 0, 0,
 ];
 
 /// The turns 0 1 0 1 1 0 0 1.
-static TURNS: [u8; 70] = [
+pub static TURNS: [u8; 70] = [
     0x48, 0x52, 0x4c, 0x31, 2, 0, 0, 0, 6, 0, 0, 0, 0, 0, 0, 0, 0, 1, 0, 0, 0, 0, 0, 0, 0, 1, 1, 0,
     0, 0, 0, 0, 0, 0, 0, 1, 0, 0, 0, 0, 0, 0, 0, 1, 2, 0, 0, 0, 0, 0, 0, 0, 0, 2, 0, 0, 0, 0, 0, 0,
     0, 1, 1, 0, 0, 0, 0, 0, 0, 0,
 ];
 
 /// Two harts and no turn.
-static NO_TURNS: [u8; 16] = [0x48, 0x52, 0x4c, 0x31, 2, 0, 0, 0, 0, 0, 0, 0, 0, 0, 0, 0];
+pub static NO_TURNS: [u8; 16] = [0x48, 0x52, 0x4c, 0x31, 2, 0, 0, 0, 0, 0, 0, 0, 0, 0, 0, 0];
 
 static COUNTER_DUMP: &str = "hart 0 finished pc 0x0001000c turns 4
   x5 0x00200000
@@ -231,6 +231,29 @@ hart 1 trap 3 pc 0x0001000c turns 4
     Ok(())
 }
 
+/// As many turns as a hart can have, most of them after it finished.
+#[test]
+fn replays_the_longest_run(rt: HostRuntime) -> Result<(), Fail> {
+    let mut log = NO_TURNS.to_vec(rt.alloc())?;
+    assert_eq!(rt; log.len(), 16);
+    log[8] = 1;
+    log.extend_from_slice(&[1, 0, 0, 0, 0, 0, 1, 0, 0])?;
+    let (text, line) = replayed(rt.alloc(), &COUNTER, &log)?;
+    let dump = "hart 0 running pc 0x00010000 turns 0
+  x11 0x00000002
+  vl 0 vtype 0x80000000
+hart 1 finished pc 0x0001000c turns 1099511627776
+  x5 0x00200000
+  x6 0x00000001
+  x10 0x00000001
+  x11 0x00000002
+  vl 0 vtype 0x80000000
+";
+    assert_eq!(rt; text.as_slice(), dump.as_bytes());
+    assert_eq!(rt; line.as_str(), "");
+    Ok(())
+}
+
 #[test]
 fn refuses_damaged_files(rt: HostRuntime) -> Result<(), Fail> {
     for end in 0..52usize {
@@ -253,15 +276,10 @@ fn refuses_damaged_files(rt: HostRuntime) -> Result<(), Fail> {
     for _ in 0..2 {
         twice.extend_from_slice(&[0, 1, 0, 0, 0, 0, 0, 0, 0])?;
     }
-    let mut endless = NO_TURNS.to_vec(rt.alloc())?;
-    assert_eq!(rt; endless.len(), 16);
-    endless[8] = 1;
-    endless.extend_from_slice(&[1, 0, 0, 0, 0, 0, 1, 0, 0])?;
-    let cases: [(&[u8], &[u8], &str); 4] = [
+    let cases: [(&[u8], &[u8], &str); 3] = [
         (&longer, &TURNS, "refused load 3"),
         (&COUNTER, &twice, "refused log 4"),
         (&longer, &twice, "refused load 3"),
-        (&COUNTER, &endless, "refused memory"),
     ];
     for (image, log, wanted) in cases {
         let (text, line) = replayed(rt.alloc(), image, log)?;

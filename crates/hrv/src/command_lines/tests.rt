@@ -1,4 +1,4 @@
-use super::{Invocation, command, picture_is_named, replay_is_named};
+use super::{Invocation, command, debug_is_named, picture_is_named, replay_is_named};
 use crate::faults::Fault;
 use std::alloc::{AllocError, Global};
 use std::test::Fail;
@@ -22,7 +22,29 @@ fn reads_a_replay(rt: HostRuntime) -> Result<(), Fail> {
 fn is_replay(invocation: &Invocation, image: &str, log: &str) -> bool {
     match invocation {
         Invocation::Replay { image: i, log: l } => *i == image && *l == log,
-        Invocation::Picture { .. } => false,
+        Invocation::Debug { .. } | Invocation::Picture { .. } => false,
+    }
+}
+
+#[test]
+fn reads_a_debug(rt: HostRuntime) -> Result<(), Fail> {
+    let lines: [(&[&str], &str, &str); 3] = [
+        (&["debug", "a", "b"], "a", "b"),
+        (&["debug", "--", "-a", "-b"], "-a", "-b"),
+        (&["debug", "a", "--", "-b"], "a", "-b"),
+    ];
+    for (words, image, log) in lines {
+        let invocation = command(rt.alloc(), words)?;
+        assert!(rt; is_debug(&invocation, image, log), "{words:?}");
+    }
+    debug_is_named();
+    Ok(())
+}
+
+fn is_debug(invocation: &Invocation, image: &str, log: &str) -> bool {
+    match invocation {
+        Invocation::Debug { image: i, log: l } => *i == image && *l == log,
+        Invocation::Replay { .. } | Invocation::Picture { .. } => false,
     }
 }
 
@@ -50,7 +72,7 @@ fn is_picture(invocation: &Invocation, algorithm: &str, inputs: &[&str]) -> bool
             algorithm: a,
             inputs: given,
         } => *a == algorithm && given.as_slice() == inputs,
-        Invocation::Replay { .. } => false,
+        Invocation::Replay { .. } | Invocation::Debug { .. } => false,
     }
 }
 
