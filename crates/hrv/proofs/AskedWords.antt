@@ -1,16 +1,16 @@
 -- What words without a fault ask for, and which words do.
-use Rattle.std.proofs.Common.{◌≡◌, ◌∙◌, codes, true, false, true≢false, refl, sym, ap, subst, List, [], ◌∷◌, ◌≤◌, length, Option, Some, None, IsSome}
+use Rattle.std.proofs.Common.{◌≡◌, ◌∙◌, codes, true, true≢false, refl, sym, ap, subst, List, [], ◌∷◌, ◌≤◌, length, Option, Some, IsSome}
 use Rattle.std.specs.Prelude.{is_some, option_and_then, unwrap_or, not}
 use Rattle.std.proofs.lemmas.Bool.{le-ltb}
 use Rattle.std.specs.List.{AllByRecursion}
 use Rattle.clap.specs.Lexer.{usize_max}
-use Rattle.clap.specs.Walk.{Row, Text, nothing_held, rows_after}
-use Rattle.clap.specs.Simple.{Shape, subcommand_of}
+use Rattle.clap.specs.Walk.{Row, Text, rows_after}
+use Rattle.clap.specs.Simple.{subcommand_of}
 use Rattle.clap.specs.Kinds.{Kinds}
-use Rattle.clap.specs.Faults.{fault_of, level_fault}
+use Rattle.clap.specs.Faults.{fault_of}
 use Rattle.hrv.specs.CommandLine.{Asked, Debugs, Draws, IsPlainWord, IsSpelled, Replays, asked_of, debug_of, hrv_app, named, picture_of, replay_of, unless_fault, unmarked}
 use Rattle.hrv.proofs.Positionals.{ArePlain, marked, none, passes_all, plain, takes_all, unmarked-plain}
-use Rattle.hrv.proofs.Subcommands.{IsName, IsSubcommand, Named, first_is_name, is_debug, is_picture, is_replay, name_free, name_given, name_passes}
+use Rattle.hrv.proofs.Subcommands.{IsName, first_is_name, is_debug, is_picture, is_replay, name_free, name_given, name_passes}
 use Rattle.hrv.proofs.ReplayWords as replay
 use Rattle.hrv.proofs.DebugWords as debug
 use Rattle.hrv.proofs.PictureWords as picture

@@ -1,6 +1,6 @@
 -- The next and the previous stop are the places that a search comes to.
 use Rattle.std.proofs.Common.{◌≡◌, ℕ, zero, suc, ◌+◌, ◌-◌, ◌<◌, ◌≤◌, Bool, true, false, true≢false, List, ◌++◌, length, refl, sym, ap, subst, ◌∙◌, arith}
-use Rattle.std.specs.Prelude.{nat_lt, Option, Some, None, Result, Ok, Err, IsSome, OnOk}
+use Rattle.std.specs.Prelude.{nat_lt, Some, None, Result, Ok, Err, IsSome, OnOk}
 use Rattle.std.proofs.lemmas.Bool.Decides.{nat_tests}
 use Rattle.debugger.specs.declared.refusals.Refusal.{Refusal}
 use Rattle.debugger.specs.declared.refusals.Refusal.TheVariants.{PastEnd, BeforeStart, Address, TooManyMarks, NoStop, OutOfMemory}

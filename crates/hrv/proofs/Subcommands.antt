@@ -1,16 +1,16 @@
 -- The program's words: which subcommand they name, and that what is wrong with them is what is wrong with its own.
-use Rattle.std.proofs.Common.{◌≡◌, ◌∙◌, Bool, codes, true, false, refl, sym, ap, ap₂, subst, List, [], ◌∷◌, ◌++◌, append-nil, append_assoc, Option, Some, None}
+use Rattle.std.proofs.Common.{◌≡◌, ◌∙◌, Bool, codes, true, false, refl, sym, ap, ap₂, subst, List, [], ◌∷◌, ◌++◌, append-nil, append_assoc, Some, None}
 use Rattle.std.specs.Prelude.{fold, is_some}
 use Rattle.std.specs.Str.{bytes_eq}
 use Rattle.std.proofs.lemmas.Slice.Eq.{bytes_eq-Decides}
 use Rattle.clap.proofs.OnLiterals.{clap_on_literals}
-use Rattle.clap.specs.Walk.{Held, Row, Step, Text, Walk, finished, idle, nothing_held, rows_after, settled, stop_after, subcommand_met, walk, walk_from, walked, word_met}
+use Rattle.clap.specs.Walk.{Held, Step, Text, Walk, finished, idle, nothing_held, rows_after, settled, stop_after, subcommand_met, walk, walk_from, walked, word_met}
 use Rattle.clap.specs.Simple.{App, Shape, built, entered, names_of, subcommand_of}
 use Rattle.clap.specs.Kinds.{Kinds, or_else}
 use Rattle.clap.specs.Faults.{check_fault, defaults_fault, entered_fault, fault_of, level_fault, settle_fault, step_fault, turn_fault, walk_fault, word_fault}
 use Rattle.clap.specs.declared.error.ErrorKind.TheVariants as kind
 use Rattle.hrv.specs.CommandLine.{hrv_app}
-use Rattle.hrv.proofs.HelpOnly.{HasHelpOnly, both_pass, held, is_idle, some_fault, value_met}
+use Rattle.hrv.proofs.HelpOnly.{HasHelpOnly, both_pass, is_idle, some_fault, value_met}
 
 abbrev pub app : App
 app = built hrv_app

@@ -1,4 +1,4 @@
-use Rattle.std.proofs.Common.{◌∙◌, sym}
+use Rattle.std.proofs.Common.{◌∙◌}
 use Rattle.line_text.specs.Classes.{is_digit}
 use Rattle.line_text.specs.Numbers.{decimal_number}
 use Rattle.hrv.proofs.Numbers.{decimal_last, no_number}

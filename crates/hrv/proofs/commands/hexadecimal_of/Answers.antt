@@ -1,4 +1,4 @@
-use Rattle.std.proofs.Common.{◌∙◌, sym}
+use Rattle.std.proofs.Common.{◌∙◌}
 use Rattle.line_text.specs.Classes.{is_hexadecimal}
 use Rattle.line_text.specs.Numbers.{hexadecimal_number}
 use Rattle.hrv.proofs.Numbers.{hexadecimal_last, no_number}

@@ -1,7 +1,6 @@
 use Rattle.std.proofs.Common.{◌≡◌, ◌++◌, [], take, refl, sym, ap, subst, ◌∙◌, arith, rules}
 use Rattle.std.specs.String.{string_bytes}
 use Rattle.std.proofs.lemmas.List.{append-nil}
-use Rattle.std.proofs.lemmas.Grind.{common_steps}
 use Rattle.hrv.specs.Talk.{talk}
 use Rattle.hrv.specs.TalkSoFar.{Took}
 use Rattle.hrv.proofs.Reading.{on_ok}

@@ -1,7 +1,6 @@
-use Rattle.std.proofs.Common.{◌∙◌, sym}
 use Rattle.std.specs.String.{string_bytes}
 use Rattle.debugger.specs.Stops.{NoNextStop}
-use Rattle.hrv.specs.Talk.{next_stop, went}
+use Rattle.hrv.specs.Talk.{next_stop}
 use Rattle.hrv.proofs.StopsFound.{next_found, no_next_found, refused_next, refused_text, went_next, went_text}
 use Rattle.hrv.proofs.talks.go_to_next_stop.Goals as goal
 

@@ -1,7 +1,6 @@
-use Rattle.std.proofs.Common.{◌∙◌, sym}
 use Rattle.std.specs.String.{string_bytes}
 use Rattle.debugger.specs.Stops.{NoPreviousStop}
-use Rattle.hrv.specs.Talk.{previous_stop, went}
+use Rattle.hrv.specs.Talk.{previous_stop}
 use Rattle.hrv.proofs.StopsFound.{previous_found, no_previous_found, refused_next, refused_text, went_next, went_text}
 use Rattle.hrv.proofs.talks.go_to_previous_stop.Goals as goal
 
