@@ -4,8 +4,12 @@ use Rattle.std.specs.Prelude.{Result, Ok, Err, OnErr}
 use Rattle.std.proofs.lemmas.List.{append-nil}
 use Rattle.line_text.specs.Lines.{IsLine, lines_of}
 use Rattle.debugger.specs.Places.{SessionState}
+use Rattle.hrv.specs.Faults.{OnFile}
+use Rattle.hrv.specs.declared.faults.Fault.{Fault}
+use Rattle.hrv.specs.declared.faults.Fault.TheVariants as f
+use Rattle.std.specs.String.{string_bytes}
 use Rattle.hrv.specs.Talk.{Answer, answer, answers, quits, talk, talk_ends, unless_last}
-use Rattle.hrv.specs.TalkSoFar.{BrokenTalk, GoesOn, HeldTalk, IsOver, SoFar, Took}
+use Rattle.hrv.specs.TalkSoFar.{BrokenTalk, GoesOn, HeldTalk, IsOver, SoFar, Took, WaitingTalk}
 use Rattle.hrv.proofs.Splits.{HasNo, has_no-append, last_line, line_and_more}
 
 talk_line : (s : SessionState) (line rest : List ℕ) → HasNo 10 line → talk s (line ++ 10 ∷ rest) ≡ unless_last (answer s line) (λ next. talk next rest)
@@ -168,41 +172,82 @@ front_of : (xs ys : List ℕ) → take (length xs) (xs ++ ys) ≡ xs
 front_of [] ys = refl
 front_of (x ∷ xs) ys = ap (λ zs. x ∷ zs) (front_of xs ys)
 
--- what was sent is a beginning, where the text that was being sent is one of what is left to say
-pub piece_broken : (s now : SessionState) (gave gave' took took' : List ℕ → Type 0) (left piece front rest : List ℕ) → SoFar s gave took now left
-    → ((xs : List ℕ) → gave xs → gave' (xs ++ piece)) → ((xs : List ℕ) → took xs → took' (xs ++ front)) → talk now (left ++ piece) ≡ front ++ rest
-    → BrokenTalk s gave' took'
-piece_broken s now gave gave' took took' left piece front rest so more_given more_sent said =
-    let whole : talk s (so.given ++ piece) ≡ (so.sent ++ front) ++ rest =
-    so_far s now gave took left piece so ∙ ap (λ t. so.sent ++ t) said ∙ sym (append_assoc so.sent front rest) in
-    record {
-      lines = so.given ++ piece;
-      count = length (so.sent ++ front);
-      given = more_given so.given so.is_given;
-      taken = subst took' (sym (ap (take (length (so.sent ++ front))) whole ∙ front_of (so.sent ++ front) rest)) (more_sent so.sent so.is_sent);
-    }
+-- a text that goes on behind another begins with it
+front_and_more : (xs ys zs : List ℕ) → xs ≡ ys ++ zs → take (length ys) xs ≡ ys
+front_and_more xs ys zs is = ap (take (length ys)) is ∙ front_of ys zs
 
 -- nothing more was sent
-pub unsent : (s now : SessionState) (gave gave' took : List ℕ → Type 0) (left piece : List ℕ) → SoFar s gave took now left
-    → ((xs : List ℕ) → gave xs → gave' (xs ++ piece)) → BrokenTalk s gave' took
-unsent s now gave gave' took left piece so more_given =
-    piece_broken s now gave gave' took took left piece [] (talk now (left ++ piece)) so more_given (λ xs t. subst took (sym (append-nil xs)) t) refl
+pub unsent : (s now : SessionState) (gave gave' : List ℕ → Type 0) (ended : Type 0) (took : List ℕ → Type 0) (left piece : List ℕ) → SoFar s gave took now left
+    → ((xs : List ℕ) → gave xs → gave' (xs ++ piece)) → BrokenTalk s gave' ended took
+unsent s now gave gave' ended took left piece so more_given = record {
+  lines = so.given ++ piece;
+  sent = so.sent;
+  given = more_given so.given so.is_given;
+  taken = so.is_sent;
+  begins = inl (λ more.
+      front_and_more (talk s ((so.given ++ piece) ++ more)) so.sent (talk now (left ++ (piece ++ more)))
+      (ap (talk s) (append_assoc so.given piece more) ∙ so.goes_on.answered (piece ++ more)));
+}
 
--- a part of the text was sent
-pub part_sent : (s now : SessionState) (gave gave' took took' : List ℕ → Type 0) (left piece text rest : List ℕ) → SoFar s gave took now left
-    → ((xs : List ℕ) → gave xs → gave' (xs ++ piece)) → ((n : ℕ) × ((xs : List ℕ) → took xs → took' (xs ++ take n text))) → talk now (left ++ piece) ≡ text ++ rest
-    → BrokenTalk s gave' took'
-part_sent s now gave gave' took took' left piece text rest so more_given part said =
-    piece_broken s now gave gave' took took' left piece (take part.0 text) (drop part.0 text ++ rest) so more_given part.1
-    (said ∙ ap (λ t. t ++ rest) (sym (take-append-drop part.0 text)) ∙ append_assoc (take part.0 text) (drop part.0 text) rest)
+-- a part of a text, and what follows it
+split_at : (n : ℕ) (text rest : List ℕ) → text ++ rest ≡ take n text ++ (drop n text ++ rest)
+split_at n text rest = ap (λ t. t ++ rest) (sym (take-append-drop n text)) ∙ append_assoc (take n text) (drop n text) rest
 
--- what bytes that were taken had for an answer
+-- a part of the answers to the piece was sent
+pub part_sent : (s now : SessionState) (gave gave' : List ℕ → Type 0) (ended : Type 0) (took took' : List ℕ → Type 0) (left piece text : List ℕ) → SoFar s gave took now left
+    → ((xs : List ℕ) → gave xs → gave' (xs ++ piece)) → ((n : ℕ) × ((xs : List ℕ) → took xs → took' (xs ++ take n text)))
+    → ((more : List ℕ) → (rest : List ℕ) × (talk now (left ++ (piece ++ more)) ≡ text ++ rest))
+    → BrokenTalk s gave' ended took'
+part_sent s now gave gave' ended took took' left piece text so more_given part said = record {
+  lines = so.given ++ piece;
+  sent = so.sent ++ take part.0 text;
+  given = more_given so.given so.is_given;
+  taken = part.1 so.sent so.is_sent;
+  begins = inl (λ more.
+      let rest = (said more).0 in
+      front_and_more (talk s ((so.given ++ piece) ++ more)) (so.sent ++ take part.0 text) (drop part.0 text ++ rest)
+      (ap (talk s) (append_assoc so.given piece more) ∙ so.goes_on.answered (piece ++ more)
+      ∙ ap (λ t. so.sent ++ t) ((said more).1 ∙ split_at part.0 text rest) ∙ sym (append_assoc so.sent (take part.0 text) (drop part.0 text ++ rest))));
+}
+
+-- a part of the answer to a last line that no line feed ends
+pub end_part_sent : (s now : SessionState) (gave gave' : List ℕ → Type 0) (ended : Type 0) (took took' : List ℕ → Type 0) (left piece text : List ℕ) → SoFar s gave took now left
+    → ((xs : List ℕ) → gave xs → gave' (xs ++ piece)) → ((n : ℕ) × ((xs : List ℕ) → took xs → took' (xs ++ take n text)))
+    → piece ≡ [] → ended → text ≡ talk now left
+    → BrokenTalk s gave' ended took'
+end_part_sent s now gave gave' ended took took' left piece text so more_given part nothing is_end said =
+    let whole : talk now (left ++ piece) ≡ text = ap (λ p. talk now (left ++ p)) nothing ∙ ap (talk now) (append-nil left) ∙ sym said in
+    record {
+      lines = so.given ++ piece;
+      sent = so.sent ++ take part.0 text;
+      given = more_given so.given so.is_given;
+      taken = part.1 so.sent so.is_sent;
+      begins = inr (is_end,
+          front_and_more (talk s (so.given ++ piece)) (so.sent ++ take part.0 text) (drop part.0 text)
+          (so_far s now gave took left piece so ∙ ap (λ t. so.sent ++ t) (whole ∙ sym (take-append-drop part.0 text))
+          ∙ sym (append_assoc so.sent (take part.0 text) (drop part.0 text))));
+    }
+
+-- the source failed: nothing more was given
+pub waits : (s now : SessionState) (gave gave' took : List ℕ → Type 0) (left : List ℕ) → SoFar s gave took now left
+    → ((xs : List ℕ) → gave xs → gave' (xs ++ [])) → WaitingTalk s gave' took
+waits s now gave gave' took left so same = record {
+  now = now;
+  unended = left;
+  so_far = record {
+    given = so.given;
+    sent = so.sent;
+    is_given = subst gave' (append-nil so.given) (same so.given so.is_given);
+    is_sent = so.is_sent;
+    goes_on = so.goes_on;
+  };
+}
+
+-- what bytes that were taken had for an answer, whatever follows
 pub said_first : (b : Bool) (now next : SessionState) (left piece left' text : List ℕ) → Took b now left piece next left' [] text
-    → (rest : List ℕ) × (talk now (left ++ piece) ≡ text ++ rest)
-said_first true now next left piece left' text over =
-    ([], ap (λ p. talk now (left ++ p)) (sym (append-nil piece)) ∙ over.answered [] ∙ sym (append-nil text))
-said_first false now next left piece left' text g =
-    (talk next (left' ++ []), ap (λ p. talk now (left ++ p)) (sym (append-nil piece)) ∙ g.answered [])
+    → (more : List ℕ) → (rest : List ℕ) × (talk now (left ++ (piece ++ more)) ≡ text ++ rest)
+said_first true now next left piece left' text over = λ more. ([], over.answered more ∙ sym (append-nil text))
+said_first false now next left piece left' text g = λ more. (talk next (left' ++ more), g.answered more)
 
 pub more_took : (b : Bool) (now next : SessionState) (left piece left' text : List ℕ) → b ≡ false → Took b now left piece next left' [] text → GoesOn now left piece next left' [] [] text
 more_took true now next left piece left' text e t = absurd (true≢false e)
@@ -221,3 +266,14 @@ on_err_always (Err e) P p = p
 pub on_err : {X E : Type 0} (r : Result X E) (P Q : Type 0) → (P → Q) → OnErr r P → OnErr r Q
 on_err (Ok x) P Q f p = tt
 on_err (Err e) P Q f p = f p
+
+pub on_file : (fault : Fault) (P Q : List ℕ → Type 0) → ((path : List ℕ) → P path → Q path) → OnFile fault P → OnFile fault Q
+on_file (f.CommandLine error) P Q h p = tt
+on_file f.NotText P Q h p = tt
+on_file (f.Load fault) P Q h p = tt
+on_file (f.Log fault) P Q h p = tt
+on_file (f.Parse line fault) P Q h p = tt
+on_file (f.Picture fault) P Q h p = tt
+on_file (f.Input fault) P Q h p = tt
+on_file (f.File path) P Q h p = h (string_bytes path) p
+on_file f.Memory P Q h p = tt

@@ -1,6 +1,6 @@
 -- What the program makes of an image, a log and lines of commands: the talk over the session of the image and the log, or the first
 -- refusal. This project's own.
-use Rattle.std.specs.Prelude.{◌≡◌, ◌⊎◌, ℕ, true, List, [], take, Result, Ok, Err}
+use Rattle.std.specs.Prelude.{◌≡◌, ◌⊎◌, ℕ, true, List, [], Result, Ok, Err}
 use Rattle.turn_log.specs.TurnLog.{LogState}
 use Rattle.turn_log.specs.LogSpelling.{log_of}
 use Rattle.turn_log.specs.declared.log_faults.LogFault.{LogFault}
@@ -10,6 +10,7 @@ use Rattle.loader.specs.declared.faults.LoadFault.{LoadFault}
 use Rattle.debugger.specs.Places.{SessionState, opened}
 use Rattle.hrv.specs.Faults.{Refusal, RefusedLoad, RefusedLog}
 use Rattle.hrv.specs.Talk.{talk, talk_ends}
+use Rattle.hrv.specs.TalkSoFar.{BrokenTalk, WaitingTalk}
 
 abbrev pub with_log : ImageContents → Result LogState LogFault → Result SessionState Refusal
 with_log image (Ok log) = Ok (opened image log)
@@ -48,15 +49,22 @@ pub record RefusedTalk (image_gave log_gave took : List ℕ → Type 0) (refusal
   pub refused : session_of image log ≡ Err refusal
   pub untouched : took []
 
--- The files gave all that they had, and the lines these bytes. The sink took a beginning of the talk on them.
-pub record BeganTalk (image_gave log_gave lines_gave took : List ℕ → Type 0) : Type 0 where
+-- The files gave all that they had, and what the sink took begins the talk on the bytes that the lines gave.
+pub record BeganTalk (image_gave log_gave lines_gave : List ℕ → Type 0) (lines_ended : Type 0) (took : List ℕ → Type 0) : Type 0 where
   pub image : List ℕ
   pub log : List ℕ
-  pub lines : List ℕ
   pub session : SessionState
-  pub count : ℕ
   pub image_given : image_gave image
   pub log_given : log_gave log
-  pub lines_given : lines_gave lines
   pub opens : session_of image log ≡ Ok session
-  pub taken : took (take count (talk session lines))
+  pub begun : BrokenTalk session lines_gave lines_ended took
+
+-- The files gave all that they had, and the talk waits for more lines: those that ended are answered, and none ended the talk.
+pub record AwaitsLines (image_gave log_gave lines_gave took : List ℕ → Type 0) : Type 0 where
+  pub image : List ℕ
+  pub log : List ℕ
+  pub session : SessionState
+  pub image_given : image_gave image
+  pub log_given : log_gave log
+  pub opens : session_of image log ≡ Ok session
+  pub waiting : WaitingTalk session lines_gave took

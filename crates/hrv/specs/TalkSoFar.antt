@@ -1,6 +1,6 @@
 -- A talk of which some bytes were taken: what is answered and what is left, whatever bytes follow.
 -- This project's own.
-use Rattle.std.specs.Prelude.{◌≡◌, ◌⊎◌, ℕ, Bool, true, false, List, [], ◌++◌, take}
+use Rattle.std.specs.Prelude.{◌≡◌, ◌⊎◌, ℕ, Bool, true, false, List, [], ◌++◌, length, take}
 use Rattle.line_text.specs.Lines.{IsLine}
 use Rattle.debugger.specs.Places.{SessionState}
 use Rattle.hrv.specs.Talk.{talk, talk_ends}
@@ -39,9 +39,22 @@ pub record HeldTalk (session : SessionState) (gave : List ℕ → Type 0) (ended
   pub to_the_end : ended ⊎ (talk_ends session lines ≡ true)
   pub taken : took (talk session lines)
 
--- The lines gave these bytes, and the sink took a beginning of the talk on them.
-pub record BrokenTalk (session : SessionState) (gave took : List ℕ → Type 0) : Type 0 where
+-- The bytes are a beginning of the talk on these lines, and stay one whatever the lines go on with.
+abbrev pub Begins : SessionState → List ℕ → List ℕ → Type 0
+Begins session lines sent = (more : List ℕ) → take (length sent) (talk session (lines ++ more)) ≡ sent
+
+-- The lines gave these bytes. What the sink took begins the talk on them, whatever they go on with; only where they were at their
+-- end may it be of the answer to a last line that no line feed ends.
+pub record BrokenTalk (session : SessionState) (gave : List ℕ → Type 0) (ended : Type 0) (took : List ℕ → Type 0) : Type 0 where
   pub lines : List ℕ
-  pub count : ℕ
+  pub sent : List ℕ
   pub given : gave lines
-  pub taken : took (take count (talk session lines))
+  pub taken : took sent
+  pub begins : Begins session lines sent ⊎ (ended × (take (length sent) (talk session lines) ≡ sent))
+
+-- The lines gave bytes, and the sink took the answers to all their lines that ended, none of which ended the talk: from here on it is
+-- the talk over another session, on the line that has not ended and on what follows.
+pub record WaitingTalk (session : SessionState) (gave took : List ℕ → Type 0) : Type 0 where
+  pub now : SessionState
+  pub unended : List ℕ
+  pub so_far : SoFar session gave took now unended

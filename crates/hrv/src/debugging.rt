@@ -1,9 +1,9 @@
 //! Debugging: a talk over an image and a log of turns.
 
-ghost use Rattle.std.specs.Prelude.{◌≡◌, ◌⊎◌, ◌≢◌, ℕ, ◌+◌, ◌<◌, ◌^◌, List, [], take, true, Err, Ok, OnOk, OnErr, IfOk, IfErr};
+ghost use Rattle.std.specs.Prelude.{◌≡◌, ◌⊎◌, ◌≢◌, ℕ, ◌+◌, ◌<◌, ◌^◌, List, [], true, Err, Ok, OnOk, OnErr, IfOk, IfErr};
 ghost use Rattle.hrv.specs.Faults.{OnRefusal, OnFile, IsDeviceFault, IsReplayFault};
-ghost use Rattle.hrv.specs.TalkSoFar.{HeldTalk, BrokenTalk};
-ghost use Rattle.hrv.specs.Debugging.{session_of, Talked, RefusedTalk, BeganTalk};
+ghost use Rattle.hrv.specs.TalkSoFar.{HeldTalk, BrokenTalk, WaitingTalk};
+ghost use Rattle.hrv.specs.Debugging.{session_of, Talked, RefusedTalk, BeganTalk, AwaitsLines};
 
 use crate::devices::{CHUNK, Sink, Source, file_fault, read_all, write_all};
 use crate::faults::Fault;
@@ -16,9 +16,10 @@ use turn_log::TurnLog;
 /// Reads an image and a log of turns, and then answers lines of commands, up to their end or to `quit`.
 ///
 /// Both files are read first, the image before the log. Where one is refused, nothing is written and no line is read. The lines are
-/// read piece by piece: the lines that ended are answered before more is read. A device fault is answered only where that device's
-/// count of failures grew in this call; after one of the lines or of the sink, and where memory runs out in the middle of the talk,
-/// the sink has taken a beginning of the talk on the lines so far.
+/// read piece by piece: the lines that ended are answered before more is read, and nothing is read after one that ends the talk. A
+/// device fault is answered only where that device's count of failures grew in this call. After one of the lines, the sink has taken
+/// the answers to all lines that ended; after one of the sink, or where memory runs out in the middle of the talk, a beginning of the
+/// talk on the lines so far.
 pub fn debug_bytes<I: Source, L: Source, C: Source, O: Sink>(
     alloc: Global,
     image: &mut I,
@@ -42,18 +43,22 @@ pub fn debug_bytes<I: Source, L: Source, C: Source, O: Sink>(
     ensures memory { result ≡ Err Fault.Memory → (O.took out.old [] out.new) ⊎ BeganTalk
         (λ bytes. I.gave image.old bytes image.new × I.ended image.new)
         (λ bytes. L.gave log.old bytes log.new × L.ended log.new)
-        (λ bytes. C.gave lines.old bytes lines.new)
+        (λ bytes. C.gave lines.old bytes lines.new) (C.ended lines.new)
         (λ bytes. O.took out.old bytes out.new) }
     ensures kinds { IfErr result IsReplayFault }
     ensures device { IfErr result (λ fault. OnFile fault (λ path.
         ((path ≡ I.place image.old) × (I.failed image.old < I.failed image.new) × O.took out.old [] out.new)
         ⊎ ((path ≡ L.place log.old) × (L.failed log.old < L.failed log.new) × O.took out.old [] out.new
         × ((bytes : List ℕ) × I.gave image.old bytes image.new × I.ended image.new))
-        ⊎ ((((path ≡ C.place lines.old) × (C.failed lines.old < C.failed lines.new))
-        ⊎ ((path ≡ O.place out.old) × (O.failed out.old < O.failed out.new))) × BeganTalk
+        ⊎ ((path ≡ C.place lines.old) × (C.failed lines.old < C.failed lines.new) × AwaitsLines
         (λ bytes. I.gave image.old bytes image.new × I.ended image.new)
         (λ bytes. L.gave log.old bytes log.new × L.ended log.new)
         (λ bytes. C.gave lines.old bytes lines.new)
+        (λ bytes. O.took out.old bytes out.new))
+        ⊎ ((path ≡ O.place out.old) × (O.failed out.old < O.failed out.new) × BeganTalk
+        (λ bytes. I.gave image.old bytes image.new × I.ended image.new)
+        (λ bytes. L.gave log.old bytes log.new × L.ended log.new)
+        (λ bytes. C.gave lines.old bytes lines.new) (C.ended lines.new)
         (λ bytes. O.took out.old bytes out.new)))) }
 {
     let image_bytes = read_all(alloc, image)?;
@@ -89,8 +94,9 @@ fn hold_talk<C: Source, O: Sink>(
     requires lines { C.failed lines.old + 1 < 2 ^ 64 }
     requires out { O.failed out.old + 1 < 2 ^ 64 }
     ensures ok { OnOk result (HeldTalk talk.old.session (λ bytes. C.gave lines.old bytes lines.new) (C.ended lines.new) (λ bytes. O.took out.old bytes out.new)) }
-    ensures err { OnErr result (BrokenTalk talk.old.session (λ bytes. C.gave lines.old bytes lines.new) (λ bytes. O.took out.old bytes out.new)) }
-    ensures device { IfErr result (λ fault. OnFile fault (λ path. ((path ≡ C.place lines.old) × (C.failed lines.old < C.failed lines.new))
+    ensures err { OnErr result (BrokenTalk talk.old.session (λ bytes. C.gave lines.old bytes lines.new) (C.ended lines.new) (λ bytes. O.took out.old bytes out.new)) }
+    ensures device { IfErr result (λ fault. OnFile fault (λ path. ((path ≡ C.place lines.old) × (C.failed lines.old < C.failed lines.new)
+        × WaitingTalk talk.old.session (λ bytes. C.gave lines.old bytes lines.new) (λ bytes. O.took out.old bytes out.new))
         ⊎ ((path ≡ O.place out.old) × (O.failed out.old < O.failed out.new)))) }
     ensures kinds { IfErr result IsDeviceFault }
 {
