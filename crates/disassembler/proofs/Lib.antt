@@ -1,4 +1,5 @@
 pub mod Digits
+pub mod LinesListed
 pub mod Numerals
 pub mod Shown
 pub mod Single

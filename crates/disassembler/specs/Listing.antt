@@ -93,3 +93,8 @@ line_of word = word_text word (decoded word)
 -- and with it
 abbrev pub listed : ℕ → List ℕ
 listed word = line_of word ++ 10 ∷ []
+
+-- the lines of words, one behind the other
+unfoldable pub listing : List ℕ → List ℕ
+listing [] = []
+listing (word ∷ words) = listed word ++ listing words

@@ -1,15 +1,18 @@
 //! The listing of machine words: assembly text, a line for each word.
 //!
 //! [`write_line`] appends the line of a word, whatever the word is: a mnemonic and operands where it
-//! means an instruction, else `.word` and the number (`specs/Listing.antt`). [`laws`] say that such a line,
-//! read as assembly text, gives back what it shows (`specs/Reading.antt`).
+//! means an instruction, else `.word` and the number (`specs/Listing.antt`); [`write_lines`] appends those of
+//! several words. [`laws`] say that such a line, read as assembly text, gives back what it shows
+//! (`specs/Reading.antt`).
 #![tactic(auto)]
 
 pub mod laws;
 mod lines;
+mod listings;
 mod numbers;
 mod operands;
 #[cfg(test)]
 mod tests;
 
 pub use crate::lines::write_line;
+pub use crate::listings::write_lines;

@@ -99,3 +99,14 @@ fn lines_are_appended(rt: HostRuntime) -> Result<(), Fail> {
     assert!(rt; out.as_slice() == b"ecall\n.word 0x00000001\n".as_slice());
     Ok(())
 }
+
+#[test]
+fn words_are_listed_in_order(rt: HostRuntime) -> Result<(), Fail> {
+    let mut out = Vec::new(rt.alloc());
+    write_lines(&[0x0000_02b7, 0xfff2_8293], &mut out)?;
+    write_lines(&[], &mut out)?;
+    write_lines(&[0xfe02_8ce3, 0x0000_0000], &mut out)?;
+    let lines = b"lui x5,0x00000\naddi x5,x5,-1\nbeq x5,x0,-8\n.word 0x00000000\n";
+    assert!(rt; out.as_slice() == lines.as_slice());
+    Ok(())
+}

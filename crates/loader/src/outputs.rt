@@ -51,7 +51,7 @@ impl Output {
     }
 
     /// Whether it is a picture that lies in data of so many bytes.
-    pub(crate) fn lies_in(self, bytes: usize) -> bool
+    pub fn lies_in(self, bytes: usize) -> bool
         ensures { result ≡ is_output bytes self }
     {
         self.is_picture()

@@ -1,0 +1,29 @@
+-- A map from names, seen as a list of pairs.
+use Rattle.std.proofs.Common.{◌≡◌, ℕ, Bool, true, false, cond, List, [], ◌∷◌, ◌++◌, Some, None, Vec, refl, ap}
+use Rattle.std.specs.Str.{bytes_eq}
+use Rattle.std.specs.declared.alloc.Global.{Global}
+use Rattle.std.specs.Map.{lookup as find}
+use Rattle.indexmap.specs.IndexMap.{insert_entry}
+use Rattle.assembler.specs.declared.labels.Label.{Label}
+use Rattle.assembler.specs.Names.{label_named, pairs_of}
+
+abbrev Entries : Type 0
+Entries = List (Vec ℕ Global × Label)
+
+abbrev same : Vec ℕ Global → Vec ℕ Global → Bool
+same a b = bytes_eq a.items b.items
+
+pub found : (name : List ℕ) (entries : Entries) → find (λ key. bytes_eq name key.items) entries ≡ label_named (pairs_of entries) name
+found name [] = refl
+found name (entry ∷ entries) = ap (cond (bytes_eq name entry.0.items) (Some entry.1)) (found name entries)
+
+-- a name that is not there is appended
+pub added : (key : Vec ℕ Global) (label : Label) (entries : Entries) → label_named (pairs_of entries) key.items ≡ None → pairs_of (insert_entry same entries key label) ≡ pairs_of entries ++ (key.items, label) ∷ []
+added key label [] none = refl
+added key label (entry ∷ entries) none = by (added key label entries) (bytes_eq key.items entry.0.items) refl
+  where
+    by : (label_named (pairs_of entries) key.items ≡ None → pairs_of (insert_entry same entries key label) ≡ pairs_of entries ++ (key.items, label) ∷ []) → (b : Bool) → bytes_eq key.items entry.0.items ≡ b → pairs_of (insert_entry same (entry ∷ entries) key label) ≡ pairs_of (entry ∷ entries) ++ (key.items, label) ∷ []
+    by later true is = let found_it : Some entry.1 ≡ None = rw is at none in cc
+    by later false is =
+        let others : label_named (pairs_of entries) key.items ≡ None = rw is at none in
+        rw (is, later others) refl

@@ -1,0 +1,10 @@
+pub mod Building
+pub mod Faults
+pub mod Filling
+pub mod Judging
+pub mod Lines
+pub mod Listings
+pub mod Names
+pub mod Object
+pub mod Places
+pub mod Products

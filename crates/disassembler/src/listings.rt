@@ -1,0 +1,33 @@
+//! The lines of several words.
+
+ghost use Rattle.std.specs.Prelude.{◌≡◌, ℕ, ◌++◌, take, OnOk, OnErr};
+ghost use Rattle.disassembler.specs.Listing.{listing};
+
+use crate::lines::write_line;
+use std::alloc::AllocError;
+
+/// Appends the lines of words, one behind the other. An `Err` says that there was no memory, and leaves what stands in `out` as it was.
+pub fn write_lines(words: &[u32], out: &mut Vec<u8>) -> Result<(), AllocError>
+    ensures appended { OnOk result (out.new.items ≡ out.old.items ++ listing words.now) }
+    ensures unchanged { OnErr result (out.new.items ≡ out.old.items) }
+{
+    let start = out.len();
+    let pushed = push_lines(words, out);
+    if pushed.is_err() {
+        out.truncate(start);
+    }
+    pushed
+}
+
+/// The same, but that after an `Err` the lines of so many first words stand in `out`.
+fn push_lines(words: &[u32], out: &mut Vec<u8>) -> Result<(), AllocError>
+    ensures appended { OnOk result (out.new.items ≡ out.old.items ++ listing words.now) }
+    ensures begun { OnErr result ((count : ℕ) × (out.new.items ≡ out.old.items ++ listing (take count words.now))) }
+{
+    let mut rest = words;
+    while let [word, others @ ..] = rest {
+        write_line(*word, out)?;
+        rest = others;
+    }
+    Ok(())
+}
