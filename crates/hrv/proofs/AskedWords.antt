@@ -8,11 +8,13 @@ use Rattle.clap.specs.Walk.{Row, Text, rows_after}
 use Rattle.clap.specs.Simple.{subcommand_of}
 use Rattle.clap.specs.Kinds.{Kinds}
 use Rattle.clap.specs.Faults.{fault_of}
-use Rattle.hrv.specs.CommandLine.{Asked, Debugs, Draws, IsPlainWord, IsSpelled, Replays, asked_of, debug_of, hrv_app, named, picture_of, replay_of, unless_fault, unmarked}
+use Rattle.hrv.specs.CommandLine.{Asked, Assembles, Debugs, Draws, IsPlainWord, IsSpelled, Lists, Replays, asked_of, asm_of, debug_of, dis_of, hrv_app, named, picture_of, replay_of, unless_fault, unmarked}
 use Rattle.hrv.proofs.Positionals.{ArePlain, marked, none, passes_all, plain, takes_all, unmarked-plain}
-use Rattle.hrv.proofs.Subcommands.{IsName, first_is_name, is_debug, is_picture, is_replay, name_free, name_given, name_passes}
+use Rattle.hrv.proofs.Subcommands.{IsName, first_is_name, is_asm, is_debug, is_dis, is_picture, is_replay, name_free, name_given, name_passes}
 use Rattle.hrv.proofs.ReplayWords as replay
 use Rattle.hrv.proofs.DebugWords as debug
+use Rattle.hrv.proofs.AsmWords as asm
+use Rattle.hrv.proofs.DisWords as dis
 use Rattle.hrv.proofs.PictureWords as picture
 
 -- what words with no fault ask for
@@ -52,6 +54,34 @@ asks_debug words rest e split =
       spelled = ap unmarked split ∙ ap (λ ws. codes "debug" ∷ ws) both.2;
     }
 
+asks_asm : (words rest : List Text) → fault_of hrv_app words ≡ [] → words ≡ codes "asm" ∷ rest → Asks words
+unfolding asm.takes_two
+asks_asm words rest e split =
+    let all = takes_all asm.takes_two rest (name_passes asm.asm_command rest (subst (λ ws. fault_of hrv_app ws ≡ []) split e)) in
+    let both = asm.two_values (unmarked rest) all.1 in
+    record {
+      asked = Assembles both.0 both.1;
+      name = codes "asm";
+      rows = rows_after asm.leaf.rules [] rest;
+      met = ap (subcommand_of hrv_app) split ∙ name_given asm.asm_command rest;
+      asks = ap asm_of all.0 ∙ both.3;
+      spelled = ap unmarked split ∙ ap (λ ws. codes "asm" ∷ ws) both.2;
+    }
+
+asks_dis : (words rest : List Text) → fault_of hrv_app words ≡ [] → words ≡ codes "dis" ∷ rest → Asks words
+unfolding dis.takes_one
+asks_dis words rest e split =
+    let all = takes_all dis.takes_one rest (name_passes dis.dis_command rest (subst (λ ws. fault_of hrv_app ws ≡ []) split e)) in
+    let one = dis.one_value (unmarked rest) all.1 in
+    record {
+      asked = Lists one.0;
+      name = codes "dis";
+      rows = rows_after dis.leaf.rules [] rest;
+      met = ap (subcommand_of hrv_app) split ∙ name_given dis.dis_command rest;
+      asks = ap dis_of all.0 ∙ one.2;
+      spelled = ap unmarked split ∙ ap (λ ws. codes "dis" ∷ ws) one.1;
+    }
+
 asks_picture : (words rest : List Text) → fault_of hrv_app words ≡ [] → words ≡ codes "picture" ∷ rest → Asks words
 unfolding picture.takes_rest
 asks_picture words rest e split =
@@ -74,6 +104,8 @@ words_ask words e =
     by_name : (name : Text) → IsName name → (rest : List Text) → words ≡ name ∷ rest → Asks words
     by_name _ is_replay rest split = asks_replay words rest e split
     by_name _ is_debug rest split = asks_debug words rest e split
+    by_name _ is_asm rest split = asks_asm words rest e split
+    by_name _ is_dis rest split = asks_dis words rest e split
     by_name _ is_picture rest split = asks_picture words rest e split
 
 -- and they name it
@@ -98,7 +130,7 @@ only_spelled words asked is =
     let same : Some found.asked ≡ Some asked = sym (asked_named words pass found) ∙ is in
     subst (IsSpelled words) (ap (λ o. unwrap_or o asked) same) found.spelled
 
--- ---- words that name a replay, a talk or a picture
+-- ---- words that name what is asked for
 
 -- what spelled words ask for
 abbrev asked_in : List Text → Asked
@@ -157,6 +189,61 @@ plain_debug image log image_plain log_plain =
 
 pub marked_debug : (image log : Text) → named (codes "debug" ∷ codes "--" ∷ image ∷ log ∷ []) ≡ Some (Debugs image log)
 marked_debug image log = values_debug (codes "--" ∷ image ∷ log ∷ []) image log (marked (image ∷ log ∷ [])) refl
+
+-- the same for an assembly
+abbrev assembled_in : List Text → Asked
+assembled_in (name ∷ source ∷ image ∷ []) = Assembles source image
+assembled_in _ = Assembles [] []
+
+-- two values, of which those before a first `--` are plain, name an assembly
+pub values_asm : (words : List Text) (source image : Text) → ArePlain words → unmarked words ≡ source ∷ image ∷ []
+    → named (codes "asm" ∷ words) ≡ Some (Assembles source image)
+unfolding asm.takes_two
+values_asm words source image are_plain two =
+    let enough = ap asm.takes_two.is_enough two in
+    let free = passes_all asm.takes_two words are_plain enough in
+    let pass = name_free asm.asm_command words free in
+    let all = takes_all asm.takes_two words free in
+    let both = asm.two_values (unmarked words) enough in
+    let rows = ap asm_of all.0 ∙ both.3 in
+    let same : assembled_in (codes "asm" ∷ both.0 ∷ both.1 ∷ []) ≡ assembled_in (codes "asm" ∷ source ∷ image ∷ []) =
+    ap (λ ws. assembled_in (codes "asm" ∷ ws)) (sym both.2 ∙ two) in
+    ap (λ kinds. unless_fault kinds (option_and_then asked_of (subcommand_of hrv_app (codes "asm" ∷ words)))) pass
+    ∙ ap (option_and_then asked_of) (name_given asm.asm_command words) ∙ rows ∙ ap (λ a. Some a) same
+
+pub plain_asm : (source image : Text) → IsPlainWord source → IsPlainWord image → named (codes "asm" ∷ source ∷ image ∷ []) ≡ Some (Assembles source image)
+plain_asm source image source_plain image_plain =
+    let two = unmarked-plain source (image ∷ []) source_plain ∙ ap (λ ws. source ∷ ws) (unmarked-plain image [] image_plain) in
+    values_asm (source ∷ image ∷ []) source image (plain source_plain (plain image_plain none)) two
+
+pub marked_asm : (source image : Text) → named (codes "asm" ∷ codes "--" ∷ source ∷ image ∷ []) ≡ Some (Assembles source image)
+marked_asm source image = values_asm (codes "--" ∷ source ∷ image ∷ []) source image (marked (source ∷ image ∷ [])) refl
+
+-- and for a listing
+abbrev listed_in : List Text → Asked
+listed_in (image ∷ []) = Lists image
+listed_in _ = Lists []
+
+-- one value, which is plain where no `--` stands before it, names a listing
+pub values_dis : (words : List Text) (image : Text) → ArePlain words → unmarked words ≡ image ∷ []
+    → named (codes "dis" ∷ words) ≡ Some (Lists image)
+unfolding dis.takes_one
+values_dis words image are_plain is_one =
+    let enough = ap dis.takes_one.is_enough is_one in
+    let free = passes_all dis.takes_one words are_plain enough in
+    let pass = name_free dis.dis_command words free in
+    let all = takes_all dis.takes_one words free in
+    let one = dis.one_value (unmarked words) enough in
+    let rows = ap dis_of all.0 ∙ one.2 in
+    let same : listed_in (one.0 ∷ []) ≡ listed_in (image ∷ []) = ap listed_in (sym one.1 ∙ is_one) in
+    ap (λ kinds. unless_fault kinds (option_and_then asked_of (subcommand_of hrv_app (codes "dis" ∷ words)))) pass
+    ∙ ap (option_and_then asked_of) (name_given dis.dis_command words) ∙ rows ∙ ap (λ a. Some a) same
+
+pub plain_dis : (image : Text) → IsPlainWord image → named (codes "dis" ∷ image ∷ []) ≡ Some (Lists image)
+plain_dis image image_plain = values_dis (image ∷ []) image (plain image_plain none) (unmarked-plain image [] image_plain)
+
+pub marked_dis : (image : Text) → named (codes "dis" ∷ codes "--" ∷ image ∷ []) ≡ Some (Lists image)
+marked_dis image = values_dis (codes "--" ∷ image ∷ []) image (marked (image ∷ [])) refl
 
 abbrev drawn_in : List Text → Asked
 drawn_in (algorithm ∷ inputs) = Draws algorithm inputs

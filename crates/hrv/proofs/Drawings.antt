@@ -1,5 +1,5 @@
 -- The pictures of texts, one after the other.
-use Rattle.std.proofs.Common.{◌≡◌, ◌∙◌, ℕ, refl, sym, ap, subst, append_assoc, List, [], ◌∷◌, ◌++◌}
+use Rattle.std.proofs.Common.{◌≡◌, ℕ, refl, sym, ap, subst, append_assoc, List, [], ◌∷◌, ◌++◌}
 use Rattle.std.specs.Prelude.{Result, Ok, Err, take}
 use Rattle.std.specs.declared.alloc.Global.{Global}
 use Rattle.hrv.specs.Drawing.{BeganDrawing, Drew, IsDrawing}

@@ -1,10 +1,10 @@
 -- The words of a command whose only option is `--help`, and what `clap` finds wrong with them.
-use Rattle.std.proofs.Common.{◌≡◌, ◌∙◌, ◌||◌, ℕ, Bool, cond, codes, true, false, ne_eqb, refl, ap, subst, List, [], ◌∷◌, length, Option, Some, None}
+use Rattle.std.proofs.Common.{◌≡◌, ◌||◌, ℕ, Bool, cond, codes, true, false, ne_eqb, refl, ap, subst, List, [], ◌∷◌, length, Option, Some, None}
 use Rattle.std.specs.Prelude.{◌==◌, ◌&&◌, option_and_then, drop, encode_utf8, slice_get}
 use Rattle.std.specs.Option.{option_map_or}
 use Rattle.std.specs.Str.{bytes_eq, chars}
 use Rattle.clap.specs.Lexer.{long_of, long_of_rest, short_of, short_of_rest, strip_byte}
-use Rattle.clap.specs.Walk.{Held, after_flag, bundle_met, bundle_step, long_or_other, plain, reacted, short_or_plain, Names, Row, Rule, Text, Step, Waiting, idle, positional, plain_word, value, arg_by_long, arg_by_short, subcommand_met, trailing, word_met}
+use Rattle.clap.specs.Walk.{Held, after_flag, bundle_met, bundle_step, long_or_other, plain, reacted, short_or_plain, Names, Row, Rule, Text, Waiting, idle, positional, plain_word, value, arg_by_long, arg_by_short, subcommand_met, trailing, word_met}
 use Rattle.clap.specs.Simple.{Shape, filled, help_rule}
 use Rattle.clap.specs.Kinds.{Kinds, or_else}
 use Rattle.clap.specs.declared.error.ErrorKind.{ErrorKind}

@@ -1,5 +1,7 @@
 mod AskedWords
+mod AsmWords
 mod DebugWords
+mod DisWords
 pub mod Drawings
 mod HelpOnly
 pub mod Numbers

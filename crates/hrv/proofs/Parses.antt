@@ -27,7 +27,7 @@ use Rattle.hrv.specs.Refusals.{fault_for}
 use Rattle.hrv.specs.declared.command_lines.Invocation.{Invocation}
 use Rattle.hrv.specs.declared.faults.Fault.{Fault}
 use Rattle.hrv.specs.declared.faults.Fault.TheVariants.{CommandLine, Memory}
-use Rattle.hrv.specs.CommandLine.{Asked, Debugs, Draws, IsRefusal, IsSpelled, Makes, Replays, asked_of, debug_of, hrv_app, named, picture_of, replay_of}
+use Rattle.hrv.specs.CommandLine.{Asked, Assembles, Debugs, Draws, IsRefusal, IsSpelled, Lists, Makes, Replays, asked_of, asm_of, debug_of, dis_of, hrv_app, named, picture_of, replay_of}
 use Rattle.hrv.proofs.AskedWords.{Asks, asked_named, fault_of-named, words_ask}
 
 -- the program's command is one that `clap` gives the matches and the faults of
@@ -86,6 +86,25 @@ debug_given rows some = both_given Debugs (first_of (codes "IMAGE") rows) (first
 pub debug_read : (rows : List Row) (image log : Text) → first_of (codes "IMAGE") rows ≡ Some image
     → first_of (codes "LOG") rows ≡ Some log → debug_of rows ≡ Some (Debugs image log)
 debug_read rows image log first second = ap₂ (λ i l. option_and_then (λ x. option_map (λ y. Debugs x y) l) i) first second
+
+-- and those of an assembly
+pub asm_given : (rows : List Row) → IsSome (asm_of rows) → IsSome (first_of (codes "SOURCE") rows) × IsSome (first_of (codes "IMAGE") rows)
+asm_given rows some = both_given Assembles (first_of (codes "SOURCE") rows) (first_of (codes "IMAGE") rows) some
+
+pub asm_read : (rows : List Row) (source image : Text) → first_of (codes "SOURCE") rows ≡ Some source
+    → first_of (codes "IMAGE") rows ≡ Some image → asm_of rows ≡ Some (Assembles source image)
+asm_read rows source image first second = ap₂ (λ s i. option_and_then (λ x. option_map (λ y. Assembles x y) i) s) first second
+
+-- the image of a listing is there
+image_given : (image : Option Text) → IsSome (option_map (λ i. Lists i) image) → IsSome image
+image_given None e = absurd (true≢false (sym e))
+image_given (Some i) e = refl
+
+pub dis_given : (rows : List Row) → IsSome (dis_of rows) → IsSome (first_of (codes "IMAGE") rows)
+dis_given rows some = image_given (first_of (codes "IMAGE") rows) some
+
+pub dis_read : (rows : List Row) (image : Text) → first_of (codes "IMAGE") rows ≡ Some image → dis_of rows ≡ Some (Lists image)
+dis_read rows image first = ap (option_map (λ x. Lists x)) first
 
 first_given : (inputs : List Text) (algorithm : Option Text) → IsSome (option_map (λ a. Draws a inputs) algorithm) → IsSome algorithm
 first_given inputs None e = absurd (true≢false (sym e))

@@ -1,12 +1,12 @@
 -- The words that `clap` takes for a picture.
-use Rattle.std.proofs.Common.{◌≡◌, ◌∙◌, ℕ, arith, Bool, codes, true, false, true≢false, refl, sym, ap, ap₂, List, [], ◌∷◌, ◌++◌, length, Option, Some, None}
+use Rattle.std.proofs.Common.{◌≡◌, ℕ, arith, Bool, codes, true, false, true≢false, refl, sym, List, [], ◌∷◌, ◌++◌, length, Option, Some, None}
 use Rattle.std.specs.Prelude.{not, nat_lt}
 use Rattle.std.proofs.lemmas.Bool.{le-ltb}
 use Rattle.clap.proofs.OnLiterals.{clap_on_literals}
 use Rattle.clap.specs.Lexer.{usize_max}
 use Rattle.clap.specs.Walk.{Held, Row, Text, Waiting, arg_by_index, finished, idle, positional, to_positional, value}
 use Rattle.clap.specs.Simple.{Shape, built_leaf, inherited, marked_built, with_leaf_noted}
-use Rattle.clap.specs.Kinds.{or_else, values_kinds}
+use Rattle.clap.specs.Kinds.{values_kinds}
 use Rattle.clap.specs.Faults.{step_fault}
 use Rattle.clap.specs.declared.builder.value_parser.Reading.TheVariants.{AsWritten}
 use Rattle.clap.specs.declared.builder.value_parser.ValueParser.TheVariants as parser

@@ -1,9 +1,9 @@
 -- What a fault that names a path says, and what is known of bytes that are not taken as a text.
-use Rattle.std.proofs.Common.{◌≡◌, ◌∙◌, false, true, true≢false, List, ℕ, subst, sym}
+use Rattle.std.proofs.Common.{◌≡◌, false, true, true≢false, List, ℕ, subst, sym}
 use Rattle.std.specs.Prelude.{Err, IfErr, IsErrAnd, IsOk, Ok, OnErr, OnOk, Result}
 use Rattle.std.specs.Str.{IsUtf8}
 use Rattle.hrv.specs.declared.faults.Fault.{Fault}
-use Rattle.hrv.specs.declared.faults.Fault.TheVariants.{CommandLine, NotText, Load, Log, Parse, Picture, Input, File, Memory}
+use Rattle.hrv.specs.declared.faults.Fault.TheVariants.{CommandLine, NotText, Load, Log, Asm, Parse, Picture, Input, File, Memory}
 use Rattle.hrv.specs.Faults.{OnFile}
 
 -- a fact of the path that gives another
@@ -12,6 +12,7 @@ on_file (CommandLine error) P Q f p = tt
 on_file NotText P Q f p = tt
 on_file (Load fault) P Q f p = tt
 on_file (Log fault) P Q f p = tt
+on_file (Asm line fault) P Q f p = tt
 on_file (Parse line fault) P Q f p = tt
 on_file (Picture fault) P Q f p = tt
 on_file (Input fault) P Q f p = tt

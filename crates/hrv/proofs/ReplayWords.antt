@@ -1,9 +1,9 @@
 -- The words that `clap` takes for a replay.
-use Rattle.std.proofs.Common.{◌≡◌, ◌∙◌, ℕ, Bool, codes, true, false, true≢false, refl, sym, ap, List, [], ◌∷◌, ◌++◌, Option, Some, None}
+use Rattle.std.proofs.Common.{◌≡◌, ℕ, Bool, codes, true, false, true≢false, refl, sym, List, [], ◌∷◌, ◌++◌, Option, Some, None}
 use Rattle.clap.proofs.OnLiterals.{clap_on_literals}
-use Rattle.clap.specs.Walk.{Held, Row, Text, Waiting, arg_by_index, finished, idle, nothing_held, to_positional, value}
+use Rattle.clap.specs.Walk.{Held, Row, Text, arg_by_index, finished, idle, to_positional, value}
 use Rattle.clap.specs.Simple.{Shape, built_leaf, inherited, marked_built, with_leaf_noted}
-use Rattle.clap.specs.Faults.{fault_of, level_fault, step_fault}
+use Rattle.clap.specs.Faults.{step_fault}
 use Rattle.clap.specs.declared.builder.value_parser.Reading.TheVariants.{AsWritten}
 use Rattle.clap.specs.declared.parser.matches.ValueSource.TheVariants.{CommandLine}
 use Rattle.clap.specs.declared.error.ErrorKind.TheVariants as kind

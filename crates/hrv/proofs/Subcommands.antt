@@ -19,6 +19,8 @@ app = built hrv_app
 pub data IsName : Text → Type 0 where
   is_replay : IsName (codes "replay")
   is_debug : IsName (codes "debug")
+  is_asm : IsName (codes "asm")
+  is_dis : IsName (codes "dis")
   is_picture : IsName (codes "picture")
 
 -- past the subcommand, the words are its own
@@ -86,18 +88,30 @@ first_is_name (word ∷ rest) e = by_replay (bytes_eq (codes "replay") word) ref
     by_mark false mark unnamed = absurd (stray word unnamed mark first)
 
     by_help : (b : Bool) → bytes_eq (codes "help") word ≡ b → bytes_eq (codes "replay") word ≡ false → bytes_eq (codes "debug") word ≡ false
-        → bytes_eq (codes "picture") word ≡ false → Named (word ∷ rest)
-    by_help true help no_replay no_debug no_picture = absurd (some_fault _ _ (rw (no_replay, no_debug, no_picture, help) at first))
-    by_help false help no_replay no_debug no_picture = by_mark (bytes_eq word (codes "--")) refl (rw (no_replay, no_debug, no_picture, help) refl)
+        → bytes_eq (codes "asm") word ≡ false → bytes_eq (codes "dis") word ≡ false → bytes_eq (codes "picture") word ≡ false → Named (word ∷ rest)
+    by_help true help no_replay no_debug no_asm no_dis no_picture =
+        absurd (some_fault _ _ (rw (no_replay, no_debug, no_asm, no_dis, no_picture, help) at first))
+    by_help false help no_replay no_debug no_asm no_dis no_picture =
+        by_mark (bytes_eq word (codes "--")) refl (rw (no_replay, no_debug, no_asm, no_dis, no_picture, help) refl)
 
     by_picture : (b : Bool) → bytes_eq (codes "picture") word ≡ b → bytes_eq (codes "replay") word ≡ false → bytes_eq (codes "debug") word ≡ false
+        → bytes_eq (codes "asm") word ≡ false → bytes_eq (codes "dis") word ≡ false → Named (word ∷ rest)
+    by_picture true same no_replay no_debug no_asm no_dis = begins word rest (codes "picture") is_picture same
+    by_picture false other no_replay no_debug no_asm no_dis = by_help (bytes_eq (codes "help") word) refl no_replay no_debug no_asm no_dis other
+
+    by_dis : (b : Bool) → bytes_eq (codes "dis") word ≡ b → bytes_eq (codes "replay") word ≡ false → bytes_eq (codes "debug") word ≡ false
+        → bytes_eq (codes "asm") word ≡ false → Named (word ∷ rest)
+    by_dis true same no_replay no_debug no_asm = begins word rest (codes "dis") is_dis same
+    by_dis false other no_replay no_debug no_asm = by_picture (bytes_eq (codes "picture") word) refl no_replay no_debug no_asm other
+
+    by_asm : (b : Bool) → bytes_eq (codes "asm") word ≡ b → bytes_eq (codes "replay") word ≡ false → bytes_eq (codes "debug") word ≡ false
         → Named (word ∷ rest)
-    by_picture true same no_replay no_debug = begins word rest (codes "picture") is_picture same
-    by_picture false other no_replay no_debug = by_help (bytes_eq (codes "help") word) refl no_replay no_debug other
+    by_asm true same no_replay no_debug = begins word rest (codes "asm") is_asm same
+    by_asm false other no_replay no_debug = by_dis (bytes_eq (codes "dis") word) refl no_replay no_debug other
 
     by_debug : (b : Bool) → bytes_eq (codes "debug") word ≡ b → bytes_eq (codes "replay") word ≡ false → Named (word ∷ rest)
     by_debug true same no_replay = begins word rest (codes "debug") is_debug same
-    by_debug false other no_replay = by_picture (bytes_eq (codes "picture") word) refl no_replay other
+    by_debug false other no_replay = by_asm (bytes_eq (codes "asm") word) refl no_replay other
 
     by_replay : (b : Bool) → bytes_eq (codes "replay") word ≡ b → Named (word ∷ rest)
     by_replay true same = begins word rest (codes "replay") is_replay same

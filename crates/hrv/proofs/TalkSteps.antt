@@ -1,6 +1,7 @@
 -- A talk goes on line by line.
 use Rattle.std.proofs.Common.{◌≡◌, ◌≢◌, ℕ, Bool, true, false, cond, List, [], ◌∷◌, ◌++◌, length, take, drop, refl, sym, ap, subst, ◌∙◌, append_assoc, take-append-drop, true≢false, inl, inr}
-use Rattle.std.specs.Prelude.{Result, Ok, Err, OnErr}
+use Rattle.std.specs.Prelude.{Result, Ok, Err, OnErr, IfErr}
+use Rattle.std.specs.Result.{IsErrAnd}
 use Rattle.std.proofs.lemmas.List.{append-nil}
 use Rattle.line_text.specs.Lines.{IsLine, lines_of}
 use Rattle.debugger.specs.Places.{SessionState}
@@ -147,11 +148,10 @@ pub piece_over : (s now : SessionState) (gave gave' took took' : List ℕ → Ty
     → HeldTalk s gave' ended took'
 piece_over s now gave gave' took took' ended left piece text so more_given more_sent over =
     let whole : talk now (left ++ piece) ≡ text = ap (λ p. talk now (left ++ p)) (sym (append-nil piece)) ∙ over.answered [] in
-    let last : talk_ends now (left ++ piece) ≡ true = ap (λ p. talk_ends now (left ++ p)) (sym (append-nil piece)) ∙ over.ended [] in
     record {
       lines = so.given ++ piece;
       given = more_given so.given so.is_given;
-      to_the_end = inr (so.goes_on.lasts piece ∙ last);
+      to_the_end = inr (λ more. ap (talk_ends s) (append_assoc so.given piece more) ∙ so.goes_on.lasts (piece ++ more) ∙ over.ended more);
       taken = subst took' (sym (so_far s now gave took left piece so ∙ ap (λ t. so.sent ++ t) whole)) (more_sent so.sent so.is_sent);
     }
 
@@ -222,10 +222,12 @@ end_part_sent s now gave gave' ended took took' left piece text so more_given pa
       sent = so.sent ++ take part.0 text;
       given = more_given so.given so.is_given;
       taken = part.1 so.sent so.is_sent;
-      begins = inr (is_end,
-          front_and_more (talk s (so.given ++ piece)) (so.sent ++ take part.0 text) (drop part.0 text)
-          (so_far s now gave took left piece so ∙ ap (λ t. so.sent ++ t) (whole ∙ sym (take-append-drop part.0 text))
-          ∙ sym (append_assoc so.sent (take part.0 text) (drop part.0 text))));
+      begins = inr (
+        is_end,
+        front_and_more (talk s (so.given ++ piece)) (so.sent ++ take part.0 text) (drop part.0 text)
+            (so_far s now gave took left piece so ∙ ap (λ t. so.sent ++ t) (whole ∙ sym (take-append-drop part.0 text))
+            ∙ sym (append_assoc so.sent (take part.0 text) (drop part.0 text))),
+      );
     }
 
 -- the source failed: nothing more was given
@@ -272,8 +274,27 @@ on_file (f.CommandLine error) P Q h p = tt
 on_file f.NotText P Q h p = tt
 on_file (f.Load fault) P Q h p = tt
 on_file (f.Log fault) P Q h p = tt
+on_file (f.Asm line fault) P Q h p = tt
 on_file (f.Parse line fault) P Q h p = tt
 on_file (f.Picture fault) P Q h p = tt
 on_file (f.Input fault) P Q h p = tt
 on_file (f.File path) P Q h p = h (string_bytes path) p
 on_file f.Memory P Q h p = tt
+
+-- ---- faults
+
+pub err_of : {X E : Type 0} (r : Result X E) (e : E) (P : Type 0) → OnErr r P → r ≡ Err e → P
+err_of (Ok x) e P p is = absurd cc
+err_of (Err f) e P p is = p
+
+-- what holds of a fault that is passed on
+pub file_passed : {X : Type 0} (r : Result X Fault) (fault : Fault) (P Q : List ℕ → Type 0) → IsErrAnd r (λ e. e ≡ fault) → ((path : List ℕ) → P path → Q path) → OnFile fault P
+    → IfErr r (λ e. OnFile e Q)
+file_passed (Ok x) fault P Q is h p = tt
+file_passed (Err e) fault P Q is h p = on_file e P Q h (subst (λ (x : Fault). OnFile x P) (sym is) p)
+
+-- and with what holds of any fault
+pub file_and : {X : Type 0} (r : Result X Fault) (P Q : List ℕ → Type 0) (R : Type 0) → OnErr r R → (R → (path : List ℕ) → P path → Q path) → IfErr r (λ e. OnFile e P)
+    → IfErr r (λ e. OnFile e Q)
+file_and (Ok x) P Q R holds h p = tt
+file_and (Err e) P Q R holds h p = on_file e P Q (h holds) p

@@ -11,7 +11,7 @@ use Rattle.clap.specs.declared.builder.command.Command.{Command}
 use Rattle.clap.specs.declared.builder.command.Command.TheViews.{out-Command}
 use Rattle.clap.specs.declared.error.Error.{Error}
 use Rattle.hrv.specs.declared.command_lines.Invocation.{Invocation}
-use Rattle.hrv.specs.declared.command_lines.Invocation.TheVariants.{Debug, Picture, Replay}
+use Rattle.hrv.specs.declared.command_lines.Invocation.TheVariants.{Asm, Debug, Dis, Picture, Replay}
 use Rattle.hrv.specs.declared.faults.Fault.{Fault}
 use Rattle.hrv.specs.declared.faults.Fault.TheVariants.{CommandLine, Memory}
 
@@ -19,11 +19,15 @@ use Rattle.hrv.specs.declared.faults.Fault.TheVariants.{CommandLine, Memory}
 pub data Asked : Type 0 where
   Replays : (image log : List ℕ) → Asked
   Debugs : (image log : List ℕ) → Asked
+  Assembles : (source image : List ℕ) → Asked
+  Lists : (image : List ℕ) → Asked
   Draws : (algorithm : List ℕ) → (inputs : List (List ℕ)) → Asked
 
 abbrev pub asked_by : Invocation → Asked
 asked_by (Replay image log) = Replays image.now log.now
 asked_by (Debug image log) = Debugs image.now log.now
+asked_by (Asm source image) = Assembles source.now image.now
+asked_by (Dis image) = Lists image.now
 asked_by (Picture algorithm inputs) = Draws algorithm.now (texts inputs.items)
 
 -- ---- the program's command
@@ -46,6 +50,15 @@ abbrev pub debug_app : App
 debug_app = with_rule (with_rule (new_app (codes "debug")) (required_rule (codes "IMAGE")))
     (required_rule (codes "LOG"))
 
+-- `asm SOURCE IMAGE`
+abbrev pub asm_app : App
+asm_app = with_rule (with_rule (new_app (codes "asm")) (required_rule (codes "SOURCE")))
+    (required_rule (codes "IMAGE"))
+
+-- `dis IMAGE`
+abbrev pub dis_app : App
+dis_app = with_rule (new_app (codes "dis")) (required_rule (codes "IMAGE"))
+
 -- `picture ALGORITHM [INPUT..]`
 abbrev pub picture_app : App
 picture_app = with_rule (with_rule (new_app (codes "picture")) (required_rule (codes "ALGORITHM")))
@@ -59,8 +72,12 @@ bare_app = on_top (λ s. record s { no_binary_name = true; subcommand_required =
 abbrev pub log_app : App
 log_app = with_subcommand (with_subcommand bare_app replay_app.top) debug_app.top
 
+-- and with those that take an assembly text or an image alone
+abbrev pub text_app : App
+text_app = with_subcommand (with_subcommand log_app asm_app.top) dis_app.top
+
 abbrev pub hrv_app : App
-hrv_app = with_subcommand log_app picture_app.top
+hrv_app = with_subcommand text_app picture_app.top
 
 -- the command is the one that is described, and no argument of it is another command's too
 pub record Makes (wanted : App) (command : Command) : Type 0 where
@@ -77,6 +94,13 @@ abbrev pub debug_of : List Row → Option Asked
 debug_of given = option_and_then (λ image. option_map (λ log. Debugs image log)
     (first_of (codes "LOG") given)) (first_of (codes "IMAGE") given)
 
+abbrev pub asm_of : List Row → Option Asked
+asm_of given = option_and_then (λ source. option_map (λ image. Assembles source image)
+    (first_of (codes "IMAGE") given)) (first_of (codes "SOURCE") given)
+
+abbrev pub dis_of : List Row → Option Asked
+dis_of given = option_map (λ image. Lists image) (first_of (codes "IMAGE") given)
+
 -- an argument that takes the words left over has no row where there are none
 abbrev pub picture_of : List Row → Option Asked
 picture_of given = option_map (λ algorithm. Draws algorithm (unwrap_or (all_of (codes "INPUT") given) []))
@@ -86,7 +110,9 @@ picture_of given = option_map (λ algorithm. Draws algorithm (unwrap_or (all_of 
 abbrev pub asked_of : Text × List Row → Option Asked
 asked_of met = if bytes_eq met.0 (codes "replay") then replay_of met.1
     else (if bytes_eq met.0 (codes "debug") then debug_of met.1
-    else (if bytes_eq met.0 (codes "picture") then picture_of met.1 else None))
+    else (if bytes_eq met.0 (codes "asm") then asm_of met.1
+    else (if bytes_eq met.0 (codes "dis") then dis_of met.1
+    else (if bytes_eq met.0 (codes "picture") then picture_of met.1 else None))))
 
 -- nothing, where there is a fault
 abbrev pub unless_fault : Kinds → Option Asked → Option Asked
@@ -119,4 +145,6 @@ IsPlainWord _ = Unit {0}
 abbrev pub IsSpelled : List Text → Asked → Type 0
 IsSpelled words (Replays image log) = unmarked words ≡ codes "replay" ∷ image ∷ log ∷ []
 IsSpelled words (Debugs image log) = unmarked words ≡ codes "debug" ∷ image ∷ log ∷ []
+IsSpelled words (Assembles source image) = unmarked words ≡ codes "asm" ∷ source ∷ image ∷ []
+IsSpelled words (Lists image) = unmarked words ≡ codes "dis" ∷ image ∷ []
 IsSpelled words (Draws algorithm inputs) = unmarked words ≡ codes "picture" ∷ algorithm ∷ inputs

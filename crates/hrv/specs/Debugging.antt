@@ -1,6 +1,6 @@
 -- What the program makes of an image, a log and lines of commands: the talk over the session of the image and the log, or the first
 -- refusal. This project's own.
-use Rattle.std.specs.Prelude.{◌≡◌, ◌⊎◌, ℕ, true, List, [], Result, Ok, Err}
+use Rattle.std.specs.Prelude.{◌≡◌, ◌⊎◌, ℕ, List, [], Result, Ok, Err}
 use Rattle.turn_log.specs.TurnLog.{LogState}
 use Rattle.turn_log.specs.LogSpelling.{log_of}
 use Rattle.turn_log.specs.declared.log_faults.LogFault.{LogFault}
@@ -9,8 +9,8 @@ use Rattle.loader.specs.Spelling.{image_of}
 use Rattle.loader.specs.declared.faults.LoadFault.{LoadFault}
 use Rattle.debugger.specs.Places.{SessionState, opened}
 use Rattle.hrv.specs.Faults.{Refusal, RefusedLoad, RefusedLog}
-use Rattle.hrv.specs.Talk.{talk, talk_ends}
-use Rattle.hrv.specs.TalkSoFar.{BrokenTalk, WaitingTalk}
+use Rattle.hrv.specs.Talk.{talk}
+use Rattle.hrv.specs.TalkSoFar.{BrokenTalk, EndsIn, WaitingTalk}
 
 abbrev pub with_log : ImageContents → Result LogState LogFault → Result SessionState Refusal
 with_log image (Ok log) = Ok (opened image log)
@@ -37,7 +37,7 @@ pub record Talked (image_gave log_gave lines_gave : List ℕ → Type 0) (lines_
   pub log_given : log_gave log
   pub lines_given : lines_gave lines
   pub opens : session_of image log ≡ Ok session
-  pub to_the_end : lines_ended ⊎ (talk_ends session lines ≡ true)
+  pub to_the_end : lines_ended ⊎ EndsIn session lines
   pub taken : took (talk session lines)
 
 -- The files gave all that they had, which is refused so, and the sink took nothing.

@@ -1,9 +1,11 @@
+pub mod Assembling
 pub mod CommandLine
 pub mod Commands
 pub mod Debugging
 pub mod Drawing
 pub mod Dump
 pub mod Faults
+pub mod Listing
 pub mod Refusals
 pub mod Replay
 pub mod Talk

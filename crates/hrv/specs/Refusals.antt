@@ -1,7 +1,7 @@
 -- A lower crate's fault as the program's: want of memory is one fault for all.
 -- This project's own.
 use Rattle.hrv.specs.declared.faults.Fault.{Fault}
-use Rattle.hrv.specs.declared.faults.Fault.TheVariants.{CommandLine, Load, Log, Parse, Picture, Input, Memory}
+use Rattle.hrv.specs.declared.faults.Fault.TheVariants.{CommandLine, Load, Log, Asm, Parse, Picture, Input, Memory}
 use Rattle.clap.specs.declared.error.Error.{Error}
 use Rattle.clap.specs.declared.error.kind.ErrorKind.{ErrorKind}
 use Rattle.clap.specs.declared.error.kind.ErrorKind.TheVariants as kinds
@@ -13,6 +13,7 @@ use Rattle.line_text.specs.declared.read_errors.LocatedError.{LocatedError}
 use Rattle.line_text.specs.declared.read_errors.LocatedError.TheVariants as located
 use Rattle.line_text.specs.declared.read_errors.ReadError.{ReadError}
 use Rattle.line_text.specs.declared.read_errors.ReadError.TheVariants as read
+use Rattle.assembler.specs.declared.faults.AsmFault.{AsmFault}
 use Rattle.halide_syntax.specs.declared.faults.ParseFault.{ParseFault}
 use Rattle.picture.specs.declared.faults.PictureFault.{PictureFault}
 use Rattle.picture.specs.declared.faults.EvalError.{EvalError}
@@ -25,6 +26,10 @@ fault_of_load fault = Load fault
 abbrev pub fault_of_log : LogFault → Fault
 fault_of_log log.OutOfMemory = Memory
 fault_of_log fault = Log fault
+
+abbrev pub fault_of_asm : LocatedError AsmFault → Fault
+fault_of_asm located.Memory = Memory
+fault_of_asm (located.Fault line fault) = Asm line fault
 
 abbrev pub fault_of_parse : LocatedError ParseFault → Fault
 fault_of_parse located.Memory = Memory

@@ -32,11 +32,15 @@ pub record SoFar (session : SessionState) (gave took : List ℕ → Type 0) (new
   pub is_sent : took sent
   pub goes_on : GoesOn session [] given new left [] [] sent
 
+-- a line of these that a line feed ended ends the talk: it does so whatever follows
+abbrev pub EndsIn : SessionState → List ℕ → Type 0
+EndsIn session lines = (more : List ℕ) → talk_ends session (lines ++ more) ≡ true
+
 -- The lines gave these bytes, up to their end or to a line that ends the talk, and the sink took the talk on them and nothing else.
 pub record HeldTalk (session : SessionState) (gave : List ℕ → Type 0) (ended : Type 0) (took : List ℕ → Type 0) : Type 0 where
   pub lines : List ℕ
   pub given : gave lines
-  pub to_the_end : ended ⊎ (talk_ends session lines ≡ true)
+  pub to_the_end : ended ⊎ EndsIn session lines
   pub taken : took (talk session lines)
 
 -- The bytes are a beginning of the talk on these lines, and stay one whatever the lines go on with.

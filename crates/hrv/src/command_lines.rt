@@ -4,8 +4,8 @@ ghost use Rattle.std.specs.List.{AllByRecursion};
 ghost use Rattle.clap.specs.Lexer.{usize_max};
 ghost use Rattle.clap.specs.Words.{all_of, found_of, rows_of, rule_of};
 ghost use Rattle.clap.specs.Walk.{texts};
-ghost use Rattle.hrv.specs.CommandLine.{Asked, Debugs, Draws, IsPlainWord, IsRefusal, IsSpelled, Makes, Replays};
-ghost use Rattle.hrv.specs.CommandLine.{asked_by, asked_of, debug_app, debug_of, hrv_app, log_app, named, picture_app, picture_of, replay_app, replay_of, rest_rule};
+ghost use Rattle.hrv.specs.CommandLine.{Asked, Assembles, Debugs, Draws, IsPlainWord, IsRefusal, IsSpelled, Lists, Makes, Replays};
+ghost use Rattle.hrv.specs.CommandLine.{asked_by, asked_of, asm_app, asm_of, debug_app, debug_of, dis_app, dis_of, hrv_app, log_app, named, picture_app, picture_of, replay_app, replay_of, rest_rule, text_app};
 
 use crate::faults::Fault;
 use clap::{Arg, ArgMatches, Command};
@@ -14,6 +14,15 @@ use std::alloc::{AllocError, Global};
 /// What the words of a command line ask for.
 #[derive(Debug, Drop)]
 pub enum Invocation<'a> {
+    /// `asm SOURCE IMAGE`
+    Asm {
+        source: &'a str,
+        image: &'a str,
+    },
+    /// `dis IMAGE`
+    Dis {
+        image: &'a str,
+    },
     /// `replay IMAGE LOG`
     Replay {
         image: &'a str,
@@ -59,6 +68,8 @@ fn asked_for<'a>(
     match name {
         "replay" => Ok(replay_asked(given)),
         "debug" => Ok(debug_asked(given)),
+        "asm" => Ok(asm_asked(given)),
+        "dis" => Ok(dis_asked(given)),
         "picture" => picture_asked(alloc, given),
         _ => unreachable!(),
     }
@@ -83,6 +94,25 @@ fn debug_asked<'a>(given: &ArgMatches<'a>) -> Invocation<'a>
     let image = given.get_str("IMAGE").unwrap();
     let log = given.get_str("LOG").unwrap();
     Invocation::Debug { image, log }
+}
+
+// What the arguments of `asm` ask for.
+fn asm_asked<'a>(given: &ArgMatches<'a>) -> Invocation<'a>
+    requires { IsSome (asm_of (rows_of (found_of given.now))) }
+    ensures { asm_of (rows_of (found_of given.now)) ≡ Some (asked_by result) }
+{
+    let source = given.get_str("SOURCE").unwrap();
+    let image = given.get_str("IMAGE").unwrap();
+    Invocation::Asm { source, image }
+}
+
+// What the argument of `dis` asks for.
+fn dis_asked<'a>(given: &ArgMatches<'a>) -> Invocation<'a>
+    requires { IsSome (dis_of (rows_of (found_of given.now))) }
+    ensures { dis_of (rows_of (found_of given.now)) ≡ Some (asked_by result) }
+{
+    let image = given.get_str("IMAGE").unwrap();
+    Invocation::Dis { image }
 }
 
 // What the arguments of `picture` ask for.
@@ -123,6 +153,20 @@ pub fn debug_is_named()
         → named (codes "debug" ∷ codes "--" ∷ image ∷ log ∷ []) ≡ Some (Debugs image log) }
 {}
 
+/// Which words name an assembly: `asm` and two names, after `--` where one begins with `-`.
+pub fn asm_is_named()
+    ensures plain { (source image : List ℕ) → IsPlainWord source → IsPlainWord image
+        → named (codes "asm" ∷ source ∷ image ∷ []) ≡ Some (Assembles source image) }
+    ensures marked { (source image : List ℕ)
+        → named (codes "asm" ∷ codes "--" ∷ source ∷ image ∷ []) ≡ Some (Assembles source image) }
+{}
+
+/// Which words name a listing: `dis` and a name, after `--` where it begins with `-`.
+pub fn dis_is_named()
+    ensures plain { (image : List ℕ) → IsPlainWord image → named (codes "dis" ∷ image ∷ []) ≡ Some (Lists image) }
+    ensures marked { (image : List ℕ) → named (codes "dis" ∷ codes "--" ∷ image ∷ []) ≡ Some (Lists image) }
+{}
+
 /// Which words name a picture: `picture`, an algorithm and any number of inputs, after `--` where one begins with `-`.
 pub fn picture_is_named()
     ensures plain { (algorithm : List ℕ) (inputs : List (List ℕ)) → AllByRecursion IsPlainWord (algorithm ∷ inputs) → length inputs ≤ usize_max
@@ -135,7 +179,16 @@ pub fn picture_is_named()
 fn program<'a>(alloc: Global) -> Result<Command<'a>, AllocError>
     ensures { IfOk result (Makes hrv_app) }
 {
-    log_program(alloc)?.subcommand(picture_command(alloc)?)
+    text_program(alloc)?.subcommand(picture_command(alloc)?)
+}
+
+// The program's command with the subcommands that take a log, an assembly text or an image alone.
+fn text_program<'a>(alloc: Global) -> Result<Command<'a>, AllocError>
+    ensures { IfOk result (Makes text_app) }
+{
+    log_program(alloc)?
+        .subcommand(asm_command(alloc)?)?
+        .subcommand(dis_command(alloc)?)
 }
 
 // The program's command with the subcommands that take a log.
@@ -169,6 +222,25 @@ fn debug_command<'a>(alloc: Global) -> Result<Command<'a>, AllocError>
         .about("Answers questions about an image and a log, asked on standard input")
         .arg(Arg::new(alloc, "IMAGE").required(true))?
         .arg(Arg::new(alloc, "LOG").required(true))
+}
+
+// `asm SOURCE IMAGE`
+fn asm_command<'a>(alloc: Global) -> Result<Command<'a>, AllocError>
+    ensures { IfOk result (Makes asm_app) }
+{
+    Command::new(alloc, "asm")
+        .about("Assembles a text and stores the image")
+        .arg(Arg::new(alloc, "SOURCE").required(true))?
+        .arg(Arg::new(alloc, "IMAGE").required(true))
+}
+
+// `dis IMAGE`
+fn dis_command<'a>(alloc: Global) -> Result<Command<'a>, AllocError>
+    ensures { IfOk result (Makes dis_app) }
+{
+    Command::new(alloc, "dis")
+        .about("Prints a line for each word of an image's text")
+        .arg(Arg::new(alloc, "IMAGE").required(true))
 }
 
 // `picture ALGORITHM [INPUT..]`

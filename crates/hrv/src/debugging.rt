@@ -1,6 +1,6 @@
 //! Debugging: a talk over an image and a log of turns.
 
-ghost use Rattle.std.specs.Prelude.{◌≡◌, ◌⊎◌, ◌≢◌, ℕ, ◌+◌, ◌<◌, ◌^◌, List, [], true, Err, Ok, OnOk, OnErr, IfOk, IfErr};
+ghost use Rattle.std.specs.Prelude.{◌≡◌, ◌⊎◌, ◌≢◌, ℕ, ◌+◌, ◌<◌, ◌^◌, List, [], Err, Ok, OnOk, IfOk, IfErr};
 ghost use Rattle.hrv.specs.Faults.{OnRefusal, OnFile, IsDeviceFault, IsReplayFault};
 ghost use Rattle.hrv.specs.TalkSoFar.{HeldTalk, BrokenTalk, WaitingTalk};
 ghost use Rattle.hrv.specs.Debugging.{session_of, Talked, RefusedTalk, BeganTalk, AwaitsLines};
@@ -36,26 +36,34 @@ pub fn debug_bytes<I: Source, L: Source, C: Source, O: Sink>(
         (λ bytes. L.gave log.old bytes log.new × L.ended log.new)
         (λ bytes. C.gave lines.old bytes lines.new) (C.ended lines.new)
         (λ bytes. O.took out.old bytes out.new)) }
+    ensures well { OnOk result (C.failed lines.new ≡ C.failed lines.old) }
     ensures refused { IfErr result (λ fault. OnRefusal fault (RefusedTalk
         (λ bytes. I.gave image.old bytes image.new × I.ended image.new)
         (λ bytes. L.gave log.old bytes log.new × L.ended log.new)
         (λ bytes. O.took out.old bytes out.new))) }
-    ensures memory { result ≡ Err Fault.Memory → (O.took out.old [] out.new) ⊎ BeganTalk
+    ensures unread { IfErr result (λ fault. OnRefusal fault (λ _. lines.new ≡ lines.old)) }
+    ensures memory { result ≡ Err Fault.Memory → ((lines.new ≡ lines.old) × O.took out.old [] out.new)
+        ⊎ AwaitsLines
+        (λ bytes. I.gave image.old bytes image.new × I.ended image.new)
+        (λ bytes. L.gave log.old bytes log.new × L.ended log.new)
+        (λ bytes. C.gave lines.old bytes lines.new)
+        (λ bytes. O.took out.old bytes out.new)
+        ⊎ ((C.failed lines.new ≡ C.failed lines.old) × BeganTalk
         (λ bytes. I.gave image.old bytes image.new × I.ended image.new)
         (λ bytes. L.gave log.old bytes log.new × L.ended log.new)
         (λ bytes. C.gave lines.old bytes lines.new) (C.ended lines.new)
-        (λ bytes. O.took out.old bytes out.new) }
+        (λ bytes. O.took out.old bytes out.new)) }
     ensures kinds { IfErr result IsReplayFault }
     ensures device { IfErr result (λ fault. OnFile fault (λ path.
-        ((path ≡ I.place image.old) × (I.failed image.old < I.failed image.new) × O.took out.old [] out.new)
-        ⊎ ((path ≡ L.place log.old) × (L.failed log.old < L.failed log.new) × O.took out.old [] out.new
+        ((path ≡ I.place image.old) × (I.failed image.old < I.failed image.new) × (lines.new ≡ lines.old) × O.took out.old [] out.new)
+        ⊎ ((path ≡ L.place log.old) × (L.failed log.old < L.failed log.new) × (lines.new ≡ lines.old) × O.took out.old [] out.new
         × ((bytes : List ℕ) × I.gave image.old bytes image.new × I.ended image.new))
         ⊎ ((path ≡ C.place lines.old) × (C.failed lines.old < C.failed lines.new) × AwaitsLines
         (λ bytes. I.gave image.old bytes image.new × I.ended image.new)
         (λ bytes. L.gave log.old bytes log.new × L.ended log.new)
         (λ bytes. C.gave lines.old bytes lines.new)
         (λ bytes. O.took out.old bytes out.new))
-        ⊎ ((path ≡ O.place out.old) × (O.failed out.old < O.failed out.new) × BeganTalk
+        ⊎ ((path ≡ O.place out.old) × (O.failed out.old < O.failed out.new) × (C.failed lines.new ≡ C.failed lines.old) × BeganTalk
         (λ bytes. I.gave image.old bytes image.new × I.ended image.new)
         (λ bytes. L.gave log.old bytes log.new × L.ended log.new)
         (λ bytes. C.gave lines.old bytes lines.new) (C.ended lines.new)
@@ -94,10 +102,14 @@ fn hold_talk<C: Source, O: Sink>(
     requires lines { C.failed lines.old + 1 < 2 ^ 64 }
     requires out { O.failed out.old + 1 < 2 ^ 64 }
     ensures ok { OnOk result (HeldTalk talk.old.session (λ bytes. C.gave lines.old bytes lines.new) (C.ended lines.new) (λ bytes. O.took out.old bytes out.new)) }
-    ensures err { OnErr result (BrokenTalk talk.old.session (λ bytes. C.gave lines.old bytes lines.new) (C.ended lines.new) (λ bytes. O.took out.old bytes out.new)) }
+    ensures well { OnOk result (C.failed lines.new ≡ C.failed lines.old) }
+    ensures memory { result ≡ Err Fault.Memory → WaitingTalk talk.old.session (λ bytes. C.gave lines.old bytes lines.new) (λ bytes. O.took out.old bytes out.new)
+        ⊎ ((C.failed lines.new ≡ C.failed lines.old)
+        × BrokenTalk talk.old.session (λ bytes. C.gave lines.old bytes lines.new) (C.ended lines.new) (λ bytes. O.took out.old bytes out.new)) }
     ensures device { IfErr result (λ fault. OnFile fault (λ path. ((path ≡ C.place lines.old) × (C.failed lines.old < C.failed lines.new)
         × WaitingTalk talk.old.session (λ bytes. C.gave lines.old bytes lines.new) (λ bytes. O.took out.old bytes out.new))
-        ⊎ ((path ≡ O.place out.old) × (O.failed out.old < O.failed out.new)))) }
+        ⊎ ((path ≡ O.place out.old) × (O.failed out.old < O.failed out.new) × (C.failed lines.new ≡ C.failed lines.old)
+        × BrokenTalk talk.old.session (λ bytes. C.gave lines.old bytes lines.new) (C.ended lines.new) (λ bytes. O.took out.old bytes out.new)))) }
     ensures kinds { IfErr result IsDeviceFault }
 {
     let mut buffer = [0; CHUNK];

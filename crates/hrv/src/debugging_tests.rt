@@ -206,20 +206,58 @@ at 1
     Ok(())
 }
 
-/// Lines are answered before more is read: what was read when the source fails has its answers.
-#[test]
-fn answers_before_it_reads_on(rt: HostRuntime) -> Result<(), Fail> {
-    let mut source = tape_of("lines", b"next\nnext\nnext\n");
-    source.reads_left = Some(1);
-    let mut out = empty_page(rt.alloc());
+/// The talk about the two harts that count, on lines of which so many reads succeed and to a page on which so many writes do: the
+/// answers, the line of the refusal, and how often reading the lines failed.
+fn broken_talk(
+    alloc: Global,
+    lines: &[u8],
+    reads: u32,
+    writes: Option<u32>,
+) -> Result<(Vec<u8>, String, u64), AllocError> {
+    let mut source = tape_of("lines", lines);
+    source.reads_left = Some(reads);
+    let mut out = empty_page(alloc);
+    out.writes_left = writes;
     let answered = debug_bytes(
-        rt.alloc(),
+        alloc,
         &mut tape_of("image", &COUNTER),
         &mut tape_of("log", &TURNS),
         &mut source,
         &mut out,
     );
-    assert!(rt; answered.is_err());
-    assert_eq!(rt; out.bytes.as_slice(), b"at 1\n".as_slice());
+    let line = match answered {
+        Ok(()) => String::new(alloc),
+        Err(fault) => format!(in alloc; "{fault}")?,
+    };
+    Ok((out.bytes, line, source.failures))
+}
+
+/// Lines are answered before more is read: what was read when the source fails has its answers, and where they can't be written
+/// nothing more is read.
+#[test]
+fn answers_before_it_reads_on(rt: HostRuntime) -> Result<(), Fail> {
+    let lines = b"next\nnext\nnext\n".as_slice();
+    let (text, line, failures) = broken_talk(rt.alloc(), lines, 1, None)?;
+    assert_eq!(rt; text.as_slice(), b"at 1\n".as_slice());
+    assert_eq!(rt; line.as_str(), "refused file lines");
+    assert_eq!(rt; failures, 1);
+    let (_, line, failures) = broken_talk(rt.alloc(), lines, 1, Some(0))?;
+    assert_eq!(rt; line.as_str(), "refused file page");
+    assert_eq!(rt; failures, 0);
+    Ok(())
+}
+
+/// A piece of seven bytes ends within the line that begins with `quit`, which is no command.
+#[test]
+fn quit_at_the_end_of_a_piece(rt: HostRuntime) -> Result<(), Fail> {
+    check_talk(&rt, b"bc\nquit 1\nnext\n", "unknown\nunknown\nat 1\n")
+}
+
+#[test]
+fn reads_nothing_after_quit(rt: HostRuntime) -> Result<(), Fail> {
+    let (text, line, failures) = broken_talk(rt.alloc(), b"quit\nnext\n", 1, None)?;
+    assert!(rt; text.is_empty());
+    assert_eq!(rt; line.as_str(), "");
+    assert_eq!(rt; failures, 0);
     Ok(())
 }

@@ -146,12 +146,13 @@ pub fn read_text<S: Source>(alloc: Global, source: &mut S) -> Result<String, Fau
 /// How many bytes are read at a time.
 pub const CHUNK: usize = 65_536;
 
-/// Writes all the bytes. After a device fault the sink has taken a front of them, and where memory ran out nothing.
+/// Writes all the bytes. After a device fault the sink has taken a front of them; where memory ran out it was not touched.
 pub fn write_all<S: Sink>(alloc: Global, sink: &mut S, bytes: &[u8]) -> Result<(), Fault>
     requires { S.failed sink.old + 1 < 2 ^ 64 }
     ensures taken { OnOk result (S.took sink.old bytes.now sink.new) }
     ensures begun { OnErr result ((n : ℕ) × S.took sink.old (take n bytes.now) sink.new) }
     ensures memory { result ≡ Err Fault.Memory → S.took sink.old [] sink.new }
+    ensures untouched { result ≡ Err Fault.Memory → sink.new ≡ sink.old }
     ensures well { OnOk result (S.failed sink.new ≡ S.failed sink.old) }
     ensures path { S.place sink.new ≡ S.place sink.old }
     ensures device { IfErr result (λ fault. OnFile fault (λ path. (path ≡ S.place sink.old) × (S.failed sink.old < S.failed sink.new))) }

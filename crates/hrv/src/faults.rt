@@ -2,6 +2,7 @@
 
 ghost use Rattle.std.specs.Prelude.{◌≡◌};
 
+use assembler::AsmFault;
 use clap::error::ErrorKind;
 use halide_syntax::ParseFault;
 use line_text::{LocatedError, ReadError};
@@ -26,6 +27,9 @@ pub enum Fault {
     /// The bytes of a log of turns are refused.
     #[error("refused log {}", .0.number().unwrap_or(0))]
     Log(LogFault),
+    /// An assembly text is refused, in the line with this number.
+    #[error("refused asm {} line {line}", .fault.number())]
+    Asm { line: u64, fault: AsmFault },
     /// An algorithm text is refused, in the line with this number.
     #[error("refused parse {} line {line}", .fault.number())]
     Parse { line: u64, fault: ParseFault },
@@ -54,6 +58,7 @@ impl Fault {
             Fault::CommandLine(_) | Fault::NotText => 2,
             Fault::Load(_)
             | Fault::Log(_)
+            | Fault::Asm { .. }
             | Fault::Parse { .. }
             | Fault::Picture(_)
             | Fault::Input(_)
@@ -119,6 +124,19 @@ impl From<LogFault> for Fault {
         match fault {
             LogFault::OutOfMemory => Fault::Memory,
             _ => Fault::Log(fault),
+        }
+    }
+}
+
+impl From<LocatedError<AsmFault>> for Fault {
+    ghost use Rattle.hrv.specs.Refusals.{fault_of_asm};
+
+    ghost from_gives = { λ error answered. answered ≡ fault_of_asm error };
+
+    fn from(error: LocatedError<AsmFault>) -> Fault {
+        match error {
+            LocatedError::Memory => Fault::Memory,
+            LocatedError::Fault(line, fault) => Fault::Asm { line, fault },
         }
     }
 }

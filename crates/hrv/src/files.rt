@@ -1,4 +1,4 @@
-//! The system's files, and its standard input and output, as devices.
+//! The files that are read, and standard input and output, as devices.
 //!
 //! What a file or a terminal gives and takes is outside of what a proof can know, so the facts of bytes
 //! of these devices hold of any bytes. That each failure is counted is proved.

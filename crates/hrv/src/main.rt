@@ -1,6 +1,10 @@
 //! `hrv`: the machine for stencil programs, as a program.
 //!
 //! - [`command_lines`]: what the words of a command line ask for.
+//! - [`assembling`]: an assembly text becomes an image; [`assembling::asm_bytes`] has the contract of the whole command, over
+//!   `specs/Assembling.antt`.
+//! - [`listing`]: the words of an image become lines; [`listing::dis_bytes`] has the contract of the whole command, over
+//!   `specs/Listing.antt`.
 //! - [`replay`]: an image and a log of turns become a dump; [`replay::replay_bytes`] has the contract
 //!   of the whole command, over `specs/Replay.antt` and `specs/Dump.antt`.
 //! - [`debugging`]: an image, a log of turns and lines of commands become a talk; [`debugging::debug_bytes`] has the contract of the
@@ -9,10 +13,11 @@
 //!   whole command, over `specs/Drawing.antt`.
 //! - [`commands`], [`talks`]: what a line commands, and what is answered to it.
 //! - [`dumps`], [`pictures`]: the text of a dump and of its picture.
-//! - [`devices`]: what is read from and written to; [`files`]: the system's files and standard input and output.
+//! - [`devices`]: what is read from and written to; [`files`], [`file_sinks`]: the system's files and standard input and output.
 //! - [`faults`]: why the program refuses, and its exit status.
 #![tactic(auto)]
 
+mod assembling;
 mod command_lines;
 mod commands;
 mod cuts;
@@ -21,16 +26,21 @@ mod devices;
 mod drawing;
 mod dumps;
 mod faults;
+mod file_sinks;
 mod files;
+mod listing;
 mod pictures;
 mod replay;
 mod talks;
 
+use crate::assembling::asm_bytes;
 use crate::command_lines::{Invocation, command};
 use crate::debugging::debug_bytes;
 use crate::drawing::picture_bytes;
 use crate::faults::Fault;
+use crate::file_sinks::FileSink;
 use crate::files::{FileSource, StandardInput, StandardOutput, sources_of};
+use crate::listing::dis_bytes;
 use crate::replay::replay_bytes;
 use std::alloc::Global;
 use std::process::ExitCode;
@@ -38,6 +48,8 @@ use std::rt::{Env, Files};
 use std::thread::Threads;
 use std::{env, io};
 
+#[cfg(test)]
+mod assembling_tests;
 #[cfg(test)]
 mod debugging_tests;
 #[cfg(test)]
@@ -64,6 +76,16 @@ fn run<R: Files + Env + Input + Print + AllocGlobal + Threads + Sync>(rt: &R) ->
     let arguments: Vec<String> = env::args(rt).map_err(word_fault)?.skip(1).collect(alloc)?;
     let words: Vec<&str> = arguments.iter().map(|word| word.as_str()).collect(alloc)?;
     match command(alloc, &words)? {
+        Invocation::Asm { source, image } => asm_bytes(
+            alloc,
+            &mut FileSource::new(rt, source),
+            &mut FileSink::new(rt, image),
+        ),
+        Invocation::Dis { image } => dis_bytes(
+            alloc,
+            &mut FileSource::new(rt, image),
+            &mut StandardOutput::new(rt),
+        ),
         Invocation::Replay { image, log } => replay_bytes(
             alloc,
             &mut FileSource::new(rt, image),

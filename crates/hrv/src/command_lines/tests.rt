@@ -1,4 +1,7 @@
-use super::{Invocation, command, debug_is_named, picture_is_named, replay_is_named};
+use super::{
+    Invocation, asm_is_named, command, debug_is_named, dis_is_named, picture_is_named,
+    replay_is_named,
+};
 use crate::faults::Fault;
 use std::alloc::{AllocError, Global};
 use std::test::Fail;
@@ -22,7 +25,7 @@ fn reads_a_replay(rt: HostRuntime) -> Result<(), Fail> {
 fn is_replay(invocation: &Invocation, image: &str, log: &str) -> bool {
     match invocation {
         Invocation::Replay { image: i, log: l } => *i == image && *l == log,
-        Invocation::Debug { .. } | Invocation::Picture { .. } => false,
+        _ => false,
     }
 }
 
@@ -44,7 +47,7 @@ fn reads_a_debug(rt: HostRuntime) -> Result<(), Fail> {
 fn is_debug(invocation: &Invocation, image: &str, log: &str) -> bool {
     match invocation {
         Invocation::Debug { image: i, log: l } => *i == image && *l == log,
-        Invocation::Replay { .. } | Invocation::Picture { .. } => false,
+        _ => false,
     }
 }
 
@@ -72,14 +75,62 @@ fn is_picture(invocation: &Invocation, algorithm: &str, inputs: &[&str]) -> bool
             algorithm: a,
             inputs: given,
         } => *a == algorithm && given.as_slice() == inputs,
-        Invocation::Replay { .. } | Invocation::Debug { .. } => false,
+        _ => false,
+    }
+}
+
+#[test]
+fn reads_an_assembly(rt: HostRuntime) -> Result<(), Fail> {
+    let lines: [(&[&str], &str, &str); 4] = [
+        (&["asm", "a", "b"], "a", "b"),
+        (&["asm", "-", "a"], "-", "a"),
+        (&["asm", "--", "-a", "-b"], "-a", "-b"),
+        (&["asm", "a", "--", "--"], "a", "--"),
+    ];
+    for (words, source, image) in lines {
+        let invocation = command(rt.alloc(), words)?;
+        assert!(rt; is_asm(&invocation, source, image), "{words:?}");
+    }
+    asm_is_named();
+    Ok(())
+}
+
+fn is_asm(invocation: &Invocation, source: &str, image: &str) -> bool {
+    match invocation {
+        Invocation::Asm {
+            source: s,
+            image: i,
+        } => *s == source && *i == image,
+        _ => false,
+    }
+}
+
+#[test]
+fn reads_a_listing(rt: HostRuntime) -> Result<(), Fail> {
+    let lines: [(&[&str], &str); 3] = [
+        (&["dis", "a"], "a"),
+        (&["dis", "--", "-a"], "-a"),
+        (&["dis", "--", "--"], "--"),
+    ];
+    for (words, image) in lines {
+        let invocation = command(rt.alloc(), words)?;
+        assert!(rt; is_dis(&invocation, image), "{words:?}");
+    }
+    dis_is_named();
+    Ok(())
+}
+
+fn is_dis(invocation: &Invocation, image: &str) -> bool {
+    match invocation {
+        Invocation::Dis { image: i } => *i == image,
+        _ => false,
     }
 }
 
 // The starts of the texts are those of the Rust crate.
 #[test]
 fn refuses_other_words(rt: HostRuntime) -> Result<(), Fail> {
-    let lines: [(&[&str], &str); 14] = [
+    let lines: [(&[&str], &str); 17] = [
         (&[], "error: 'hrv' requires a subcommand"),
         (
             &["replay"],
@@ -98,7 +149,16 @@ fn refuses_other_words(rt: HostRuntime) -> Result<(), Fail> {
             "error: unexpected argument '--x' found",
         ),
         (&["run", "a", "b"], "error: unrecognized subcommand 'run'"),
-        (&["asm", "a", "b"], "error: unrecognized subcommand 'asm'"),
+        (&["as", "a", "b"], "error: unrecognized subcommand 'as'"),
+        (
+            &["asm", "a"],
+            "error: the following required arguments were not provided",
+        ),
+        (
+            &["dis"],
+            "error: the following required arguments were not provided",
+        ),
+        (&["dis", "a", "b"], "error: unexpected argument 'b' found"),
         (&["--help"], "Runs programs"),
         (&["help"], "Runs programs"),
         (&["replay", "--help"], "Runs an image"),

@@ -1,7 +1,7 @@
-use Rattle.std.proofs.Common.{◌≡◌, ℕ, ◌+◌, ◌<◌, ◌≤◌, List, [], length, drop, replicate, refl, sym, ap, ◌∙◌, arith}
+use Rattle.std.proofs.Common.{ℕ, ◌+◌, ◌<◌, drop, replicate, sym, ap, ◌∙◌, arith}
 use Rattle.std.proofs.Math.ListN.{drop_of_length-le}
 use Rattle.std.proofs.lemmas.List.Elements.{recursion_from_All}
-use Rattle.multi_hart.specs.Run.{State, run, KeepsShape}
+use Rattle.multi_hart.specs.Run.{State, run}
 use Rattle.multi_hart.proofs.Resting.{run-append}
 use Rattle.multi_hart.proofs.TurnByTurn.{shape-then}
 use Rattle.turn_log.proofs.RunAtLaws.{run_at-stands, run_at-below, run_at-none}
