@@ -1,5 +1,6 @@
 # Sixteen bytes of data are copied by two harts, each of which takes the half that its number says.
 # The picture shows the copy as four words.
+.output copy,4,1
     lui x5,0x200
     slli x6,x10,3
     add x5,x5,x6
@@ -12,3 +13,10 @@ next: lbu x9,0(x7)
     addi x8,x8,-1
     bne x8,x0,next
     ecall
+
+.data
+copy: .space 16
+    .word 1                   # the sixteen bytes that are copied
+    .word -2
+    .word 30000000
+    .word -2147483648

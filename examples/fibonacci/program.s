@@ -1,5 +1,6 @@
 # The tenth Fibonacci number, by a function that calls itself, with its stack in data. The pixel is
 # the first word of data; the stack grows down from the end of its 256 bytes.
+.output result,1,1
     lui x5,0x200
     addi x2,x5,256
     addi x10,x0,10
@@ -22,3 +23,6 @@ fibonacci: addi x6,x0,2
     lw x1,0(x2)
     addi x2,x2,12
 done: jalr x0,0(x1)
+
+.data
+result: .space 256
