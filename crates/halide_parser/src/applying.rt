@@ -103,7 +103,7 @@ pub fn scope_of(reader: &Reader, line: &Line<Judged>) -> Result<Scope, AllocErro
 fn tree_of(judged: Judged) -> Expr
     ensures { result ≡ spec.tree_of judged.tree }
 {
-    match judged.tree {
+    match judged.into_tree() {
         Some(tree) => tree,
         None => Expr::Number(0),
     }

@@ -31,7 +31,6 @@ pub struct Marks {
 }
 
 /// What is known of an expression.
-#[derive(Drop)]
 pub struct Judged {
     pub marks: Marks,
     /// Up to 513.
@@ -44,6 +43,37 @@ pub struct Judged {
     pub alone: Option<Variable>,
     /// None where the expression is too large or breaks a rule.
     pub tree: Option<Expr>,
+}
+
+/// Written out, so that a function that drops one calls this, in place of a copy of what a tree's drop does.
+impl Drop for Judged {
+    fn drop(self) {
+        let Judged {
+            marks: _,
+            nodes: _,
+            nesting: _,
+            literal: _,
+            alone: _,
+            tree: _,
+        } = self;
+    }
+}
+
+impl Judged {
+    /// The tree alone.
+    pub fn into_tree(self) -> Option<Expr>
+        ensures { result ≡ self.tree }
+    {
+        let Judged {
+            marks: _,
+            nodes: _,
+            nesting: _,
+            literal: _,
+            alone: _,
+            tree,
+        } = self;
+        tree
+    }
 }
 
 pub fn no_marks() -> Marks
@@ -141,7 +171,7 @@ fn binary(alloc: Global, operation: Operation, a: Judged, b: Judged) -> Result<J
         nesting,
         literal: None,
         alone: None,
-        tree: binary_tree(alloc, is_wanted, operation, a.tree, b.tree)?,
+        tree: binary_tree(alloc, is_wanted, operation, a.into_tree(), b.into_tree())?,
     })
 }
 
@@ -158,7 +188,7 @@ fn enclosed(a: Judged) -> Judged
         nesting,
         literal: None,
         alone: a.alone,
-        tree: kept(is_wanted, a.tree),
+        tree: kept(is_wanted, a.into_tree()),
     }
 }
 
@@ -305,7 +335,7 @@ pub fn call(reader: &Reader, scope: &Scope, name: &[u8], a: Judged) -> Result<Ju
         nesting,
         literal: None,
         alone: None,
-        tree: call_tree(reader.alloc, fits(nodes, nesting), callee, a.tree)?,
+        tree: call_tree(reader.alloc, fits(nodes, nesting), callee, a.into_tree())?,
     })
 }
 
@@ -331,7 +361,7 @@ pub fn call_two(
         nesting,
         literal: None,
         alone: None,
-        tree: call_two_tree(reader.alloc, is_wanted, callee, a.tree, b.tree)?,
+        tree: call_two_tree(reader.alloc, is_wanted, callee, a.into_tree(), b.into_tree())?,
     })
 }
 
@@ -392,7 +422,7 @@ fn select(alloc: Global, c: Judged, a: Judged, b: Judged) -> Result<Judged, Allo
         nesting,
         literal: None,
         alone: None,
-        tree: select_tree(alloc, c.tree, pair(is_wanted, a.tree, b.tree))?,
+        tree: select_tree(alloc, c.into_tree(), pair(is_wanted, a.into_tree(), b.into_tree()))?,
     })
 }
 
@@ -465,7 +495,7 @@ fn divided(alloc: Global, is_quotient: bool, a: Judged, b: Judged) -> Result<Jud
         nesting,
         literal: None,
         alone: None,
-        tree: division_tree(alloc, fits(nodes, nesting), is_quotient, a.tree, by)?,
+        tree: division_tree(alloc, fits(nodes, nesting), is_quotient, a.into_tree(), by)?,
     })
 }
 
