@@ -8,5 +8,6 @@ pub mod KeptTrees
 pub mod KeptUpdates
 pub mod Numbers
 pub mod PassLoop
+pub mod Trees
 pub mod Updates
 pub mod Whole

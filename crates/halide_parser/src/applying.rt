@@ -1,6 +1,6 @@
 //! What a faultless line adds to the lines before it.
 
-ghost use Rattle.std.specs.Prelude.{◌≡◌, IfOk, OnOk, None};
+ghost use Rattle.std.specs.Prelude.{◌≡◌, [], ◌∷◌, IfOk, OnOk, None};
 ghost use Rattle.halide_pipeline.specs.Names.{lookup};
 ghost use Rattle.halide_parser.specs.Meaning as spec;
 
@@ -208,16 +208,28 @@ fn add_func(reader: &mut Reader, definition: Definition<Judged>) -> Result<(), A
     Ok(())
 }
 
+/// The Func with one more update.
+#[tactic(auto, unfolding(crate::specs::Meaning::with_update))]
+fn updated(func: Func, update: Update) -> Result<Func, AllocError>
+    ensures { IfOk result (λ found. spec.with_update (func ∷ []) update ≡ found ∷ []) }
+{
+    let mut func = func;
+    func.updates.push(update)?;
+    Ok(func)
+}
+
 /// Adds an update to the last Func.
-#[tactic(auto, using(crate::proofs::Updates::updates_last, crate::proofs::Updates::updates_none))]
+#[tactic(auto, using(crate::proofs::Updates::updates_by, crate::proofs::Updates::updates_none))]
 fn add_update(funcs: &mut Items<Func>, update: Update) -> Result<(), AllocError>
     ensures { OnOk result (funcs.new ≡ spec.with_update funcs.old update) }
 {
     match funcs.pop() {
-        None => Ok(()),
+        None => {
+            drop(update);
+            Ok(())
+        }
         Some(func) => {
-            let mut func = func;
-            func.updates.push(update)?;
+            let func = updated(func, update)?;
             funcs.push(func)?;
             Ok(())
         }

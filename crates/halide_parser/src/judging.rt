@@ -1,7 +1,7 @@
 //! What is known of an expression, from what is known of its parts: the rules that it breaks, its size,
 //! and its tree where it is not too large.
 
-ghost use Rattle.std.specs.Prelude.{◌≡◌, IfOk};
+ghost use Rattle.std.specs.Prelude.{◌≡◌, IfOk, if◌then◌else◌, None};
 ghost use Rattle.halide_parser.specs.Judging as spec;
 
 use crate::readers::{Reader, source};
@@ -130,7 +130,31 @@ pub fn fits(nodes: u32, nesting: u32) -> bool
     nodes <= 512 && nesting <= 64
 }
 
+/// The value, where it is wanted.
+fn kept<T: Drop>(is_wanted: bool, value: Option<T>) -> Option<T>
+    ensures { result ≡ (if is_wanted then value else None) }
+{
+    if is_wanted { value } else { None }
+}
+
+/// Both trees, where they are wanted and there are both.
+#[tactic(auto, using(crate::proofs::Trees::pair_by))]
+fn pair(is_wanted: bool, a: Option<Expr>, b: Option<Expr>) -> Option<(Expr, Expr)>
+    ensures { result ≡ spec.pair is_wanted a b }
+{
+    kept(is_wanted, a.zip(b))
+}
+
+/// Both in boxes.
+fn boxed_both<T: Drop>(alloc: Global, a: T, b: T) -> Result<(Boxed<T>, Boxed<T>), AllocError>
+    ensures { IfOk result (λ boxes. boxes ≡ (a, b)) }
+{
+    let a = Boxed::new(alloc, a)?;
+    Ok((a, Boxed::new(alloc, b)?))
+}
+
 /// The tree of an operation, where it is wanted and there are both operands.
+#[tactic(auto, using(crate::proofs::Trees::binary_tree_by))]
 fn binary_tree(
     alloc: Global,
     is_wanted: bool,
@@ -140,21 +164,13 @@ fn binary_tree(
 ) -> Result<Option<Expr>, AllocError>
     ensures { IfOk result (λ tree. tree ≡ spec.binary_tree is_wanted operation a b) }
 {
-    match (a, b) {
-        (Some(a), Some(b)) if is_wanted => Ok(Some(Expr::Binary(
-            operation,
-            Boxed::new(alloc, a)?,
-            Boxed::new(alloc, b)?,
-        ))),
-        _ => Ok(None),
+    match pair(is_wanted, a, b) {
+        None => Ok(None),
+        Some((a, b)) => {
+            let (a, b) = boxed_both(alloc, a, b)?;
+            Ok(Some(Expr::Binary(operation, a, b)))
+        }
     }
-}
-
-/// The tree, where it is wanted.
-fn kept(is_wanted: bool, tree: Option<Expr>) -> Option<Expr>
-    ensures { result ≡ spec.kept is_wanted tree }
-{
-    if is_wanted { tree } else { None }
 }
 
 /// An operation on two operands.
@@ -301,6 +317,7 @@ fn call_tree(
 }
 
 /// The tree of a call with two indexes, where it is wanted and both indexes have one.
+#[tactic(auto, using(crate::proofs::Trees::call_two_tree_by))]
 fn call_two_tree(
     alloc: Global,
     is_wanted: bool,
@@ -310,13 +327,12 @@ fn call_two_tree(
 ) -> Result<Option<Expr>, AllocError>
     ensures { IfOk result (λ tree. tree ≡ spec.call_two_tree is_wanted callee a b) }
 {
-    match (callee, a, b) {
-        (Some((source, _)), Some(a), Some(b)) if is_wanted => Ok(Some(Expr::Call2(
-            source,
-            Boxed::new(alloc, a)?,
-            Boxed::new(alloc, b)?,
-        ))),
-        _ => Ok(None),
+    match callee.zip(pair(is_wanted, a, b)) {
+        None => Ok(None),
+        Some(((source, _), (a, b))) => {
+            let (a, b) = boxed_both(alloc, a, b)?;
+            Ok(Some(Expr::Call2(source, a, b)))
+        }
     }
 }
 
@@ -377,17 +393,22 @@ pub fn two(alloc: Global, function: TwoFunction, a: Judged, b: Judged) -> Result
     Ok(enclosed(joined))
 }
 
-/// Both trees, where they are wanted and there are both.
-fn pair(is_wanted: bool, a: Option<Expr>, b: Option<Expr>) -> Option<(Expr, Expr)>
-    ensures { result ≡ spec.pair is_wanted a b }
+/// All three in boxes.
+fn boxed_three<T: Drop>(
+    alloc: Global,
+    a: T,
+    b: T,
+    c: T,
+) -> Result<(Boxed<T>, Boxed<T>, Boxed<T>), AllocError>
+    ensures { IfOk result (λ boxes. boxes ≡ (a, b, c)) }
 {
-    match (a, b) {
-        (Some(a), Some(b)) if is_wanted => Some((a, b)),
-        _ => None,
-    }
+    let a = Boxed::new(alloc, a)?;
+    let (b, c) = boxed_both(alloc, b, c)?;
+    Ok((a, b, c))
 }
 
 /// The tree of a select, where there are all operands.
+#[tactic(auto, using(crate::proofs::Trees::select_tree_by))]
 fn select_tree(
     alloc: Global,
     c: Option<Expr>,
@@ -395,16 +416,12 @@ fn select_tree(
 ) -> Result<Option<Expr>, AllocError>
     ensures { IfOk result (λ tree. tree ≡ spec.select_tree c arms) }
 {
-    match arms {
+    match c.zip(arms) {
         None => Ok(None),
-        Some((a, b)) => match c {
-            None => Ok(None),
-            Some(c) => Ok(Some(Expr::Select(
-                Boxed::new(alloc, c)?,
-                Boxed::new(alloc, a)?,
-                Boxed::new(alloc, b)?,
-            ))),
-        },
+        Some((c, (a, b))) => {
+            let (c, a, b) = boxed_three(alloc, c, a, b)?;
+            Ok(Some(Expr::Select(c, a, b)))
+        }
     }
 }
 
