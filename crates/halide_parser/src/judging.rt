@@ -45,7 +45,7 @@ pub struct Judged {
     pub tree: Option<Expr>,
 }
 
-/// Written out, so that a function that drops one calls this, in place of a copy of what a tree's drop does.
+/// Written out, so that a function that drops one has a call here, and not what dropping a tree takes.
 impl Drop for Judged {
     fn drop(self) {
         let Judged {
@@ -377,7 +377,13 @@ pub fn call_two(
         nesting,
         literal: None,
         alone: None,
-        tree: call_two_tree(reader.alloc, is_wanted, callee, a.into_tree(), b.into_tree())?,
+        tree: call_two_tree(
+            reader.alloc,
+            is_wanted,
+            callee,
+            a.into_tree(),
+            b.into_tree(),
+        )?,
     })
 }
 
@@ -439,7 +445,11 @@ fn select(alloc: Global, c: Judged, a: Judged, b: Judged) -> Result<Judged, Allo
         nesting,
         literal: None,
         alone: None,
-        tree: select_tree(alloc, c.into_tree(), pair(is_wanted, a.into_tree(), b.into_tree()))?,
+        tree: select_tree(
+            alloc,
+            c.into_tree(),
+            pair(is_wanted, a.into_tree(), b.into_tree()),
+        )?,
     })
 }
 

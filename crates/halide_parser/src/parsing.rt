@@ -24,7 +24,9 @@ fn judged(reader: &Reader, tokens: &[Token]) -> Result<Line<Judged>, ReadError<P
     ensures { Gives (λ x. x) result (spec.judged reader.now tokens.now) }
 {
     let plain = read_line(reader, &Scope::empty(), tokens)?;
-    let scope = scope_of(reader, &plain)?;
+    let scope = scope_of(reader, &plain);
+    drop(plain);
+    let scope = scope?;
     Ok(read_line(reader, &scope, tokens)?)
 }
 

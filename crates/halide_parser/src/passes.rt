@@ -3,6 +3,7 @@
 
 ghost use Rattle.std.specs.Prelude.{◌≡◌, ◌<◌, ◌≤◌, ◌+◌, ◌^◌, length, IfOk, IfSome, option_map};
 ghost use Rattle.line_text.specs.Reading.{Gives};
+ghost use Rattle.halide_syntax.specs.declared.states.Bracket.TheVariants as brackets;
 ghost use Rattle.halide_syntax.specs.Machine as machine;
 ghost use Rattle.halide_syntax.specs.LineReading as reading;
 ghost use Rattle.halide_parser.specs.Judging.{judging};
@@ -338,6 +339,19 @@ fn copied(reader: &Reader, name: &Items<u8>) -> Result<Items<u8>, AllocError>
     Items::from_slice(reader.alloc, name.as_slice())
 }
 
+/// The bracket of a call.
+fn called(
+    reader: &Reader,
+    stack: Stack<Judged>,
+    pending: Pending<Judged>,
+    name: &Items<u8>,
+) -> Result<State<Judged>, AllocError>
+    ensures { IfOk result (λ state. state ≡ machine.opened stack pending (brackets.CallFirst name.now)) }
+{
+    let bracket = Bracket::CallFirst(copied(reader, name)?);
+    Ok(opened(stack, pending, bracket)?)
+}
+
 /// One more sign.
 fn signed(stack: Stack<Judged>, pending: Pending<Judged>) -> State<Judged>
     requires { pending.signs + 1 < 2 ^ 64 }
@@ -380,8 +394,7 @@ fn begun<'a>(
             Ok(Some((operand(reader, scope, stack, pending, value)?, rest)))
         }
         [Token::Name(name), Token::Open, rest @ ..] => {
-            let bracket = Bracket::CallFirst(copied(reader, name)?);
-            Ok(Some((opened(stack, pending, bracket)?, rest)))
+            Ok(Some((called(reader, stack, pending, name)?, rest)))
         }
         [Token::Name(name), rest @ ..] => {
             let value = judging::bare(reader, scope, name.as_slice());
@@ -416,29 +429,28 @@ fn followed<'a>(
     ensures shorter { IfOk result (λ moved. IfSome moved (λ x. length x.1.now < length tokens.now)) }
     ensures few { IfOk result (λ moved. IfSome moved (λ x. x.0.pending.signs ≡ 0)) }
 {
-    match tokens {
-        [Token::Product(operator), rest @ ..] => {
-            Ok(Some((multiplied(stack, pending, term, *operator), rest)))
+    let [token, rest @ ..] = tokens else {
+        drop(stack);
+        drop(pending);
+        drop(term);
+        return Ok(None);
+    };
+    let state = match token {
+        Token::Product(operator) => Some(multiplied(stack, pending, term, *operator)),
+        Token::Sum(operator) => Some(added(reader, scope, stack, pending, term, *operator)?),
+        Token::Compare(operator) => compared(reader, scope, stack, pending, term, *operator)?,
+        Token::Comma => separated(reader, scope, stack, pending, term)?,
+        Token::Close => closed(reader, scope, stack, pending, term)?,
+        _ => {
+            drop(stack);
+            drop(pending);
+            drop(term);
+            None
         }
-        [Token::Sum(operator), rest @ ..] => {
-            let state = added(reader, scope, stack, pending, term, *operator)?;
-            Ok(Some((state, rest)))
-        }
-        [Token::Compare(operator), rest @ ..] => {
-            match compared(reader, scope, stack, pending, term, *operator)? {
-                None => Ok(None),
-                Some(state) => Ok(Some((state, rest))),
-            }
-        }
-        [Token::Comma, rest @ ..] => match separated(reader, scope, stack, pending, term)? {
-            None => Ok(None),
-            Some(state) => Ok(Some((state, rest))),
-        },
-        [Token::Close, rest @ ..] => match closed(reader, scope, stack, pending, term)? {
-            None => Ok(None),
-            Some(state) => Ok(Some((state, rest))),
-        },
-        _ => Ok(None),
+    };
+    match state {
+        None => Ok(None),
+        Some(state) => Ok(Some((state, rest))),
     }
 }
 
