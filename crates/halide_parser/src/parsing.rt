@@ -25,6 +25,7 @@ fn judged(reader: &Reader, tokens: &[Token]) -> Result<Line<Judged>, ReadError<P
 {
     let plain = read_line(reader, &Scope::empty(), tokens)?;
     let scope = scope_of(reader, &plain);
+    // Here, so that no way out has to drop it.
     drop(plain);
     let scope = scope?;
     Ok(read_line(reader, &scope, tokens)?)
