@@ -30,12 +30,3 @@ pub mod surveys;
 pub use crate::assembling::assemble;
 pub use crate::faults::AsmFault;
 pub use crate::objects::Object;
-
-#[cfg(test)]
-mod limit_tests;
-#[cfg(test)]
-mod listing_tests;
-#[cfg(test)]
-mod table_tests;
-#[cfg(test)]
-mod tests;

@@ -1,4 +1,4 @@
-use super::*;
+use assembler::assemble;
 use disassembler::write_line;
 use std::test::*;
 
@@ -74,5 +74,24 @@ fn listings_assemble_to_their_words(rt: HostRuntime) -> Result<(), Fail> {
     assert_eq!(rt; object.entry(), 0x10000);
     assert!(rt; object.data().is_empty());
     assert!(rt; object.output().is_none());
+    Ok(())
+}
+
+/// Words that a plain sequence of numbers gives: some mean instructions, the others are numbers.
+#[test]
+fn a_large_listing_assembles_to_its_words(rt: HostRuntime) -> Result<(), Fail> {
+    let mut words = Vec::new(rt.alloc());
+    let mut listing = Vec::new(rt.alloc());
+    let mut number = 1u32;
+    for _ in 0..20_000 {
+        // The two low bits of every instruction are set.
+        let word = number | 3;
+        words.push(word)?;
+        write_line(word, &mut listing)?;
+        number = number.wrapping_mul(1_664_525).wrapping_add(1_013_904_223);
+    }
+    let text = String::from_utf8(listing)?;
+    let object = assemble(text.as_str(), rt.alloc())?;
+    assert_eq!(rt; object.words(), words.as_slice());
     Ok(())
 }

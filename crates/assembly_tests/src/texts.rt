@@ -1,4 +1,4 @@
-use super::*;
+use assembler::{AsmFault, assemble};
 use line_text::LocatedError;
 use std::alloc::AllocGlobal;
 use std::test::*;

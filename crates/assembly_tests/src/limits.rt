@@ -1,8 +1,8 @@
 //! Numbers at the ends of their ranges, labels that look forwards, limits of the machine, and which of several faults
 //! is named. Words were computed by hand from the manual's formats.
 
-use super::*;
-use crate::tests::verdict;
+use crate::texts::verdict;
+use assembler::assemble;
 use std::test::*;
 
 fn repeat(text: &mut String, part: &str, times: u32) -> Result<(), Fail> {

@@ -1,7 +1,7 @@
 //! Each row of the instruction table once, in text with its word. The words are those of GNU as 2.40 with
 //! `-march=rv32imav`, where targets are written from `.` on; LLVM's assembler 14 (`-mattr=+m,+a,+v`) gives the same.
 
-use super::*;
+use assembler::assemble;
 use std::test::*;
 
 // Jumps, branches, loads, stores, atomic additions and the rows without operands.
