@@ -11,6 +11,3 @@ pub mod tokens;
 
 pub use crate::statements::{Command, Head, Operand, Statement, head_of, is_label, statement_of};
 pub use crate::tokens::{Token, tokens_of};
-
-#[cfg(test)]
-mod tests;

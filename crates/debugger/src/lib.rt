@@ -22,6 +22,3 @@ mod turns;
 
 pub use crate::refusals::Refusal;
 pub use crate::sessions::Session;
-
-#[cfg(test)]
-mod tests;

@@ -11,8 +11,6 @@ mod lines;
 mod listings;
 mod numbers;
 mod operands;
-#[cfg(test)]
-mod tests;
 
 pub use crate::lines::write_line;
 pub use crate::listings::write_lines;

@@ -22,6 +22,3 @@ pub use crate::definitions::{Func, Input, Output, Reduction, Update};
 pub use crate::expressions::{Expr, Operation, Source, Variable};
 pub use crate::names::Names;
 pub use crate::pipelines::Pipeline;
-
-#[cfg(test)]
-mod tests;

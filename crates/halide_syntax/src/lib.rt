@@ -22,6 +22,3 @@ pub use crate::states::{Bracket, Frame, Pending, Stack, State};
 pub use crate::tokens::{
     CompareOperator, ProductOperator, SumOperator, ThreeFunction, Token, TwoFunction, tokens_of,
 };
-
-#[cfg(test)]
-mod tests;

@@ -15,10 +15,3 @@ pub mod harts;
 mod vectors;
 
 pub use crate::harts::{Hart, Status};
-
-#[cfg(test)]
-mod operation_tests;
-#[cfg(test)]
-mod tests;
-#[cfg(test)]
-mod vector_tests;

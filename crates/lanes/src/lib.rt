@@ -20,6 +20,3 @@ pub mod registers;
 pub use crate::kinds::LaneKind;
 pub use crate::masks::{active, mask_bit, mask_bits, write_mask_bits};
 pub use crate::registers::Lanes;
-
-#[cfg(test)]
-mod tests;

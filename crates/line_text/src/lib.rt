@@ -22,6 +22,3 @@ pub mod spans;
 
 pub use crate::line_readers::{LineReader, read_lines};
 pub use crate::read_errors::{LocatedError, ReadError};
-
-#[cfg(test)]
-mod tests;

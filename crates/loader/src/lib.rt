@@ -19,6 +19,3 @@ pub use crate::loading::load;
 pub use crate::outputs::Output;
 pub use crate::readings::read_image;
 pub use crate::spellings::{one_spelling, store};
-
-#[cfg(test)]
-mod tests;

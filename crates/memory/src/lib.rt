@@ -21,6 +21,3 @@ pub use crate::memories::Memory;
 pub use crate::numbers::{
     check_store, read_for_amo, read_u8, read_u16, read_u32, write_u8, write_u16, write_u32,
 };
-
-#[cfg(test)]
-mod tests;

@@ -25,8 +25,6 @@ pub mod registers;
 mod search;
 mod shapes;
 pub mod slots;
-#[cfg(test)]
-mod tests;
 mod vector_names;
 
 pub use crate::configurations::vtype_named;

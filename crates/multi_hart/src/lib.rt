@@ -13,6 +13,3 @@ pub mod machines;
 
 pub use crate::laws::{commute, frame};
 pub use crate::machines::{Machine, UnknownHart};
-
-#[cfg(test)]
-mod tests;

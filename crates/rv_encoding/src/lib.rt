@@ -19,13 +19,9 @@ mod keys;
 pub mod laws;
 mod opcodes;
 mod packing;
-#[cfg(test)]
-mod tests;
 mod vector_decoding;
 mod vector_encoding;
 mod vector_keys;
-#[cfg(test)]
-mod vector_tests;
 
 pub use crate::decoding::decode;
 pub use crate::encoding::encode;

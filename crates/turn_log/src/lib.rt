@@ -20,6 +20,3 @@ pub mod turn_logs;
 pub use crate::laws::{one_spelling, runs_stand};
 pub use crate::log_faults::LogFault;
 pub use crate::turn_logs::TurnLog;
-
-#[cfg(test)]
-mod tests;

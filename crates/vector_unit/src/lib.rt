@@ -26,6 +26,3 @@ pub use crate::accesses::Spacing;
 pub use crate::configuration::Asked;
 pub use crate::numbers::Numbers;
 pub use crate::states::{VILL, VectorState};
-
-#[cfg(test)]
-mod tests;
