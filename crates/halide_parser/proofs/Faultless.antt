@@ -43,6 +43,7 @@ pub record IsFaultless (reader : Reader) (tokens : List Token) (l : Line Judged)
   pub known : is_unknown reader l ≡ false
   pub free : is_taken reader l ≡ false
   pub counts : is_wrong_count reader l ≡ false
+  pub divisors : (line_marks l).is_bad_divisor ≡ false
   pub small : has_large tokens ≡ false
   pub shaped : is_misshapen reader l ≡ false
   pub within : is_line_over_limit reader l ≡ false
@@ -57,6 +58,7 @@ faultless reader tokens l e =
       known = all.b_is;
       free = all.c_is;
       counts = all.d_is;
+      divisors = all.e_is;
       small = all.f_is;
       shaped = all.g_is;
       within = text.1;

@@ -48,6 +48,9 @@ module _ (inputs : List Input) (funcs : List Func) (inputs' : List Input) (funcs
     left_x = keeps-grows (is_read inputs funcs place) (is_read inputs' funcs' place) (is_update_variable count update.second) (grows place) update.left_x is.left_x;
     left_y = index_grows place count (is_update_variable count update.second) update.left_y is.left_y;
     right = keeps-grows (is_read inputs funcs (suc place)) (is_read inputs' funcs' (suc place)) (is_update_variable count update.second) (grows (suc place)) update.right is.right;
+    first_argument = is.first_argument;
+    second_argument = is.second_argument;
+    own_calls = is.own_calls;
     minimum = is.minimum;
     second_minimum = is.second_minimum;
     box = is.box;

@@ -6,7 +6,9 @@ use Rattle.std.proofs.lemmas.Bool.{and_from, or_parts, or_left, or_right, not-fa
 use Rattle.halide_pipeline.specs.declared.definitions.Func.{Func}
 use Rattle.halide_pipeline.specs.declared.definitions.Update.{Update}
 use Rattle.halide_pipeline.specs.declared.expressions.Variable.{Variable}
-use Rattle.halide_pipeline.specs.Definitions.{dimensions}
+use Rattle.halide_pipeline.specs.declared.expressions.Variable.TheVariants as variables
+use Rattle.halide_pipeline.specs.Definitions.{dimensions, is_first_in_place, is_second, is_second_in_place}
+use Rattle.halide_pipeline.specs.Expressions.{uses}
 use Rattle.halide_pipeline.specs.Words.{subtract}
 use Rattle.halide_pipeline.specs.WellFormed as w
 use Rattle.halide_pipeline.specs.WellFormed.{IsFunc, IsUpdate, is_read, is_update_variable, keeps, keeps_index, is_minimum, is_second_minimum, is_box, is_width, is_height}
@@ -26,11 +28,13 @@ use Rattle.halide_parser.specs.Readers as rd
 use Rattle.halide_parser.specs.Rules as r
 use Rattle.halide_parser.specs.Scopes.{is_named, variable}
 use Rattle.halide_parser.proofs.Faultless.{IsFaultless}
+use Rattle.halide_parser.proofs.InPlace.{Calm, calm_parts, Stays, stays_there, placed, strict_join, unused_none}
 use Rattle.halide_parser.proofs.Growing.{get-last, updates_grow, func_grows, update_grows, source-update, get-update, length-update, updated}
 use Rattle.halide_parser.proofs.Keeping.{IsKept, IsNamed, may, may_before, box, named, none_of_three}
 use Rattle.halide_parser.proofs.KeptLines.{picked, two_arguments, no_output, one_more}
 use Rattle.halide_parser.proofs.KeptTrees.{Clean, clean_parts, sound, tree_kept}
 use Rattle.halide_parser.proofs.Numbers.{IsSmall}
+use Rattle.halide_parser.proofs.Wholeness.{IsPlain, plain_parts, fits_is, whole}
 
 -- ---- variables
 
@@ -77,6 +81,16 @@ none_of_four false true c d e = cc
 none_of_four false false true d e = cc
 none_of_four false false false true e = cc
 none_of_four false false false false e = (refl, refl, refl, refl)
+
+-- the branch that is taken, told apart
+told : (s m u : Bool) → cond s m u ≡ false → ((not s && u) ≡ false) × ((s && m) ≡ false)
+told true m u e = (refl, e)
+told false m u e = (e, refl)
+
+unused_or : (s u : Bool) → (not s && u) ≡ false → (s || not u) ≡ true
+unused_or true u e = refl
+unused_or false true e = cc
+unused_or false false e = refl
 
 same_last : (last : Option ℕ) (place : ℕ) → r.same_place last (Some place) ≡ true → last ≡ Some place
 same_last None place e = cc
@@ -135,12 +149,84 @@ module _ (reader : Reader) (scope : Scope) (u : Change Written) (kept : IsKept r
   abbrev change : Change Judged
   change = judged_change reader scope u
 
+  -- ---- arguments in place
+
+  abbrev first : Bool
+  first = j.is_this variables.FirstArgument change.left_x.alone
+
+  abbrev second : Bool
+  second = r.is_in_place change.left_y variables.SecondArgument
+
+  calm : r.is_moved change ≡ false → Calm first second (r.change_marks change)
+  calm shape =
+      let moved = none_of_three (r.left_marks change).calls_own _ _ shape in
+      let in_first = told first (r.change_marks change).moves_first (r.change_marks change).uses_first moved.1 in
+      let in_second = told second (r.change_marks change).moves_second (r.change_marks change).uses_second moved.2 in
+      record { uses_first = in_first.0; uses_second = in_second.0; moves_first = in_first.1; moves_second = in_second.1 }
+
+  plain : (tokens : List Token) → IsFaultless reader tokens (line.Update change) → IsPlain (r.change_marks change)
+  plain tokens right = record {
+    known = (or_parts (not (r.is_func reader u.name)) (r.change_marks change).is_unknown right.known).1;
+    counts = (or_parts (r.is_other_count reader u.name (r.count_with change.left_y)) (r.change_marks change).is_wrong_count right.counts).1;
+    divisors = right.divisors;
+  }
+
+  side_stays : (side : Written) → IsPlain (judge side).marks → r.exceeds (judge side) ≡ false → Calm first second (judge side).marks → Stays is.place first second (tree_of (judge side).tree) (judge side).alone
+  side_stays side in_plain fits in_calm =
+      let some = whole reader scope side in_plain (fits_is (judge side).nodes (judge side).nesting (not-false (j.fits (judge side).nodes (judge side).nesting) fits)) in
+      stays_there is.place first second (judge side).tree (judge side).alone some (placed is.place first second reader scope own side in_calm)
+
+  -- what is known of the second index
+  record IndexStays (judged : Option Judged) : Type 0 where
+    in_first : (not first && w.is_used_in variables.FirstArgument (second_tree judged)) ≡ false
+    in_second : (not second && w.is_used_in variables.SecondArgument (second_tree judged)) ≡ false
+    stands : is_second (second_tree judged) ≡ r.is_in_place judged variables.SecondArgument
+
+  index_stays : (index : Option Written) → IsPlain (r.marks_of (made_index (j.judging reader scope) index)) → r.second_exceeds (made_index (j.judging reader scope) index) ≡ false → Calm first second (r.marks_of (made_index (j.judging reader scope) index))
+      → IndexStays (made_index (j.judging reader scope) index)
+  index_stays None in_plain fits in_calm = record { in_first = unused_none first; in_second = unused_none second; stands = refl }
+  index_stays (Some index) in_plain fits in_calm =
+      let stays = side_stays index in_plain fits in_calm in
+      record { in_first = stays.unused.in_first; in_second = stays.unused.in_second; stands = stays.variable variables.SecondArgument }
+
+  abbrev new : Update
+  new = update_of change
+
+  record ArePlaced : Type 0 where
+    first_argument : (is_first_in_place new || not (w.is_used variables.FirstArgument new)) ≡ true
+    second_argument : (is_second_in_place new || not (w.is_used variables.SecondArgument new)) ≡ true
+    own_calls : (w.calls_in_place is.place (is_first_in_place new) (is_second_in_place new) new.right).stays ≡ true
+
+  are_placed : (tokens : List Token) → IsFaultless reader tokens (line.Update change) → r.is_moved change ≡ false → (r.exceeds change.left_x || r.second_exceeds change.left_y || r.exceeds change.right) ≡ false → ArePlaced
+  are_placed tokens right shape within =
+      let sizes = none_of_three (r.exceeds change.left_x) (r.second_exceeds change.left_y) (r.exceeds change.right) within in
+      let all_plain = plain_parts (r.left_marks change) change.right.marks (plain tokens right) in
+      let left_plain = plain_parts change.left_x.marks (r.marks_of change.left_y) all_plain.0 in
+      let all_calm = calm_parts first second (r.left_marks change) change.right.marks (calm shape) in
+      let left_calm = calm_parts first second change.left_x.marks (r.marks_of change.left_y) all_calm.0 in
+      let x = side_stays u.left_x left_plain.0 sizes.0 left_calm.0 in
+      let y = index_stays u.left_y left_plain.1 sizes.1 left_calm.1 in
+      let side = side_stays u.right all_plain.1 sizes.2 all_calm.1 in
+      let is_first : is_first_in_place new ≡ first = x.variable variables.FirstArgument in
+      let is_second : is_second_in_place new ≡ second = y.stands in
+      let no_first = strict_join (not first) (uses variables.FirstArgument new.left_x || w.is_used_in variables.FirstArgument new.left_y) (uses variables.FirstArgument new.right)
+      (strict_join (not first) (uses variables.FirstArgument new.left_x) (w.is_used_in variables.FirstArgument new.left_y) x.unused.in_first y.in_first) side.unused.in_first in
+      let no_second = strict_join (not second) (uses variables.SecondArgument new.left_x || w.is_used_in variables.SecondArgument new.left_y) (uses variables.SecondArgument new.right)
+      (strict_join (not second) (uses variables.SecondArgument new.left_x) (w.is_used_in variables.SecondArgument new.left_y) x.unused.in_second y.in_second) side.unused.in_second in
+      record {
+        first_argument = subst (λ (b : Bool). (b || not (w.is_used variables.FirstArgument new)) ≡ true) (sym is_first) (unused_or first (w.is_used variables.FirstArgument new) no_first);
+        second_argument = subst (λ (b : Bool). (b || not (w.is_used variables.SecondArgument new)) ≡ true) (sym is_second) (unused_or second (w.is_used variables.SecondArgument new) no_second);
+        own_calls = subst (λ (b : Bool). (w.calls_in_place is.place b (is_second_in_place new) new.right).stays ≡ true) (sym is_first)
+            (subst (λ (b : Bool). (w.calls_in_place is.place first b new.right).stays ≡ true) (sym is_second) side.stays);
+      }
+
   new_update : (tokens : List Token) → IsSmallChange u → IsFaultless reader tokens (line.Update change) → IsUpdate reader.inputs reader.funcs is.place (dimensions is.func) (update_of change)
   new_update tokens is_small right =
       let limits = none_of_four (r.is_full reader u.name) (r.exceeds change.left_x || r.second_exceeds change.left_y || r.exceeds change.right) (nat_lt 0x1000000 u.first.minimum || r.is_second_far u.second) (r.is_bad_box u.first.extent (r.second_extent u.second)) right.within in
       let far = or_parts (nat_lt 0x1000000 u.first.minimum) (r.is_second_far u.second) limits.2 in
       let shape = or_parts (not (r.same_place reader.last_func (rd.func_place reader u.name))) (r.is_moved change) right.shaped in
       let moved = none_of_three (r.left_marks change).calls_own _ _ shape.1 in
+      let in_place = are_placed tokens right shape.1 limits.1 in
       let counts = or_parts (r.is_other_count reader u.name (r.count_with change.left_y)) (r.change_marks change).is_wrong_count right.counts in
       let sides = or_parts (r.left_marks change).is_wrong_count change.right.marks.is_wrong_count counts.1 in
       let left = clean_parts true change.left_x.marks (r.marks_of change.left_y) (record { counts = sides.0; own = moved.0 }) in
@@ -149,6 +235,9 @@ module _ (reader : Reader) (scope : Scope) (u : Change Written) (kept : IsKept r
         left_x = left_kept u.left_x is_small.left_x left.0;
         left_y = index_kept u.left_y is_small.left_y left.1 (not-false (dimensions is.func == r.count_with change.left_y) other);
         right = right_kept is_small.right (record { counts = sides.1; own = refl });
+        first_argument = in_place.first_argument;
+        second_argument = in_place.second_argument;
+        own_calls = in_place.own_calls;
         minimum = minimum_is u.first far.0;
         second_minimum = second_minimum_is u.second far.1;
         box = box_is u.first u.second limits.3;

@@ -1,5 +1,6 @@
 pub mod Faultless
 pub mod Growing
+pub mod InPlace
 pub mod Judgement
 pub mod Keeping
 pub mod KeptLines
@@ -10,4 +11,5 @@ pub mod Numbers
 pub mod PassLoop
 pub mod Trees
 pub mod Updates
+pub mod Wholeness
 pub mod Whole

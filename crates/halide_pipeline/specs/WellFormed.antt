@@ -1,6 +1,6 @@
 -- What every pipeline keeps that a text names.
 -- This project's own.
-use Rattle.std.specs.Prelude.{◌≡◌, ℕ, suc, ◌*◌, ◌==◌, ◌&&◌, ◌||◌, Bool, true, false, nat_le, nat_lt, IsTrue, List, length, slice_get, Option, Some, None, is_some}
+use Rattle.std.specs.Prelude.{◌≡◌, ℕ, suc, ◌*◌, ◌==◌, ◌&&◌, ◌||◌, Bool, true, false, not, nat_le, nat_lt, IsTrue, List, length, slice_get, Option, Some, None, is_some}
 use Rattle.halide_pipeline.specs.declared.definitions.Func.{Func}
 use Rattle.halide_pipeline.specs.declared.definitions.Input.{Input}
 use Rattle.halide_pipeline.specs.declared.definitions.Output.{Output}
@@ -14,8 +14,8 @@ use Rattle.halide_pipeline.specs.declared.expressions.Source.TheVariants as sour
 use Rattle.halide_pipeline.specs.declared.expressions.Variable.{Variable}
 use Rattle.halide_pipeline.specs.declared.expressions.Variable.TheVariants as variables
 use Rattle.halide_pipeline.specs.declared.pipelines.Pipeline.{Pipeline}
-use Rattle.halide_pipeline.specs.Definitions.{dimensions}
-use Rattle.halide_pipeline.specs.Expressions.{nodes}
+use Rattle.halide_pipeline.specs.Definitions.{dimensions, is_first_in_place, is_second_in_place}
+use Rattle.halide_pipeline.specs.Expressions.{same_variable, uses}
 use Rattle.halide_pipeline.specs.Names.{lookup}
 
 -- ---- boxes
@@ -102,6 +102,53 @@ is_update_variable count second variables.SecondArgument = count == 2
 is_update_variable count second variables.FirstReduction = true
 is_update_variable count second variables.SecondReduction = is_some second
 
+-- ---- arguments in place
+
+-- the variable v, where the part is a variable alone
+abbrev pub is_alone : Variable → Option Variable → Bool
+is_alone v None = false
+is_alone v (Some own) = same_variable own v
+
+abbrev pub is_own_call : ℕ → Source → Bool
+is_own_call place (sources.Input other) = false
+is_own_call place (sources.Func other) = place == other
+
+-- what is known of a part of an expression: whether its calls of the Func at this place keep the arguments in their positions, and the
+-- variable that it is alone
+pub record Placed : Type 0 where
+  pub stays : Bool
+  pub alone : Option Variable
+
+-- a part that is no variable alone
+abbrev pub placed : Bool → Placed
+placed stays = record { stays = stays; alone = None }
+
+-- One level of an expression. In a call of the own Func the first index is the first argument alone, where that is to stay, and so the
+-- second.
+abbrev pub placed_at : ℕ → Bool → Bool → Expr-F Placed → Placed
+placed_at place first second (layer.Number n) = placed true
+placed_at place first second (layer.Variable v) = record { stays = true; alone = Some v }
+placed_at place first second (layer.Binary op a b) = placed (a.stays && b.stays)
+placed_at place first second (layer.Divide a c) = placed a.stays
+placed_at place first second (layer.Remainder a c) = placed a.stays
+placed_at place first second (layer.Select c a b) = placed (c.stays && (a.stays && b.stays))
+placed_at place first second (layer.Call1 s a) =
+    placed (a.stays && (not (is_own_call place s) || (not first || is_alone variables.FirstArgument a.alone)))
+placed_at place first second (layer.Call2 s a b) =
+    placed ((a.stays && b.stays) && (not (is_own_call place s) || ((not first || is_alone variables.FirstArgument a.alone) && (not second || is_alone variables.SecondArgument b.alone))))
+
+-- all levels
+unfoldable pub calls_in_place : ℕ → Bool → Bool → Expr → Placed
+calls_in_place place first second e = fold-Expr Placed (placed_at place first second) e
+
+abbrev pub is_used_in : Variable → Option Expr → Bool
+is_used_in v None = false
+is_used_in v (Some index) = uses v index
+
+-- a variable anywhere in an update
+abbrev pub is_used : Variable → Update → Bool
+is_used v update = (uses v update.left_x || is_used_in v update.left_y) || uses v update.right
+
 -- ---- Funcs
 
 -- a word that stands for a number from -2^24 to 2^24
@@ -129,6 +176,10 @@ pub record IsUpdate (inputs : List Input) (funcs : List Func) (place count : ℕ
   pub left_x : IsTrue (keeps (is_read inputs funcs place) (is_update_variable count update.second) update.left_x)
   pub left_y : IsTrue (keeps_index (is_read inputs funcs place) (is_update_variable count update.second) count update.left_y)
   pub right : IsTrue (keeps (is_read inputs funcs (suc place)) (is_update_variable count update.second) update.right)
+  -- an argument that doesn't stand in place on the left isn't used at all, and one that does stands so in each call of the own Func
+  pub first_argument : IsTrue (is_first_in_place update || not (is_used variables.FirstArgument update))
+  pub second_argument : IsTrue (is_second_in_place update || not (is_used variables.SecondArgument update))
+  pub own_calls : IsTrue (calls_in_place place (is_first_in_place update) (is_second_in_place update) update.right).stays
   pub minimum : IsTrue (is_minimum update.first.minimum)
   pub second_minimum : IsTrue (is_second_minimum update.second)
   pub box : IsTrue (is_box update)
