@@ -3,21 +3,17 @@
 //!
 //! - [`words`], [`tokens`]: arithmetic of words, and the tokens of a line.
 //! - [`texts`]: what texts name, and which faults others have.
+//! - [`drawings`]: what texts draw.
 //! - [`pictures`]: pictures as texts.
-//! - [`pipelines`], [`values`], [`updates`]: pipelines built by hand, and their pictures.
 #![tactic(auto)]
 
 #[cfg(test)]
-mod pictures;
+mod drawings;
 #[cfg(test)]
-mod pipelines;
+mod pictures;
 #[cfg(test)]
 mod texts;
 #[cfg(test)]
 mod tokens;
-#[cfg(test)]
-mod updates;
-#[cfg(test)]
-mod values;
 #[cfg(test)]
 mod words;
