@@ -1,0 +1,4 @@
+pub mod Faults
+pub mod Lines
+pub mod Loops
+pub mod Words
