@@ -1,4 +1,6 @@
+pub mod Directives
 pub mod Faults
 pub mod Lines
 pub mod Loops
+pub mod Plans
 pub mod Words

@@ -2,8 +2,10 @@
 //! and where each Func is computed.
 #![tactic(auto)]
 
+pub mod directives;
 pub mod faults;
 pub mod lines;
+pub mod plans;
 pub mod stages;
 pub mod words;
 
