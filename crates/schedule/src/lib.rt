@@ -6,6 +6,7 @@ pub mod directives;
 pub mod faults;
 pub mod lines;
 pub mod plans;
+pub mod readers;
 pub mod stages;
 pub mod words;
 

@@ -1,6 +1,6 @@
 //! What the lines so far say of each Func.
 
-ghost use Rattle.std.specs.Prelude.{◌≡◌, ◌<◌, [], ◌∷◌, ◌++◌, Some, OnOk, IfOk, length, slice_get, slice_set, map};
+ghost use Rattle.std.specs.Prelude.{◌≡◌, ◌<◌, [], ◌∷◌, ◌++◌, Some, OnOk, OnSome, IfOk, length, slice_get, slice_set, map};
 ghost use Rattle.std.specs.Option.{option_copied};
 ghost use Rattle.schedule.specs.declared.plans.FuncPlan.{FuncPlan};
 ghost use Rattle.schedule.specs.Plans as spec;
@@ -91,7 +91,8 @@ impl Plans {
 
     /// The plan of the Func at a place.
     pub fn get(&self, at: usize) -> Option<&FuncPlan>
-        ensures { option_copied result ≡ slice_get self.now at }
+        ensures value { option_copied result ≡ slice_get self.now at }
+        ensures within { OnSome result (at < length self.now) }
     {
         self.plans.get(at)
     }
