@@ -4,6 +4,7 @@
 //! - [`words`], [`tokens`]: arithmetic of words, and the tokens of a line.
 //! - [`texts`]: what texts name, and which faults others have.
 //! - [`pictures`]: pictures as texts.
+//! - [`schedules`]: what schedules mean, and which faults others have.
 //! - [`pipelines`], [`values`], [`updates`]: pipelines built by hand, and their pictures.
 #![tactic(auto)]
 
@@ -11,6 +12,8 @@
 mod pictures;
 #[cfg(test)]
 mod pipelines;
+#[cfg(test)]
+mod schedules;
 #[cfg(test)]
 mod texts;
 #[cfg(test)]
