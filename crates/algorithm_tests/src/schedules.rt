@@ -4,10 +4,8 @@ use halide_parser::parse;
 use halide_pipeline::{Pipeline, Variable};
 use halide_syntax::ParseFault;
 use line_text::LocatedError;
-use schedule::{
-    Loop, LoopId, LoopPlace, Mark, Place, Schedule, ScheduleFault, Split, Stage, StageName, Tail,
-    read,
-};
+use schedule::{LoopPlace, Place, Schedule, read};
+use schedule_lines::{Loop, LoopId, Mark, ScheduleFault, Split, Stage, StageName, Tail};
 use std::alloc::AllocGlobal;
 use std::process::Abort;
 use std::test::Fail;

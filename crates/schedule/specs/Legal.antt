@@ -4,20 +4,20 @@
 -- first of those that mark a loop which breaks the rule, or that compute a Func which does.
 -- This project's own.
 use Rattle.std.specs.Prelude.{ℕ, min, Bool, true, false, not, ◌&&◌, ◌||◌, ◌==◌, if◌then◌else◌, List, [], ◌∷◌, length, Option, Some, None}
-use Rattle.schedule.specs.declared.faults.ScheduleFault.{ScheduleFault}
-use Rattle.schedule.specs.declared.faults.ScheduleFault.TheVariants as fault
+use Rattle.schedule_lines.specs.declared.faults.ScheduleFault.{ScheduleFault}
+use Rattle.schedule_lines.specs.declared.faults.ScheduleFault.TheVariants as fault
 use Rattle.schedule.specs.declared.legality.LoopRule.{LoopRule}
 use Rattle.schedule.specs.declared.legality.LoopRule.TheVariants as rules_of
 use Rattle.schedule.specs.declared.plans.ComputeLine.{ComputeLine}
 use Rattle.schedule.specs.declared.plans.FuncPlan.{FuncPlan}
-use Rattle.schedule.specs.declared.stages.Loop.{Loop}
-use Rattle.schedule.specs.declared.stages.Mark.TheVariants as marks
-use Rattle.schedule.specs.declared.stages.Marked.{Marked}
-use Rattle.schedule.specs.declared.stages.Stage.{Stage}
+use Rattle.schedule_lines.specs.declared.stages.Loop.{Loop}
+use Rattle.schedule_lines.specs.declared.stages.Mark.TheVariants as marks
+use Rattle.schedule_lines.specs.declared.stages.Marked.{Marked}
+use Rattle.schedule_lines.specs.declared.stages.Stage.{Stage}
 use Rattle.schedule.specs.declared.standings.Place.{Place}
 use Rattle.schedule.specs.declared.standings.Place.TheVariants as places
 use Rattle.schedule.specs.declared.standings.Standing.{Standing}
-use Rattle.schedule.specs.Loops.{is_marked, is_reduction}
+use Rattle.schedule_lines.specs.Loops.{is_marked, is_reduction}
 
 -- ---- the rules of marked loops
 

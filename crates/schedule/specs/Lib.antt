@@ -1,11 +1,6 @@
 pub mod Calls
-pub mod Directives
-pub mod Faults
 pub mod Legal
-pub mod Lines
-pub mod Loops
 pub mod Plans
 pub mod Reading
 pub mod Schedules
 pub mod Standing
-pub mod Words

@@ -12,9 +12,9 @@ use Rattle.halide_pipeline.specs.declared.expressions.Variable.TheVariants as va
 use Rattle.halide_pipeline.specs.Definitions.{is_first_in_place, is_second_in_place}
 use Rattle.schedule.specs.declared.plans.ComputeLine.{ComputeLine}
 use Rattle.schedule.specs.declared.plans.FuncPlan.{FuncPlan}
-use Rattle.schedule.specs.declared.stages.Loop.{Loop}
-use Rattle.schedule.specs.declared.stages.LoopId.TheVariants as ids
-use Rattle.schedule.specs.declared.stages.Stage.{Stage}
+use Rattle.schedule_lines.specs.declared.stages.Loop.{Loop}
+use Rattle.schedule_lines.specs.declared.stages.LoopId.TheVariants as ids
+use Rattle.schedule_lines.specs.declared.stages.Stage.{Stage}
 
 -- one more loop, over a whole variable
 abbrev pub with_loop : List Loop → List ℕ → Variable → List Loop

@@ -6,25 +6,25 @@ use Rattle.halide_pipeline.specs.declared.expressions.Source.{Source}
 use Rattle.halide_pipeline.specs.declared.expressions.Source.TheVariants as sources
 use Rattle.halide_pipeline.specs.declared.pipelines.Pipeline.{Pipeline}
 use Rattle.halide_pipeline.specs.Names.{lookup}
-use Rattle.schedule.specs.declared.faults.ScheduleFault.{ScheduleFault}
-use Rattle.schedule.specs.declared.faults.ScheduleFault.TheVariants as fault
-use Rattle.schedule.specs.declared.lines.Computed.{Computed}
-use Rattle.schedule.specs.declared.lines.Directive.{Directive}
-use Rattle.schedule.specs.declared.lines.Directive.TheVariants as directives
-use Rattle.schedule.specs.declared.lines.Line.{Line}
-use Rattle.schedule.specs.declared.lines.Line.TheVariants as lines
-use Rattle.schedule.specs.declared.lines.LoopDirective.{LoopDirective}
-use Rattle.schedule.specs.declared.lines.Subject.{Subject}
+use Rattle.schedule_lines.specs.declared.faults.ScheduleFault.{ScheduleFault}
+use Rattle.schedule_lines.specs.declared.faults.ScheduleFault.TheVariants as fault
+use Rattle.schedule_lines.specs.declared.lines.Computed.{Computed}
+use Rattle.schedule_lines.specs.declared.lines.Directive.{Directive}
+use Rattle.schedule_lines.specs.declared.lines.Directive.TheVariants as directives
+use Rattle.schedule_lines.specs.declared.lines.Line.{Line}
+use Rattle.schedule_lines.specs.declared.lines.Line.TheVariants as lines
+use Rattle.schedule_lines.specs.declared.lines.LoopDirective.{LoopDirective}
+use Rattle.schedule_lines.specs.declared.lines.Subject.{Subject}
 use Rattle.schedule.specs.declared.plans.FuncPlan.{FuncPlan}
 use Rattle.schedule.specs.declared.readers.Reader.{Reader}
 use Rattle.schedule.specs.declared.readers.Target.{Target}
 use Rattle.schedule.specs.declared.readers.Target.TheVariants as targets
-use Rattle.schedule.specs.declared.stages.Stage.{Stage}
-use Rattle.schedule.specs.declared.stages.StageName.{StageName}
-use Rattle.schedule.specs.Directives.{directed}
-use Rattle.schedule.specs.Lines.{line_of}
+use Rattle.schedule_lines.specs.declared.stages.Stage.{Stage}
+use Rattle.schedule_lines.specs.declared.stages.StageName.{StageName}
+use Rattle.schedule_lines.specs.Directives.{directed}
+use Rattle.schedule_lines.specs.Lines.{line_of}
 use Rattle.schedule.specs.Plans.{plan_of, stage, with_stage, with_compute}
-use Rattle.schedule.specs.Words.{text_of, words_of}
+use Rattle.schedule_lines.specs.Words.{text_of, words_of}
 
 -- ---- what the first word names: an input, or `f` or `f.0` to `f.3` of a Func f
 

@@ -5,12 +5,12 @@ use Rattle.line_text.specs.Reading.{◌>>=◌}
 use Rattle.line_text.specs.Lines.{lines_of}
 use Rattle.line_text.specs.LineReading.{taken_from}
 use Rattle.halide_pipeline.specs.declared.pipelines.Pipeline.{Pipeline}
-use Rattle.schedule.specs.declared.faults.ScheduleFault.{ScheduleFault}
+use Rattle.schedule_lines.specs.declared.faults.ScheduleFault.{ScheduleFault}
 use Rattle.schedule.specs.declared.plans.FuncPlan.{FuncPlan}
 use Rattle.schedule.specs.declared.readers.Reader.{Reader}
 use Rattle.schedule.specs.declared.schedules.Schedule.{Schedule}
-use Rattle.schedule.specs.declared.stages.Stage.{Stage}
-use Rattle.schedule.specs.declared.stages.StageName.{StageName}
+use Rattle.schedule_lines.specs.declared.stages.Stage.{Stage}
+use Rattle.schedule_lines.specs.declared.stages.StageName.{StageName}
 use Rattle.schedule.specs.declared.standings.Standing.{Standing}
 use Rattle.schedule.specs.Legal.{verdict}
 use Rattle.schedule.specs.Plans as plans

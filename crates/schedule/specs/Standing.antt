@@ -7,20 +7,20 @@ use Rattle.halide_pipeline.specs.declared.expressions.Source.{Source}
 use Rattle.halide_pipeline.specs.declared.expressions.Source.TheVariants as sources
 use Rattle.halide_pipeline.specs.declared.pipelines.Pipeline.{Pipeline}
 use Rattle.halide_pipeline.specs.Names.{lookup}
-use Rattle.schedule.specs.declared.lines.Computed.{Computed}
-use Rattle.schedule.specs.declared.lines.Computed.TheVariants as computed
-use Rattle.schedule.specs.declared.lines.LoopNames.{LoopNames}
+use Rattle.schedule_lines.specs.declared.lines.Computed.{Computed}
+use Rattle.schedule_lines.specs.declared.lines.Computed.TheVariants as computed
+use Rattle.schedule_lines.specs.declared.lines.LoopNames.{LoopNames}
 use Rattle.schedule.specs.declared.plans.ComputeLine.{ComputeLine}
 use Rattle.schedule.specs.declared.plans.FuncPlan.{FuncPlan}
-use Rattle.schedule.specs.declared.stages.Loop.{Loop}
-use Rattle.schedule.specs.declared.stages.LoopId.{LoopId}
-use Rattle.schedule.specs.declared.stages.Mark.TheVariants as marks
+use Rattle.schedule_lines.specs.declared.stages.Loop.{Loop}
+use Rattle.schedule_lines.specs.declared.stages.LoopId.{LoopId}
+use Rattle.schedule_lines.specs.declared.stages.Mark.TheVariants as marks
 use Rattle.schedule.specs.declared.standings.LoopPlace.{LoopPlace}
 use Rattle.schedule.specs.declared.standings.Place.{Place}
 use Rattle.schedule.specs.declared.standings.Place.TheVariants as places
 use Rattle.schedule.specs.declared.standings.Standing.{Standing}
 use Rattle.schedule.specs.Calls.{place_calls}
-use Rattle.schedule.specs.Loops.{find, is_marked, same_id}
+use Rattle.schedule_lines.specs.Loops.{find, is_marked, same_id}
 
 -- ---- reads
 

@@ -3,9 +3,9 @@
 ghost use Rattle.std.specs.Prelude.{◌≡◌};
 ghost use Rattle.schedule.specs.Legal as spec;
 
-use crate::faults::ScheduleFault;
+use schedule_lines::faults::ScheduleFault;
 use crate::plans::{ComputeLine, FuncPlan};
-use crate::stages::{Loop, Mark, Marked, Stage, is_marked, is_reduction};
+use schedule_lines::stages::{Loop, Mark, Marked, Stage, is_marked, is_reduction};
 use crate::standings::{Place, Standing};
 
 /// A rule of marked loops.

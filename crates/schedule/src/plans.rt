@@ -5,8 +5,8 @@ ghost use Rattle.std.specs.Option.{option_copied};
 ghost use Rattle.schedule.specs.declared.plans.FuncPlan.{FuncPlan};
 ghost use Rattle.schedule.specs.Plans as spec;
 
-use crate::lines::Computed;
-use crate::stages::{Loop, LoopId, Stage};
+use schedule_lines::lines::Computed;
+use schedule_lines::stages::{Loop, LoopId, Stage};
 use halide_pipeline::{Func, Reduction, Update, Variable};
 use sqlite_items::Items;
 use std::alloc::{AllocError, Global};

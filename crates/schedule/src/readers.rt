@@ -5,12 +5,12 @@ ghost use Rattle.line_text.specs.LineReading.{Takes};
 ghost use Rattle.line_text.specs.Reading.{Gives};
 ghost use Rattle.schedule.specs.Reading as spec;
 
-use crate::directives::directed;
-use crate::faults::ScheduleFault;
-use crate::lines::{Computed, Directive, Line, LoopDirective, Subject, line_of};
+use schedule_lines::directives::directed;
+use schedule_lines::faults::ScheduleFault;
+use schedule_lines::lines::{Computed, Directive, Line, LoopDirective, Subject, line_of};
 use crate::plans::{ComputeLine, FuncPlan, Plans, plans_of};
-use crate::stages::{Stage, StageName};
-use crate::words::words_of;
+use schedule_lines::stages::{Stage, StageName};
+use schedule_lines::words::words_of;
 use halide_pipeline::{Pipeline, Source};
 use line_text::ReadError;
 use sqlite_items::Items;

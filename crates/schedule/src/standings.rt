@@ -4,9 +4,9 @@ ghost use Rattle.std.specs.Prelude.{◌≡◌, ◌+◌, ◌<◌, ◌^◌, IfOk, 
 ghost use Rattle.schedule.specs.Standing as spec;
 
 use crate::calls::place_calls;
-use crate::lines::{Computed, LoopNames};
+use schedule_lines::lines::{Computed, LoopNames};
 use crate::plans::{ComputeLine, FuncPlan};
-use crate::stages::{Loop, LoopId, Mark, find, is_marked, same_id};
+use schedule_lines::stages::{Loop, LoopId, Mark, find, is_marked, same_id};
 use halide_pipeline::{Pipeline, Source};
 use sqlite_items::at;
 use std::alloc::{AllocError, Global};

@@ -1,5 +1,0 @@
-use Rattle.std.proofs.Common.{length}
-use Rattle.schedule.proofs.directives.+add_copies.Given as goal
-
-abbrev pub decreases-add_copies : goal.decreases-add_copies
-decreases-add_copies l = length l.loops.now

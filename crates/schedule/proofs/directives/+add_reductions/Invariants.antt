@@ -1,5 +1,0 @@
-use Rattle.std.proofs.Common.{length}
-use Rattle.schedule.proofs.directives.+add_reductions.Given as goal
-
-abbrev pub decreases-add_reductions : goal.decreases-add_reductions
-decreases-add_reductions l = length l.loops.now

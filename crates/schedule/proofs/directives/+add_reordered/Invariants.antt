@@ -1,5 +1,0 @@
-use Rattle.std.proofs.Common.{length}
-use Rattle.schedule.proofs.directives.+add_reordered.Given as goal
-
-abbrev pub decreases-add_reordered : goal.decreases-add_reordered
-decreases-add_reordered l = length l.loops.now

@@ -1,5 +1,0 @@
-use Rattle.std.proofs.Common.{length}
-use Rattle.schedule.proofs.directives.+has_twice.Given as goal
-
-abbrev pub decreases-has_twice : goal.decreases-has_twice
-decreases-has_twice l = length l.loops.now

@@ -1,5 +1,0 @@
-use Rattle.std.proofs.Common.{length}
-use Rattle.schedule.proofs.directives.+same_ids.Given as goal
-
-abbrev pub decreases-same_ids : goal.decreases-same_ids
-decreases-same_ids l = length l.own.now

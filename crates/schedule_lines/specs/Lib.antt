@@ -1,0 +1,5 @@
+pub mod Directives
+pub mod Faults
+pub mod Lines
+pub mod Loops
+pub mod Words
