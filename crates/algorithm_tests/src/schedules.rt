@@ -11,16 +11,20 @@ use std::process::Abort;
 use std::test::Fail;
 
 /// Three Funcs, of which the last calls the second and that one the first.
-const CHAIN: &str = "input in 64 48\nfunc p(x,y) = in(x,y)\nfunc q(x,y) = p(x,y)+p(x+1,y)\nfunc z(x) = x\nfunc o(x,y) = q(x,y)\noutput o 64 48\n";
+const CHAIN: &str =
+    "input in 64 48\nfunc p(x,y) = in(x,y)\nfunc q(x,y) = p(x,y)+p(x+1,y)\nfunc z(x) = x\nfunc o(x,y) = q(x,y)\noutput o 64 48\n";
 
 /// A Func with an update over two reduction variables and one argument in place.
-const SUMS: &str = "func h(x,y) = 0\nupdate h(x,r) = h(x,r-1) + x over r 1 4, s 0 4\nfunc o(x,y) = h(x,y)\noutput o 64 48\n";
+const SUMS: &str =
+    "func h(x,y) = 0\nupdate h(x,r) = h(x,r-1) + x over r 1 4, s 0 4\nfunc o(x,y) = h(x,y)\noutput o 64 48\n";
 
 /// The two-stage blur.
-const BLUR: &str = "input in 64 48\nfunc bx(x,y) = (in(clamp(x-1,0,63),clamp(y,0,47)) + in(x,clamp(y,0,47)) + in(clamp(x+1,0,63),clamp(y,0,47))) / 3\nfunc by(x,y) = (bx(x,y-1) + bx(x,y) + bx(x,y+1)) / 3\noutput by 64 48\n";
+const BLUR: &str =
+    "input in 64 48\nfunc bx(x,y) = (in(clamp(x-1,0,63),clamp(y,0,47)) + in(x,clamp(y,0,47)) + in(clamp(x+1,0,63),clamp(y,0,47))) / 3\nfunc by(x,y) = (bx(x,y-1) + bx(x,y) + bx(x,y+1)) / 3\noutput by 64 48\n";
 
 /// The histogram.
-const HISTOGRAM: &str = "input in 8\nfunc h(x) = 0\nupdate h(clamp(in(r),0,3)) = h(clamp(in(r),0,3)) + 1 over r 0 8\noutput h 4\n";
+const HISTOGRAM: &str =
+    "input in 8\nfunc h(x) = 0\nupdate h(clamp(in(r),0,3)) = h(clamp(in(r),0,3)) + 1 over r 0 8\noutput h 4\n";
 
 /// The pipeline of a text that has one.
 fn pipeline(rt: &(impl Abort + AllocGlobal), text: &str) -> Result<Pipeline, Fail> {
@@ -86,7 +90,11 @@ fn reads_the_examples(rt: HostRuntime) -> Result<(), Fail> {
     check(
         &rt,
         HISTOGRAM,
-        &[("h compute_root", 15, 1), ("h.0 parallel r", 8, 1), ("", 0, 0)],
+        &[
+            ("h compute_root", 15, 1),
+            ("h.0 parallel r", 8, 1),
+            ("", 0, 0),
+        ],
     )
 }
 
@@ -187,7 +195,11 @@ fn refuses_line_by_line(rt: HostRuntime) -> Result<(), Fail> {
                 5,
                 4,
             ),
-            ("o split x a b 2 guard\no split a c d 2 guard\no split c e f 2 shift", 0, 0),
+            (
+                "o split x a b 2 guard\no split a c d 2 guard\no split c e f 2 shift",
+                0,
+                0,
+            ),
             ("o reorder x x", 6, 1),
             ("o reorder x", 0, 0),
             ("o reorder y x\no parallel x", 0, 0),
@@ -221,11 +233,19 @@ fn refuses_lines_of_updates(rt: HostRuntime) -> Result<(), Fail> {
             ("h.0 reorder x r", 6, 1),
             ("h compute_root\nh.0 reorder x r s", 0, 0),
             ("h compute_root\nh.0 reorder x s", 0, 0),
-            ("h compute_root\nh.0 split r ro ri 2 guard\nh.0 reorder ro ri", 6, 3),
+            (
+                "h compute_root\nh.0 split r ro ri 2 guard\nh.0 reorder ro ri",
+                6,
+                3,
+            ),
             ("h.0 split x xo xi 4 shift", 9, 1),
             ("h.0 split r ro ri 4 shift", 9, 1),
             ("h compute_root\nh split x xo xi 4 shift", 0, 0),
-            ("h compute_root\nh.0 split x xo xi 4 guard\nh.0 parallel xo", 0, 0),
+            (
+                "h compute_root\nh.0 split x xo xi 4 guard\nh.0 parallel xo",
+                0,
+                0,
+            ),
         ],
     )
 }
@@ -243,16 +263,32 @@ fn refuses_final_loops(rt: HostRuntime) -> Result<(), Fail> {
             ("p compute_at o y\np parallel y", 7, 2),
             ("p compute_root\np parallel y", 0, 0),
             ("o split y yo yi 4 shift\no parallel yo", 10, 2),
-            ("o split y yo yi 4 shift\no split yo a b 2 guard\no parallel a", 10, 3),
-            ("o split y yo yi 4 guard\no split yo a b 2 shift\no parallel a", 10, 3),
-            ("o split y yo yi 4 shift\no reorder x yo yi\no parallel yi", 10, 3),
+            (
+                "o split y yo yi 4 shift\no split yo a b 2 guard\no parallel a",
+                10,
+                3,
+            ),
+            (
+                "o split y yo yi 4 guard\no split yo a b 2 shift\no parallel a",
+                10,
+                3,
+            ),
+            (
+                "o split y yo yi 4 shift\no reorder x yo yi\no parallel yi",
+                10,
+                3,
+            ),
             ("o split x xo xi 4 shift\no parallel y", 0, 0),
             ("o vectorize x", 11, 1),
             ("o split x xo xi 4 guard\no vectorize xo", 11, 2),
             ("o split x xo xi 8 guard\no vectorize xi", 11, 2),
             ("o split x xo xi 4 shift\no vectorize xi", 0, 0),
             ("o split y yo yi 4 guard\no vectorize yi", 11, 2),
-            ("o split y yo yi 4 guard\no vectorize yi\no reorder yi x", 0, 0),
+            (
+                "o split y yo yi 4 guard\no vectorize yi\no reorder yi x",
+                0,
+                0,
+            ),
             (
                 "o split x xo xi 4 guard\no split y yo yi 4 guard\no vectorize xi\no vectorize yi",
                 11,
@@ -273,7 +309,11 @@ fn refuses_final_loops(rt: HostRuntime) -> Result<(), Fail> {
             ("h compute_root", 0, 0),
             ("h compute_root\nh.0 parallel s", 7, 2),
             ("h compute_root\nh.0 reorder x r s\nh.0 parallel s", 8, 3),
-            ("h compute_root\nh.0 split r ro ri 4 guard\nh.0 vectorize ri", 11, 3),
+            (
+                "h compute_root\nh.0 split r ro ri 4 guard\nh.0 vectorize ri",
+                11,
+                3,
+            ),
             ("h compute_at o y", 0, 0),
         ],
     )
@@ -304,8 +344,16 @@ fn refuses_places(rt: HostRuntime) -> Result<(), Fail> {
             ("q compute_at o y\np compute_at q y", 13, 2),
             ("p compute_at o y\nq compute_at o nope", 13, 1),
             ("p compute_root\nq compute_at o nope", 13, 2),
-            ("o split x xo xi 4 guard\no vectorize xi\np compute_at o xi", 13, 3),
-            ("o split x xo xi 4 guard\no unroll xi\np compute_at o xi", 0, 0),
+            (
+                "o split x xo xi 4 guard\no vectorize xi\np compute_at o xi",
+                13,
+                3,
+            ),
+            (
+                "o split x xo xi 4 guard\no unroll xi\np compute_at o xi",
+                0,
+                0,
+            ),
             ("o parallel y\np compute_at o y", 0, 0),
             ("p compute_at o xo\no split x xo xi 4 guard", 0, 0),
             ("p compute_at o x\no split x xo xi 4 guard", 13, 1),
@@ -344,7 +392,11 @@ fn names_the_first_fault(rt: HostRuntime) -> Result<(), Fail> {
             ("o parallel x\no unroll", 1, 2),
             ("o parallel x\nnope parallel x", 2, 2),
             ("o split y yo yi 4 shift\no parallel yo\np parallel y", 7, 3),
-            ("o vectorize x\no split y yo yi 4 shift\no parallel yo", 10, 3),
+            (
+                "o vectorize x\no split y yo yi 4 shift\no parallel yo",
+                10,
+                3,
+            ),
             ("p compute_at nope x\no vectorize x", 11, 2),
             ("q reorder x\np compute_at nope x", 13, 2),
             ("q compute_at nope x\np compute_at nope x", 13, 1),
@@ -400,7 +452,8 @@ fn stage<'a>(
 #[test]
 fn gives_loops_and_places(rt: HostRuntime) -> Result<(), Fail> {
     let blur = pipeline(&rt, BLUR)?;
-    let text = "by split y yo yi 8 guard\nby parallel yo\nbx compute_at by yo\nbx split x xo xi 4 guard\nbx split xo x u 2 shift\nbx vectorize xi\nbx unroll u\nbx reorder xi x u\n";
+    let text =
+        "by split y yo yi 8 guard\nby parallel yo\nbx compute_at by yo\nbx split x xo xi 4 guard\nbx split xo x u 2 shift\nbx vectorize xi\nbx unroll u\nbx reorder xi x u\n";
     let schedule: Schedule = read(text, &blur, rt.alloc())?;
     let by = stage(&rt, &schedule, 1, None);
     check_loops(
@@ -477,8 +530,22 @@ fn gives_the_loops_of_updates(rt: HostRuntime) -> Result<(), Fail> {
             ("s", LoopId::Whole(Variable::SecondReduction), None),
         ],
     )?;
-    assert!(rt; schedule.stage(StageName { func: 0, update: Some(1) }).is_none());
-    assert!(rt; schedule.stage(StageName { func: 2, update: None }).is_none());
+    assert!(rt;
+        schedule
+            .stage(StageName {
+                func: 0,
+                update: Some(1)
+            })
+            .is_none()
+    );
+    assert!(rt;
+        schedule
+            .stage(StageName {
+                func: 2,
+                update: None
+            })
+            .is_none()
+    );
     Ok(())
 }
 

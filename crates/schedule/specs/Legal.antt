@@ -58,8 +58,8 @@ abbrev pub loops_line : LoopRule → Bool → Bool → List Loop → Option ℕ
 loops_line rule is_root is_innermost [] = None
 loops_line rule is_root is_innermost (first ∷ outside) =
     earlier
-      (if breaks rule is_root is_innermost (is_empty outside) first then line_of first.marked else None)
-      (loops_line rule is_root false outside)
+    (if breaks rule is_root is_innermost (is_empty outside) first then line_of first.marked else None)
+    (loops_line rule is_root false outside)
 
 abbrev pub stage_line : LoopRule → Bool → Stage → Option ℕ
 stage_line rule is_root stage = loops_line rule is_root true stage.loops
@@ -81,8 +81,8 @@ rule_line rule [] plans = None
 rule_line rule (standing ∷ standings) [] = None
 rule_line rule (standing ∷ standings) (plan ∷ plans) =
     earlier
-      (if standing.is_reached then plan_line rule (is_root standing.place) plan else None)
-      (rule_line rule standings plans)
+    (if standing.is_reached then plan_line rule (is_root standing.place) plan else None)
+    (rule_line rule standings plans)
 
 -- ---- where Funcs are computed
 
@@ -100,8 +100,8 @@ nowhere_line [] plans = None
 nowhere_line (standing ∷ standings) [] = None
 nowhere_line (standing ∷ standings) (plan ∷ plans) =
     earlier
-      (if standing.is_reached && is_nowhere standing.place then compute_line plan.compute else None)
-      (nowhere_line standings plans)
+    (if standing.is_reached && is_nowhere standing.place then compute_line plan.compute else None)
+    (nowhere_line standings plans)
 
 abbrev pub is_inlined : Place → Bool
 is_inlined places.Inlined = true

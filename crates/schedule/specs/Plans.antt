@@ -3,7 +3,7 @@
 -- The loops of a stage stand innermost first: of a pure definition its arguments; of an update its reduction
 -- variables, then its arguments in place.
 -- This project's own.
-use Rattle.std.specs.Prelude.{ℕ, Bool, true, false, if◌then◌else◌, List, [], ◌∷◌, ◌++◌, map, slice_get, slice_set, Option, Some, None}
+use Rattle.std.specs.Prelude.{ℕ, true, false, if◌then◌else◌, List, [], ◌∷◌, ◌++◌, map, slice_get, slice_set, Option, Some, None}
 use Rattle.halide_pipeline.specs.declared.definitions.Func.{Func}
 use Rattle.halide_pipeline.specs.declared.definitions.Reduction.{Reduction}
 use Rattle.halide_pipeline.specs.declared.definitions.Update.{Update}

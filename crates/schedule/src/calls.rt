@@ -45,9 +45,7 @@ fn second_calls(own: &Option<Expr>, func: usize) -> bool
 fn update_calls(update: &Update, func: usize) -> bool
     ensures { result ≡ spec.update_calls func update.now }
 {
-    calls(&update.left_x, func)
-        || second_calls(&update.left_y, func)
-        || calls(&update.right, func)
+    calls(&update.left_x, func) || second_calls(&update.left_y, func) || calls(&update.right, func)
 }
 
 fn updates_call(updates: &[Update], func: usize) -> bool

@@ -3,10 +3,10 @@
 ghost use Rattle.std.specs.Prelude.{◌≡◌};
 ghost use Rattle.schedule.specs.Legal as spec;
 
-use schedule_lines::faults::ScheduleFault;
 use crate::plans::{ComputeLine, FuncPlan};
-use schedule_lines::stages::{Loop, Mark, Marked, Stage, is_marked, is_reduction};
 use crate::standings::{Place, Standing};
+use schedule_lines::faults::ScheduleFault;
+use schedule_lines::stages::{Loop, Mark, Marked, Stage, is_marked, is_reduction};
 
 /// A rule of marked loops.
 #[derive(Clone, Copy, Debug, PartialEq, Eq)]
@@ -33,17 +33,12 @@ fn is_four(factor: Option<u32>) -> bool
 
 /// Whether a loop breaks a rule. It is asked beside it whether its Func is at root, and whether it is the
 /// innermost and the outermost of its stage.
-fn breaks(
-    rule: LoopRule,
-    is_root: bool,
-    is_innermost: bool,
-    is_outermost: bool,
-    own: &Loop,
-) -> bool
+fn breaks(rule: LoopRule, is_root: bool, is_innermost: bool, is_outermost: bool, own: &Loop) -> bool
     ensures { result ≡ spec.breaks rule is_root is_innermost is_outermost own.now }
 {
     match rule {
-        LoopRule::ParallelOutermost => is_marked(own, Mark::Parallel) && (!is_outermost || !is_root),
+        LoopRule::ParallelOutermost => is_marked(own, Mark::Parallel)
+            && (!is_outermost || !is_root),
         LoopRule::ParallelOverArgument => {
             is_marked(own, Mark::Parallel) && is_reduction(own.variable)
         }

@@ -5,9 +5,9 @@ ghost use Rattle.std.specs.Option.{option_copied};
 ghost use Rattle.schedule.specs.declared.plans.FuncPlan.{FuncPlan};
 ghost use Rattle.schedule.specs.Plans as spec;
 
+use halide_pipeline::{Func, Reduction, Update, Variable};
 use schedule_lines::lines::Computed;
 use schedule_lines::stages::{Loop, LoopId, Stage};
-use halide_pipeline::{Func, Reduction, Update, Variable};
 use sqlite_items::Items;
 use std::alloc::{AllocError, Global};
 use std::marker::Model;
@@ -184,8 +184,18 @@ fn pure_loops(alloc: Global, func: &Func) -> Result<Items<Loop>, AllocError>
     ensures { IfOk result (λ loops. loops ≡ spec.pure_loops func.now) }
 {
     let mut loops = Items::new(alloc);
-    add_loop(alloc, &mut loops, &func.first_argument, Variable::FirstArgument)?;
-    add_second(alloc, &mut loops, &func.second_argument, Variable::SecondArgument)?;
+    add_loop(
+        alloc,
+        &mut loops,
+        &func.first_argument,
+        Variable::FirstArgument,
+    )?;
+    add_second(
+        alloc,
+        &mut loops,
+        &func.second_argument,
+        Variable::SecondArgument,
+    )?;
     Ok(loops)
 }
 
@@ -194,23 +204,34 @@ fn update_loops(alloc: Global, func: &Func, update: &Update) -> Result<Items<Loo
     ensures { IfOk result (λ loops. loops ≡ spec.update_loops func.now update.now) }
 {
     let mut loops = Items::new(alloc);
-    add_loop(alloc, &mut loops, &update.first.name, Variable::FirstReduction)?;
+    add_loop(
+        alloc,
+        &mut loops,
+        &update.first.name,
+        Variable::FirstReduction,
+    )?;
     add_reduction(alloc, &mut loops, &update.second)?;
     if update.is_first_in_place() {
-        add_loop(alloc, &mut loops, &func.first_argument, Variable::FirstArgument)?;
+        add_loop(
+            alloc,
+            &mut loops,
+            &func.first_argument,
+            Variable::FirstArgument,
+        )?;
     }
     if update.is_second_in_place() {
-        add_second(alloc, &mut loops, &func.second_argument, Variable::SecondArgument)?;
+        add_second(
+            alloc,
+            &mut loops,
+            &func.second_argument,
+            Variable::SecondArgument,
+        )?;
     }
     Ok(loops)
 }
 
 /// The stages of updates.
-fn update_stages(
-    alloc: Global,
-    func: &Func,
-    updates: &[Update],
-) -> Result<Items<Stage>, AllocError>
+fn update_stages(alloc: Global, func: &Func, updates: &[Update]) -> Result<Items<Stage>, AllocError>
     ensures { IfOk result (λ stages. stages ≡ map (spec.update_stage func.now) updates.now) }
 {
     let mut stages = Items::new(alloc);

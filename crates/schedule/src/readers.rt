@@ -5,14 +5,14 @@ ghost use Rattle.line_text.specs.LineReading.{Takes};
 ghost use Rattle.line_text.specs.Reading.{Gives};
 ghost use Rattle.schedule.specs.Reading as spec;
 
+use crate::plans::{ComputeLine, FuncPlan, Plans, plans_of};
+use halide_pipeline::{Pipeline, Source};
+use line_text::ReadError;
 use schedule_lines::directives::directed;
 use schedule_lines::faults::ScheduleFault;
 use schedule_lines::lines::{Computed, Directive, Line, LoopDirective, Subject, line_of};
-use crate::plans::{ComputeLine, FuncPlan, Plans, plans_of};
 use schedule_lines::stages::{Stage, StageName};
 use schedule_lines::words::words_of;
-use halide_pipeline::{Pipeline, Source};
-use line_text::ReadError;
 use sqlite_items::Items;
 use std::alloc::{AllocError, Global};
 
@@ -152,9 +152,7 @@ fn take_directed(
         None => Err(ReadError::Fault(ScheduleFault::UnknownStage)),
         Some(plan) => {
             let stage = new_stage(alloc, plan, name.update, reader.lines, directive)?;
-            reader
-                .plans
-                .set_stage(name.func, name.update, stage);
+            reader.plans.set_stage(name.func, name.update, stage);
             Ok(())
         }
     }

@@ -8,15 +8,15 @@ ghost use Rattle.line_text.specs.Reading.{GivesLocated};
 ghost use Rattle.schedule.specs.Reading.{taken};
 ghost use Rattle.schedule.specs.Schedules as spec;
 
-use schedule_lines::faults::ScheduleFault;
 use crate::legality::verdict;
 use crate::plans::Plans;
 use crate::readers::{Reader, start, take_line};
-use schedule_lines::stages::{Stage, StageName};
 use crate::standings::{Standing, standings};
 use halide_pipeline::Pipeline;
 use line_text::LocatedError;
 use line_text::lines::first_line;
+use schedule_lines::faults::ScheduleFault;
+use schedule_lines::stages::{Stage, StageName};
 use sqlite_items::Items;
 use std::alloc::Global;
 

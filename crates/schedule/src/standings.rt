@@ -4,10 +4,10 @@ ghost use Rattle.std.specs.Prelude.{◌≡◌, ◌+◌, ◌<◌, ◌^◌, IfOk, 
 ghost use Rattle.schedule.specs.Standing as spec;
 
 use crate::calls::place_calls;
-use schedule_lines::lines::{Computed, LoopNames};
 use crate::plans::{ComputeLine, FuncPlan};
-use schedule_lines::stages::{Loop, LoopId, Mark, find, is_marked, same_id};
 use halide_pipeline::{Pipeline, Source};
+use schedule_lines::lines::{Computed, LoopNames};
+use schedule_lines::stages::{Loop, LoopId, Mark, find, is_marked, same_id};
 use sqlite_items::at;
 use std::alloc::{AllocError, Global};
 
@@ -64,8 +64,7 @@ fn is_called(pipeline: &Pipeline, func: usize, at: usize, behind: &[bool]) -> bo
     match behind {
         [] => false,
         [first, others @ ..] => {
-            (*first && place_calls(pipeline, at, func))
-                || is_called(pipeline, func, at + 1, others)
+            (*first && place_calls(pipeline, at, func)) || is_called(pipeline, func, at + 1, others)
         }
     }
 }
@@ -106,12 +105,7 @@ fn loop_in(pipeline: &Pipeline, func: usize, name: &[u8], plan: &FuncPlan) -> Op
 }
 
 /// The loop that these names name, behind the Func at a place.
-fn host(
-    pipeline: &Pipeline,
-    plans: &[FuncPlan],
-    own: usize,
-    names: &LoopNames,
-) -> Option<LoopPlace>
+fn host(pipeline: &Pipeline, plans: &[FuncPlan], own: usize, names: &LoopNames) -> Option<LoopPlace>
     ensures { result ≡ spec.host pipeline.now plans.now own names.now }
 {
     match pipeline.source(names.func.as_slice()) {
@@ -266,8 +260,8 @@ fn standings_from(
         [first, others @ ..] => {
             let mut found = standings_from(alloc, pipeline, plans, func + 1, others)?;
             let behind = found.as_slice();
-            let is_reached =
-                func == pipeline.output.func || is_read(pipeline, func, func + 1, behind);
+            let is_reached = func == pipeline.output.func
+                || is_read(pipeline, func, func + 1, behind);
             let place = place_of(alloc, pipeline, plans, func, first, behind)?;
             found.insert(0, Standing { is_reached, place })?;
             Ok(found)

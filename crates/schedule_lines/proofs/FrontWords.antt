@@ -1,5 +1,5 @@
 -- The words of bytes are the first one and those behind it.
-use Rattle.std.proofs.Common.{◌≡◌, ◌≢◌, ℕ, ◌+◌, suc, Bool, true, false, not, cond, ◌==◌, List, [], ◌∷◌, ◌++◌, take, drop, refl, ap, arith}
+use Rattle.std.proofs.Common.{◌≡◌, ℕ, ◌+◌, suc, Bool, true, false, not, cond, ◌==◌, List, [], ◌∷◌, ◌++◌, take, drop, refl, ap, arith}
 use Rattle.std.specs.List.{prefix_len}
 use Rattle.line_text.specs.Lines.{joined, after_first}
 use Rattle.schedule_lines.specs.Words.{words_of, word_of, is_in_word, goes_on}
@@ -12,8 +12,8 @@ Splits text = words_of text ≡ word_of (take (prefix_len is_in_word text) text)
 goes_on_at : (test : Bool) (byte next : ℕ) (text : List ℕ)
     → cond test (words_of text) (cond (goes_on text) (joined next (words_of text)) ((next ∷ []) ∷ words_of text)) ≡ word_of (take (cond (not test) (1 + prefix_len is_in_word text) 0) (next ∷ text)) ++ words_of (after_first (drop (cond (not test) (1 + prefix_len is_in_word text) 0) (next ∷ text)))
     → cond (not test)
-        (joined byte (cond test (words_of text) (cond (goes_on text) (joined next (words_of text)) ((next ∷ []) ∷ words_of text))))
-        ((byte ∷ []) ∷ cond test (words_of text) (cond (goes_on text) (joined next (words_of text)) ((next ∷ []) ∷ words_of text)))
+    (joined byte (cond test (words_of text) (cond (goes_on text) (joined next (words_of text)) ((next ∷ []) ∷ words_of text))))
+    ((byte ∷ []) ∷ cond test (words_of text) (cond (goes_on text) (joined next (words_of text)) ((next ∷ []) ∷ words_of text)))
     ≡ (byte ∷ take (cond (not test) (1 + prefix_len is_in_word text) 0) (next ∷ text)) ∷ words_of (after_first (drop (cond (not test) (1 + prefix_len is_in_word text) 0) (next ∷ text)))
 unfolding words_of
 goes_on_at true byte next text splits = refl

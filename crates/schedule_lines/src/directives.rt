@@ -287,15 +287,18 @@ fn add_reordered(
 }
 
 /// The loops with those that are named in their own places anew.
-fn reordered(
-    alloc: Global,
-    stage: &Stage,
-    names: &[Items<u8>],
-) -> Result<Items<Loop>, AllocError>
+fn reordered(alloc: Global, stage: &Stage, names: &[Items<u8>]) -> Result<Items<Loop>, AllocError>
     ensures { IfOk result (λ loops. loops ≡ spec.reordered stage.now.loops names.now) }
 {
     let mut found = Items::new(alloc);
-    add_reordered(alloc, &mut found, stage, names, names, stage.loops.as_slice())?;
+    add_reordered(
+        alloc,
+        &mut found,
+        stage,
+        names,
+        names,
+        stage.loops.as_slice(),
+    )?;
     Ok(found)
 }
 

@@ -119,7 +119,10 @@ pub fn same_id(a: LoopId, b: LoopId) -> bool
 pub fn is_reduction(variable: Variable) -> bool
     ensures { result ≡ spec.is_reduction variable }
 {
-    matches!(variable, Variable::FirstReduction | Variable::SecondReduction)
+    matches!(
+        variable,
+        Variable::FirstReduction | Variable::SecondReduction
+    )
 }
 
 /// The loop with a name.

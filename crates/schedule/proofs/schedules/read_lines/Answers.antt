@@ -1,4 +1,4 @@
-use Rattle.std.proofs.Common.{◌≡◌, ◌≢◌, [], length, ap, arith, rules}
+use Rattle.std.proofs.Common.{◌≡◌, ◌≢◌, [], arith, rules}
 use Rattle.std.proofs.lemmas.Grind.{common_steps}
 use Rattle.line_text.proofs.ReadingLaws.{goes_on, fails, is_done}
 use Rattle.schedule.proofs.schedules.read_lines.Goals as goal
