@@ -1,3 +1,4 @@
+pub mod Accepted
 pub mod Calls
 pub mod Legal
 pub mod Plans
