@@ -1,10 +1,11 @@
 //! A whole schedule.
 
-ghost use Rattle.std.specs.Prelude.{◌≡◌, slice_get};
+ghost use Rattle.std.specs.Prelude.{◌≡◌, IfOk, slice_get};
 ghost use Rattle.std.specs.Option.{option_copied};
 ghost use Rattle.line_text.specs.Lines.{lines_of};
 ghost use Rattle.line_text.specs.LineReading.{Reads, taken_from};
 ghost use Rattle.line_text.specs.Reading.{GivesLocated};
+ghost use Rattle.schedule.specs.Accepted.{IsAccepted};
 ghost use Rattle.schedule.specs.Reading.{taken};
 ghost use Rattle.schedule.specs.Schedules as spec;
 
@@ -99,8 +100,9 @@ fn finished(
     }
 }
 
-/// The schedule that a text means for a pipeline. Every Func that the output reaches is then computed somewhere,
-/// and its loops keep the rules of `specs/Legal.antt`.
+/// The schedule that a text means for a pipeline. It keeps what later passes need (`specs/Accepted.antt`): each
+/// stage's loops are those that its splits leave, the loops of each Func that the output reaches keep the rules, and
+/// each such Func is computed somewhere, at a loop that can have it.
 ///
 /// # Errors
 ///
@@ -113,7 +115,8 @@ pub fn read(
     pipeline: &Pipeline,
     alloc: Global,
 ) -> Result<Schedule, LocatedError<ScheduleFault>>
-    ensures { GivesLocated (λ x. x) result (spec.read pipeline.now text.now) }
+    ensures given { GivesLocated (λ x. x) result (spec.read pipeline.now text.now) }
+    ensures accepted { IfOk result (λ schedule. IsAccepted pipeline.now schedule) }
 {
     let mut reader = start(alloc, pipeline)?;
     let _count = read_lines(&mut reader, pipeline, alloc, text.as_bytes())?;
