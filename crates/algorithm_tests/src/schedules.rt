@@ -562,3 +562,16 @@ fn gives_what_is_reached(rt: HostRuntime) -> Result<(), Fail> {
     assert_eq!(rt; place(&schedule, 1), Some(Place::Root));
     Ok(())
 }
+
+/// A text of each kind of line, small enough to fail each of its allocations in turn.
+#[test]
+fn reads_a_small_schedule(rt: HostRuntime) -> Result<(), Fail> {
+    let small = pipeline(&rt, "func p(x) = x\nfunc o(x) = p(x)\noutput o 8")?;
+    let text = "o split x a b 4 guard\no vectorize b\no reorder b a\np compute_at o a";
+    assert_eq!(rt; verdict(&rt, &small, text)?, (0, 0));
+    assert_eq!(rt;
+        verdict(&rt, &small, "p compute_root\np parallel y")?,
+        (3, 2)
+    );
+    Ok(())
+}
