@@ -1,7 +1,7 @@
 -- Each line that is accepted keeps the plans of all Funcs.
-use Rattle.std.proofs.Common.{◌≡◌, ℕ, zero, suc, ◌+◌, ◌≤◌, Bool, true, false, not, cond, List, [], ◌∷◌, ◌++◌, length, map, Option, Some, None, Result, Ok, Err, refl, sym, ap, ◌∙◌, subst, arith}
+use Rattle.std.proofs.Common.{◌≡◌, ℕ, zero, suc, ◌+◌, ◌≤◌, Bool, true, false, cond, List, [], ◌∷◌, ◌++◌, length, map, Option, Some, None, Result, Ok, Err, refl, subst, arith}
 use Rattle.std.proofs.Common.{length-append}
-use Rattle.std.specs.Prelude.{is_some, slice_get, slice_set, nat_le, nat_lt}
+use Rattle.std.specs.Prelude.{is_some, slice_get, slice_set, nat_le}
 use Rattle.line_text.specs.Reading.{◌>>=◌}
 use Rattle.line_text.specs.LineReading.{located, taken_from}
 use Rattle.halide_pipeline.specs.declared.definitions.Func.{Func}
@@ -32,7 +32,7 @@ use Rattle.schedule.specs.declared.readers.Target.{Target}
 use Rattle.schedule.specs.declared.readers.Target.TheVariants as targets
 use Rattle.schedule.specs.Accepted.{Pairwise, IsUpdateStage, IsPlan}
 use Rattle.schedule.specs.Plans.{plan_of, pure_loops, reduction_loops, with_second, with_first_in_place, update_loops, update_stage, stage, with_stage, with_compute}
-use Rattle.schedule.specs.Reading.{compute_fault, computed_as, computed_of, new_stage, new_stage_of, directed_of, taken_computed, taken_directed, taken_directive, target, settled, line_of_bytes, taken, start}
+use Rattle.schedule.specs.Reading.{compute_fault, computed_as, computed_of, new_stage_of, directed_of, taken_directive, target, settled, line_of_bytes, taken, start}
 
 -- ---- lists in pairs
 
@@ -135,7 +135,7 @@ directed_by : (given : Result Stage ScheduleFault) (own : Stage) (pipeline : Pip
 directed_by (Err wrong) own pipeline reader name d plan found at is next e are = cc
 directed_by (Ok new) own pipeline reader name d plan found at is next e are =
     let kept : Pairwise IsPlan pipeline.funcs (slice_set reader.plans name.func (with_stage plan name.update new)) =
-        pairwise_set IsPlan pipeline.funcs reader.plans name.func plan (with_stage plan name.update new) found (λ f kept. stage_kept name.update f plan reader.lines d own new at is kept) are in
+    pairwise_set IsPlan pipeline.funcs reader.plans name.func plan (with_stage plan name.update new) found (λ f kept. stage_kept name.update f plan reader.lines d own new at is kept) are in
     let next_is : record { lines = reader.lines; plans = slice_set reader.plans name.func (with_stage plan name.update new) } ≡ next = cc in
     subst (ArePlans pipeline) next_is kept
 
@@ -187,7 +187,7 @@ unfolding taken_from
 lines_keep pipeline number reader [] last e are = let last_is : reader ≡ last = cc in subst (ArePlans pipeline) last_is are
 lines_keep pipeline number reader (line ∷ later) last e are =
     lines_by (taken pipeline reader line) pipeline number reader later last (line_keeps pipeline reader line)
-      (λ next rest kept. lines_keep pipeline (number + 1) next later last rest kept) e are
+    (λ next rest kept. lines_keep pipeline (number + 1) next later last rest kept) e are
 
 pub plans_begun : (pipeline : Pipeline) → ArePlans pipeline (start pipeline)
 plans_begun pipeline = pairwise_map IsPlan plan_of pipeline.funcs plan_begun

@@ -1,8 +1,8 @@
 -- Where no rule is broken, the loops of Funcs that are reached keep all of them.
-use Rattle.std.proofs.Common.{◌≡◌, ℕ, zero, suc, ◌+◌, ◌≤◌, ◌<◌, Bool, true, false, not, cond, List, [], ◌∷◌, length, Option, Some, None, refl, sym, ap, ◌∙◌, subst, arith}
-use Rattle.std.specs.Prelude.{◌&&◌, ◌||◌, ◌==◌, is_some, slice_get, nat_lt, min}
+use Rattle.std.proofs.Common.{◌≡◌, ℕ, ◌+◌, ◌<◌, Bool, true, false, not, cond, List, [], ◌∷◌, length, Option, Some, None, refl, subst}
+use Rattle.std.specs.Prelude.{◌&&◌, ◌||◌, ◌==◌, is_some, slice_get, nat_lt}
 use Rattle.std.specs.List.{AllByRecursion}
-use Rattle.std.proofs.lemmas.Bool.{and_from, and_parts, or_parts, eqb-true, ltb-true, not-true}
+use Rattle.std.proofs.lemmas.Bool.{and_from, and_parts, or_parts, eqb-true, ltb-true}
 use Rattle.halide_pipeline.specs.declared.expressions.Source.{Source}
 use Rattle.halide_pipeline.specs.declared.expressions.Source.TheVariants as sources
 use Rattle.halide_pipeline.specs.declared.pipelines.Pipeline.{Pipeline}
@@ -22,12 +22,11 @@ use Rattle.schedule.specs.declared.legality.LoopRule.TheVariants as rules_of
 use Rattle.schedule.specs.declared.plans.ComputeLine.{ComputeLine}
 use Rattle.schedule.specs.declared.plans.FuncPlan.{FuncPlan}
 use Rattle.schedule.specs.declared.standings.LoopPlace.{LoopPlace}
-use Rattle.schedule.specs.declared.standings.Place.{Place}
 use Rattle.schedule.specs.declared.standings.Place.TheVariants as places
 use Rattle.schedule.specs.declared.standings.Standing.{Standing}
-use Rattle.schedule.specs.Accepted.{Pairwise, Numbered, keeps, Keeps, IsComputed, IsLegal, IsHost, IsHosted}
+use Rattle.schedule.specs.Accepted.{Pairwise, Numbered, keeps, Keeps, IsLegal, IsHost, IsHosted}
 use Rattle.schedule.specs.Legal.{breaks, earlier, line_of, is_empty, loops_line, stage_line, stages_line, plan_line, is_root as at_root, rule_line, is_nowhere, compute_line, nowhere_line, is_inlined, has_lost, or_next, last_verdict, verdict}
-use Rattle.schedule.specs.Standing.{is_root, is_host, unvectorized, loop_in, loop_of, host_of, host, is_called, outside, place_at, place_computed, place_of, place, is_reached, standing, standings_from, standings}
+use Rattle.schedule.specs.Standing.{is_root, is_host, unvectorized, loop_of, host_of, host, is_called, outside, place_at, place_computed, place_of, place, standings_from}
 
 -- ---- lines that are none
 
@@ -111,7 +110,7 @@ func_keeps : (plan : FuncPlan) (own : Standing) → HasLine plan own
     → IsLegal plan own
 func_keeps plan own has rules nowhere lost reached =
     let each : (rule : LoopRule) → (stage_line rule (at_root own.place) plan.pure ≡ None) × (stages_line rule (at_root own.place) plan.updates ≡ None) =
-        λ rule. no_earlier (stage_line rule (at_root own.place) plan.pure) (stages_line rule (at_root own.place) plan.updates) (reached_line own.is_reached (plan_line rule (at_root own.place) plan) reached (rules rule)) in
+    λ rule. no_earlier (stage_line rule (at_root own.place) plan.pure) (stages_line rule (at_root own.place) plan.updates) (reached_line own.is_reached (plan_line rule (at_root own.place) plan) reached (rules rule)) in
     record {
       pure = λ rule. loops_keep rule (at_root own.place) true plan.pure.loops (each rule).0;
       updates = λ rule. stages_keep rule (at_root own.place) plan.updates (each rule).1;
@@ -126,11 +125,12 @@ funcs_keep [] (own ∷ behind) has kept = absurd has
 funcs_keep (plan ∷ plans) [] has kept = absurd has
 funcs_keep (plan ∷ plans) (own ∷ behind) has kept =
     let rule_parts : (rule : LoopRule) → (cond own.is_reached (plan_line rule (at_root own.place) plan) None ≡ None) × (rule_line rule behind plans ≡ None) =
-        λ rule. no_earlier (cond own.is_reached (plan_line rule (at_root own.place) plan) None) (rule_line rule behind plans) (kept.rules rule) in
+    λ rule. no_earlier (cond own.is_reached (plan_line rule (at_root own.place) plan) None) (rule_line rule behind plans) (kept.rules rule) in
     let place_parts = no_earlier (cond (own.is_reached && is_nowhere own.place) (compute_line plan.compute) None) (nowhere_line behind plans) kept.places in
-    let lost_parts = or_parts (own.is_reached && is_inlined own.place && (plan.is_directed || not (length plan.updates == 0))) (has_lost behind plans) kept.lost in
-    (func_keeps plan own has.0 (λ rule. (rule_parts rule).0) place_parts.0 lost_parts.0,
-     funcs_keep plans behind has.1 (record { rules = λ rule. (rule_parts rule).1; places = place_parts.1; lost = lost_parts.1 }))
+    let lost_parts = or_parts (own.is_reached && is_inlined own.place && (plan.is_directed || not (length plan.updates == 0))) (has_lost behind plans) kept.lost in (
+      func_keeps plan own has.0 (λ rule. (rule_parts rule).0) place_parts.0 lost_parts.0,
+      funcs_keep plans behind has.1 (record { rules = λ rule. (rule_parts rule).1; places = place_parts.1; lost = lost_parts.1 }),
+    )
 
 not_lost : (lost : Bool) → last_verdict lost ≡ None → lost ≡ false
 not_lost true e = cc
@@ -173,9 +173,10 @@ line_by (Some line) is_output pipeline plans at behind e = refl
 
 pub have_lines : (pipeline : Pipeline) (plans : List FuncPlan) (at : ℕ) (rest : List FuncPlan) → Pairwise HasLine rest (standings_from pipeline plans at rest)
 have_lines pipeline plans at [] = tt
-have_lines pipeline plans at (first ∷ others) =
-    (line_by first.compute (at == pipeline.output.func) pipeline plans at (standings_from pipeline plans (at + 1) others),
-     have_lines pipeline plans (at + 1) others)
+have_lines pipeline plans at (first ∷ others) = (
+  line_by first.compute (at == pipeline.output.func) pipeline plans at (standings_from pipeline plans (at + 1) others),
+  have_lines pipeline plans (at + 1) others,
+)
 
 -- ---- the loop at which a Func is computed
 
@@ -253,6 +254,7 @@ host_of_line false (Some line) pipeline plans at behind wanted e = computed_host
 
 pub are_hosted : (pipeline : Pipeline) (plans : List FuncPlan) (at : ℕ) (rest : List FuncPlan) → Numbered (IsHosted pipeline plans) at (standings_from pipeline plans at rest)
 are_hosted pipeline plans at [] = tt
-are_hosted pipeline plans at (first ∷ others) =
-    (λ wanted e. host_of_line (at == pipeline.output.func) first.compute pipeline plans at (standings_from pipeline plans (at + 1) others) wanted e,
-     are_hosted pipeline plans (at + 1) others)
+are_hosted pipeline plans at (first ∷ others) = (
+  λ wanted e. host_of_line (at == pipeline.output.func) first.compute pipeline plans at (standings_from pipeline plans (at + 1) others) wanted e,
+  are_hosted pipeline plans (at + 1) others,
+)

@@ -9,7 +9,6 @@ use Rattle.halide_pipeline.specs.declared.pipelines.Pipeline.{Pipeline}
 use Rattle.schedule_lines.specs.declared.faults.ScheduleFault.{ScheduleFault}
 use Rattle.schedule.specs.declared.readers.Reader.{Reader}
 use Rattle.schedule.specs.declared.schedules.Schedule.{Schedule}
-use Rattle.schedule.specs.declared.standings.Standing.{Standing}
 use Rattle.schedule.specs.Accepted.{Pairwise, IsPlan, IsAccepted}
 use Rattle.schedule.specs.Legal.{verdict}
 use Rattle.schedule.specs.Reading.{start, taken}
@@ -38,7 +37,7 @@ read_by : (given : Result Reader (ℕ × ScheduleFault)) (pipeline : Pipeline) (
 read_by (Err wrong) pipeline text schedule is e = cc
 read_by (Ok reader) pipeline text schedule is e =
     accepted_by (verdict (standings pipeline reader.plans) reader.plans) pipeline reader schedule refl e
-      (lines_keep pipeline 1 (start pipeline) (lines_of text) reader is (plans_begun pipeline))
+    (lines_keep pipeline 1 (start pipeline) (lines_of text) reader is (plans_begun pipeline))
 
 pub read_keeps : (pipeline : Pipeline) (text : List ℕ) (schedule : Schedule) → read pipeline text ≡ Ok schedule → IsAccepted pipeline schedule
 unfolding read

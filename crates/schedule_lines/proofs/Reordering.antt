@@ -1,13 +1,13 @@
 -- Loops that take their places anew are the same loops.
-use Rattle.std.proofs.Common.{◌≡◌, ℕ, suc, ◌+◌, ◌≤◌, Bool, true, false, not, cond, List, [], ◌∷◌, ◌++◌, length, Option, Some, None, refl, sym, ap, ◌∙◌, subst, arith}
-use Rattle.std.specs.Prelude.{◌&&◌, ◌||◌, is_some}
+use Rattle.std.proofs.Common.{◌≡◌, ℕ, suc, ◌+◌, Bool, true, false, cond, List, [], ◌∷◌, length, Option, Some, None, refl, ap, ◌∙◌, arith}
+use Rattle.std.specs.Prelude.{◌||◌, is_some}
 use Rattle.std.specs.Str.{bytes_eq}
 use Rattle.std.proofs.lemmas.Bool.{and_parts, or_parts}
 use Rattle.schedule_lines.specs.declared.stages.Loop.{Loop}
 use Rattle.schedule_lines.specs.Loops.{find}
 use Rattle.schedule_lines.specs.Directives.{is_known, are_known, is_among, is_twice_among, has_twice, or_else, find_or, reordered_from, reordered}
 use Rattle.schedule_lines.specs.Making.{total, has_name, Differ, SameLoops}
-use Rattle.schedule_lines.proofs.Names.{same_bytes, itself, turned, total-append}
+use Rattle.schedule_lines.proofs.Names.{turned, total-append}
 use Rattle.schedule_lines.proofs.Replacing.{IsBetween, between}
 
 -- what is added up over the loops that are named, and over the others
@@ -144,7 +144,7 @@ pub alone : (name : List ℕ) (loops : List Loop) (own : Loop) → Differ loops 
 alone name loops own differ e =
     let place = between name loops own e in
     let split : total (has_name name) loops ≡ total (has_name name) place.before + total (has_name name) (own ∷ place.after) =
-        ap (total (has_name name)) place.loops_are ∙ total-append (has_name name) place.before (own ∷ place.after) in
+    ap (total (has_name name)) place.loops_are ∙ total-append (has_name name) place.before (own ∷ place.after) in
     let itself_counts : has_name name own ≡ 1 = rw place.named refl in
     record {
       place = place;
@@ -165,9 +165,9 @@ chosen_by (Some l) own name names value e known differ once later =
     let single : is_twice_among l.name (name ∷ names) ≡ false = twice name (name ∷ names) own l once e in
     let rest : is_among l.name names ≡ false = rw back at single in
     let whole : total (named (name ∷ names) value) own ≡ total (named (name ∷ names) value) before + total (named (name ∷ names) value) (l ∷ after) =
-        ap (total (named (name ∷ names) value)) here.place.loops_are ∙ total-append (named (name ∷ names) value) before (l ∷ after) in
+    ap (total (named (name ∷ names) value)) here.place.loops_are ∙ total-append (named (name ∷ names) value) before (l ∷ after) in
     let less : total (named names value) own ≡ total (named names value) before + total (named names value) (l ∷ after) =
-        ap (total (named names value)) here.place.loops_are ∙ total-append (named names value) before (l ∷ after) in
+    ap (total (named names value)) here.place.loops_are ∙ total-append (named names value) before (l ∷ after) in
     let at_own : named (name ∷ names) value l ≡ value l = rw back refl in
     let at_none : named names value l ≡ 0 = rw rest refl in
     let b = unused name names value before here.none_before in

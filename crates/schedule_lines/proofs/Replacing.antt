@@ -1,10 +1,9 @@
 -- Loops of which one is replaced.
-use Rattle.std.proofs.Common.{◌≡◌, ℕ, ◌+◌, ◌≤◌, Bool, true, false, not, cond, List, [], ◌∷◌, ◌++◌, length, map, Option, Some, None, refl, sym, ap, ◌∙◌, append_assoc, arith}
-use Rattle.std.specs.Prelude.{◌&&◌, ◌||◌, is_some}
+use Rattle.std.proofs.Common.{◌≡◌, ℕ, Bool, true, false, cond, List, [], ◌∷◌, ◌++◌, Some, refl, ap}
 use Rattle.std.specs.Str.{bytes_eq}
 use Rattle.schedule_lines.specs.declared.stages.Loop.{Loop}
 use Rattle.schedule_lines.specs.Loops.{find}
-use Rattle.schedule_lines.specs.Directives.{replaced, is_known}
+use Rattle.schedule_lines.specs.Directives.{replaced}
 
 -- The loop with a name stands between others.
 pub record IsBetween (name : List ℕ) (loops : List Loop) (own : Loop) : Type 0 where

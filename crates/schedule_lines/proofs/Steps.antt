@@ -1,5 +1,5 @@
 -- Each line that is accepted keeps what is kept of a stage.
-use Rattle.std.proofs.Common.{◌≡◌, ℕ, suc, ◌+◌, ◌≤◌, Bool, true, false, not, cond, List, [], ◌∷◌, ◌++◌, length, map, Option, Some, None, Result, Ok, Err, refl, sym, ap, ◌∙◌, subst, arith}
+use Rattle.std.proofs.Common.{◌≡◌, ℕ, suc, ◌≤◌, Bool, true, false, not, cond, List, [], ◌∷◌, ◌++◌, length, map, Option, Some, None, Result, Ok, Err, refl, sym, ap, ◌∙◌, subst, arith}
 use Rattle.std.specs.Prelude.{◌&&◌, ◌||◌, ◌<◌, is_some, nat_le, nat_lt}
 use Rattle.std.specs.Str.{bytes_eq}
 use Rattle.std.proofs.lemmas.Bool.{and_parts, or_parts, eqb-true, leb-false, ltb-false}
@@ -17,10 +17,10 @@ use Rattle.schedule_lines.specs.declared.stages.LoopId.TheVariants as ids
 use Rattle.schedule_lines.specs.declared.stages.Marked.{Marked}
 use Rattle.schedule_lines.specs.declared.stages.Stage.{Stage}
 use Rattle.schedule_lines.specs.Loops.{find, same_id}
-use Rattle.schedule_lines.specs.Directives.{is_known, is_shift, open_of, find_open, parts, split_fault, split_loop, settled_split, split_of, split, are_known, has_twice, reordered, reductions, same_ids, reorder, with_mark, mark_loop, is_bad_unroll, mark_of, mark, directed}
-use Rattle.schedule_lines.specs.Making.{total, has_name, Differ, bare, IsSplit, SameLoops, IsMade, Begun, Parted, Marked as Remarked, Moved, IsStage}
-use Rattle.schedule_lines.proofs.Names.{same_bytes, turned, total-append, unknown}
-use Rattle.schedule_lines.proofs.Replacing.{IsBetween, between}
+use Rattle.schedule_lines.specs.Directives.{is_known, is_shift, open_of, parts, split_fault, split_loop, settled_split, split_of, are_known, has_twice, reordered, reductions, same_ids, reorder, with_mark, mark_loop, is_bad_unroll, mark_of, directed}
+use Rattle.schedule_lines.specs.Making.{total, has_name, bare, SameLoops, IsMade, Parted, Marked as Remarked, Moved, IsStage}
+use Rattle.schedule_lines.proofs.Names.{same_bytes, total-append, unknown}
+use Rattle.schedule_lines.proofs.Replacing.{between}
 use Rattle.schedule_lines.proofs.Reordering.{one, total-ones, same_loops}
 
 -- ---- tests that are passed
@@ -56,7 +56,7 @@ marked_keeps is_update start stage own name marked e is =
     let new = with_mark own marked in
     let loops_are : (mark_loop stage own name marked).loops ≡ place.before ++ new ∷ place.after = place.replaced_are (new ∷ []) in
     let same : (value : Loop → ℕ) → value new ≡ value own → total value (mark_loop stage own name marked).loops ≡ total value stage.loops =
-        λ value equal. ap (total value) loops_are ∙ replaced_total value place.before new own place.after equal ∙ sym (ap (total value) place.loops_are) in
+    λ value equal. ap (total value) loops_are ∙ replaced_total value place.before new own place.after equal ∙ sym (ap (total value) place.loops_are) in
     record {
       made = Remarked stage.loops (mark_loop stage own name marked).loops stage.splits is.made (ap (map bare) loops_are ∙ replaced_map place.before new own place.after refl ∙ sym (ap (map bare) place.loops_are));
       names = λ n. omega (arith, same (has_name n) refl, is.names n);
@@ -121,16 +121,16 @@ split_keeps is_update start stage own line e right is =
     let no_inner : total (has_name line.inner) (place.before ++ own ∷ place.after) ≡ 0 = sym (old_total (has_name line.inner)) ∙ unknown line.inner stage.loops each_known.1 in
     let no_outer : total (has_name line.outer) (place.before ++ own ∷ place.after) ≡ 0 = sym (old_total (has_name line.outer)) ∙ unknown line.outer stage.loops each_known.0 in
     let counted : total one (place.before ++ (new_loops ++ place.after)) ≡ suc (total one (place.before ++ own ∷ place.after)) =
-        omega (arith, total-append one place.before (new_loops ++ place.after), total-append one place.before (own ∷ place.after)) in
+    omega (arith, total-append one place.before (new_loops ++ place.after), total-append one place.before (own ∷ place.after)) in
     let below : length stage.loops < 5 = leb-false 5 (length stage.loops) counts.1 in
     record {
       made = subst (λ (ls : List Loop). IsMade is_update start ls (split_loop stage own line).splits) (sym loops_are)
           (Parted place.before own place.after stage.splits line (subst (λ (ls : List Loop). IsMade is_update start ls stage.splits) place.loops_are is.made)
-            (record { some = ltb-false line.factor 1 factors.0; few = ltb-false 64 line.factor factors.1; unshifted = shifts.0 }));
+          (record { some = ltb-false line.factor 1 factors.0; few = ltb-false 64 line.factor factors.1; unshifted = shifts.0 }));
       names = λ n.
           let old : total (has_name n) (place.before ++ own ∷ place.after) ≤ 1 = subst (λ (k : ℕ). k ≤ 1) (old_total (has_name n)) (is.names n) in
           subst (λ (k : ℕ). k ≤ 1) (sym (new_total (has_name n)))
-            (part_names (bytes_eq line.inner n) (bytes_eq line.outer n) n place.before own place.after _ _ refl refl known.1 no_inner no_outer old);
+          (part_names (bytes_eq line.inner n) (bytes_eq line.outer n) n place.before own place.after _ _ refl refl known.1 no_inner no_outer old);
       few = omega (arith, new_total one, old_total one, counted, total-ones (split_loop stage own line).loops, total-ones stage.loops, below);
     }
 
@@ -180,7 +180,7 @@ reorder_keeps is_update start stage names new e is =
     let new_is : reordered_stage stage names ≡ new = cc in
     let same : SameLoops (reordered stage.loops names) stage.loops = same_loops stage.loops names is.names (not_not (are_known stage.loops names) known.0) once.0 in
     let order : reductions (reordered stage.loops names) ≡ reductions stage.loops =
-        sym (same_ids-true (reductions stage.loops) (reductions (reordered stage.loops names)) (not_not (order_test stage names) ordered.0)) in
+    sym (same_ids-true (reductions stage.loops) (reductions (reordered stage.loops names)) (not_not (order_test stage names) ordered.0)) in
     subst (λ (s : Stage). IsStage is_update start s) new_is (record {
       made = Moved stage.loops (reordered stage.loops names) stage.splits is.made same order;
       names = λ n. subst (λ (k : ℕ). k ≤ 1) (sym (same (has_name n))) (is.names n);
