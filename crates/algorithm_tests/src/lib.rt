@@ -5,12 +5,15 @@
 //! - [`texts`]: what texts name, and which faults others have.
 //! - [`drawings`]: what texts draw.
 //! - [`pictures`]: pictures as texts.
+//! - [`schedules`]: what schedules mean, and which faults others have.
 #![tactic(auto)]
 
 #[cfg(test)]
 mod drawings;
 #[cfg(test)]
 mod pictures;
+#[cfg(test)]
+mod schedules;
 #[cfg(test)]
 mod texts;
 #[cfg(test)]

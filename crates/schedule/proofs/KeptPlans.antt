@@ -1,0 +1,193 @@
+-- Each line that is accepted keeps the plans of all Funcs.
+use Rattle.std.proofs.Common.{◌≡◌, ℕ, zero, suc, ◌+◌, ◌≤◌, Bool, true, false, cond, List, [], ◌∷◌, ◌++◌, length, map, Option, Some, None, Result, Ok, Err, refl, subst, arith}
+use Rattle.std.proofs.Common.{length-append}
+use Rattle.std.specs.Prelude.{is_some, slice_get, slice_set, nat_le}
+use Rattle.line_text.specs.Reading.{◌>>=◌}
+use Rattle.line_text.specs.LineReading.{located, taken_from}
+use Rattle.halide_pipeline.specs.declared.definitions.Func.{Func}
+use Rattle.halide_pipeline.specs.declared.definitions.Reduction.{Reduction}
+use Rattle.halide_pipeline.specs.declared.definitions.Update.{Update}
+use Rattle.halide_pipeline.specs.declared.expressions.Variable.TheVariants as variables
+use Rattle.halide_pipeline.specs.declared.pipelines.Pipeline.{Pipeline}
+use Rattle.halide_pipeline.specs.Definitions.{is_first_in_place, is_second_in_place}
+use Rattle.schedule_lines.specs.declared.faults.ScheduleFault.{ScheduleFault}
+use Rattle.schedule_lines.specs.declared.faults.ScheduleFault.TheVariants as fault
+use Rattle.schedule_lines.specs.declared.lines.Computed.{Computed}
+use Rattle.schedule_lines.specs.declared.lines.Directive.{Directive}
+use Rattle.schedule_lines.specs.declared.lines.Directive.TheVariants as directives
+use Rattle.schedule_lines.specs.declared.lines.Line.{Line}
+use Rattle.schedule_lines.specs.declared.lines.Line.TheVariants as lines
+use Rattle.schedule_lines.specs.declared.lines.LoopDirective.{LoopDirective}
+use Rattle.schedule_lines.specs.declared.stages.Loop.{Loop}
+use Rattle.schedule_lines.specs.declared.stages.LoopId.TheVariants as ids
+use Rattle.schedule_lines.specs.declared.stages.Stage.{Stage}
+use Rattle.schedule_lines.specs.declared.stages.StageName.{StageName}
+use Rattle.schedule_lines.specs.Directives.{directed}
+use Rattle.schedule_lines.specs.Making.{Differ, IsStage, Begun}
+use Rattle.schedule_lines.proofs.Steps.{directed_keeps}
+use Rattle.schedule.specs.declared.plans.ComputeLine.{ComputeLine}
+use Rattle.schedule.specs.declared.plans.FuncPlan.{FuncPlan}
+use Rattle.schedule.specs.declared.readers.Reader.{Reader}
+use Rattle.schedule.specs.declared.readers.Target.{Target}
+use Rattle.schedule.specs.declared.readers.Target.TheVariants as targets
+use Rattle.schedule.specs.Accepted.{Pairwise, IsUpdateStage, IsPlan}
+use Rattle.schedule.specs.Plans.{plan_of, pure_loops, reduction_loops, with_second, with_first_in_place, update_loops, update_stage, stage, with_stage, with_compute}
+use Rattle.schedule.specs.Reading.{compute_fault, computed_as, computed_of, new_stage_of, directed_of, taken_directive, target, settled, line_of_bytes, taken, start}
+
+-- ---- lists in pairs
+
+pub pairwise_map : {A B : Type 0} (P : A → B → Type 0) (f : A → B) (xs : List A) → ((x : A) → P x (f x)) → Pairwise P xs (map f xs)
+pairwise_map P f [] each = tt
+pairwise_map P f (x ∷ xs) each = (each x, pairwise_map P f xs each)
+
+pub pairwise_set : {A B : Type 0} (P : A → B → Type 0) (xs : List A) (ys : List B) (k : ℕ) (old new : B) → slice_get ys k ≡ Some old → ((x : A) → P x old → P x new)
+    → Pairwise P xs ys → Pairwise P xs (slice_set ys k new)
+pairwise_set P [] [] k old new is keeps pairs = cc
+pairwise_set P [] (y ∷ ys) k old new is keeps pairs = absurd pairs
+pairwise_set P (x ∷ xs) [] k old new is keeps pairs = absurd pairs
+pairwise_set P (x ∷ xs) (y ∷ ys) zero old new is keeps pairs =
+    let same : y ≡ old = cc in
+    (keeps x (subst (P x) same pairs.0), pairs.1)
+pairwise_set P (x ∷ xs) (y ∷ ys) (suc k) old new is keeps pairs = (pairs.0, pairwise_set P xs ys k old new is keeps pairs.1)
+
+-- ---- before any line
+
+few_pure : (second : Option (List ℕ)) (first : List ℕ) (func : Func) → func.second_argument ≡ second → length (pure_loops func) ≤ 5
+few_pure None first func e = rw e (omega arith)
+few_pure (Some name) first func e = rw e (omega arith)
+
+few_reductions : (second : Option Reduction) (update : Update) → update.second ≡ second → length (reduction_loops update) ≤ 2
+few_reductions None update e = rw e (omega arith)
+few_reductions (Some reduction) update e = rw e (omega arith)
+
+with_first_by : (in_place : Bool) (loops : List Loop) (x : Loop) → length (cond in_place (loops ++ x ∷ []) loops) ≤ length loops + 1
+with_first_by true loops x = omega (arith, length-append loops (x ∷ []))
+with_first_by false loops x = omega arith
+
+with_second_by : (in_place : Bool) (second : Option (List ℕ)) (func : Func) (loops : List Loop) → func.second_argument ≡ second
+    → length (cond in_place (with_second loops second variables.SecondArgument) loops) ≤ length loops + 1
+with_second_by true None func loops e = omega arith
+with_second_by true (Some name) func loops e = omega (arith, length-append loops (record { id = ids.Whole variables.SecondArgument; name = name; variable = variables.SecondArgument; inner_of = None; is_from_shift = false; marked = None } ∷ []))
+with_second_by false second func loops e = omega arith
+
+few_update : (func : Func) (update : Update) → length (update_loops func update) ≤ 5
+few_update func update =
+    let first = with_first_in_place func update (reduction_loops update) in
+    let a = few_reductions update.second update refl in
+    let b : length first ≤ length (reduction_loops update) + 1 = with_first_by (is_first_in_place update) (reduction_loops update) _ in
+    let d : length (update_loops func update) ≤ length first + 1 = with_second_by (is_second_in_place update) func.second_argument func first refl in
+    omega arith
+
+begun : (is_update : Bool) (start : List Loop) → length start ≤ 5 → Differ start → IsStage is_update start (record { loops = start; splits = [] })
+begun is_update start few differ = record { made = Begun; names = differ; few = few }
+
+plan_begun : (func : Func) → IsPlan func (plan_of func)
+plan_begun func = record {
+  pure = begun false (pure_loops func) (few_pure func.second_argument [] func refl);
+  updates = pairwise_map (IsUpdateStage func) (update_stage func) func.updates (λ update. begun true (update_loops func update) (few_update func update));
+}
+
+-- ---- a plan behind a line
+
+abbrev ArePlans : Pipeline → Reader → Type 0
+ArePlans pipeline reader = Pairwise IsPlan pipeline.funcs reader.plans
+
+compute_kept : (func : Func) (plan : FuncPlan) (compute : ComputeLine) → IsPlan func plan → IsPlan func (with_compute plan compute)
+compute_kept func plan compute is = record { pure = is.pure; updates = is.updates }
+
+-- a stage that is there, and the one that a line makes of it
+stage_kept : (update : Option ℕ) (func : Func) (plan : FuncPlan) (line : ℕ) (d : LoopDirective) (own new : Stage) → stage plan update ≡ Some own → directed (is_some update) own line d ≡ Ok new
+    → IsPlan func plan → IsPlan func (with_stage plan update new)
+stage_kept None func plan line d own new found e is =
+    let same : plan.pure ≡ own = cc in
+    record {
+      pure = λ differ. directed_keeps false (pure_loops func) own line d new e (subst (λ (s : Stage). IsStage false (pure_loops func) s) same (is.pure differ));
+      updates = is.updates;
+    }
+stage_kept (Some at) func plan line d own new found e is = record {
+  pure = is.pure;
+  updates = pairwise_set (IsUpdateStage func) func.updates plan.updates at own new found
+      (λ update kept differ. directed_keeps true (update_loops func update) own line d new e (kept differ)) is.updates;
+}
+
+-- ---- lines
+
+abbrev KeepsPlans : Pipeline → Reader → Result Reader ScheduleFault → Type 0
+KeepsPlans pipeline reader given = (next : Reader) → given ≡ Ok next → ArePlans pipeline reader → ArePlans pipeline next
+
+computed_by : (faulty : Option ScheduleFault) (pipeline : Pipeline) (reader : Reader) (func : ℕ) (computed : Computed) (plan : FuncPlan) → slice_get reader.plans func ≡ Some plan
+    → KeepsPlans pipeline reader (computed_as reader func computed plan faulty)
+computed_by (Some wrong) pipeline reader func computed plan found next e are = cc
+computed_by None pipeline reader func computed plan found next e are =
+    let line : ComputeLine = record { line = reader.lines; computed = computed } in
+    let kept : Pairwise IsPlan pipeline.funcs (slice_set reader.plans func (with_compute plan line)) = pairwise_set IsPlan pipeline.funcs reader.plans func plan (with_compute plan line) found (λ f is. compute_kept f plan line is) are in
+    let next_is : record { lines = reader.lines; plans = slice_set reader.plans func (with_compute plan line) } ≡ next = cc in
+    subst (ArePlans pipeline) next_is kept
+
+computed_found : (found : Option FuncPlan) (pipeline : Pipeline) (reader : Reader) (func : ℕ) (computed : Computed) → slice_get reader.plans func ≡ found
+    → KeepsPlans pipeline reader (computed_of pipeline reader func computed found)
+computed_found None pipeline reader func computed found next e are = cc
+computed_found (Some plan) pipeline reader func computed found next e are = computed_by (compute_fault pipeline func plan) pipeline reader func computed plan found next e are
+
+directed_by : (given : Result Stage ScheduleFault) (own : Stage) (pipeline : Pipeline) (reader : Reader) (name : StageName) (d : LoopDirective) (plan : FuncPlan) → slice_get reader.plans name.func ≡ Some plan
+    → stage plan name.update ≡ Some own → directed (is_some name.update) own reader.lines d ≡ given
+    → KeepsPlans pipeline reader (given >>= λ new. Ok (record { lines = reader.lines; plans = slice_set reader.plans name.func (with_stage plan name.update new) }))
+directed_by (Err wrong) own pipeline reader name d plan found at is next e are = cc
+directed_by (Ok new) own pipeline reader name d plan found at is next e are =
+    let kept : Pairwise IsPlan pipeline.funcs (slice_set reader.plans name.func (with_stage plan name.update new)) =
+    pairwise_set IsPlan pipeline.funcs reader.plans name.func plan (with_stage plan name.update new) found (λ f kept. stage_kept name.update f plan reader.lines d own new at is kept) are in
+    let next_is : record { lines = reader.lines; plans = slice_set reader.plans name.func (with_stage plan name.update new) } ≡ next = cc in
+    subst (ArePlans pipeline) next_is kept
+
+directed_stage : (at : Option Stage) (pipeline : Pipeline) (reader : Reader) (name : StageName) (d : LoopDirective) (plan : FuncPlan) → slice_get reader.plans name.func ≡ Some plan → stage plan name.update ≡ at
+    → KeepsPlans pipeline reader (new_stage_of name.update reader.lines d at >>= λ new. Ok (record { lines = reader.lines; plans = slice_set reader.plans name.func (with_stage plan name.update new) }))
+directed_stage None pipeline reader name d plan found at next e are = cc
+directed_stage (Some own) pipeline reader name d plan found at next e are =
+    directed_by (directed (is_some name.update) own reader.lines d) own pipeline reader name d plan found at refl next e are
+
+directed_found : (found : Option FuncPlan) (pipeline : Pipeline) (reader : Reader) (name : StageName) (d : LoopDirective) → slice_get reader.plans name.func ≡ found
+    → KeepsPlans pipeline reader (directed_of reader name d found)
+directed_found None pipeline reader name d found next e are = cc
+directed_found (Some plan) pipeline reader name d found next e are = directed_stage (stage plan name.update) pipeline reader name d plan found refl next e are
+
+directive_keeps : (to : Option Target) (pipeline : Pipeline) (reader : Reader) (d : Directive) → KeepsPlans pipeline reader (taken_directive pipeline reader to d)
+directive_keeps None pipeline reader d next e are = cc
+directive_keeps (Some targets.Input) pipeline reader d next e are = cc
+directive_keeps (Some (targets.Stage name)) pipeline reader (directives.OfPlace computed) next e are = computed_found (slice_get reader.plans name.func) pipeline reader name.func computed refl next e are
+directive_keeps (Some (targets.Stage name)) pipeline reader (directives.OfLoops d) next e are = directed_found (slice_get reader.plans name.func) pipeline reader name d refl next e are
+
+said_keeps : (said : Result Line ScheduleFault) (pipeline : Pipeline) (reader : Reader) → KeepsPlans pipeline reader (said >>= λ l. settled pipeline (record { lines = reader.lines + 1; plans = reader.plans }) l)
+said_keeps (Err wrong) pipeline reader next e are = cc
+said_keeps (Ok lines.Blank) pipeline reader next e are =
+    let next_is : record { lines = reader.lines + 1; plans = reader.plans } ≡ next = cc in
+    subst (ArePlans pipeline) next_is are
+said_keeps (Ok (lines.Directive subject d)) pipeline reader next e are =
+    let behind : Reader = record { lines = reader.lines + 1; plans = reader.plans } in
+    directive_keeps (target pipeline reader.plans subject) pipeline behind d next e are
+
+line_by : (past : Bool) (pipeline : Pipeline) (reader : Reader) (line : List ℕ)
+    → KeepsPlans pipeline reader (cond past (Err fault.Syntax) (line_of_bytes line >>= λ said. settled pipeline (record { lines = reader.lines + 1; plans = reader.plans }) said))
+line_by true pipeline reader line next e are = cc
+line_by false pipeline reader line next e are = said_keeps (line_of_bytes line) pipeline reader next e are
+
+line_keeps : (pipeline : Pipeline) (reader : Reader) (line : List ℕ) → KeepsPlans pipeline reader (taken pipeline reader line)
+unfolding taken
+line_keeps pipeline reader line next e are = line_by (nat_le 256 reader.lines) pipeline reader line next e are
+
+lines_by : (given : Result Reader ScheduleFault) (pipeline : Pipeline) (number : ℕ) (reader : Reader) (later : List (List ℕ)) (last : Reader)
+    → KeepsPlans pipeline reader given
+    → ((next : Reader) → taken_from (taken pipeline) (number + 1) next later ≡ Ok last → ArePlans pipeline next → ArePlans pipeline last)
+    → located number given (λ next. taken_from (taken pipeline) (number + 1) next later) ≡ Ok last → ArePlans pipeline reader → ArePlans pipeline last
+lines_by (Err wrong) pipeline number reader later last keeps goes_on e are = cc
+lines_by (Ok next) pipeline number reader later last keeps goes_on e are = goes_on next e (keeps next refl are)
+
+pub lines_keep : (pipeline : Pipeline) (number : ℕ) (reader : Reader) (lines : List (List ℕ)) (last : Reader) → taken_from (taken pipeline) number reader lines ≡ Ok last
+    → ArePlans pipeline reader → ArePlans pipeline last
+unfolding taken_from
+lines_keep pipeline number reader [] last e are = let last_is : reader ≡ last = cc in subst (ArePlans pipeline) last_is are
+lines_keep pipeline number reader (line ∷ later) last e are =
+    lines_by (taken pipeline reader line) pipeline number reader later last (line_keeps pipeline reader line)
+    (λ next rest kept. lines_keep pipeline (number + 1) next later last rest kept) e are
+
+pub plans_begun : (pipeline : Pipeline) → ArePlans pipeline (start pipeline)
+plans_begun pipeline = pairwise_map IsPlan plan_of pipeline.funcs plan_begun

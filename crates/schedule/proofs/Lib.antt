@@ -1,0 +1,3 @@
+pub mod KeptPlans
+pub mod Verdicts
+pub mod Whole

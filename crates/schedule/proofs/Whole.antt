@@ -1,0 +1,55 @@
+-- A text that is read means a schedule that keeps all rules.
+use Rattle.std.proofs.Common.{◌≡◌, ℕ, List, Option, Some, None, Result, Ok, Err, refl, subst}
+use Rattle.line_text.specs.Lines.{lines_of}
+use Rattle.line_text.specs.LineReading.{taken_from}
+use Rattle.line_text.specs.Reading.{◌>>=◌, FailsAt}
+use Rattle.line_text.specs.declared.read_errors.LocatedError.{LocatedError}
+use Rattle.line_text.specs.declared.read_errors.LocatedError.TheVariants as places
+use Rattle.halide_pipeline.specs.declared.pipelines.Pipeline.{Pipeline}
+use Rattle.schedule_lines.specs.declared.faults.ScheduleFault.{ScheduleFault}
+use Rattle.schedule.specs.declared.readers.Reader.{Reader}
+use Rattle.schedule.specs.declared.schedules.Schedule.{Schedule}
+use Rattle.schedule.specs.Accepted.{Pairwise, IsPlan, IsAccepted}
+use Rattle.schedule.specs.Legal.{verdict}
+use Rattle.schedule.specs.Reading.{start, taken}
+use Rattle.schedule.specs.Schedules.{finished_as, finished, read}
+use Rattle.schedule.specs.Standing.{standings, standings_from}
+use Rattle.schedule.proofs.KeptPlans.{lines_keep, plans_begun}
+use Rattle.schedule.proofs.Verdicts.{are_kept, funcs_keep, have_lines, are_hosted}
+
+accepted_by : (wrong : Option (ℕ × ScheduleFault)) (pipeline : Pipeline) (reader : Reader) (schedule : Schedule) → verdict (standings pipeline reader.plans) reader.plans ≡ wrong
+    → finished_as reader (standings pipeline reader.plans) wrong ≡ Ok schedule → Pairwise IsPlan pipeline.funcs reader.plans → IsAccepted pipeline schedule
+unfolding standings
+accepted_by (Some wrong) pipeline reader schedule is e plans = cc
+accepted_by None pipeline reader schedule is e plans =
+    let found = standings_from pipeline reader.plans 0 reader.plans in
+    let here : Schedule = record { funcs = reader.plans; standings = found } in
+    let schedule_is : here ≡ schedule = cc in
+    subst (IsAccepted pipeline) schedule_is (record {
+      plans = plans;
+      standings = refl;
+      legal = funcs_keep reader.plans found (have_lines pipeline reader.plans 0 reader.plans) (are_kept reader.plans found is);
+      hosts = are_hosted pipeline reader.plans 0 reader.plans;
+    })
+
+read_by : (given : Result Reader (ℕ × ScheduleFault)) (pipeline : Pipeline) (text : List ℕ) (schedule : Schedule) → taken_from (taken pipeline) 1 (start pipeline) (lines_of text) ≡ given
+    → (given >>= λ reader. finished pipeline reader) ≡ Ok schedule → IsAccepted pipeline schedule
+read_by (Err wrong) pipeline text schedule is e = cc
+read_by (Ok reader) pipeline text schedule is e =
+    accepted_by (verdict (standings pipeline reader.plans) reader.plans) pipeline reader schedule refl e
+    (lines_keep pipeline 1 (start pipeline) (lines_of text) reader is (plans_begun pipeline))
+
+pub read_keeps : (pipeline : Pipeline) (text : List ℕ) (schedule : Schedule) → read pipeline text ≡ Ok schedule → IsAccepted pipeline schedule
+unfolding read
+read_keeps pipeline text schedule e = read_by (taken_from (taken pipeline) 1 (start pipeline) (lines_of text)) pipeline text schedule refl e
+
+-- a line is faulty
+pub fails : (error : LocatedError ScheduleFault) (pipeline : Pipeline) (text : List ℕ) → FailsAt error (taken_from (taken pipeline) 1 (start pipeline) (lines_of text)) → FailsAt error (read pipeline text)
+unfolding read
+fails places.Memory pipeline text e = tt
+fails (places.Fault number fault) pipeline text e = rw e refl
+
+-- no line is
+pub ends : (pipeline : Pipeline) (text : List ℕ) (reader : Reader) → taken_from (taken pipeline) 1 (start pipeline) (lines_of text) ≡ Ok reader → read pipeline text ≡ finished pipeline reader
+unfolding read
+ends pipeline text reader e = rw e refl

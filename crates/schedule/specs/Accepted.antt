@@ -1,0 +1,90 @@
+-- What every schedule keeps that a text means for a pipeline.
+-- This project's own.
+use Rattle.std.specs.Prelude.{◌≡◌, ℕ, ◌+◌, ◌<◌, Bool, true, false, not, ◌&&◌, List, [], ◌∷◌, length, slice_get, Some}
+use Rattle.std.specs.List.{AllByRecursion}
+use Rattle.halide_pipeline.specs.declared.definitions.Func.{Func}
+use Rattle.halide_pipeline.specs.declared.definitions.Update.{Update}
+use Rattle.halide_pipeline.specs.declared.pipelines.Pipeline.{Pipeline}
+use Rattle.schedule_lines.specs.declared.stages.Loop.{Loop}
+use Rattle.schedule_lines.specs.declared.stages.Mark.TheVariants as marks
+use Rattle.schedule_lines.specs.declared.stages.Stage.{Stage}
+use Rattle.schedule_lines.specs.Loops.{find, is_marked}
+use Rattle.schedule_lines.specs.Making.{Differ, IsStage}
+use Rattle.schedule.specs.declared.legality.LoopRule.{LoopRule}
+use Rattle.schedule.specs.declared.plans.FuncPlan.{FuncPlan}
+use Rattle.schedule.specs.declared.schedules.Schedule.{Schedule}
+use Rattle.schedule.specs.declared.standings.LoopPlace.{LoopPlace}
+use Rattle.schedule.specs.declared.standings.Place.TheVariants as places
+use Rattle.schedule.specs.declared.standings.Standing.{Standing}
+use Rattle.schedule.specs.Legal.{breaks, is_empty, is_root, is_inlined, is_nowhere}
+use Rattle.schedule.specs.Plans.{pure_loops, update_loops}
+use Rattle.schedule.specs.Standing as standing
+
+-- Two lists of one length, of which each two in the same place are so.
+abbrev pub Pairwise : {A B : Type 0} → (A → B → Type 0) → List A → List B → Type 0
+Pairwise P [] [] = Unit {0}
+Pairwise P [] (y ∷ ys) = ⊥
+Pairwise P (x ∷ xs) [] = ⊥
+Pairwise P (x ∷ xs) (y ∷ ys) = P x y × Pairwise P xs ys
+
+-- Each of a list is so with its place, of which the first has this number.
+abbrev pub Numbered : {A : Type 0} → (ℕ → A → Type 0) → ℕ → List A → Type 0
+Numbered P at [] = Unit {0}
+Numbered P at (x ∷ xs) = P at x × Numbered P (at + 1) xs
+
+-- ---- the stages of a Func are made of their first loops, where the names of these differ
+
+abbrev pub IsUpdateStage : Func → Update → Stage → Type 0
+IsUpdateStage func update stage = Differ (update_loops func update) → IsStage true (update_loops func update) stage
+
+pub record IsPlan (func : Func) (plan : FuncPlan) : Type 0 where
+  pub pure : Differ (pure_loops func) → IsStage false (pure_loops func) plan.pure
+  pub updates : Pairwise (IsUpdateStage func) func.updates plan.updates
+
+-- ---- the loops of a Func that the output reaches keep the rules
+
+-- from a loop on, going outward
+abbrev pub keeps : LoopRule → Bool → Bool → List Loop → Bool
+keeps rule at_root is_innermost [] = true
+keeps rule at_root is_innermost (first ∷ outside) =
+    not (breaks rule at_root is_innermost (is_empty outside) first) && keeps rule at_root false outside
+
+abbrev pub Keeps : LoopRule → Bool → Stage → Type 0
+Keeps rule at_root stage = keeps rule at_root true stage.loops ≡ true
+
+-- It is computed somewhere; and where that is in the expressions that call it, it has no updates and no line is
+-- about its loops.
+pub record IsComputed (plan : FuncPlan) (own : Standing) : Type 0 where
+  pub pure : (rule : LoopRule) → Keeps rule (is_root own.place) plan.pure
+  pub updates : (rule : LoopRule) → AllByRecursion (Keeps rule (is_root own.place)) plan.updates
+  pub somewhere : is_nowhere own.place ≡ false
+  pub no_updates : is_inlined own.place ≡ true → length plan.updates ≡ 0
+  pub no_lines : is_inlined own.place ≡ true → plan.is_directed ≡ false
+
+abbrev pub IsLegal : FuncPlan → Standing → Type 0
+IsLegal plan own = own.is_reached ≡ true → IsComputed plan own
+
+-- ---- the loop at which a Func is computed is one of a later Func at root without updates, and not vectorized
+
+pub record IsHost (pipeline : Pipeline) (plans : List FuncPlan) (at : ℕ) (host : LoopPlace) : Type 0 where
+  pub later : at < host.func
+  pub plan : FuncPlan
+  pub plan_is : slice_get plans host.func ≡ Some plan
+  pub root : standing.is_root pipeline host.func plan ≡ true
+  pub no_updates : length plan.updates ≡ 0
+  pub name : List ℕ
+  pub loop : Loop
+  pub loop_is : find name plan.pure.loops ≡ Some loop
+  pub id_is : loop.id ≡ host.inside
+  pub unvectorized : is_marked marks.Vectorized loop ≡ false
+
+abbrev pub IsHosted : Pipeline → List FuncPlan → ℕ → Standing → Type 0
+IsHosted pipeline plans at own = (host : LoopPlace) → own.place ≡ places.At host → IsHost pipeline plans at host
+
+-- ---- the whole
+
+pub record IsAccepted (pipeline : Pipeline) (schedule : Schedule) : Type 0 where
+  pub plans : Pairwise IsPlan pipeline.funcs schedule.funcs
+  pub standings : schedule.standings ≡ standing.standings pipeline schedule.funcs
+  pub legal : Pairwise IsLegal schedule.funcs schedule.standings
+  pub hosts : Numbered (IsHosted pipeline schedule.funcs) 0 schedule.standings

@@ -1,0 +1,7 @@
+pub mod Accepted
+pub mod Calls
+pub mod Legal
+pub mod Plans
+pub mod Reading
+pub mod Schedules
+pub mod Standing

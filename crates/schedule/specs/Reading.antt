@@ -1,0 +1,118 @@
+-- One line after the other: what each says of the Funcs, or its least fault.
+-- This project's own.
+use Rattle.std.specs.Prelude.{ℕ, ◌+◌, ◌-◌, ◌==◌, nat_le, nat_lt, if◌then◌else◌, List, [], ◌∷◌, length, map, slice_get, slice_set, Option, Some, None, is_some, Result, Ok, Err}
+use Rattle.line_text.specs.Reading.{◌>>=◌}
+use Rattle.halide_pipeline.specs.declared.expressions.Source.{Source}
+use Rattle.halide_pipeline.specs.declared.expressions.Source.TheVariants as sources
+use Rattle.halide_pipeline.specs.declared.pipelines.Pipeline.{Pipeline}
+use Rattle.halide_pipeline.specs.Names.{lookup}
+use Rattle.schedule_lines.specs.declared.faults.ScheduleFault.{ScheduleFault}
+use Rattle.schedule_lines.specs.declared.faults.ScheduleFault.TheVariants as fault
+use Rattle.schedule_lines.specs.declared.lines.Computed.{Computed}
+use Rattle.schedule_lines.specs.declared.lines.Directive.{Directive}
+use Rattle.schedule_lines.specs.declared.lines.Directive.TheVariants as directives
+use Rattle.schedule_lines.specs.declared.lines.Line.{Line}
+use Rattle.schedule_lines.specs.declared.lines.Line.TheVariants as lines
+use Rattle.schedule_lines.specs.declared.lines.LoopDirective.{LoopDirective}
+use Rattle.schedule_lines.specs.declared.lines.Subject.{Subject}
+use Rattle.schedule.specs.declared.plans.FuncPlan.{FuncPlan}
+use Rattle.schedule.specs.declared.readers.Reader.{Reader}
+use Rattle.schedule.specs.declared.readers.Target.{Target}
+use Rattle.schedule.specs.declared.readers.Target.TheVariants as targets
+use Rattle.schedule_lines.specs.declared.stages.Stage.{Stage}
+use Rattle.schedule_lines.specs.declared.stages.StageName.{StageName}
+use Rattle.schedule_lines.specs.Directives.{directed}
+use Rattle.schedule_lines.specs.Lines.{line_of}
+use Rattle.schedule.specs.Plans.{plan_of, stage, with_stage, with_compute}
+use Rattle.schedule_lines.specs.Words.{text_of, words_of}
+
+-- ---- what the first word names: an input, or `f` or `f.0` to `f.3` of a Func f
+
+-- An update is named by one digit.
+abbrev pub digit : List ℕ → Option ℕ
+digit (first ∷ []) = Some (first - 48)
+digit _ = None
+
+abbrev pub numbered : ℕ → FuncPlan → Option ℕ → Option Target
+numbered func plan None = None
+numbered func plan (Some at) = if nat_lt at (length plan.updates) then Some (targets.Stage (record { func = func; update = Some at })) else None
+
+abbrev pub numbered_of : ℕ → Option FuncPlan → Option ℕ → Option Target
+numbered_of func None at = None
+numbered_of func (Some plan) at = numbered func plan at
+
+abbrev pub stage_target : List FuncPlan → ℕ → Option (List ℕ) → Option Target
+stage_target plans func None = Some (targets.Stage (record { func = func; update = None }))
+stage_target plans func (Some digits) = numbered_of func (slice_get plans func) (digit digits)
+
+abbrev pub target_of : List FuncPlan → Option Source → Option (List ℕ) → Option Target
+target_of plans None update = None
+target_of plans (Some (sources.Input place)) update = if is_some update then None else Some targets.Input
+target_of plans (Some (sources.Func func)) update = stage_target plans func update
+
+abbrev pub target : Pipeline → List FuncPlan → Subject → Option Target
+target pipeline plans subject = target_of plans (lookup subject.name pipeline.names) subject.update
+
+-- ---- a compute line
+
+-- A Func has one compute line, and the output has none.
+abbrev pub compute_fault : Pipeline → ℕ → FuncPlan → Option ScheduleFault
+compute_fault pipeline func plan =
+    if is_some plan.compute then Some fault.NameInUse
+    else if func == pipeline.output.func then Some fault.InputOrOutput
+    else None
+
+abbrev pub computed_as : Reader → ℕ → Computed → FuncPlan → Option ScheduleFault → Result Reader ScheduleFault
+computed_as reader func computed plan (Some wrong) = Err wrong
+computed_as reader func computed plan None =
+    Ok (record { lines = reader.lines; plans = slice_set reader.plans func (with_compute plan (record { line = reader.lines; computed = computed })) })
+
+abbrev pub computed_of : Pipeline → Reader → ℕ → Computed → Option FuncPlan → Result Reader ScheduleFault
+computed_of pipeline reader func computed None = Err fault.UnknownStage
+computed_of pipeline reader func computed (Some plan) = computed_as reader func computed plan (compute_fault pipeline func plan)
+
+abbrev pub taken_computed : Pipeline → Reader → ℕ → Computed → Result Reader ScheduleFault
+taken_computed pipeline reader func computed = computed_of pipeline reader func computed (slice_get reader.plans func)
+
+-- ---- a line about the loops of a stage
+
+abbrev pub new_stage_of : Option ℕ → ℕ → LoopDirective → Option Stage → Result Stage ScheduleFault
+new_stage_of update line directive None = Err fault.UnknownStage
+new_stage_of update line directive (Some own) = directed (is_some update) own line directive
+
+abbrev pub new_stage : FuncPlan → Option ℕ → ℕ → LoopDirective → Result Stage ScheduleFault
+new_stage plan update line directive = new_stage_of update line directive (stage plan update)
+
+abbrev pub directed_of : Reader → StageName → LoopDirective → Option FuncPlan → Result Reader ScheduleFault
+directed_of reader name directive None = Err fault.UnknownStage
+directed_of reader name directive (Some plan) =
+    new_stage plan name.update reader.lines directive >>= λ new.
+    Ok (record { lines = reader.lines; plans = slice_set reader.plans name.func (with_stage plan name.update new) })
+
+abbrev pub taken_directed : Reader → StageName → LoopDirective → Result Reader ScheduleFault
+taken_directed reader name directive = directed_of reader name directive (slice_get reader.plans name.func)
+
+-- ---- a line. A directive for an input is a fault of its own.
+
+abbrev pub taken_directive : Pipeline → Reader → Option Target → Directive → Result Reader ScheduleFault
+taken_directive pipeline reader None directive = Err fault.UnknownStage
+taken_directive pipeline reader (Some targets.Input) directive = Err fault.InputOrOutput
+taken_directive pipeline reader (Some (targets.Stage name)) (directives.OfPlace computed) = taken_computed pipeline reader name.func computed
+taken_directive pipeline reader (Some (targets.Stage name)) (directives.OfLoops directive) = taken_directed reader name directive
+
+abbrev pub settled : Pipeline → Reader → Line → Result Reader ScheduleFault
+settled pipeline reader lines.Blank = Ok reader
+settled pipeline reader (lines.Directive subject directive) = taken_directive pipeline reader (target pipeline reader.plans subject) directive
+
+abbrev pub line_of_bytes : List ℕ → Result Line ScheduleFault
+line_of_bytes line = line_of (words_of (text_of line))
+
+-- There are at most 256 lines, blank ones among them.
+unfoldable pub taken : Pipeline → Reader → List ℕ → Result Reader ScheduleFault
+taken pipeline reader line =
+    if nat_le 256 reader.lines then Err fault.Syntax
+    else (line_of_bytes line >>= λ said. settled pipeline (record { lines = reader.lines + 1; plans = reader.plans }) said)
+
+-- before the first line
+abbrev pub start : Pipeline → Reader
+start pipeline = record { lines = 0; plans = map plan_of pipeline.funcs }

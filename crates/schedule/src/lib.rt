@@ -1,0 +1,21 @@
+//! Reads schedules: [`read`] gives the loops of each stage, how they are run, and where each Func is computed; or
+//! the first faulty line and that line's least fault. What one line says and does stands in `schedule_lines`.
+//!
+//! - [`plans`]: what is said of each Func (`specs/Plans.antt`).
+//! - [`readers`]: one line after the other (`specs/Reading.antt`).
+//! - [`calls`], [`standings`]: which Funcs the output reaches, and where each is computed (`specs/Calls.antt`,
+//!   `specs/Standing.antt`).
+//! - [`legality`]: what is wrong with the final loops (`specs/Legal.antt`).
+//! - [`schedules`]: the whole (`specs/Schedules.antt`).
+#![tactic(auto)]
+
+pub mod calls;
+pub mod legality;
+pub mod plans;
+pub mod readers;
+pub mod schedules;
+pub mod standings;
+
+pub use crate::plans::{FuncPlan, Plans};
+pub use crate::schedules::{Schedule, read};
+pub use crate::standings::{LoopPlace, Place, Standing};

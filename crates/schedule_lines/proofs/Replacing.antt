@@ -1,0 +1,41 @@
+-- Loops of which one is replaced.
+use Rattle.std.proofs.Common.{◌≡◌, ℕ, Bool, true, false, cond, List, [], ◌∷◌, ◌++◌, Some, refl, ap}
+use Rattle.std.specs.Str.{bytes_eq}
+use Rattle.schedule_lines.specs.declared.stages.Loop.{Loop}
+use Rattle.schedule_lines.specs.Loops.{find}
+use Rattle.schedule_lines.specs.Directives.{replaced}
+
+-- The loop with a name stands between others.
+pub record IsBetween (name : List ℕ) (loops : List Loop) (own : Loop) : Type 0 where
+  pub before : List Loop
+  pub after : List Loop
+  pub loops_are : loops ≡ before ++ own ∷ after
+  pub named : bytes_eq own.name name ≡ true
+  pub replaced_are : (new : List Loop) → replaced name new loops ≡ before ++ (new ++ after)
+
+found_at : (test : Bool) (name : List ℕ) (first : Loop) (others : List Loop) (own : Loop) → bytes_eq first.name name ≡ test
+    → cond test (Some first) (find name others) ≡ Some own
+    → (find name others ≡ Some own → IsBetween name others own)
+    → IsBetween name (first ∷ others) own
+found_at true name first others own is e later =
+    let same : first ≡ own = cc in
+    record {
+      before = [];
+      after = others;
+      loops_are = ap (λ (l : Loop). l ∷ others) same;
+      named = rw (← same) is;
+      replaced_are = λ new. rw is refl;
+    }
+found_at false name first others own is e later =
+    let rest = later e in
+    record {
+      before = first ∷ rest.before;
+      after = rest.after;
+      loops_are = ap (λ (ls : List Loop). first ∷ ls) rest.loops_are;
+      named = rest.named;
+      replaced_are = λ new. rw is (ap (λ (ls : List Loop). first ∷ ls) (rest.replaced_are new));
+    }
+
+pub between : (name : List ℕ) (loops : List Loop) (own : Loop) → find name loops ≡ Some own → IsBetween name loops own
+between name [] own e = cc
+between name (first ∷ others) own e = found_at (bytes_eq first.name name) name first others own refl e (between name others own)

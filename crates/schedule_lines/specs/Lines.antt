@@ -1,0 +1,127 @@
+-- The grammar of a line's words. A line has no words, or a subject, a verb and what the verb takes:
+--
+--   line      = stage 'split' loop new new factor ( 'guard' | 'shift' )
+--             | stage 'reorder' loop { loop }
+--             | stage ( 'unroll' | 'vectorize' | 'parallel' ) loop
+--             | func 'compute_root' | func 'compute_at' func loop
+--   stage     = func [ '.' digits ]
+--
+-- Funcs and loops are names: letters, digits and `_`, of which the first is no digit.
+-- This project's own.
+use Rattle.std.specs.Prelude.{◌≡◌, ℕ, ◌+◌, min, Bool, false, ◌&&◌, ◌==◌, if◌then◌else◌, List, [], ◌∷◌, ◌++◌, length, take, drop, codes, Option, Some, None, Result, Ok, Err}
+use Rattle.std.specs.List.{prefix_len}
+use Rattle.std.specs.Str.{bytes_eq}
+use Rattle.line_text.specs.Classes.{begins_name, continues_name, is_digit}
+use Rattle.line_text.specs.Numbers.{decimal_number}
+use Rattle.line_text.specs.Reading.{◌>>=◌, Fails}
+use Rattle.line_text.specs.declared.read_errors.ReadError.{ReadError}
+use Rattle.schedule_lines.specs.declared.faults.ScheduleFault.{ScheduleFault}
+use Rattle.schedule_lines.specs.declared.faults.ScheduleFault.TheVariants.{Syntax}
+use Rattle.schedule_lines.specs.declared.lines.Subject.{Subject}
+use Rattle.schedule_lines.specs.declared.lines.LoopDirective.{LoopDirective}
+use Rattle.schedule_lines.specs.declared.lines.LoopDirective.TheVariants as on_loops
+use Rattle.schedule_lines.specs.declared.lines.Computed.{Computed}
+use Rattle.schedule_lines.specs.declared.lines.Computed.TheVariants as on_place
+use Rattle.schedule_lines.specs.declared.lines.Directive.{Directive}
+use Rattle.schedule_lines.specs.declared.lines.Directive.TheVariants as directives
+use Rattle.schedule_lines.specs.declared.lines.Line.{Line}
+use Rattle.schedule_lines.specs.declared.lines.Line.TheVariants as lines
+use Rattle.schedule_lines.specs.declared.stages.Mark.{Mark}
+use Rattle.schedule_lines.specs.declared.stages.Mark.TheVariants as marks
+use Rattle.schedule_lines.specs.declared.stages.Tail.{Tail}
+use Rattle.schedule_lines.specs.declared.stages.Tail.TheVariants as tails
+
+abbrev pub is_name : List ℕ → Bool
+is_name [] = false
+is_name (first ∷ rest) = begins_name first && prefix_len continues_name rest == length rest
+
+abbrev pub is_number : List ℕ → Bool
+is_number [] = false
+is_number (first ∷ rest) = prefix_len is_digit (first ∷ rest) == length (first ∷ rest)
+
+abbrev pub name : List ℕ → Result (List ℕ) ScheduleFault
+name word = if is_name word then Ok word else Err Syntax
+
+-- what stands behind a stage's name: nothing, or a dot and digits
+abbrev pub update_of : List ℕ → Result (Option (List ℕ)) ScheduleFault
+update_of [] = Ok None
+update_of (byte ∷ digits) = if byte == 46 && is_number digits then Ok (Some digits) else Err Syntax
+
+unfoldable pub subject : List ℕ → Result Subject ScheduleFault
+subject word =
+    let n = prefix_len continues_name word in
+    name (take n word) >>= λ own. update_of (drop n word) >>= λ update. Ok (record { name = own; update = update })
+
+-- a factor, cut off at 65
+abbrev pub factor : List ℕ → Result ℕ ScheduleFault
+factor word = if is_number word then Ok (min (decimal_number word) (64 + 1)) else Err Syntax
+
+abbrev pub tail : List ℕ → Result Tail ScheduleFault
+tail word =
+    if bytes_eq word (codes "guard") then Ok tails.Guard
+    else if bytes_eq word (codes "shift") then Ok tails.Shift
+    else Err Syntax
+
+unfoldable pub split : List (List ℕ) → Result LoopDirective ScheduleFault
+split (of ∷ outer ∷ inner ∷ number ∷ end ∷ []) =
+    name of >>= λ o. name outer >>= λ vo. name inner >>= λ vi. factor number >>= λ n. tail end >>= λ t.
+    Ok (on_loops.Split (record { of = o; outer = vo; inner = vi; factor = n; tail = t }))
+split _ = Err Syntax
+
+-- words that are names
+unfoldable pub names : List (List ℕ) → Result (List (List ℕ)) ScheduleFault
+names [] = Ok []
+names (first ∷ others) = name first >>= λ n. names others >>= λ ns. Ok (n ∷ ns)
+
+-- What a function appended to a list is what was wanted, unless memory ran out.
+abbrev pub Adds : {A : Type 0} → List A → Result (Unit {0}) (ReadError ScheduleFault) → List A → Result (List A) ScheduleFault → Type 0
+Adds old (Ok done) new wanted = (wanted >>= λ added. Ok (old ++ added)) ≡ Ok new
+Adds old (Err error) new wanted = Fails error wanted
+
+unfoldable pub reorder : List (List ℕ) → Result LoopDirective ScheduleFault
+reorder [] = Err Syntax
+reorder (first ∷ others) = names (first ∷ others) >>= λ ns. Ok (on_loops.Reorder ns)
+
+unfoldable pub mark : Mark → List (List ℕ) → Result LoopDirective ScheduleFault
+mark kind (of ∷ []) = name of >>= λ n. Ok (on_loops.Mark kind n)
+mark kind _ = Err Syntax
+
+abbrev pub compute_root : List (List ℕ) → Result Computed ScheduleFault
+compute_root [] = Ok on_place.Root
+compute_root (first ∷ others) = Err Syntax
+
+unfoldable pub compute_at : List (List ℕ) → Result Computed ScheduleFault
+compute_at (func ∷ inside ∷ []) = name func >>= λ f. name inside >>= λ v. Ok (on_place.At (record { func = f; inside = v }))
+compute_at _ = Err Syntax
+
+abbrev pub of_loops : Result LoopDirective ScheduleFault → Result Directive ScheduleFault
+of_loops given = given >>= λ d. Ok (directives.OfLoops d)
+
+abbrev pub of_place : Result Computed ScheduleFault → Result Directive ScheduleFault
+of_place given = given >>= λ c. Ok (directives.OfPlace c)
+
+unfoldable pub directive : List ℕ → List (List ℕ) → Result Directive ScheduleFault
+directive verb words =
+    if bytes_eq verb (codes "split") then of_loops (split words)
+    else if bytes_eq verb (codes "reorder") then of_loops (reorder words)
+    else if bytes_eq verb (codes "unroll") then of_loops (mark marks.Unrolled words)
+    else if bytes_eq verb (codes "vectorize") then of_loops (mark marks.Vectorized words)
+    else if bytes_eq verb (codes "parallel") then of_loops (mark marks.Parallel words)
+    else if bytes_eq verb (codes "compute_root") then of_place (compute_root words)
+    else if bytes_eq verb (codes "compute_at") then of_place (compute_at words)
+    else Err Syntax
+
+-- A Func is computed as a whole, so its compute line has no dot.
+abbrev pub joined_as : Subject → Directive → Option (List ℕ) → Result Line ScheduleFault
+joined_as own (directives.OfPlace computed) (Some digits) = Err Syntax
+joined_as own (directives.OfPlace computed) None = Ok (lines.Directive own (directives.OfPlace computed))
+joined_as own (directives.OfLoops d) update = Ok (lines.Directive own (directives.OfLoops d))
+
+abbrev pub joined : Subject → Directive → Result Line ScheduleFault
+joined own d = joined_as own d own.update
+
+-- what the words of a line say
+unfoldable pub line_of : List (List ℕ) → Result Line ScheduleFault
+line_of [] = Ok lines.Blank
+line_of (front ∷ []) = Err Syntax
+line_of (front ∷ verb ∷ others) = subject front >>= λ s. directive verb others >>= λ d. joined s d
