@@ -159,6 +159,22 @@ fn reads_256_lines(rt: HostRuntime) -> Result<(), Fail> {
     Ok(())
 }
 
+/// A line may have any number of words.
+#[test]
+fn reads_long_lines(rt: HostRuntime) -> Result<(), Fail> {
+    let pipeline = pipeline(&rt, CHAIN)?;
+    let mut text = String::from_str(rt.alloc(), "o reorder")?;
+    for _ in 0..20_000 {
+        text.push_str(" x y")?;
+    }
+    assert_eq!(rt; verdict(&rt, &pipeline, text.as_str())?, (6, 1));
+    text.push_str(" z")?;
+    assert_eq!(rt; verdict(&rt, &pipeline, text.as_str())?, (3, 1));
+    text.push_str(" 1")?;
+    assert_eq!(rt; verdict(&rt, &pipeline, text.as_str())?, (1, 1));
+    Ok(())
+}
+
 /// What the words of a line name, and the limits of a line.
 #[test]
 fn refuses_line_by_line(rt: HostRuntime) -> Result<(), Fail> {

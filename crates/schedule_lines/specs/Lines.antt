@@ -8,13 +8,12 @@
 --
 -- Funcs and loops are names: letters, digits and `_`, of which the first is no digit.
 -- This project's own.
-use Rattle.std.specs.Prelude.{◌≡◌, ℕ, ◌+◌, min, Bool, false, ◌&&◌, ◌==◌, if◌then◌else◌, List, [], ◌∷◌, ◌++◌, length, take, drop, codes, Option, Some, None, Result, Ok, Err}
+use Rattle.std.specs.Prelude.{ℕ, ◌+◌, min, Bool, true, false, ◌&&◌, ◌==◌, if◌then◌else◌, List, [], ◌∷◌, length, take, drop, codes, Option, Some, None, Result, Ok, Err}
 use Rattle.std.specs.List.{prefix_len}
 use Rattle.std.specs.Str.{bytes_eq}
 use Rattle.line_text.specs.Classes.{begins_name, continues_name, is_digit}
 use Rattle.line_text.specs.Numbers.{decimal_number}
-use Rattle.line_text.specs.Reading.{◌>>=◌, Fails}
-use Rattle.line_text.specs.declared.read_errors.ReadError.{ReadError}
+use Rattle.line_text.specs.Reading.{◌>>=◌}
 use Rattle.schedule_lines.specs.declared.faults.ScheduleFault.{ScheduleFault}
 use Rattle.schedule_lines.specs.declared.faults.ScheduleFault.TheVariants.{Syntax}
 use Rattle.schedule_lines.specs.declared.lines.Subject.{Subject}
@@ -68,19 +67,13 @@ split (of ∷ outer ∷ inner ∷ number ∷ end ∷ []) =
     Ok (on_loops.Split (record { of = o; outer = vo; inner = vi; factor = n; tail = t }))
 split _ = Err Syntax
 
--- words that are names
-unfoldable pub names : List (List ℕ) → Result (List (List ℕ)) ScheduleFault
-names [] = Ok []
-names (first ∷ others) = name first >>= λ n. names others >>= λ ns. Ok (n ∷ ns)
-
--- What a function appended to a list is what was wanted, unless memory ran out.
-abbrev pub Adds : {A : Type 0} → List A → Result (Unit {0}) (ReadError ScheduleFault) → List A → Result (List A) ScheduleFault → Type 0
-Adds old (Ok done) new wanted = (wanted >>= λ added. Ok (old ++ added)) ≡ Ok new
-Adds old (Err error) new wanted = Fails error wanted
+abbrev pub are_names : List (List ℕ) → Bool
+are_names [] = true
+are_names (first ∷ others) = is_name first && are_names others
 
 unfoldable pub reorder : List (List ℕ) → Result LoopDirective ScheduleFault
 reorder [] = Err Syntax
-reorder (first ∷ others) = names (first ∷ others) >>= λ ns. Ok (on_loops.Reorder ns)
+reorder (first ∷ others) = if are_names (first ∷ others) then Ok (on_loops.Reorder (first ∷ others)) else Err Syntax
 
 unfoldable pub mark : Mark → List (List ℕ) → Result LoopDirective ScheduleFault
 mark kind (of ∷ []) = name of >>= λ n. Ok (on_loops.Mark kind n)

@@ -204,36 +204,42 @@ fn split(
 fn are_known(loops: &[Loop], names: &[Items<u8>]) -> bool
     ensures { result ≡ spec.are_known loops.now names.now }
 {
-    match names {
-        [] => true,
-        [first, others @ ..] => is_known(loops, first.as_slice()) && are_known(loops, others),
+    let mut rest = names;
+    'names: while let [first, others @ ..] = rest {
+        if !is_known(loops, first.as_slice()) {
+            return false;
+        }
+        rest = others;
     }
+    true
 }
 
 /// Whether a name is among names.
 fn is_among(name: &[u8], names: &[Items<u8>]) -> bool
     ensures { result ≡ spec.is_among name.now names.now }
 {
-    match names {
-        [] => false,
-        [first, others @ ..] => first.as_slice() == name || is_among(name, others),
+    let mut rest = names;
+    'names: while let [first, others @ ..] = rest {
+        if first.as_slice() == name {
+            return true;
+        }
+        rest = others;
     }
+    false
 }
 
 /// Whether a name is twice among names.
 fn is_twice_among(name: &[u8], names: &[Items<u8>]) -> bool
     ensures { result ≡ spec.is_twice_among name.now names.now }
 {
-    match names {
-        [] => false,
-        [first, others @ ..] => {
-            if first.as_slice() == name {
-                is_among(name, others)
-            } else {
-                is_twice_among(name, others)
-            }
+    let mut rest = names;
+    'names: while let [first, others @ ..] = rest {
+        if first.as_slice() == name {
+            return is_among(name, others);
         }
+        rest = others;
     }
+    false
 }
 
 /// Whether one of the loops is named twice.

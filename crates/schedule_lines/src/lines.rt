@@ -171,23 +171,28 @@ fn split_of(alloc: Global, words: &[Items<u8>]) -> Result<LoopDirective, ReadErr
     }
 }
 
-/// Words that are names.
-#[tactic(auto, unfolding(crate::specs::Lines::names))]
-fn add_names(
-    alloc: Global,
-    names: &mut Items<Items<u8>>,
-    words: &[Items<u8>],
-) -> Result<(), ReadError<ScheduleFault>>
-    ensures { spec.Adds names.old result names.new (spec.names words.now) }
+/// Whether all words are names.
+fn are_names(words: &[Items<u8>]) -> bool
+    ensures { result ≡ spec.are_names words.now }
 {
-    match words {
-        [] => Ok(()),
-        [first, others @ ..] => {
-            names.push(name_of(alloc, first.as_slice())?)?;
-            add_names(alloc, names, others)?;
-            Ok(())
+    let mut rest = words;
+    'words: while let [first, others @ ..] = rest {
+        if !is_name(first.as_slice()) {
+            return false;
         }
+        rest = others;
     }
+    true
+}
+
+fn copied(alloc: Global, words: &[Items<u8>]) -> Result<Items<Items<u8>>, AllocError>
+    ensures { IfOk result (λ copies. copies ≡ words.now) }
+{
+    let mut copies = Items::new(alloc);
+    for word in words {
+        copies.push(Items::from_slice(alloc, word.as_slice())?)?;
+    }
+    Ok(copies)
 }
 
 /// What stands behind `reorder`.
@@ -198,9 +203,11 @@ fn reorder_of(alloc: Global, words: &[Items<u8>]) -> Result<LoopDirective, ReadE
     match words {
         [] => Err(ReadError::Fault(ScheduleFault::Syntax)),
         [..] => {
-            let mut names = Items::new(alloc);
-            add_names(alloc, &mut names, words)?;
-            Ok(LoopDirective::Reorder(names))
+            if are_names(words) {
+                Ok(LoopDirective::Reorder(copied(alloc, words)?))
+            } else {
+                Err(ReadError::Fault(ScheduleFault::Syntax))
+            }
         }
     }
 }
