@@ -1,6 +1,6 @@
 //! Breaks and watches.
 
-ghost use Rattle.std.specs.Prelude.{◌≡◌, ◌≤◌, Ok, Err, OnOk, OnErr, IfErr};
+ghost use Rattle.std.specs.Prelude.{◌≡◌, ◌≤◌, [], ◌∷◌, ◌++◌, Ok, Err, OnOk, OnErr, IfErr};
 ghost use Rattle.memory.specs.Addresses.{is_text_word, most_words, most_bytes};
 ghost use Rattle.debugger.specs.Marks.{with_break, with_watch, is_data_word};
 ghost use Rattle.debugger.specs.Refusals.{UnlessMemory};
@@ -19,6 +19,8 @@ impl Session {
         ensures ok { OnOk result (with_break self.old pc ≡ Ok self.new) }
         ensures err { IfErr result (λ refusal. UnlessMemory refusal (with_break self.old pc ≡ Err refusal)) }
         ensures unchanged { OnErr result (self.new ≡ self.old) }
+        // Memory is wanted for a mark that is to be added alone.
+        ensures needed { result ≡ Err Refusal.OutOfMemory → with_break self.old pc ≡ Ok (record self.old { breaks = self.old.breaks ++ pc ∷ [] }) }
     {
         if !is_text_word(self.image.words().len(), pc) {
             return Err(Refusal::Address);
@@ -39,6 +41,8 @@ impl Session {
         ensures ok { OnOk result (with_watch self.old address ≡ Ok self.new) }
         ensures err { IfErr result (λ refusal. UnlessMemory refusal (with_watch self.old address ≡ Err refusal)) }
         ensures unchanged { OnErr result (self.new ≡ self.old) }
+        // Memory is wanted for a mark that is to be added alone.
+        ensures needed { result ≡ Err Refusal.OutOfMemory → with_watch self.old address ≡ Ok (record self.old { watches = self.old.watches ++ address ∷ [] }) }
     {
         if !is_data_word(self.image.data().len(), address) {
             return Err(Refusal::Address);

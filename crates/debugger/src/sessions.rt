@@ -93,6 +93,7 @@ impl Session {
         ensures behind_start { OnOk result (1 ≤ self.old.place) }
         ensures err { IfErr result (λ refusal. UnlessMemory refusal ((refusal ≡ Refusal.BeforeStart) × (self.old.place ≡ 0))) }
         ensures unchanged { OnErr result (self.new ≡ self.old) }
+        ensures at_start { self.old.place ≡ 0 → result ≢ Err Refusal.OutOfMemory }
     {
         if self.place == 0 {
             return Err(Refusal::BeforeStart);

@@ -1,11 +1,11 @@
 -- The machine that an image makes, and what bytes and a number of harts are loaded as.
 -- This project's own.
-use Rattle.std.specs.Prelude.{ℕ, ◌&&◌, nat_le, if◌then◌else◌, List, Result, Ok, Err}
+use Rattle.std.specs.Prelude.{◌≡◌, ℕ, ◌≤◌, ◌&&◌, nat_le, if◌then◌else◌, List, Result, Ok, Err}
 use Rattle.multi_hart.specs.Run.{State, opened}
 use Rattle.loader.specs.declared.faults.LoadFault.{LoadFault}
 use Rattle.loader.specs.declared.faults.LoadFault.TheVariants.{HartCount}
-use Rattle.loader.specs.Image.{ImageContents}
-use Rattle.loader.specs.Spelling.{image_of}
+use Rattle.loader.specs.Image.{ImageContents, IsImage}
+use Rattle.loader.specs.Spelling.{image_of, spelled}
 
 -- a machine at the start, of so many harts
 abbrev pub machine_of : ImageContents → ℕ → State
@@ -19,3 +19,12 @@ with_harts harts (Err fault) = Err fault
 -- the bytes are judged first, the number of harts last
 abbrev pub loaded : List ℕ → ℕ → Result State LoadFault
 loaded bytes harts = with_harts harts (image_of bytes)
+
+-- a machine at the start, of an image that the bytes spell, with 1 to 8 harts
+pub record IsLoaded (bytes : List ℕ) (harts : ℕ) (machine : State) : Type 0 where
+  pub image : ImageContents
+  pub rules : IsImage image
+  pub bytes_are : bytes ≡ spelled image
+  pub some : 1 ≤ harts
+  pub few : harts ≤ 8
+  pub opened : machine ≡ machine_of image harts

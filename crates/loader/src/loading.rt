@@ -1,8 +1,9 @@
 //! From an image to a machine.
 
-ghost use Rattle.std.specs.Prelude.{◌≡◌, ◌≤◌, length, IfOk};
-ghost use Rattle.loader.specs.Loading.{machine_of, loaded};
-ghost use Rattle.loader.specs.Spelling.{Answers};
+ghost use Rattle.std.specs.Prelude.{◌≡◌, ◌≤◌, length, IfOk, Ok};
+ghost use Rattle.loader.specs.Image.{ImageContents, IsImage};
+ghost use Rattle.loader.specs.Loading.{IsLoaded, machine_of, loaded};
+ghost use Rattle.loader.specs.Spelling.{Answers, spelled};
 
 use crate::faults::LoadFault;
 use crate::images::Image;
@@ -28,7 +29,12 @@ impl Image {
 /// The machine that the bytes of an image make with so many harts, at its start. A count of harts
 /// outside 1 to 8 is refused after all that [`read_image`] refuses.
 pub fn load(alloc: Global, bytes: &[u8], harts: usize) -> Result<Machine, LoadFault>
-    ensures { Answers result (loaded bytes.now harts) }
+    // What is loaded is the machine of an image that the bytes spell.
+    ensures found { IfOk result (λ machine. IsLoaded bytes.now harts machine) }
+    // What spells an image is loaded with 1 to 8 harts, unless memory runs out.
+    ensures only { (image : ImageContents) → IsImage image → bytes.now ≡ spelled image → 1 ≤ harts → harts ≤ 8 → Answers result (Ok (machine_of image harts)) }
+    // The refusal is the first in the format's order, and that of the harts behind it.
+    ensures exact { Answers result (loaded bytes.now harts) }
 {
     let image = read_image(alloc, bytes)?;
     if harts < 1 || harts > 8 {

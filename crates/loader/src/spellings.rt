@@ -1,6 +1,6 @@
 //! Writing images as bytes.
 
-ghost use Rattle.std.specs.Prelude.{◌≡◌, ◌+◌, ◌*◌, ◌≤◌, ◌++◌, ℕ, List, OnOk, OnErr, length, vec_len, vec_capacity};
+ghost use Rattle.std.specs.Prelude.{◌≡◌, ◌+◌, ◌*◌, ◌<◌, ◌≤◌, ◌++◌, ℕ, List, OnOk, OnErr, length, vec_len, vec_capacity};
 ghost use Rattle.std.specs.Int.{w32, to_le_bytes};
 ghost use Rattle.loader.specs.Image.{ImageContents, IsImage};
 ghost use Rattle.loader.specs.Spelling.{spelled, spelled_numbers, output_fields, magic, spelled_header};
@@ -69,11 +69,12 @@ fn push_header(out: &mut Vec<u8>, image: &Image)
     push_numbers(out, &output_fields(image.output()));
 }
 
-/// Appends an image's bytes. Refused, with what `out` held unchanged, only where memory runs out.
+/// Appends an image's bytes. Refused, with what `out` held unchanged, only where it has no room for them and memory runs out.
 #[tactic(auto, using(crate::proofs::Joined::joined), unfolding(crate::specs::Spelling::spelled))]
 pub fn store(image: &Image, out: &mut Vec<u8>) -> Result<(), AllocError>
     ensures ok { OnOk result (out.new.items ≡ out.old.items ++ spelled image.now) }
     ensures err { OnErr result (out.new.items ≡ out.old.items) }
+    ensures full { OnErr result (vec_capacity out.old < vec_len out.old + length (spelled image.now)) }
 {
     let words = image.words();
     let data = image.data();

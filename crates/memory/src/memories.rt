@@ -4,24 +4,27 @@ ghost use Rattle.std.specs.Prelude.{◌≡◌, ◌≤◌, length};
 ghost use Rattle.memory.specs.Addresses.{most_words, most_bytes};
 
 use crate::bytes::{Bytes, DATA_START, TEXT_START};
+use std::boxed::BoxedSlice;
 use std::marker::Model;
 
-/// Text and data in two vectors: the plain memory. A contract sees both as lists.
+/// Text and data, side by side: the plain memory. A contract sees both as lists. Neither can grow, so that no
+/// access takes memory.
 #[derive(Drop)]
 pub struct Memory {
-    words: Vec<u32>,
-    bytes: Vec<u8>,
+    words: BoxedSlice<u32>,
+    bytes: BoxedSlice<u8>,
 }
 
 impl Model for Memory {
     ghost use Rattle.std.specs.Prelude.{length, ◌≤◌};
+    ghost use Rattle.std.specs.Box.{boxed_slice_items};
     ghost use Rattle.memory.specs.Addresses.{Contents, most_words, most_bytes};
 
     ghost Value = { Contents };
 
-    ghost view = { λ m. record { text = m.words.items; memory = m.bytes.items } };
+    ghost view = { λ m. record { text = boxed_slice_items m.words; memory = boxed_slice_items m.bytes } };
 
-    ghost invariant = { λ m. (length m.words.items ≤ most_words) × (length m.bytes.items ≤ most_bytes) };
+    ghost invariant = { λ m. (length (boxed_slice_items m.words) ≤ most_words) × (length (boxed_slice_items m.bytes) ≤ most_bytes) };
 }
 
 impl Memory {
@@ -32,7 +35,10 @@ impl Memory {
         ensures text { result.text ≡ words.items }
         ensures memory { result.memory ≡ bytes.items }
     {
-        Memory { words, bytes }
+        Memory {
+            words: words.into_boxed_slice(),
+            bytes: bytes.into_boxed_slice(),
+        }
     }
 }
 

@@ -10,6 +10,7 @@ use hart_core::{Hart, Status};
 use memory::{Bytes, Memory, read_u32};
 use rv_insn::{Outcome, Reg, VReg};
 use std::alloc::{AllocError, Global};
+use std::boxed::BoxedSlice;
 use std::marker::Model;
 
 /// A list of turns names a hart that the machine doesn't have.
@@ -19,19 +20,21 @@ pub struct UnknownHart {
     pub at: usize,
 }
 
-/// One to eight harts over one memory. A contract sees text, data and the harts as a `State`.
+/// One to eight harts over one memory. A contract sees text, data and the harts as a `State`. Nothing in it can grow,
+/// so that no turn takes memory.
 #[derive(Drop)]
 pub struct Machine {
     memory: Memory,
-    harts: Vec<Hart>,
+    harts: BoxedSlice<Hart>,
 }
 
 impl Model for Machine {
+    ghost use Rattle.std.specs.Box.{boxed_slice_items};
     ghost use Rattle.multi_hart.specs.Run.{State};
 
     ghost Value = { State };
 
-    ghost view = { λ m. record { text = m.memory.text; memory = m.memory.memory; harts = m.harts.items } };
+    ghost view = { λ m. record { text = m.memory.text; memory = m.memory.memory; harts = boxed_slice_items m.harts } };
 }
 
 impl Machine {
@@ -58,7 +61,7 @@ impl Machine {
         }
         Ok(Machine {
             memory: Memory::new(words, bytes),
-            harts: all,
+            harts: all.into_boxed_slice(),
         })
     }
 

@@ -233,6 +233,19 @@ last_hart-some harts (first ∷ others) run are e =
     let some = some_turns harts 0 first others are in
     slice_get-get_or turns (length turns - 1) 0 (omega (arith, some)) ∙ ap (λ (h : ℕ). Some h) (last_turn harts 0 (first ∷ others) run are e)
 
+other_hart : (harts : ℕ) (runs : List Stretch) (hart : ℕ) (last : Option Stretch) → last_of runs ≡ last → AreRuns harts (runs_from 0 runs) → is_of last hart ≡ false
+    → slice_get (turns_of runs) (length (turns_of runs) - 1) ≡ Some hart → ⊥
+other_hart harts runs hart None e are other same = let none = last_hart-none runs e in absurd cc
+other_hart harts runs hart (Some run) e are other same =
+    let some = last_hart-some harts runs run are e in
+    let hart_is : run.hart ≡ hart = cc in
+    eqb-false run.hart hart other hart_is
+
+-- the last turn is of another hart, where the last run is
+pub last_turn-other : (harts : ℕ) (runs : List Stretch) (hart : ℕ) → AreRuns harts (runs_from 0 runs) → is_of (last_of runs) hart ≡ false
+    → slice_get (turns_of runs) (length (turns_of runs) - 1) ≡ Some hart → ⊥
+last_turn-other harts runs hart are other = other_hart harts runs hart (last_of runs) refl are other
+
 -- ---- how many turns
 
 pub length-none : (runs : List Stretch) → last_of runs ≡ None → length (turns_of runs) ≡ 0

@@ -1,6 +1,6 @@
 //! Runs as a log keeps them.
 
-ghost use Rattle.std.specs.Prelude.{◌≡◌, ℕ, ◌-◌, ◌<◌, ◌≤◌, length, slice_get, OnOk, OnErr};
+ghost use Rattle.std.specs.Prelude.{◌≡◌, ℕ, ◌-◌, ◌<◌, ◌≤◌, length, slice_get, false, OnOk, OnErr};
 ghost use Rattle.std.specs.List.Sorted.{IsNonDecreasingBy, IsPartitionPoint};
 ghost use Rattle.turn_log.specs.Kept.{AreRuns, is_of, runs_from, turns_of, with_run};
 ghost use Rattle.turn_log.specs.RunAt.{run_at};
@@ -48,6 +48,7 @@ fn ends_with(runs: &[Stretch], hart: u8) -> bool
 pub fn push_stretch(runs: &mut Vec<Stretch>, run: Stretch) -> Result<(), AllocError>
     ensures ok { OnOk result (runs.new.items ≡ with_run runs.old.items run) }
     ensures err { OnErr result (runs.new.items ≡ runs.old.items) }
+    ensures opens { OnErr result (is_of (slice_get runs.old.items (length runs.old.items - 1)) run.hart ≡ false) }
 {
     if ends_with(runs, run.hart) {
         let last = runs.len() - 1;

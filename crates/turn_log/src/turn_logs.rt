@@ -5,7 +5,7 @@
 //! of turns of one hart, and the runs of a spelling are the longest ones, so that each log has one
 //! spelling.
 
-ghost use Rattle.std.specs.Prelude.{◌≡◌, ℕ, ◌+◌, ◌-◌, ◌<◌, ◌≤◌, List, [], ◌∷◌, ◌++◌, IsTrue, ◌↔◌, length, replicate, slice_get, OnOk, OnErr, IfOk, vec_len, vec_capacity};
+ghost use Rattle.std.specs.Prelude.{◌≡◌, ◌≢◌, ℕ, ◌+◌, ◌-◌, ◌<◌, ◌≤◌, List, [], ◌∷◌, ◌++◌, IsTrue, ◌↔◌, length, replicate, slice_get, Some, OnOk, OnErr, IfOk, vec_len, vec_capacity};
 ghost use Rattle.turn_log.specs.LogSpelling.{spelled, log_of, Answers};
 ghost use Rattle.turn_log.specs.RunAt.{run_at};
 ghost use Rattle.turn_log.specs.TurnLog.{LogState, IsLog, count_of, most_turns};
@@ -128,6 +128,8 @@ impl TurnLog {
         requires room { count_of self.old.turns hart < most_turns }
         ensures ok { OnOk result (self.new ≡ record self.old { turns = self.old.turns ++ hart ∷ [] }) }
         ensures err { OnErr result (self.new ≡ self.old) }
+        // A turn that goes on a run takes no memory.
+        ensures opens { OnErr result (slice_get self.old.turns (length self.old.turns - 1) ≢ Some hart) }
     {
         self.push_run(hart, 1)
     }
@@ -139,6 +141,8 @@ impl TurnLog {
         requires room { count_of self.old.turns hart + k ≤ most_turns }
         ensures ok { OnOk result (self.new ≡ record self.old { turns = self.old.turns ++ replicate k hart }) }
         ensures err { OnErr result (self.new ≡ self.old) }
+        // Turns that go on a run take no memory.
+        ensures opens { OnErr result (slice_get self.old.turns (length self.old.turns - 1) ≢ Some hart) }
     {
         let end = self.len() + k;
         let run = Stretch {

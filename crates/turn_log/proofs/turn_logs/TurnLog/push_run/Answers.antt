@@ -1,9 +1,9 @@
-use Rattle.std.proofs.Common.{◌≡◌, ℕ, ◌+◌, ◌<◌, ◌≤◌, List, ◌++◌, replicate, length, ap, sym, subst, ◌∙◌, arith}
+use Rattle.std.proofs.Common.{◌≡◌, ◌≢◌, ℕ, ◌+◌, ◌-◌, ◌<◌, ◌≤◌, List, ◌++◌, replicate, length, slice_get, Some, Result, Ok, Err, OnErr, false, ap, sym, subst, ◌∙◌, arith, rules}
 use Rattle.turn_log.specs.TurnLog.{LogState, count_of, most_turns}
-use Rattle.turn_log.specs.Kept.{turns_of, IsKept}
+use Rattle.turn_log.specs.Kept.{turns_of, is_of, IsKept}
 use Rattle.turn_log.specs.declared.stretches.Stretch.{Stretch}
 use Rattle.turn_log.proofs.RunLaws.{few_turns_all}
-use Rattle.turn_log.proofs.KeptLaws.{grown}
+use Rattle.turn_log.proofs.KeptLaws.{grown, last_at, last_of, last_turn-other}
 use Rattle.turn_log.proofs.turn_logs.TurnLog.push_run.Goals as goal
 
 pub overflow_add-end : goal.overflow_add-end
@@ -36,3 +36,14 @@ returns-clause-ok c =
     let made = ap turns_of c.in_ok-push_stretch.ensures.ok ∙ more.turns in
     let log : LogState → LogState = λ l. record { harts = l.harts; turns = l.turns ++ replicate c.args.k c.args.hart } in
     ap (λ (ts : List ℕ). record { harts = c.self.inside.harts; turns = ts }) made ∙ ap log c.self.view_is
+
+on_err : {A E P : Type 0} (r : Result A E) → P → OnErr r P
+on_err (Ok value) known = tt
+on_err (Err error) known = known
+
+pub returns-in_err-push_stretch-clause-opens : goal.returns-in_err-push_stretch-clause-opens
+returns-in_err-push_stretch-clause-opens c =
+    let runs = c.self.inside.runs.items in
+    let other : is_of (last_of runs) c.args.hart ≡ false = ap (λ o. is_of o c.args.hart) (sym (last_at runs)) ∙ c.in_err-push_stretch.ensures.opens in
+    let Other : LogState → Type 0 = λ l. slice_get l.turns (length l.turns - 1) ≢ Some c.args.hart in
+    on_err c.from_residual.result (subst Other c.self.view_is (last_turn-other c.self.inside.harts runs c.args.hart c.self.invariant.runs other))
