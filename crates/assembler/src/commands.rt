@@ -16,17 +16,11 @@ use crate::places::Section;
 use crate::products::Product;
 use crate::surveys::{Here, Survey};
 use assembly_syntax::Operand;
-use loader::Output;
-use memory::TEXT_START;
+use loader::{MOST_PIXELS, Output};
+use memory::{MOST_BYTES, TEXT_START};
 use mnemonics::{Form, integer_register};
 use rv_encoding::encode;
 use rv_insn::{AluImmOp, Imm12, Imm20, Insn, Reg};
-
-/// Data has no more bytes.
-const MOST_BYTES: i64 = 33_554_432;
-
-/// An output has no more pixels, and so no more in a row.
-const MOST_PIXELS: i64 = 1_048_576;
 
 /// The word of a form with its operands.
 fn instruction(
@@ -157,7 +151,7 @@ fn space(section: Section, operands: &[Operand]) -> Result<Product, AsmFault>
             if *count < 0 {
                 return Err(AsmFault::Immediate);
             }
-            if *count > MOST_BYTES {
+            if *count > MOST_BYTES as i64 {
                 return Err(AsmFault::TooLarge);
             }
             Ok(Product::Zeros(*count as u32))
@@ -232,7 +226,7 @@ fn is_extent(number: i64) -> bool
     ensures value { result ≡ spec.is_extent number }
     ensures small { IsTrue result → unsigned_abs number ≤ 1048576 }
 {
-    0 <= number && number <= MOST_PIXELS
+    0 <= number && number <= MOST_PIXELS as i64
 }
 
 /// A picture of so many pixels a row and so many rows at an address, in data of so many bytes.

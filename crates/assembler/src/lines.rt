@@ -16,13 +16,9 @@ use crate::products::Product;
 use crate::surveys::{Here, Survey, place_after};
 use assembly_syntax::{Head, Statement, Token, head_of, statement_of, tokens_of};
 use line_text::ReadError;
+use memory::{MOST_BYTES, MOST_WORDS};
 use sqlite_items::Items;
 use std::alloc::Global;
-
-/// The machine's limits on words of text and bytes of data.
-const MOST_WORDS: u64 = 262_144;
-
-const MOST_BYTES: u64 = 33_554_432;
 
 /// What a statement's mnemonic and operands give, if it has them.
 fn command(survey: &Survey, here: Here, statement: &Statement) -> Result<Product, AsmFault>
@@ -56,7 +52,7 @@ fn is_new(survey: &Survey, here: Here, label: &Option<Items<u8>>) -> bool
 fn fits(place: Place) -> bool
     ensures { result ≡ spec.fits place }
 {
-    place.words <= MOST_WORDS && place.bytes <= MOST_BYTES
+    place.words <= MOST_WORDS as u64 && place.bytes <= MOST_BYTES as u64
 }
 
 /// A command's product, unless it or another judgement of its line has a fault: the least.

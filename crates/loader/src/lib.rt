@@ -16,6 +16,6 @@ pub mod spellings;
 pub use crate::faults::LoadFault;
 pub use crate::images::Image;
 pub use crate::loading::load;
-pub use crate::outputs::Output;
+pub use crate::outputs::{MOST_PIXELS, Output};
 pub use crate::readings::read_image;
 pub use crate::spellings::{one_spelling, store};

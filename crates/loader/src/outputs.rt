@@ -5,8 +5,8 @@ ghost use Rattle.loader.specs.Image.{is_picture, end_of, is_output, most_pixels}
 
 use memory::DATA_START;
 
-/// The most pixels that a picture has.
-const MOST_PIXELS: u64 = 1_048_576;
+/// The most pixels that a picture in a machine's data has.
+pub const MOST_PIXELS: u64 = 1_048_576;
 
 /// A picture in a machine's data: `height` rows of `width` pixels, each of 4 bytes. The first row
 /// stands at `address`, and each further one `stride` bytes after the one before.

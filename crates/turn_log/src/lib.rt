@@ -19,4 +19,4 @@ pub mod turn_logs;
 
 pub use crate::laws::{one_spelling, runs_stand};
 pub use crate::log_faults::LogFault;
-pub use crate::turn_logs::TurnLog;
+pub use crate::turn_logs::{MOST_TURNS, TurnLog};

@@ -7,12 +7,9 @@ ghost use Rattle.turn_log.specs.declared.runs.Run.{Run as RunState};
 
 use crate::log_faults::LogFault;
 use crate::runs::Run;
-use crate::turn_logs::TurnLog;
+use crate::turn_logs::{MOST_TURNS, TurnLog};
 use byteorder::{ByteOrder, LittleEndian};
 use std::alloc::Global;
-
-/// No hart has more turns than these.
-const MOST_TURNS: u64 = 1 << 40;
 
 /// The numbers of harts and of runs.
 #[tactic(auto, unfolding(crate::specs::LogSpelling::header_at))]

@@ -17,6 +17,9 @@ use crate::stretches::{Stretch, find_run, push_stretch};
 use std::alloc::{AllocError, Global};
 use std::marker::Model;
 
+/// No hart of a log has more turns than these.
+pub const MOST_TURNS: u64 = 1 << 40;
+
 /// A number of harts, from 1 to 8, and the turns that they made, each the number of its hart.
 ///
 /// A log takes memory by the run, 16 bytes for each stretch of turns of one hart, however long it is.
