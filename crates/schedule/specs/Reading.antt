@@ -1,6 +1,7 @@
 -- One line after the other: what each says of the Funcs, or its least fault.
 -- This project's own.
 use Rattle.std.specs.Prelude.{ℕ, ◌+◌, ◌-◌, ◌==◌, nat_le, nat_lt, if◌then◌else◌, List, [], ◌∷◌, length, map, slice_get, slice_set, Option, Some, None, is_some, Result, Ok, Err}
+use Rattle.line_text.specs.Classes.{is_digit}
 use Rattle.line_text.specs.Reading.{◌>>=◌}
 use Rattle.halide_pipeline.specs.declared.expressions.Source.{Source}
 use Rattle.halide_pipeline.specs.declared.expressions.Source.TheVariants as sources
@@ -30,7 +31,7 @@ use Rattle.schedule_lines.specs.Words.{text_of, words_of}
 
 -- An update is named by one digit.
 abbrev pub digit : List ℕ → Option ℕ
-digit (first ∷ []) = Some (first - 48)
+digit (first ∷ []) = if is_digit first then Some (first - 48) else None
 digit _ = None
 
 abbrev pub numbered : ℕ → FuncPlan → Option ℕ → Option Target
@@ -43,7 +44,7 @@ numbered_of func (Some plan) at = numbered func plan at
 
 abbrev pub stage_target : List FuncPlan → ℕ → Option (List ℕ) → Option Target
 stage_target plans func None = Some (targets.Stage (record { func = func; update = None }))
-stage_target plans func (Some digits) = numbered_of func (slice_get plans func) (digit digits)
+stage_target plans func (Some suffix) = numbered_of func (slice_get plans func) (digit suffix)
 
 abbrev pub target_of : List FuncPlan → Option Source → Option (List ℕ) → Option Target
 target_of plans None update = None

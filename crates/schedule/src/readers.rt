@@ -8,6 +8,7 @@ ghost use Rattle.schedule.specs.Reading as spec;
 use crate::plans::{ComputeLine, FuncPlan, Plans, plans_of};
 use halide_pipeline::{Pipeline, Source};
 use line_text::ReadError;
+use line_text::spans::is_digit;
 use schedule_lines::directives::directed;
 use schedule_lines::faults::ScheduleFault;
 use schedule_lines::lines::{Computed, Directive, Line, LoopDirective, Subject, line_of};
@@ -34,20 +35,20 @@ pub enum Target {
 }
 
 /// The update that one digit names.
-fn digit(digits: &[u8]) -> Option<usize>
-    ensures { result ≡ spec.digit digits.now }
+fn digit(suffix: &[u8]) -> Option<usize>
+    ensures { result ≡ spec.digit suffix.now }
 {
-    match digits {
-        [digit] => Some(usize::from(digit.saturating_sub(b'0'))),
+    match suffix {
+        [digit] if is_digit(*digit) => Some(usize::from(*digit - b'0')),
         _ => None,
     }
 }
 
-/// The update of a Func that digits name.
-fn numbered(func: usize, plan: &FuncPlan, digits: &[u8]) -> Option<Target>
-    ensures { result ≡ spec.numbered func plan.now (spec.digit digits.now) }
+/// The update of a Func that stands behind the dot of its name.
+fn numbered(func: usize, plan: &FuncPlan, suffix: &[u8]) -> Option<Target>
+    ensures { result ≡ spec.numbered func plan.now (spec.digit suffix.now) }
 {
-    match digit(digits) {
+    match digit(suffix) {
         Some(at) if at < plan.updates.len() => Some(Target::Stage(StageName {
             func,
             update: Some(at),
@@ -62,9 +63,9 @@ fn stage_target(plans: &Plans, func: usize, update: &Option<Items<u8>>) -> Optio
 {
     match update {
         None => Some(Target::Stage(StageName { func, update: None })),
-        Some(digits) => match plans.get(func) {
+        Some(suffix) => match plans.get(func) {
             None => None,
-            Some(plan) => numbered(func, plan, digits.as_slice()),
+            Some(plan) => numbered(func, plan, suffix.as_slice()),
         },
     }
 }

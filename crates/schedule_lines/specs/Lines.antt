@@ -4,9 +4,10 @@
 --             | stage 'reorder' loop { loop }
 --             | stage ( 'unroll' | 'vectorize' | 'parallel' ) loop
 --             | func 'compute_root' | func 'compute_at' func loop
---   stage     = func [ '.' digits ]
+--   stage     = func [ '.' suffix ]
 --
--- Funcs and loops are names: letters, digits and `_`, of which the first is no digit.
+-- Funcs and loops are names: letters, digits and `_`, of which the first is no digit. A suffix is of these too, and may begin with
+-- a digit: one that names no update is no fault of syntax.
 -- This project's own.
 use Rattle.std.specs.Prelude.{ℕ, ◌+◌, min, Bool, true, false, ◌&&◌, ◌==◌, if◌then◌else◌, List, [], ◌∷◌, length, take, drop, codes, Option, Some, None, Result, Ok, Err}
 use Rattle.std.specs.List.{prefix_len}
@@ -41,10 +42,14 @@ is_number (first ∷ rest) = prefix_len is_digit (first ∷ rest) == length (fir
 abbrev pub name : List ℕ → Result (List ℕ) ScheduleFault
 name word = if is_name word then Ok word else Err Syntax
 
--- what stands behind a stage's name: nothing, or a dot and digits
+abbrev pub is_suffix : List ℕ → Bool
+is_suffix [] = false
+is_suffix (first ∷ rest) = prefix_len continues_name (first ∷ rest) == length (first ∷ rest)
+
+-- what stands behind a stage's name: nothing, or a dot and a suffix
 abbrev pub update_of : List ℕ → Result (Option (List ℕ)) ScheduleFault
 update_of [] = Ok None
-update_of (byte ∷ digits) = if byte == 46 && is_number digits then Ok (Some digits) else Err Syntax
+update_of (byte ∷ suffix) = if byte == 46 && is_suffix suffix then Ok (Some suffix) else Err Syntax
 
 unfoldable pub subject : List ℕ → Result Subject ScheduleFault
 subject word =
@@ -106,7 +111,7 @@ directive verb words =
 
 -- A Func is computed as a whole, so its compute line has no dot.
 abbrev pub joined_as : Subject → Directive → Option (List ℕ) → Result Line ScheduleFault
-joined_as own (directives.OfPlace computed) (Some digits) = Err Syntax
+joined_as own (directives.OfPlace computed) (Some suffix) = Err Syntax
 joined_as own (directives.OfPlace computed) None = Ok (lines.Directive own (directives.OfPlace computed))
 joined_as own (directives.OfLoops d) update = Ok (lines.Directive own (directives.OfLoops d))
 

@@ -16,7 +16,7 @@ use std::alloc::{AllocError, Global};
 #[derive(Drop)]
 pub struct Subject {
     pub name: Items<u8>,
-    /// Digits.
+    /// Letters, digits and `_`, at least one.
     pub update: Option<Items<u8>>,
 }
 
@@ -88,6 +88,16 @@ fn is_number(word: &[u8]) -> bool
     }
 }
 
+/// Whether bytes may stand behind the dot of a stage: letters, digits and `_`, at least one.
+fn is_suffix(bytes: &[u8]) -> bool
+    ensures { result ≡ spec.is_suffix bytes.now }
+{
+    match bytes {
+        [] => false,
+        [..] => name_len(bytes) == bytes.len(),
+    }
+}
+
 /// A word that is a name.
 fn name_of(alloc: Global, word: &[u8]) -> Result<Items<u8>, ReadError<ScheduleFault>>
     ensures { Gives (λ x. x) result (spec.name word.now) }
@@ -99,18 +109,18 @@ fn name_of(alloc: Global, word: &[u8]) -> Result<Items<u8>, ReadError<ScheduleFa
     }
 }
 
-/// The digits behind a dot, which stand behind a name.
+/// What stands behind a dot, behind a name.
 fn update_of(alloc: Global, rest: &[u8]) -> Result<Option<Items<u8>>, ReadError<ScheduleFault>>
     ensures { Gives (λ x. x) result (spec.update_of rest.now) }
 {
     match rest {
         [] => Ok(None),
-        [b'.', digits @ ..] if is_number(digits) => Ok(Some(Items::from_slice(alloc, digits)?)),
+        [b'.', suffix @ ..] if is_suffix(suffix) => Ok(Some(Items::from_slice(alloc, suffix)?)),
         _ => Err(ReadError::Fault(ScheduleFault::Syntax)),
     }
 }
 
-/// The first word: a name, perhaps with a dot and digits behind it.
+/// The first word: a name, perhaps with a dot and what names an update behind it.
 #[tactic(auto, unfolding(crate::specs::Lines::subject))]
 fn subject_of(alloc: Global, word: &[u8]) -> Result<Subject, ReadError<ScheduleFault>>
     ensures { Gives (λ x. x) result (spec.subject word.now) }
