@@ -5,7 +5,7 @@ use Rattle.std.specs.declared.alloc.Global.{Global}
 use Rattle.hrv.specs.Drawing.{BeganDrawing, Drew, IsDrawing}
 use Rattle.line_text.specs.Reading.{◌>>=◌}
 use Rattle.picture.specs.declared.faults.PictureFault.{PictureFault}
-use Rattle.picture.specs.Picture.{PictureContents}
+use Rattle.halide_meaning.specs.Picture.{PictureContents}
 
 -- these pictures and those that come
 abbrev pub with_front : List PictureContents → Result (List PictureContents) PictureFault → Result (List PictureContents) PictureFault

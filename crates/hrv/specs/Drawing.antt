@@ -8,7 +8,7 @@ use Rattle.halide_pipeline.specs.declared.pipelines.Pipeline.{Pipeline}
 use Rattle.halide_syntax.specs.declared.faults.ParseFault.{ParseFault}
 use Rattle.halide_parser.specs.Parsing.{parsed}
 use Rattle.picture.specs.declared.faults.PictureFault.{PictureFault}
-use Rattle.picture.specs.Picture.{PictureContents}
+use Rattle.halide_meaning.specs.Picture.{PictureContents}
 use Rattle.picture.specs.Reading.{picture_of}
 use Rattle.picture.specs.Spelling.{spelled}
 use Rattle.picture.specs.Evaluated.{IsOutput, judged}

@@ -13,7 +13,8 @@ use Rattle.line_text.specs.Reading.{Gives}
 use Rattle.line_text.specs.declared.read_errors.ReadError.{ReadError}
 use Rattle.picture.specs.declared.faults.PictureFault.{PictureFault}
 use Rattle.picture.specs.declared.faults.PictureFault.TheVariants.{Syntax, Extents, Number}
-use Rattle.picture.specs.Picture.{PictureContents, IsPicture, is_width, is_height, most_extent, most_pixels}
+use Rattle.halide_pipeline.specs.WellFormed.{is_width, is_height, most_extent, most_points}
+use Rattle.halide_meaning.specs.Picture.{PictureContents, IsPicture}
 use Rattle.picture.specs.Spelling.{number_text, rows_text, heading, spelled}
 use Rattle.picture.specs.Reading.{Numeral, separator, pixel_of, pixel_then, pixels_at, heading_at, extent_at, extent_of, picture_at, picture_of, ended, behind, numeral_at}
 use Rattle.picture.proofs.Numerals.{cond-Ok, then-Ok, sign, HasNumeral, numeral_at-Ok, decimal-decimal_number, some_below_zero}
@@ -135,7 +136,7 @@ width_small n e =
 
 height_small : (width n : ℕ) → is_height width n ≡ true → n < 2 ^ 64
 height_small width n e =
-    let limits = and_parts (nat_le 1 n && nat_le n most_extent) (nat_le (width * n) most_pixels) e in
+    let limits = and_parts (nat_le 1 n && nat_le n most_extent) (nat_le (width * n) most_points) e in
     let most = leb-true n most_extent (and_parts (nat_le 1 n) (nat_le n most_extent) limits.0).1 in
     omega arith
 

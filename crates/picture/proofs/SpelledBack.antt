@@ -10,7 +10,8 @@ use Rattle.std.proofs.lemmas.List.{append-nil}
 use Rattle.std.proofs.Math.Nat.{mul_comm}
 use Rattle.line_text.specs.Classes.{is_digit}
 use Rattle.line_text.proofs.Numerals.{decimal_value}
-use Rattle.picture.specs.Picture.{PictureContents, IsPicture, is_width, is_height, is_picture, most_extent, most_pixels}
+use Rattle.halide_pipeline.specs.WellFormed.{is_width, is_height, most_extent, most_points}
+use Rattle.halide_meaning.specs.Picture.{PictureContents, IsPicture, is_picture}
 use Rattle.picture.specs.Spelling.{number_text, rows_text, heading, spelled}
 use Rattle.picture.specs.Reading.{separator, pixel_then, pixels_at, heading_at, extent_at, picture_at, picture_of, ended, behind, numeral_at}
 use Rattle.picture.proofs.Numerals.{numeral_at-decimal, numeral_at-signed}
@@ -94,7 +95,7 @@ limits_of picture e =
     let whole = and_parts (is_width picture.width && is_height picture.width picture.height) (length picture.pixels == picture.width * picture.height) e in
     let extents = and_parts (is_width picture.width) (is_height picture.width picture.height) whole.0 in
     let widths = and_parts (nat_le 1 picture.width) (nat_le picture.width most_extent) extents.0 in
-    let heights = and_parts (nat_le 1 picture.height && nat_le picture.height most_extent) (nat_le (picture.width * picture.height) most_pixels) extents.1 in
+    let heights = and_parts (nat_le 1 picture.height && nat_le picture.height most_extent) (nat_le (picture.width * picture.height) most_points) extents.1 in
     let within = and_parts (nat_le 1 picture.height) (nat_le picture.height most_extent) heights.0 in
     record {
       width = extents.0;

@@ -1,7 +1,5 @@
 pub mod Evaluated
 pub mod Evaluation
-pub mod Picture
-pub mod Pixel
 pub mod Reading
 pub mod Slices
 pub mod Spelling

@@ -9,7 +9,8 @@ use Rattle.line_text.specs.Numbers.{decimal_number}
 use Rattle.line_text.specs.Reading.{◌>>=◌}
 use Rattle.picture.specs.declared.faults.PictureFault.{PictureFault}
 use Rattle.picture.specs.declared.faults.PictureFault.TheVariants.{Syntax, Extents, Number}
-use Rattle.picture.specs.Picture.{PictureContents, is_width, is_height}
+use Rattle.halide_pipeline.specs.WellFormed.{is_width, is_height}
+use Rattle.halide_meaning.specs.Picture.{PictureContents}
 
 -- ---- faults
 

@@ -1,7 +1,8 @@
 //! Pictures as values.
 
 ghost use Rattle.std.specs.Prelude.{◌≡◌, ◌<◌, IfSome};
-ghost use Rattle.picture.specs.Picture.{IsPicture, picture_if, pixel_at, is_width, is_height};
+ghost use Rattle.halide_pipeline.specs.WellFormed.{is_width, is_height};
+ghost use Rattle.halide_meaning.specs.Picture.{IsPicture, picture_if, pixel_at};
 
 use std::marker::Model;
 
@@ -22,7 +23,7 @@ pub struct Picture {
 }
 
 impl Model for Picture {
-    ghost use Rattle.picture.specs.Picture.{PictureContents, IsPicture};
+    ghost use Rattle.halide_meaning.specs.Picture.{PictureContents, IsPicture};
 
     ghost Value = { PictureContents };
 

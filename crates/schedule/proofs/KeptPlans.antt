@@ -23,7 +23,8 @@ use Rattle.schedule_lines.specs.declared.stages.LoopId.TheVariants as ids
 use Rattle.schedule_lines.specs.declared.stages.Stage.{Stage}
 use Rattle.schedule_lines.specs.declared.stages.StageName.{StageName}
 use Rattle.schedule_lines.specs.Directives.{directed}
-use Rattle.schedule_lines.specs.Making.{Differ, IsStage, Begun}
+use Rattle.schedule_lines.specs.Making.{Differ, total, is_stray, IsStage, Begun}
+use Rattle.schedule_lines.proofs.Names.{total-append}
 use Rattle.schedule_lines.proofs.Steps.{directed_keeps}
 use Rattle.schedule.specs.declared.plans.ComputeLine.{ComputeLine}
 use Rattle.schedule.specs.declared.plans.FuncPlan.{FuncPlan}
@@ -78,13 +79,38 @@ few_update func update =
     let d : length (update_loops func update) ≤ length first + 1 = with_second_by (is_second_in_place update) func.second_argument func first refl in
     omega arith
 
-begun : (is_update : Bool) (start : List Loop) → length start ≤ 5 → Differ start → IsStage is_update start (record { loops = start; splits = [] })
-begun is_update start few differ = record { made = Begun; names = differ; few = few }
+-- no loop is marked
+
+none_stray : (second : Option (List ℕ)) (loops : List Loop) (name : List ℕ) → total is_stray loops ≡ 0 → total is_stray (with_second loops second variables.SecondArgument) ≡ 0
+none_stray None loops name e = e
+none_stray (Some own) loops name e = omega (arith, total-append is_stray loops (record { id = ids.Whole variables.SecondArgument; name = own; variable = variables.SecondArgument; inner_of = None; is_from_shift = false; marked = None } ∷ []), e)
+
+pure_stray : (func : Func) → total is_stray (pure_loops func) ≡ 0
+pure_stray func = none_stray func.second_argument _ [] refl
+
+reductions_stray : (second : Option Reduction) (update : Update) → update.second ≡ second → total is_stray (reduction_loops update) ≡ 0
+reductions_stray None update e = rw e refl
+reductions_stray (Some reduction) update e = rw e refl
+
+first_stray : (in_place : Bool) (loops : List Loop) (x : Loop) → is_stray x ≡ 0 → total is_stray loops ≡ 0 → total is_stray (cond in_place (loops ++ x ∷ []) loops) ≡ 0
+first_stray true loops x none e = omega (arith, total-append is_stray loops (x ∷ []), none, e)
+first_stray false loops x none e = e
+
+second_stray : (in_place : Bool) (func : Func) (loops : List Loop) → total is_stray loops ≡ 0 → total is_stray (cond in_place (with_second loops func.second_argument variables.SecondArgument) loops) ≡ 0
+second_stray true func loops e = none_stray func.second_argument loops [] e
+second_stray false func loops e = e
+
+update_stray : (func : Func) (update : Update) → total is_stray (update_loops func update) ≡ 0
+update_stray func update =
+    second_stray (is_second_in_place update) func _ (first_stray (is_first_in_place update) (reduction_loops update) _ refl (reductions_stray update.second update refl))
+
+begun : (is_update : Bool) (start : List Loop) → length start ≤ 5 → total is_stray start ≡ 0 → Differ start → IsStage is_update start (record { loops = start; splits = [] })
+begun is_update start few unrolled differ = record { made = Begun; names = differ; few = few; unrolled = unrolled }
 
 plan_begun : (func : Func) → IsPlan func (plan_of func)
 plan_begun func = record {
-  pure = begun false (pure_loops func) (few_pure func.second_argument [] func refl);
-  updates = pairwise_map (IsUpdateStage func) (update_stage func) func.updates (λ update. begun true (update_loops func update) (few_update func update));
+  pure = begun false (pure_loops func) (few_pure func.second_argument [] func refl) (pure_stray func);
+  updates = pairwise_map (IsUpdateStage func) (update_stage func) func.updates (λ update. begun true (update_loops func update) (few_update func update) (update_stray func update));
 }
 
 -- ---- a plan behind a line

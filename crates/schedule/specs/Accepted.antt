@@ -19,6 +19,7 @@ use Rattle.schedule.specs.declared.standings.Standing.{Standing}
 use Rattle.schedule.specs.Legal.{breaks, is_empty, is_root, is_inlined, is_nowhere}
 use Rattle.schedule.specs.Plans.{pure_loops, update_loops}
 use Rattle.schedule.specs.Standing as standing
+use Rattle.schedule.specs.Uses.{HasHostAtRoot, HasUsesWithin}
 
 -- Two lists of one length, of which each two in the same place are so.
 abbrev pub Pairwise : {A B : Type 0} → (A → B → Type 0) → List A → List B → Type 0
@@ -88,3 +89,7 @@ pub record IsAccepted (pipeline : Pipeline) (schedule : Schedule) : Type 0 where
   pub standings : schedule.standings ≡ standing.standings pipeline schedule.funcs
   pub legal : Pairwise IsLegal schedule.funcs schedule.standings
   pub hosts : Numbered (IsHosted pipeline schedule.funcs) 0 schedule.standings
+  -- the host of a Func that the output reaches is reached, and stands at root
+  pub hosts_at_root : Numbered (HasHostAtRoot schedule.standings) 0 schedule.standings
+  -- what reads a Func that is computed at a loop stands within the loop
+  pub uses : Numbered (HasUsesWithin pipeline schedule.funcs schedule.standings) 0 schedule.standings

@@ -5,3 +5,4 @@ pub mod Plans
 pub mod Reading
 pub mod Schedules
 pub mod Standing
+pub mod Uses

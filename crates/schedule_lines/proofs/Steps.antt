@@ -18,7 +18,7 @@ use Rattle.schedule_lines.specs.declared.stages.Marked.{Marked}
 use Rattle.schedule_lines.specs.declared.stages.Stage.{Stage}
 use Rattle.schedule_lines.specs.Loops.{find, same_id}
 use Rattle.schedule_lines.specs.Directives.{is_known, is_shift, open_of, parts, split_fault, split_loop, settled_split, split_of, are_known, has_twice, reordered, reductions, same_ids, reorder, with_mark, mark_loop, is_bad_unroll, mark_of, directed}
-use Rattle.schedule_lines.specs.Making.{total, has_name, bare, SameLoops, IsMade, Parted, Marked as Remarked, Moved, IsStage}
+use Rattle.schedule_lines.specs.Making.{total, has_name, is_stray, bare, SameLoops, IsMade, Parted, Marked as Remarked, Moved, IsStage}
 use Rattle.schedule_lines.proofs.Names.{same_bytes, total-append, unknown}
 use Rattle.schedule_lines.proofs.Replacing.{between}
 use Rattle.schedule_lines.proofs.Reordering.{one, total-ones, same_loops}
@@ -49,9 +49,13 @@ replaced_total value (first ∷ before) own other after e = omega (arith, replac
 
 -- ---- a loop is marked
 
-marked_keeps : (is_update : Bool) (start : List Loop) (stage : Stage) (own : Loop) (name : List ℕ) (marked : Marked) → find name stage.loops ≡ Some own
+stray_mark : (bad : Bool) (own : Loop) (marked : Marked) → is_bad_unroll marked.mark own ≡ bad → bad ≡ false → is_stray (with_mark own marked) ≡ 0
+stray_mark true own marked e right = cc
+stray_mark false own marked e right = rw e refl
+
+marked_keeps : (is_update : Bool) (start : List Loop) (stage : Stage) (own : Loop) (name : List ℕ) (marked : Marked) → find name stage.loops ≡ Some own → is_bad_unroll marked.mark own ≡ false
     → IsStage is_update start stage → IsStage is_update start (mark_loop stage own name marked)
-marked_keeps is_update start stage own name marked e is =
+marked_keeps is_update start stage own name marked e right is =
     let place = between name stage.loops own e in
     let new = with_mark own marked in
     let loops_are : (mark_loop stage own name marked).loops ≡ place.before ++ new ∷ place.after = place.replaced_are (new ∷ []) in
@@ -61,6 +65,8 @@ marked_keeps is_update start stage own name marked e is =
       made = Remarked stage.loops (mark_loop stage own name marked).loops stage.splits is.made (ap (map bare) loops_are ∙ replaced_map place.before new own place.after refl ∙ sym (ap (map bare) place.loops_are));
       names = λ n. omega (arith, same (has_name n) refl, is.names n);
       few = omega (arith, same one refl, total-ones (mark_loop stage own name marked).loops, total-ones stage.loops, is.few);
+      unrolled = omega (arith, ap (total is_stray) loops_are, ap (total is_stray) place.loops_are, total-append is_stray place.before (new ∷ place.after),
+        total-append is_stray place.before (own ∷ place.after), stray_mark (is_bad_unroll marked.mark own) own marked refl right, is.unrolled);
     }
 
 -- ---- a loop is split
@@ -132,6 +138,8 @@ split_keeps is_update start stage own line e right is =
           subst (λ (k : ℕ). k ≤ 1) (sym (new_total (has_name n)))
           (part_names (bytes_eq line.inner n) (bytes_eq line.outer n) n place.before own place.after _ _ refl refl known.1 no_inner no_outer old);
       few = omega (arith, new_total one, old_total one, counted, total-ones (split_loop stage own line).loops, total-ones stage.loops, below);
+      unrolled = omega (arith, new_total is_stray, old_total is_stray, total-append is_stray place.before (new_loops ++ place.after),
+        total-append is_stray place.before (own ∷ place.after), is.unrolled);
     }
 
 -- ---- loops change places
@@ -185,6 +193,7 @@ reorder_keeps is_update start stage names new e is =
       made = Moved stage.loops (reordered stage.loops names) stage.splits is.made same order;
       names = λ n. subst (λ (k : ℕ). k ≤ 1) (sym (same (has_name n))) (is.names n);
       few = omega (arith, same one, total-ones (reordered stage.loops names), total-ones stage.loops, is.few);
+      unrolled = omega (arith, same is_stray, is.unrolled);
     })
 
 -- ---- any line
@@ -209,17 +218,17 @@ split_found : (found : Option Loop) (is_update : Bool) (start : List Loop) (stag
 split_found None is_update start stage line found new e is = cc
 split_found (Some own) is_update start stage line found new e is = split_open (is_some own.marked) is_update start stage own line found new e is
 
-mark_by : (bad : Bool) (is_update : Bool) (start : List Loop) (stage : Stage) (own : Loop) (name : List ℕ) (marked : Marked) → find name stage.loops ≡ Some own
+mark_by : (bad : Bool) (is_update : Bool) (start : List Loop) (stage : Stage) (own : Loop) (name : List ℕ) (marked : Marked) → find name stage.loops ≡ Some own → is_bad_unroll marked.mark own ≡ bad
     → Keeps is_update start stage (cond bad (Err fault.UnrolledLoop) (Ok (mark_loop stage own name marked)))
-mark_by true is_update start stage own name marked found new e is = cc
-mark_by false is_update start stage own name marked found new e is =
+mark_by true is_update start stage own name marked found bad new e is = cc
+mark_by false is_update start stage own name marked found right new e is =
     let new_is : mark_loop stage own name marked ≡ new = cc in
-    subst (λ (s : Stage). IsStage is_update start s) new_is (marked_keeps is_update start stage own name marked found is)
+    subst (λ (s : Stage). IsStage is_update start s) new_is (marked_keeps is_update start stage own name marked found right is)
 
 mark_open : (has_mark : Bool) (is_update : Bool) (start : List Loop) (stage : Stage) (own : Loop) (name : List ℕ) (marked : Marked) → find name stage.loops ≡ Some own
     → Keeps is_update start stage (mark_of stage name marked (cond has_mark None (Some own)))
 mark_open true is_update start stage own name marked found new e is = cc
-mark_open false is_update start stage own name marked found new e is = mark_by (is_bad_unroll marked.mark own) is_update start stage own name marked found new e is
+mark_open false is_update start stage own name marked found new e is = mark_by (is_bad_unroll marked.mark own) is_update start stage own name marked found refl new e is
 
 mark_found : (found : Option Loop) (is_update : Bool) (start : List Loop) (stage : Stage) (name : List ℕ) (marked : Marked) → find name stage.loops ≡ found
     → Keeps is_update start stage (mark_of stage name marked (open_of found))

@@ -1,13 +1,15 @@
 -- How the loops of a stage come about: some are over whole variables, splits make two of one, and others take
 -- places anew or are marked. What is kept of a stage follows from this by induction.
 -- This project's own.
-use Rattle.std.specs.Prelude.{◌≡◌, ◌≤◌, ℕ, ◌+◌, Bool, false, ◌&&◌, if◌then◌else◌, List, [], ◌∷◌, ◌++◌, length, map, None}
+use Rattle.std.specs.Prelude.{◌≡◌, ◌≤◌, ℕ, ◌+◌, Bool, false, not, ◌&&◌, if◌then◌else◌, List, [], ◌∷◌, ◌++◌, length, map, None, is_some}
 use Rattle.std.specs.Str.{bytes_eq}
 use Rattle.schedule_lines.specs.declared.lines.SplitLine.{SplitLine}
 use Rattle.schedule_lines.specs.declared.stages.Loop.{Loop}
+use Rattle.schedule_lines.specs.declared.stages.Mark.TheVariants as marks
 use Rattle.schedule_lines.specs.declared.stages.Split.{Split}
 use Rattle.schedule_lines.specs.declared.stages.Stage.{Stage}
 use Rattle.schedule_lines.specs.Directives.{is_shift, parts, reductions}
+use Rattle.schedule_lines.specs.Loops.{is_marked}
 
 -- what is added up over loops
 abbrev pub total : (Loop → ℕ) → List Loop → ℕ
@@ -17,6 +19,10 @@ total value (first ∷ others) = value first + total value others
 -- 1 for a loop with this name
 abbrev pub has_name : List ℕ → Loop → ℕ
 has_name name own = if bytes_eq own.name name then 1 else 0
+
+-- 1 for an unrolled loop that is the inner one of no split
+abbrev pub is_stray : Loop → ℕ
+is_stray own = if is_marked marks.Unrolled own && not (is_some own.inner_of) then 1 else 0
 
 -- No two loops have one name.
 abbrev pub Differ : List Loop → Type 0
@@ -57,8 +63,10 @@ pub data IsMade (is_update : Bool) (start : List Loop) : List Loop → List Spli
       → reductions new ≡ reductions loops
       → IsMade is_update start new splits
 
--- A stage that lines make of its first loops: at most 5 loops with names that differ.
+-- A stage that lines make of its first loops: at most 5 loops with names that differ, of which each unrolled one is the inner
+-- loop of a split.
 pub record IsStage (is_update : Bool) (start : List Loop) (stage : Stage) : Type 0 where
   pub made : IsMade is_update start stage.loops stage.splits
   pub names : Differ stage.loops
   pub few : length stage.loops ≤ 5
+  pub unrolled : total is_stray stage.loops ≡ 0

@@ -17,8 +17,8 @@ use Rattle.halide_pipeline.specs.declared.definitions.Update.{Update}
 use Rattle.halide_pipeline.specs.declared.definitions.Func.{Func}
 use Rattle.halide_pipeline.specs.declared.pipelines.Pipeline.{Pipeline}
 use Rattle.halide_pipeline.specs.Words as word
-use Rattle.picture.specs.declared.environments.Environment.{Environment}
-use Rattle.picture.specs.Picture.{PictureContents, pixel_at}
+use Rattle.halide_meaning.specs.declared.environments.Environment.{Environment}
+use Rattle.halide_meaning.specs.Picture.{PictureContents, pixel_at}
 
 -- ---- the value of an expression, whoever answers its reads
 

@@ -1,7 +1,8 @@
 -- What a picture holds, and the limits that it keeps.
 -- This project's own.
-use Rattle.std.specs.Prelude.{ℕ, ◌+◌, ◌*◌, ◌^◌, ◌<◌, ◌==◌, ◌&&◌, Bool, nat_le, if◌then◌else◌, IsTrue, List, length, slice_index, Option, Some, None}
+use Rattle.std.specs.Prelude.{ℕ, ◌+◌, ◌*◌, ◌^◌, ◌<◌, ◌==◌, ◌&&◌, Bool, if◌then◌else◌, IsTrue, List, length, slice_index, Option, Some, None}
 use Rattle.std.specs.List.{All}
+use Rattle.halide_pipeline.specs.WellFormed.{is_width, is_height}
 
 -- Pixels by rows, from the top, each row from the left. A pixel is a number below 2^32, which stands
 -- for the signed number of 32 bits that it is congruent to.
@@ -9,21 +10,6 @@ pub record PictureContents : Type 0 where
   pub width : ℕ
   pub height : ℕ
   pub pixels : List ℕ
-
--- a picture is at most so wide and so high
-abbrev pub most_extent : ℕ
-most_extent = 65536
-
--- and has at most so many pixels
-abbrev pub most_pixels : ℕ
-most_pixels = 1048576
-
-abbrev pub is_width : ℕ → Bool
-is_width width = nat_le 1 width && nat_le width most_extent
-
--- a height, beside this width
-abbrev pub is_height : ℕ → ℕ → Bool
-is_height width height = nat_le 1 height && nat_le height most_extent && nat_le (width * height) most_pixels
 
 -- extents within the limits, and a pixel for each place
 abbrev pub is_picture : PictureContents → Bool

@@ -1,0 +1,312 @@
+-- The reads of a Func that is computed at a loop stand within it, and the host of a Func that is reached is reached and at root.
+use Rattle.std.proofs.Common.{◌≡◌, ℕ, zero, suc, ◌+◌, ◌-◌, ◌<◌, ◌≤◌, Bool, true, false, not, cond, List, [], ◌∷◌, length, Option, Some, None, refl, sym, ap, ◌∙◌, subst, arith}
+use Rattle.std.specs.Prelude.{◌&&◌, ◌||◌, ◌==◌, slice_get}
+use Rattle.std.proofs.lemmas.Bool.{and_parts, or_parts, eqb-true}
+use Rattle.std.proofs.lemmas.Option.{slice_get_past}
+use Rattle.halide_pipeline.specs.declared.pipelines.Pipeline.{Pipeline}
+use Rattle.schedule_lines.specs.declared.lines.Computed.{Computed}
+use Rattle.schedule_lines.specs.declared.lines.Computed.TheVariants as computed
+use Rattle.schedule.specs.declared.plans.ComputeLine.{ComputeLine}
+use Rattle.schedule.specs.declared.plans.FuncPlan.{FuncPlan}
+use Rattle.schedule.specs.declared.standings.LoopPlace.{LoopPlace}
+use Rattle.schedule.specs.declared.standings.Place.{Place}
+use Rattle.schedule.specs.declared.standings.Place.TheVariants as places
+use Rattle.schedule.specs.declared.standings.Standing.{Standing}
+use Rattle.schedule.specs.Accepted.{Numbered, IsHost}
+use Rattle.schedule.specs.Calls.{place_calls}
+use Rattle.schedule.specs.Standing.{is_read, is_called, is_root_computed, is_root_line, is_root, is_within, is_away, is_outside, outside, host, place_at, place_computed, place_of, place, standing, standings_from}
+use Rattle.schedule.specs.Uses.{IsReached, StandsWithin, Host, Computed as ComputedThere, Inlined, HasUsesWithin, IsRootReached, HasHostAtRoot}
+
+-- ---- small facts
+
+not_false : (test : Bool) → not test ≡ false → test ≡ true
+not_false true e = refl
+not_false false e = cc
+
+numbered_from : {A : Type 0} (P : ℕ → A → Type 0) (at : ℕ) (xs : List A) → ((k : ℕ) (x : A) → slice_get xs k ≡ Some x → P (at + k) x) → Numbered P at xs
+numbered_from P at [] each = tt
+numbered_from P at (x ∷ xs) each =
+    let here : at + 0 ≡ at = omega arith in
+    let next : (k : ℕ) → at + suc k ≡ at + 1 + k = λ k. omega arith in (
+      subst (λ (n : ℕ). P n x) here (each 0 x refl),
+      numbered_from P (at + 1) xs (λ k y found. subst (λ (n : ℕ). P n y) (next k) (each (suc k) y found)),
+    )
+
+pub numbered_at : {A : Type 0} (P : ℕ → A → Type 0) (at : ℕ) (xs : List A) → Numbered P at xs → (k : ℕ) (x : A) → slice_get xs k ≡ Some x → P (at + k) x
+numbered_at P at [] each k x found = absurd cc
+numbered_at P at (first ∷ xs) each zero x found =
+    let first_is : first ≡ x = cc in
+    let here : at ≡ at + 0 = omega arith in
+    subst (λ (n : ℕ). P n x) here (subst (P at) first_is each.0)
+numbered_at P at (first ∷ xs) each (suc k) x found =
+    let next : at + 1 + k ≡ at + suc k = omega arith in
+    subst (λ (n : ℕ). P n x) next (numbered_at P (at + 1) xs each.1 k x found)
+
+module _ (pipeline : Pipeline) (plans : List FuncPlan) (all : List Standing) where
+  -- the standings from a place on are these
+  abbrev From : ℕ → List Standing → Type 0
+  From at rest = (k : ℕ) → slice_get all (at + k) ≡ slice_get rest k
+
+  from_next : (at : ℕ) (first : Standing) (others : List Standing) → From at (first ∷ others) → From (at + 1) others
+  from_next at first others from k =
+      let next : at + 1 + k ≡ at + suc k = omega arith in
+      ap (λ (n : ℕ). slice_get all n) next ∙ from (suc k)
+
+  abbrev Within : LoopPlace → ℕ → Type 0
+  Within host at = StandsWithin pipeline plans all host at
+
+  -- ---- Funcs that are flagged don't call
+
+  not_called : (func at k : ℕ) (flags : List Bool) → is_called pipeline func at flags ≡ false → slice_get flags k ≡ Some true → place_calls pipeline (at + k) func ≡ false
+  not_called func at k [] e flag = cc
+  not_called func at zero (first ∷ rest) e flag =
+      let parts = or_parts (first && place_calls pipeline at func) (is_called pipeline func (at + 1) rest) e in
+      let raised : first ≡ true = cc in
+      let calls : place_calls pipeline at func ≡ false = subst (λ (b : Bool). (b && place_calls pipeline at func) ≡ false) raised parts.0 in
+      let here : at ≡ at + 0 = omega arith in
+      subst (λ (n : ℕ). place_calls pipeline n func ≡ false) here calls
+  not_called func at (suc k) (first ∷ rest) e flag =
+      let parts = or_parts (first && place_calls pipeline at func) (is_called pipeline func (at + 1) rest) e in
+      let next : at + 1 + k ≡ at + suc k = omega arith in
+      subst (λ (n : ℕ). place_calls pipeline n func ≡ false) next (not_called func (at + 1) k rest parts.1 flag)
+
+  flagged : (host : LoopPlace) (at k : ℕ) (rest : List Standing) (own : Standing) → slice_get rest k ≡ Some own
+      → (flag : Bool) × (slice_get (outside pipeline plans host at rest) k ≡ Some flag)
+  flagged host at k [] own found = absurd cc
+  flagged host at zero (first ∷ others) own found = (is_outside pipeline plans host at first (outside pipeline plans host (at + 1) others), refl)
+  flagged host at (suc k) (first ∷ others) own found = flagged host (at + 1) k others own found
+
+  -- what a list of flags says of its Funcs
+  abbrev Flags : LoopPlace → ℕ → List Standing → Type 0
+  Flags host at rest = (k : ℕ) (own : Standing) → slice_get rest k ≡ Some own → own.is_reached ≡ true → slice_get (outside pipeline plans host at rest) k ≡ Some false → Within host (at + k)
+
+  -- what calls a Func stands within
+  abbrev Callers : LoopPlace → ℕ → Type 0
+  Callers host at = (reader : ℕ) (its : Standing) → at < reader → IsReached all reader its → place_calls pipeline reader at ≡ true → Within host reader
+
+  by_flag : (flag : Bool) (host : LoopPlace) (at k reader : ℕ) (rest : List Standing) (its : Standing) → at + 1 + k ≡ reader → slice_get rest k ≡ Some its → IsReached all reader its
+      → slice_get (outside pipeline plans host (at + 1) rest) k ≡ Some flag → is_called pipeline at (at + 1) (outside pipeline plans host (at + 1) rest) ≡ false
+      → place_calls pipeline reader at ≡ true → Flags host (at + 1) rest → Within host reader
+  by_flag true host at k reader rest its same found reached flag e calls each =
+      let none : place_calls pipeline reader at ≡ false =
+      subst (λ (n : ℕ). place_calls pipeline n at ≡ false) same (not_called at (at + 1) k (outside pipeline plans host (at + 1) rest) e flag) in
+      absurd cc
+  by_flag false host at k reader rest its same found reached flag e calls each = subst (λ (n : ℕ). Within host n) same (each k its found reached.reached flag)
+
+  called_by : (host : LoopPlace) (at : ℕ) (rest : List Standing) → From (at + 1) rest → Flags host (at + 1) rest
+      → is_called pipeline at (at + 1) (outside pipeline plans host (at + 1) rest) ≡ false → Callers host at
+  called_by host at rest from each e reader its later reached calls =
+      let same : at + 1 + (reader - (at + 1)) ≡ reader = omega arith in
+      let found : slice_get rest (reader - (at + 1)) ≡ Some its =
+      sym (from (reader - (at + 1))) ∙ ap (λ (n : ℕ). slice_get all n) same ∙ reached.standing in
+      let flag = flagged host (at + 1) (reader - (at + 1)) rest its found in
+      by_flag flag.0 host at (reader - (at + 1)) reader rest its same found reached flag.1 e calls each
+
+  here_within : (is_host : Bool) (where_it_is : Place) (host : LoopPlace) (at : ℕ) (own : Standing) (flags : List Bool) → IsReached all at own → (at == host.func) ≡ is_host → own.place ≡ where_it_is
+      → (is_called pipeline at (at + 1) flags ≡ false → Callers host at)
+      → (not is_host && is_away pipeline plans host at where_it_is flags) ≡ false → Within host at
+  here_within true where_it_is host at own flags reached is_host place_is callers e =
+      let same : host.func ≡ at = sym (eqb-true at host.func is_host) in
+      subst (λ (n : ℕ). Within host n) same Host
+  here_within false places.Inlined host at own flags reached is_host place_is callers e = Inlined at own reached place_is (callers e)
+  here_within false (places.At there) host at own flags reached is_host place_is callers e = ComputedThere at own there reached place_is (not_false (is_within plans host there) e)
+  here_within false places.Root host at own flags reached is_host place_is callers e = absurd cc
+  here_within false places.Nowhere host at own flags reached is_host place_is callers e = absurd cc
+
+  within : (host : LoopPlace) (at : ℕ) (rest : List Standing) → From at rest → Flags host at rest
+  within host at [] from k own found reached flag = absurd cc
+  within host at (first ∷ others) from zero own found reached flag =
+      let flags = outside pipeline plans host (at + 1) others in
+      let first_is : first ≡ own = cc in
+      let here : at + 0 ≡ at = omega arith in
+      let there : IsReached all at own = record { standing = ap (λ (n : ℕ). slice_get all n) (sym here) ∙ from 0 ∙ found; reached = reached } in
+      let raised : first.is_reached ≡ true = ap (λ (s : Standing). s.is_reached) first_is ∙ reached in
+      let lowered : is_outside pipeline plans host at first flags ≡ false = cc in
+      let rest_is : (not (at == host.func) && is_away pipeline plans host at first.place flags) ≡ false =
+      subst (λ (b : Bool). (b && (not (at == host.func) && is_away pipeline plans host at first.place flags)) ≡ false) raised lowered in
+      subst (λ (n : ℕ). Within host n) (sym here)
+      (here_within (at == host.func) first.place host at own flags there refl (ap (λ (s : Standing). s.place) (sym first_is))
+      (called_by host at others (from_next at first others from) (within host (at + 1) others (from_next at first others from))) rest_is)
+  within host at (first ∷ others) from (suc k) own found reached flag =
+      let next : at + 1 + k ≡ at + suc k = omega arith in
+      subst (λ (n : ℕ). Within host n) next (within host (at + 1) others (from_next at first others from) k own found reached flag)
+
+  -- ---- the standing of a Func, over those behind it
+
+  record StandingAt (at : ℕ) (own : Standing) : Type 0 where
+    plan : FuncPlan
+    behind : List Standing
+    plan_is : slice_get plans at ≡ Some plan
+    own_is : own ≡ standing pipeline plans at plan behind
+    from : From (at + 1) behind
+
+  standing_at : (at : ℕ) (rest : List FuncPlan) → From at (standings_from pipeline plans at rest) → ((k : ℕ) → slice_get plans (at + k) ≡ slice_get rest k)
+      → (k : ℕ) (own : Standing) → slice_get (standings_from pipeline plans at rest) k ≡ Some own → StandingAt (at + k) own
+  standing_at at [] from plans_are k own found = absurd cc
+  standing_at at (first ∷ others) from plans_are zero own found =
+      let behind = standings_from pipeline plans (at + 1) others in
+      let here : at ≡ at + 0 = omega arith in
+      let own_is : own ≡ standing pipeline plans at first behind = cc in
+      subst (λ (n : ℕ). StandingAt n own) here (record {
+        plan = first;
+        behind = behind;
+        plan_is = ap (λ (n : ℕ). slice_get plans n) here ∙ plans_are 0;
+        own_is = own_is;
+        from = from_next at (standing pipeline plans at first behind) behind from;
+      })
+  standing_at at (first ∷ others) from plans_are (suc k) own found =
+      let behind = standings_from pipeline plans (at + 1) others in
+      let next : (j : ℕ) → at + 1 + j ≡ at + suc j = λ j. omega arith in
+      subst (λ (n : ℕ). StandingAt n own) (next k)
+      (standing_at (at + 1) others (from_next at (standing pipeline plans at first behind) behind from)
+      (λ j. ap (λ (n : ℕ). slice_get plans n) (next j) ∙ plans_are (suc j)) k own found)
+
+  -- ---- uses
+
+  placed_by : (away : Bool) (own wanted : LoopPlace) → cond away places.Nowhere (places.At own) ≡ places.At wanted → (away ≡ false) × (own ≡ wanted)
+  placed_by true own wanted e = absurd cc
+  placed_by false own wanted e = (refl, cc)
+
+  host_placed : (found : Option LoopPlace) (at : ℕ) (behind : List Standing) (wanted : LoopPlace) → place_at pipeline plans at behind found ≡ places.At wanted
+      → is_called pipeline at (at + 1) (outside pipeline plans wanted (at + 1) behind) ≡ false
+  host_placed None at behind wanted e = absurd cc
+  host_placed (Some own) at behind wanted e =
+      let parts = placed_by (is_called pipeline at (at + 1) (outside pipeline plans own (at + 1) behind)) own wanted e in
+      subst (λ (h : LoopPlace). is_called pipeline at (at + 1) (outside pipeline plans h (at + 1) behind) ≡ false) parts.1 parts.0
+
+  said_placed : (said : Computed) (at : ℕ) (behind : List Standing) (wanted : LoopPlace) → place_computed pipeline plans at behind said ≡ places.At wanted
+      → is_called pipeline at (at + 1) (outside pipeline plans wanted (at + 1) behind) ≡ false
+  said_placed computed.Root at behind wanted e = absurd cc
+  said_placed (computed.At names) at behind wanted e = host_placed (host pipeline plans at names) at behind wanted e
+
+  line_placed : (is_output : Bool) (compute : Option ComputeLine) (at : ℕ) (behind : List Standing) (wanted : LoopPlace)
+      → cond is_output places.Root (place_of pipeline plans at behind compute) ≡ places.At wanted
+      → is_called pipeline at (at + 1) (outside pipeline plans wanted (at + 1) behind) ≡ false
+  line_placed true compute at behind wanted e = absurd cc
+  line_placed false None at behind wanted e = absurd cc
+  line_placed false (Some line) at behind wanted e = said_placed line.computed at behind wanted e
+
+  uses_at : (at : ℕ) (own : Standing) → StandingAt at own → HasUsesWithin pipeline plans all at own
+  uses_at at own is wanted e =
+      let placed : place pipeline plans at is.plan is.behind ≡ places.At wanted = ap (λ (s : Standing). s.place) (sym is.own_is) ∙ e in
+      called_by wanted at is.behind is.from (within wanted (at + 1) is.behind is.from)
+      (line_placed (at == pipeline.output.func) is.plan.compute at is.behind wanted placed)
+
+  -- ---- hosts
+
+  -- a later Func that is reached and calls the one at a place
+  record IsReadBy (func at : ℕ) : Type 0 where
+    reader : ℕ
+    its : Standing
+    later : at ≤ reader
+    there : IsReached all reader its
+    calls : place_calls pipeline reader func ≡ true
+
+  read_further : (reads : Bool) (func at : ℕ) (first : Standing) (others : List Standing) → From at (first ∷ others) → (first.is_reached && place_calls pipeline at func) ≡ reads
+      → (reads || is_read pipeline func (at + 1) others) ≡ true → (is_read pipeline func (at + 1) others ≡ true → IsReadBy func (at + 1)) → IsReadBy func at
+  read_further true func at first others from is e goes_on =
+      let parts = and_parts first.is_reached (place_calls pipeline at func) is in
+      let here : at ≡ at + 0 = omega arith in
+      record {
+        reader = at;
+        its = first;
+        later = omega arith;
+        there = record { standing = ap (λ (n : ℕ). slice_get all n) here ∙ from 0; reached = parts.0 };
+        calls = parts.1;
+      }
+  read_further false func at first others from is e goes_on =
+      let found = goes_on e in
+      record { reader = found.reader; its = found.its; later = omega (arith, found.later); there = found.there; calls = found.calls }
+
+  read_by : (func at : ℕ) (rest : List Standing) → From at rest → is_read pipeline func at rest ≡ true → IsReadBy func at
+  read_by func at [] from e = absurd cc
+  read_by func at (first ∷ others) from e =
+      read_further (first.is_reached && place_calls pipeline at func) func at first others from refl e (read_by func (at + 1) others (from_next at first others from))
+
+  -- a Func that is no output has no other way to be reached
+  read_since : (is_output : Bool) (compute : Option ComputeLine) (at : ℕ) (behind : List Standing) → From (at + 1) behind
+      → (cond is_output places.Root (place_of pipeline plans at behind compute) ≡ places.Root → ⊥) → (is_output || is_read pipeline at (at + 1) behind) ≡ true → IsReadBy at (at + 1)
+  read_since true compute at behind from no_root e = absurd (no_root refl)
+  read_since false compute at behind from no_root e = read_by at (at + 1) behind from e
+
+  read_at : (at : ℕ) (own : Standing) → StandingAt at own → own.is_reached ≡ true → (own.place ≡ places.Root → ⊥) → IsReadBy at (at + 1)
+  read_at at own is reached no_root =
+      let raised : (at == pipeline.output.func || is_read pipeline at (at + 1) is.behind) ≡ true = ap (λ (s : Standing). s.is_reached) (sym is.own_is) ∙ reached in
+      let place_is : place pipeline plans at is.plan is.behind ≡ own.place = ap (λ (s : Standing). s.place) (sym is.own_is) in
+      read_since (at == pipeline.output.func) is.plan.compute at is.behind is.from (λ root. no_root (sym place_is ∙ root)) raised
+
+  abbrev Standings : Type 0
+  Standings = (at : ℕ) (own : Standing) → slice_get all at ≡ Some own → StandingAt at own
+
+  record IsThere (at : ℕ) : Type 0 where
+    own : Standing
+    there : IsReached all at own
+
+  host_within : (host : LoopPlace) (least reader : ℕ) → Standings → Within host reader → least < reader → (its : Standing) → IsReached all reader its
+      → ((at : ℕ) (own : Standing) (h : LoopPlace) → least < at → IsReached all at own → own.place ≡ places.At h → IsThere h.func) → IsThere host.func
+  host_within host least reader known Host lt its there later = record { own = its; there = there }
+  host_within host least reader known (ComputedThere reader own at own_there place_is within) lt its there later =
+      let same : at.func ≡ host.func = eqb-true at.func host.func (and_parts (at.func == host.func) _ within).0 in
+      subst IsThere same (later reader own at lt own_there place_is)
+  host_within host least reader known (Inlined reader own own_there place_is callers) lt its there later =
+      let read = read_at reader own (known reader own own_there.standing) own_there.reached (λ root. absurd cc) in
+      let behind : reader < read.reader = omega (arith, read.later) in
+      host_within host least read.reader known (callers read.reader read.its behind read.there read.calls) (omega arith) read.its read.there later
+
+  host_there : (fuel at : ℕ) → Standings → length all ≤ at + fuel → (own : Standing) (host : LoopPlace) → IsReached all at own → own.place ≡ places.At host → IsThere host.func
+  host_there zero at known le own host there place_is =
+      let past : slice_get all at ≡ None = slice_get_past all at (omega arith) in
+      let found = there.standing in
+      absurd cc
+  host_there (suc fuel) at known le own host there place_is =
+      let is = known at own there.standing in
+      let read = read_at at own is there.reached (λ root. absurd cc) in
+      let behind : at < read.reader = omega (arith, read.later) in
+      host_within host at read.reader known (uses_at at own is host place_is read.reader read.its behind read.there read.calls) behind read.its read.there
+      (λ later its h lt its_there its_place. host_there fuel later known (omega arith) its h its_there its_place)
+
+  root_said : (said : Computed) (at : ℕ) (behind : List Standing) → is_root_computed said ≡ true → place_computed pipeline plans at behind said ≡ places.Root
+  root_said computed.Root at behind e = refl
+  root_said (computed.At names) at behind e = absurd cc
+
+  root_placed : (is_output : Bool) (compute : Option ComputeLine) (at : ℕ) (behind : List Standing) → (is_output || is_root_line compute) ≡ true
+      → cond is_output places.Root (place_of pipeline plans at behind compute) ≡ places.Root
+  root_placed true compute at behind e = refl
+  root_placed false None at behind e = absurd cc
+  root_placed false (Some line) at behind e = root_said line.computed at behind e
+
+  host_at_root : Standings → (at : ℕ) (own : Standing) → slice_get all at ≡ Some own → ((host : LoopPlace) → own.place ≡ places.At host → IsHost pipeline plans at host) → HasHostAtRoot all at own
+  host_at_root known at own found hosted reached host place_is =
+      let is_host = hosted host place_is in
+      let there = host_there (length all) at known (omega arith) own host (record { standing = found; reached = reached }) place_is in
+      let is = known host.func there.own there.there.standing in
+      let plan_is : is.plan ≡ is_host.plan = let a = is.plan_is in let b = is_host.plan_is in cc in
+      let root : is_root pipeline host.func is.plan ≡ true = subst (λ (p : FuncPlan). is_root pipeline host.func p ≡ true) (sym plan_is) is_host.root in
+      record {
+        own = there.own;
+        there = there.there;
+        root = ap (λ (s : Standing). s.place) is.own_is ∙ root_placed (host.func == pipeline.output.func) is.plan.compute host.func is.behind root;
+      }
+
+-- ---- the whole
+
+known_all : (pipeline : Pipeline) (plans : List FuncPlan) → Standings pipeline plans (standings_from pipeline plans 0 plans)
+known_all pipeline plans at own found =
+    let all = standings_from pipeline plans 0 plans in
+    let here : (k : ℕ) → 0 + k ≡ k = λ k. omega arith in
+    subst (λ (n : ℕ). StandingAt pipeline plans all n own) (here at)
+    (standing_at pipeline plans all 0 plans (λ k. ap (λ (n : ℕ). slice_get all n) (here k)) (λ k. ap (λ (n : ℕ). slice_get plans n) (here k)) at own found)
+
+pub uses_lie_within : (pipeline : Pipeline) (plans : List FuncPlan) → Numbered (HasUsesWithin pipeline plans (standings_from pipeline plans 0 plans)) 0 (standings_from pipeline plans 0 plans)
+uses_lie_within pipeline plans =
+    let all = standings_from pipeline plans 0 plans in
+    let here : (k : ℕ) → k ≡ 0 + k = λ k. omega arith in
+    numbered_from (HasUsesWithin pipeline plans all) 0 all (λ k own found. subst (λ (n : ℕ). HasUsesWithin pipeline plans all n own) (here k) (uses_at pipeline plans all k own (known_all pipeline plans k own found)))
+
+pub hosts_at_root : (pipeline : Pipeline) (plans : List FuncPlan)
+    → ((k : ℕ) (own : Standing) → slice_get (standings_from pipeline plans 0 plans) k ≡ Some own → (host : LoopPlace) → own.place ≡ places.At host → IsHost pipeline plans k host)
+    → Numbered (HasHostAtRoot (standings_from pipeline plans 0 plans)) 0 (standings_from pipeline plans 0 plans)
+hosts_at_root pipeline plans hosted =
+    let all = standings_from pipeline plans 0 plans in
+    let here : (k : ℕ) → k ≡ 0 + k = λ k. omega arith in
+    numbered_from (HasHostAtRoot all) 0 all (λ k own found. subst (λ (n : ℕ). HasHostAtRoot all n own) (here k) (host_at_root pipeline plans all (known_all pipeline plans) k own found (hosted k own found)))
