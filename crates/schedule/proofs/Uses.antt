@@ -245,10 +245,10 @@ module _ (pipeline : Pipeline) (plans : List FuncPlan) (all : List Standing) whe
   host_within : (host : LoopPlace) (least reader : ℕ) → Standings → Within host reader → least < reader → (its : Standing) → IsReached all reader its
       → ((at : ℕ) (own : Standing) (h : LoopPlace) → least < at → IsReached all at own → own.place ≡ places.At h → IsThere h.func) → IsThere host.func
   host_within host least reader known Host lt its there later = record { own = its; there = there }
-  host_within host least reader known (ComputedThere reader own at own_there place_is within) lt its there later =
+  host_within host least reader known (ComputedThere _ own at own_there place_is within) lt its there later =
       let same : at.func ≡ host.func = eqb-true at.func host.func (and_parts (at.func == host.func) _ within).0 in
       subst IsThere same (later reader own at lt own_there place_is)
-  host_within host least reader known (Inlined reader own own_there place_is callers) lt its there later =
+  host_within host least reader known (Inlined _ own own_there place_is callers) lt its there later =
       let read = read_at reader own (known reader own own_there.standing) own_there.reached (λ root. absurd cc) in
       let behind : reader < read.reader = omega (arith, read.later) in
       host_within host least read.reader known (callers read.reader read.its behind read.there read.calls) (omega arith) read.its read.there later

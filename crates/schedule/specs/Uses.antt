@@ -24,7 +24,7 @@ pub data StandsWithin (pipeline : Pipeline) (plans : List FuncPlan) (standings :
   Inlined : (reader : ℕ) (own : Standing)
       → IsReached standings reader own → own.place ≡ places.Inlined
       → ((caller : ℕ) (its : Standing) → reader < caller → IsReached standings caller its → place_calls pipeline caller reader ≡ true
-          → StandsWithin pipeline plans standings host caller)
+      → StandsWithin pipeline plans standings host caller)
       → StandsWithin pipeline plans standings host reader
 
 -- Where the Func at a place is computed at a loop, each later Func that is reached and calls it makes its reads within that loop.

@@ -101,8 +101,9 @@ fn finished(
 }
 
 /// The schedule that a text means for a pipeline. It keeps what later passes need (`specs/Accepted.antt`): each
-/// stage's loops are those that its splits leave, the loops of each Func that the output reaches keep the rules, and
-/// each such Func is computed somewhere, at a loop that can have it.
+/// stage's loops are those that its splits leave, the loops of each Func that the output reaches keep the rules, each
+/// such Func is computed somewhere, at a loop of a Func that is reached and stands at root, and what reads a Func
+/// that is computed at a loop stands within that loop (`specs/Uses.antt`).
 ///
 /// # Errors
 ///
