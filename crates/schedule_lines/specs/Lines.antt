@@ -68,7 +68,7 @@ tail word =
 
 unfoldable pub split : List (List ℕ) → Result LoopDirective ScheduleFault
 split (of ∷ outer ∷ inner ∷ number ∷ end ∷ []) =
-    name of >>= λ o. name outer >>= λ vo. name inner >>= λ vi. factor number >>= λ n. tail end >>= λ t.
+    factor number >>= λ n. tail end >>= λ t. name of >>= λ o. name outer >>= λ vo. name inner >>= λ vi.
     Ok (on_loops.Split (record { of = o; outer = vo; inner = vi; factor = n; tail = t }))
 split _ = Err Syntax
 

@@ -164,11 +164,11 @@ fn split_of(alloc: Global, words: &[Items<u8>]) -> Result<LoopDirective, ReadErr
 {
     match words {
         [of, outer, inner, number, end] => {
+            let factor = factor_of(number.as_slice())?;
+            let tail = tail_of(end.as_slice())?;
             let of = name_of(alloc, of.as_slice())?;
             let outer = name_of(alloc, outer.as_slice())?;
             let inner = name_of(alloc, inner.as_slice())?;
-            let factor = factor_of(number.as_slice())?;
-            let tail = tail_of(end.as_slice())?;
             Ok(LoopDirective::Split(SplitLine {
                 of,
                 outer,
