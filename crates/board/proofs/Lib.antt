@@ -1,0 +1,4 @@
+pub mod Counting
+pub mod Moves
+pub mod Handing
+pub mod Dealt

@@ -1,0 +1,7 @@
+use Rattle.std.proofs.Common.{[], false, rules}
+use Rattle.board.specs.Rule.{known, at_start}
+use Rattle.board.proofs.Handing.{enters}
+use Rattle.board.proofs.boards.Board.new_glance.Goals as goal
+
+pub load_new_seat-token-requires : goal.load_new_seat-token-requires
+load_new_seat-token-requires c = ((search rules), enters _ _ (known (at_start 0 c.args.self.now.table.shared.key) [] false false, []) _)

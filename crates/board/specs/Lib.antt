@@ -1,0 +1,5 @@
+pub mod Closing
+pub mod Ending
+pub mod Rule
+pub mod Steps
+pub mod Tokens
