@@ -5,7 +5,7 @@
 
 ghost use Rattle.std.specs.Prelude.{◌≡◌, ◌≤◌, length, IfOk, None};
 
-use crate::devices::Sink;
+use engines::Sink;
 use std::io::Write;
 use std::rt::Files;
 use std::{fs, io};

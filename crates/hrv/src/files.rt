@@ -6,7 +6,7 @@
 ghost use Rattle.std.specs.Prelude.{◌≡◌, ◌≤◌, length, codes, map, IfOk};
 ghost use Rattle.std.specs.List.{All};
 
-use crate::devices::{Sink, Source};
+use engines::{Sink, Source};
 use std::alloc::{AllocError, Global};
 use std::io::{Read, Write};
 use std::rt::Files;

@@ -1,0 +1,10 @@
+mod AskedWords
+mod AsmWords
+mod DebugWords
+mod DisWords
+mod HelpOnly
+mod Parses
+mod PictureWords
+mod Positionals
+mod ReplayWords
+mod Subcommands

@@ -1,0 +1,265 @@
+//! What a command line asks of the program.
+ghost use Rattle.std.specs.Prelude.{◌≡◌, ◌≤◌, ℕ, List, [], ◌∷◌, codes, false, length, unwrap_or, IfOk, IfErr, Some, IsSome};
+ghost use Rattle.std.specs.List.{AllByRecursion};
+ghost use Rattle.clap.specs.Lexer.{usize_max};
+ghost use Rattle.clap.specs.Words.{all_of, found_of, rows_of, rule_of};
+ghost use Rattle.clap.specs.Walk.{texts};
+ghost use Rattle.command_line.specs.CommandLine.{Asked, Assembles, Debugs, Draws, IsPlainWord, IsRefusal, IsSpelled, Lists, Makes, Replays};
+ghost use Rattle.command_line.specs.CommandLine.{asked_by, asked_of, asm_app, asm_of, debug_app, debug_of, dis_app, dis_of, hrv_app, log_app, named, picture_app, picture_of, replay_app, replay_of, rest_rule, text_app};
+
+use crate::faults::CommandLineFault;
+use clap::{Arg, ArgMatches, Command};
+use std::alloc::{AllocError, Global};
+
+/// What the words of a command line ask for.
+#[derive(Debug, Drop)]
+pub enum Invocation<'a> {
+    /// `asm SOURCE IMAGE`
+    Asm {
+        source: &'a str,
+        image: &'a str,
+    },
+    /// `dis IMAGE`
+    Dis {
+        image: &'a str,
+    },
+    /// `replay IMAGE LOG`
+    Replay {
+        image: &'a str,
+        log: &'a str,
+    },
+    /// `debug IMAGE LOG`
+    Debug {
+        image: &'a str,
+        log: &'a str,
+    },
+    /// `picture ALGORITHM [INPUT..]`
+    Picture {
+        algorithm: &'a str,
+        inputs: Vec<&'a str>,
+    },
+}
+
+/// Reads the words of a command line, the program's own name left out.
+pub fn command<'a>(alloc: Global, words: &'a [&'a str]) -> Result<Invocation<'a>, CommandLineFault>
+    ensures named { IfOk result (λ invocation.
+        named (texts words.now) ≡ Some (asked_by invocation)) }
+    ensures spelled { IfOk result (λ invocation.
+        IsSpelled (texts words.now) (asked_by invocation)) }
+    ensures refused { IfErr result (IsRefusal (texts words.now)) }
+    ensures memory { IfErr result (λ fault.
+        IsSome (named (texts words.now)) → fault ≡ CommandLineFault.Memory) }
+{
+    let matches = program(alloc)?.try_get_matches_from(words)?;
+    let (name, given) = matches.subcommand().unwrap();
+    let invocation = asked_for(alloc, name, given)?;
+    Ok(invocation)
+}
+
+// What a subcommand and its arguments ask for.
+fn asked_for<'a>(
+    alloc: Global,
+    name: &str,
+    given: &ArgMatches<'a>,
+) -> Result<Invocation<'a>, AllocError>
+    requires { IsSome (asked_of (name.now, rows_of (found_of given.now))) }
+    ensures { IfOk result (λ invocation. asked_of (name.now, rows_of (found_of given.now)) ≡ Some (asked_by invocation)) }
+{
+    match name {
+        "replay" => Ok(replay_asked(given)),
+        "debug" => Ok(debug_asked(given)),
+        "asm" => Ok(asm_asked(given)),
+        "dis" => Ok(dis_asked(given)),
+        "picture" => picture_asked(alloc, given),
+        _ => unreachable!(),
+    }
+}
+
+// What the arguments of `replay` ask for.
+fn replay_asked<'a>(given: &ArgMatches<'a>) -> Invocation<'a>
+    requires { IsSome (replay_of (rows_of (found_of given.now))) }
+    ensures { replay_of (rows_of (found_of given.now)) ≡ Some (asked_by result) }
+{
+    Invocation::Replay {
+        image: given.get_str("IMAGE").unwrap(),
+        log: given.get_str("LOG").unwrap(),
+    }
+}
+
+// What the arguments of `debug` ask for.
+fn debug_asked<'a>(given: &ArgMatches<'a>) -> Invocation<'a>
+    requires { IsSome (debug_of (rows_of (found_of given.now))) }
+    ensures { debug_of (rows_of (found_of given.now)) ≡ Some (asked_by result) }
+{
+    let image = given.get_str("IMAGE").unwrap();
+    let log = given.get_str("LOG").unwrap();
+    Invocation::Debug { image, log }
+}
+
+// What the arguments of `asm` ask for.
+fn asm_asked<'a>(given: &ArgMatches<'a>) -> Invocation<'a>
+    requires { IsSome (asm_of (rows_of (found_of given.now))) }
+    ensures { asm_of (rows_of (found_of given.now)) ≡ Some (asked_by result) }
+{
+    let source = given.get_str("SOURCE").unwrap();
+    let image = given.get_str("IMAGE").unwrap();
+    Invocation::Asm { source, image }
+}
+
+// What the argument of `dis` asks for.
+fn dis_asked<'a>(given: &ArgMatches<'a>) -> Invocation<'a>
+    requires { IsSome (dis_of (rows_of (found_of given.now))) }
+    ensures { dis_of (rows_of (found_of given.now)) ≡ Some (asked_by result) }
+{
+    let image = given.get_str("IMAGE").unwrap();
+    Invocation::Dis { image }
+}
+
+// What the arguments of `picture` ask for.
+fn picture_asked<'a>(alloc: Global, given: &ArgMatches<'a>) -> Result<Invocation<'a>, AllocError>
+    requires { IsSome (picture_of (rows_of (found_of given.now))) }
+    ensures { IfOk result (λ invocation. picture_of (rows_of (found_of given.now)) ≡ Some (asked_by invocation)) }
+{
+    let algorithm = given.get_str("ALGORITHM").unwrap();
+    let inputs = inputs_of(alloc, given)?;
+    Ok(Invocation::Picture { algorithm, inputs })
+}
+
+// The words for the inputs of a picture, in their order.
+fn inputs_of<'a>(alloc: Global, given: &ArgMatches<'a>) -> Result<Vec<&'a str>, AllocError>
+    ensures { IfOk result (λ inputs. texts inputs.items ≡ unwrap_or (all_of (codes "INPUT") (rows_of (found_of given.now))) []) }
+{
+    match given.get_strs("INPUT") {
+        Some(inputs) => Vec::from_slice(alloc, inputs),
+        None => Ok(Vec::new(alloc)),
+    }
+}
+
+/// Which words name a replay: `replay` and two names, after `--` where one begins with `-`.
+pub fn replay_is_named()
+    ensures plain { (image log : List ℕ) → IsPlainWord image → IsPlainWord log
+        → named (codes "replay" ∷ image ∷ log ∷ []) ≡ Some (Replays image log) }
+    ensures marked { (image log : List ℕ)
+        → named (codes "replay" ∷ codes "--" ∷ image ∷ log ∷ []) ≡ Some (Replays image log) }
+    ensures only { (words : List (List ℕ)) (asked : Asked)
+        → named words ≡ Some asked → IsSpelled words asked }
+{}
+
+/// Which words name a talk with the debugger: `debug` and two names, after `--` where one begins with `-`.
+pub fn debug_is_named()
+    ensures plain { (image log : List ℕ) → IsPlainWord image → IsPlainWord log
+        → named (codes "debug" ∷ image ∷ log ∷ []) ≡ Some (Debugs image log) }
+    ensures marked { (image log : List ℕ)
+        → named (codes "debug" ∷ codes "--" ∷ image ∷ log ∷ []) ≡ Some (Debugs image log) }
+{}
+
+/// Which words name an assembly: `asm` and two names, after `--` where one begins with `-`.
+pub fn asm_is_named()
+    ensures plain { (source image : List ℕ) → IsPlainWord source → IsPlainWord image
+        → named (codes "asm" ∷ source ∷ image ∷ []) ≡ Some (Assembles source image) }
+    ensures marked { (source image : List ℕ)
+        → named (codes "asm" ∷ codes "--" ∷ source ∷ image ∷ []) ≡ Some (Assembles source image) }
+{}
+
+/// Which words name a listing: `dis` and a name, after `--` where it begins with `-`.
+pub fn dis_is_named()
+    ensures plain { (image : List ℕ) → IsPlainWord image → named (codes "dis" ∷ image ∷ []) ≡ Some (Lists image) }
+    ensures marked { (image : List ℕ) → named (codes "dis" ∷ codes "--" ∷ image ∷ []) ≡ Some (Lists image) }
+{}
+
+/// Which words name a picture: `picture`, an algorithm and any number of inputs, after `--` where one begins with `-`.
+pub fn picture_is_named()
+    ensures plain { (algorithm : List ℕ) (inputs : List (List ℕ)) → AllByRecursion IsPlainWord (algorithm ∷ inputs) → length inputs ≤ usize_max
+        → named (codes "picture" ∷ algorithm ∷ inputs) ≡ Some (Draws algorithm inputs) }
+    ensures marked { (algorithm : List ℕ) (inputs : List (List ℕ)) → length inputs ≤ usize_max
+        → named (codes "picture" ∷ codes "--" ∷ algorithm ∷ inputs) ≡ Some (Draws algorithm inputs) }
+{}
+
+// The program's command.
+fn program<'a>(alloc: Global) -> Result<Command<'a>, AllocError>
+    ensures { IfOk result (Makes hrv_app) }
+{
+    text_program(alloc)?.subcommand(picture_command(alloc)?)
+}
+
+// The program's command with the subcommands that take a log, an assembly text or an image alone.
+fn text_program<'a>(alloc: Global) -> Result<Command<'a>, AllocError>
+    ensures { IfOk result (Makes text_app) }
+{
+    log_program(alloc)?
+        .subcommand(asm_command(alloc)?)?
+        .subcommand(dis_command(alloc)?)
+}
+
+// The program's command with the subcommands that take a log.
+fn log_program<'a>(alloc: Global) -> Result<Command<'a>, AllocError>
+    ensures { IfOk result (Makes log_app) }
+{
+    Command::new(alloc, "hrv")
+        .about("Runs programs for several RISC-V harts over one memory")
+        .bin_name("hrv")?
+        .no_binary_name(true)
+        .subcommand_required(true)
+        .subcommand(replay_command(alloc)?)?
+        .subcommand(debug_command(alloc)?)
+}
+
+// `replay IMAGE LOG`
+fn replay_command<'a>(alloc: Global) -> Result<Command<'a>, AllocError>
+    ensures { IfOk result (Makes replay_app) }
+{
+    Command::new(alloc, "replay")
+        .about("Runs an image once more, turn by turn as the log says")
+        .arg(Arg::new(alloc, "IMAGE").required(true))?
+        .arg(Arg::new(alloc, "LOG").required(true))
+}
+
+// `debug IMAGE LOG`
+fn debug_command<'a>(alloc: Global) -> Result<Command<'a>, AllocError>
+    ensures { IfOk result (Makes debug_app) }
+{
+    Command::new(alloc, "debug")
+        .about("Answers questions about an image and a log, asked on standard input")
+        .arg(Arg::new(alloc, "IMAGE").required(true))?
+        .arg(Arg::new(alloc, "LOG").required(true))
+}
+
+// `asm SOURCE IMAGE`
+fn asm_command<'a>(alloc: Global) -> Result<Command<'a>, AllocError>
+    ensures { IfOk result (Makes asm_app) }
+{
+    Command::new(alloc, "asm")
+        .about("Assembles a text and stores the image")
+        .arg(Arg::new(alloc, "SOURCE").required(true))?
+        .arg(Arg::new(alloc, "IMAGE").required(true))
+}
+
+// `dis IMAGE`
+fn dis_command<'a>(alloc: Global) -> Result<Command<'a>, AllocError>
+    ensures { IfOk result (Makes dis_app) }
+{
+    Command::new(alloc, "dis")
+        .about("Prints a line for each word of an image's text")
+        .arg(Arg::new(alloc, "IMAGE").required(true))
+}
+
+// `picture ALGORITHM [INPUT..]`
+fn picture_command<'a>(alloc: Global) -> Result<Command<'a>, AllocError>
+    ensures { IfOk result (Makes picture_app) }
+{
+    Command::new(alloc, "picture")
+        .about("Draws the picture that an algorithm defines")
+        .arg(Arg::new(alloc, "ALGORITHM").required(true))?
+        .arg(rest_arg(alloc, "INPUT"))
+}
+
+// An argument that takes the words left over.
+fn rest_arg<'a>(alloc: Global, id: &'a str) -> Arg<'a>
+    ensures rule { rule_of result ≡ rest_rule id.now }
+    ensures local { result.global ≡ false }
+{
+    Arg::new(alloc, id).num_args(..)
+}
+
+#[cfg(test)]
+mod tests;

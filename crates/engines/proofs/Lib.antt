@@ -1,0 +1,9 @@
+pub mod Drawings
+pub mod Numbers
+pub mod Pixels
+pub mod Printing
+pub mod Reading
+pub mod Sources
+pub mod Splits
+pub mod StopsFound
+pub mod TalkSteps

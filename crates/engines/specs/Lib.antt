@@ -1,0 +1,11 @@
+pub mod Asm
+pub mod Commands
+pub mod Debug
+pub mod Dis
+pub mod Drawing
+pub mod Dump
+pub mod Faults
+pub mod Refusals
+pub mod Replay
+pub mod Talk
+pub mod TalkSoFar

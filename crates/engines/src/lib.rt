@@ -1,0 +1,34 @@
+//! The commands, each as an engine that works over devices and knows no command line.
+//!
+//! - [`asm`]: an assembly text becomes an image; [`asm_bytes`], over `specs/Asm.antt`.
+//! - [`dis`]: the words of an image become lines; [`dis_bytes`], over `specs/Dis.antt`.
+//! - [`replay`]: an image and a log of turns become a dump; [`replay_bytes`], over `specs/Replay.antt` and `Dump.antt`.
+//! - [`debug`]: an image, a log of turns and lines of commands become a talk; [`debug_bytes`], over `specs/Debug.antt` and `Talk.antt`.
+//! - [`drawing`]: an algorithm and input pictures become the reference picture; [`picture_bytes`], over `specs/Drawing.antt`.
+//! - [`devices`]: what is read from and written to ([`Source`], [`Sink`]).
+//! - [`faults`]: why an engine gives no answer ([`Fault`]).
+//!
+//! The other modules are theirs alone: what a line of a talk commands and what is answered to it, and the text of a dump and of its
+//! picture.
+#![tactic(auto)]
+
+pub mod asm;
+mod commands;
+mod cuts;
+pub mod debug;
+pub mod devices;
+pub mod dis;
+pub mod drawing;
+mod dumps;
+pub mod faults;
+mod pictures;
+pub mod replay;
+mod talks;
+
+pub use crate::asm::asm_bytes;
+pub use crate::debug::debug_bytes;
+pub use crate::devices::{Sink, Source};
+pub use crate::dis::dis_bytes;
+pub use crate::drawing::picture_bytes;
+pub use crate::faults::{Fault, Refusal};
+pub use crate::replay::replay_bytes;

@@ -1,7 +1,0 @@
-use Rattle.std.proofs.Common.{◌≡◌, ◌++◌}
-use Rattle.std.specs.String.{string_bytes}
-use Rattle.hrv.specs.Dump.{picture_heading, rows}
-use Rattle.hrv.proofs.pictures.push_picture.Given as goal
-
-abbrev pub invariant-loop-y : goal.invariant-loop-y
-invariant-loop-y l = string_bytes l.text ≡ string_bytes l.fn.text ++ (picture_heading l.output ++ rows l.machine l.output l.y)
