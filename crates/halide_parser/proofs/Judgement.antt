@@ -9,10 +9,10 @@ use Rattle.halide_pipeline.specs.declared.definitions.Func.{Func}
 use Rattle.halide_syntax.specs.declared.lines.Change.{Change}
 use Rattle.halide_syntax.specs.declared.lines.Line.{Line}
 use Rattle.halide_syntax.specs.declared.lines.Line.TheVariants as line
-use Rattle.halide_syntax.specs.Algebra.{Algebra, writing, made as made_of}
+use Rattle.halide_syntax.specs.inner.Algebra.{Algebra, writing, made as made_of}
 use Rattle.halide_syntax.specs.Grammar.{Written}
-use Rattle.halide_syntax.specs.LineGrammar.{made_line, made_index}
-use Rattle.halide_syntax.specs.LineReading.{read_line, with_made}
+use Rattle.halide_syntax.specs.inner.Algebra.{made_line, made_index}
+use Rattle.halide_syntax.specs.inner.LineReading.{read_line, with_made}
 use Rattle.halide_syntax.proofs.MakingLines.{read_line as made}
 use Rattle.halide_parser.specs.declared.judging.Judged.{Judged}
 use Rattle.halide_parser.specs.declared.readers.Reader.{Reader}

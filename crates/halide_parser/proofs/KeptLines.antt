@@ -16,7 +16,7 @@ use Rattle.halide_syntax.specs.declared.lines.Definition.{Definition}
 use Rattle.halide_syntax.specs.declared.lines.Extents.{Extents}
 use Rattle.halide_syntax.specs.declared.lines.Line.TheVariants as line
 use Rattle.halide_syntax.specs.declared.tokens.Token.{Token}
-use Rattle.halide_syntax.specs.Algebra.{made}
+use Rattle.halide_syntax.specs.inner.Algebra.{made}
 use Rattle.halide_syntax.specs.Grammar.{Written}
 use Rattle.halide_parser.specs.declared.judging.Judged.{Judged}
 use Rattle.halide_parser.specs.declared.readers.Reader.{Reader}

@@ -13,10 +13,10 @@ use Rattle.halide_syntax.specs.declared.tokens.Token.TheVariants as t
 use Rattle.halide_syntax.specs.declared.lines.Line.{Line}
 use Rattle.halide_syntax.specs.declared.lines.Line.TheVariants as line
 use Rattle.halide_syntax.specs.declared.lines.Change.{Change}
-use Rattle.halide_syntax.specs.Algebra.{writing}
+use Rattle.halide_syntax.specs.inner.Algebra.{writing}
 use Rattle.halide_syntax.specs.Grammar.{Written, spell}
 use Rattle.halide_syntax.specs.LineGrammar.{spell_line, spell_index, spell_argument, spell_bounds, spell_second_bounds}
-use Rattle.halide_syntax.specs.LineReading.{read_line}
+use Rattle.halide_syntax.specs.inner.LineReading.{read_line}
 use Rattle.halide_syntax.specs.Tokens.{tokens_of}
 use Rattle.halide_syntax.proofs.LinesBack.{line_written}
 use Rattle.halide_parser.specs.declared.readers.Reader.{Reader}

@@ -14,7 +14,7 @@ use Rattle.halide_syntax.specs.declared.tokens.ProductOperator.{ProductOperator}
 use Rattle.halide_syntax.specs.declared.tokens.ProductOperator.TheVariants as products
 use Rattle.halide_syntax.specs.declared.tokens.ThreeFunction.{ThreeFunction}
 use Rattle.halide_syntax.specs.declared.tokens.ThreeFunction.TheVariants as threes
-use Rattle.halide_syntax.specs.Algebra.{made}
+use Rattle.halide_syntax.specs.inner.Algebra.{made}
 use Rattle.halide_syntax.specs.Grammar.{Written, Literal, Bare, Group, Minus, Call, CallTwo, Two, Three, Product, Sum, Comparison}
 use Rattle.halide_parser.specs.declared.judging.Judged.{Judged}
 use Rattle.halide_parser.specs.declared.judging.Marks.{Marks}

@@ -16,9 +16,9 @@ use Rattle.halide_syntax.specs.declared.lines.Bounds.{Bounds}
 use Rattle.halide_syntax.specs.declared.lines.Change.{Change}
 use Rattle.halide_syntax.specs.declared.lines.Line.TheVariants as line
 use Rattle.halide_syntax.specs.declared.tokens.Token.{Token}
-use Rattle.halide_syntax.specs.Algebra.{made}
+use Rattle.halide_syntax.specs.inner.Algebra.{made}
 use Rattle.halide_syntax.specs.Grammar.{Written}
-use Rattle.halide_syntax.specs.LineGrammar.{made_index}
+use Rattle.halide_syntax.specs.inner.Algebra.{made_index}
 use Rattle.halide_parser.specs.declared.judging.Judged.{Judged}
 use Rattle.halide_parser.specs.declared.readers.Reader.{Reader}
 use Rattle.halide_parser.specs.declared.scopes.Scope.{Scope}

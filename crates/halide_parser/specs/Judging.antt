@@ -25,7 +25,7 @@ use Rattle.halide_syntax.specs.declared.tokens.TwoFunction.{TwoFunction}
 use Rattle.halide_syntax.specs.declared.tokens.TwoFunction.TheVariants as twos
 use Rattle.halide_syntax.specs.declared.tokens.ThreeFunction.{ThreeFunction}
 use Rattle.halide_syntax.specs.declared.tokens.ThreeFunction.TheVariants as threes
-use Rattle.halide_syntax.specs.Algebra.{Algebra}
+use Rattle.halide_syntax.specs.inner.Algebra.{Algebra}
 use Rattle.halide_parser.specs.Readers.{source}
 use Rattle.halide_parser.specs.Scopes.{variable}
 

@@ -11,10 +11,9 @@ use Rattle.halide_syntax.specs.declared.faults.ParseFault.{ParseFault}
 use Rattle.halide_syntax.specs.declared.faults.ParseFault.TheVariants.{NoOutput}
 use Rattle.halide_syntax.specs.declared.tokens.Token.{Token}
 use Rattle.halide_syntax.specs.declared.lines.Line.{Line}
-use Rattle.halide_syntax.specs.Algebra.{writing}
+use Rattle.halide_syntax.specs.inner.Algebra.{writing, made_line}
 use Rattle.halide_syntax.specs.Grammar.{Written}
-use Rattle.halide_syntax.specs.LineGrammar.{made_line}
-use Rattle.halide_syntax.specs.LineReading.{read_line}
+use Rattle.halide_syntax.specs.inner.LineReading.{read_line}
 use Rattle.halide_syntax.specs.Tokens.{tokens_of}
 use Rattle.halide_parser.specs.declared.judging.Judged.{Judged}
 use Rattle.halide_parser.specs.declared.readers.Reader.{Reader}
