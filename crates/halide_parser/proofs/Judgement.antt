@@ -16,10 +16,10 @@ use Rattle.halide_syntax.specs.inner.LineReading.{read_line, with_made}
 use Rattle.halide_syntax.proofs.MakingLines.{read_line as made}
 use Rattle.halide_parser.specs.declared.judging.Judged.{Judged}
 use Rattle.halide_parser.specs.declared.readers.Reader.{Reader}
-use Rattle.halide_parser.specs.Judging.{judging}
-use Rattle.halide_parser.specs.Meaning.{scope_of, change_scope_of}
+use Rattle.halide_parser.specs.inner.Judging.{judging}
 use Rattle.halide_parser.specs.Readers.{func, func_place}
-use Rattle.halide_parser.specs.Parsing.{judged, judged_line}
+use Rattle.halide_parser.specs.inner.JudgedLines.{judged, judged_line}
+use Rattle.halide_parser.specs.Scopes.{scope_of, change_scope_of}
 use Rattle.halide_parser.specs.Scopes as scopes
 
 same_change : (f : Option Func) (own : Option ℕ) (alg : Algebra Judged) (u : Change Written)

@@ -21,8 +21,10 @@ use Rattle.halide_syntax.specs.Grammar.{Written}
 use Rattle.halide_parser.specs.declared.judging.Judged.{Judged}
 use Rattle.halide_parser.specs.declared.readers.Reader.{Reader}
 use Rattle.halide_parser.specs.declared.scopes.Scope.{Scope}
-use Rattle.halide_parser.specs.Judging as j
-use Rattle.halide_parser.specs.Meaning.{tree_of, with_input, with_func, with_output}
+use Rattle.halide_parser.specs.inner.Judging as j
+use Rattle.halide_parser.specs.inner.JudgedLines.{tree_of, tree_or_zero}
+use Rattle.halide_parser.specs.inner.JudgedLines as lines
+use Rattle.halide_parser.specs.Meaning.{with_input, with_func, with_output}
 use Rattle.halide_parser.specs.Rules as r
 use Rattle.halide_parser.specs.Scopes.{is_named, variable}
 use Rattle.halide_parser.proofs.Faultless.{IsFaultless}
@@ -106,7 +108,7 @@ abbrev judged_definition : Reader → Definition Written → Definition Judged
 judged_definition reader d = record { name = d.name; first_argument = d.first_argument; second_argument = d.second_argument; right = made (j.judging reader (func_scope d)) d.right }
 
 abbrev new_func : Reader → Definition Written → Func
-new_func reader d = record { first_argument = d.first_argument; second_argument = d.second_argument; pure = tree_of (made (j.judging reader (func_scope d)) d.right).tree; updates = [] }
+new_func reader d = record { first_argument = d.first_argument; second_argument = d.second_argument; pure = tree_of (made (j.judging reader (func_scope d)) d.right); updates = [] }
 
 func_is : (reader : Reader) (d : Definition Written) → IsKept reader → IsSmall d.right → (made (j.judging reader (func_scope d)) d.right).marks.is_wrong_count ≡ false
     → IsFunc reader.inputs (reader.funcs ++ new_func reader d ∷ []) (length reader.funcs) (new_func reader d)
@@ -116,14 +118,14 @@ func_is reader d kept is_small counts =
     let judged = made (j.judging reader (func_scope d)) d.right in
     let tree = sound reads has false reader (func_scope d) (may reader (func_scope d) kept) (argument_known d.first_argument d.second_argument) d.right is_small (record { counts = counts; own = refl }) in
     record {
-      pure = keeps-grows reads (is_read reader.inputs (reader.funcs ++ new_func reader d ∷ []) (length reader.funcs)) has (funcs_grow reader.inputs reader.funcs (new_func reader d ∷ []) (length reader.funcs)) (tree_of judged.tree) (tree_kept reads has judged.tree tree);
+      pure = keeps-grows reads (is_read reader.inputs (reader.funcs ++ new_func reader d ∷ []) (length reader.funcs)) has (funcs_grow reader.inputs reader.funcs (new_func reader d ∷ []) (length reader.funcs)) (tree_of judged) (tree_kept reads has judged.tree tree);
       few_updates = refl;
       updates = λ at update found. cc;
     }
 
-pub func_keeps : (reader : Reader) (tokens : List Token) (d : Definition Written) → IsKept reader → IsSmall d.right → IsFaultless reader tokens (line.Func (judged_definition reader d)) → IsKept (with_func reader (judged_definition reader d))
+pub func_keeps : (reader : Reader) (tokens : List Token) (d : Definition Written) → IsKept reader → IsSmall d.right → IsFaultless reader tokens (line.Func (judged_definition reader d)) → IsKept (with_func tree_of reader (judged_definition reader d))
 func_keeps reader tokens d kept is_small right =
-    let parts = or_parts (nat_le 12 (length reader.funcs)) (r.exceeds (judged_definition reader d).right) right.within in
+    let parts = or_parts (nat_le 12 (length reader.funcs)) (lines.exceeds (judged_definition reader d).right) right.within in
     let new = new_func reader d in
     record {
       few_inputs = kept.few_inputs;

@@ -1,5 +1,5 @@
 -- A text that is read names a pipeline that keeps the rules.
-use Rattle.std.proofs.Common.{◌≡◌, ℕ, ◌+◌, false, List, [], ◌∷◌, length, Option, Some, None, Result, Ok, Err, refl, subst}
+use Rattle.std.proofs.Common.{◌≡◌, ℕ, ◌+◌, false, List, [], ◌∷◌, length, Option, Some, None, Result, Ok, Err, refl, sym, subst, ◌∙◌}
 use Rattle.std.specs.declared.alloc.Global.{Global}
 use Rattle.line_text.specs.Reading.{◌>>=◌}
 use Rattle.line_text.specs.Lines.{lines_of}
@@ -20,9 +20,11 @@ use Rattle.halide_syntax.specs.inner.LineReading.{read_line}
 use Rattle.halide_syntax.specs.Tokens.{tokens_of}
 use Rattle.halide_syntax.proofs.LinesBack.{line_written}
 use Rattle.halide_parser.specs.declared.readers.Reader.{Reader}
+use Rattle.halide_parser.specs.inner.JudgedLines.{fault_of, tree_of, judged, judged_line, settled, settled_as, taken}
 use Rattle.halide_parser.specs.Meaning.{applied}
-use Rattle.halide_parser.specs.Parsing.{judged, judged_line, settled, settled_as, taken, start, finished, finished_as, parsed}
-use Rattle.halide_parser.specs.Rules.{fault_of, has_large}
+use Rattle.halide_parser.specs.Parsing.{start, finished, finished_as, parsed}
+use Rattle.halide_parser.specs.Rules.{has_large}
+use Rattle.halide_parser.proofs.Agreement.{parsed_is}
 use Rattle.halide_parser.proofs.Faultless.{faultless, IsFaultless}
 use Rattle.halide_parser.proofs.Keeping.{IsKept}
 use Rattle.halide_parser.proofs.KeptLines.{input_keeps, func_keeps, output_keeps}
@@ -50,7 +52,7 @@ small_change u e =
 
 -- ---- a line
 
-line_keeps : (reader : Reader) (tokens : List Token) (w : Line Written) → tokens ≡ spell_line w → IsKept reader → AreSmall tokens → IsFaultless reader tokens (judged_line reader w) → IsKept (applied reader (judged_line reader w))
+line_keeps : (reader : Reader) (tokens : List Token) (w : Line Written) → tokens ≡ spell_line w → IsKept reader → AreSmall tokens → IsFaultless reader tokens (judged_line reader w) → IsKept (applied tree_of reader (judged_line reader w))
 line_keeps reader tokens line.Blank is kept few right = kept
 line_keeps reader tokens (line.Input e) is kept few right = input_keeps reader tokens e kept right
 line_keeps reader tokens (line.Func d) is kept few right = func_keeps reader tokens d kept (small_definition d.name d.first_argument d.second_argument d.right (subst AreSmall is few)) right
@@ -66,7 +68,7 @@ by_fault : (reader : Reader) (tokens : List Token) (w : Line Written) (fault : O
 by_fault reader tokens w (Some fault) next is kept faulty e = cc
 by_fault reader tokens w None next is kept faulty e =
     let right = faultless reader tokens (judged_line reader w) faulty in
-    let same : applied reader (judged_line reader w) ≡ next = cc in
+    let same : applied tree_of reader (judged_line reader w) ≡ next = cc in
     subst IsKept same (line_keeps reader tokens w is kept (are_small tokens right.small) right)
 
 by_written : (reader : Reader) (tokens : List Token) (given : Result (Line Written) ParseFault) (next : Reader) → read_line writing tokens ≡ given → IsKept reader
@@ -131,6 +133,5 @@ by_reader count (Err fault) pipeline kept e = cc
 by_reader count (Ok reader) pipeline kept e = by_output count reader reader.output pipeline refl (kept reader refl) e
 
 pub parsed_keeps : (alloc : Global) (text : List ℕ) (pipeline : Pipeline) → parsed alloc text ≡ Ok pipeline → IsWellFormed pipeline
-unfolding parsed
 parsed_keeps alloc text pipeline e =
-    by_reader (length (lines_of text)) (taken_from taken 1 (start alloc text) (lines_of text)) pipeline (λ reader is. lines_keep 1 (start alloc text) (lines_of text) reader (start_kept alloc text) is) e
+    by_reader (length (lines_of text)) (taken_from taken 1 (start alloc text) (lines_of text)) pipeline (λ reader is. lines_keep 1 (start alloc text) (lines_of text) reader (start_kept alloc text) is) (sym (parsed_is alloc text) ∙ e)

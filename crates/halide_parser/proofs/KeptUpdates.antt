@@ -11,7 +11,7 @@ use Rattle.halide_pipeline.specs.Definitions.{dimensions, is_first_in_place, is_
 use Rattle.halide_pipeline.specs.Expressions.{uses}
 use Rattle.halide_pipeline.specs.Words.{subtract}
 use Rattle.halide_pipeline.specs.WellFormed as w
-use Rattle.halide_pipeline.specs.WellFormed.{IsFunc, IsUpdate, is_read, is_update_variable, keeps, keeps_index, is_minimum, is_second_minimum, is_box, is_width, is_height}
+use Rattle.halide_pipeline.specs.WellFormed.{is_alone, IsFunc, IsUpdate, is_read, is_update_variable, keeps, keeps_index, is_minimum, is_second_minimum, is_box, is_width, is_height}
 use Rattle.halide_syntax.specs.declared.lines.Bounds.{Bounds}
 use Rattle.halide_syntax.specs.declared.lines.Change.{Change}
 use Rattle.halide_syntax.specs.declared.lines.Line.TheVariants as line
@@ -22,19 +22,21 @@ use Rattle.halide_syntax.specs.inner.Algebra.{made_index}
 use Rattle.halide_parser.specs.declared.judging.Judged.{Judged}
 use Rattle.halide_parser.specs.declared.readers.Reader.{Reader}
 use Rattle.halide_parser.specs.declared.scopes.Scope.{Scope}
-use Rattle.halide_parser.specs.Judging as j
-use Rattle.halide_parser.specs.Meaning.{known_scope, change_scope, change_scope_of, bounds_name, tree_of, second_tree, reduction_of, second_reduction, update_of, with_update, applied}
+use Rattle.halide_parser.specs.inner.Judging as j
+use Rattle.halide_parser.specs.inner.JudgedLines.{tree_of}
+use Rattle.halide_parser.specs.inner.JudgedLines as lines
+use Rattle.halide_parser.specs.Meaning.{second_tree, reduction_of, second_reduction, update_of, with_update, applied}
 use Rattle.halide_parser.specs.Readers as rd
 use Rattle.halide_parser.specs.Rules as r
-use Rattle.halide_parser.specs.Scopes.{is_named, variable}
+use Rattle.halide_parser.specs.Scopes.{is_named, variable, known_scope, change_scope, change_scope_of, bounds_name}
 use Rattle.halide_parser.proofs.Faultless.{IsFaultless}
 use Rattle.halide_parser.proofs.InPlace.{Calm, calm_parts, Stays, stays_there, placed, strict_join, unused_none}
 use Rattle.halide_parser.proofs.Growing.{get-last, updates_grow, func_grows, update_grows, source-update, get-update, length-update, updated}
-use Rattle.halide_parser.proofs.Keeping.{IsKept, IsNamed, may, may_before, box, named, none_of_three}
+use Rattle.halide_parser.proofs.Keeping.{IsKept, IsNamed, may, may_before, box, named, none_of_three, none_of_four}
 use Rattle.halide_parser.proofs.KeptLines.{picked, two_arguments, no_output, one_more}
 use Rattle.halide_parser.proofs.KeptTrees.{Clean, clean_parts, sound, tree_kept}
 use Rattle.halide_parser.proofs.Numbers.{IsSmall}
-use Rattle.halide_parser.proofs.Wholeness.{IsPlain, plain_parts, fits_is, whole}
+use Rattle.halide_parser.proofs.Wholeness.{IsPlain, plain_parts, fits_is, some_tree}
 
 -- ---- variables
 
@@ -74,13 +76,6 @@ box_is first None e = let sizes = box first.extent 1 e in and_from (is_width fir
 box_is first (Some b) e = let sizes = box first.extent b.extent e in and_from (is_width first.extent) (is_height first.extent b.extent) sizes.0 sizes.1
 
 -- ---- expressions
-
-none_of_four : (a b c d : Bool) → (a || b || c || d) ≡ false → (a ≡ false) × (b ≡ false) × (c ≡ false) × (d ≡ false)
-none_of_four true b c d e = cc
-none_of_four false true c d e = cc
-none_of_four false false true d e = cc
-none_of_four false false false true e = cc
-none_of_four false false false false e = (refl, refl, refl, refl)
 
 -- the branch that is taken, told apart
 told : (s m u : Bool) → cond s m u ≡ false → ((not s && u) ≡ false) × ((s && m) ≡ false)
@@ -129,22 +124,22 @@ module _ (reader : Reader) (scope : Scope) (u : Change Written) (kept : IsKept r
   abbrev judge : Written → Judged
   judge = made (j.judging reader scope)
 
-  left_kept : (index : Written) → IsSmall index → Clean true (judge index).marks → keeps (is_read reader.inputs reader.funcs is.place) has (tree_of (judge index).tree) ≡ true
+  left_kept : (index : Written) → IsSmall index → Clean true (judge index).marks → keeps (is_read reader.inputs reader.funcs is.place) has (tree_of (judge index)) ≡ true
   left_kept index is_small clean =
       let reads = is_read reader.inputs reader.funcs is.place in
       tree_kept reads has (judge index).tree (sound reads has true reader scope (may_before reader scope is.place kept own last) known index is_small clean)
 
-  index_kept : (index : Option Written) → IsSmallIndex index → Clean true (r.marks_of (made_index (j.judging reader scope) index)) → (dimensions is.func == r.count_with (made_index (j.judging reader scope) index)) ≡ true
-      → keeps_index (is_read reader.inputs reader.funcs is.place) has (dimensions is.func) (second_tree (made_index (j.judging reader scope) index)) ≡ true
+  index_kept : (index : Option Written) → IsSmallIndex index → Clean true (lines.marks_of (made_index (j.judging reader scope) index)) → (dimensions is.func == r.count_with (made_index (j.judging reader scope) index)) ≡ true
+      → keeps_index (is_read reader.inputs reader.funcs is.place) has (dimensions is.func) (second_tree tree_of (made_index (j.judging reader scope) index)) ≡ true
   index_kept None is_small clean counts = counts
   index_kept (Some index) is_small clean counts =
-      and_from (dimensions is.func == 2) (keeps (is_read reader.inputs reader.funcs is.place) has (tree_of (judge index).tree)) counts (left_kept index is_small clean)
+      and_from (dimensions is.func == 2) (keeps (is_read reader.inputs reader.funcs is.place) has (tree_of (judge index))) counts (left_kept index is_small clean)
 
-  right_kept : IsSmall u.right → Clean false (judge u.right).marks → keeps (is_read reader.inputs reader.funcs (suc is.place)) has (tree_of (judge u.right).tree) ≡ true
+  right_kept : IsSmall u.right → Clean false (judge u.right).marks → keeps (is_read reader.inputs reader.funcs (suc is.place)) has (tree_of (judge u.right)) ≡ true
   right_kept is_small clean =
       let reads = is_read reader.inputs reader.funcs (length reader.funcs) in
       let tree = tree_kept reads has (judge u.right).tree (sound reads has false reader scope (may reader scope kept) known u.right is_small clean) in
-      subst (λ (n : ℕ). keeps (is_read reader.inputs reader.funcs n) has (tree_of (judge u.right).tree) ≡ true) (sym last) tree
+      subst (λ (n : ℕ). keeps (is_read reader.inputs reader.funcs n) has (tree_of (judge u.right)) ≡ true) (sym last) tree
 
   abbrev change : Change Judged
   change = judged_change reader scope u
@@ -152,37 +147,37 @@ module _ (reader : Reader) (scope : Scope) (u : Change Written) (kept : IsKept r
   -- ---- arguments in place
 
   abbrev first : Bool
-  first = j.is_this variables.FirstArgument change.left_x.alone
+  first = is_alone variables.FirstArgument change.left_x.alone
 
   abbrev second : Bool
-  second = r.is_in_place change.left_y variables.SecondArgument
+  second = lines.is_in_place change.left_y variables.SecondArgument
 
-  calm : r.is_moved change ≡ false → Calm first second (r.change_marks change)
+  calm : lines.is_moved change ≡ false → Calm first second (lines.change_marks change)
   calm shape =
-      let moved = none_of_three (r.left_marks change).calls_own _ _ shape in
-      let in_first = told first (r.change_marks change).moves_first (r.change_marks change).uses_first moved.1 in
-      let in_second = told second (r.change_marks change).moves_second (r.change_marks change).uses_second moved.2 in
+      let moved = none_of_three (lines.left_marks change).calls_own _ _ shape in
+      let in_first = told first (lines.change_marks change).moves_first (lines.change_marks change).uses_first moved.1 in
+      let in_second = told second (lines.change_marks change).moves_second (lines.change_marks change).uses_second moved.2 in
       record { uses_first = in_first.0; uses_second = in_second.0; moves_first = in_first.1; moves_second = in_second.1 }
 
-  plain : (tokens : List Token) → IsFaultless reader tokens (line.Update change) → IsPlain (r.change_marks change)
+  plain : (tokens : List Token) → IsFaultless reader tokens (line.Update change) → IsPlain (lines.change_marks change)
   plain tokens right = record {
-    known = (or_parts (not (r.is_func reader u.name)) (r.change_marks change).is_unknown right.known).1;
-    counts = (or_parts (r.is_other_count reader u.name (r.count_with change.left_y)) (r.change_marks change).is_wrong_count right.counts).1;
+    known = (or_parts (not (r.is_func reader u.name)) (lines.change_marks change).is_unknown right.known).1;
+    counts = (or_parts (r.is_other_count reader u.name (r.count_with change.left_y)) (lines.change_marks change).is_wrong_count right.counts).1;
     divisors = right.divisors;
   }
 
-  side_stays : (side : Written) → IsPlain (judge side).marks → r.exceeds (judge side) ≡ false → Calm first second (judge side).marks → Stays is.place first second (tree_of (judge side).tree) (judge side).alone
+  side_stays : (side : Written) → IsPlain (judge side).marks → lines.exceeds (judge side) ≡ false → Calm first second (judge side).marks → Stays is.place first second (tree_of (judge side)) (judge side).alone
   side_stays side in_plain fits in_calm =
-      let some = whole reader scope side in_plain (fits_is (judge side).nodes (judge side).nesting (not-false (j.fits (judge side).nodes (judge side).nesting) fits)) in
+      let some = some_tree reader scope side in_plain (fits_is (judge side).nodes (judge side).nesting (not-false (w.fits (judge side).nodes (judge side).nesting) fits)) in
       stays_there is.place first second (judge side).tree (judge side).alone some (placed is.place first second reader scope own side in_calm)
 
   -- what is known of the second index
   record IndexStays (judged : Option Judged) : Type 0 where
-    in_first : (not first && w.is_used_in variables.FirstArgument (second_tree judged)) ≡ false
-    in_second : (not second && w.is_used_in variables.SecondArgument (second_tree judged)) ≡ false
-    stands : is_second (second_tree judged) ≡ r.is_in_place judged variables.SecondArgument
+    in_first : (not first && w.is_used_in variables.FirstArgument (second_tree tree_of judged)) ≡ false
+    in_second : (not second && w.is_used_in variables.SecondArgument (second_tree tree_of judged)) ≡ false
+    stands : is_second (second_tree tree_of judged) ≡ lines.is_in_place judged variables.SecondArgument
 
-  index_stays : (index : Option Written) → IsPlain (r.marks_of (made_index (j.judging reader scope) index)) → r.second_exceeds (made_index (j.judging reader scope) index) ≡ false → Calm first second (r.marks_of (made_index (j.judging reader scope) index))
+  index_stays : (index : Option Written) → IsPlain (lines.marks_of (made_index (j.judging reader scope) index)) → r.second_exceeds lines.exceeds (made_index (j.judging reader scope) index) ≡ false → Calm first second (lines.marks_of (made_index (j.judging reader scope) index))
       → IndexStays (made_index (j.judging reader scope) index)
   index_stays None in_plain fits in_calm = record { in_first = unused_none first; in_second = unused_none second; stands = refl }
   index_stays (Some index) in_plain fits in_calm =
@@ -190,20 +185,20 @@ module _ (reader : Reader) (scope : Scope) (u : Change Written) (kept : IsKept r
       record { in_first = stays.unused.in_first; in_second = stays.unused.in_second; stands = stays.variable variables.SecondArgument }
 
   abbrev new : Update
-  new = update_of change
+  new = update_of tree_of change
 
   record ArePlaced : Type 0 where
     first_argument : (is_first_in_place new || not (w.is_used variables.FirstArgument new)) ≡ true
     second_argument : (is_second_in_place new || not (w.is_used variables.SecondArgument new)) ≡ true
     own_calls : (w.calls_in_place is.place (is_first_in_place new) (is_second_in_place new) new.right).stays ≡ true
 
-  are_placed : (tokens : List Token) → IsFaultless reader tokens (line.Update change) → r.is_moved change ≡ false → (r.exceeds change.left_x || r.second_exceeds change.left_y || r.exceeds change.right) ≡ false → ArePlaced
+  are_placed : (tokens : List Token) → IsFaultless reader tokens (line.Update change) → lines.is_moved change ≡ false → (lines.exceeds change.left_x || r.second_exceeds lines.exceeds change.left_y || lines.exceeds change.right) ≡ false → ArePlaced
   are_placed tokens right shape within =
-      let sizes = none_of_three (r.exceeds change.left_x) (r.second_exceeds change.left_y) (r.exceeds change.right) within in
-      let all_plain = plain_parts (r.left_marks change) change.right.marks (plain tokens right) in
-      let left_plain = plain_parts change.left_x.marks (r.marks_of change.left_y) all_plain.0 in
-      let all_calm = calm_parts first second (r.left_marks change) change.right.marks (calm shape) in
-      let left_calm = calm_parts first second change.left_x.marks (r.marks_of change.left_y) all_calm.0 in
+      let sizes = none_of_three (lines.exceeds change.left_x) (r.second_exceeds lines.exceeds change.left_y) (lines.exceeds change.right) within in
+      let all_plain = plain_parts (lines.left_marks change) change.right.marks (plain tokens right) in
+      let left_plain = plain_parts change.left_x.marks (lines.marks_of change.left_y) all_plain.0 in
+      let all_calm = calm_parts first second (lines.left_marks change) change.right.marks (calm shape) in
+      let left_calm = calm_parts first second change.left_x.marks (lines.marks_of change.left_y) all_calm.0 in
       let x = side_stays u.left_x left_plain.0 sizes.0 left_calm.0 in
       let y = index_stays u.left_y left_plain.1 sizes.1 left_calm.1 in
       let side = side_stays u.right all_plain.1 sizes.2 all_calm.1 in
@@ -220,16 +215,16 @@ module _ (reader : Reader) (scope : Scope) (u : Change Written) (kept : IsKept r
             (subst (λ (b : Bool). (w.calls_in_place is.place first b new.right).stays ≡ true) (sym is_second) side.stays);
       }
 
-  new_update : (tokens : List Token) → IsSmallChange u → IsFaultless reader tokens (line.Update change) → IsUpdate reader.inputs reader.funcs is.place (dimensions is.func) (update_of change)
+  new_update : (tokens : List Token) → IsSmallChange u → IsFaultless reader tokens (line.Update change) → IsUpdate reader.inputs reader.funcs is.place (dimensions is.func) (update_of tree_of change)
   new_update tokens is_small right =
-      let limits = none_of_four (r.is_full reader u.name) (r.exceeds change.left_x || r.second_exceeds change.left_y || r.exceeds change.right) (nat_lt 0x1000000 u.first.minimum || r.is_second_far u.second) (r.is_bad_box u.first.extent (r.second_extent u.second)) right.within in
+      let limits = none_of_four (r.is_full reader u.name) (lines.exceeds change.left_x || r.second_exceeds lines.exceeds change.left_y || lines.exceeds change.right) (nat_lt 0x1000000 u.first.minimum || r.is_second_far u.second) (r.is_bad_box u.first.extent (r.second_extent u.second)) right.within in
       let far = or_parts (nat_lt 0x1000000 u.first.minimum) (r.is_second_far u.second) limits.2 in
-      let shape = or_parts (not (r.same_place reader.last_func (rd.func_place reader u.name))) (r.is_moved change) right.shaped in
-      let moved = none_of_three (r.left_marks change).calls_own _ _ shape.1 in
+      let shape = or_parts (not (r.same_place reader.last_func (rd.func_place reader u.name))) (lines.is_moved change) right.shaped in
+      let moved = none_of_three (lines.left_marks change).calls_own _ _ shape.1 in
       let in_place = are_placed tokens right shape.1 limits.1 in
-      let counts = or_parts (r.is_other_count reader u.name (r.count_with change.left_y)) (r.change_marks change).is_wrong_count right.counts in
-      let sides = or_parts (r.left_marks change).is_wrong_count change.right.marks.is_wrong_count counts.1 in
-      let left = clean_parts true change.left_x.marks (r.marks_of change.left_y) (record { counts = sides.0; own = moved.0 }) in
+      let counts = or_parts (r.is_other_count reader u.name (r.count_with change.left_y)) (lines.change_marks change).is_wrong_count right.counts in
+      let sides = or_parts (lines.left_marks change).is_wrong_count change.right.marks.is_wrong_count counts.1 in
+      let left = clean_parts true change.left_x.marks (lines.marks_of change.left_y) (record { counts = sides.0; own = moved.0 }) in
       let other : not (dimensions is.func == r.count_with change.left_y) ≡ false = ap (λ (f : Option Func). r.is_other_count_of f (r.count_with change.left_y)) (sym is.func_is) ∙ counts.0 in
       record {
         left_x = left_kept u.left_x is_small.left_x left.0;
@@ -267,14 +262,14 @@ same_func reader place k f g last last' found found' =
     (e, cc)
 
 pub update_keeps : (reader : Reader) (tokens : List Token) (u : Change Written) → IsKept reader → IsSmallChange u → IsFaultless reader tokens (line.Update (judged_change reader (change_scope reader u) u))
-    → IsKept (applied reader (line.Update (judged_change reader (change_scope reader u) u)))
+    → IsKept (applied tree_of reader (line.Update (judged_change reader (change_scope reader u) u)))
 update_keeps reader tokens u kept is_small right =
     let scope = change_scope reader u in
     let change = judged_change reader scope u in
-    let update = update_of change in
+    let update = update_of tree_of change in
     let is = named reader u.name kept (or_parts (not (r.is_func reader u.name)) _ right.known).0 in
     let scope_is : scope ≡ known_scope is.func (Some is.place) u = ap (λ (f : Option Func). change_scope_of f (rd.func_place reader u.name) u) is.func_is ∙ ap (λ (p : Option ℕ). known_scope is.func p u) is.place_is in
-    let shape = or_parts (not (r.same_place reader.last_func (rd.func_place reader u.name))) (r.is_moved change) right.shaped in
+    let shape = or_parts (not (r.same_place reader.last_func (rd.func_place reader u.name))) (lines.is_moved change) right.shaped in
     let below : reader.last_func ≡ Some is.place = same_last reader.last_func is.place (ap (r.same_place reader.last_func) (sym is.place_is) ∙ not-false (r.same_place reader.last_func (rd.func_place reader u.name)) shape.0) in
     let last : suc is.place ≡ length reader.funcs = kept.last is.place below in
     let new = new_update reader scope u kept is scope_is last tokens is_small right in

@@ -3,7 +3,7 @@
 ghost use Rattle.std.specs.Prelude.{◌≡◌};
 ghost use Rattle.line_text.specs.Reading.{Gives};
 ghost use Rattle.halide_syntax.specs.inner.LineReading as reading;
-ghost use Rattle.halide_parser.specs.Judging.{judging};
+ghost use Rattle.halide_parser.specs.inner.Judging.{judging};
 
 use crate::judging::Judged;
 use crate::passes::expression;

@@ -6,7 +6,7 @@ ghost use Rattle.line_text.specs.Reading.{Gives};
 ghost use Rattle.halide_syntax.specs.declared.states.Bracket.TheVariants as brackets;
 ghost use Rattle.halide_syntax.specs.inner.Machine as machine;
 ghost use Rattle.halide_syntax.specs.inner.LineReading as reading;
-ghost use Rattle.halide_parser.specs.Judging.{judging};
+ghost use Rattle.halide_parser.specs.inner.Judging.{judging};
 
 use crate::judging::{self, Judged};
 use crate::readers::Reader;

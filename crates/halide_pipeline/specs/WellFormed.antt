@@ -70,6 +70,17 @@ is_source inputs funcs (sources.Func place) = is_some (slice_get funcs place)
 abbrev pub most_number : ℕ
 most_number = 0x7fffffff
 
+-- an expression has at most so many nodes
+abbrev pub most_nodes : ℕ
+most_nodes = 512
+
+-- and at most so many brackets and signs around one place
+abbrev pub most_brackets : ℕ
+most_brackets = 64
+
+abbrev pub fits : ℕ → ℕ → Bool
+fits nodes brackets = nat_le nodes most_nodes && nat_le brackets most_brackets
+
 abbrev pub is_divisor : ℕ → Bool
 is_divisor n = nat_le 1 n && nat_le n most_number
 
