@@ -39,6 +39,7 @@ use Rattle.halide_parser.specs.Scopes.{scope_of}
 use Rattle.halide_parser.proofs.Faultless.{chain, faultless, IsFaultless}
 use Rattle.halide_parser.proofs.Keeping.{none_of_three, none_of_four}
 use Rattle.halide_parser.proofs.Marks as marks
+use Rattle.halide_parser.proofs.Sizes.{tree_is}
 use Rattle.halide_parser.proofs.Wholeness.{IsPlain, plain_parts, fits_is, whole}
 
 -- ---- limits
@@ -171,15 +172,10 @@ same_fault reader tokens (line.Output e) = refl
 -- ---- what is added
 
 module _ (reader : Reader) (scope : Scope) where
-  tree_is : (w : Written) → IsPlain (judge reader scope w).marks → lines.exceeds (judge reader scope w) ≡ false → lines.tree_of (judge reader scope w) ≡ asked.tree reader scope w
-  tree_is w plain within =
-      let own = judge reader scope w in
-      ap lines.tree_or_zero ((whole reader scope w plain).tree (fits_is own.nodes own.nesting (not-false (fits own.nodes own.nesting) within)))
-
   index_tree : (index : Option Written) → IsPlain (lines.marks_of (made_index (j.judging reader scope) index)) → r.second_exceeds lines.exceeds (made_index (j.judging reader scope) index) ≡ false
       → second_tree lines.tree_of (made_index (j.judging reader scope) index) ≡ second_tree (asked.tree reader scope) index
   index_tree None plain within = refl
-  index_tree (Some w) plain within = ap Some (tree_is w plain within)
+  index_tree (Some w) plain within = ap Some (tree_is reader scope w plain within)
 
   abbrev with_change : Change Written → Expr → Option Expr → Expr → Reader
   with_change u x y right = record {
@@ -207,9 +203,9 @@ module _ (reader : Reader) (scope : Scope) where
       let limits = none_of_four (r.is_full reader u.name) (lines.exceeds judged.left_x || r.second_exceeds lines.exceeds judged.left_y || lines.exceeds judged.right) (nat_lt 0x1000000 u.first.minimum || r.is_second_far u.second)
       (r.is_bad_box u.first.extent (r.second_extent u.second)) right.within in
       let sizes = none_of_three (lines.exceeds judged.left_x) (r.second_exceeds lines.exceeds judged.left_y) (lines.exceeds judged.right) limits.1 in
-      let x = tree_is u.left_x left.0 sizes.0 in
+      let x = tree_is reader scope u.left_x left.0 sizes.0 in
       let y = index_tree u.left_y left.1 sizes.1 in
-      let z = tree_is u.right all.1 sizes.2 in
+      let z = tree_is reader scope u.right all.1 sizes.2 in
       λ i. with_change u (x i) (y i) (z i)
 
 same_added : (reader : Reader) (tokens : List Token) (l : Line Written) → IsFaultless reader tokens (lines.judged_line reader l) → applied lines.tree_of reader (lines.judged_line reader l) ≡ applied (asked.tree reader (scope_of reader l)) reader l

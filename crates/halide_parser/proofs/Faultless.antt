@@ -46,6 +46,7 @@ pub record IsFaultless (reader : Reader) (tokens : List Token) (l : Line Judged)
   pub counts : is_wrong_count reader l ≡ false
   pub divisors : (line_marks l).is_bad_divisor ≡ false
   pub small : has_large tokens ≡ false
+  pub short : has_long tokens ≡ false
   pub shaped : is_misshapen reader l ≡ false
   pub within : is_line_over_limit exceeds reader l ≡ false
 
@@ -61,6 +62,7 @@ faultless reader tokens l e =
       counts = all.d_is;
       divisors = all.e_is;
       small = all.f_is;
+      short = (or_parts reader.is_oversized (has_long tokens) text.0).1;
       shaped = all.g_is;
       within = text.1;
     }

@@ -11,7 +11,7 @@ use Rattle.halide_pipeline.specs.declared.expressions.Source.{Source}
 use Rattle.halide_pipeline.specs.declared.expressions.Source.TheVariants as sources
 use Rattle.halide_pipeline.specs.Definitions.{dimensions}
 use Rattle.halide_pipeline.specs.Names.{lookup, Named}
-use Rattle.halide_pipeline.specs.WellFormed.{IsFunc, is_input, is_output, is_width, is_height, are_dimensions, is_source, is_func_of, is_read}
+use Rattle.halide_pipeline.specs.WellFormed.{are_names, IsFunc, is_input, is_output, is_width, is_height, are_dimensions, is_source, is_func_of, is_read}
 use Rattle.halide_parser.specs.declared.readers.Reader.{Reader}
 use Rattle.halide_parser.specs.declared.scopes.Scope.{Scope}
 use Rattle.halide_parser.specs.Expressions as asked
@@ -31,6 +31,7 @@ pub record IsKept (reader : Reader) : Type 0 where
   pub few_funcs : nat_le (length reader.funcs) 12 ≡ true
   pub inputs : (place : ℕ) (input : Input) → slice_get reader.inputs place ≡ Some input → is_input input ≡ true
   pub funcs : (place : ℕ) (func : Func) → slice_get reader.funcs place ≡ Some func → IsFunc reader.inputs reader.funcs place func
+  pub short_names : are_names reader.names ≡ true
   pub names : (name : List ℕ) (source : Source) → lookup name reader.names ≡ Some source → is_source reader.inputs reader.funcs source ≡ true
   pub last : (place : ℕ) → reader.last_func ≡ Some place → suc place ≡ length reader.funcs
   pub output : (o : Output) → reader.output ≡ Some o → IsDrawn reader.funcs o

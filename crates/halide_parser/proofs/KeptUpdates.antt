@@ -3,6 +3,7 @@ use Rattle.std.proofs.Common.{◌≡◌, ℕ, zero, suc, ◌-◌, ◌+◌, ◌�
 use Rattle.std.specs.Prelude.{◌==◌, ◌&&◌, ◌||◌, ◌^◌, ◌%◌, nat_le, nat_lt, slice_get, is_some}
 use Rattle.std.proofs.Math.Nat.{mod-eq_of_lt}
 use Rattle.std.proofs.lemmas.Bool.{and_from, or_parts, or_left, or_right, not-false, ltb-false, le-leb, eqb-true}
+use Rattle.std.specs.Str.{bytes_eq}
 use Rattle.halide_pipeline.specs.declared.definitions.Func.{Func}
 use Rattle.halide_pipeline.specs.declared.definitions.Update.{Update}
 use Rattle.halide_pipeline.specs.declared.expressions.Variable.{Variable}
@@ -17,7 +18,8 @@ use Rattle.halide_syntax.specs.declared.lines.Change.{Change}
 use Rattle.halide_syntax.specs.declared.lines.Line.TheVariants as line
 use Rattle.halide_syntax.specs.declared.tokens.Token.{Token}
 use Rattle.halide_syntax.specs.inner.Algebra.{made}
-use Rattle.halide_syntax.specs.Grammar.{Written}
+use Rattle.halide_syntax.specs.Grammar.{Written, IsRight}
+use Rattle.halide_syntax.specs.LineGrammar.{IsRightIndex}
 use Rattle.halide_syntax.specs.inner.Algebra.{made_index}
 use Rattle.halide_parser.specs.declared.judging.Judged.{Judged}
 use Rattle.halide_parser.specs.declared.readers.Reader.{Reader}
@@ -28,7 +30,8 @@ use Rattle.halide_parser.specs.inner.JudgedLines as lines
 use Rattle.halide_parser.specs.Meaning.{second_tree, reduction_of, second_reduction, update_of, with_update, applied}
 use Rattle.halide_parser.specs.Readers as rd
 use Rattle.halide_parser.specs.Rules as r
-use Rattle.halide_parser.specs.Scopes.{is_named, variable, known_scope, change_scope, change_scope_of, bounds_name}
+use Rattle.halide_pipeline.specs.Names.{is_named}
+use Rattle.halide_parser.specs.Scopes.{variable, known_scope, change_scope, change_scope_of, bounds_name}
 use Rattle.halide_parser.proofs.Faultless.{IsFaultless}
 use Rattle.halide_parser.proofs.InPlace.{Calm, calm_parts, Stays, stays_there, placed, strict_join, unused_none}
 use Rattle.halide_parser.proofs.Growing.{get-last, updates_grow, func_grows, update_grows, source-update, get-update, length-update, updated}
@@ -36,6 +39,8 @@ use Rattle.halide_parser.proofs.Keeping.{IsKept, IsNamed, may, may_before, box, 
 use Rattle.halide_parser.proofs.KeptLines.{picked, two_arguments, no_output, one_more}
 use Rattle.halide_parser.proofs.KeptTrees.{Clean, clean_parts, sound, tree_kept}
 use Rattle.halide_parser.proofs.Numbers.{IsSmall}
+use Rattle.halide_parser.proofs.ShortNames.{ShortChange}
+use Rattle.halide_parser.proofs.Sizes.{sized}
 use Rattle.halide_parser.proofs.Wholeness.{IsPlain, plain_parts, fits_is, some_tree}
 
 -- ---- variables
@@ -104,6 +109,11 @@ judged_change reader scope u = record {
 abbrev pub IsSmallIndex : Option Written → Type 0
 IsSmallIndex None = Unit {0}
 IsSmallIndex (Some index) = IsSmall index
+
+pub record IsRightChange (u : Change Written) : Type 0 where
+  pub left_x : IsRight u.left_x
+  pub left_y : IsRightIndex u.left_y
+  pub right : IsRight u.right
 
 pub record IsSmallChange (u : Change Written) : Type 0 where
   pub left_x : IsSmall u.left_x
@@ -215,13 +225,37 @@ module _ (reader : Reader) (scope : Scope) (u : Change Written) (kept : IsKept r
             (subst (λ (b : Bool). (w.calls_in_place is.place first b new.right).stays ≡ true) (sym is_second) side.stays);
       }
 
-  new_update : (tokens : List Token) → IsSmallChange u → IsFaultless reader tokens (line.Update change) → IsUpdate reader.inputs reader.funcs is.place (dimensions is.func) (update_of tree_of change)
-  new_update tokens is_small right =
+  index_sized : (index : Option Written) → IsRightIndex index → IsPlain (lines.marks_of (made_index (j.judging reader scope) index)) → r.second_exceeds lines.exceeds (made_index (j.judging reader scope) index) ≡ false
+      → w.is_second_sized (second_tree tree_of (made_index (j.judging reader scope) index)) ≡ true
+  index_sized None written in_plain within = refl
+  index_sized (Some index) written in_plain within = sized reader scope index written in_plain within
+
+  new_reductions : (tokens : List Token) → ShortChange u → IsFaultless reader tokens (line.Update change) → w.are_reductions is.func.first_argument is.func.second_argument (update_of tree_of change) ≡ true
+  new_reductions tokens short right =
+      let taken = or_parts (r.is_argument reader u.name u.first.name) (r.is_second_taken reader u.name u.first.name u.second) right.free in
+      let first : w.is_argument_name is.func.first_argument is.func.second_argument u.first.name ≡ false = ap (λ (f : Option Func). r.is_argument_of f u.first.name) (sym is.func_is) ∙ taken.0 in
+      and_from (w.is_name u.first.name && not (w.is_argument_name is.func.first_argument is.func.second_argument u.first.name)) (w.is_second_reduction is.func.first_argument is.func.second_argument u.first.name (second_reduction u.second))
+      (and_from (w.is_name u.first.name) (not (w.is_argument_name is.func.first_argument is.func.second_argument u.first.name)) short.first (ap not first))
+      (second_apart u.second short.second taken.1)
+    where
+      second_apart : (second : Option Bounds) → w.is_second_name (bounds_name second) ≡ true → r.is_second_taken reader u.name u.first.name second ≡ false
+          → w.is_second_reduction is.func.first_argument is.func.second_argument u.first.name (second_reduction second) ≡ true
+      second_apart None short e = refl
+      second_apart (Some b) short e =
+          let apart : (bytes_eq b.name u.first.name || w.is_argument_name is.func.first_argument is.func.second_argument b.name) ≡ false =
+          ap (λ (f : Option Func). bytes_eq b.name u.first.name || r.is_argument_of f b.name) (sym is.func_is) ∙ e in
+          and_from (w.is_name b.name) (not (bytes_eq b.name u.first.name || w.is_argument_name is.func.first_argument is.func.second_argument b.name)) short (ap not apart)
+
+  new_update : (tokens : List Token) → IsSmallChange u → IsRightChange u → IsFaultless reader tokens (line.Update change) → IsUpdate reader.inputs reader.funcs is.place (dimensions is.func) (update_of tree_of change)
+  new_update tokens is_small written right =
       let limits = none_of_four (r.is_full reader u.name) (lines.exceeds change.left_x || r.second_exceeds lines.exceeds change.left_y || lines.exceeds change.right) (nat_lt 0x1000000 u.first.minimum || r.is_second_far u.second) (r.is_bad_box u.first.extent (r.second_extent u.second)) right.within in
       let far = or_parts (nat_lt 0x1000000 u.first.minimum) (r.is_second_far u.second) limits.2 in
       let shape = or_parts (not (r.same_place reader.last_func (rd.func_place reader u.name))) (lines.is_moved change) right.shaped in
       let moved = none_of_three (lines.left_marks change).calls_own _ _ shape.1 in
       let in_place = are_placed tokens right shape.1 limits.1 in
+      let all_plain = plain_parts (lines.left_marks change) change.right.marks (plain tokens right) in
+      let left_plain = plain_parts change.left_x.marks (lines.marks_of change.left_y) all_plain.0 in
+      let exceed = none_of_three (lines.exceeds change.left_x) (r.second_exceeds lines.exceeds change.left_y) (lines.exceeds change.right) limits.1 in
       let counts = or_parts (r.is_other_count reader u.name (r.count_with change.left_y)) (lines.change_marks change).is_wrong_count right.counts in
       let sides = or_parts (lines.left_marks change).is_wrong_count change.right.marks.is_wrong_count counts.1 in
       let left = clean_parts true change.left_x.marks (lines.marks_of change.left_y) (record { counts = sides.0; own = moved.0 }) in
@@ -233,6 +267,9 @@ module _ (reader : Reader) (scope : Scope) (u : Change Written) (kept : IsKept r
         first_argument = in_place.first_argument;
         second_argument = in_place.second_argument;
         own_calls = in_place.own_calls;
+        left_x_sized = sized reader scope u.left_x written.left_x left_plain.0 exceed.0;
+        left_y_sized = index_sized u.left_y written.left_y left_plain.1 exceed.1;
+        right_sized = sized reader scope u.right written.right all_plain.1 exceed.2;
         minimum = minimum_is u.first far.0;
         second_minimum = second_minimum_is u.second far.1;
         box = box_is u.first u.second limits.3;
@@ -241,13 +278,19 @@ module _ (reader : Reader) (scope : Scope) (u : Change Written) (kept : IsKept r
 -- ---- the Func with its update
 
 updates_of : (reader : Reader) (f : Func) (place : ℕ) (update : Update) → IsFunc reader.inputs reader.funcs place f → nat_le 4 (length f.updates) ≡ false → IsUpdate reader.inputs reader.funcs place (dimensions f) update
-    → IsFunc reader.inputs (with_update reader.funcs update) place (updated f update)
-updates_of reader f place update is few new =
+    → w.are_reductions f.first_argument f.second_argument update ≡ true → IsFunc reader.inputs (with_update reader.funcs update) place (updated f update)
+updates_of reader f place update is few new apart =
     let grows = updates_grow reader.inputs reader.funcs update in
     let old = func_grows reader.inputs reader.funcs reader.inputs (with_update reader.funcs update) grows place f is in
     record {
       pure = old.pure;
+      pure_sized = old.pure_sized;
+      arguments = old.arguments;
       few_updates = one_more f.updates update 4 few;
+      reductions = λ at u found. elim (get-last f.updates update at u found) [
+        | inl before ↦ old.reductions at u before
+        | inr last ↦ subst (λ (x : Update). w.are_reductions f.first_argument f.second_argument x ≡ true) last.1 apart
+      ];
       updates = λ at u found. elim (get-last f.updates update at u found) [
         | inl before ↦ old.updates at u before
         | inr last ↦ subst (λ (x : Update). IsUpdate reader.inputs (with_update reader.funcs update) place (dimensions f) x) last.1
@@ -261,9 +304,9 @@ same_func reader place k f g last last' found found' =
     let is : Some f ≡ Some g = sym found ∙ ap (slice_get reader.funcs) e ∙ found' in
     (e, cc)
 
-pub update_keeps : (reader : Reader) (tokens : List Token) (u : Change Written) → IsKept reader → IsSmallChange u → IsFaultless reader tokens (line.Update (judged_change reader (change_scope reader u) u))
+pub update_keeps : (reader : Reader) (tokens : List Token) (u : Change Written) → IsKept reader → IsSmallChange u → IsRightChange u → ShortChange u → IsFaultless reader tokens (line.Update (judged_change reader (change_scope reader u) u))
     → IsKept (applied tree_of reader (line.Update (judged_change reader (change_scope reader u) u)))
-update_keeps reader tokens u kept is_small right =
+update_keeps reader tokens u kept is_small written short right =
     let scope = change_scope reader u in
     let change = judged_change reader scope u in
     let update = update_of tree_of change in
@@ -272,10 +315,11 @@ update_keeps reader tokens u kept is_small right =
     let shape = or_parts (not (r.same_place reader.last_func (rd.func_place reader u.name))) (lines.is_moved change) right.shaped in
     let below : reader.last_func ≡ Some is.place = same_last reader.last_func is.place (ap (r.same_place reader.last_func) (sym is.place_is) ∙ not-false (r.same_place reader.last_func (rd.func_place reader u.name)) shape.0) in
     let last : suc is.place ≡ length reader.funcs = kept.last is.place below in
-    let new = new_update reader scope u kept is scope_is last tokens is_small right in
+    let new = new_update reader scope u kept is scope_is last tokens is_small written right in
+    let apart = new_reductions reader scope u kept is scope_is last tokens short right in
     let limits = none_of_four (r.is_full reader u.name) _ _ _ right.within in
     let few : nat_le 4 (length is.func.updates) ≡ false = ap r.is_full_of (sym is.func_is) ∙ limits.0 in
-    let whole : IsFunc reader.inputs (with_update reader.funcs update) is.place (updated is.func update) = updates_of reader is.func is.place update (kept.funcs is.place is.func is.found) few new in
+    let whole : IsFunc reader.inputs (with_update reader.funcs update) is.place (updated is.func update) = updates_of reader is.func is.place update (kept.funcs is.place is.func is.found) few new apart in
     record {
       few_inputs = kept.few_inputs;
       few_funcs = rw (length-update reader.funcs update) kept.few_funcs;
@@ -287,6 +331,7 @@ update_keeps reader tokens u kept is_small right =
             subst (λ (f : Func). IsFunc reader.inputs (with_update reader.funcs update) place f) (ap (λ (f : Func). updated f update) same.1 ∙ at.3)
             (subst (λ (p : ℕ). IsFunc reader.inputs (with_update reader.funcs update) p (updated is.func update)) same.0 whole)
       ];
+      short_names = kept.short_names;
       names = λ name s found. source-update reader.inputs reader.funcs update s (kept.names name s found);
       last = λ place at. kept.last place at ∙ sym (length-update reader.funcs update);
       output = λ o at. absurd (no_output reader.output o right.first at);

@@ -11,6 +11,8 @@ pub mod KeptUpdates
 pub mod Marks
 pub mod Numbers
 pub mod PassLoop
+pub mod ShortNames
+pub mod Sizes
 pub mod Trees
 pub mod Updates
 pub mod Wholeness

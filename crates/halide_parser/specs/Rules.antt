@@ -7,8 +7,8 @@ use Rattle.halide_pipeline.specs.declared.expressions.Variable.TheVariants as va
 use Rattle.halide_pipeline.specs.declared.definitions.Func.{Func}
 use Rattle.halide_pipeline.specs.declared.definitions.Output.{Output}
 use Rattle.halide_pipeline.specs.Definitions as definitions
-use Rattle.halide_pipeline.specs.Names.{lookup}
-use Rattle.halide_pipeline.specs.WellFormed.{is_alone}
+use Rattle.halide_pipeline.specs.Names.{lookup, is_named}
+use Rattle.halide_pipeline.specs.WellFormed.{is_alone, is_argument_name}
 use Rattle.halide_syntax.specs.declared.faults.ParseFault.{ParseFault}
 use Rattle.halide_syntax.specs.declared.faults.ParseFault.TheVariants as fault
 use Rattle.halide_syntax.specs.declared.tokens.Token.{Token}
@@ -22,7 +22,7 @@ use Rattle.halide_parser.specs.declared.readers.Reader.{Reader}
 use Rattle.halide_parser.specs.declared.scopes.Scope.{Scope}
 use Rattle.halide_parser.specs.Expressions.{is_unknown_at, is_wrong_count_at, is_bad_divisor_at, uses_at, alone, calls_own_at, moves_first_at, moves_second_at, exceeds}
 use Rattle.halide_parser.specs.Readers.{func, func_place}
-use Rattle.halide_parser.specs.Scopes.{is_named, scope_of}
+use Rattle.halide_parser.specs.Scopes.{scope_of}
 
 -- ---- behind the output line only blank lines stand
 
@@ -70,7 +70,7 @@ is_unknown reader l = is_other_name reader l || line_has (is_unknown_at reader (
 
 abbrev pub is_argument_of : Option Func → List ℕ → Bool
 is_argument_of None name = false
-is_argument_of (Some f) name = bytes_eq f.first_argument name || is_named f.second_argument name
+is_argument_of (Some f) name = is_argument_name f.first_argument f.second_argument name
 
 abbrev pub is_argument : Reader → List ℕ → List ℕ → Bool
 is_argument reader owner name = is_argument_of (func reader owner) name

@@ -1,10 +1,10 @@
 -- The variables of a line: a Func's arguments, and in an update its reduction variables.
 -- This project's own.
-use Rattle.std.specs.Prelude.{ℕ, Bool, false, if◌then◌else◌, List, Option, Some, None}
-use Rattle.std.specs.Str.{bytes_eq}
+use Rattle.std.specs.Prelude.{ℕ, if◌then◌else◌, List, Option, Some, None}
 use Rattle.halide_pipeline.specs.declared.definitions.Func.{Func}
 use Rattle.halide_pipeline.specs.declared.expressions.Variable.{Variable}
 use Rattle.halide_pipeline.specs.declared.expressions.Variable.TheVariants as variables
+use Rattle.halide_pipeline.specs.Names.{is_named}
 use Rattle.halide_syntax.specs.declared.lines.Bounds.{Bounds}
 use Rattle.halide_syntax.specs.declared.lines.Change.{Change}
 use Rattle.halide_syntax.specs.declared.lines.Line.{Line}
@@ -15,10 +15,6 @@ use Rattle.halide_parser.specs.Readers.{func, func_place}
 
 abbrev pub empty : Scope
 empty = record { first_argument = None; second_argument = None; first_reduction = None; second_reduction = None; own = None }
-
-abbrev pub is_named : Option (List ℕ) → List ℕ → Bool
-is_named None name = false
-is_named (Some own) name = bytes_eq own name
 
 -- the variable with a name
 unfoldable pub variable : Scope → List ℕ → Option Variable
