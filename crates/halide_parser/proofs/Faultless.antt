@@ -9,10 +9,11 @@ use Rattle.halide_syntax.specs.declared.lines.Line.{Line}
 use Rattle.halide_syntax.specs.declared.lines.Line.TheVariants as line
 use Rattle.halide_parser.specs.declared.judging.Judged.{Judged}
 use Rattle.halide_parser.specs.declared.readers.Reader.{Reader}
-use Rattle.halide_parser.specs.Rules.{fault_of, is_behind_output, is_unknown, is_taken, is_wrong_count, line_marks, has_large, is_misshapen, is_over_limit, is_line_over_limit, has_long}
+use Rattle.halide_parser.specs.inner.JudgedLines.{fault_of, is_unknown, is_wrong_count, line_marks, is_misshapen, exceeds}
+use Rattle.halide_parser.specs.Rules.{is_behind_output, is_taken, has_large, is_over_limit, is_line_over_limit, has_long}
 use Rattle.halide_parser.specs.Meaning.{IsFree}
 
-abbrev chain : (a b c d e f g h : Bool) → Option ParseFault
+abbrev pub chain : (a b c d e f g h : Bool) → Option ParseFault
 chain a b c d e f g h =
     cond a (Some fault.Syntax) (cond b (Some fault.UnknownName) (cond c (Some fault.NameTaken) (cond d (Some fault.WrongCount)
     (cond e (Some fault.Divisor) (cond f (Some fault.NumberTooLarge) (cond g (Some fault.UpdateShape) (cond h (Some fault.Limit) None)))))))
@@ -45,14 +46,15 @@ pub record IsFaultless (reader : Reader) (tokens : List Token) (l : Line Judged)
   pub counts : is_wrong_count reader l ≡ false
   pub divisors : (line_marks l).is_bad_divisor ≡ false
   pub small : has_large tokens ≡ false
+  pub short : has_long tokens ≡ false
   pub shaped : is_misshapen reader l ≡ false
-  pub within : is_line_over_limit reader l ≡ false
+  pub within : is_line_over_limit exceeds reader l ≡ false
 
 pub faultless : (reader : Reader) (tokens : List Token) (l : Line Judged) → fault_of reader tokens l ≡ None → IsFaultless reader tokens l
 unfolding fault_of
 faultless reader tokens l e =
-    let all = are_false (is_behind_output reader.output l) (is_unknown reader l) (is_taken reader l) (is_wrong_count reader l) (line_marks l).is_bad_divisor (has_large tokens) (is_misshapen reader l) (is_over_limit reader tokens l) e in
-    let text = or_parts (reader.is_oversized || has_long tokens) (is_line_over_limit reader l) all.h_is in
+    let all = are_false (is_behind_output reader.output l) (is_unknown reader l) (is_taken reader l) (is_wrong_count reader l) (line_marks l).is_bad_divisor (has_large tokens) (is_misshapen reader l) (is_over_limit exceeds reader tokens l) e in
+    let text = or_parts (reader.is_oversized || has_long tokens) (is_line_over_limit exceeds reader l) all.h_is in
     record {
       first = all.a_is;
       known = all.b_is;
@@ -60,6 +62,7 @@ faultless reader tokens l e =
       counts = all.d_is;
       divisors = all.e_is;
       small = all.f_is;
+      short = (or_parts reader.is_oversized (has_long tokens) text.0).1;
       shaped = all.g_is;
       within = text.1;
     }

@@ -51,6 +51,9 @@ module _ (inputs : List Input) (funcs : List Func) (inputs' : List Input) (funcs
     first_argument = is.first_argument;
     second_argument = is.second_argument;
     own_calls = is.own_calls;
+    left_x_sized = is.left_x_sized;
+    left_y_sized = is.left_y_sized;
+    right_sized = is.right_sized;
     minimum = is.minimum;
     second_minimum = is.second_minimum;
     box = is.box;
@@ -59,8 +62,11 @@ module _ (inputs : List Input) (funcs : List Func) (inputs' : List Input) (funcs
   pub func_grows : (place : ℕ) (func : Func) → IsFunc inputs funcs place func → IsFunc inputs' funcs' place func
   func_grows place func is = record {
     pure = keeps-grows (is_read inputs funcs place) (is_read inputs' funcs' place) (is_argument (dimensions func)) (grows place) func.pure is.pure;
+    pure_sized = is.pure_sized;
+    arguments = is.arguments;
     few_updates = is.few_updates;
     updates = λ at update found. update_grows place (dimensions func) update (is.updates at update found);
+    reductions = is.reductions;
   }
 
 input_of-append : (inputs more : List Input) (place n : ℕ) (found : Option Input) → slice_get inputs place ≡ found → is_input_of found n ≡ true → is_input_of (slice_get (inputs ++ more) place) n ≡ true

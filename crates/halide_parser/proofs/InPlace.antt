@@ -15,19 +15,21 @@ use Rattle.halide_pipeline.specs.declared.expressions.Variable.{Variable}
 use Rattle.halide_pipeline.specs.declared.expressions.Variable.TheVariants as variables
 use Rattle.halide_pipeline.specs.Expressions.{same_variable, is_variable, is_variable_at, uses, uses_at}
 use Rattle.halide_pipeline.specs.WellFormed.{Placed, placed_at, calls_in_place, is_own_call, is_alone}
+use Rattle.halide_pipeline.specs.WellFormed as limits
 use Rattle.halide_pipeline.proofs.Trees.{at_number, at_variable, at_binary, at_divide, at_remainder, at_select, at_call1, at_call2}
 use Rattle.halide_syntax.specs.declared.tokens.ProductOperator.{ProductOperator}
 use Rattle.halide_syntax.specs.declared.tokens.ProductOperator.TheVariants as products
 use Rattle.halide_syntax.specs.declared.tokens.ThreeFunction.{ThreeFunction}
 use Rattle.halide_syntax.specs.declared.tokens.ThreeFunction.TheVariants as threes
-use Rattle.halide_syntax.specs.Algebra.{made}
+use Rattle.halide_syntax.specs.inner.Algebra.{made}
 use Rattle.halide_syntax.specs.Grammar.{Written, Literal, Bare, Group, Minus, Call, CallTwo, Two, Three, Product, Sum, Comparison}
 use Rattle.halide_parser.specs.declared.judging.Judged.{Judged}
 use Rattle.halide_parser.specs.declared.judging.Marks.{Marks}
 use Rattle.halide_parser.specs.declared.readers.Reader.{Reader}
 use Rattle.halide_parser.specs.declared.scopes.Scope.{Scope}
-use Rattle.halide_parser.specs.Judging as j
-use Rattle.halide_parser.specs.Meaning.{tree_of}
+use Rattle.halide_parser.specs.inner.Judging as j
+use Rattle.halide_parser.specs.inner.JudgedLines.{tree_or_zero}
+use Rattle.halide_parser.specs.Expressions as asked
 use Rattle.halide_parser.specs.Readers.{source}
 use Rattle.halide_parser.specs.Scopes.{variable}
 
@@ -56,10 +58,6 @@ calm_parts first second a b calm =
       record { uses_first = uses_first.0; uses_second = uses_second.0; moves_first = moves_first.0; moves_second = moves_second.0 },
       record { uses_first = uses_first.1; uses_second = uses_second.1; moves_first = moves_first.1; moves_second = moves_second.1 },
     )
-
-alone_by : (v : Variable) (alone : Option Variable) → is_alone v alone ≡ j.is_this v alone
-alone_by v None = refl
-alone_by v (Some own) = refl
 
 -- a call whose index is moved only where it may be
 index_stays : (stands own alone : Bool) → (stands && (own && not alone)) ≡ false → (not own || (not stands || alone)) ≡ true
@@ -140,13 +138,13 @@ module _ (place : ℕ) (first second : Bool) where
     pub alone : (placed_of tree).alone ≡ only
     pub stays : (placed_of tree).stays ≡ true
     pub unused : IsUnused tree
-    pub variable : (v : Variable) → is_variable v tree ≡ j.is_this v only
+    pub variable : (v : Variable) → is_variable v tree ≡ is_alone v only
 
   abbrev pub StaysIn : Option Expr → Option Variable → Type 0
   StaysIn None alone = Unit {0}
   StaysIn (Some tree) alone = Stays tree alone
 
-  stays_by : (tree : Expr) (alone : Option Variable) (l : Expr-F Expr) (p : Placed) → out-Expr tree ≡ l → ((v : Variable) → is_variable_at v l ≡ j.is_this v alone) → placed_of tree ≡ p → p.alone ≡ alone → p.stays ≡ true → IsUnused tree → Stays tree alone
+  stays_by : (tree : Expr) (alone : Option Variable) (l : Expr-F Expr) (p : Placed) → out-Expr tree ≡ l → ((v : Variable) → is_variable_at v l ≡ is_alone v alone) → placed_of tree ≡ p → p.alone ≡ alone → p.stays ≡ true → IsUnused tree → Stays tree alone
   stays_by tree alone l p out variable e is stays unused = record {
     alone = ap (λ (q : Placed). q.alone) e ∙ is;
     stays = ap (λ (q : Placed). q.stays) e ∙ stays;
@@ -168,7 +166,7 @@ module _ (place : ℕ) (first second : Bool) where
     in_second = rw (at_variable Bool (uses_at variables.SecondArgument) v) no_second;
   })
 
-  bare_stays : (found : Option Variable) → (not first && j.is_this variables.FirstArgument found) ≡ false → (not second && j.is_this variables.SecondArgument found) ≡ false → StaysIn (option_map (λ v. trees.Variable v) found) found
+  bare_stays : (found : Option Variable) → (not first && is_alone variables.FirstArgument found) ≡ false → (not second && is_alone variables.SecondArgument found) ≡ false → StaysIn (option_map (λ v. trees.Variable v) found) found
   bare_stays None no_first no_second = tt
   bare_stays (Some v) no_first no_second = variable_stays v no_first no_second
 
@@ -219,18 +217,18 @@ module _ (place : ℕ) (first second : Bool) where
   division_stays is_wanted is_quotient (Some a) None x in_a = tt
 
   -- an index that is moved only where it may be, in a call of this source
-  index_by : (stands : Bool) (v : Variable) (s : Source) (index : Expr) (alone : Option Variable) → (placed_of index).alone ≡ alone → (stands && (is_own_call place s && not (j.is_this v alone))) ≡ false
+  index_by : (stands : Bool) (v : Variable) (s : Source) (index : Expr) (alone : Option Variable) → (placed_of index).alone ≡ alone → (stands && (is_own_call place s && not (is_alone v alone))) ≡ false
       → (not (is_own_call place s) || (not stands || is_alone v (placed_of index).alone)) ≡ true
-  index_by stands v s index alone e calm = rw e (rw (alone_by v alone) (index_stays stands (is_own_call place s) (j.is_this v alone) calm))
+  index_by stands v s index alone e calm = rw e (index_stays stands (is_own_call place s) (is_alone v alone) calm)
 
-  one_index : (s : Source) (a : Expr) (x : Option Variable) → Stays a x → (first && (is_own_call place s && not (j.is_this variables.FirstArgument x))) ≡ false → Stays (trees.Call1 s a) None
+  one_index : (s : Source) (a : Expr) (x : Option Variable) → Stays a x → (first && (is_own_call place s && not (is_alone variables.FirstArgument x))) ≡ false → Stays (trees.Call1 s a) None
   unfolding calls_in_place uses
   one_index s a x in_a moves = stays_by (trees.Call1 s a) None (layer.Call1 s a) (step (layer.Call1 s (placed_of a))) (out_call1 s a) (λ v. refl) (at_call1 Placed step s a) refl
       (and_from (placed_of a).stays (not (is_own_call place s) || (not first || is_alone variables.FirstArgument (placed_of a).alone)) in_a.stays (index_by first variables.FirstArgument s a x in_a.alone moves))
       (unused_one (trees.Call1 s a) a (λ v. at_call1 Bool (uses_at v) s a) in_a.unused)
 
   two_indexes : (s : Source) (a b : Expr) (x y : Option Variable) → Stays a x → Stays b y
-      → (first && (is_own_call place s && not (j.is_this variables.FirstArgument x))) ≡ false → (second && (is_own_call place s && not (j.is_this variables.SecondArgument y))) ≡ false → Stays (trees.Call2 s a b) None
+      → (first && (is_own_call place s && not (is_alone variables.FirstArgument x))) ≡ false → (second && (is_own_call place s && not (is_alone variables.SecondArgument y))) ≡ false → Stays (trees.Call2 s a b) None
   unfolding calls_in_place uses
   two_indexes s a b x y in_a in_b moves_first moves_second = stays_by (trees.Call2 s a b) None (layer.Call2 s a b) (step (layer.Call2 s (placed_of a) (placed_of b))) (out_call2 s a b) (λ v. refl) (at_call2 Placed step s a b) refl
       (and_from ((placed_of a).stays && (placed_of b).stays) (not (is_own_call place s) || ((not first || is_alone variables.FirstArgument (placed_of a).alone) && (not second || is_alone variables.SecondArgument (placed_of b).alone)))
@@ -239,13 +237,13 @@ module _ (place : ℕ) (first second : Bool) where
       (index_by first variables.FirstArgument s a x in_a.alone moves_first) (index_by second variables.SecondArgument s b y in_b.alone moves_second)))
       (unused_two (trees.Call2 s a b) a b (λ v. at_call2 Bool (uses_at v) s a b) in_a.unused in_b.unused)
 
-  call_stays : (is_wanted : Bool) (callee : Source × ℕ) (a : Option Expr) (x : Option Variable) → StaysIn a x → (first && (is_own_call place callee.0 && not (j.is_this variables.FirstArgument x))) ≡ false → StaysIn (j.call_tree is_wanted (Some callee) a) None
+  call_stays : (is_wanted : Bool) (callee : Source × ℕ) (a : Option Expr) (x : Option Variable) → StaysIn a x → (first && (is_own_call place callee.0 && not (is_alone variables.FirstArgument x))) ≡ false → StaysIn (j.call_tree is_wanted (Some callee) a) None
   call_stays true callee (Some a) x in_a moves = one_index callee.0 a x in_a moves
   call_stays false callee (Some a) x in_a moves = tt
   call_stays is_wanted callee None x in_a moves = tt
 
   call_two_stays : (is_wanted : Bool) (callee : Source × ℕ) (a b : Option Expr) (x y : Option Variable) → StaysIn a x → StaysIn b y
-      → (first && (is_own_call place callee.0 && not (j.is_this variables.FirstArgument x))) ≡ false → (second && (is_own_call place callee.0 && not (j.is_this variables.SecondArgument y))) ≡ false
+      → (first && (is_own_call place callee.0 && not (is_alone variables.FirstArgument x))) ≡ false → (second && (is_own_call place callee.0 && not (is_alone variables.SecondArgument y))) ≡ false
       → StaysIn (j.call_two_tree is_wanted (Some callee) a b) None
   call_two_stays true callee (Some a) (Some b) x y in_a in_b moves_first moves_second = two_indexes callee.0 a b x y in_a in_b moves_first moves_second
   call_two_stays false callee (Some a) (Some b) x y in_a in_b moves_first moves_second = tt
@@ -253,11 +251,11 @@ module _ (place : ℕ) (first second : Bool) where
   call_two_stays is_wanted callee (Some a) None x y in_a in_b moves_first moves_second = tt
 
 -- a tree that is there
-pub stays_there : (place : ℕ) (first second : Bool) (tree : Option Expr) (alone : Option Variable) → is_some tree ≡ true → StaysIn place first second tree alone → Stays place first second (tree_of tree) alone
+pub stays_there : (place : ℕ) (first second : Bool) (tree : Option Expr) (alone : Option Variable) → is_some tree ≡ true → StaysIn place first second tree alone → Stays place first second (tree_or_zero tree) alone
 stays_there place first second None alone some stays = cc
 stays_there place first second (Some tree) alone some stays = stays
 
-own_place : (own : Option ℕ) (place : ℕ) (s : Source) → own ≡ Some place → j.is_own_place own s ≡ is_own_call place s
+own_place : (own : Option ℕ) (place : ℕ) (s : Source) → own ≡ Some place → asked.is_own_place own s ≡ is_own_call place s
 own_place own place (sources.Func other) e = rw e refl
 own_place own place (sources.Input other) e = rw e refl
 
@@ -269,11 +267,11 @@ module _ (place : ℕ) (first second : Bool) (reader : Reader) (scope : Scope) (
   unfolding j.binary
   binary_placed operation a b in_a in_b calm =
       let parts = calm_parts first second a.marks b.marks calm in
-      binary_stays place first second (j.fits (j.node_sum 1 (j.node_sum a.nodes b.nodes)) (max a.nesting b.nesting)) operation a.tree b.tree a.alone b.alone (in_a parts.0) (in_b parts.1)
+      binary_stays place first second (limits.fits (j.node_sum 1 (j.node_sum a.nodes b.nodes)) (max a.nesting b.nesting)) operation a.tree b.tree a.alone b.alone (in_a parts.0) (in_b parts.1)
 
   enclosed_placed : (a : Judged) → IsPlaced a → IsPlaced (j.enclosed a)
   unfolding j.enclosed
-  enclosed_placed a in_a calm = kept_stays place first second (j.fits a.nodes (j.deeper a.nesting)) a.tree a.alone (in_a calm)
+  enclosed_placed a in_a calm = kept_stays place first second (limits.fits a.nodes (j.deeper a.nesting)) a.tree a.alone (in_a calm)
 
   literal_placed : (n : ℕ) → IsPlaced (j.literal n)
   literal_placed n calm = number_stays place first second n
@@ -286,25 +284,25 @@ module _ (place : ℕ) (first second : Bool) (reader : Reader) (scope : Scope) (
   divided_placed is_quotient a b in_a calm =
       let parts = calm_parts first second (j.both_marks a.marks b.marks) (j.divisor_marks (j.divisor b.literal)) calm in
       let operands = calm_parts first second a.marks b.marks parts.0 in
-      division_stays place first second (j.fits (j.node_sum 1 (j.node_sum a.nodes b.nodes)) (max a.nesting b.nesting)) is_quotient a.tree (j.divisor b.literal) a.alone (in_a operands.0)
+      division_stays place first second (limits.fits (j.node_sum 1 (j.node_sum a.nodes b.nodes)) (max a.nesting b.nesting)) is_quotient a.tree (j.divisor b.literal) a.alone (in_a operands.0)
 
   select_placed : (c a b : Judged) → IsPlaced c → IsPlaced a → IsPlaced b → IsPlaced (j.select c a b)
   unfolding j.select
   select_placed c a b in_c in_a in_b calm =
       let parts = calm_parts first second c.marks (j.both_marks a.marks b.marks) calm in
       let arms = calm_parts first second a.marks b.marks parts.1 in
-      select_stays place first second (j.fits (j.node_sum 1 (j.node_sum c.nodes (j.node_sum a.nodes b.nodes))) (j.deeper (max c.nesting (max a.nesting b.nesting)))) c.tree a.tree b.tree c.alone a.alone b.alone (in_c parts.0) (in_a arms.0) (in_b arms.1)
+      select_stays place first second (limits.fits (j.node_sum 1 (j.node_sum c.nodes (j.node_sum a.nodes b.nodes))) (j.deeper (max c.nesting (max a.nesting b.nesting)))) c.tree a.tree b.tree c.alone a.alone b.alone (in_c parts.0) (in_a arms.0) (in_b arms.1)
 
   -- whether a callee is the Func itself
-  own_is : (callee : Source × ℕ) → j.is_own scope (Some callee) ≡ is_own_call place callee.0
+  own_is : (callee : Source × ℕ) → asked.is_own scope (Some callee) ≡ is_own_call place callee.0
   own_is callee = own_place scope.own place callee.0 own
 
   call_by : (callee : Option (Source × ℕ)) (a : Judged) → IsPlaced a → IsPlaced (j.call_as scope callee a)
   call_by None a in_a calm = tt
   call_by (Some callee) a in_a calm =
-      let parts = calm_parts first second a.marks (j.callee_marks (Some callee) 1 (j.own_marks (j.is_own scope (Some callee)) a.alone None)) calm in
-      call_stays place first second (j.fits (j.node_sum 1 a.nodes) (j.deeper a.nesting)) callee a.tree a.alone (in_a parts.0)
-      (subst (λ (is : Bool). (first && (is && not (j.is_this variables.FirstArgument a.alone))) ≡ false) (own_is callee) parts.1.moves_first)
+      let parts = calm_parts first second a.marks (j.callee_marks (Some callee) 1 (j.own_marks (asked.is_own scope (Some callee)) a.alone None)) calm in
+      call_stays place first second (limits.fits (j.node_sum 1 a.nodes) (j.deeper a.nesting)) callee a.tree a.alone (in_a parts.0)
+      (subst (λ (is : Bool). (first && (is && not (is_alone variables.FirstArgument a.alone))) ≡ false) (own_is callee) parts.1.moves_first)
 
   call_placed : (name : List ℕ) (a : Judged) → IsPlaced a → IsPlaced (j.call reader scope name a)
   unfolding j.call
@@ -313,11 +311,11 @@ module _ (place : ℕ) (first second : Bool) (reader : Reader) (scope : Scope) (
   call_two_by : (callee : Option (Source × ℕ)) (a b : Judged) → IsPlaced a → IsPlaced b → IsPlaced (j.call_two_as scope callee a b)
   call_two_by None a b in_a in_b calm = tt
   call_two_by (Some callee) a b in_a in_b calm =
-      let parts = calm_parts first second (j.both_marks a.marks b.marks) (j.callee_marks (Some callee) 2 (j.own_marks (j.is_own scope (Some callee)) a.alone b.alone)) calm in
+      let parts = calm_parts first second (j.both_marks a.marks b.marks) (j.callee_marks (Some callee) 2 (j.own_marks (asked.is_own scope (Some callee)) a.alone b.alone)) calm in
       let indexes = calm_parts first second a.marks b.marks parts.0 in
-      call_two_stays place first second (j.fits (j.node_sum 1 (j.node_sum a.nodes b.nodes)) (j.deeper (max a.nesting b.nesting))) callee a.tree b.tree a.alone b.alone (in_a indexes.0) (in_b indexes.1)
-      (subst (λ (is : Bool). (first && (is && not (j.is_this variables.FirstArgument a.alone))) ≡ false) (own_is callee) parts.1.moves_first)
-      (subst (λ (is : Bool). (second && (is && not (j.is_this variables.SecondArgument b.alone))) ≡ false) (own_is callee) parts.1.moves_second)
+      call_two_stays place first second (limits.fits (j.node_sum 1 (j.node_sum a.nodes b.nodes)) (j.deeper (max a.nesting b.nesting))) callee a.tree b.tree a.alone b.alone (in_a indexes.0) (in_b indexes.1)
+      (subst (λ (is : Bool). (first && (is && not (is_alone variables.FirstArgument a.alone))) ≡ false) (own_is callee) parts.1.moves_first)
+      (subst (λ (is : Bool). (second && (is && not (is_alone variables.SecondArgument b.alone))) ≡ false) (own_is callee) parts.1.moves_second)
 
   call_two_placed : (name : List ℕ) (a b : Judged) → IsPlaced a → IsPlaced b → IsPlaced (j.call_two reader scope name a b)
   unfolding j.call_two
@@ -343,8 +341,8 @@ module _ (place : ℕ) (first second : Bool) (reader : Reader) (scope : Scope) (
   placed (Minus a) = enclosed_placed (j.binary op.Subtract (j.literal 0) (judge a)) (binary_placed op.Subtract (j.literal 0) (judge a) (literal_placed 0) (placed a))
   placed (Call name a) = call_placed name (judge a) (placed a)
   placed (CallTwo name a b) = call_two_placed name (judge a) (judge b) (placed a) (placed b)
-  placed (Two f a b) = enclosed_placed (j.binary (j.two_operation f) (judge a) (judge b)) (binary_placed (j.two_operation f) (judge a) (judge b) (placed a) (placed b))
+  placed (Two f a b) = enclosed_placed (j.binary (asked.two_operation f) (judge a) (judge b)) (binary_placed (asked.two_operation f) (judge a) (judge b) (placed a) (placed b))
   placed (Three f a b c) = three_placed f (judge a) (judge b) (judge c) (placed a) (placed b) (placed c)
   placed (Product operator a b) = product_placed operator (judge a) (judge b) (placed a) (placed b)
-  placed (Sum operator a b) = binary_placed (j.sum_operation operator) (judge a) (judge b) (placed a) (placed b)
-  placed (Comparison operator a b) = binary_placed (j.comparison_operation operator) (judge a) (judge b) (placed a) (placed b)
+  placed (Sum operator a b) = binary_placed (asked.sum_operation operator) (judge a) (judge b) (placed a) (placed b)
+  placed (Comparison operator a b) = binary_placed (asked.comparison_operation operator) (judge a) (judge b) (placed a) (placed b)

@@ -9,17 +9,17 @@ use Rattle.halide_pipeline.specs.declared.definitions.Func.{Func}
 use Rattle.halide_syntax.specs.declared.lines.Change.{Change}
 use Rattle.halide_syntax.specs.declared.lines.Line.{Line}
 use Rattle.halide_syntax.specs.declared.lines.Line.TheVariants as line
-use Rattle.halide_syntax.specs.Algebra.{Algebra, writing, made as made_of}
+use Rattle.halide_syntax.specs.inner.Algebra.{Algebra, writing, made as made_of}
 use Rattle.halide_syntax.specs.Grammar.{Written}
-use Rattle.halide_syntax.specs.LineGrammar.{made_line, made_index}
-use Rattle.halide_syntax.specs.LineReading.{read_line, with_made}
+use Rattle.halide_syntax.specs.inner.Algebra.{made_line, made_index}
+use Rattle.halide_syntax.specs.inner.LineReading.{read_line, with_made}
 use Rattle.halide_syntax.proofs.MakingLines.{read_line as made}
 use Rattle.halide_parser.specs.declared.judging.Judged.{Judged}
 use Rattle.halide_parser.specs.declared.readers.Reader.{Reader}
-use Rattle.halide_parser.specs.Judging.{judging}
-use Rattle.halide_parser.specs.Meaning.{scope_of, change_scope_of}
+use Rattle.halide_parser.specs.inner.Judging.{judging}
 use Rattle.halide_parser.specs.Readers.{func, func_place}
-use Rattle.halide_parser.specs.Parsing.{judged, judged_line}
+use Rattle.halide_parser.specs.inner.JudgedLines.{judged, judged_line}
+use Rattle.halide_parser.specs.Scopes.{scope_of, change_scope_of}
 use Rattle.halide_parser.specs.Scopes as scopes
 
 same_change : (f : Option Func) (own : Option ℕ) (alg : Algebra Judged) (u : Change Written)

@@ -11,10 +11,10 @@ use Rattle.halide_pipeline.specs.declared.expressions.Source.{Source}
 use Rattle.halide_pipeline.specs.declared.expressions.Source.TheVariants as sources
 use Rattle.halide_pipeline.specs.Definitions.{dimensions}
 use Rattle.halide_pipeline.specs.Names.{lookup, Named}
-use Rattle.halide_pipeline.specs.WellFormed.{IsFunc, is_input, is_output, is_width, is_height, are_dimensions, is_source, is_func_of, is_read}
+use Rattle.halide_pipeline.specs.WellFormed.{are_names, IsFunc, is_input, is_output, is_width, is_height, are_dimensions, is_source, is_func_of, is_read}
 use Rattle.halide_parser.specs.declared.readers.Reader.{Reader}
 use Rattle.halide_parser.specs.declared.scopes.Scope.{Scope}
-use Rattle.halide_parser.specs.Judging as j
+use Rattle.halide_parser.specs.Expressions as asked
 use Rattle.halide_parser.specs.Readers.{source, with_dimensions, func_place, place_of, func_at}
 use Rattle.halide_parser.specs.Readers as rd
 use Rattle.halide_parser.specs.Rules.{is_bad_box, is_bad_extent, height_of, count_with}
@@ -31,6 +31,7 @@ pub record IsKept (reader : Reader) : Type 0 where
   pub few_funcs : nat_le (length reader.funcs) 12 ≡ true
   pub inputs : (place : ℕ) (input : Input) → slice_get reader.inputs place ≡ Some input → is_input input ≡ true
   pub funcs : (place : ℕ) (func : Func) → slice_get reader.funcs place ≡ Some func → IsFunc reader.inputs reader.funcs place func
+  pub short_names : are_names reader.names ≡ true
   pub names : (name : List ℕ) (source : Source) → lookup name reader.names ≡ Some source → is_source reader.inputs reader.funcs source ≡ true
   pub last : (place : ℕ) → reader.last_func ≡ Some place → suc place ≡ length reader.funcs
   pub output : (o : Output) → reader.output ≡ Some o → IsDrawn reader.funcs o
@@ -82,7 +83,7 @@ unfolding source
 may reader scope kept name = may_by reader scope (lookup name reader.names) (kept.names name)
 
 -- and of those the Funcs before the last, where that is the own one
-before_last : (reader : Reader) (place : ℕ) (s : Source) (n : ℕ) → suc place ≡ length reader.funcs → j.is_own_place (Some place) s ≡ false
+before_last : (reader : Reader) (place : ℕ) (s : Source) (n : ℕ) → suc place ≡ length reader.funcs → asked.is_own_place (Some place) s ≡ false
     → is_read reader.inputs reader.funcs (length reader.funcs) s n ≡ true → is_read reader.inputs reader.funcs place s n ≡ true
 before_last reader place (sources.Input at) n last other e = e
 before_last reader place (sources.Func at) n last other e =
@@ -113,6 +114,13 @@ none_of_three true b c e = cc
 none_of_three false true c e = cc
 none_of_three false false true e = cc
 none_of_three false false false e = (refl, refl, refl)
+
+pub none_of_four : (a b c d : Bool) → (a || b || c || d) ≡ false → (a ≡ false) × (b ≡ false) × (c ≡ false) × (d ≡ false)
+none_of_four true b c d e = cc
+none_of_four false true c d e = cc
+none_of_four false false true d e = cc
+none_of_four false false false true e = cc
+none_of_four false false false false e = (refl, refl, refl, refl)
 
 pub all_of_three : (a b c : Bool) → a ≡ true → b ≡ true → c ≡ true → (a && b && c) ≡ true
 all_of_three true true true a_is b_is c_is = refl

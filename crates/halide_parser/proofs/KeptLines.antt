@@ -10,26 +10,31 @@ use Rattle.halide_pipeline.specs.declared.expressions.Source.TheVariants as sour
 use Rattle.halide_pipeline.specs.declared.expressions.Variable.{Variable}
 use Rattle.halide_pipeline.specs.declared.expressions.Variable.TheVariants as variables
 use Rattle.halide_pipeline.specs.Definitions.{dimensions, count_arguments}
-use Rattle.halide_pipeline.specs.WellFormed.{IsFunc, is_input, is_width, is_height, are_dimensions, is_source, is_func_of, is_read, is_argument}
+use Rattle.halide_pipeline.specs.WellFormed.{is_name, is_second_name, IsFunc, is_input, is_width, is_height, are_dimensions, is_source, is_func_of, is_read, is_argument}
 use Rattle.halide_pipeline.proofs.Keeping.{keeps-grows}
 use Rattle.halide_syntax.specs.declared.lines.Definition.{Definition}
 use Rattle.halide_syntax.specs.declared.lines.Extents.{Extents}
 use Rattle.halide_syntax.specs.declared.lines.Line.TheVariants as line
 use Rattle.halide_syntax.specs.declared.tokens.Token.{Token}
-use Rattle.halide_syntax.specs.Algebra.{made}
-use Rattle.halide_syntax.specs.Grammar.{Written}
+use Rattle.halide_syntax.specs.inner.Algebra.{made}
+use Rattle.halide_syntax.specs.Grammar.{Written, IsRight}
 use Rattle.halide_parser.specs.declared.judging.Judged.{Judged}
 use Rattle.halide_parser.specs.declared.readers.Reader.{Reader}
 use Rattle.halide_parser.specs.declared.scopes.Scope.{Scope}
-use Rattle.halide_parser.specs.Judging as j
-use Rattle.halide_parser.specs.Meaning.{tree_of, with_input, with_func, with_output}
+use Rattle.halide_parser.specs.inner.Judging as j
+use Rattle.halide_parser.specs.inner.JudgedLines.{tree_of, tree_or_zero}
+use Rattle.halide_parser.specs.inner.JudgedLines as lines
+use Rattle.halide_parser.specs.Meaning.{with_input, with_func, with_output}
 use Rattle.halide_parser.specs.Rules as r
-use Rattle.halide_parser.specs.Scopes.{is_named, variable}
+use Rattle.halide_pipeline.specs.Names.{is_named}
+use Rattle.halide_parser.specs.Scopes.{variable}
 use Rattle.halide_parser.proofs.Faultless.{IsFaultless}
 use Rattle.halide_parser.proofs.Growing.{get-last, inputs_grow, funcs_grow, func_grows, source-input, source-func, some-last}
 use Rattle.halide_parser.proofs.Keeping.{IsKept, IsDrawn, lookup-last, may, box, counted, named, all_of_three}
 use Rattle.halide_parser.proofs.KeptTrees.{sound, tree_kept}
 use Rattle.halide_parser.proofs.Numbers.{IsSmall}
+use Rattle.halide_parser.proofs.ShortNames.{ShortDefinition, names_join}
+use Rattle.halide_parser.proofs.Sizes.{sized}
 
 pub length-last : {A : Type 0} (xs : List A) (x : A) → length (xs ++ x ∷ []) ≡ suc (length xs)
 length-last [] x = refl
@@ -49,8 +54,8 @@ input_is e good =
     let sizes = box e.width (r.height_of e.height) good in
     all_of_three (is_width e.width) (is_height e.width (r.height_of e.height)) (are_dimensions (r.count_with e.height) (r.height_of e.height)) sizes.0 sizes.1 (counted e.height)
 
-pub input_keeps : (reader : Reader) (tokens : List Token) (e : Extents) → IsKept reader → IsFaultless reader tokens (line.Input e) → IsKept (with_input reader e)
-input_keeps reader tokens e kept right =
+pub input_keeps : (reader : Reader) (tokens : List Token) (e : Extents) → is_name e.name ≡ true → IsKept reader → IsFaultless reader tokens (line.Input e) → IsKept (with_input reader e)
+input_keeps reader tokens e short kept right =
     let parts = or_parts (nat_le 4 (length reader.inputs)) (r.is_bad_box e.width (r.height_of e.height)) right.within in
     let new = new_input e in
     record {
@@ -61,6 +66,7 @@ input_keeps reader tokens e kept right =
         | inr last ↦ subst (λ (i : Input). is_input i ≡ true) last.1 (input_is e parts.1)
       ];
       funcs = λ place func found. func_grows reader.inputs reader.funcs (reader.inputs ++ new ∷ []) reader.funcs (inputs_grow reader.inputs (new ∷ []) reader.funcs) place func (kept.funcs place func found);
+      short_names = names_join reader.names (e.name, sources.Input (length reader.inputs)) kept.short_names short;
       names = λ name s found. elim (lookup-last reader.names (e.name, sources.Input (length reader.inputs)) name s found) [
         | inl before ↦ source-input reader.inputs (new ∷ []) reader.funcs s (kept.names name s before)
         | inr last ↦ subst (λ (x : Source). is_source (reader.inputs ++ new ∷ []) reader.funcs x ≡ true) last (some-last reader.inputs new)
@@ -106,24 +112,28 @@ abbrev judged_definition : Reader → Definition Written → Definition Judged
 judged_definition reader d = record { name = d.name; first_argument = d.first_argument; second_argument = d.second_argument; right = made (j.judging reader (func_scope d)) d.right }
 
 abbrev new_func : Reader → Definition Written → Func
-new_func reader d = record { first_argument = d.first_argument; second_argument = d.second_argument; pure = tree_of (made (j.judging reader (func_scope d)) d.right).tree; updates = [] }
+new_func reader d = record { first_argument = d.first_argument; second_argument = d.second_argument; pure = tree_of (made (j.judging reader (func_scope d)) d.right); updates = [] }
 
-func_is : (reader : Reader) (d : Definition Written) → IsKept reader → IsSmall d.right → (made (j.judging reader (func_scope d)) d.right).marks.is_wrong_count ≡ false
+func_is : (reader : Reader) (tokens : List Token) (d : Definition Written) → IsKept reader → IsSmall d.right → IsRight d.right → ShortDefinition d → IsFaultless reader tokens (line.Func (judged_definition reader d))
     → IsFunc reader.inputs (reader.funcs ++ new_func reader d ∷ []) (length reader.funcs) (new_func reader d)
-func_is reader d kept is_small counts =
+func_is reader tokens d kept is_small written short right =
     let reads = is_read reader.inputs reader.funcs (length reader.funcs) in
     let has = is_argument (count_arguments d.second_argument) in
     let judged = made (j.judging reader (func_scope d)) d.right in
-    let tree = sound reads has false reader (func_scope d) (may reader (func_scope d) kept) (argument_known d.first_argument d.second_argument) d.right is_small (record { counts = counts; own = refl }) in
+    let tree = sound reads has false reader (func_scope d) (may reader (func_scope d) kept) (argument_known d.first_argument d.second_argument) d.right is_small (record { counts = right.counts; own = refl }) in
+    let within = (or_parts (nat_le 12 (length reader.funcs)) (lines.exceeds judged) right.within).1 in
     record {
-      pure = keeps-grows reads (is_read reader.inputs (reader.funcs ++ new_func reader d ∷ []) (length reader.funcs)) has (funcs_grow reader.inputs reader.funcs (new_func reader d ∷ []) (length reader.funcs)) (tree_of judged.tree) (tree_kept reads has judged.tree tree);
+      pure = keeps-grows reads (is_read reader.inputs (reader.funcs ++ new_func reader d ∷ []) (length reader.funcs)) has (funcs_grow reader.inputs reader.funcs (new_func reader d ∷ []) (length reader.funcs)) (tree_of judged) (tree_kept reads has judged.tree tree);
+      pure_sized = sized reader (func_scope d) d.right written (record { known = right.known; counts = right.counts; divisors = right.divisors }) within;
+      arguments = and_from (is_name d.first_argument && is_second_name d.second_argument) (not (is_named d.second_argument d.first_argument)) short.arguments (ap not (or_parts _ _ right.free).1);
       few_updates = refl;
       updates = λ at update found. cc;
+      reductions = λ at update found. cc;
     }
 
-pub func_keeps : (reader : Reader) (tokens : List Token) (d : Definition Written) → IsKept reader → IsSmall d.right → IsFaultless reader tokens (line.Func (judged_definition reader d)) → IsKept (with_func reader (judged_definition reader d))
-func_keeps reader tokens d kept is_small right =
-    let parts = or_parts (nat_le 12 (length reader.funcs)) (r.exceeds (judged_definition reader d).right) right.within in
+pub func_keeps : (reader : Reader) (tokens : List Token) (d : Definition Written) → IsKept reader → IsSmall d.right → IsRight d.right → ShortDefinition d → IsFaultless reader tokens (line.Func (judged_definition reader d)) → IsKept (with_func tree_of reader (judged_definition reader d))
+func_keeps reader tokens d kept is_small written short right =
+    let parts = or_parts (nat_le 12 (length reader.funcs)) (lines.exceeds (judged_definition reader d).right) right.within in
     let new = new_func reader d in
     record {
       few_inputs = kept.few_inputs;
@@ -132,8 +142,9 @@ func_keeps reader tokens d kept is_small right =
       funcs = λ place func found. elim (get-last reader.funcs new place func found) [
         | inl before ↦ func_grows reader.inputs reader.funcs reader.inputs (reader.funcs ++ new ∷ []) (funcs_grow reader.inputs reader.funcs (new ∷ [])) place func (kept.funcs place func before)
         | inr last ↦ subst (λ (f : Func). IsFunc reader.inputs (reader.funcs ++ new ∷ []) place f) last.1
-            (subst (λ (p : ℕ). IsFunc reader.inputs (reader.funcs ++ new ∷ []) p new) (sym last.0) (func_is reader d kept is_small right.counts))
+            (subst (λ (p : ℕ). IsFunc reader.inputs (reader.funcs ++ new ∷ []) p new) (sym last.0) (func_is reader tokens d kept is_small written short right))
       ];
+      short_names = names_join reader.names (d.name, sources.Func (length reader.funcs)) kept.short_names short.name;
       names = λ name s found. elim (lookup-last reader.names (d.name, sources.Func (length reader.funcs)) name s found) [
         | inl before ↦ source-func reader.inputs reader.funcs (new ∷ []) s (kept.names name s before)
         | inr last ↦ subst (λ (x : Source). is_source reader.inputs (reader.funcs ++ new ∷ []) x ≡ true) last (some-last reader.funcs new)
@@ -158,6 +169,7 @@ output_keeps reader tokens e kept right =
       few_funcs = kept.few_funcs;
       inputs = kept.inputs;
       funcs = kept.funcs;
+      short_names = kept.short_names;
       names = kept.names;
       last = kept.last;
       output = λ o found.

@@ -1,5 +1,5 @@
 -- A text that is read names a pipeline that keeps the rules.
-use Rattle.std.proofs.Common.{◌≡◌, ℕ, ◌+◌, false, List, [], ◌∷◌, length, Option, Some, None, Result, Ok, Err, refl, subst}
+use Rattle.std.proofs.Common.{◌≡◌, ℕ, ◌+◌, false, List, [], ◌∷◌, length, Option, Some, None, Result, Ok, Err, refl, sym, subst, ◌∙◌}
 use Rattle.std.specs.declared.alloc.Global.{Global}
 use Rattle.line_text.specs.Reading.{◌>>=◌}
 use Rattle.line_text.specs.Lines.{lines_of}
@@ -13,20 +13,23 @@ use Rattle.halide_syntax.specs.declared.tokens.Token.TheVariants as t
 use Rattle.halide_syntax.specs.declared.lines.Line.{Line}
 use Rattle.halide_syntax.specs.declared.lines.Line.TheVariants as line
 use Rattle.halide_syntax.specs.declared.lines.Change.{Change}
-use Rattle.halide_syntax.specs.Algebra.{writing}
+use Rattle.halide_syntax.specs.inner.Algebra.{writing}
 use Rattle.halide_syntax.specs.Grammar.{Written, spell}
-use Rattle.halide_syntax.specs.LineGrammar.{spell_line, spell_index, spell_argument, spell_bounds, spell_second_bounds}
-use Rattle.halide_syntax.specs.LineReading.{read_line}
+use Rattle.halide_syntax.specs.LineGrammar.{IsRightLine, spell_line, spell_index, spell_argument, spell_bounds, spell_second_bounds}
+use Rattle.halide_syntax.specs.inner.LineReading.{read_line}
 use Rattle.halide_syntax.specs.Tokens.{tokens_of}
 use Rattle.halide_syntax.proofs.LinesBack.{line_written}
 use Rattle.halide_parser.specs.declared.readers.Reader.{Reader}
+use Rattle.halide_parser.specs.inner.JudgedLines.{fault_of, tree_of, judged, judged_line, settled, settled_as, taken}
 use Rattle.halide_parser.specs.Meaning.{applied}
-use Rattle.halide_parser.specs.Parsing.{judged, judged_line, settled, settled_as, taken, start, finished, finished_as, parsed}
-use Rattle.halide_parser.specs.Rules.{fault_of, has_large}
+use Rattle.halide_parser.specs.Parsing.{start, finished, finished_as, parsed}
+use Rattle.halide_parser.specs.Rules.{has_large, has_long}
+use Rattle.halide_parser.proofs.Agreement.{parsed_is}
 use Rattle.halide_parser.proofs.Faultless.{faultless, IsFaultless}
 use Rattle.halide_parser.proofs.Keeping.{IsKept}
 use Rattle.halide_parser.proofs.KeptLines.{input_keeps, func_keeps, output_keeps}
 use Rattle.halide_parser.proofs.KeptUpdates.{update_keeps, IsSmallChange, IsSmallIndex}
+use Rattle.halide_parser.proofs.ShortNames.{AreShort, short_input, short_definition, short_change}
 use Rattle.halide_parser.proofs.Numbers.{AreSmall, IsSmall, small}
 
 -- ---- numbers
@@ -50,30 +53,35 @@ small_change u e =
 
 -- ---- a line
 
-line_keeps : (reader : Reader) (tokens : List Token) (w : Line Written) → tokens ≡ spell_line w → IsKept reader → AreSmall tokens → IsFaultless reader tokens (judged_line reader w) → IsKept (applied reader (judged_line reader w))
-line_keeps reader tokens line.Blank is kept few right = kept
-line_keeps reader tokens (line.Input e) is kept few right = input_keeps reader tokens e kept right
-line_keeps reader tokens (line.Func d) is kept few right = func_keeps reader tokens d kept (small_definition d.name d.first_argument d.second_argument d.right (subst AreSmall is few)) right
-line_keeps reader tokens (line.Update u) is kept few right = update_keeps reader tokens u kept (small_change u (subst AreSmall is few)) right
-line_keeps reader tokens (line.Output e) is kept few right = output_keeps reader tokens e kept right
+line_keeps : (reader : Reader) (tokens : List Token) (w : Line Written) → IsRightLine w → tokens ≡ spell_line w → IsKept reader → AreSmall tokens → AreShort tokens → IsFaultless reader tokens (judged_line reader w) → IsKept (applied tree_of reader (judged_line reader w))
+line_keeps reader tokens line.Blank written is kept few short right = kept
+line_keeps reader tokens (line.Input e) written is kept few short right = input_keeps reader tokens e (short_input e (subst AreShort is short)) kept right
+line_keeps reader tokens (line.Func d) written is kept few short right = func_keeps reader tokens d kept (small_definition d.name d.first_argument d.second_argument d.right (subst AreSmall is few)) written (short_definition d (subst AreShort is short)) right
+line_keeps reader tokens (line.Update u) written is kept few short right =
+    update_keeps reader tokens u kept (small_change u (subst AreSmall is few)) (record { left_x = written.0; left_y = written.1; right = written.2 }) (short_change u (subst AreShort is short)) right
+line_keeps reader tokens (line.Output e) written is kept few short right = output_keeps reader tokens e kept right
 
 are_small : (tokens : List Token) → has_large tokens ≡ false → AreSmall tokens
 unfolding has_large
 are_small tokens e = e
 
-by_fault : (reader : Reader) (tokens : List Token) (w : Line Written) (fault : Option ParseFault) (next : Reader) → tokens ≡ spell_line w → IsKept reader → fault_of reader tokens (judged_line reader w) ≡ fault
+are_short : (tokens : List Token) → has_long tokens ≡ false → AreShort tokens
+unfolding has_long
+are_short tokens e = e
+
+by_fault : (reader : Reader) (tokens : List Token) (w : Line Written) (fault : Option ParseFault) (next : Reader) → IsRightLine w → tokens ≡ spell_line w → IsKept reader → fault_of reader tokens (judged_line reader w) ≡ fault
     → settled_as reader (judged_line reader w) fault ≡ Ok next → IsKept next
-by_fault reader tokens w (Some fault) next is kept faulty e = cc
-by_fault reader tokens w None next is kept faulty e =
+by_fault reader tokens w (Some fault) next written is kept faulty e = cc
+by_fault reader tokens w None next written is kept faulty e =
     let right = faultless reader tokens (judged_line reader w) faulty in
-    let same : applied reader (judged_line reader w) ≡ next = cc in
-    subst IsKept same (line_keeps reader tokens w is kept (are_small tokens right.small) right)
+    let same : applied tree_of reader (judged_line reader w) ≡ next = cc in
+    subst IsKept same (line_keeps reader tokens w written is kept (are_small tokens right.small) (are_short tokens right.short) right)
 
 by_written : (reader : Reader) (tokens : List Token) (given : Result (Line Written) ParseFault) (next : Reader) → read_line writing tokens ≡ given → IsKept reader
     → ((given >>= λ w. Ok (judged_line reader w)) >>= λ l. settled reader tokens l) ≡ Ok next → IsKept next
 by_written reader tokens (Err fault) next is kept e = cc
 by_written reader tokens (Ok w) next is kept e =
-    by_fault reader tokens w (fault_of reader tokens (judged_line reader w)) next (line_written tokens w is).1 kept refl e
+    by_fault reader tokens w (fault_of reader tokens (judged_line reader w)) next (line_written tokens w is).0 (line_written tokens w is).1 kept refl e
 
 by_tokens : (reader : Reader) (given : Result (List Token) ParseFault) (next : Reader) → IsKept reader → (given >>= λ tokens. judged reader tokens >>= λ l. settled reader tokens l) ≡ Ok next → IsKept next
 unfolding judged
@@ -103,6 +111,7 @@ start_kept alloc text = record {
   few_funcs = refl;
   inputs = λ place input found. cc;
   funcs = λ place func found. cc;
+  short_names = refl;
   names = λ name source found. cc;
   last = λ place is. cc;
   output = λ o is. cc;
@@ -120,6 +129,7 @@ by_output count reader (Some o) pipeline is kept e =
       few_funcs = kept.few_funcs;
       inputs = kept.inputs;
       funcs = kept.funcs;
+      short_names = kept.short_names;
       names = kept.names;
       output = drawn.output;
       drawn = drawn.drawn;
@@ -131,6 +141,5 @@ by_reader count (Err fault) pipeline kept e = cc
 by_reader count (Ok reader) pipeline kept e = by_output count reader reader.output pipeline refl (kept reader refl) e
 
 pub parsed_keeps : (alloc : Global) (text : List ℕ) (pipeline : Pipeline) → parsed alloc text ≡ Ok pipeline → IsWellFormed pipeline
-unfolding parsed
 parsed_keeps alloc text pipeline e =
-    by_reader (length (lines_of text)) (taken_from taken 1 (start alloc text) (lines_of text)) pipeline (λ reader is. lines_keep 1 (start alloc text) (lines_of text) reader (start_kept alloc text) is) e
+    by_reader (length (lines_of text)) (taken_from taken 1 (start alloc text) (lines_of text)) pipeline (λ reader is. lines_keep 1 (start alloc text) (lines_of text) reader (start_kept alloc text) is) (sym (parsed_is alloc text) ∙ e)

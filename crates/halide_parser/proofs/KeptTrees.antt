@@ -9,19 +9,21 @@ use Rattle.halide_pipeline.specs.declared.expressions.Operation.TheVariants as o
 use Rattle.halide_pipeline.specs.declared.expressions.Source.{Source}
 use Rattle.halide_pipeline.specs.declared.expressions.Variable.{Variable}
 use Rattle.halide_pipeline.specs.WellFormed.{keeps, keeps_at, is_divisor}
+use Rattle.halide_pipeline.specs.WellFormed as limits
 use Rattle.halide_pipeline.proofs.Trees.{at_number, at_variable, at_binary, at_divide, at_remainder, at_select, at_call1, at_call2}
 use Rattle.halide_syntax.specs.declared.tokens.ProductOperator.{ProductOperator}
 use Rattle.halide_syntax.specs.declared.tokens.ProductOperator.TheVariants as products
 use Rattle.halide_syntax.specs.declared.tokens.ThreeFunction.{ThreeFunction}
 use Rattle.halide_syntax.specs.declared.tokens.ThreeFunction.TheVariants as threes
-use Rattle.halide_syntax.specs.Algebra.{made}
+use Rattle.halide_syntax.specs.inner.Algebra.{made}
 use Rattle.halide_syntax.specs.Grammar.{Written, Literal, Bare, Group, Minus, Call, CallTwo, Two, Three, Product, Sum, Comparison}
 use Rattle.halide_parser.specs.declared.judging.Judged.{Judged}
 use Rattle.halide_parser.specs.declared.judging.Marks.{Marks}
 use Rattle.halide_parser.specs.declared.readers.Reader.{Reader}
 use Rattle.halide_parser.specs.declared.scopes.Scope.{Scope}
-use Rattle.halide_parser.specs.Judging as j
-use Rattle.halide_parser.specs.Meaning.{tree_of}
+use Rattle.halide_parser.specs.inner.Judging as j
+use Rattle.halide_parser.specs.inner.JudgedLines.{tree_or_zero}
+use Rattle.halide_parser.specs.Expressions as asked
 use Rattle.halide_parser.specs.Readers.{source}
 use Rattle.halide_parser.specs.Scopes.{variable}
 use Rattle.halide_parser.proofs.Numbers.{IsSmall}
@@ -32,7 +34,7 @@ module _ (reads : Source → ℕ → Bool) (has : Variable → Bool) where
   Keeps None = Unit {0}
   Keeps (Some tree) = keeps reads has tree ≡ true
 
-  pub tree_kept : (tree : Option Expr) → Keeps tree → keeps reads has (tree_of tree) ≡ true
+  pub tree_kept : (tree : Option Expr) → Keeps tree → keeps reads has (tree_or_zero tree) ≡ true
   unfolding keeps
   tree_kept None kept = at_number Bool (keeps_at reads has) 0
   tree_kept (Some tree) kept = kept
@@ -115,7 +117,7 @@ clean_parts s a b clean =
 -- the source may be read, unless it is the own Func where that is not to be called
 abbrev pub MayRead : (Source → ℕ → Bool) → Bool → Scope → Option (Source × ℕ) → Type 0
 MayRead reads is_strict scope None = Unit {0}
-MayRead reads is_strict scope (Some callee) = (is_strict && j.is_own scope (Some callee)) ≡ false → reads callee.0 callee.1 ≡ true
+MayRead reads is_strict scope (Some callee) = (is_strict && asked.is_own scope (Some callee)) ≡ false → reads callee.0 callee.1 ≡ true
 
 module _ (reads : Source → ℕ → Bool) (has : Variable → Bool) (is_strict : Bool) (reader : Reader) (scope : Scope)
     (may : (name : List ℕ) → MayRead reads is_strict scope (source reader name))
@@ -127,11 +129,11 @@ module _ (reads : Source → ℕ → Bool) (has : Variable → Bool) (is_strict 
   unfolding j.binary
   binary_sound operation a b in_a in_b clean =
       let parts = clean_parts is_strict a.marks b.marks clean in
-      binary_kept reads has (j.fits (j.node_sum 1 (j.node_sum a.nodes b.nodes)) (max a.nesting b.nesting)) operation a.tree b.tree (in_a parts.0) (in_b parts.1)
+      binary_kept reads has (limits.fits (j.node_sum 1 (j.node_sum a.nodes b.nodes)) (max a.nesting b.nesting)) operation a.tree b.tree (in_a parts.0) (in_b parts.1)
 
   enclosed_sound : (a : Judged) → Sound a → Sound (j.enclosed a)
   unfolding j.enclosed
-  enclosed_sound a in_a clean = kept_kept reads has (j.fits a.nodes (j.deeper a.nesting)) a.tree (in_a clean)
+  enclosed_sound a in_a clean = kept_kept reads has (limits.fits a.nodes (j.deeper a.nesting)) a.tree (in_a clean)
 
   literal_sound : (n : ℕ) → IsSmall (Literal n) → Sound (j.literal n)
   unfolding keeps
@@ -145,14 +147,14 @@ module _ (reads : Source → ℕ → Bool) (has : Variable → Bool) (is_strict 
   divided_sound is_quotient a b in_a clean =
       let parts = clean_parts is_strict (j.both_marks a.marks b.marks) (j.divisor_marks (j.divisor b.literal)) clean in
       let operands = clean_parts is_strict a.marks b.marks parts.0 in
-      division_kept reads has (j.fits (j.node_sum 1 (j.node_sum a.nodes b.nodes)) (max a.nesting b.nesting)) is_quotient a.tree (j.divisor b.literal) (in_a operands.0) (divisor_is reads has b.literal)
+      division_kept reads has (limits.fits (j.node_sum 1 (j.node_sum a.nodes b.nodes)) (max a.nesting b.nesting)) is_quotient a.tree (j.divisor b.literal) (in_a operands.0) (divisor_is reads has b.literal)
 
   select_sound : (c a b : Judged) → Sound c → Sound a → Sound b → Sound (j.select c a b)
   unfolding j.select
   select_sound c a b in_c in_a in_b clean =
       let parts = clean_parts is_strict c.marks (j.both_marks a.marks b.marks) clean in
       let arms = clean_parts is_strict a.marks b.marks parts.1 in
-      select_kept reads has (j.fits (j.node_sum 1 (j.node_sum c.nodes (j.node_sum a.nodes b.nodes))) (j.deeper (max c.nesting (max a.nesting b.nesting)))) c.tree a.tree b.tree (in_c parts.0) (in_a arms.0) (in_b arms.1)
+      select_kept reads has (limits.fits (j.node_sum 1 (j.node_sum c.nodes (j.node_sum a.nodes b.nodes))) (j.deeper (max c.nesting (max a.nesting b.nesting)))) c.tree a.tree b.tree (in_c parts.0) (in_a arms.0) (in_b arms.1)
 
   -- the number of arguments is that of the dimensions
   counted : (callee : Source × ℕ) (count : ℕ) → (not (callee.1 == count) || false) ≡ false → reads callee.0 callee.1 ≡ true → reads callee.0 count ≡ true
@@ -163,8 +165,8 @@ module _ (reads : Source → ℕ → Bool) (has : Variable → Bool) (is_strict 
   call_by : (callee : Option (Source × ℕ)) (a : Judged) → MayRead reads is_strict scope callee → Sound a → Sound (j.call_as scope callee a)
   call_by None a allowed in_a clean = tt
   call_by (Some callee) a allowed in_a clean =
-      let parts = clean_parts is_strict a.marks (j.callee_marks (Some callee) 1 (j.own_marks (j.is_own scope (Some callee)) a.alone None)) clean in
-      call_kept reads has (j.fits (j.node_sum 1 a.nodes) (j.deeper a.nesting)) callee a.tree (counted callee 1 parts.1.counts (allowed parts.1.own)) (in_a parts.0)
+      let parts = clean_parts is_strict a.marks (j.callee_marks (Some callee) 1 (j.own_marks (asked.is_own scope (Some callee)) a.alone None)) clean in
+      call_kept reads has (limits.fits (j.node_sum 1 a.nodes) (j.deeper a.nesting)) callee a.tree (counted callee 1 parts.1.counts (allowed parts.1.own)) (in_a parts.0)
 
   call_sound : (name : List ℕ) (a : Judged) → Sound a → Sound (j.call reader scope name a)
   unfolding j.call
@@ -173,9 +175,9 @@ module _ (reads : Source → ℕ → Bool) (has : Variable → Bool) (is_strict 
   call_two_by : (callee : Option (Source × ℕ)) (a b : Judged) → MayRead reads is_strict scope callee → Sound a → Sound b → Sound (j.call_two_as scope callee a b)
   call_two_by None a b allowed in_a in_b clean = tt
   call_two_by (Some callee) a b allowed in_a in_b clean =
-      let parts = clean_parts is_strict (j.both_marks a.marks b.marks) (j.callee_marks (Some callee) 2 (j.own_marks (j.is_own scope (Some callee)) a.alone b.alone)) clean in
+      let parts = clean_parts is_strict (j.both_marks a.marks b.marks) (j.callee_marks (Some callee) 2 (j.own_marks (asked.is_own scope (Some callee)) a.alone b.alone)) clean in
       let indexes = clean_parts is_strict a.marks b.marks parts.0 in
-      call_two_kept reads has (j.fits (j.node_sum 1 (j.node_sum a.nodes b.nodes)) (j.deeper (max a.nesting b.nesting))) callee a.tree b.tree (counted callee 2 parts.1.counts (allowed parts.1.own)) (in_a indexes.0) (in_b indexes.1)
+      call_two_kept reads has (limits.fits (j.node_sum 1 (j.node_sum a.nodes b.nodes)) (j.deeper (max a.nesting b.nesting))) callee a.tree b.tree (counted callee 2 parts.1.counts (allowed parts.1.own)) (in_a indexes.0) (in_b indexes.1)
 
   call_two_sound : (name : List ℕ) (a b : Judged) → Sound a → Sound b → Sound (j.call_two reader scope name a b)
   unfolding j.call_two
@@ -201,8 +203,8 @@ module _ (reads : Source → ℕ → Bool) (has : Variable → Bool) (is_strict 
   sound (Minus a) small = enclosed_sound (j.binary op.Subtract (j.literal 0) (judge a)) (binary_sound op.Subtract (j.literal 0) (judge a) (literal_sound 0 refl) (sound a small))
   sound (Call name a) small = call_sound name (judge a) (sound a small)
   sound (CallTwo name a b) small = call_two_sound name (judge a) (judge b) (sound a small.0) (sound b small.1)
-  sound (Two f a b) small = enclosed_sound (j.binary (j.two_operation f) (judge a) (judge b)) (binary_sound (j.two_operation f) (judge a) (judge b) (sound a small.0) (sound b small.1))
+  sound (Two f a b) small = enclosed_sound (j.binary (asked.two_operation f) (judge a) (judge b)) (binary_sound (asked.two_operation f) (judge a) (judge b) (sound a small.0) (sound b small.1))
   sound (Three f a b c) small = three_sound f (judge a) (judge b) (judge c) (sound a small.0) (sound b small.1) (sound c small.2)
   sound (Product operator a b) small = product_sound operator (judge a) (judge b) (sound a small.0) (sound b small.1)
-  sound (Sum operator a b) small = binary_sound (j.sum_operation operator) (judge a) (judge b) (sound a small.0) (sound b small.1)
-  sound (Comparison operator a b) small = binary_sound (j.comparison_operation operator) (judge a) (judge b) (sound a small.0) (sound b small.1)
+  sound (Sum operator a b) small = binary_sound (asked.sum_operation operator) (judge a) (judge b) (sound a small.0) (sound b small.1)
+  sound (Comparison operator a b) small = binary_sound (asked.comparison_operation operator) (judge a) (judge b) (sound a small.0) (sound b small.1)

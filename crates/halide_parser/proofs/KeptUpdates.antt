@@ -3,6 +3,7 @@ use Rattle.std.proofs.Common.{◌≡◌, ℕ, zero, suc, ◌-◌, ◌+◌, ◌�
 use Rattle.std.specs.Prelude.{◌==◌, ◌&&◌, ◌||◌, ◌^◌, ◌%◌, nat_le, nat_lt, slice_get, is_some}
 use Rattle.std.proofs.Math.Nat.{mod-eq_of_lt}
 use Rattle.std.proofs.lemmas.Bool.{and_from, or_parts, or_left, or_right, not-false, ltb-false, le-leb, eqb-true}
+use Rattle.std.specs.Str.{bytes_eq}
 use Rattle.halide_pipeline.specs.declared.definitions.Func.{Func}
 use Rattle.halide_pipeline.specs.declared.definitions.Update.{Update}
 use Rattle.halide_pipeline.specs.declared.expressions.Variable.{Variable}
@@ -11,30 +12,36 @@ use Rattle.halide_pipeline.specs.Definitions.{dimensions, is_first_in_place, is_
 use Rattle.halide_pipeline.specs.Expressions.{uses}
 use Rattle.halide_pipeline.specs.Words.{subtract}
 use Rattle.halide_pipeline.specs.WellFormed as w
-use Rattle.halide_pipeline.specs.WellFormed.{IsFunc, IsUpdate, is_read, is_update_variable, keeps, keeps_index, is_minimum, is_second_minimum, is_box, is_width, is_height}
+use Rattle.halide_pipeline.specs.WellFormed.{is_alone, IsFunc, IsUpdate, is_read, is_update_variable, keeps, keeps_index, is_minimum, is_second_minimum, is_box, is_width, is_height}
 use Rattle.halide_syntax.specs.declared.lines.Bounds.{Bounds}
 use Rattle.halide_syntax.specs.declared.lines.Change.{Change}
 use Rattle.halide_syntax.specs.declared.lines.Line.TheVariants as line
 use Rattle.halide_syntax.specs.declared.tokens.Token.{Token}
-use Rattle.halide_syntax.specs.Algebra.{made}
-use Rattle.halide_syntax.specs.Grammar.{Written}
-use Rattle.halide_syntax.specs.LineGrammar.{made_index}
+use Rattle.halide_syntax.specs.inner.Algebra.{made}
+use Rattle.halide_syntax.specs.Grammar.{Written, IsRight}
+use Rattle.halide_syntax.specs.LineGrammar.{IsRightIndex}
+use Rattle.halide_syntax.specs.inner.Algebra.{made_index}
 use Rattle.halide_parser.specs.declared.judging.Judged.{Judged}
 use Rattle.halide_parser.specs.declared.readers.Reader.{Reader}
 use Rattle.halide_parser.specs.declared.scopes.Scope.{Scope}
-use Rattle.halide_parser.specs.Judging as j
-use Rattle.halide_parser.specs.Meaning.{known_scope, change_scope, change_scope_of, bounds_name, tree_of, second_tree, reduction_of, second_reduction, update_of, with_update, applied}
+use Rattle.halide_parser.specs.inner.Judging as j
+use Rattle.halide_parser.specs.inner.JudgedLines.{tree_of}
+use Rattle.halide_parser.specs.inner.JudgedLines as lines
+use Rattle.halide_parser.specs.Meaning.{second_tree, reduction_of, second_reduction, update_of, with_update, applied}
 use Rattle.halide_parser.specs.Readers as rd
 use Rattle.halide_parser.specs.Rules as r
-use Rattle.halide_parser.specs.Scopes.{is_named, variable}
+use Rattle.halide_pipeline.specs.Names.{is_named}
+use Rattle.halide_parser.specs.Scopes.{variable, known_scope, change_scope, change_scope_of, bounds_name}
 use Rattle.halide_parser.proofs.Faultless.{IsFaultless}
 use Rattle.halide_parser.proofs.InPlace.{Calm, calm_parts, Stays, stays_there, placed, strict_join, unused_none}
 use Rattle.halide_parser.proofs.Growing.{get-last, updates_grow, func_grows, update_grows, source-update, get-update, length-update, updated}
-use Rattle.halide_parser.proofs.Keeping.{IsKept, IsNamed, may, may_before, box, named, none_of_three}
+use Rattle.halide_parser.proofs.Keeping.{IsKept, IsNamed, may, may_before, box, named, none_of_three, none_of_four}
 use Rattle.halide_parser.proofs.KeptLines.{picked, two_arguments, no_output, one_more}
 use Rattle.halide_parser.proofs.KeptTrees.{Clean, clean_parts, sound, tree_kept}
 use Rattle.halide_parser.proofs.Numbers.{IsSmall}
-use Rattle.halide_parser.proofs.Wholeness.{IsPlain, plain_parts, fits_is, whole}
+use Rattle.halide_parser.proofs.ShortNames.{ShortChange}
+use Rattle.halide_parser.proofs.Sizes.{sized}
+use Rattle.halide_parser.proofs.Wholeness.{IsPlain, plain_parts, fits_is, some_tree}
 
 -- ---- variables
 
@@ -75,13 +82,6 @@ box_is first (Some b) e = let sizes = box first.extent b.extent e in and_from (i
 
 -- ---- expressions
 
-none_of_four : (a b c d : Bool) → (a || b || c || d) ≡ false → (a ≡ false) × (b ≡ false) × (c ≡ false) × (d ≡ false)
-none_of_four true b c d e = cc
-none_of_four false true c d e = cc
-none_of_four false false true d e = cc
-none_of_four false false false true e = cc
-none_of_four false false false false e = (refl, refl, refl, refl)
-
 -- the branch that is taken, told apart
 told : (s m u : Bool) → cond s m u ≡ false → ((not s && u) ≡ false) × ((s && m) ≡ false)
 told true m u e = (refl, e)
@@ -110,6 +110,11 @@ abbrev pub IsSmallIndex : Option Written → Type 0
 IsSmallIndex None = Unit {0}
 IsSmallIndex (Some index) = IsSmall index
 
+pub record IsRightChange (u : Change Written) : Type 0 where
+  pub left_x : IsRight u.left_x
+  pub left_y : IsRightIndex u.left_y
+  pub right : IsRight u.right
+
 pub record IsSmallChange (u : Change Written) : Type 0 where
   pub left_x : IsSmall u.left_x
   pub left_y : IsSmallIndex u.left_y
@@ -129,22 +134,22 @@ module _ (reader : Reader) (scope : Scope) (u : Change Written) (kept : IsKept r
   abbrev judge : Written → Judged
   judge = made (j.judging reader scope)
 
-  left_kept : (index : Written) → IsSmall index → Clean true (judge index).marks → keeps (is_read reader.inputs reader.funcs is.place) has (tree_of (judge index).tree) ≡ true
+  left_kept : (index : Written) → IsSmall index → Clean true (judge index).marks → keeps (is_read reader.inputs reader.funcs is.place) has (tree_of (judge index)) ≡ true
   left_kept index is_small clean =
       let reads = is_read reader.inputs reader.funcs is.place in
       tree_kept reads has (judge index).tree (sound reads has true reader scope (may_before reader scope is.place kept own last) known index is_small clean)
 
-  index_kept : (index : Option Written) → IsSmallIndex index → Clean true (r.marks_of (made_index (j.judging reader scope) index)) → (dimensions is.func == r.count_with (made_index (j.judging reader scope) index)) ≡ true
-      → keeps_index (is_read reader.inputs reader.funcs is.place) has (dimensions is.func) (second_tree (made_index (j.judging reader scope) index)) ≡ true
+  index_kept : (index : Option Written) → IsSmallIndex index → Clean true (lines.marks_of (made_index (j.judging reader scope) index)) → (dimensions is.func == r.count_with (made_index (j.judging reader scope) index)) ≡ true
+      → keeps_index (is_read reader.inputs reader.funcs is.place) has (dimensions is.func) (second_tree tree_of (made_index (j.judging reader scope) index)) ≡ true
   index_kept None is_small clean counts = counts
   index_kept (Some index) is_small clean counts =
-      and_from (dimensions is.func == 2) (keeps (is_read reader.inputs reader.funcs is.place) has (tree_of (judge index).tree)) counts (left_kept index is_small clean)
+      and_from (dimensions is.func == 2) (keeps (is_read reader.inputs reader.funcs is.place) has (tree_of (judge index))) counts (left_kept index is_small clean)
 
-  right_kept : IsSmall u.right → Clean false (judge u.right).marks → keeps (is_read reader.inputs reader.funcs (suc is.place)) has (tree_of (judge u.right).tree) ≡ true
+  right_kept : IsSmall u.right → Clean false (judge u.right).marks → keeps (is_read reader.inputs reader.funcs (suc is.place)) has (tree_of (judge u.right)) ≡ true
   right_kept is_small clean =
       let reads = is_read reader.inputs reader.funcs (length reader.funcs) in
       let tree = tree_kept reads has (judge u.right).tree (sound reads has false reader scope (may reader scope kept) known u.right is_small clean) in
-      subst (λ (n : ℕ). keeps (is_read reader.inputs reader.funcs n) has (tree_of (judge u.right).tree) ≡ true) (sym last) tree
+      subst (λ (n : ℕ). keeps (is_read reader.inputs reader.funcs n) has (tree_of (judge u.right)) ≡ true) (sym last) tree
 
   abbrev change : Change Judged
   change = judged_change reader scope u
@@ -152,37 +157,37 @@ module _ (reader : Reader) (scope : Scope) (u : Change Written) (kept : IsKept r
   -- ---- arguments in place
 
   abbrev first : Bool
-  first = j.is_this variables.FirstArgument change.left_x.alone
+  first = is_alone variables.FirstArgument change.left_x.alone
 
   abbrev second : Bool
-  second = r.is_in_place change.left_y variables.SecondArgument
+  second = lines.is_in_place change.left_y variables.SecondArgument
 
-  calm : r.is_moved change ≡ false → Calm first second (r.change_marks change)
+  calm : lines.is_moved change ≡ false → Calm first second (lines.change_marks change)
   calm shape =
-      let moved = none_of_three (r.left_marks change).calls_own _ _ shape in
-      let in_first = told first (r.change_marks change).moves_first (r.change_marks change).uses_first moved.1 in
-      let in_second = told second (r.change_marks change).moves_second (r.change_marks change).uses_second moved.2 in
+      let moved = none_of_three (lines.left_marks change).calls_own _ _ shape in
+      let in_first = told first (lines.change_marks change).moves_first (lines.change_marks change).uses_first moved.1 in
+      let in_second = told second (lines.change_marks change).moves_second (lines.change_marks change).uses_second moved.2 in
       record { uses_first = in_first.0; uses_second = in_second.0; moves_first = in_first.1; moves_second = in_second.1 }
 
-  plain : (tokens : List Token) → IsFaultless reader tokens (line.Update change) → IsPlain (r.change_marks change)
+  plain : (tokens : List Token) → IsFaultless reader tokens (line.Update change) → IsPlain (lines.change_marks change)
   plain tokens right = record {
-    known = (or_parts (not (r.is_func reader u.name)) (r.change_marks change).is_unknown right.known).1;
-    counts = (or_parts (r.is_other_count reader u.name (r.count_with change.left_y)) (r.change_marks change).is_wrong_count right.counts).1;
+    known = (or_parts (not (r.is_func reader u.name)) (lines.change_marks change).is_unknown right.known).1;
+    counts = (or_parts (r.is_other_count reader u.name (r.count_with change.left_y)) (lines.change_marks change).is_wrong_count right.counts).1;
     divisors = right.divisors;
   }
 
-  side_stays : (side : Written) → IsPlain (judge side).marks → r.exceeds (judge side) ≡ false → Calm first second (judge side).marks → Stays is.place first second (tree_of (judge side).tree) (judge side).alone
+  side_stays : (side : Written) → IsPlain (judge side).marks → lines.exceeds (judge side) ≡ false → Calm first second (judge side).marks → Stays is.place first second (tree_of (judge side)) (judge side).alone
   side_stays side in_plain fits in_calm =
-      let some = whole reader scope side in_plain (fits_is (judge side).nodes (judge side).nesting (not-false (j.fits (judge side).nodes (judge side).nesting) fits)) in
+      let some = some_tree reader scope side in_plain (fits_is (judge side).nodes (judge side).nesting (not-false (w.fits (judge side).nodes (judge side).nesting) fits)) in
       stays_there is.place first second (judge side).tree (judge side).alone some (placed is.place first second reader scope own side in_calm)
 
   -- what is known of the second index
   record IndexStays (judged : Option Judged) : Type 0 where
-    in_first : (not first && w.is_used_in variables.FirstArgument (second_tree judged)) ≡ false
-    in_second : (not second && w.is_used_in variables.SecondArgument (second_tree judged)) ≡ false
-    stands : is_second (second_tree judged) ≡ r.is_in_place judged variables.SecondArgument
+    in_first : (not first && w.is_used_in variables.FirstArgument (second_tree tree_of judged)) ≡ false
+    in_second : (not second && w.is_used_in variables.SecondArgument (second_tree tree_of judged)) ≡ false
+    stands : is_second (second_tree tree_of judged) ≡ lines.is_in_place judged variables.SecondArgument
 
-  index_stays : (index : Option Written) → IsPlain (r.marks_of (made_index (j.judging reader scope) index)) → r.second_exceeds (made_index (j.judging reader scope) index) ≡ false → Calm first second (r.marks_of (made_index (j.judging reader scope) index))
+  index_stays : (index : Option Written) → IsPlain (lines.marks_of (made_index (j.judging reader scope) index)) → r.second_exceeds lines.exceeds (made_index (j.judging reader scope) index) ≡ false → Calm first second (lines.marks_of (made_index (j.judging reader scope) index))
       → IndexStays (made_index (j.judging reader scope) index)
   index_stays None in_plain fits in_calm = record { in_first = unused_none first; in_second = unused_none second; stands = refl }
   index_stays (Some index) in_plain fits in_calm =
@@ -190,20 +195,20 @@ module _ (reader : Reader) (scope : Scope) (u : Change Written) (kept : IsKept r
       record { in_first = stays.unused.in_first; in_second = stays.unused.in_second; stands = stays.variable variables.SecondArgument }
 
   abbrev new : Update
-  new = update_of change
+  new = update_of tree_of change
 
   record ArePlaced : Type 0 where
     first_argument : (is_first_in_place new || not (w.is_used variables.FirstArgument new)) ≡ true
     second_argument : (is_second_in_place new || not (w.is_used variables.SecondArgument new)) ≡ true
     own_calls : (w.calls_in_place is.place (is_first_in_place new) (is_second_in_place new) new.right).stays ≡ true
 
-  are_placed : (tokens : List Token) → IsFaultless reader tokens (line.Update change) → r.is_moved change ≡ false → (r.exceeds change.left_x || r.second_exceeds change.left_y || r.exceeds change.right) ≡ false → ArePlaced
+  are_placed : (tokens : List Token) → IsFaultless reader tokens (line.Update change) → lines.is_moved change ≡ false → (lines.exceeds change.left_x || r.second_exceeds lines.exceeds change.left_y || lines.exceeds change.right) ≡ false → ArePlaced
   are_placed tokens right shape within =
-      let sizes = none_of_three (r.exceeds change.left_x) (r.second_exceeds change.left_y) (r.exceeds change.right) within in
-      let all_plain = plain_parts (r.left_marks change) change.right.marks (plain tokens right) in
-      let left_plain = plain_parts change.left_x.marks (r.marks_of change.left_y) all_plain.0 in
-      let all_calm = calm_parts first second (r.left_marks change) change.right.marks (calm shape) in
-      let left_calm = calm_parts first second change.left_x.marks (r.marks_of change.left_y) all_calm.0 in
+      let sizes = none_of_three (lines.exceeds change.left_x) (r.second_exceeds lines.exceeds change.left_y) (lines.exceeds change.right) within in
+      let all_plain = plain_parts (lines.left_marks change) change.right.marks (plain tokens right) in
+      let left_plain = plain_parts change.left_x.marks (lines.marks_of change.left_y) all_plain.0 in
+      let all_calm = calm_parts first second (lines.left_marks change) change.right.marks (calm shape) in
+      let left_calm = calm_parts first second change.left_x.marks (lines.marks_of change.left_y) all_calm.0 in
       let x = side_stays u.left_x left_plain.0 sizes.0 left_calm.0 in
       let y = index_stays u.left_y left_plain.1 sizes.1 left_calm.1 in
       let side = side_stays u.right all_plain.1 sizes.2 all_calm.1 in
@@ -220,16 +225,40 @@ module _ (reader : Reader) (scope : Scope) (u : Change Written) (kept : IsKept r
             (subst (λ (b : Bool). (w.calls_in_place is.place first b new.right).stays ≡ true) (sym is_second) side.stays);
       }
 
-  new_update : (tokens : List Token) → IsSmallChange u → IsFaultless reader tokens (line.Update change) → IsUpdate reader.inputs reader.funcs is.place (dimensions is.func) (update_of change)
-  new_update tokens is_small right =
-      let limits = none_of_four (r.is_full reader u.name) (r.exceeds change.left_x || r.second_exceeds change.left_y || r.exceeds change.right) (nat_lt 0x1000000 u.first.minimum || r.is_second_far u.second) (r.is_bad_box u.first.extent (r.second_extent u.second)) right.within in
+  index_sized : (index : Option Written) → IsRightIndex index → IsPlain (lines.marks_of (made_index (j.judging reader scope) index)) → r.second_exceeds lines.exceeds (made_index (j.judging reader scope) index) ≡ false
+      → w.is_second_sized (second_tree tree_of (made_index (j.judging reader scope) index)) ≡ true
+  index_sized None written in_plain within = refl
+  index_sized (Some index) written in_plain within = sized reader scope index written in_plain within
+
+  new_reductions : (tokens : List Token) → ShortChange u → IsFaultless reader tokens (line.Update change) → w.are_reductions is.func.first_argument is.func.second_argument (update_of tree_of change) ≡ true
+  new_reductions tokens short right =
+      let taken = or_parts (r.is_argument reader u.name u.first.name) (r.is_second_taken reader u.name u.first.name u.second) right.free in
+      let first : w.is_argument_name is.func.first_argument is.func.second_argument u.first.name ≡ false = ap (λ (f : Option Func). r.is_argument_of f u.first.name) (sym is.func_is) ∙ taken.0 in
+      and_from (w.is_name u.first.name && not (w.is_argument_name is.func.first_argument is.func.second_argument u.first.name)) (w.is_second_reduction is.func.first_argument is.func.second_argument u.first.name (second_reduction u.second))
+      (and_from (w.is_name u.first.name) (not (w.is_argument_name is.func.first_argument is.func.second_argument u.first.name)) short.first (ap not first))
+      (second_apart u.second short.second taken.1)
+    where
+      second_apart : (second : Option Bounds) → w.is_second_name (bounds_name second) ≡ true → r.is_second_taken reader u.name u.first.name second ≡ false
+          → w.is_second_reduction is.func.first_argument is.func.second_argument u.first.name (second_reduction second) ≡ true
+      second_apart None short e = refl
+      second_apart (Some b) short e =
+          let apart : (bytes_eq b.name u.first.name || w.is_argument_name is.func.first_argument is.func.second_argument b.name) ≡ false =
+          ap (λ (f : Option Func). bytes_eq b.name u.first.name || r.is_argument_of f b.name) (sym is.func_is) ∙ e in
+          and_from (w.is_name b.name) (not (bytes_eq b.name u.first.name || w.is_argument_name is.func.first_argument is.func.second_argument b.name)) short (ap not apart)
+
+  new_update : (tokens : List Token) → IsSmallChange u → IsRightChange u → IsFaultless reader tokens (line.Update change) → IsUpdate reader.inputs reader.funcs is.place (dimensions is.func) (update_of tree_of change)
+  new_update tokens is_small written right =
+      let limits = none_of_four (r.is_full reader u.name) (lines.exceeds change.left_x || r.second_exceeds lines.exceeds change.left_y || lines.exceeds change.right) (nat_lt 0x1000000 u.first.minimum || r.is_second_far u.second) (r.is_bad_box u.first.extent (r.second_extent u.second)) right.within in
       let far = or_parts (nat_lt 0x1000000 u.first.minimum) (r.is_second_far u.second) limits.2 in
-      let shape = or_parts (not (r.same_place reader.last_func (rd.func_place reader u.name))) (r.is_moved change) right.shaped in
-      let moved = none_of_three (r.left_marks change).calls_own _ _ shape.1 in
+      let shape = or_parts (not (r.same_place reader.last_func (rd.func_place reader u.name))) (lines.is_moved change) right.shaped in
+      let moved = none_of_three (lines.left_marks change).calls_own _ _ shape.1 in
       let in_place = are_placed tokens right shape.1 limits.1 in
-      let counts = or_parts (r.is_other_count reader u.name (r.count_with change.left_y)) (r.change_marks change).is_wrong_count right.counts in
-      let sides = or_parts (r.left_marks change).is_wrong_count change.right.marks.is_wrong_count counts.1 in
-      let left = clean_parts true change.left_x.marks (r.marks_of change.left_y) (record { counts = sides.0; own = moved.0 }) in
+      let all_plain = plain_parts (lines.left_marks change) change.right.marks (plain tokens right) in
+      let left_plain = plain_parts change.left_x.marks (lines.marks_of change.left_y) all_plain.0 in
+      let exceed = none_of_three (lines.exceeds change.left_x) (r.second_exceeds lines.exceeds change.left_y) (lines.exceeds change.right) limits.1 in
+      let counts = or_parts (r.is_other_count reader u.name (r.count_with change.left_y)) (lines.change_marks change).is_wrong_count right.counts in
+      let sides = or_parts (lines.left_marks change).is_wrong_count change.right.marks.is_wrong_count counts.1 in
+      let left = clean_parts true change.left_x.marks (lines.marks_of change.left_y) (record { counts = sides.0; own = moved.0 }) in
       let other : not (dimensions is.func == r.count_with change.left_y) ≡ false = ap (λ (f : Option Func). r.is_other_count_of f (r.count_with change.left_y)) (sym is.func_is) ∙ counts.0 in
       record {
         left_x = left_kept u.left_x is_small.left_x left.0;
@@ -238,6 +267,9 @@ module _ (reader : Reader) (scope : Scope) (u : Change Written) (kept : IsKept r
         first_argument = in_place.first_argument;
         second_argument = in_place.second_argument;
         own_calls = in_place.own_calls;
+        left_x_sized = sized reader scope u.left_x written.left_x left_plain.0 exceed.0;
+        left_y_sized = index_sized u.left_y written.left_y left_plain.1 exceed.1;
+        right_sized = sized reader scope u.right written.right all_plain.1 exceed.2;
         minimum = minimum_is u.first far.0;
         second_minimum = second_minimum_is u.second far.1;
         box = box_is u.first u.second limits.3;
@@ -246,13 +278,19 @@ module _ (reader : Reader) (scope : Scope) (u : Change Written) (kept : IsKept r
 -- ---- the Func with its update
 
 updates_of : (reader : Reader) (f : Func) (place : ℕ) (update : Update) → IsFunc reader.inputs reader.funcs place f → nat_le 4 (length f.updates) ≡ false → IsUpdate reader.inputs reader.funcs place (dimensions f) update
-    → IsFunc reader.inputs (with_update reader.funcs update) place (updated f update)
-updates_of reader f place update is few new =
+    → w.are_reductions f.first_argument f.second_argument update ≡ true → IsFunc reader.inputs (with_update reader.funcs update) place (updated f update)
+updates_of reader f place update is few new apart =
     let grows = updates_grow reader.inputs reader.funcs update in
     let old = func_grows reader.inputs reader.funcs reader.inputs (with_update reader.funcs update) grows place f is in
     record {
       pure = old.pure;
+      pure_sized = old.pure_sized;
+      arguments = old.arguments;
       few_updates = one_more f.updates update 4 few;
+      reductions = λ at u found. elim (get-last f.updates update at u found) [
+        | inl before ↦ old.reductions at u before
+        | inr last ↦ subst (λ (x : Update). w.are_reductions f.first_argument f.second_argument x ≡ true) last.1 apart
+      ];
       updates = λ at u found. elim (get-last f.updates update at u found) [
         | inl before ↦ old.updates at u before
         | inr last ↦ subst (λ (x : Update). IsUpdate reader.inputs (with_update reader.funcs update) place (dimensions f) x) last.1
@@ -266,21 +304,22 @@ same_func reader place k f g last last' found found' =
     let is : Some f ≡ Some g = sym found ∙ ap (slice_get reader.funcs) e ∙ found' in
     (e, cc)
 
-pub update_keeps : (reader : Reader) (tokens : List Token) (u : Change Written) → IsKept reader → IsSmallChange u → IsFaultless reader tokens (line.Update (judged_change reader (change_scope reader u) u))
-    → IsKept (applied reader (line.Update (judged_change reader (change_scope reader u) u)))
-update_keeps reader tokens u kept is_small right =
+pub update_keeps : (reader : Reader) (tokens : List Token) (u : Change Written) → IsKept reader → IsSmallChange u → IsRightChange u → ShortChange u → IsFaultless reader tokens (line.Update (judged_change reader (change_scope reader u) u))
+    → IsKept (applied tree_of reader (line.Update (judged_change reader (change_scope reader u) u)))
+update_keeps reader tokens u kept is_small written short right =
     let scope = change_scope reader u in
     let change = judged_change reader scope u in
-    let update = update_of change in
+    let update = update_of tree_of change in
     let is = named reader u.name kept (or_parts (not (r.is_func reader u.name)) _ right.known).0 in
     let scope_is : scope ≡ known_scope is.func (Some is.place) u = ap (λ (f : Option Func). change_scope_of f (rd.func_place reader u.name) u) is.func_is ∙ ap (λ (p : Option ℕ). known_scope is.func p u) is.place_is in
-    let shape = or_parts (not (r.same_place reader.last_func (rd.func_place reader u.name))) (r.is_moved change) right.shaped in
+    let shape = or_parts (not (r.same_place reader.last_func (rd.func_place reader u.name))) (lines.is_moved change) right.shaped in
     let below : reader.last_func ≡ Some is.place = same_last reader.last_func is.place (ap (r.same_place reader.last_func) (sym is.place_is) ∙ not-false (r.same_place reader.last_func (rd.func_place reader u.name)) shape.0) in
     let last : suc is.place ≡ length reader.funcs = kept.last is.place below in
-    let new = new_update reader scope u kept is scope_is last tokens is_small right in
+    let new = new_update reader scope u kept is scope_is last tokens is_small written right in
+    let apart = new_reductions reader scope u kept is scope_is last tokens short right in
     let limits = none_of_four (r.is_full reader u.name) _ _ _ right.within in
     let few : nat_le 4 (length is.func.updates) ≡ false = ap r.is_full_of (sym is.func_is) ∙ limits.0 in
-    let whole : IsFunc reader.inputs (with_update reader.funcs update) is.place (updated is.func update) = updates_of reader is.func is.place update (kept.funcs is.place is.func is.found) few new in
+    let whole : IsFunc reader.inputs (with_update reader.funcs update) is.place (updated is.func update) = updates_of reader is.func is.place update (kept.funcs is.place is.func is.found) few new apart in
     record {
       few_inputs = kept.few_inputs;
       few_funcs = rw (length-update reader.funcs update) kept.few_funcs;
@@ -292,6 +331,7 @@ update_keeps reader tokens u kept is_small right =
             subst (λ (f : Func). IsFunc reader.inputs (with_update reader.funcs update) place f) (ap (λ (f : Func). updated f update) same.1 ∙ at.3)
             (subst (λ (p : ℕ). IsFunc reader.inputs (with_update reader.funcs update) p (updated is.func update)) same.0 whole)
       ];
+      short_names = kept.short_names;
       names = λ name s found. source-update reader.inputs reader.funcs update s (kept.names name s found);
       last = λ place at. kept.last place at ∙ sym (length-update reader.funcs update);
       output = λ o at. absurd (no_output reader.output o right.first at);

@@ -1,3 +1,4 @@
+pub mod Agreement
 pub mod Faultless
 pub mod Growing
 pub mod InPlace
@@ -7,8 +8,11 @@ pub mod KeptLines
 pub mod KeptTexts
 pub mod KeptTrees
 pub mod KeptUpdates
+pub mod Marks
 pub mod Numbers
 pub mod PassLoop
+pub mod ShortNames
+pub mod Sizes
 pub mod Trees
 pub mod Updates
 pub mod Wholeness

@@ -6,7 +6,7 @@ use Rattle.halide_pipeline.specs.declared.expressions.Expr.{Expr}
 use Rattle.halide_pipeline.specs.declared.expressions.Expr.TheVariants as e
 use Rattle.halide_pipeline.specs.declared.expressions.Operation.{Operation}
 use Rattle.halide_pipeline.specs.declared.expressions.Source.{Source}
-use Rattle.halide_parser.specs.Judging.{pair, binary_tree, call_two_tree, select_tree}
+use Rattle.halide_parser.specs.inner.Judging.{pair, binary_tree, call_two_tree, select_tree}
 
 pub pair_by : (is_wanted : Bool) (a b : Option Expr) → pair is_wanted a b ≡ cond is_wanted (option_zip a b) None
 pair_by true None b = refl

@@ -7,7 +7,9 @@ use Rattle.line_text.specs.declared.read_errors.LocatedError.{LocatedError}
 use Rattle.line_text.specs.declared.read_errors.LocatedError.TheVariants as places
 use Rattle.halide_syntax.specs.declared.faults.ParseFault.{ParseFault}
 use Rattle.halide_parser.specs.declared.readers.Reader.{Reader}
-use Rattle.halide_parser.specs.Parsing.{taken, start, finished, parsed}
+use Rattle.halide_parser.specs.inner.JudgedLines.{taken}
+use Rattle.halide_parser.specs.Parsing.{start, finished, parsed}
+use Rattle.halide_parser.proofs.Agreement.{parsed_is}
 use Rattle.std.specs.declared.alloc.Global.{Global}
 
 -- a text has no more lines than bytes
@@ -27,11 +29,9 @@ few_lines (byte ∷ text) = omega (arith, by (byte == 10) byte (lines_of text), 
 
 -- a line is faulty
 pub fails : (error : LocatedError ParseFault) (alloc : Global) (text : List ℕ) → FailsAt error (taken_from taken 1 (start alloc text) (lines_of text)) → FailsAt error (parsed alloc text)
-unfolding parsed
 fails places.Memory alloc text e = tt
-fails (places.Fault number fault) alloc text e = rw e refl
+fails (places.Fault number fault) alloc text e = rw (parsed_is alloc text, e) refl
 
 -- no line is
 pub ends : (alloc : Global) (text : List ℕ) (reader : Reader) → taken_from taken 1 (start alloc text) (lines_of text) ≡ Ok reader → parsed alloc text ≡ finished (length (lines_of text)) reader
-unfolding parsed
-ends alloc text reader e = rw e refl
+ends alloc text reader e = rw (parsed_is alloc text, e) refl

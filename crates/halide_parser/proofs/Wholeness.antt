@@ -1,6 +1,6 @@
--- An expression that breaks no rule has a tree.
-use Rattle.std.proofs.Common.{◌≡◌, ℕ, ◌+◌, ◌≤◌, ◌<◌, Bool, true, false, not, List, Option, Some, None, refl, arith, subst, inl, inr}
-use Rattle.std.specs.Prelude.{◌&&◌, min, max, nat_le, is_some, option_map}
+-- An expression that breaks no rule has its tree, and that tree's nodes are counted.
+use Rattle.std.proofs.Common.{◌≡◌, ℕ, ◌+◌, ◌≤◌, ◌<◌, Bool, true, false, cond, not, List, Option, Some, None, refl, sym, ap, arith, subst, inl, inr, ◌∙◌}
+use Rattle.std.specs.Prelude.{min, max, nat_le, is_some}
 use Rattle.std.proofs.Math.Nat.{le-max_left, le-max_right, min-eq_left, min-eq_right, le_trans}
 use Rattle.std.proofs.lemmas.Bool.{and_parts, and_from, or_parts, leb-true, le-leb, cases_lt}
 use Rattle.halide_pipeline.specs.declared.expressions.Expr.{Expr}
@@ -9,19 +9,23 @@ use Rattle.halide_pipeline.specs.declared.expressions.Operation.{Operation}
 use Rattle.halide_pipeline.specs.declared.expressions.Operation.TheVariants as op
 use Rattle.halide_pipeline.specs.declared.expressions.Source.{Source}
 use Rattle.halide_pipeline.specs.declared.expressions.Variable.{Variable}
-use Rattle.halide_syntax.specs.declared.tokens.ProductOperator.{ProductOperator}
+use Rattle.halide_pipeline.specs.Expressions.{nodes, nodes_at}
+use Rattle.halide_pipeline.specs.WellFormed as limits
+use Rattle.halide_pipeline.specs.WellFormed.{is_divisor}
+use Rattle.halide_pipeline.proofs.Trees.{at_number, at_variable, at_binary, at_divide, at_remainder, at_select, at_call1, at_call2}
 use Rattle.halide_syntax.specs.declared.tokens.ProductOperator.TheVariants as products
-use Rattle.halide_syntax.specs.declared.tokens.ThreeFunction.{ThreeFunction}
 use Rattle.halide_syntax.specs.declared.tokens.ThreeFunction.TheVariants as threes
-use Rattle.halide_syntax.specs.Algebra.{made}
+use Rattle.halide_syntax.specs.inner.Algebra.{made}
 use Rattle.halide_syntax.specs.Grammar.{Written, Literal, Bare, Group, Minus, Call, CallTwo, Two, Three, Product, Sum, Comparison}
 use Rattle.halide_parser.specs.declared.judging.Judged.{Judged}
 use Rattle.halide_parser.specs.declared.judging.Marks.{Marks}
 use Rattle.halide_parser.specs.declared.readers.Reader.{Reader}
 use Rattle.halide_parser.specs.declared.scopes.Scope.{Scope}
-use Rattle.halide_parser.specs.Judging as j
+use Rattle.halide_parser.specs.inner.Judging as j
+use Rattle.halide_parser.specs.Expressions as asked
 use Rattle.halide_parser.specs.Readers.{source}
 use Rattle.halide_parser.specs.Scopes.{variable}
+use Rattle.halide_parser.proofs.Marks.{literal_is}
 
 -- ---- sizes
 
@@ -59,10 +63,10 @@ pub record Fits (size depth : ℕ) : Type 0 where
   pub nodes : size ≤ 512
   pub nesting : depth ≤ 64
 
-pub fits_is : (nodes nesting : ℕ) → j.fits nodes nesting ≡ true → Fits nodes nesting
+pub fits_is : (nodes nesting : ℕ) → limits.fits nodes nesting ≡ true → Fits nodes nesting
 fits_is nodes nesting e = let parts = and_parts (nat_le nodes 512) (nat_le nesting 64) e in record { nodes = leb-true nodes 512 parts.0; nesting = leb-true nesting 64 parts.1 }
 
-fits_from : (nodes nesting : ℕ) → Fits nodes nesting → j.fits nodes nesting ≡ true
+fits_from : (nodes nesting : ℕ) → Fits nodes nesting → limits.fits nodes nesting ≡ true
 fits_from nodes nesting is = and_from (nat_le nodes 512) (nat_le nesting 64) (le-leb nodes 512 is.nodes) (le-leb nesting 64 is.nesting)
 
 two_fit : (a b m n : ℕ) → Fits (j.node_sum 1 (j.node_sum a b)) (max m n) → Fits a m × Fits b n
@@ -86,140 +90,215 @@ plain_parts a b is =
     let divisors = or_parts a.is_bad_divisor b.is_bad_divisor is.divisors in
     (record { known = known.0; counts = counts.0; divisors = divisors.0 }, record { known = known.1; counts = counts.1; divisors = divisors.1 })
 
-abbrev pub IsWhole : Judged → Type 0
-IsWhole judged = IsPlain judged.marks → Fits judged.nodes judged.nesting → is_some judged.tree ≡ true
+-- ---- nodes, counted up to 513
 
-binary_tree_some : (is_wanted : Bool) (operation : Operation) (a b : Option Expr) → is_wanted ≡ true → is_some a ≡ true → is_some b ≡ true → is_some (j.binary_tree is_wanted operation a b) ≡ true
-binary_tree_some true operation (Some a) (Some b) e in_a in_b = refl
-binary_tree_some false operation a b e in_a in_b = cc
-binary_tree_some is_wanted operation None b e in_a in_b = cc
-binary_tree_some is_wanted operation (Some a) None e in_a in_b = cc
+abbrev cut : ℕ → ℕ
+cut n = min n 513
 
-kept_some : (is_wanted : Bool) (tree : Option Expr) → is_wanted ≡ true → is_some tree ≡ true → is_some (j.kept is_wanted tree) ≡ true
-kept_some true tree e some = some
-kept_some false tree e some = cc
+counted_one : (a m : ℕ) → a ≡ cut m → j.node_sum 1 a ≡ cut (1 + m)
+unfolding j.node_sum
+counted_one a m e = rw e (omega arith)
 
-found_some : (found : Option Variable) (is_source : Bool) → (not (is_some found) && not is_source) ≡ false → (not (is_some found) && is_source) ≡ false → is_some (option_map (λ v. trees.Variable v) found) ≡ true
-found_some (Some v) is_source known counts = refl
-found_some None true known counts = cc
-found_some None false known counts = cc
+counted_two : (a b m n : ℕ) → a ≡ cut m → b ≡ cut n → j.node_sum 1 (j.node_sum a b) ≡ cut (1 + m + n)
+unfolding j.node_sum
+counted_two a b m n e f = rw (e, f) (omega arith)
 
-select_some : (is_wanted : Bool) (c a b : Option Expr) → is_wanted ≡ true → is_some c ≡ true → is_some a ≡ true → is_some b ≡ true → is_some (j.select_tree c (j.pair is_wanted a b)) ≡ true
-select_some true (Some c) (Some a) (Some b) e in_c in_a in_b = refl
-select_some false c a b e in_c in_a in_b = cc
-select_some is_wanted None a b e in_c in_a in_b = cc
-select_some is_wanted (Some c) None b e in_c in_a in_b = cc
-select_some is_wanted (Some c) (Some a) None e in_c in_a in_b = cc
+counted_sum : (a b m n : ℕ) → a ≡ cut m → b ≡ cut n → j.node_sum a b ≡ cut (m + n)
+unfolding j.node_sum
+counted_sum a b m n e f = rw (e, f) (omega arith)
 
-division_some : (is_wanted is_quotient : Bool) (a : Option Expr) (divisor : Option ℕ) → is_wanted ≡ true → is_some a ≡ true → not (is_some divisor) ≡ false → is_some (j.division_tree is_wanted is_quotient a divisor) ≡ true
-division_some true true (Some a) (Some c) e in_a is = refl
-division_some true false (Some a) (Some c) e in_a is = refl
-division_some false is_quotient a divisor e in_a is = cc
-division_some is_wanted is_quotient None divisor e in_a is = cc
-division_some is_wanted is_quotient (Some a) None e in_a is = cc
+counted_three : (a b c m n k : ℕ) → a ≡ cut m → b ≡ cut n → c ≡ cut k → j.node_sum 1 (j.node_sum a (j.node_sum b c)) ≡ cut (1 + m + n + k)
+counted_three a b c m n k e f g = counted_two a (j.node_sum b c) m (n + k) e (counted_sum b c n k f g) ∙ ap cut (omega arith)
 
-call_some : (is_wanted : Bool) (callee : Source × ℕ) (a : Option Expr) → is_wanted ≡ true → is_some a ≡ true → is_some (j.call_tree is_wanted (Some callee) a) ≡ true
-call_some true callee (Some a) e in_a = refl
-call_some false callee a e in_a = cc
-call_some is_wanted callee None e in_a = cc
+-- a divisor is one more
+counted_divisor : (a m : ℕ) → a ≡ cut m → j.node_sum 1 (j.node_sum a 1) ≡ cut (2 + m)
+unfolding j.node_sum
+counted_divisor a m e = rw e (omega arith)
 
-call_two_some : (is_wanted : Bool) (callee : Source × ℕ) (a b : Option Expr) → is_wanted ≡ true → is_some a ≡ true → is_some b ≡ true → is_some (j.call_two_tree is_wanted (Some callee) a b) ≡ true
-call_two_some true callee (Some a) (Some b) e in_a in_b = refl
-call_two_some false callee a b e in_a in_b = cc
-call_two_some is_wanted callee None b e in_a in_b = cc
-call_two_some is_wanted callee (Some a) None e in_a in_b = cc
+-- ---- what is known of an expression that breaks no rule
 
-binary_whole : (operation : Operation) (a b : Judged) → IsWhole a → IsWhole b → IsWhole (j.binary operation a b)
-unfolding j.binary
-binary_whole operation a b in_a in_b plain fits =
+pub record Whole (judged : Judged) (meant : Expr) : Type 0 where
+  pub nodes : judged.nodes ≡ cut (nodes meant)
+  pub tree : Fits judged.nodes judged.nesting → judged.tree ≡ Some meant
+
+abbrev pub IsWhole : Judged → Expr → Type 0
+IsWhole judged meant = IsPlain judged.marks → Whole judged meant
+
+binary_is : (is_wanted : Bool) (operation : Operation) (a b : Option Expr) (x y : Expr) → is_wanted ≡ true → a ≡ Some x → b ≡ Some y → j.binary_tree is_wanted operation a b ≡ Some (trees.Binary operation x y)
+binary_is is_wanted operation a b x y e in_a in_b = rw (e, in_a, in_b) refl
+
+kept_is : (is_wanted : Bool) (a : Option Expr) (x : Expr) → is_wanted ≡ true → a ≡ Some x → j.kept is_wanted a ≡ Some x
+kept_is is_wanted a x e in_a = rw (e, in_a) refl
+
+select_is : (is_wanted : Bool) (c a b : Option Expr) (z x y : Expr) → is_wanted ≡ true → c ≡ Some z → a ≡ Some x → b ≡ Some y → j.select_tree c (j.pair is_wanted a b) ≡ Some (trees.Select z x y)
+select_is is_wanted c a b z x y e in_c in_a in_b = rw (e, in_c, in_a, in_b) refl
+
+call_is : (is_wanted : Bool) (callee : Source × ℕ) (a : Option Expr) (x : Expr) → is_wanted ≡ true → a ≡ Some x → j.call_tree is_wanted (Some callee) a ≡ Some (trees.Call1 callee.0 x)
+call_is is_wanted callee a x e in_a = rw (e, in_a) refl
+
+call_two_is : (is_wanted : Bool) (callee : Source × ℕ) (a b : Option Expr) (x y : Expr) → is_wanted ≡ true → a ≡ Some x → b ≡ Some y → j.call_two_tree is_wanted (Some callee) a b ≡ Some (trees.Call2 callee.0 x y)
+call_two_is is_wanted callee a b x y e in_a in_b = rw (e, in_a, in_b) refl
+
+-- a quotient, or else a remainder
+abbrev quotient : Bool → Expr → ℕ → Expr
+quotient true x c = trees.Divide x c
+quotient false x c = trees.Remainder x c
+
+division_is : (is_wanted is_quotient : Bool) (a : Option Expr) (x : Expr) (c : ℕ) → is_wanted ≡ true → a ≡ Some x → j.division_tree is_wanted is_quotient a (Some c) ≡ Some (quotient is_quotient x c)
+division_is is_wanted true a x c e in_a = rw (e, in_a) refl
+division_is is_wanted false a x c e in_a = rw (e, in_a) refl
+
+quotient_nodes : (is_quotient : Bool) (x : Expr) (c : ℕ) → nodes (quotient is_quotient x c) ≡ 2 + nodes x
+unfolding nodes
+quotient_nodes true x c = at_divide ℕ nodes_at x c
+quotient_nodes false x c = at_remainder ℕ nodes_at x c
+
+binary_whole : (operation : Operation) (a b : Judged) (x y : Expr) → IsWhole a x → IsWhole b y → IsWhole (j.binary operation a b) (trees.Binary operation x y)
+unfolding j.binary nodes
+binary_whole operation a b x y in_a in_b plain =
     let parts = plain_parts a.marks b.marks plain in
-    let sizes = two_fit a.nodes b.nodes a.nesting b.nesting fits in
-    binary_tree_some (j.fits (j.node_sum 1 (j.node_sum a.nodes b.nodes)) (max a.nesting b.nesting)) operation a.tree b.tree (fits_from _ _ fits) (in_a parts.0 sizes.0) (in_b parts.1 sizes.1)
+    let is_a = in_a parts.0 in
+    let is_b = in_b parts.1 in
+    record {
+      nodes = counted_two a.nodes b.nodes (nodes x) (nodes y) is_a.nodes is_b.nodes ∙ ap cut (sym (at_binary ℕ nodes_at operation x y));
+      tree = λ fits.
+          let sizes = two_fit a.nodes b.nodes a.nesting b.nesting fits in
+          binary_is (limits.fits (j.node_sum 1 (j.node_sum a.nodes b.nodes)) (max a.nesting b.nesting)) operation a.tree b.tree x y (fits_from _ _ fits) (is_a.tree sizes.0) (is_b.tree sizes.1);
+    }
 
-enclosed_whole : (a : Judged) → IsWhole a → IsWhole (j.enclosed a)
+enclosed_whole : (a : Judged) (x : Expr) → IsWhole a x → IsWhole (j.enclosed a) x
 unfolding j.enclosed
-enclosed_whole a in_a plain fits =
-    kept_some (j.fits a.nodes (j.deeper a.nesting)) a.tree (fits_from _ _ fits) (in_a plain (record { nodes = fits.nodes; nesting = less_deep a.nesting fits.nesting }))
+enclosed_whole a x in_a plain =
+    let is = in_a plain in
+    record {
+      nodes = is.nodes;
+      tree = λ fits. kept_is (limits.fits a.nodes (j.deeper a.nesting)) a.tree x (fits_from _ _ fits) (is.tree (record { nodes = fits.nodes; nesting = less_deep a.nesting fits.nesting }));
+    }
 
-divided_whole : (is_quotient : Bool) (a b : Judged) → IsWhole a → IsWhole (j.divided is_quotient a b)
+literal_whole : (n : ℕ) → IsWhole (j.literal n) (trees.Number n)
+unfolding nodes
+literal_whole n plain = record { nodes = ap cut (sym (at_number ℕ nodes_at n)); tree = λ fits. refl }
+
+bare_by : (found : Option Variable) (is_source : Bool) → IsWhole (j.bare_as found is_source) (asked.variable_tree found)
+unfolding nodes
+bare_by (Some v) is_source plain = record { nodes = ap cut (sym (at_variable ℕ nodes_at v)); tree = λ fits. refl }
+bare_by None true plain = let never : true ≡ false = plain.counts in cc
+bare_by None false plain = let never : true ≡ false = plain.known in cc
+
+divisor_is : (n : ℕ) (test : Bool) → is_divisor n ≡ test → not (is_some (cond test (Some n) None)) ≡ false → j.divisor (Some n) ≡ Some n
+divisor_is n true e some = rw e refl
+divisor_is n false e some = cc
+
+divided_literal : (is_quotient : Bool) (a : Judged) (x : Expr) (n : ℕ) → IsWhole a x → IsWhole (j.divided is_quotient a (j.literal n)) (quotient is_quotient x n)
 unfolding j.divided
-divided_whole is_quotient a b in_a plain fits =
-    let parts = plain_parts (j.both_marks a.marks b.marks) (j.divisor_marks (j.divisor b.literal)) plain in
-    let operands = plain_parts a.marks b.marks parts.0 in
-    let sizes = two_fit a.nodes b.nodes a.nesting b.nesting fits in
-    division_some (j.fits (j.node_sum 1 (j.node_sum a.nodes b.nodes)) (max a.nesting b.nesting)) is_quotient a.tree (j.divisor b.literal) (fits_from _ _ fits) (in_a operands.0 sizes.0) parts.1.divisors
+divided_literal is_quotient a x n in_a plain =
+    let parts = plain_parts (j.both_marks a.marks j.no_marks) (j.divisor_marks (j.divisor (Some n))) plain in
+    let operands = plain_parts a.marks j.no_marks parts.0 in
+    let is = in_a operands.0 in
+    let divides = divisor_is n (is_divisor n) refl parts.1.divisors in
+    record {
+      nodes = counted_divisor a.nodes (nodes x) is.nodes ∙ ap cut (sym (quotient_nodes is_quotient x n));
+      tree = λ fits.
+          let sizes = two_fit a.nodes 1 a.nesting 0 fits in
+          rw divides (division_is (limits.fits (j.node_sum 1 (j.node_sum a.nodes 1)) (max a.nesting 0)) is_quotient a.tree x n (fits_from _ _ fits) (is.tree sizes.0));
+    }
 
-select_whole : (c a b : Judged) → IsWhole c → IsWhole a → IsWhole b → IsWhole (j.select c a b)
-unfolding j.select
-select_whole c a b in_c in_a in_b plain fits =
+divided_other : (is_quotient : Bool) (a b : Judged) (tree : Expr) → b.literal ≡ None → IsWhole (j.divided is_quotient a b) tree
+unfolding j.divided
+divided_other is_quotient a b tree e plain =
+    let parts = plain_parts (j.both_marks a.marks b.marks) (j.divisor_marks (j.divisor b.literal)) plain in
+    let never : true ≡ false = ap (λ (l : Option ℕ). not (is_some (j.divisor l))) (sym e) ∙ parts.1.divisors in
+    cc
+
+select_whole : (c a b : Judged) (z x y : Expr) → IsWhole c z → IsWhole a x → IsWhole b y → IsWhole (j.select c a b) (trees.Select z x y)
+unfolding j.select nodes
+select_whole c a b z x y in_c in_a in_b plain =
     let parts = plain_parts c.marks (j.both_marks a.marks b.marks) plain in
     let arms = plain_parts a.marks b.marks parts.1 in
-    let nodes = nodes_parts c.nodes (j.node_sum a.nodes b.nodes) fits.nodes in
-    let arm_nodes = sum_parts a.nodes b.nodes nodes.1 in
-    let nesting = max_parts c.nesting (max a.nesting b.nesting) 64 (less_deep (max c.nesting (max a.nesting b.nesting)) fits.nesting) in
-    let arm_nesting = max_parts a.nesting b.nesting 64 nesting.1 in
-    select_some (j.fits (j.node_sum 1 (j.node_sum c.nodes (j.node_sum a.nodes b.nodes))) (j.deeper (max c.nesting (max a.nesting b.nesting)))) c.tree a.tree b.tree (fits_from _ _ fits)
-    (in_c parts.0 (record { nodes = nodes.0; nesting = nesting.0 }))
-    (in_a arms.0 (record { nodes = arm_nodes.0; nesting = arm_nesting.0 }))
-    (in_b arms.1 (record { nodes = arm_nodes.1; nesting = arm_nesting.1 }))
+    let is_c = in_c parts.0 in
+    let is_a = in_a arms.0 in
+    let is_b = in_b arms.1 in
+    record {
+      nodes = counted_three c.nodes a.nodes b.nodes (nodes z) (nodes x) (nodes y) is_c.nodes is_a.nodes is_b.nodes ∙ ap cut (sym (at_select ℕ nodes_at z x y));
+      tree = λ fits.
+          let nodes = nodes_parts c.nodes (j.node_sum a.nodes b.nodes) fits.nodes in
+          let arm_nodes = sum_parts a.nodes b.nodes nodes.1 in
+          let nesting = max_parts c.nesting (max a.nesting b.nesting) 64 (less_deep (max c.nesting (max a.nesting b.nesting)) fits.nesting) in
+          let arm_nesting = max_parts a.nesting b.nesting 64 nesting.1 in
+          select_is (limits.fits (j.node_sum 1 (j.node_sum c.nodes (j.node_sum a.nodes b.nodes))) (j.deeper (max c.nesting (max a.nesting b.nesting)))) c.tree a.tree b.tree z x y (fits_from _ _ fits)
+          (is_c.tree (record { nodes = nodes.0; nesting = nesting.0 }))
+          (is_a.tree (record { nodes = arm_nodes.0; nesting = arm_nesting.0 }))
+          (is_b.tree (record { nodes = arm_nodes.1; nesting = arm_nesting.1 }));
+    }
+
+unknown_none : IsPlain j.unknown_mark → ⊥
+unknown_none is = let never : true ≡ false = is.known in cc
 
 module _ (reader : Reader) (scope : Scope) where
-  bare_whole : (name : List ℕ) → IsWhole (j.bare reader scope name)
-  bare_whole name plain fits = found_some (variable scope name) (is_some (source reader name)) plain.known plain.counts
+  call_by : (callee : Option (Source × ℕ)) (a : Judged) (x : Expr) → IsWhole a x → IsWhole (j.call_as scope callee a) (trees.Call1 (asked.source_or_first callee) x)
+  unfolding nodes
+  call_by None a x in_a plain = absurd (unknown_none (plain_parts a.marks j.unknown_mark plain).1)
+  call_by (Some callee) a x in_a plain =
+      let parts = plain_parts a.marks (j.callee_marks (Some callee) 1 (j.own_marks (asked.is_own scope (Some callee)) a.alone None)) plain in
+      let is = in_a parts.0 in
+      record {
+        nodes = counted_one a.nodes (nodes x) is.nodes ∙ ap cut (sym (at_call1 ℕ nodes_at callee.0 x));
+        tree = λ fits.
+            call_is (limits.fits (j.node_sum 1 a.nodes) (j.deeper a.nesting)) callee a.tree x (fits_from _ _ fits) (is.tree (record { nodes = one_part a.nodes fits.nodes; nesting = less_deep a.nesting fits.nesting }));
+      }
 
-  call_by : (callee : Option (Source × ℕ)) (a : Judged) → IsWhole a → IsWhole (j.call_as scope callee a)
-  call_by None a in_a plain fits = absurd (unknown (plain_parts a.marks j.unknown_mark plain).1)
-    where
-      unknown : IsPlain j.unknown_mark → ⊥
-      unknown is = let never : true ≡ false = is.known in cc
-  call_by (Some callee) a in_a plain fits =
-      let parts = plain_parts a.marks (j.callee_marks (Some callee) 1 (j.own_marks (j.is_own scope (Some callee)) a.alone None)) plain in
-      call_some (j.fits (j.node_sum 1 a.nodes) (j.deeper a.nesting)) callee a.tree (fits_from _ _ fits) (in_a parts.0 (record { nodes = one_part a.nodes fits.nodes; nesting = less_deep a.nesting fits.nesting }))
-
-  call_whole : (name : List ℕ) (a : Judged) → IsWhole a → IsWhole (j.call reader scope name a)
+  call_whole : (name : List ℕ) (a : Judged) (x : Expr) → IsWhole a x → IsWhole (j.call reader scope name a) (trees.Call1 (asked.source_or_first (source reader name)) x)
   unfolding j.call
-  call_whole name a in_a = call_by (source reader name) a in_a
+  call_whole name a x in_a = call_by (source reader name) a x in_a
 
-  call_two_by : (callee : Option (Source × ℕ)) (a b : Judged) → IsWhole a → IsWhole b → IsWhole (j.call_two_as scope callee a b)
-  call_two_by None a b in_a in_b plain fits = absurd (unknown (plain_parts (j.both_marks a.marks b.marks) j.unknown_mark plain).1)
-    where
-      unknown : IsPlain j.unknown_mark → ⊥
-      unknown is = let never : true ≡ false = is.known in cc
-  call_two_by (Some callee) a b in_a in_b plain fits =
-      let parts = plain_parts (j.both_marks a.marks b.marks) (j.callee_marks (Some callee) 2 (j.own_marks (j.is_own scope (Some callee)) a.alone b.alone)) plain in
+  call_two_by : (callee : Option (Source × ℕ)) (a b : Judged) (x y : Expr) → IsWhole a x → IsWhole b y → IsWhole (j.call_two_as scope callee a b) (trees.Call2 (asked.source_or_first callee) x y)
+  unfolding nodes
+  call_two_by None a b x y in_a in_b plain = absurd (unknown_none (plain_parts (j.both_marks a.marks b.marks) j.unknown_mark plain).1)
+  call_two_by (Some callee) a b x y in_a in_b plain =
+      let parts = plain_parts (j.both_marks a.marks b.marks) (j.callee_marks (Some callee) 2 (j.own_marks (asked.is_own scope (Some callee)) a.alone b.alone)) plain in
       let indexes = plain_parts a.marks b.marks parts.0 in
-      let sizes = two_fit a.nodes b.nodes a.nesting b.nesting (record { nodes = fits.nodes; nesting = less_deep (max a.nesting b.nesting) fits.nesting }) in
-      call_two_some (j.fits (j.node_sum 1 (j.node_sum a.nodes b.nodes)) (j.deeper (max a.nesting b.nesting))) callee a.tree b.tree (fits_from _ _ fits) (in_a indexes.0 sizes.0) (in_b indexes.1 sizes.1)
+      let is_a = in_a indexes.0 in
+      let is_b = in_b indexes.1 in
+      record {
+        nodes = counted_two a.nodes b.nodes (nodes x) (nodes y) is_a.nodes is_b.nodes ∙ ap cut (sym (at_call2 ℕ nodes_at callee.0 x y));
+        tree = λ fits.
+            let sizes = two_fit a.nodes b.nodes a.nesting b.nesting (record { nodes = fits.nodes; nesting = less_deep (max a.nesting b.nesting) fits.nesting }) in
+            call_two_is (limits.fits (j.node_sum 1 (j.node_sum a.nodes b.nodes)) (j.deeper (max a.nesting b.nesting))) callee a.tree b.tree x y (fits_from _ _ fits) (is_a.tree sizes.0) (is_b.tree sizes.1);
+      }
 
-  call_two_whole : (name : List ℕ) (a b : Judged) → IsWhole a → IsWhole b → IsWhole (j.call_two reader scope name a b)
+  call_two_whole : (name : List ℕ) (a b : Judged) (x y : Expr) → IsWhole a x → IsWhole b y → IsWhole (j.call_two reader scope name a b) (trees.Call2 (asked.source_or_first (source reader name)) x y)
   unfolding j.call_two
-  call_two_whole name a b in_a in_b = call_two_by (source reader name) a b in_a in_b
-
-  three_whole : (f : ThreeFunction) (a b c : Judged) → IsWhole a → IsWhole b → IsWhole c → IsWhole (j.three f a b c)
-  three_whole threes.Clamp a b c in_a in_b in_c =
-      enclosed_whole (j.binary op.Minimum (j.binary op.Maximum a b) c) (binary_whole op.Minimum (j.binary op.Maximum a b) c (binary_whole op.Maximum a b in_a in_b) in_c)
-  three_whole threes.Select a b c in_a in_b in_c = select_whole a b c in_a in_b in_c
-
-  product_whole : (operator : ProductOperator) (a b : Judged) → IsWhole a → IsWhole b → IsWhole (j.product operator a b)
-  product_whole products.Multiply a b in_a in_b = binary_whole op.Multiply a b in_a in_b
-  product_whole products.Divide a b in_a in_b = divided_whole true a b in_a
-  product_whole products.Remainder a b in_a in_b = divided_whole false a b in_a
+  call_two_whole name a b x y in_a in_b = call_two_by (source reader name) a b x y in_a in_b
 
   abbrev judge : Written → Judged
   judge = made (j.judging reader scope)
 
-  literal_whole : (n : ℕ) → IsWhole (j.literal n)
-  literal_whole n plain fits = refl
+  abbrev tree : Written → Expr
+  tree = asked.tree reader scope
 
-  pub whole : (w : Written) → IsWhole (judge w)
+  quotient_whole : (is_quotient : Bool) (a : Judged) (x : Expr) (w : Written) → IsWhole a x → IsWhole (j.divided is_quotient a (judge w)) (quotient is_quotient x (asked.number_or_zero w))
+  quotient_whole is_quotient a x (Literal n) in_a = divided_literal is_quotient a x n in_a
+  quotient_whole is_quotient a x w in_a = divided_other is_quotient a (judge w) (quotient is_quotient x (asked.number_or_zero w)) (literal_is reader scope w)
+
+  pub whole : (w : Written) → IsWhole (judge w) (tree w)
   whole (Literal n) = literal_whole n
-  whole (Bare name) = bare_whole name
-  whole (Group a) = enclosed_whole (judge a) (whole a)
-  whole (Minus a) = enclosed_whole (j.binary op.Subtract (j.literal 0) (judge a)) (binary_whole op.Subtract (j.literal 0) (judge a) (literal_whole 0) (whole a))
-  whole (Call name a) = call_whole name (judge a) (whole a)
-  whole (CallTwo name a b) = call_two_whole name (judge a) (judge b) (whole a) (whole b)
-  whole (Two f a b) = enclosed_whole (j.binary (j.two_operation f) (judge a) (judge b)) (binary_whole (j.two_operation f) (judge a) (judge b) (whole a) (whole b))
-  whole (Three f a b c) = three_whole f (judge a) (judge b) (judge c) (whole a) (whole b) (whole c)
-  whole (Product operator a b) = product_whole operator (judge a) (judge b) (whole a) (whole b)
-  whole (Sum operator a b) = binary_whole (j.sum_operation operator) (judge a) (judge b) (whole a) (whole b)
-  whole (Comparison operator a b) = binary_whole (j.comparison_operation operator) (judge a) (judge b) (whole a) (whole b)
+  whole (Bare name) = bare_by (variable scope name) (is_some (source reader name))
+  whole (Group a) = enclosed_whole (judge a) (tree a) (whole a)
+  whole (Minus a) = enclosed_whole (j.binary op.Subtract (j.literal 0) (judge a)) (tree (Minus a)) (binary_whole op.Subtract (j.literal 0) (judge a) (trees.Number 0) (tree a) (literal_whole 0) (whole a))
+  whole (Call name a) = call_whole name (judge a) (tree a) (whole a)
+  whole (CallTwo name a b) = call_two_whole name (judge a) (judge b) (tree a) (tree b) (whole a) (whole b)
+  whole (Two f a b) =
+      enclosed_whole (j.binary (asked.two_operation f) (judge a) (judge b)) (tree (Two f a b)) (binary_whole (asked.two_operation f) (judge a) (judge b) (tree a) (tree b) (whole a) (whole b))
+  whole (Three threes.Clamp a b c) =
+      enclosed_whole (j.binary op.Minimum (j.binary op.Maximum (judge a) (judge b)) (judge c)) (tree (Three threes.Clamp a b c))
+      (binary_whole op.Minimum (j.binary op.Maximum (judge a) (judge b)) (judge c) (trees.Binary op.Maximum (tree a) (tree b)) (tree c) (binary_whole op.Maximum (judge a) (judge b) (tree a) (tree b) (whole a) (whole b)) (whole c))
+  whole (Three threes.Select a b c) = select_whole (judge a) (judge b) (judge c) (tree a) (tree b) (tree c) (whole a) (whole b) (whole c)
+  whole (Product products.Multiply a b) = binary_whole op.Multiply (judge a) (judge b) (tree a) (tree b) (whole a) (whole b)
+  whole (Product products.Divide a b) = quotient_whole true (judge a) (tree a) b (whole a)
+  whole (Product products.Remainder a b) = quotient_whole false (judge a) (tree a) b (whole a)
+  whole (Sum operator a b) = binary_whole (asked.sum_operation operator) (judge a) (judge b) (tree a) (tree b) (whole a) (whole b)
+  whole (Comparison operator a b) = binary_whole (asked.comparison_operation operator) (judge a) (judge b) (tree a) (tree b) (whole a) (whole b)
+
+  -- an expression that breaks no rule has a tree
+  pub some_tree : (w : Written) → IsPlain (judge w).marks → Fits (judge w).nodes (judge w).nesting → is_some (judge w).tree ≡ true
+  some_tree w plain fits = rw ((whole w plain).tree fits) refl

@@ -1,6 +1,7 @@
-pub mod Judging
+pub mod Expressions
 pub mod Meaning
 pub mod Parsing
 pub mod Readers
 pub mod Rules
 pub mod Scopes
+pub mod inner

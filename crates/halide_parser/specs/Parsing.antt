@@ -8,38 +8,38 @@ use Rattle.line_text.specs.LineReading.{taken_from}
 use Rattle.halide_pipeline.specs.declared.pipelines.Pipeline.{Pipeline}
 use Rattle.halide_pipeline.specs.declared.definitions.Output.{Output}
 use Rattle.halide_syntax.specs.declared.faults.ParseFault.{ParseFault}
-use Rattle.halide_syntax.specs.declared.faults.ParseFault.TheVariants.{NoOutput}
+use Rattle.halide_syntax.specs.declared.faults.ParseFault.TheVariants.{NoOutput, Syntax}
 use Rattle.halide_syntax.specs.declared.tokens.Token.{Token}
 use Rattle.halide_syntax.specs.declared.lines.Line.{Line}
-use Rattle.halide_syntax.specs.Algebra.{writing}
 use Rattle.halide_syntax.specs.Grammar.{Written}
-use Rattle.halide_syntax.specs.LineGrammar.{made_line}
-use Rattle.halide_syntax.specs.LineReading.{read_line}
 use Rattle.halide_syntax.specs.Tokens.{tokens_of}
-use Rattle.halide_parser.specs.declared.judging.Judged.{Judged}
+use Rattle.halide_syntax.specs.inner.LineReading.{line_of}
 use Rattle.halide_parser.specs.declared.readers.Reader.{Reader}
-use Rattle.halide_parser.specs.Judging.{judging}
-use Rattle.halide_parser.specs.Meaning.{scope_of, applied}
+use Rattle.halide_parser.specs.Expressions.{tree}
+use Rattle.halide_parser.specs.Meaning.{applied}
 use Rattle.halide_parser.specs.Rules.{fault_of}
+use Rattle.halide_parser.specs.Scopes.{scope_of}
 
--- a line with what is known of its expressions
-abbrev pub judged_line : Reader → Line Written → Line Judged
-judged_line reader w = made_line (judging reader (scope_of reader w)) w
+-- ---- a line
 
--- the line that tokens spell, judged; a syntax fault where they spell none
-unfoldable pub judged : Reader → List Token → Result (Line Judged) ParseFault
-judged reader tokens = read_line writing tokens >>= λ w. Ok (judged_line reader w)
-
-abbrev pub settled_as : Reader → Line Judged → Option ParseFault → Result Reader ParseFault
-settled_as reader l None = Ok (applied reader l)
+abbrev pub settled_as : Reader → Line Written → Option ParseFault → Result Reader ParseFault
+settled_as reader l None = Ok (applied (tree reader (scope_of reader l)) reader l)
 settled_as reader l (Some fault) = Err fault
 
 -- the lines so far and this one, or its least fault
-abbrev pub settled : Reader → List Token → Line Judged → Result Reader ParseFault
+abbrev pub settled : Reader → List Token → Line Written → Result Reader ParseFault
 settled reader tokens l = settled_as reader l (fault_of reader tokens l)
 
-unfoldable pub taken : Reader → List ℕ → Result Reader ParseFault
-taken reader line = tokens_of line >>= λ tokens. judged reader tokens >>= λ l. settled reader tokens l
+-- Tokens that spell no line of the grammar are a syntax fault.
+abbrev pub settled_if : Reader → List Token → Option (Line Written) → Result Reader ParseFault
+settled_if reader tokens None = Err Syntax
+settled_if reader tokens (Some l) = settled reader tokens l
+
+-- The lines so far and one more, where `read` gives the line that tokens spell (`FollowsGrammar` of `halide_syntax`).
+unfoldable pub taken_by : (List Token → Option (Line Written)) → Reader → List ℕ → Result Reader ParseFault
+taken_by read reader line = tokens_of line >>= λ tokens. settled_if reader tokens (read tokens)
+
+-- ---- a text
 
 -- a text of more than 65536 bytes is above its limit
 abbrev pub is_oversized : List ℕ → Bool
@@ -56,6 +56,10 @@ finished_as count reader (Some output) = Ok (record { names = reader.names; inpu
 abbrev pub finished : ℕ → Reader → Result Pipeline (ℕ × ParseFault)
 finished count reader = finished_as count reader reader.output
 
--- what a text names, or its first faulty line and that line's least fault
+-- what a text names, or its first faulty line and that line's least fault, where `read` gives the line that tokens spell
+unfoldable pub parsed_by : (List Token → Option (Line Written)) → Global → List ℕ → Result Pipeline (ℕ × ParseFault)
+parsed_by read alloc text = taken_from (taken_by read) 1 (start alloc text) (lines_of text) >>= λ reader. finished (length (lines_of text)) reader
+
+-- The same. The call `lines_follow_the_grammar` of `halide_syntax` proves that `line_of` gives the line that tokens spell.
 unfoldable pub parsed : Global → List ℕ → Result Pipeline (ℕ × ParseFault)
-parsed alloc text = taken_from taken 1 (start alloc text) (lines_of text) >>= λ reader. finished (length (lines_of text)) reader
+parsed alloc text = parsed_by line_of alloc text

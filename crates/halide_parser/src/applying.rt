@@ -3,6 +3,8 @@
 ghost use Rattle.std.specs.Prelude.{◌≡◌, [], ◌∷◌, IfOk, OnOk, None};
 ghost use Rattle.halide_pipeline.specs.Names.{lookup};
 ghost use Rattle.halide_parser.specs.Meaning as spec;
+ghost use Rattle.halide_parser.specs.Scopes as scopes;
+ghost use Rattle.halide_parser.specs.inner.JudgedLines.{tree_of};
 
 use crate::judging::Judged;
 use crate::readers::{Reader, func, func_place};
@@ -29,7 +31,7 @@ fn copied_second(alloc: Global, name: &Option<Items<u8>>) -> Result<Option<Items
 }
 
 fn copied_bounds(alloc: Global, bounds: &Option<Bounds>) -> Result<Option<Items<u8>>, AllocError>
-    ensures { IfOk result (λ name. name ≡ spec.bounds_name bounds.now) }
+    ensures { IfOk result (λ name. name ≡ scopes.bounds_name bounds.now) }
 {
     match bounds {
         None => Ok(None),
@@ -43,7 +45,7 @@ fn unknown_scope(
     own: Option<usize>,
     change: &Change<Judged>,
 ) -> Result<Scope, AllocError>
-    ensures { IfOk result (λ scope. scope ≡ spec.unknown_scope own change.now) }
+    ensures { IfOk result (λ scope. scope ≡ scopes.unknown_scope own change.now) }
 {
     Ok(Scope {
         first_argument: None,
@@ -61,7 +63,7 @@ fn known_scope(
     own: Option<usize>,
     change: &Change<Judged>,
 ) -> Result<Scope, AllocError>
-    ensures { IfOk result (λ scope. scope ≡ spec.known_scope func.now own change.now) }
+    ensures { IfOk result (λ scope. scope ≡ scopes.known_scope func.now own change.now) }
 {
     Ok(Scope {
         first_argument: Some(copied(alloc, &func.first_argument)?),
@@ -74,7 +76,7 @@ fn known_scope(
 
 /// The scope of an update.
 fn change_scope(reader: &Reader, change: &Change<Judged>) -> Result<Scope, AllocError>
-    ensures { IfOk result (λ scope. scope ≡ spec.change_scope reader.now change.now) }
+    ensures { IfOk result (λ scope. scope ≡ scopes.change_scope reader.now change.now) }
 {
     let name = change.name.as_slice();
     let own = func_place(reader, name);
@@ -86,7 +88,7 @@ fn change_scope(reader: &Reader, change: &Change<Judged>) -> Result<Scope, Alloc
 
 /// The variables of a line.
 pub fn scope_of(reader: &Reader, line: &Line<Judged>) -> Result<Scope, AllocError>
-    ensures { IfOk result (λ scope. scope ≡ spec.scope_of reader.now line.now) }
+    ensures { IfOk result (λ scope. scope ≡ scopes.scope_of reader.now line.now) }
 {
     match line {
         Line::Func(definition) => Ok(Scope {
@@ -101,7 +103,7 @@ pub fn scope_of(reader: &Reader, line: &Line<Judged>) -> Result<Scope, AllocErro
 
 /// The tree of an expression; one without faults has one.
 fn tree_of(judged: Judged) -> Expr
-    ensures { result ≡ spec.tree_of judged.tree }
+    ensures { result ≡ tree_of judged }
 {
     match judged.into_tree() {
         Some(tree) => tree,
@@ -110,7 +112,7 @@ fn tree_of(judged: Judged) -> Expr
 }
 
 fn second_tree(index: Option<Judged>) -> Option<Expr>
-    ensures { result ≡ spec.second_tree index }
+    ensures { result ≡ spec.second_tree tree_of index }
 {
     match index {
         None => None,
@@ -143,7 +145,7 @@ fn second_reduction(bounds: Option<Bounds>) -> Option<Reduction>
 }
 
 fn update_of(change: Change<Judged>) -> Update
-    ensures { result ≡ spec.update_of change }
+    ensures { result ≡ spec.update_of tree_of change }
 {
     let Change {
         left_x,
@@ -186,7 +188,7 @@ fn add_input(reader: &mut Reader, extents: Extents) -> Result<(), AllocError>
 /// Adds a Func.
 fn add_func(reader: &mut Reader, definition: Definition<Judged>) -> Result<(), AllocError>
     requires { lookup definition.name reader.old.names ≡ None }
-    ensures { OnOk result (reader.new ≡ spec.with_func reader.old definition) }
+    ensures { OnOk result (reader.new ≡ spec.with_func tree_of reader.old definition) }
 {
     let Definition {
         name,
@@ -239,7 +241,7 @@ fn add_update(funcs: &mut Items<Func>, update: Update) -> Result<(), AllocError>
 /// Adds what a faultless line says.
 pub fn apply(reader: &mut Reader, line: Line<Judged>) -> Result<(), AllocError>
     requires { spec.IsFree reader.old line }
-    ensures { OnOk result (reader.new ≡ spec.applied reader.old line) }
+    ensures { OnOk result (reader.new ≡ spec.applied tree_of reader.old line) }
 {
     match line {
         Line::Blank => Ok(()),

@@ -2,7 +2,9 @@
 //! and its tree where it is not too large.
 
 ghost use Rattle.std.specs.Prelude.{◌≡◌, IfOk, if◌then◌else◌, None};
-ghost use Rattle.halide_parser.specs.Judging as spec;
+ghost use Rattle.halide_pipeline.specs.WellFormed as limits;
+ghost use Rattle.halide_parser.specs.Expressions as expressions;
+ghost use Rattle.halide_parser.specs.inner.Judging as spec;
 
 use crate::readers::{Reader, source};
 use crate::scopes::{Scope, variable};
@@ -108,7 +110,7 @@ pub fn both_marks(a: Marks, b: Marks) -> Marks
 }
 
 /// A sum of nodes, up to 513.
-#[tactic(auto, unfolding(crate::specs::Judging::node_sum))]
+#[tactic(auto, unfolding(crate::specs::inner::Judging::node_sum))]
 fn node_sum(a: u32, b: u32) -> u32
     ensures { result ≡ spec.node_sum a b }
 {
@@ -116,7 +118,7 @@ fn node_sum(a: u32, b: u32) -> u32
 }
 
 /// One more bracket or sign, up to 65.
-#[tactic(auto, unfolding(crate::specs::Judging::deeper))]
+#[tactic(auto, unfolding(crate::specs::inner::Judging::deeper))]
 fn deeper(nesting: u32) -> u32
     ensures { result ≡ spec.deeper nesting }
 {
@@ -125,7 +127,7 @@ fn deeper(nesting: u32) -> u32
 
 /// Whether an expression of such a size is within its limits: 512 nodes, and 64 brackets and signs.
 pub fn fits(nodes: u32, nesting: u32) -> bool
-    ensures { result ≡ spec.fits nodes nesting }
+    ensures { result ≡ limits.fits nodes nesting }
 {
     nodes <= 512 && nesting <= 64
 }
@@ -174,7 +176,7 @@ fn binary_tree(
 }
 
 /// An operation on two operands.
-#[tactic(auto, unfolding(crate::specs::Judging::binary))]
+#[tactic(auto, unfolding(crate::specs::inner::Judging::binary))]
 fn binary(alloc: Global, operation: Operation, a: Judged, b: Judged) -> Result<Judged, AllocError>
     ensures { IfOk result (λ judged. judged ≡ spec.binary operation a b) }
 {
@@ -192,7 +194,7 @@ fn binary(alloc: Global, operation: Operation, a: Judged, b: Judged) -> Result<J
 }
 
 /// An expression in one more bracket, or behind one more sign.
-#[tactic(auto, unfolding(crate::specs::Judging::enclosed))]
+#[tactic(auto, unfolding(crate::specs::inner::Judging::enclosed))]
 fn enclosed(a: Judged) -> Judged
     ensures { result ≡ spec.enclosed a }
 {
@@ -291,7 +293,7 @@ fn callee_marks(callee: Option<(Source, usize)>, count: usize, own: Marks) -> Ma
 
 /// Whether a source is the Func that the line updates.
 fn is_own(scope: &Scope, callee: Option<(Source, usize)>) -> bool
-    ensures { result ≡ spec.is_own scope.now callee }
+    ensures { result ≡ expressions.is_own scope.now callee }
 {
     match (scope.own, callee) {
         (Some(own), Some((Source::Func(place), _))) => own == place,
@@ -337,7 +339,7 @@ fn call_two_tree(
 }
 
 /// A call with one argument.
-#[tactic(auto, unfolding(crate::specs::Judging::call))]
+#[tactic(auto, unfolding(crate::specs::inner::Judging::call))]
 pub fn call(reader: &Reader, scope: &Scope, name: &[u8], a: Judged) -> Result<Judged, AllocError>
     ensures { IfOk result (λ judged. judged ≡ spec.call reader.now scope.now name.now a) }
 {
@@ -356,7 +358,7 @@ pub fn call(reader: &Reader, scope: &Scope, name: &[u8], a: Judged) -> Result<Ju
 }
 
 /// A call with two arguments.
-#[tactic(auto, unfolding(crate::specs::Judging::call_two))]
+#[tactic(auto, unfolding(crate::specs::inner::Judging::call_two))]
 pub fn call_two(
     reader: &Reader,
     scope: &Scope,
@@ -432,7 +434,7 @@ fn select_tree(
 }
 
 /// `select` of three operands.
-#[tactic(auto, unfolding(crate::specs::Judging::select))]
+#[tactic(auto, unfolding(crate::specs::inner::Judging::select))]
 fn select(alloc: Global, c: Judged, a: Judged, b: Judged) -> Result<Judged, AllocError>
     ensures { IfOk result (λ judged. judged ≡ spec.select c a b) }
 {
@@ -505,7 +507,7 @@ fn division_tree(
 }
 
 /// A quotient or a remainder. The divisor counts as a node.
-#[tactic(auto, unfolding(crate::specs::Judging::divided))]
+#[tactic(auto, unfolding(crate::specs::inner::Judging::divided))]
 fn divided(alloc: Global, is_quotient: bool, a: Judged, b: Judged) -> Result<Judged, AllocError>
     ensures { IfOk result (λ judged. judged ≡ spec.divided is_quotient a b) }
 {

@@ -6,6 +6,10 @@
 //! ([`judging`], [`passes`], [`line_reading`]): the rules that it breaks, its size, and its tree where it is
 //! not too large. Then the rules of the line are tested from the least fault on ([`rules`]), and a faultless
 //! line adds to what the lines before it have named ([`applying`]).
+//!
+//! What a text names is said of its lines as they are written: `specs/Expressions.antt` says what is asked of an
+//! expression and which tree it means, `specs/Rules.antt` which fault a line has, `specs/Meaning.antt` what it
+//! adds, `specs/Parsing.antt` what the text comes to. `specs/inner` has words for the code alone.
 #![tactic(auto)]
 
 pub mod applying;

@@ -1,9 +1,14 @@
 //! Reading a whole text.
 
-ghost use Rattle.std.specs.Prelude.{◌≡◌, ◌+◌, ◌<◌, ◌^◌, IfOk, IsTrue};
+ghost use Rattle.std.specs.Prelude.{◌≡◌, ◌+◌, ◌<◌, ◌^◌, IfOk, IsTrue, List, Option};
 ghost use Rattle.halide_pipeline.specs.WellFormed.{IsWellFormed, is_output};
 ghost use Rattle.line_text.specs.Reading.{Gives, GivesLocated};
+ghost use Rattle.halide_syntax.specs.declared.tokens.Token.{Token};
+ghost use Rattle.halide_syntax.specs.declared.lines.Line.{Line};
+ghost use Rattle.halide_syntax.specs.Grammar.{Written};
+ghost use Rattle.halide_syntax.specs.LineGrammar.{FollowsGrammar};
 ghost use Rattle.halide_parser.specs.Parsing as spec;
+ghost use Rattle.halide_parser.specs.inner.JudgedLines as lines;
 
 use crate::applying::{apply, scope_of};
 use crate::judging::Judged;
@@ -19,9 +24,9 @@ use std::alloc::Global;
 
 /// What the tokens of a line say, judged. A line is read twice, since what an update's variables are
 /// stands at its end.
-#[tactic(auto, unfolding(crate::specs::Parsing::judged))]
+#[tactic(auto, unfolding(crate::specs::inner::JudgedLines::judged))]
 fn judged(reader: &Reader, tokens: &[Token]) -> Result<Line<Judged>, ReadError<ParseFault>>
-    ensures { Gives (λ x. x) result (spec.judged reader.now tokens.now) }
+    ensures { Gives (λ x. x) result (lines.judged reader.now tokens.now) }
 {
     let plain = read_line(reader, &Scope::empty(), tokens)?;
     let scope = scope_of(reader, &plain);
@@ -34,9 +39,9 @@ fn judged(reader: &Reader, tokens: &[Token]) -> Result<Line<Judged>, ReadError<P
 impl LineReader for Reader {
     type Fault = ParseFault;
 
-    ghost takes = { spec.taken };
+    ghost takes = { lines.taken };
 
-    #[tactic(auto, unfolding(crate::specs::Parsing::taken), using(crate::proofs::Faultless::free))]
+    #[tactic(auto, unfolding(crate::specs::inner::JudgedLines::taken), using(crate::proofs::Faultless::free))]
     fn take_line(&mut self, line: &[u8]) -> Result<(), ReadError<ParseFault>> {
         let tokens = tokens_of(self.alloc, line)?;
         let line = judged(self, tokens.as_slice())?;
@@ -88,16 +93,17 @@ fn finished(reader: Reader, count: u64) -> Result<Pipeline, LocatedError<ParseFa
     }
 }
 
-/// The pipeline that an algorithm text names. It keeps what evaluating and compiling it need: its output fits a picture,
-/// calls go to inputs and earlier Funcs with an index for each dimension, an update uses only arguments that stand in place and
-/// keeps them so in calls of its own Func, divisors are not 0, and the limits on counts, boxes and least values hold
-/// (`specs/WellFormed.antt` of `halide_pipeline`).
+/// The pipeline that an algorithm text names, whatever reads its lines by the grammar. It keeps what evaluating and compiling it
+/// need: its output fits a picture, calls go to inputs and earlier Funcs with an index for each dimension, an update uses only
+/// arguments that stand in place and keeps them so in calls of its own Func, names differ, divisors are not 0, and the limits on
+/// counts, names, sizes, boxes and least values hold (`specs/WellFormed.antt` of `halide_pipeline`).
 ///
 /// # Errors
 ///
 /// The number of the first faulty line, from 1, and its least fault; memory ran out.
 pub fn parse(text: &str, alloc: Global) -> Result<Pipeline, LocatedError<ParseFault>>
     ensures given { GivesLocated (λ x. x) result (spec.parsed alloc text.now) }
+    ensures by_grammar { (read : List Token → Option (Line Written)) → FollowsGrammar read → GivesLocated (λ x. x) result (spec.parsed_by read alloc text.now) }
     ensures well_formed { IfOk result (λ pipeline. IsWellFormed pipeline) }
     ensures output { IfOk result (λ pipeline. IsTrue (is_output pipeline.output)) }
 {

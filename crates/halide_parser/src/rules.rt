@@ -2,6 +2,7 @@
 
 ghost use Rattle.std.specs.Prelude.{◌≡◌};
 ghost use Rattle.halide_parser.specs.Rules as spec;
+ghost use Rattle.halide_parser.specs.inner.JudgedLines as lines;
 
 use crate::judging::{Judged, Marks, both_marks, fits, no_marks};
 use crate::readers::{Reader, func, func_place};
@@ -34,7 +35,7 @@ fn is_func(reader: &Reader, name: &[u8]) -> bool
 
 /// The marks of a second index, if there is one.
 fn marks_of(index: &Option<Judged>) -> Marks
-    ensures { result ≡ spec.marks_of index.now }
+    ensures { result ≡ lines.marks_of index.now }
 {
     match index {
         None => no_marks(),
@@ -44,21 +45,21 @@ fn marks_of(index: &Option<Judged>) -> Marks
 
 /// The marks of the indexes on the left.
 fn left_marks(change: &Change<Judged>) -> Marks
-    ensures { result ≡ spec.left_marks change.now }
+    ensures { result ≡ lines.left_marks change.now }
 {
     both_marks(change.left_x.marks, marks_of(&change.left_y))
 }
 
 /// The marks of all expressions of an update.
 fn change_marks(change: &Change<Judged>) -> Marks
-    ensures { result ≡ spec.change_marks change.now }
+    ensures { result ≡ lines.change_marks change.now }
 {
     both_marks(left_marks(change), change.right.marks)
 }
 
 /// The marks of all expressions of a line.
 fn line_marks(line: &Line<Judged>) -> Marks
-    ensures { result ≡ spec.line_marks line.now }
+    ensures { result ≡ lines.line_marks line.now }
 {
     match line {
         Line::Func(definition) => definition.right.marks,
@@ -69,7 +70,7 @@ fn line_marks(line: &Line<Judged>) -> Marks
 
 /// Whether a name stands for nothing that can stand there.
 fn is_unknown(reader: &Reader, line: &Line<Judged>) -> bool
-    ensures { result ≡ spec.is_unknown reader.now line.now }
+    ensures { result ≡ lines.is_unknown reader.now line.now }
 {
     let is_other = match line {
         Line::Update(change) => !is_func(reader, change.name.as_slice()),
@@ -149,7 +150,7 @@ fn count_with<T>(second: &Option<T>) -> usize
 
 /// Whether the number of arguments or dimensions is another.
 fn is_wrong_count(reader: &Reader, line: &Line<Judged>) -> bool
-    ensures { result ≡ spec.is_wrong_count reader.now line.now }
+    ensures { result ≡ lines.is_wrong_count reader.now line.now }
 {
     let is_other = match line {
         Line::Update(change) => {
@@ -199,7 +200,7 @@ fn has_long(tokens: &[Token]) -> bool
 
 /// Whether an index is this variable alone.
 fn is_in_place(index: &Option<Judged>, variable: Variable) -> bool
-    ensures { result ≡ spec.is_in_place index.now variable }
+    ensures { result ≡ lines.is_in_place index.now variable }
 {
     match index {
         None => false,
@@ -210,7 +211,7 @@ fn is_in_place(index: &Option<Judged>, variable: Variable) -> bool
 /// Whether an argument is used without standing in place, or a call of the Func moves one that does, or
 /// the Func is called on the left.
 fn is_moved(change: &Change<Judged>) -> bool
-    ensures { result ≡ spec.is_moved change.now }
+    ensures { result ≡ lines.is_moved change.now }
 {
     let marks = change_marks(change);
     let is_first = change.left_x.alone == Some(Variable::FirstArgument);
@@ -230,7 +231,7 @@ fn is_moved(change: &Change<Judged>) -> bool
 
 /// Whether an update does not stand below its Func, or moves what stands in place.
 fn is_misshapen(reader: &Reader, line: &Line<Judged>) -> bool
-    ensures { result ≡ spec.is_misshapen reader.now line.now }
+    ensures { result ≡ lines.is_misshapen reader.now line.now }
 {
     match line {
         Line::Update(change) => {
@@ -287,13 +288,13 @@ fn is_second_far(second: &Option<Bounds>) -> bool
 
 /// Whether an expression has more than 512 nodes or is nested more than 64 deep.
 fn exceeds(judged: &Judged) -> bool
-    ensures { result ≡ spec.exceeds judged.now }
+    ensures { result ≡ lines.exceeds judged.now }
 {
     !fits(judged.nodes, judged.nesting)
 }
 
 fn second_exceeds(index: &Option<Judged>) -> bool
-    ensures { result ≡ spec.second_exceeds index.now }
+    ensures { result ≡ spec.second_exceeds lines.exceeds index.now }
 {
     match index {
         None => false,
@@ -312,7 +313,7 @@ fn is_full(reader: &Reader, name: &[u8]) -> bool
 }
 
 fn is_change_over_limit(reader: &Reader, change: &Change<Judged>) -> bool
-    ensures { result ≡ spec.is_change_over_limit reader.now change.now }
+    ensures { result ≡ spec.is_change_over_limit lines.exceeds reader.now change.now }
 {
     let is_large = exceeds(&change.left_x)
         || second_exceeds(&change.left_y)
@@ -324,7 +325,7 @@ fn is_change_over_limit(reader: &Reader, change: &Change<Judged>) -> bool
 
 /// Whether a limit is passed.
 fn is_over_limit(reader: &Reader, tokens: &[Token], line: &Line<Judged>) -> bool
-    ensures { result ≡ spec.is_over_limit reader.now tokens.now line.now }
+    ensures { result ≡ spec.is_over_limit lines.exceeds reader.now tokens.now line.now }
 {
     let is_over = match line {
         Line::Blank => false,
@@ -339,9 +340,9 @@ fn is_over_limit(reader: &Reader, tokens: &[Token], line: &Line<Judged>) -> bool
 }
 
 /// The least fault of a line of the grammar, if it has one.
-#[tactic(auto, unfolding(crate::specs::Rules::fault_of))]
+#[tactic(auto, unfolding(crate::specs::inner::JudgedLines::fault_of))]
 pub fn fault_of(reader: &Reader, tokens: &[Token], line: &Line<Judged>) -> Option<ParseFault>
-    ensures { result ≡ spec.fault_of reader.now tokens.now line.now }
+    ensures { result ≡ lines.fault_of reader.now tokens.now line.now }
 {
     if is_behind_output(reader.output, line) {
         Some(ParseFault::Syntax)

@@ -1,6 +1,7 @@
 //! The variables of a definition.
 
 ghost use Rattle.std.specs.Prelude.{◌≡◌, IfOk};
+ghost use Rattle.halide_pipeline.specs.Names.{is_named};
 ghost use Rattle.halide_parser.specs.Scopes as spec;
 
 use halide_pipeline::Variable;
@@ -33,7 +34,7 @@ impl Scope {
 
 /// Whether there is a name, and it is this one.
 pub fn is_named(own: &Option<Items<u8>>, name: &[u8]) -> bool
-    ensures { result ≡ spec.is_named own.now name.now }
+    ensures { result ≡ is_named own.now name.now }
 {
     match own {
         None => false,

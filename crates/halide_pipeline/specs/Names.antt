@@ -1,6 +1,6 @@
 -- Names with what they stand for, in order.
 -- This project's own.
-use Rattle.std.specs.Prelude.{ℕ, List, [], ◌∷◌, map, Option, Some, None, if◌then◌else◌, Vec}
+use Rattle.std.specs.Prelude.{ℕ, Bool, false, List, [], ◌∷◌, map, Option, Some, None, if◌then◌else◌, Vec}
 use Rattle.std.specs.Str.{bytes_eq}
 use Rattle.std.specs.declared.alloc.Global.{Global}
 use Rattle.halide_pipeline.specs.declared.expressions.Source.{Source}
@@ -16,3 +16,8 @@ pairs_of entries = map (λ entry. (entry.0.items, entry.1)) entries
 abbrev pub lookup : List ℕ → List Named → Option Source
 lookup name [] = None
 lookup name (named ∷ others) = if bytes_eq name named.0 then Some named.1 else lookup name others
+
+-- There is a name, and it is this one.
+abbrev pub is_named : Option (List ℕ) → List ℕ → Bool
+is_named None name = false
+is_named (Some own) name = bytes_eq own name

@@ -1,6 +1,7 @@
 -- What every pipeline keeps that a text names.
 -- This project's own.
-use Rattle.std.specs.Prelude.{◌≡◌, ℕ, suc, ◌*◌, ◌==◌, ◌&&◌, ◌||◌, Bool, true, false, not, nat_le, nat_lt, IsTrue, List, length, slice_get, Option, Some, None, is_some}
+use Rattle.std.specs.Prelude.{◌≡◌, ℕ, suc, ◌*◌, ◌==◌, ◌&&◌, ◌||◌, Bool, true, false, not, nat_le, nat_lt, IsTrue, List, [], ◌∷◌, length, slice_get, Option, Some, None, is_some}
+use Rattle.std.specs.Str.{bytes_eq}
 use Rattle.halide_pipeline.specs.declared.definitions.Func.{Func}
 use Rattle.halide_pipeline.specs.declared.definitions.Input.{Input}
 use Rattle.halide_pipeline.specs.declared.definitions.Output.{Output}
@@ -15,8 +16,8 @@ use Rattle.halide_pipeline.specs.declared.expressions.Variable.{Variable}
 use Rattle.halide_pipeline.specs.declared.expressions.Variable.TheVariants as variables
 use Rattle.halide_pipeline.specs.declared.pipelines.Pipeline.{Pipeline}
 use Rattle.halide_pipeline.specs.Definitions.{dimensions, is_first_in_place, is_second_in_place}
-use Rattle.halide_pipeline.specs.Expressions.{same_variable, uses}
-use Rattle.halide_pipeline.specs.Names.{lookup}
+use Rattle.halide_pipeline.specs.Expressions.{same_variable, uses, nodes, brackets}
+use Rattle.halide_pipeline.specs.Names.{Named, lookup, is_named}
 
 -- ---- boxes
 
@@ -46,6 +47,40 @@ is_input input = is_width input.width && is_height input.width input.height && a
 abbrev pub is_output : Output → Bool
 is_output output = is_width output.width && is_height output.width output.height
 
+-- ---- names
+
+-- a name has at most so many bytes
+abbrev pub most_name : ℕ
+most_name = 32
+
+abbrev pub is_name : List ℕ → Bool
+is_name name = nat_le (length name) most_name
+
+abbrev pub is_second_name : Option (List ℕ) → Bool
+is_second_name None = true
+is_second_name (Some name) = is_name name
+
+abbrev pub are_names : List Named → Bool
+are_names [] = true
+are_names (named ∷ others) = is_name named.0 && are_names others
+
+-- the names of one argument or two, which differ
+abbrev pub are_arguments : List ℕ → Option (List ℕ) → Bool
+are_arguments first second = (is_name first && is_second_name second) && not (is_named second first)
+
+abbrev pub is_argument_name : List ℕ → Option (List ℕ) → List ℕ → Bool
+is_argument_name first second name = bytes_eq first name || is_named second name
+
+-- a second reduction variable, beside these arguments and this first reduction variable
+abbrev pub is_second_reduction : List ℕ → Option (List ℕ) → List ℕ → Option Reduction → Bool
+is_second_reduction first second inner None = true
+is_second_reduction first second inner (Some outer) = is_name outer.name && not (bytes_eq outer.name inner || is_argument_name first second outer.name)
+
+-- The names of an update's reduction variables differ, and are not those of the arguments.
+abbrev pub are_reductions : List ℕ → Option (List ℕ) → Update → Bool
+are_reductions first second update =
+    (is_name update.first.name && not (is_argument_name first second update.first.name)) && is_second_reduction first second update.first.name update.second
+
 -- ---- reads
 
 abbrev pub is_input_of : Option Input → ℕ → Bool
@@ -69,6 +104,25 @@ is_source inputs funcs (sources.Func place) = is_some (slice_get funcs place)
 
 abbrev pub most_number : ℕ
 most_number = 0x7fffffff
+
+-- an expression has at most so many nodes
+abbrev pub most_nodes : ℕ
+most_nodes = 512
+
+-- and at most so many brackets and signs around one place
+abbrev pub most_brackets : ℕ
+most_brackets = 64
+
+abbrev pub fits : ℕ → ℕ → Bool
+fits nodes brackets = nat_le nodes most_nodes && nat_le brackets most_brackets
+
+-- within both, in the spelling with the fewest brackets
+abbrev pub is_sized : Expr → Bool
+is_sized e = fits (nodes e) (brackets e).around
+
+abbrev pub is_second_sized : Option Expr → Bool
+is_second_sized None = true
+is_second_sized (Some e) = is_sized e
 
 abbrev pub is_divisor : ℕ → Bool
 is_divisor n = nat_le 1 n && nat_le n most_number
@@ -180,6 +234,9 @@ pub record IsUpdate (inputs : List Input) (funcs : List Func) (place count : ℕ
   pub first_argument : IsTrue (is_first_in_place update || not (is_used variables.FirstArgument update))
   pub second_argument : IsTrue (is_second_in_place update || not (is_used variables.SecondArgument update))
   pub own_calls : IsTrue (calls_in_place place (is_first_in_place update) (is_second_in_place update) update.right).stays
+  pub left_x_sized : IsTrue (is_sized update.left_x)
+  pub left_y_sized : IsTrue (is_second_sized update.left_y)
+  pub right_sized : IsTrue (is_sized update.right)
   pub minimum : IsTrue (is_minimum update.first.minimum)
   pub second_minimum : IsTrue (is_second_minimum update.second)
   pub box : IsTrue (is_box update)
@@ -187,8 +244,11 @@ pub record IsUpdate (inputs : List Input) (funcs : List Func) (place count : ℕ
 -- The Func at this place. It calls inputs and the Funcs before it.
 pub record IsFunc (inputs : List Input) (funcs : List Func) (place : ℕ) (func : Func) : Type 0 where
   pub pure : IsTrue (keeps (is_read inputs funcs place) (is_argument (dimensions func)) func.pure)
+  pub pure_sized : IsTrue (is_sized func.pure)
+  pub arguments : IsTrue (are_arguments func.first_argument func.second_argument)
   pub few_updates : IsTrue (nat_le (length func.updates) 4)
   pub updates : (at : ℕ) (update : Update) → slice_get func.updates at ≡ Some update → IsUpdate inputs funcs place (dimensions func) update
+  pub reductions : (at : ℕ) (update : Update) → slice_get func.updates at ≡ Some update → IsTrue (are_reductions func.first_argument func.second_argument update)
 
 -- ---- the whole
 
@@ -197,7 +257,8 @@ pub record IsWellFormed (pipeline : Pipeline) : Type 0 where
   pub few_funcs : IsTrue (nat_le (length pipeline.funcs) 12)
   pub inputs : (place : ℕ) (input : Input) → slice_get pipeline.inputs place ≡ Some input → IsTrue (is_input input)
   pub funcs : (place : ℕ) (func : Func) → slice_get pipeline.funcs place ≡ Some func → IsFunc pipeline.inputs pipeline.funcs place func
-  -- a name stands for an input or a Func that is there
+  -- names are short, and each stands for an input or a Func that is there
+  pub short_names : IsTrue (are_names pipeline.names)
   pub names : (name : List ℕ) (source : Source) → lookup name pipeline.names ≡ Some source → IsTrue (is_source pipeline.inputs pipeline.funcs source)
   -- the output is a Func that is there, with its dimensions
   pub output : IsTrue (is_output pipeline.output)

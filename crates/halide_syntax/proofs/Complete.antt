@@ -10,9 +10,9 @@ use Rattle.halide_syntax.specs.declared.states.Bracket.{Bracket}
 use Rattle.halide_syntax.specs.declared.states.Bracket.TheVariants as b
 use Rattle.halide_syntax.specs.declared.states.Frame.{Frame}
 use Rattle.halide_syntax.specs.declared.states.State.{State}
-use Rattle.halide_syntax.specs.Algebra.{writing}
+use Rattle.halide_syntax.specs.inner.Algebra.{writing}
 use Rattle.halide_syntax.specs.Grammar.{Written, Literal, Bare, Group, Minus, Call, CallTwo, Two, Three, Product, Sum, Comparison, spell, level, IsRight, is_open}
-use Rattle.halide_syntax.specs.Machine as m
+use Rattle.halide_syntax.specs.inner.Machine as m
 
 -- Some steps lead from a state to another.
 record Reach (s : State Written) (ts : List Token) (s' : State Written) (ts' : List Token) : Type 0 where

@@ -2,6 +2,7 @@ pub mod Complete
 pub mod LinesBack
 pub mod Making
 pub mod MakingLines
+pub mod Refusals
 pub mod Sound
 pub mod TokenLoop
 pub mod Tops

@@ -11,11 +11,11 @@ use Rattle.halide_syntax.specs.declared.lines.Change.{Change}
 use Rattle.halide_syntax.specs.declared.lines.Definition.{Definition}
 use Rattle.halide_syntax.specs.declared.lines.Line.{Line}
 use Rattle.halide_syntax.specs.declared.lines.Line.TheVariants as line
-use Rattle.halide_syntax.specs.Algebra.{writing}
+use Rattle.halide_syntax.specs.inner.Algebra.{writing}
 use Rattle.halide_syntax.specs.Grammar.{Written, spell, IsRight, is_open}
 use Rattle.halide_syntax.specs.LineGrammar.{spell_height, spell_extents, spell_sign, spell_bounds, spell_second_bounds, spell_argument, spell_index, spell_line, IsRightIndex, IsRightLine}
-use Rattle.halide_syntax.specs.LineReading as r
-use Rattle.halide_syntax.specs.Machine as m
+use Rattle.halide_syntax.specs.inner.LineReading as r
+use Rattle.halide_syntax.specs.inner.Machine as m
 use Rattle.halide_syntax.proofs.Complete.{is_read}
 use Rattle.halide_syntax.proofs.Sound.{is_written}
 

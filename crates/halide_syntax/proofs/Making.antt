@@ -11,10 +11,10 @@ use Rattle.halide_syntax.specs.declared.states.Bracket.{Bracket}
 use Rattle.halide_syntax.specs.declared.states.Bracket.TheVariants as b
 use Rattle.halide_syntax.specs.declared.states.Frame.{Frame}
 use Rattle.halide_syntax.specs.declared.states.State.{State}
-use Rattle.halide_syntax.specs.Algebra.{Algebra, writing, made}
+use Rattle.halide_syntax.specs.inner.Algebra.{Algebra, writing, made}
 use Rattle.halide_syntax.specs.Grammar.{Written, Literal, Bare}
-use Rattle.halide_syntax.specs.Stacks.{is_empty}
-use Rattle.halide_syntax.specs.Machine as m
+use Rattle.halide_syntax.specs.inner.Stacks.{is_empty}
+use Rattle.halide_syntax.specs.inner.Machine as m
 
 module _ {V : Type 0} (alg : Algebra V) where
   abbrev joined : {O : Type 0} → Option (O × Written) → Option (O × V)

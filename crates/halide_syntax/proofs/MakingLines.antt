@@ -6,11 +6,11 @@ use Rattle.halide_syntax.specs.declared.tokens.Token.{Token}
 use Rattle.halide_syntax.specs.declared.tokens.Token.TheVariants as t
 use Rattle.halide_syntax.specs.declared.lines.Line.{Line}
 use Rattle.halide_syntax.specs.declared.lines.Line.TheVariants as line
-use Rattle.halide_syntax.specs.Algebra.{Algebra, writing, made}
+use Rattle.halide_syntax.specs.inner.Algebra.{Algebra, writing, made}
 use Rattle.halide_syntax.specs.Grammar.{Written}
-use Rattle.halide_syntax.specs.LineGrammar.{made_line, made_index}
-use Rattle.halide_syntax.specs.LineReading as r
-use Rattle.halide_syntax.specs.Machine as m
+use Rattle.halide_syntax.specs.inner.Algebra.{made_line, made_index}
+use Rattle.halide_syntax.specs.inner.LineReading as r
+use Rattle.halide_syntax.specs.inner.Machine as m
 use Rattle.halide_syntax.proofs.Making.{expression}
 
 -- a step that makes a value, and then equal steps

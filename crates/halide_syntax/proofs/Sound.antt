@@ -11,10 +11,10 @@ use Rattle.halide_syntax.specs.declared.states.Bracket.{Bracket}
 use Rattle.halide_syntax.specs.declared.states.Bracket.TheVariants as b
 use Rattle.halide_syntax.specs.declared.states.Frame.{Frame}
 use Rattle.halide_syntax.specs.declared.states.State.{State}
-use Rattle.halide_syntax.specs.Algebra.{writing}
+use Rattle.halide_syntax.specs.inner.Algebra.{writing}
 use Rattle.halide_syntax.specs.Grammar.{Written, Literal, Bare, Group, Call, CallTwo, Two, Three, spell, level, IsRight}
-use Rattle.halide_syntax.specs.Stacks.{is_empty}
-use Rattle.halide_syntax.specs.Machine as m
+use Rattle.halide_syntax.specs.inner.Stacks.{is_empty}
+use Rattle.halide_syntax.specs.inner.Machine as m
 
 -- ---- the tokens of what was read
 

@@ -1,6 +1,6 @@
 -- The grammar of expressions as a spelling: what is written, and its tokens.
 -- This project's own.
-use Rattle.std.specs.Prelude.{ℕ, ◌≤◌, Bool, true, false, List, ◌∷◌}
+use Rattle.std.specs.Prelude.{ℕ, ◌+◌, max, ◌≤◌, Bool, true, false, ◌||◌, List, ◌∷◌}
 use Rattle.halide_syntax.specs.declared.tokens.Token.{Token}
 use Rattle.halide_syntax.specs.declared.tokens.Token.TheVariants as t
 use Rattle.halide_syntax.specs.declared.tokens.ProductOperator.{ProductOperator}
@@ -64,3 +64,31 @@ IsRight (Comparison op a b) = (level a ≤ 2) × (level b ≤ 2) × IsRight a ×
 abbrev pub is_open : List Token → Bool
 is_open (t.Open ∷ rest) = true
 is_open _ = false
+
+-- the brackets and signs around that place of an expression which has most of them
+abbrev pub nesting : Written → ℕ
+nesting (Literal n) = 0
+nesting (Bare name) = 0
+nesting (Group a) = nesting a + 1
+nesting (Minus a) = nesting a + 1
+nesting (Call name a) = nesting a + 1
+nesting (CallTwo name a b) = max (nesting a) (nesting b) + 1
+nesting (Two f a b) = max (nesting a) (nesting b) + 1
+nesting (Three f a b c) = max (nesting a) (max (nesting b) (nesting c)) + 1
+nesting (Product op a b) = max (nesting a) (nesting b)
+nesting (Sum op a b) = max (nesting a) (nesting b)
+nesting (Comparison op a b) = max (nesting a) (nesting b)
+
+-- An expression or a part of it passes a test.
+abbrev pub has_part : (Written → Bool) → Written → Bool
+has_part test (Literal n) = test (Literal n)
+has_part test (Bare name) = test (Bare name)
+has_part test (Group a) = test (Group a) || has_part test a
+has_part test (Minus a) = test (Minus a) || has_part test a
+has_part test (Call name a) = test (Call name a) || has_part test a
+has_part test (CallTwo name a b) = test (CallTwo name a b) || (has_part test a || has_part test b)
+has_part test (Two f a b) = test (Two f a b) || (has_part test a || has_part test b)
+has_part test (Three f a b c) = test (Three f a b c) || (has_part test a || (has_part test b || has_part test c))
+has_part test (Product op a b) = test (Product op a b) || (has_part test a || has_part test b)
+has_part test (Sum op a b) = test (Sum op a b) || (has_part test a || has_part test b)
+has_part test (Comparison op a b) = test (Comparison op a b) || (has_part test a || has_part test b)

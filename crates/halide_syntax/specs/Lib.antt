@@ -1,9 +1,5 @@
-pub mod Algebra
 pub mod Faults
 pub mod Grammar
 pub mod LineGrammar
-pub mod LineReading
-pub mod Machine
-pub mod Reversed
-pub mod Stacks
 pub mod Tokens
+pub mod inner

@@ -1,6 +1,6 @@
 -- The grammar of lines as a spelling: what a line says, and its tokens.
 -- This project's own.
-use Rattle.std.specs.Prelude.{ℕ, Bool, true, false, List, [], ◌∷◌, Option, Some, None}
+use Rattle.std.specs.Prelude.{◌≡◌, ℕ, Bool, true, false, List, [], ◌∷◌, Option, Some, None}
 use Rattle.halide_syntax.specs.declared.tokens.Token.{Token}
 use Rattle.halide_syntax.specs.declared.tokens.Token.TheVariants as t
 use Rattle.halide_syntax.specs.declared.tokens.SumOperator.TheVariants.{Subtract}
@@ -8,7 +8,6 @@ use Rattle.halide_syntax.specs.declared.lines.Extents.{Extents}
 use Rattle.halide_syntax.specs.declared.lines.Bounds.{Bounds}
 use Rattle.halide_syntax.specs.declared.lines.Line.{Line}
 use Rattle.halide_syntax.specs.declared.lines.Line.TheVariants as line
-use Rattle.halide_syntax.specs.Algebra.{Algebra, made}
 use Rattle.halide_syntax.specs.Grammar.{Written, spell, IsRight}
 
 abbrev pub spell_height : Option ℕ → List Token
@@ -60,14 +59,7 @@ IsRightLine (line.Func d) = IsRight d.right
 IsRightLine (line.Update u) = IsRight u.left_x × IsRightIndex u.left_y × IsRight u.right
 IsRightLine (line.Output e) = Unit {0}
 
-abbrev pub made_index : {V : Type 0} → Algebra V → Option Written → Option V
-made_index alg None = None
-made_index alg (Some w) = Some (made alg w)
-
--- the line with what an algebra makes of its expressions
-abbrev pub made_line : {V : Type 0} → Algebra V → Line Written → Line V
-made_line alg line.Blank = line.Blank
-made_line alg (line.Input e) = line.Input e
-made_line alg (line.Func d) = line.Func (record { name = d.name; first_argument = d.first_argument; second_argument = d.second_argument; right = made alg d.right })
-made_line alg (line.Update u) = line.Update (record { name = u.name; left_x = made alg u.left_x; left_y = made_index alg u.left_y; right = made alg u.right; first = u.first; second = u.second })
-made_line alg (line.Output e) = line.Output e
+-- What is read of the tokens of a line is the line of the grammar that they spell, and nothing where they spell none.
+pub record FollowsGrammar (read : List Token → Option (Line Written)) : Type 0 where
+  pub each : (line : Line Written) → IsRightLine line → read (spell_line line) ≡ Some line
+  pub no_other : (tokens : List Token) (line : Line Written) → read tokens ≡ Some line → IsRightLine line × (tokens ≡ spell_line line)

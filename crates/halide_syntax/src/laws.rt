@@ -1,14 +1,14 @@
 //! What the definitions of the grammar and of reading come to. The functions do nothing: their contracts
 //! are the laws.
 
-ghost use Rattle.std.specs.Prelude.{◌≡◌, List, Ok, Some, false};
+ghost use Rattle.std.specs.Prelude.{◌≡◌, List, Option, Some, false};
 ghost use Rattle.halide_syntax.specs.declared.tokens.Token.{Token};
 ghost use Rattle.halide_syntax.specs.declared.lines.Line.{Line};
-ghost use Rattle.halide_syntax.specs.Algebra.{Algebra, writing};
+ghost use Rattle.halide_syntax.specs.inner.Algebra.{Algebra, writing};
 ghost use Rattle.halide_syntax.specs.Grammar.{Written, IsRight, spell, is_open};
-ghost use Rattle.halide_syntax.specs.Machine.{expression, is_operator};
-ghost use Rattle.halide_syntax.specs.LineGrammar.{spell_line, IsRightLine};
-ghost use Rattle.halide_syntax.specs.LineReading.{read_line, with_made};
+ghost use Rattle.halide_syntax.specs.inner.Machine.{expression, is_operator};
+ghost use Rattle.halide_syntax.specs.LineGrammar.{FollowsGrammar};
+ghost use Rattle.halide_syntax.specs.inner.LineReading.{read_line, with_made, line_of};
 
 /// What is made of the tokens of a line is what is made of the line that is written there.
 pub fn lines_are_made<V>()
@@ -25,13 +25,13 @@ pub fn expressions_are_read()
     ensures { (w : Written) (rest : List Token) → IsRight w → is_open rest ≡ false → is_operator rest ≡ false → expression writing (spell w rest) ≡ Some (w, rest) }
 {}
 
-/// A line of the grammar is read as itself.
-pub fn lines_are_read()
-    ensures { (line : Line Written) → IsRightLine line → read_line writing (spell_line line) ≡ Ok line }
+/// The line that is read of tokens is the line of the grammar that they spell: each line of the grammar is read
+/// as itself, and of no other tokens a line is read.
+pub fn lines_follow_the_grammar()
+    ensures { FollowsGrammar line_of }
 {}
 
-/// A line that is read is of the grammar, and its tokens stand there. With
-/// [`lines_are_read`](lines_are_read): tokens are read exactly where they spell a line of the grammar.
-pub fn lines_are_written()
-    ensures { (tokens : List Token) (line : Line Written) → read_line writing tokens ≡ Ok line → IsRightLine line × (tokens ≡ spell_line line) }
+/// There is one way to read lines that follows the grammar, so no tokens spell two lines.
+pub fn readings_agree()
+    ensures { (read other : List Token → Option (Line Written)) → FollowsGrammar read → FollowsGrammar other → (tokens : List Token) → read tokens ≡ other tokens }
 {}

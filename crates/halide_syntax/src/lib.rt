@@ -3,10 +3,11 @@
 //! - [`faults`]: what can be wrong with a text.
 //! - [`tokens`]: the tokens of a line (`specs/Tokens.antt`).
 //! - [`states`]: where a pass over the tokens of an expression stands: the brackets that are open, and
-//!   what is pending in each. The pass itself is `specs/Machine.antt`, over any values that an algebra
+//!   what is pending in each. The pass itself is `specs/inner/Machine.antt`, over any values that an algebra
 //!   makes of the parts; `specs/Grammar.antt` says what is written by the grammar.
 //! - [`line_parts`]: the parts of a line that are no expressions.
-//! - [`lines`]: what a line says (`specs/LineGrammar.antt`, and how it is read, `specs/LineReading.antt`).
+//! - [`lines`]: what a line says (`specs/LineGrammar.antt`).
+//! - [`laws`]: what is read is what the grammar spells, whatever reads it (`specs/inner`).
 #![tactic(auto)]
 
 pub mod faults;

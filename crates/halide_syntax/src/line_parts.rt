@@ -2,7 +2,7 @@
 
 ghost use Rattle.std.specs.Prelude.{◌≡◌, IfOk};
 ghost use Rattle.line_text.specs.Reading.{Gives};
-ghost use Rattle.halide_syntax.specs.LineReading as spec;
+ghost use Rattle.halide_syntax.specs.inner.LineReading as spec;
 
 use crate::faults::ParseFault;
 use crate::lines::{Bounds, Extents};
@@ -22,7 +22,7 @@ fn copied(alloc: Global, name: &Items<u8>) -> Result<Items<u8>, AllocError>
 /// # Errors
 ///
 /// `Syntax` where the tokens are other; memory ran out.
-#[tactic(auto, unfolding(crate::specs::LineReading::extents))]
+#[tactic(auto, unfolding(crate::specs::inner::LineReading::extents))]
 pub fn extents(alloc: Global, tokens: &[Token]) -> Result<Extents, ReadError<ParseFault>>
     ensures { Gives (λ x. x) result (spec.extents tokens.now) }
 {
@@ -73,7 +73,7 @@ fn bounds_from<'a>(
 /// # Errors
 ///
 /// `Syntax` where the tokens are other; memory ran out.
-#[tactic(auto, unfolding(crate::specs::LineReading::bounds))]
+#[tactic(auto, unfolding(crate::specs::inner::LineReading::bounds))]
 pub fn bounds(alloc: Global, tokens: &[Token]) -> Result<(Bounds, &[Token]), ReadError<ParseFault>>
     ensures { Gives (λ x. (x.0, x.1.now)) result (spec.bounds tokens.now) }
 {
@@ -93,7 +93,7 @@ pub fn bounds(alloc: Global, tokens: &[Token]) -> Result<(Bounds, &[Token]), Rea
 /// # Errors
 ///
 /// `Syntax` where the tokens are other; memory ran out.
-#[tactic(auto, unfolding(crate::specs::LineReading::more_bounds))]
+#[tactic(auto, unfolding(crate::specs::inner::LineReading::more_bounds))]
 pub fn more_bounds(alloc: Global, tokens: &[Token]) -> Result<Option<Bounds>, ReadError<ParseFault>>
     ensures { Gives (λ x. x) result (spec.more_bounds tokens.now) }
 {
@@ -116,7 +116,7 @@ pub fn more_bounds(alloc: Global, tokens: &[Token]) -> Result<Option<Bounds>, Re
 /// # Errors
 ///
 /// `Syntax` where the tokens are other; memory ran out.
-#[tactic(auto, unfolding(crate::specs::LineReading::arguments))]
+#[tactic(auto, unfolding(crate::specs::inner::LineReading::arguments))]
 pub fn arguments(
     alloc: Global,
     tokens: &[Token],
@@ -147,7 +147,7 @@ pub fn arguments(
 /// # Errors
 ///
 /// `Syntax` where the tokens are other.
-#[tactic(auto, unfolding(crate::specs::LineReading::assigned))]
+#[tactic(auto, unfolding(crate::specs::inner::LineReading::assigned))]
 pub fn assigned(tokens: &[Token]) -> Result<&[Token], ReadError<ParseFault>>
     ensures { Gives (λ x. x.now) result (spec.assigned tokens.now) }
 {
@@ -162,7 +162,7 @@ pub fn assigned(tokens: &[Token]) -> Result<&[Token], ReadError<ParseFault>>
 /// # Errors
 ///
 /// `Syntax` where the tokens are other.
-#[tactic(auto, unfolding(crate::specs::LineReading::over))]
+#[tactic(auto, unfolding(crate::specs::inner::LineReading::over))]
 pub fn over(tokens: &[Token]) -> Result<&[Token], ReadError<ParseFault>>
     ensures { Gives (λ x. x.now) result (spec.over tokens.now) }
 {

@@ -2,7 +2,7 @@
 //! read.
 
 ghost use Rattle.std.specs.Prelude.{◌≡◌, [], ◌∷◌, OnOk, MatchOption};
-ghost use Rattle.halide_syntax.specs.Stacks.{is_empty};
+ghost use Rattle.halide_syntax.specs.inner.Stacks.{is_empty};
 
 use crate::tokens::{CompareOperator, ProductOperator, SumOperator, ThreeFunction, TwoFunction};
 use sqlite_items::Items;
@@ -50,7 +50,7 @@ pub struct Stack<V> {
 impl<V> Model for Stack<V> {
     ghost use Rattle.std.specs.Prelude.{List};
     ghost use Rattle.halide_syntax.specs.declared.states.Frame.{Frame};
-    ghost use Rattle.halide_syntax.specs.Reversed.{on_top};
+    ghost use Rattle.halide_syntax.specs.inner.Reversed.{on_top};
 
     ghost Value = { List (Frame V) };
 

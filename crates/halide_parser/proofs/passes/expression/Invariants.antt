@@ -1,5 +1,5 @@
 use Rattle.std.proofs.Common.{length}
-use Rattle.halide_parser.specs.Judging.{judging}
+use Rattle.halide_parser.specs.inner.Judging.{judging}
 use Rattle.halide_parser.proofs.PassLoop.{Going}
 use Rattle.halide_parser.proofs.passes.expression.Given as goal
 

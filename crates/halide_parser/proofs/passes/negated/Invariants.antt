@@ -1,6 +1,6 @@
 use Rattle.std.proofs.Common.{◌≡◌}
-use Rattle.halide_syntax.specs.Machine.{negated}
-use Rattle.halide_parser.specs.Judging.{judging}
+use Rattle.halide_syntax.specs.inner.Machine.{negated}
+use Rattle.halide_parser.specs.inner.Judging.{judging}
 use Rattle.halide_parser.proofs.passes.negated.Given as goal
 
 abbrev pub invariant-signs : goal.invariant-signs

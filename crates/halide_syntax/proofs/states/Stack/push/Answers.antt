@@ -1,5 +1,5 @@
 use Rattle.std.proofs.Common.{ap, ◌∙◌, ◌∷◌}
-use Rattle.halide_syntax.specs.Reversed.{on_top}
+use Rattle.halide_syntax.specs.inner.Reversed.{on_top}
 use Rattle.halide_syntax.proofs.Tops.{pushed}
 use Rattle.halide_syntax.proofs.states.Stack.push.Goals as goal
 

@@ -13,8 +13,8 @@ use Rattle.halide_syntax.specs.declared.states.Bracket.{Bracket}
 use Rattle.halide_syntax.specs.declared.states.Bracket.TheVariants as b
 use Rattle.halide_syntax.specs.declared.states.Frame.{Frame}
 use Rattle.halide_syntax.specs.declared.states.State.{State}
-use Rattle.halide_syntax.specs.Algebra.{Algebra}
-use Rattle.halide_syntax.specs.Stacks.{is_empty}
+use Rattle.halide_syntax.specs.inner.Algebra.{Algebra}
+use Rattle.halide_syntax.specs.inner.Stacks.{is_empty}
 
 -- a state after some tokens, and the tokens that are left
 abbrev pub Moved : Type 0 → Type 0

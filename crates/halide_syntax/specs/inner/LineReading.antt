@@ -11,10 +11,9 @@ use Rattle.halide_syntax.specs.declared.lines.Extents.{Extents}
 use Rattle.halide_syntax.specs.declared.lines.Bounds.{Bounds}
 use Rattle.halide_syntax.specs.declared.lines.Line.{Line}
 use Rattle.halide_syntax.specs.declared.lines.Line.TheVariants as line
-use Rattle.halide_syntax.specs.Algebra.{Algebra}
+use Rattle.halide_syntax.specs.inner.Algebra.{Algebra, writing, made_line}
 use Rattle.halide_syntax.specs.Grammar.{Written}
-use Rattle.halide_syntax.specs.LineGrammar.{made_line}
-use Rattle.halide_syntax.specs.Machine.{expression}
+use Rattle.halide_syntax.specs.inner.Machine.{expression}
 
 -- a value and the tokens behind it
 abbrev pub Read : Type 0 → Type 0
@@ -104,3 +103,11 @@ module _ {V : Type 0} (alg : Algebra V) where
 -- what an algebra makes of a line that was read
 abbrev pub with_made : {V : Type 0} → Algebra V → Result (Line Written) ParseFault → Result (Line V) ParseFault
 with_made alg given = given >>= λ w. Ok (made_line alg w)
+
+abbrev pub read_or_none : {A : Type 0} → Result A ParseFault → Option A
+read_or_none (Ok value) = Some value
+read_or_none (Err fault) = None
+
+-- the line of the grammar that tokens spell, if they spell one
+unfoldable pub line_of : List Token → Option (Line Written)
+line_of tokens = read_or_none (read_line writing tokens)

@@ -8,24 +8,21 @@ use Rattle.halide_pipeline.specs.declared.expressions.Operation.{Operation}
 use Rattle.halide_pipeline.specs.declared.expressions.Operation.TheVariants as op
 use Rattle.halide_pipeline.specs.declared.expressions.Expr.{Expr}
 use Rattle.halide_pipeline.specs.declared.expressions.Expr.TheVariants as e
-use Rattle.halide_pipeline.specs.Expressions.{same_variable}
+use Rattle.halide_pipeline.specs.WellFormed.{is_alone, fits}
 use Rattle.halide_parser.specs.declared.judging.Marks.{Marks}
 use Rattle.halide_parser.specs.declared.judging.Judged.{Judged}
 use Rattle.halide_parser.specs.declared.readers.Reader.{Reader}
 use Rattle.halide_parser.specs.declared.scopes.Scope.{Scope}
 use Rattle.halide_pipeline.specs.declared.expressions.Source.{Source}
-use Rattle.halide_pipeline.specs.declared.expressions.Source.TheVariants as sources
 use Rattle.halide_syntax.specs.declared.tokens.ProductOperator.{ProductOperator}
 use Rattle.halide_syntax.specs.declared.tokens.ProductOperator.TheVariants as products
 use Rattle.halide_syntax.specs.declared.tokens.SumOperator.{SumOperator}
-use Rattle.halide_syntax.specs.declared.tokens.SumOperator.TheVariants as sums
 use Rattle.halide_syntax.specs.declared.tokens.CompareOperator.{CompareOperator}
-use Rattle.halide_syntax.specs.declared.tokens.CompareOperator.TheVariants as comparisons
 use Rattle.halide_syntax.specs.declared.tokens.TwoFunction.{TwoFunction}
-use Rattle.halide_syntax.specs.declared.tokens.TwoFunction.TheVariants as twos
 use Rattle.halide_syntax.specs.declared.tokens.ThreeFunction.{ThreeFunction}
 use Rattle.halide_syntax.specs.declared.tokens.ThreeFunction.TheVariants as threes
-use Rattle.halide_syntax.specs.Algebra.{Algebra}
+use Rattle.halide_syntax.specs.inner.Algebra.{Algebra}
+use Rattle.halide_parser.specs.Expressions.{is_own, two_operation, sum_operation, comparison_operation}
 use Rattle.halide_parser.specs.Readers.{source}
 use Rattle.halide_parser.specs.Scopes.{variable}
 
@@ -51,10 +48,6 @@ node_sum a b = min (a + b) 513
 -- nesting is counted up to 65
 unfoldable pub deeper : ℕ → ℕ
 deeper nesting = min (nesting + 1) 65
-
--- an expression of at most 512 nodes, and at most 64 brackets and signs around one place
-abbrev pub fits : ℕ → ℕ → Bool
-fits nodes nesting = nat_le nodes 512 && nat_le nesting 64
 
 abbrev pub binary_tree : Bool → Operation → Option Expr → Option Expr → Option Expr
 binary_tree is_wanted operation (Some a) (Some b) = if is_wanted then Some (e.Binary operation a b) else None
@@ -93,10 +86,6 @@ enclosed a =
 abbrev pub literal : ℕ → Judged
 literal n = record { marks = no_marks; nodes = 1; nesting = 0; literal = Some n; alone = None; tree = Some (e.Number n) }
 
-abbrev pub is_this : Variable → Option Variable → Bool
-is_this v None = false
-is_this v (Some own) = same_variable own v
-
 -- a variable; a bare name of a source lacks its arguments, and any other name is unknown
 abbrev pub bare_as : Option Variable → Bool → Judged
 bare_as found is_source = record {
@@ -104,8 +93,8 @@ bare_as found is_source = record {
     is_unknown = not (is_some found) && not is_source;
     is_wrong_count = not (is_some found) && is_source;
     is_bad_divisor = false;
-    uses_first = is_this variables.FirstArgument found;
-    uses_second = is_this variables.SecondArgument found;
+    uses_first = is_alone variables.FirstArgument found;
+    uses_second = is_alone variables.SecondArgument found;
     calls_own = false;
     moves_first = false;
     moves_second = false;
@@ -136,8 +125,8 @@ own_marks is_own first second = record {
   uses_first = false;
   uses_second = false;
   calls_own = is_own;
-  moves_first = is_own && not (is_this variables.FirstArgument first);
-  moves_second = is_own && not (is_this variables.SecondArgument second);
+  moves_first = is_own && not (is_alone variables.FirstArgument first);
+  moves_second = is_own && not (is_alone variables.SecondArgument second);
 }
 
 abbrev pub unknown_mark : Marks
@@ -159,14 +148,6 @@ with_wrong_count is_wrong marks = record {
 abbrev pub callee_marks : Option (Source × ℕ) → ℕ → Marks → Marks
 callee_marks None count own = unknown_mark
 callee_marks (Some callee) count own = with_wrong_count (not (callee.1 == count)) own
-
-abbrev pub is_own_place : Option ℕ → Source → Bool
-is_own_place (Some own) (sources.Func place) = own == place
-is_own_place _ _ = false
-
-abbrev pub is_own : Scope → Option (Source × ℕ) → Bool
-is_own scope None = false
-is_own scope (Some callee) = is_own_place scope.own callee.0
 
 abbrev pub call_tree : Bool → Option (Source × ℕ) → Option Expr → Option Expr
 call_tree is_wanted (Some callee) (Some a) = if is_wanted then Some (e.Call1 callee.0 a) else None
@@ -208,10 +189,6 @@ call_two_as scope callee a b =
 
 unfoldable pub call_two : Reader → Scope → List ℕ → Judged → Judged → Judged
 call_two reader scope name a b = call_two_as scope (source reader name) a b
-
-abbrev pub two_operation : TwoFunction → Operation
-two_operation twos.Minimum = op.Minimum
-two_operation twos.Maximum = op.Maximum
 
 abbrev pub two : TwoFunction → Judged → Judged → Judged
 two function a b = enclosed (binary (two_operation function) a b)
@@ -274,20 +251,8 @@ product products.Multiply a b = binary op.Multiply a b
 product products.Divide a b = divided true a b
 product products.Remainder a b = divided false a b
 
-abbrev pub sum_operation : SumOperator → Operation
-sum_operation sums.Add = op.Add
-sum_operation sums.Subtract = op.Subtract
-
 abbrev pub sum : SumOperator → Judged → Judged → Judged
 sum operator a b = binary (sum_operation operator) a b
-
-abbrev pub comparison_operation : CompareOperator → Operation
-comparison_operation comparisons.Less = op.Less
-comparison_operation comparisons.LessOrEqual = op.LessOrEqual
-comparison_operation comparisons.Greater = op.Greater
-comparison_operation comparisons.GreaterOrEqual = op.GreaterOrEqual
-comparison_operation comparisons.Equal = op.Equal
-comparison_operation comparisons.NotEqual = op.NotEqual
 
 abbrev pub comparison : CompareOperator → Judged → Judged → Judged
 comparison operator a b = binary (comparison_operation operator) a b

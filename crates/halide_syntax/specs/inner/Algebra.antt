@@ -1,11 +1,13 @@
 -- What can be made of an expression by what is made of its parts.
 -- This project's own.
-use Rattle.std.specs.Prelude.{ℕ, List}
+use Rattle.std.specs.Prelude.{ℕ, List, Option, Some, None}
 use Rattle.halide_syntax.specs.declared.tokens.ProductOperator.{ProductOperator}
 use Rattle.halide_syntax.specs.declared.tokens.SumOperator.{SumOperator}
 use Rattle.halide_syntax.specs.declared.tokens.CompareOperator.{CompareOperator}
 use Rattle.halide_syntax.specs.declared.tokens.TwoFunction.{TwoFunction}
 use Rattle.halide_syntax.specs.declared.tokens.ThreeFunction.{ThreeFunction}
+use Rattle.halide_syntax.specs.declared.lines.Line.{Line}
+use Rattle.halide_syntax.specs.declared.lines.Line.TheVariants as line
 use Rattle.halide_syntax.specs.Grammar.{Written, Literal, Bare, Group, Minus, Call, CallTwo, Two, Three, Product, Sum, Comparison}
 
 -- what is made of each way to write an expression
@@ -51,3 +53,15 @@ made alg (Three f a b c) = alg.three f (made alg a) (made alg b) (made alg c)
 made alg (Product op a b) = alg.product op (made alg a) (made alg b)
 made alg (Sum op a b) = alg.sum op (made alg a) (made alg b)
 made alg (Comparison op a b) = alg.comparison op (made alg a) (made alg b)
+
+abbrev pub made_index : {V : Type 0} → Algebra V → Option Written → Option V
+made_index alg None = None
+made_index alg (Some w) = Some (made alg w)
+
+-- the line with what an algebra makes of its expressions
+abbrev pub made_line : {V : Type 0} → Algebra V → Line Written → Line V
+made_line alg line.Blank = line.Blank
+made_line alg (line.Input e) = line.Input e
+made_line alg (line.Func d) = line.Func (record { name = d.name; first_argument = d.first_argument; second_argument = d.second_argument; right = made alg d.right })
+made_line alg (line.Update u) = line.Update (record { name = u.name; left_x = made alg u.left_x; left_y = made_index alg u.left_y; right = made alg u.right; first = u.first; second = u.second })
+made_line alg (line.Output e) = line.Output e

@@ -1,0 +1,112 @@
+-- A line with what is known of its expressions, in place of the expressions themselves: its least fault, and what it adds.
+-- This project's own.
+use Rattle.std.specs.Prelude.{ℕ, Bool, false, not, ◌||◌, if◌then◌else◌, List, Option, Some, None, Result, Ok, Err}
+use Rattle.line_text.specs.Reading.{◌>>=◌}
+use Rattle.halide_pipeline.specs.declared.expressions.Expr.{Expr}
+use Rattle.halide_pipeline.specs.declared.expressions.Expr.TheVariants as e
+use Rattle.halide_pipeline.specs.declared.expressions.Variable.{Variable}
+use Rattle.halide_pipeline.specs.declared.expressions.Variable.TheVariants as variables
+use Rattle.halide_pipeline.specs.WellFormed.{is_alone, fits}
+use Rattle.halide_syntax.specs.declared.faults.ParseFault.{ParseFault}
+use Rattle.halide_syntax.specs.declared.faults.ParseFault.TheVariants as fault
+use Rattle.halide_syntax.specs.declared.tokens.Token.{Token}
+use Rattle.halide_syntax.specs.declared.lines.Change.{Change}
+use Rattle.halide_syntax.specs.declared.lines.Line.{Line}
+use Rattle.halide_syntax.specs.declared.lines.Line.TheVariants as line
+use Rattle.halide_syntax.specs.inner.Algebra.{writing, made_line}
+use Rattle.halide_syntax.specs.inner.LineReading.{read_line}
+use Rattle.halide_syntax.specs.Grammar.{Written}
+use Rattle.halide_syntax.specs.Tokens.{tokens_of}
+use Rattle.halide_parser.specs.declared.judging.Marks.{Marks}
+use Rattle.halide_parser.specs.declared.judging.Judged.{Judged}
+use Rattle.halide_parser.specs.declared.readers.Reader.{Reader}
+use Rattle.halide_parser.specs.inner.Judging.{judging, no_marks, both_marks}
+use Rattle.halide_parser.specs.Meaning.{applied}
+use Rattle.halide_parser.specs.Readers.{func_place}
+use Rattle.halide_parser.specs.Rules as r
+use Rattle.halide_parser.specs.Scopes.{scope_of}
+
+-- ---- marks
+
+abbrev pub marks_of : Option Judged → Marks
+marks_of None = no_marks
+marks_of (Some judged) = judged.marks
+
+abbrev pub left_marks : Change Judged → Marks
+left_marks change = both_marks change.left_x.marks (marks_of change.left_y)
+
+abbrev pub change_marks : Change Judged → Marks
+change_marks change = both_marks (left_marks change) change.right.marks
+
+-- the marks of all expressions of a line
+abbrev pub line_marks : Line Judged → Marks
+line_marks (line.Func definition) = definition.right.marks
+line_marks (line.Update change) = change_marks change
+line_marks _ = no_marks
+
+abbrev pub is_unknown : Reader → Line Judged → Bool
+is_unknown reader l = r.is_other_name reader l || (line_marks l).is_unknown
+
+abbrev pub is_wrong_count : Reader → Line Judged → Bool
+is_wrong_count reader l = r.is_other_left reader l || (line_marks l).is_wrong_count
+
+abbrev pub is_in_place : Option Judged → Variable → Bool
+is_in_place None variable = false
+is_in_place (Some judged) variable = is_alone variable judged.alone
+
+abbrev pub is_moved : Change Judged → Bool
+is_moved change =
+    (left_marks change).calls_own
+    || (if is_alone variables.FirstArgument change.left_x.alone then (change_marks change).moves_first else (change_marks change).uses_first)
+    || (if is_in_place change.left_y variables.SecondArgument then (change_marks change).moves_second else (change_marks change).uses_second)
+
+abbrev pub is_misshapen : Reader → Line Judged → Bool
+is_misshapen reader (line.Update change) = not (r.same_place reader.last_func (func_place reader change.name)) || is_moved change
+is_misshapen reader _ = false
+
+abbrev pub exceeds : Judged → Bool
+exceeds judged = not (fits judged.nodes judged.nesting)
+
+-- ---- the least fault
+
+unfoldable pub fault_of : Reader → List Token → Line Judged → Option ParseFault
+fault_of reader tokens l =
+    if r.is_behind_output reader.output l then Some fault.Syntax
+    else if is_unknown reader l then Some fault.UnknownName
+    else if r.is_taken reader l then Some fault.NameTaken
+    else if is_wrong_count reader l then Some fault.WrongCount
+    else if (line_marks l).is_bad_divisor then Some fault.Divisor
+    else if r.has_large tokens then Some fault.NumberTooLarge
+    else if is_misshapen reader l then Some fault.UpdateShape
+    else if r.is_over_limit exceeds reader tokens l then Some fault.Limit
+    else None
+
+-- ---- what is added
+
+-- the tree that is known, which an expression without faults has
+abbrev pub tree_or_zero : Option Expr → Expr
+tree_or_zero None = e.Number 0
+tree_or_zero (Some tree) = tree
+
+abbrev pub tree_of : Judged → Expr
+tree_of judged = tree_or_zero judged.tree
+
+-- ---- a line from its tokens
+
+-- a line with what is known of its expressions
+abbrev pub judged_line : Reader → Line Written → Line Judged
+judged_line reader w = made_line (judging reader (scope_of reader w)) w
+
+-- the line that tokens spell, judged; a syntax fault where they spell none
+unfoldable pub judged : Reader → List Token → Result (Line Judged) ParseFault
+judged reader tokens = read_line writing tokens >>= λ w. Ok (judged_line reader w)
+
+abbrev pub settled_as : Reader → Line Judged → Option ParseFault → Result Reader ParseFault
+settled_as reader l None = Ok (applied tree_of reader l)
+settled_as reader l (Some fault) = Err fault
+
+abbrev pub settled : Reader → List Token → Line Judged → Result Reader ParseFault
+settled reader tokens l = settled_as reader l (fault_of reader tokens l)
+
+unfoldable pub taken : Reader → List ℕ → Result Reader ParseFault
+taken reader line = tokens_of line >>= λ tokens. judged reader tokens >>= λ l. settled reader tokens l
