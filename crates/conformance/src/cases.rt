@@ -1,0 +1,148 @@
+//! The cases of a file.
+
+use crate::failures::Failure;
+use std::alloc::{AllocError, Global};
+
+/// One case: what is asked, its name, and its parts in their order.
+#[derive(Drop)]
+pub struct Case {
+    pub kind: String,
+    pub name: String,
+    pub parts: Vec<Part>,
+}
+
+/// A text of a case.
+#[derive(Drop)]
+pub struct Part {
+    pub name: String,
+    /// Whether its lines are pieces.
+    is_pieces: bool,
+    pub text: String,
+}
+
+impl Part {
+    /// The text, where the part has this name.
+    pub fn named(&self, name: &str) -> Result<&str, Failure> {
+        if self.name.as_str() == name {
+            Ok(self.text.as_str())
+        } else {
+            Err(Failure::Malformed("a part has another name"))
+        }
+    }
+}
+
+/// The cases of a file's text, up to the end or to the first line that is malformed.
+pub fn read_cases(alloc: Global, text: &str) -> Result<Vec<Case>, Failure> {
+    let mut cases = Vec::new(alloc);
+    for line in text.lines() {
+        take_line(alloc, &mut cases, line)?;
+    }
+    Ok(cases)
+}
+
+/// Adds a line to the cases so far.
+fn take_line(alloc: Global, cases: &mut Vec<Case>, line: &str) -> Result<(), Failure> {
+    if let Some(heading) = line.strip_prefix("== ") {
+        cases.push(headed(alloc, heading)?)?;
+        return Ok(());
+    }
+    match cases.last_mut() {
+        Some(case) => take_part_line(alloc, &mut case.parts, line),
+        None if line.is_empty() || line.starts_with('#') => Ok(()),
+        None => Err(Failure::Malformed("a line before the first case")),
+    }
+}
+
+/// A case without parts, with a heading's kind and name.
+fn headed(alloc: Global, heading: &str) -> Result<Case, Failure> {
+    let Some((kind, name)) = heading.split_once(' ') else {
+        return Err(Failure::Malformed("a case without a name"));
+    };
+    Ok(Case {
+        kind: String::from_str(alloc, kind)?,
+        name: String::from_str(alloc, name)?,
+        parts: Vec::new(alloc),
+    })
+}
+
+/// Adds a line of a case to its parts.
+fn take_part_line(alloc: Global, parts: &mut Vec<Part>, line: &str) -> Result<(), Failure> {
+    if let Some(name) = line.strip_prefix("-- ") {
+        parts.push(begun(alloc, name)?)?;
+        return Ok(());
+    }
+    match parts.last_mut() {
+        Some(part) => part.take_line(alloc, line),
+        None => Err(Failure::Malformed("a line before the first part")),
+    }
+}
+
+/// A part without lines.
+fn begun(alloc: Global, heading: &str) -> Result<Part, AllocError> {
+    let plain = heading.strip_suffix(" in pieces");
+    Ok(Part {
+        name: String::from_str(alloc, plain.unwrap_or(heading))?,
+        is_pieces: plain.is_some(),
+        text: String::new(alloc),
+    })
+}
+
+impl Part {
+    /// Adds a line as it stands, or what its piece says.
+    fn take_line(&mut self, alloc: Global, line: &str) -> Result<(), Failure> {
+        if self.is_pieces {
+            return push_piece(alloc, &mut self.text, line);
+        }
+        self.text.push_str(line)?;
+        self.text.push_str("\n")?;
+        Ok(())
+    }
+}
+
+/// Appends a text so many times, both as a line says.
+fn push_piece(alloc: Global, text: &mut String, line: &str) -> Result<(), Failure> {
+    let Some((count, piece)) = line.split_once(' ') else {
+        return Err(Failure::Malformed("a piece without a text"));
+    };
+    let Ok(count) = count.parse::<u32>() else {
+        return Err(Failure::Malformed("a piece without a count"));
+    };
+    let piece = unescaped(alloc, piece)?;
+    for _ in 0..count {
+        text.push_str(piece.as_str())?;
+    }
+    Ok(())
+}
+
+/// A text with the bytes that its backslashes stand for.
+fn unescaped(alloc: Global, piece: &str) -> Result<String, Failure> {
+    let mut text = String::new(alloc);
+    let mut is_escaped = false;
+    for letter in piece.chars() {
+        if is_escaped {
+            text.push(escape(letter)?)?;
+            is_escaped = false;
+        } else if letter == '\\' {
+            is_escaped = true;
+        } else {
+            text.push(letter)?;
+        }
+    }
+    if is_escaped {
+        return Err(Failure::Malformed("a backslash at the end of a piece"));
+    }
+    Ok(text)
+}
+
+/// What a letter behind a backslash stands for.
+fn escape(letter: char) -> Result<char, Failure> {
+    match letter {
+        'n' => Ok('\n'),
+        'r' => Ok('\r'),
+        't' => Ok('\t'),
+        's' => Ok(' '),
+        '0' => Ok('\0'),
+        '\\' => Ok('\\'),
+        _ => Err(Failure::Malformed("an unknown letter behind a backslash")),
+    }
+}

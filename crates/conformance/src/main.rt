@@ -1,0 +1,111 @@
+//! `conformance`: what the libraries answer to cases that lie in files.
+//!
+//! The program reads the files that its arguments name, and prints each case's kind and name and below it the answer. `stdout` holds
+//! what the rules say of the cases in `data/`; none of it was copied from this program.
+//!
+//! A file is a text of lines. A case begins at `== KIND NAME`; before the first one stand comments (`#`) and empty lines. A part of a
+//! case begins at `-- NAME`, and its text is all lines up to the next part or case, each with its line feed. Where `in pieces` stands
+//! behind the part's name, each line is `COUNT TEXT` and means the text so many times, without a line feed; in the text `\n`, `\r`,
+//! `\t`, `\s`, `\0` and `\\` stand for a line feed, a carriage return, a tab, a space, a zero byte and a backslash.
+//!
+//! | Kind | Parts | Answer |
+//! |---|---|---|
+//! | `parse` | `algorithm` | `accepted` |
+//! | `draw` | `algorithm`, any number of `picture` | the picture that is drawn |
+//! | `read` | `picture` | the picture's text |
+//! | `schedule` | `algorithm`, `schedule` | each Func's standing, loops and splits |
+//! | `assemble` | `text` | the object |
+//! | `list` | `words`: a word in hexadecimal each line | the line of each |
+//! | `turn` | `before`: an assembly text; `instructions`: one each line | each line, and what it changes behind the text before |
+//! | `replay` | `image`, `log`: lines in hexadecimal | the dump |
+//!
+//! A refusal stands in place of an answer, as `hrv` prints it. A case that isn't one of these is answered `malformed: ` and why.
+//!
+//! - [`cases`]: the cases of a file.
+//! - [`algorithms`], [`schedules`], [`assemblies`], [`turns`], [`replays`]: the answers, a module each for one family.
+//! - [`harts`]: what a hart holds, as lines.
+//! - [`failures`]: what stands in place of an answer.
+#![tactic(auto)]
+
+mod algorithms;
+mod assemblies;
+mod cases;
+mod failures;
+mod harts;
+mod replays;
+mod schedules;
+mod turns;
+
+use crate::algorithms::{push_drawing, push_reading, push_verdict};
+use crate::assemblies::{push_listing, push_object};
+use crate::cases::{Case, read_cases};
+use crate::failures::Failure;
+use crate::replays::push_replay;
+use crate::schedules::push_schedule;
+use crate::turns::push_changes;
+use std::alloc::{AllocError, Global};
+use std::rt::{Env, Files};
+use std::thread::Threads;
+use std::{env, fs, io};
+
+fn main(rt: HostRuntime) -> io::Result<()> {
+    for path in env::args(&rt)?.skip(1) {
+        print_file(&rt, path.as_str())?;
+    }
+    Ok(())
+}
+
+/// Prints what is answered to the cases of a file.
+fn print_file<R: Files + Print + AllocGlobal + Threads + Sync>(
+    rt: &R,
+    path: &str,
+) -> io::Result<()> {
+    let alloc = rt.alloc();
+    let text = fs::read_to_string(rt, path)?;
+    println!(rt; "file {path}")?;
+    match read_cases(alloc, text.as_str()) {
+        Ok(cases) => print_cases(rt, &cases),
+        Err(failure) => println!(rt; "{failure}"),
+    }
+}
+
+/// Prints what is answered to each case.
+fn print_cases<R: Print + AllocGlobal + Threads + Sync>(rt: &R, cases: &[Case]) -> io::Result<()> {
+    for case in cases {
+        let text = answer(rt, rt.alloc(), case)?;
+        print!(rt; "{text}")?;
+    }
+    Ok(())
+}
+
+/// A case's heading and the answer to it, or what stands in its place.
+fn answer(rt: &(impl Threads + Sync), alloc: Global, case: &Case) -> Result<String, AllocError> {
+    let mut text = String::new(alloc);
+    let Case { kind, name, .. } = case;
+    writeln!(text, "== {kind} {name}")?;
+    if let Err(failure) = push_answer(rt, alloc, case, &mut text) {
+        writeln!(text, "{failure}")?;
+    }
+    Ok(text)
+}
+
+/// Appends the answer to a case.
+fn push_answer(
+    rt: &(impl Threads + Sync),
+    alloc: Global,
+    case: &Case,
+    out: &mut String,
+) -> Result<(), Failure> {
+    let parts = case.parts.as_slice();
+    match case.kind.as_str() {
+        "parse" => push_verdict(alloc, parts, out),
+        "draw" => push_drawing(rt, alloc, parts, out),
+        "read" => push_reading(alloc, parts, out),
+        "schedule" => push_schedule(alloc, parts, out),
+        "assemble" => push_object(alloc, parts, out),
+        "list" => push_listing(alloc, parts, out),
+        "turn" => push_changes(alloc, parts, out),
+        "replay" => push_replay(alloc, parts, out),
+        _ => Err(Failure::Malformed("an unknown kind of case")),
+    }
+}
