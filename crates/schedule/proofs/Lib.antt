@@ -1,3 +1,4 @@
+pub mod Differing
 pub mod KeptPlans
 pub mod Uses
 pub mod Verdicts
