@@ -9,7 +9,7 @@ use Rattle.line_text.specs.LineReading.{taken_from}
 use Rattle.halide_pipeline.specs.declared.expressions.Expr.{Expr}
 use Rattle.halide_pipeline.specs.declared.expressions.Variable.TheVariants as variables
 use Rattle.halide_pipeline.specs.Expressions.{nodes}
-use Rattle.halide_pipeline.specs.declared.pipelines.Pipeline.{Pipeline}
+use Rattle.halide_pipeline.specs.Pipelines.{Pipeline}
 use Rattle.halide_pipeline.specs.WellFormed.{fits, is_alone}
 use Rattle.halide_syntax.specs.declared.faults.ParseFault.{ParseFault}
 use Rattle.halide_syntax.specs.declared.faults.ParseFault.TheVariants as fault

@@ -4,7 +4,7 @@ use Rattle.std.specs.declared.alloc.Global.{Global}
 use Rattle.line_text.specs.Reading.{◌>>=◌}
 use Rattle.line_text.specs.Lines.{lines_of}
 use Rattle.line_text.specs.LineReading.{located, taken_from}
-use Rattle.halide_pipeline.specs.declared.pipelines.Pipeline.{Pipeline}
+use Rattle.halide_pipeline.specs.Pipelines.{Pipeline}
 use Rattle.halide_pipeline.specs.declared.definitions.Output.{Output}
 use Rattle.halide_pipeline.specs.WellFormed.{IsWellFormed}
 use Rattle.halide_syntax.specs.declared.faults.ParseFault.{ParseFault}
@@ -20,7 +20,7 @@ use Rattle.halide_syntax.specs.inner.LineReading.{read_line}
 use Rattle.halide_syntax.specs.Tokens.{tokens_of}
 use Rattle.halide_syntax.proofs.LinesBack.{line_written}
 use Rattle.halide_parser.specs.declared.readers.Reader.{Reader}
-use Rattle.halide_parser.specs.inner.JudgedLines.{fault_of, tree_of, judged, judged_line, settled, settled_as, taken}
+use Rattle.halide_parser.specs.inner.JudgedLines.{fault_of, tree_of, IsFinishable, pipeline_of, judged, judged_line, settled, settled_as, taken}
 use Rattle.halide_parser.specs.Meaning.{applied}
 use Rattle.halide_parser.specs.Parsing.{start, finished, finished_as, parsed}
 use Rattle.halide_parser.specs.Rules.{has_large, has_long}
@@ -119,12 +119,10 @@ start_kept alloc text = record {
 
 -- ---- the whole
 
-by_output : (count : ℕ) (reader : Reader) (output : Option Output) (pipeline : Pipeline) → reader.output ≡ output → IsKept reader → finished_as count reader output ≡ Ok pipeline → IsWellFormed pipeline
-by_output count reader None pipeline is kept e = cc
-by_output count reader (Some o) pipeline is kept e =
+finishable : (reader : Reader) → IsKept reader → IsFinishable reader
+finishable reader kept o is =
     let drawn = kept.output o is in
-    let same : record { names = reader.names; inputs = reader.inputs; funcs = reader.funcs; output = o } ≡ pipeline = cc in
-    subst IsWellFormed same (record {
+    record {
       few_inputs = kept.few_inputs;
       few_funcs = kept.few_funcs;
       inputs = kept.inputs;
@@ -134,12 +132,20 @@ by_output count reader (Some o) pipeline is kept e =
       output = drawn.output;
       drawn = drawn.drawn;
       dimensions = drawn.dimensions;
-    })
+    }
 
-by_reader : (count : ℕ) (given : Result Reader (ℕ × ParseFault)) (pipeline : Pipeline) → ((reader : Reader) → given ≡ Ok reader → IsKept reader) → (given >>= λ reader. finished count reader) ≡ Ok pipeline → IsWellFormed pipeline
+-- what is left after the last line
+pub lines_finish : (alloc : Global) (text : List ℕ) (reader : Reader) → taken_from taken 1 (start alloc text) (lines_of text) ≡ Ok reader → IsFinishable reader
+lines_finish alloc text reader e = finishable reader (lines_keep 1 (start alloc text) (lines_of text) reader (start_kept alloc text) e)
+
+by_output : (count : ℕ) (reader : Reader) (output : Option Output) (pipeline : Pipeline) → reader.output ≡ output → IsFinishable reader → finished_as count reader output ≡ Ok pipeline → IsWellFormed pipeline
+by_output count reader None pipeline is kept e = cc
+by_output count reader (Some o) pipeline is kept e = let same : pipeline_of reader o ≡ pipeline = cc in subst IsWellFormed same (kept o is)
+
+by_reader : (count : ℕ) (given : Result Reader (ℕ × ParseFault)) (pipeline : Pipeline) → ((reader : Reader) → given ≡ Ok reader → IsFinishable reader) → (given >>= λ reader. finished count reader) ≡ Ok pipeline → IsWellFormed pipeline
 by_reader count (Err fault) pipeline kept e = cc
 by_reader count (Ok reader) pipeline kept e = by_output count reader reader.output pipeline refl (kept reader refl) e
 
 pub parsed_keeps : (alloc : Global) (text : List ℕ) (pipeline : Pipeline) → parsed alloc text ≡ Ok pipeline → IsWellFormed pipeline
 parsed_keeps alloc text pipeline e =
-    by_reader (length (lines_of text)) (taken_from taken 1 (start alloc text) (lines_of text)) pipeline (λ reader is. lines_keep 1 (start alloc text) (lines_of text) reader (start_kept alloc text) is) (sym (parsed_is alloc text) ∙ e)
+    by_reader (length (lines_of text)) (taken_from taken 1 (start alloc text) (lines_of text)) pipeline (λ reader is. lines_finish alloc text reader is) (sym (parsed_is alloc text) ∙ e)

@@ -1,7 +1,7 @@
 //! Reading a whole text.
 
-ghost use Rattle.std.specs.Prelude.{◌≡◌, ◌+◌, ◌<◌, ◌^◌, IfOk, IsTrue, List, Option};
-ghost use Rattle.halide_pipeline.specs.WellFormed.{IsWellFormed, is_output};
+ghost use Rattle.std.specs.Prelude.{◌≡◌, ◌+◌, ◌<◌, ◌^◌, IfOk, List, Option};
+ghost use Rattle.halide_pipeline.specs.WellFormed.{IsWellFormed};
 ghost use Rattle.line_text.specs.Reading.{Gives, GivesLocated};
 ghost use Rattle.halide_syntax.specs.declared.tokens.Token.{Token};
 ghost use Rattle.halide_syntax.specs.declared.lines.Line.{Line};
@@ -72,7 +72,8 @@ fn start(alloc: Global, text: &[u8]) -> Reader
 
 /// What so many lines named.
 fn finished(reader: Reader, count: u64) -> Result<Pipeline, LocatedError<ParseFault>>
-    requires { count + 1 < 2 ^ 64 }
+    requires few { count + 1 < 2 ^ 64 }
+    requires kept { lines.IsFinishable reader }
     ensures { GivesLocated (λ x. x) result (spec.finished count reader) }
 {
     let Reader {
@@ -84,12 +85,7 @@ fn finished(reader: Reader, count: u64) -> Result<Pipeline, LocatedError<ParseFa
     } = reader;
     match output {
         None => Err(LocatedError::Fault(count + 1, ParseFault::NoOutput)),
-        Some(output) => Ok(Pipeline {
-            names,
-            inputs,
-            funcs,
-            output,
-        }),
+        Some(output) => Ok(Pipeline::new(names, inputs, funcs, output)),
     }
 }
 
@@ -105,7 +101,6 @@ pub fn parse(text: &str, alloc: Global) -> Result<Pipeline, LocatedError<ParseFa
     ensures given { GivesLocated (λ x. x) result (spec.parsed alloc text.now) }
     ensures by_grammar { (read : List Token → Option (Line Written)) → FollowsGrammar read → GivesLocated (λ x. x) result (spec.parsed_by read alloc text.now) }
     ensures well_formed { IfOk result (λ pipeline. IsWellFormed pipeline) }
-    ensures output { IfOk result (λ pipeline. IsTrue (is_output pipeline.output)) }
 {
     let bytes = text.as_bytes();
     let mut reader = start(alloc, bytes);

@@ -1,4 +1,4 @@
--- What every pipeline keeps that a text names.
+-- What every pipeline keeps.
 -- This project's own.
 use Rattle.std.specs.Prelude.{◌≡◌, ℕ, suc, ◌*◌, ◌==◌, ◌&&◌, ◌||◌, Bool, true, false, not, nat_le, nat_lt, IsTrue, List, [], ◌∷◌, length, slice_get, Option, Some, None, is_some}
 use Rattle.std.specs.Str.{bytes_eq}
@@ -14,10 +14,10 @@ use Rattle.halide_pipeline.specs.declared.expressions.Source.{Source}
 use Rattle.halide_pipeline.specs.declared.expressions.Source.TheVariants as sources
 use Rattle.halide_pipeline.specs.declared.expressions.Variable.{Variable}
 use Rattle.halide_pipeline.specs.declared.expressions.Variable.TheVariants as variables
-use Rattle.halide_pipeline.specs.declared.pipelines.Pipeline.{Pipeline}
 use Rattle.halide_pipeline.specs.Definitions.{dimensions, is_first_in_place, is_second_in_place}
 use Rattle.halide_pipeline.specs.Expressions.{same_variable, uses, nodes, brackets}
 use Rattle.halide_pipeline.specs.Names.{Named, lookup, is_named}
+use Rattle.halide_pipeline.specs.Pipelines.{Pipeline}
 
 -- ---- boxes
 

@@ -5,8 +5,7 @@
 //!   (`specs/Expressions.antt` counts its nodes and says which variables it uses).
 //! - [`definitions`]: inputs, Funcs with their updates, and the output.
 //! - [`names`]: names with what they stand for, in order (`specs/Names.antt`).
-//! - [`pipelines`]: the whole of what a text names. `specs/WellFormed.antt` says what each keeps that is
-//!   read from a text.
+//! - [`pipelines`]: the whole of what a text names. `specs/WellFormed.antt` says what each keeps.
 //! - [`words`]: arithmetic on words that stand for signed numbers (`specs/Words.antt`).
 //!
 //! Nothing here says what the pixels of a pipeline are.

@@ -5,7 +5,7 @@ use Rattle.std.proofs.lemmas.Bool.{cases_lt}
 use Rattle.std.proofs.lemmas.Option.{slice_get_past}
 use Rattle.halide_pipeline.specs.Words as word
 use Rattle.halide_pipeline.specs.declared.definitions.Func.{Func}
-use Rattle.halide_pipeline.specs.declared.pipelines.Pipeline.{Pipeline}
+use Rattle.halide_pipeline.specs.Pipelines.{Pipeline}
 use Rattle.picture.specs.declared.scenes.Scene.{Scene}
 use Rattle.picture.specs.declared.scenes.Table.{Table}
 use Rattle.halide_meaning.specs.Picture.{PictureContents, IsPicture, picture_if, is_picture}

@@ -2,7 +2,7 @@
 -- This project's own.
 use Rattle.std.specs.Prelude.{◌≡◌, ℕ, ◌<◌, ◌==◌, ◌&&◌, not, Bool, true, if◌then◌else◌, List, [], ◌∷◌, length, Option, Some, None, Result, Ok, Err}
 use Rattle.halide_pipeline.specs.declared.definitions.Input.{Input}
-use Rattle.halide_pipeline.specs.declared.pipelines.Pipeline.{Pipeline}
+use Rattle.halide_pipeline.specs.Pipelines.{Pipeline}
 use Rattle.picture.specs.declared.faults.EvalError.{EvalError}
 use Rattle.picture.specs.declared.faults.EvalError.TheVariants as errors
 use Rattle.halide_meaning.specs.Picture.{PictureContents, IsPicture, pixel_at}

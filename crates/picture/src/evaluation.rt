@@ -1,9 +1,8 @@
 //! The output of a pipeline.
 
-ghost use Rattle.std.specs.Prelude.{◌≡◌, ◌<◌, ◌≤◌, ◌+◌, ◌*◌, ◌/◌, ◌%◌, ◌^◌, ◌==◌, ◌&&◌, ℕ, Ok, Some, None, IfSome, OnOk, slice_get, IfOk, IfErr, IsTrue, true, length, slice_index};
+ghost use Rattle.std.specs.Prelude.{◌≡◌, ◌<◌, ◌≤◌, ◌+◌, ◌*◌, ◌/◌, ◌%◌, ◌^◌, ◌==◌, ◌&&◌, ℕ, Ok, Some, None, IfSome, OnOk, slice_get, IfOk, IfErr, true, length, slice_index};
 ghost use Rattle.std.specs.List.{AllZip, range_with_len};
 ghost use Rattle.halide_pipeline.specs.Words as word;
-ghost use Rattle.halide_pipeline.specs.WellFormed.{is_output};
 ghost use Rattle.picture.specs.Slices.{is_forward};
 ghost use Rattle.picture.specs.Evaluated.{is_size, are_sizes, judged, Evaluates};
 ghost use Rattle.picture.specs.Evaluation.{plane_of, numbered_pixel, AreTables, AreTablesOf, AreKnownOf, AreSlicesOf, IsSliceOf, IsTable, IsAt};
@@ -290,14 +289,13 @@ pub fn evaluate(
     pipeline: &Pipeline,
     pictures: &[Picture],
 ) -> Result<Picture, EvalError>
-    requires output { IsTrue (is_output pipeline.now.output) }
     ensures { Evaluates pipeline.now pictures.now result }
 {
-    if let Some(error) = judge(pipeline.inputs.as_slice(), pictures) {
+    if let Some(error) = judge(pipeline.inputs(), pictures) {
         return Err(error);
     }
-    let output = pipeline.output;
-    let funcs = pipeline.funcs.as_slice();
+    let output = pipeline.output();
+    let funcs = pipeline.funcs();
     let wanted = find(alloc, funcs, pictures, output)?;
     let (tables, known) = tabulate_all(rt, alloc, funcs, pictures, &wanted)?;
     let scene = Scene {

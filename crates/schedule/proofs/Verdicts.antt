@@ -5,7 +5,7 @@ use Rattle.std.specs.List.{AllByRecursion}
 use Rattle.std.proofs.lemmas.Bool.{and_from, and_parts, or_parts, eqb-true, ltb-true}
 use Rattle.halide_pipeline.specs.declared.expressions.Source.{Source}
 use Rattle.halide_pipeline.specs.declared.expressions.Source.TheVariants as sources
-use Rattle.halide_pipeline.specs.declared.pipelines.Pipeline.{Pipeline}
+use Rattle.halide_pipeline.specs.Pipelines.{Pipeline}
 use Rattle.halide_pipeline.specs.Names.{lookup}
 use Rattle.schedule_lines.specs.declared.faults.ScheduleFault.{ScheduleFault}
 use Rattle.schedule_lines.specs.declared.faults.ScheduleFault.TheVariants as fault

@@ -5,7 +5,7 @@ use Rattle.line_text.specs.LineReading.{taken_from}
 use Rattle.line_text.specs.Reading.{◌>>=◌, FailsAt}
 use Rattle.line_text.specs.declared.read_errors.LocatedError.{LocatedError}
 use Rattle.line_text.specs.declared.read_errors.LocatedError.TheVariants as places
-use Rattle.halide_pipeline.specs.declared.pipelines.Pipeline.{Pipeline}
+use Rattle.halide_pipeline.specs.Pipelines.{Pipeline}
 use Rattle.schedule_lines.specs.declared.faults.ScheduleFault.{ScheduleFault}
 use Rattle.schedule.specs.declared.readers.Reader.{Reader}
 use Rattle.schedule.specs.declared.schedules.Schedule.{Schedule}

@@ -5,7 +5,7 @@ use Rattle.line_text.specs.Classes.{is_digit}
 use Rattle.line_text.specs.Reading.{◌>>=◌}
 use Rattle.halide_pipeline.specs.declared.expressions.Source.{Source}
 use Rattle.halide_pipeline.specs.declared.expressions.Source.TheVariants as sources
-use Rattle.halide_pipeline.specs.declared.pipelines.Pipeline.{Pipeline}
+use Rattle.halide_pipeline.specs.Pipelines.{Pipeline}
 use Rattle.halide_pipeline.specs.Names.{lookup}
 use Rattle.schedule_lines.specs.declared.faults.ScheduleFault.{ScheduleFault}
 use Rattle.schedule_lines.specs.declared.faults.ScheduleFault.TheVariants as fault

@@ -4,7 +4,7 @@ use Rattle.std.specs.Prelude.{ℕ, Bool, false, List, slice_get, Option, Some, N
 use Rattle.line_text.specs.Reading.{◌>>=◌}
 use Rattle.line_text.specs.Lines.{lines_of}
 use Rattle.line_text.specs.LineReading.{taken_from}
-use Rattle.halide_pipeline.specs.declared.pipelines.Pipeline.{Pipeline}
+use Rattle.halide_pipeline.specs.Pipelines.{Pipeline}
 use Rattle.schedule_lines.specs.declared.faults.ScheduleFault.{ScheduleFault}
 use Rattle.schedule.specs.declared.plans.FuncPlan.{FuncPlan}
 use Rattle.schedule.specs.declared.readers.Reader.{Reader}

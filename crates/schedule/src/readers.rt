@@ -93,7 +93,7 @@ fn compute_fault(pipeline: &Pipeline, func: usize, plan: &FuncPlan) -> Option<Sc
 {
     if plan.compute.is_some() {
         Some(ScheduleFault::NameInUse)
-    } else if func == pipeline.output.func {
+    } else if func == pipeline.output().func {
         Some(ScheduleFault::InputOrOutput)
     } else {
         None
@@ -228,6 +228,6 @@ pub fn start(alloc: Global, pipeline: &Pipeline) -> Result<Reader, AllocError>
 {
     Ok(Reader {
         lines: 0,
-        plans: plans_of(alloc, pipeline.funcs.as_slice())?,
+        plans: plans_of(alloc, pipeline.funcs())?,
     })
 }

@@ -85,7 +85,7 @@ fn is_root_line(compute: &Option<ComputeLine>) -> bool
 fn is_host(pipeline: &Pipeline, func: usize, plan: &FuncPlan) -> bool
     ensures { result ≡ spec.is_host pipeline.now func plan.now }
 {
-    (func == pipeline.output.func || is_root_line(&plan.compute)) && plan.updates.len() == 0
+    (func == pipeline.output().func || is_root_line(&plan.compute)) && plan.updates.len() == 0
 }
 
 /// The loop with a name of such a Func.
@@ -231,7 +231,7 @@ fn place_of(
     requires { func + 1 + length behind.now < 2 ^ 64 }
     ensures { IfOk result (λ place. place ≡ spec.place pipeline.now plans.now func plan.now behind.now) }
 {
-    if func == pipeline.output.func {
+    if func == pipeline.output().func {
         return Ok(Place::Root);
     }
     match &plan.compute {
@@ -260,7 +260,7 @@ fn standings_from(
         [first, others @ ..] => {
             let mut found = standings_from(alloc, pipeline, plans, func + 1, others)?;
             let behind = found.as_slice();
-            let is_reached = func == pipeline.output.func
+            let is_reached = func == pipeline.output().func
                 || is_read(pipeline, func, func + 1, behind);
             let place = place_of(alloc, pipeline, plans, func, first, behind)?;
             found.insert(0, Standing { is_reached, place })?;

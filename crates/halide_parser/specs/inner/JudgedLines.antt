@@ -1,12 +1,14 @@
 -- A line with what is known of its expressions, in place of the expressions themselves: its least fault, and what it adds.
 -- This project's own.
-use Rattle.std.specs.Prelude.{ℕ, Bool, false, not, ◌||◌, if◌then◌else◌, List, Option, Some, None, Result, Ok, Err}
+use Rattle.std.specs.Prelude.{◌≡◌, ℕ, Bool, false, not, ◌||◌, if◌then◌else◌, List, Option, Some, None, Result, Ok, Err}
 use Rattle.line_text.specs.Reading.{◌>>=◌}
 use Rattle.halide_pipeline.specs.declared.expressions.Expr.{Expr}
 use Rattle.halide_pipeline.specs.declared.expressions.Expr.TheVariants as e
 use Rattle.halide_pipeline.specs.declared.expressions.Variable.{Variable}
 use Rattle.halide_pipeline.specs.declared.expressions.Variable.TheVariants as variables
-use Rattle.halide_pipeline.specs.WellFormed.{is_alone, fits}
+use Rattle.halide_pipeline.specs.declared.definitions.Output.{Output}
+use Rattle.halide_pipeline.specs.Pipelines.{Pipeline}
+use Rattle.halide_pipeline.specs.WellFormed.{IsWellFormed, is_alone, fits}
 use Rattle.halide_syntax.specs.declared.faults.ParseFault.{ParseFault}
 use Rattle.halide_syntax.specs.declared.faults.ParseFault.TheVariants as fault
 use Rattle.halide_syntax.specs.declared.tokens.Token.{Token}
@@ -110,3 +112,12 @@ settled reader tokens l = settled_as reader l (fault_of reader tokens l)
 
 unfoldable pub taken : Reader → List ℕ → Result Reader ParseFault
 taken reader line = tokens_of line >>= λ tokens. judged reader tokens >>= λ l. settled reader tokens l
+
+-- ---- a text
+
+abbrev pub pipeline_of : Reader → Output → Pipeline
+pipeline_of reader output = record { names = reader.names; inputs = reader.inputs; funcs = reader.funcs; output = output }
+
+-- What the lines named is well-formed, with the output that they named.
+abbrev pub IsFinishable : Reader → Type 0
+IsFinishable reader = (output : Output) → reader.output ≡ Some output → IsWellFormed (pipeline_of reader output)
