@@ -1,11 +1,17 @@
 -- The pictures of texts, one after the other.
-use Rattle.std.proofs.Common.{◌≡◌, ℕ, refl, sym, ap, subst, append_assoc, List, [], ◌∷◌, ◌++◌}
-use Rattle.std.specs.Prelude.{Result, Ok, Err, take}
+use Rattle.std.proofs.Common.{◌≡◌, ◌∙◌, ℕ, refl, sym, ap, append_assoc, List, [], ◌∷◌, ◌++◌}
+use Rattle.std.specs.Prelude.{IsErrAnd, Result, Ok, Err, Some}
 use Rattle.std.specs.declared.alloc.Global.{Global}
-use Rattle.engines.specs.Drawing.{BeganDrawing, Drew, IsDrawing}
 use Rattle.line_text.specs.Reading.{◌>>=◌}
+use Rattle.halide_pipeline.specs.Pipelines.{Pipeline}
+use Rattle.halide_parser.specs.Parsing.{parsed}
 use Rattle.picture.specs.declared.faults.PictureFault.{PictureFault}
 use Rattle.halide_meaning.specs.Picture.{PictureContents}
+use Rattle.engines.specs.declared.faults.Fault.{Fault}
+use Rattle.engines.specs.declared.faults.Fault.TheVariants.{Refused, File, Memory}
+use Rattle.engines.specs.Drawing.{IsDrawing, IsRefusedDrawing, RefusesPictures, refusal_of, with_pictures, with_pipeline}
+use Rattle.engines.specs.Engine.{Judges, Unmeant}
+use Rattle.engines.proofs.Steps.{judges_not, passed}
 
 -- these pictures and those that come
 abbrev pub with_front : List PictureContents → Result (List PictureContents) PictureFault → Result (List PictureContents) PictureFault
@@ -17,29 +23,15 @@ pub front_moved : (front : List PictureContents) (picture : PictureContents) (re
 front_moved front picture (Ok pictures) = ap (λ all. Ok all) (append_assoc front (picture ∷ []) pictures)
 front_moved front picture (Err fault) = refl
 
--- ---- what devices gave and took, where a reference stands for what it refers to
-
-pub drew : (alloc : Global) (gave : List ℕ → Type 0) (gave_all : List (List ℕ) → Type 0) (took : List ℕ → Type 0) (a a' : List ℕ) (is is' : List (List ℕ)) (t t' : List ℕ)
-    → a ≡ a' → is ≡ is' → t ≡ t' → gave a' → gave_all is' → IsDrawing alloc a is t' → took t → Drew alloc gave gave_all took
-drew alloc gave gave_all took a a' is is' t t' ea ei et given all_given drawn taken = record {
-  algorithm = a;
-  inputs = is;
-  text = t';
-  algorithm_given = subst gave (sym ea) given;
-  inputs_given = subst gave_all (sym ei) all_given;
-  drawn = drawn;
-  taken = subst took et taken;
-}
-
-pub began : (alloc : Global) (gave : List ℕ → Type 0) (gave_all : List (List ℕ) → Type 0) (took : List ℕ → Type 0) (a a' : List ℕ) (is is' : List (List ℕ)) (t t' : List ℕ)
-    → a ≡ a' → is ≡ is' → t ≡ t' → gave a' → gave_all is' → IsDrawing alloc a is t' → ((n : ℕ) × took (take n t)) → BeganDrawing alloc gave gave_all took
-began alloc gave gave_all took a a' is is' t t' ea ei et given all_given drawn begun = record {
-  algorithm = a;
-  inputs = is;
-  text = t';
-  count = begun.0;
-  algorithm_given = subst gave (sym ea) given;
-  inputs_given = subst gave_all (sym ei) all_given;
-  drawn = drawn;
-  taken = subst (λ x. took (take begun.0 x)) et begun.1;
-}
+-- texts that are no pictures, where the algorithm is one
+pub no_pictures : {X : Type 0} (value : X → List ℕ) (alloc : Global) (texts : List ℕ × List (List ℕ)) (pipeline : Pipeline) (r : Result X Fault) (fault : Fault)
+    → IsErrAnd r (λ f. f ≡ fault) → parsed alloc texts.0 ≡ Ok pipeline → Unmeant RefusesPictures texts.1 fault
+    → Judges value (IsDrawing alloc) (IsRefusedDrawing alloc) texts r
+unfolding refusal_of
+no_pictures value alloc texts pipeline r fault is given p =
+    judges_not value (IsDrawing alloc) (IsRefusedDrawing alloc) texts r (passed (Unmeant (IsRefusedDrawing alloc) texts) r fault is (unmeant fault p))
+  where
+    unmeant : (f : Fault) → Unmeant RefusesPictures texts.1 f → Unmeant (IsRefusedDrawing alloc) texts f
+    unmeant (Refused refusal) q = ap (λ found. with_pipeline found texts.1) given ∙ ap (with_pictures pipeline) q.2 ∙ ap (λ x. Some x) (sym q.1)
+    unmeant (File path) q = q
+    unmeant Memory q = q

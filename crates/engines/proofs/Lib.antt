@@ -5,5 +5,6 @@ pub mod Printing
 pub mod Reading
 pub mod Sources
 pub mod Splits
+pub mod Steps
 pub mod StopsFound
 pub mod TalkSteps

@@ -1,12 +1,17 @@
 -- Sources that gave their texts one after the other.
 use Rattle.std.proofs.Common.{◌≡◌, ◌<◌, ◌≤◌, ◌+◌, ◌∙◌, ◌⊎◌, ℕ, zero, suc, arith, refl, sym, ap, subst, List, [], ◌∷◌, ◌++◌, length, inl, inr}
-use Rattle.std.specs.Prelude.{Some, slice_get}
+use Rattle.std.specs.Prelude.{IsErrAnd, Result, Some, slice_get}
 use Rattle.std.specs.Str.{IsUtf8}
 use Rattle.std.proofs.Math.ListN.{set}
 use Rattle.std.proofs.lemmas.List.{length-append}
 use Rattle.std.proofs.lemmas.Option.{slice_get_within}
 use Rattle.std.proofs.lemmas.Bool.{cases_lt}
-use Rattle.engines.specs.Drawing.{GaveEach, GaveNoText, NamesFailed}
+use Rattle.std.specs.String.{string_bytes}
+use Rattle.engines.specs.declared.faults.Fault.{Fault}
+use Rattle.engines.specs.declared.faults.Fault.TheVariants.{Refused, File, Memory}
+use Rattle.engines.specs.Devices.{GaveEach, GaveNoText, NamesFailed, NoneFailed, text_of, texts_of}
+use Rattle.engines.specs.Engine.{Reads, Unread}
+use Rattle.engines.proofs.Steps.{passed, reads_not}
 
 -- ---- lists
 
@@ -97,12 +102,35 @@ module _ {S : Type 0} (gave : S → List ℕ → S → Type 0) where
           let within : place < length first = slice_get_within first place s is_s in
           omega arith
 
--- the next one failed
-module _ {S : Type 0} (path_of : S → List ℕ) (failed : S → ℕ) (gave whole : S → List ℕ → S → Type 0)
-    (parts : (s : S) (text : List ℕ) (t : S) → whole s text t → IsUtf8 text × gave s text t) where
-  pub next_failed : (first : List S) (texts : List (List ℕ)) (now : List S) (count : ℕ) (s t : S) (path : List ℕ)
-      → GaveFirst whole first texts now count → slice_get now count ≡ Some s → path ≡ path_of s
-      → (failed s < failed t) ⊎ GaveNoText (λ bytes. gave s bytes t) → NamesFailed path_of failed gave first (set now count t) path
+-- ---- none of them failed
+
+module _ {S : Type 0} (failures : S → ℕ) where
+  pub all_well : (first : List S) → NoneFailed failures first first
+  all_well first place s t is_s is_t = ap failures (same t s (sym is_t ∙ is_s))
+
+  -- the next one didn't fail
+  pub next_well : (first now : List S) (count : ℕ) (s t : S) → NoneFailed failures first now → slice_get now count ≡ Some s → failures t ≡ failures s
+      → NoneFailed failures first (set now count t)
+  next_well first now count s t old here well place a b is_a is_b = by (cases_lt place count) (cases_lt count place)
+    where
+      elsewhere : (count ≡ place → ⊥) → failures b ≡ failures a
+      elsewhere other = old place a b is_a (sym (get-set_other now count place t other) ∙ is_b)
+
+      by : (place < count) ⊎ (count ≤ place) → (count < place) ⊎ (place ≤ count) → failures b ≡ failures a
+      by (inl below) _ = elsewhere (λ e. omega arith)
+      by (inr le) (inl above) = elsewhere (λ e. omega arith)
+      by (inr le) (inr ge) =
+          let at : place ≡ count = omega arith in
+          let is_t : b ≡ t = same b t (sym is_b ∙ ap (slice_get (set now count t)) at ∙ get-set_same now count s t here) in
+          ap failures is_t ∙ well ∙ old place a s is_a (ap (slice_get now) at ∙ here)
+
+-- ---- the next one was not read
+
+module _ {S : Type 0} (place_of : S → List ℕ) (failures : S → ℕ) (gave : S → List ℕ → S → Type 0) (ended : S → Type 0) where
+  next_failed : (first : List S) (texts : List (List ℕ)) (now : List S) (count : ℕ) (s t : S) (path : List ℕ)
+      → GaveFirst (λ s text t. IsUtf8 text × gave s text t × ended t) first texts now count → slice_get now count ≡ Some s → path ≡ place_of s
+      → (failures s < failures t) ⊎ GaveNoText (λ bytes. gave s bytes t × ended t)
+      → NamesFailed place_of failures (λ s bytes t. gave s bytes t × ended t) first (set now count t) path
   next_failed first texts now count s t path g here is there = record {
     place = count;
     before = s;
@@ -113,6 +141,26 @@ module _ {S : Type 0} (path_of : S → List ℕ) (failed : S → ℕ) (gave whol
     failed_there = there;
     earlier = λ sooner a b lt is_a is_b.
         let old = g.each sooner a b lt is_a (sym (get-set_other now count sooner t (λ e. omega arith)) ∙ is_b) in
-        let both = parts a old.0 b old.2 in
-        (old.0, both.0, both.1);
+        (old.0, old.2.0, (old.2.1, old.2.2));
   }
+
+  pub next_unread : (first : List S) (texts : List (List ℕ)) (now : List S) (count : ℕ) (s t : S) (fault : Fault)
+      → GaveFirst (λ s text t. IsUtf8 text × gave s text t × ended t) first texts now count → NoneFailed failures first now → slice_get now count ≡ Some s
+      → Unread (text_of place_of failures gave ended s t) fault → Unread (texts_of place_of failures gave ended first (set now count t)) fault
+  next_unread first texts now count s t (Refused refusal) g well here p = p
+  next_unread first texts now count s t (File path) g well here p = next_failed first texts now count s t (string_bytes path) g here p.0 p.1
+  next_unread first texts now count s t Memory g well here p = next_well failures first now count s t well here p
+
+  pub reads_no_texts : {X : Type 0} (value : X → List (List ℕ)) (r : Result X Fault) (first : List S) (texts : List (List ℕ)) (now : List S) (count : ℕ) (s t : S) (fault : Fault)
+      → IsErrAnd r (λ f. f ≡ fault)
+      → GaveFirst (λ s text t. IsUtf8 text × gave s text t × ended t) first texts now count → NoneFailed failures first now → slice_get now count ≡ Some s
+      → Unread (text_of place_of failures gave ended s t) fault → Reads value (texts_of place_of failures gave ended first (set now count t)) r
+  reads_no_texts value r first texts now count s t fault is g well here p =
+      let sources = texts_of place_of failures gave ended first (set now count t) in
+      reads_not value sources r (passed (Unread sources) r fault is (next_unread first texts now count s t fault g well here p))
+
+  pub texts_lost : {X : Type 0} (value : X → List (List ℕ)) (r : Result X Fault) (first later : List S) → IsErrAnd r (λ f. f ≡ Memory) → NoneFailed failures first later
+      → Reads value (texts_of place_of failures gave ended first later) r
+  texts_lost value r first later is well =
+      let sources = texts_of place_of failures gave ended first later in
+      reads_not value sources r (passed (Unread sources) r Memory is well)

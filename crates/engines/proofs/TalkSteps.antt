@@ -1,16 +1,19 @@
 -- A talk goes on line by line.
 use Rattle.std.proofs.Common.{◌≡◌, ◌≢◌, ℕ, Bool, true, false, cond, List, [], ◌∷◌, ◌++◌, length, take, drop, refl, sym, ap, subst, ◌∙◌, append_assoc, take-append-drop, true≢false, inl, inr}
-use Rattle.std.specs.Prelude.{Result, Ok, Err, OnErr, IfErr}
+use Rattle.std.specs.Prelude.{Result, Ok, Err}
 use Rattle.std.specs.Result.{IsErrAnd}
 use Rattle.std.proofs.lemmas.List.{append-nil}
 use Rattle.line_text.specs.Lines.{IsLine, lines_of}
 use Rattle.debugger.specs.Places.{SessionState}
-use Rattle.engines.specs.Faults.{OnFile}
 use Rattle.engines.specs.declared.faults.Fault.{Fault}
-use Rattle.engines.specs.declared.faults.Fault.TheVariants as f
+use Rattle.engines.specs.declared.faults.Fault.TheVariants.{Refused, File, Memory}
 use Rattle.std.specs.String.{string_bytes}
 use Rattle.engines.specs.Talk.{Answer, answer, answers, quits, talk, talk_ends, unless_last}
-use Rattle.engines.specs.TalkSoFar.{BrokenTalk, GoesOn, HeldTalk, IsOver, SoFar, Took, WaitingTalk}
+use Rattle.engines.specs.TalkSoFar.{BrokenTalk, GoesOn, HeldTalk, HoldsTalk, IsOver, SoFar, TalkBroke, Took, WaitingTalk}
+use Rattle.engines.specs.Debug.{IsRefusedSession, TalkGaveUp, Talks, session_of}
+use Rattle.engines.specs.Devices.{Sources, Taken}
+use Rattle.engines.specs.Engine.{Unmeant, Unread, Unwritten, Writes}
+use Rattle.engines.proofs.Steps.{passed}
 use Rattle.engines.proofs.Splits.{HasNo, has_no-append, last_line, line_and_more}
 
 talk_line : (s : SessionState) (line rest : List ℕ) → HasNo 10 line → talk s (line ++ 10 ∷ rest) ≡ unless_last (answer s line) (λ next. talk next rest)
@@ -259,35 +262,84 @@ pub all_took : (b : Bool) (now next : SessionState) (left piece left' text : Lis
 all_took true now next left piece left' text e t = t
 all_took false now next left piece left' text e t = absurd (true≢false (sym e))
 
--- ---- results
+-- ---- what holding a talk answers
 
-pub on_err_always : {X E : Type 0} (r : Result X E) (P : Type 0) → P → OnErr r P
-on_err_always (Ok x) P p = tt
-on_err_always (Err e) P p = p
+module _ (session : SessionState) (lines : Sources (List ℕ)) (lines_ended : Type 0) (sink : Taken) where
+  -- it broke off by a fault that was passed on
+  pub broke_off : {X : Type 0} (r : Result X Fault) (fault : Fault) → IsErrAnd r (λ f. f ≡ fault) → TalkBroke session lines lines_ended sink fault
+      → HoldsTalk session lines lines_ended sink r
+  broke_off r fault is p = held_not r (passed (TalkBroke session lines lines_ended sink) r fault is p)
+    where
+      held_not : {X : Type 0} (result : Result X Fault) → IsErrAnd result (TalkBroke session lines lines_ended sink) → HoldsTalk session lines lines_ended sink result
+      held_not (Ok x) q = absurd q
+      held_not (Err f) q = q
 
-pub on_err : {X E : Type 0} (r : Result X E) (P Q : Type 0) → (P → Q) → OnErr r P → OnErr r Q
-on_err (Ok x) P Q f p = tt
-on_err (Err e) P Q f p = f p
+  -- a text was not written, or only a part of it
+  pub text_broke : (part : Taken) (text : List ℕ) (fault : Fault) → lines.well → ((path : List ℕ) → part.failed path → sink.failed path)
+      → (part.untouched → sink.well × ((count : ℕ) × part.took (take count text)))
+      → (((count : ℕ) × part.took (take count text)) → BrokenTalk session lines.gave lines_ended sink.took)
+      → Unwritten part text fault → TalkBroke session lines lines_ended sink fault
+  text_broke part text (Refused refusal) well names still broken p = absurd p
+  text_broke part text (File path) well names still broken p = inr (names (string_bytes path) p.0, well, broken p.1)
+  text_broke part text Memory well names still broken p = (well, (still p).0, broken (still p).1)
 
-pub on_file : (fault : Fault) (P Q : List ℕ → Type 0) → ((path : List ℕ) → P path → Q path) → OnFile fault P → OnFile fault Q
-on_file (f.Refused refusal) P Q h p = tt
-on_file (f.File path) P Q h p = h (string_bytes path) p
-on_file f.Memory P Q h p = tt
+  -- the last text, whatever became of it
+  pub last_text : {X : Type 0} (r : Result X Fault) (part : Taken) (text : List ℕ) → lines.well → ((path : List ℕ) → part.failed path → sink.failed path)
+      → (part.untouched → sink.well × ((count : ℕ) × part.took (take count text)))
+      → (((count : ℕ) × part.took (take count text)) → BrokenTalk session lines.gave lines_ended sink.took)
+      → (part.took text → HeldTalk session lines.gave lines_ended sink.took) → (part.well → sink.well)
+      → Writes part text r → HoldsTalk session lines lines_ended sink r
+  last_text (Ok x) part text well names still broken all goes p = (all p.0, well, goes p.1)
+  last_text (Err fault) part text well names still broken all goes p = text_broke part text fault well names still broken p
 
--- ---- faults
+-- ---- the whole talk
 
-pub err_of : {X E : Type 0} (r : Result X E) (e : E) (P : Type 0) → OnErr r P → r ≡ Err e → P
-err_of (Ok x) e P p is = absurd cc
-err_of (Err f) e P p is = p
+module _ (files : Sources (List ℕ × List ℕ)) (lines : Sources (List ℕ)) (lines_ended : Type 0) (sink : Taken) where
+  talks_not : {X : Type 0} (r : Result X Fault) → IsErrAnd r (TalkGaveUp files lines lines_ended sink) → Talks files lines lines_ended sink r
+  talks_not (Ok x) p = absurd p
+  talks_not (Err fault) p = p
 
--- what holds of a fault that is passed on
-pub file_passed : {X : Type 0} (r : Result X Fault) (fault : Fault) (P Q : List ℕ → Type 0) → IsErrAnd r (λ e. e ≡ fault) → ((path : List ℕ) → P path → Q path) → OnFile fault P
-    → IfErr r (λ e. OnFile e Q)
-file_passed (Ok x) fault P Q is h p = tt
-file_passed (Err e) fault P Q is h p = on_file e P Q h (subst (λ (x : Fault). OnFile x P) (sym is) p)
+  -- the files were not all read
+  pub files_unread : {X : Type 0} (r : Result X Fault) (fault : Fault) → IsErrAnd r (λ f. f ≡ fault) → lines.untouched → lines.well → sink.untouched → sink.well
+      → Unread files fault → Talks files lines lines_ended sink r
+  files_unread r fault is lines_still lines_well still well p = talks_not r (passed (TalkGaveUp files lines lines_ended sink) r fault is (gave_up fault p))
+    where
+      gave_up : (f : Fault) → Unread files f → TalkGaveUp files lines lines_ended sink f
+      gave_up (Refused refusal) q = absurd q
+      gave_up (File path) q = inl (q, lines_still, still)
+      gave_up Memory q = (q, lines_well, well, inl (lines_still, still))
 
--- and with what holds of any fault
-pub file_and : {X : Type 0} (r : Result X Fault) (P Q : List ℕ → Type 0) (R : Type 0) → OnErr r R → (R → (path : List ℕ) → P path → Q path) → IfErr r (λ e. OnFile e P)
-    → IfErr r (λ e. OnFile e Q)
-file_and (Ok x) P Q R holds h p = tt
-file_and (Err e) P Q R holds h p = on_file e P Q (h holds) p
+  -- they have no session
+  pub files_refused : {X : Type 0} (r : Result X Fault) (fault : Fault) (inputs : List ℕ × List ℕ) → IsErrAnd r (λ f. f ≡ fault) → lines.untouched → lines.well
+      → sink.untouched → sink.well → files.gave inputs → files.well → Unmeant IsRefusedSession inputs fault → Talks files lines lines_ended sink r
+  files_refused r fault inputs is lines_still lines_well still well given files_well p =
+      talks_not r (passed (TalkGaveUp files lines lines_ended sink) r fault is (gave_up fault p))
+    where
+      gave_up : (f : Fault) → Unmeant IsRefusedSession inputs f → TalkGaveUp files lines lines_ended sink f
+      gave_up (Refused refusal) q = (record { inputs = inputs; are_given = given; are_refused = q }, files_well, lines_still, still)
+      gave_up (File path) q = absurd q
+      gave_up Memory q = (files_well, lines_well, well, inl (lines_still, still))
+
+  -- the talk was held, or broke off
+  pub talk_held : {X : Type 0} (r : Result X Fault) (inputs : List ℕ × List ℕ) (session : SessionState) → files.gave inputs → files.well
+      → session_of inputs.0 inputs.1 ≡ Ok session → HoldsTalk session lines lines_ended sink r → Talks files lines lines_ended sink r
+  talk_held (Ok x) inputs session given files_well opens p =
+      let held = p.0 in (
+        record {
+          inputs = (inputs, held.lines);
+          output = talk session held.lines;
+          are_given = (given, held.given);
+          is_meant = record { session = session; opens = opens; to_the_end = held.to_the_end; is_talk = refl };
+          is_taken = held.taken;
+        },
+        files_well,
+        p.1,
+        p.2,
+      )
+  talk_held (Err (Refused refusal)) inputs session given files_well opens p = absurd p
+  talk_held (Err (File path)) inputs session given files_well opens (inl p) =
+      inr (inl (p.0, files_well, p.1, record { files = inputs; session = session; are_given = given; opens = opens; waiting = p.2 }))
+  talk_held (Err (File path)) inputs session given files_well opens (inr p) =
+      inr (inr (p.0, files_well, p.1, record { files = inputs; session = session; are_given = given; opens = opens; begun = p.2 }))
+  talk_held (Err Memory) inputs session given files_well opens p =
+      (files_well, p.0, p.1, inr (record { files = inputs; session = session; are_given = given; opens = opens; begun = p.2 }))

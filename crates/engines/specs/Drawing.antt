@@ -1,10 +1,9 @@
--- What the program makes of an algorithm and input pictures: the text of the reference picture, or the first refusal.
+-- What an algorithm and input pictures mean when they are drawn: the text of the reference picture, or the first refusal.
 -- This project's own.
-use Rattle.std.specs.Prelude.{◌≡◌, ◌⊎◌, ℕ, ◌<◌, List, [], ◌∷◌, length, slice_get, take, Option, Some, None, option_map, Result, Ok, Err}
-use Rattle.std.specs.Str.{IsUtf8}
+use Rattle.std.specs.Prelude.{◌≡◌, ℕ, List, [], ◌∷◌, Option, Some, None, option_map, Result, Ok, Err}
 use Rattle.std.specs.declared.alloc.Global.{Global}
 use Rattle.line_text.specs.Reading.{◌>>=◌}
-use Rattle.halide_pipeline.specs.declared.pipelines.Pipeline.{Pipeline}
+use Rattle.halide_pipeline.specs.Pipelines.{Pipeline}
 use Rattle.halide_syntax.specs.declared.faults.ParseFault.{ParseFault}
 use Rattle.halide_parser.specs.Parsing.{parsed}
 use Rattle.picture.specs.declared.faults.PictureFault.{PictureFault}
@@ -27,13 +26,13 @@ RefusesPictures texts refusal = (fault : PictureFault) × (refusal ≡ Picture f
 -- ---- what is drawn
 
 -- The algorithm's pipeline asks for these pictures, and the text spells its output, pixel by pixel as the pipeline's definition has
--- it.
-pub record IsDrawing (alloc : Global) (algorithm : List ℕ) (inputs : List (List ℕ)) (text : List ℕ) : Type 0 where
+-- it. The texts are the algorithm's and those of the inputs.
+pub record IsDrawing (alloc : Global) (texts : List ℕ × List (List ℕ)) (text : List ℕ) : Type 0 where
   pub pipeline : Pipeline
   pub pictures : List PictureContents
   pub picture : PictureContents
-  pub is_algorithm : parsed alloc algorithm ≡ Ok pipeline
-  pub are_inputs : pictures_of inputs ≡ Ok pictures
+  pub is_algorithm : parsed alloc texts.0 ≡ Ok pipeline
+  pub are_inputs : pictures_of texts.1 ≡ Ok pictures
   pub are_asked_for : judged pipeline.inputs pictures ≡ None
   pub is_output : IsOutput pipeline pictures picture
   pub is_spelled : text ≡ spelled picture
@@ -50,61 +49,8 @@ with_pipeline (Err fault) inputs = Some (Parse fault.0 fault.1)
 
 -- why an algorithm and inputs are refused: the algorithm is judged first, then each input as a picture, then whether they are what is
 -- asked for
-unfoldable pub refusal_of : Global → List ℕ → List (List ℕ) → Option Refusal
-refusal_of alloc algorithm inputs = with_pipeline (parsed alloc algorithm) inputs
+unfoldable pub refusal_of : Global → List ℕ × List (List ℕ) → Option Refusal
+refusal_of alloc texts = with_pipeline (parsed alloc texts.0) texts.1
 
--- ---- what devices gave and took, where each is a fact of bytes
-
--- each source gave its text, from the first states to the later ones
-pub record GaveEach {S : Type 0} (gave : S → List ℕ → S → Type 0) (first : List S) (texts : List (List ℕ)) (later : List S) : Type 0 where
-  pub as_many : length texts ≡ length first
-  pub kept : length later ≡ length first
-  pub each : (place : ℕ) (s t : S) → slice_get first place ≡ Some s → slice_get later place ≡ Some t
-      → (text : List ℕ) × (slice_get texts place ≡ Some text) × gave s text t
-
--- the source gave all that it had, which is no text
-abbrev pub GaveNoText : (List ℕ → Type 0) → Type 0
-GaveNoText gave = (bytes : List ℕ) × gave bytes × (IsUtf8 bytes → ⊥)
-
--- The path is that of a source that failed, or that gave all that it had, which is no text. All before it gave their texts.
-pub record NamesFailed {S : Type 0} (path_of : S → List ℕ) (failed : S → ℕ) (gave : S → List ℕ → S → Type 0) (first later : List S) (path : List ℕ) : Type 0 where
-  pub place : ℕ
-  pub before : S
-  pub after : S
-  pub is_before : slice_get first place ≡ Some before
-  pub is_after : slice_get later place ≡ Some after
-  pub is_path : path ≡ path_of before
-  pub failed_there : (failed before < failed after) ⊎ GaveNoText (λ bytes. gave before bytes after)
-  pub earlier : (sooner : ℕ) (s t : S) → sooner < place → slice_get first sooner ≡ Some s → slice_get later sooner ≡ Some t
-      → (text : List ℕ) × IsUtf8 text × gave s text t
-
--- The sources gave all that they had, and the sink took the text of the drawing and nothing else.
-pub record Drew (alloc : Global) (algorithm_gave : List ℕ → Type 0) (inputs_gave : List (List ℕ) → Type 0) (took : List ℕ → Type 0) : Type 0 where
-  pub algorithm : List ℕ
-  pub inputs : List (List ℕ)
-  pub text : List ℕ
-  pub algorithm_given : algorithm_gave algorithm
-  pub inputs_given : inputs_gave inputs
-  pub drawn : IsDrawing alloc algorithm inputs text
-  pub taken : took text
-
--- The sources gave all that they had, which is refused so, and the sink took nothing.
-pub record RefusedDrawing (alloc : Global) (algorithm_gave : List ℕ → Type 0) (inputs_gave : List (List ℕ) → Type 0) (took : List ℕ → Type 0)
-    (refusal : Refusal) : Type 0 where
-  pub algorithm : List ℕ
-  pub inputs : List (List ℕ)
-  pub algorithm_given : algorithm_gave algorithm
-  pub inputs_given : inputs_gave inputs
-  pub refused : refusal_of alloc algorithm inputs ≡ Some refusal
-  pub untouched : took []
-
--- The sources gave all that they had, and the sink took a beginning of the text of the drawing.
-pub record BeganDrawing (alloc : Global) (algorithm_gave : List ℕ → Type 0) (inputs_gave : List (List ℕ) → Type 0) (took : List ℕ → Type 0) : Type 0 where
-  pub algorithm : List ℕ
-  pub inputs : List (List ℕ)
-  pub text : List ℕ
-  pub count : ℕ
-  pub algorithm_given : algorithm_gave algorithm
-  pub inputs_given : inputs_gave inputs
-  pub drawn : IsDrawing alloc algorithm inputs text
-  pub taken : took (take count text)
+abbrev pub IsRefusedDrawing : Global → List ℕ × List (List ℕ) → Refusal → Type 0
+IsRefusedDrawing alloc texts refusal = refusal_of alloc texts ≡ Some refusal

@@ -1,9 +1,11 @@
 pub mod Asm
 pub mod Commands
 pub mod Debug
+pub mod Devices
 pub mod Dis
 pub mod Drawing
 pub mod Dump
+pub mod Engine
 pub mod Faults
 pub mod Refusals
 pub mod Replay

@@ -1,6 +1,6 @@
--- What the program makes of an image and a log: the dump after the log's turns, or the first refusal.
+-- What an image and a log mean when they are replayed: the dump after the log's turns, or the first refusal.
 -- This project's own.
-use Rattle.std.specs.Prelude.{◌≡◌, ℕ, List, [], take, Result, Ok, Err}
+use Rattle.std.specs.Prelude.{◌≡◌, ℕ, List, Result, Ok, Err}
 use Rattle.multi_hart.specs.Run.{State, run}
 use Rattle.turn_log.specs.TurnLog.{LogState}
 use Rattle.turn_log.specs.LogSpelling.{log_of}
@@ -32,34 +32,10 @@ with_image (Err fault) log_bytes = Err (Load fault)
 unfoldable pub answer : List ℕ → List ℕ → Result (List ℕ) Refusal
 answer image_bytes log_bytes = with_image (image_of image_bytes) log_bytes
 
--- ---- what devices gave and took, where each is a fact of bytes
+-- the dump of an image and a log
+abbrev pub IsReplay : List ℕ × List ℕ → List ℕ → Type 0
+IsReplay files text = answer files.0 files.1 ≡ Ok text
 
--- Both sources gave all that they had, and the sink took the answer to it and nothing else.
-pub record Answered (image_gave log_gave took : List ℕ → Type 0) : Type 0 where
-  pub image : List ℕ
-  pub log : List ℕ
-  pub text : List ℕ
-  pub image_given : image_gave image
-  pub log_given : log_gave log
-  pub answered : answer image log ≡ Ok text
-  pub taken : took text
-
--- Both sources gave all that they had, which is refused so, and the sink took nothing.
-pub record Refused (image_gave log_gave took : List ℕ → Type 0) (refusal : Refusal) : Type 0 where
-  pub image : List ℕ
-  pub log : List ℕ
-  pub image_given : image_gave image
-  pub log_given : log_gave log
-  pub refused : answer image log ≡ Err refusal
-  pub untouched : took []
-
--- Both sources gave all that they had, and the sink took a beginning of the answer to it.
-pub record Begun (image_gave log_gave took : List ℕ → Type 0) : Type 0 where
-  pub image : List ℕ
-  pub log : List ℕ
-  pub text : List ℕ
-  pub count : ℕ
-  pub image_given : image_gave image
-  pub log_given : log_gave log
-  pub answered : answer image log ≡ Ok text
-  pub taken : took (take count text)
+-- why they are refused
+abbrev pub IsRefusedReplay : List ℕ × List ℕ → Refusal → Type 0
+IsRefusedReplay files refusal = answer files.0 files.1 ≡ Err refusal

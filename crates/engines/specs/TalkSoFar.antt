@@ -1,8 +1,12 @@
 -- A talk of which some bytes were taken: what is answered and what is left, whatever bytes follow.
 -- This project's own.
-use Rattle.std.specs.Prelude.{◌≡◌, ◌⊎◌, ℕ, Bool, true, false, List, [], ◌++◌, length, take}
+use Rattle.std.specs.Prelude.{◌≡◌, ◌⊎◌, ℕ, Bool, true, false, List, [], ◌++◌, length, take, Result, Ok, Err}
+use Rattle.std.specs.String.{string_bytes}
 use Rattle.line_text.specs.Lines.{IsLine}
 use Rattle.debugger.specs.Places.{SessionState}
+use Rattle.engines.specs.declared.faults.Fault.{Fault}
+use Rattle.engines.specs.declared.faults.Fault.TheVariants.{Refused, File, Memory}
+use Rattle.engines.specs.Devices.{Sources, Taken}
 use Rattle.engines.specs.Talk.{talk, talk_ends}
 
 -- From a session with a line that has not ended, these bytes lead to another, with bytes that are not yet looked at. The text grew by
@@ -62,3 +66,16 @@ pub record WaitingTalk (session : SessionState) (gave took : List ℕ → Type 0
   pub now : SessionState
   pub unended : List ℕ
   pub so_far : SoFar session gave took now unended
+
+-- ---- what holding a talk answers
+
+abbrev pub TalkBroke : SessionState → Sources (List ℕ) → Type 0 → Taken → Fault → Type 0
+TalkBroke session lines lines_ended sink (Refused refusal) = ⊥
+TalkBroke session lines lines_ended sink (File path) =
+    (lines.failed (string_bytes path) × sink.well × WaitingTalk session lines.gave sink.took)
+    ⊎ (sink.failed (string_bytes path) × lines.well × BrokenTalk session lines.gave lines_ended sink.took)
+TalkBroke session lines lines_ended sink Memory = lines.well × sink.well × BrokenTalk session lines.gave lines_ended sink.took
+
+abbrev pub HoldsTalk : {X : Type 0} → SessionState → Sources (List ℕ) → Type 0 → Taken → Result X Fault → Type 0
+HoldsTalk session lines lines_ended sink (Ok done) = HeldTalk session lines.gave lines_ended sink.took × lines.well × sink.well
+HoldsTalk session lines lines_ended sink (Err fault) = TalkBroke session lines lines_ended sink fault

@@ -1,11 +1,12 @@
 //! Debugging: a talk over an image and a log of turns.
 
-ghost use Rattle.std.specs.Prelude.{◌≡◌, ◌⊎◌, ◌≢◌, ℕ, ◌+◌, ◌<◌, ◌^◌, List, [], Err, Ok, OnOk, IfOk, IfErr};
-ghost use Rattle.engines.specs.Faults.{OnRefusal, OnFile, IsDeviceFault};
-ghost use Rattle.engines.specs.TalkSoFar.{HeldTalk, BrokenTalk, WaitingTalk};
-ghost use Rattle.engines.specs.Debug.{session_of, Talked, RefusedTalk, BeganTalk, AwaitsLines};
+ghost use Rattle.std.specs.Prelude.{◌≡◌, ◌+◌, ◌<◌, ◌^◌, [], Err, Ok, IfOk, IfErr};
+ghost use Rattle.engines.specs.Debug.{IsRefusedSession, Talks, session_of};
+ghost use Rattle.engines.specs.Devices.{both, bytes_of, pieces_of, sink_of};
+ghost use Rattle.engines.specs.Engine.{Unmeant};
+ghost use Rattle.engines.specs.TalkSoFar.{HoldsTalk};
 
-use crate::devices::{CHUNK, Sink, Source, file_fault, read_all, write_all};
+use crate::devices::{CHUNK, Sink, Source, read_all, write_all};
 use crate::faults::Fault;
 use crate::talks::Talk;
 use debugger::Session;
@@ -15,11 +16,8 @@ use turn_log::TurnLog;
 
 /// Reads an image and a log of turns, and then answers lines of commands, up to their end or to `quit`.
 ///
-/// Both files are read first, the image before the log. Where one is refused, nothing is written and no line is read. The lines are
-/// read piece by piece: the lines that ended are answered before more is read, and nothing is read after one that ends the talk. A
-/// device fault is answered only where that device's count of failures grew in this call. After one of the lines, the sink has taken
-/// the answers to all lines that ended; after one of the sink, or where memory runs out in the middle of the talk, a beginning of the
-/// talk on the lines so far.
+/// Both files are read first, the image before the log. The lines are read piece by piece: the lines that ended are answered before
+/// more is read, and nothing is read after one that ends the talk.
 pub fn debug_bytes<I: Source, L: Source, C: Source, O: Sink>(
     alloc: Global,
     image: &mut I,
@@ -31,42 +29,10 @@ pub fn debug_bytes<I: Source, L: Source, C: Source, O: Sink>(
     requires log { L.failed log.old + 1 < 2 ^ 64 }
     requires lines { C.failed lines.old + 1 < 2 ^ 64 }
     requires out { O.failed out.old + 1 < 2 ^ 64 }
-    ensures ok { OnOk result (Talked
-        (λ bytes. I.gave image.old bytes image.new × I.ended image.new)
-        (λ bytes. L.gave log.old bytes log.new × L.ended log.new)
-        (λ bytes. C.gave lines.old bytes lines.new) (C.ended lines.new)
-        (λ bytes. O.took out.old bytes out.new)) }
-    ensures well { OnOk result (C.failed lines.new ≡ C.failed lines.old) }
-    ensures refused { IfErr result (λ fault. OnRefusal fault (RefusedTalk
-        (λ bytes. I.gave image.old bytes image.new × I.ended image.new)
-        (λ bytes. L.gave log.old bytes log.new × L.ended log.new)
-        (λ bytes. O.took out.old bytes out.new))) }
-    ensures unread { IfErr result (λ fault. OnRefusal fault (λ _. lines.new ≡ lines.old)) }
-    ensures memory { result ≡ Err Fault.Memory → ((lines.new ≡ lines.old) × O.took out.old [] out.new)
-        ⊎ AwaitsLines
-        (λ bytes. I.gave image.old bytes image.new × I.ended image.new)
-        (λ bytes. L.gave log.old bytes log.new × L.ended log.new)
-        (λ bytes. C.gave lines.old bytes lines.new)
-        (λ bytes. O.took out.old bytes out.new)
-        ⊎ ((C.failed lines.new ≡ C.failed lines.old) × BeganTalk
-        (λ bytes. I.gave image.old bytes image.new × I.ended image.new)
-        (λ bytes. L.gave log.old bytes log.new × L.ended log.new)
-        (λ bytes. C.gave lines.old bytes lines.new) (C.ended lines.new)
-        (λ bytes. O.took out.old bytes out.new)) }
-    ensures device { IfErr result (λ fault. OnFile fault (λ path.
-        ((path ≡ I.place image.old) × (I.failed image.old < I.failed image.new) × (lines.new ≡ lines.old) × O.took out.old [] out.new)
-        ⊎ ((path ≡ L.place log.old) × (L.failed log.old < L.failed log.new) × (lines.new ≡ lines.old) × O.took out.old [] out.new
-        × ((bytes : List ℕ) × I.gave image.old bytes image.new × I.ended image.new))
-        ⊎ ((path ≡ C.place lines.old) × (C.failed lines.old < C.failed lines.new) × AwaitsLines
-        (λ bytes. I.gave image.old bytes image.new × I.ended image.new)
-        (λ bytes. L.gave log.old bytes log.new × L.ended log.new)
-        (λ bytes. C.gave lines.old bytes lines.new)
-        (λ bytes. O.took out.old bytes out.new))
-        ⊎ ((path ≡ O.place out.old) × (O.failed out.old < O.failed out.new) × (C.failed lines.new ≡ C.failed lines.old) × BeganTalk
-        (λ bytes. I.gave image.old bytes image.new × I.ended image.new)
-        (λ bytes. L.gave log.old bytes log.new × L.ended log.new)
-        (λ bytes. C.gave lines.old bytes lines.new) (C.ended lines.new)
-        (λ bytes. O.took out.old bytes out.new)))) }
+    ensures { Talks
+        (both (bytes_of I.place I.failed I.gave I.ended image.old image.new) (bytes_of L.place L.failed L.gave L.ended log.old log.new))
+        (pieces_of C.place C.failed C.gave lines.old lines.new) (C.ended lines.new)
+        (sink_of O.place O.failed O.took out.old out.new) result }
 {
     let image_bytes = read_all(alloc, image)?;
     let log_bytes = read_all(alloc, log)?;
@@ -79,8 +45,7 @@ pub fn debug_bytes<I: Source, L: Source, C: Source, O: Sink>(
 #[tactic(auto, unfolding(crate::specs::Debug::session_of))]
 fn open(alloc: Global, image: Vec<u8>, log: Vec<u8>) -> Result<Session, Fault>
     ensures ok { IfOk result (λ session. session_of image.items log.items ≡ Ok session) }
-    ensures err { IfErr result (λ fault. OnRefusal fault (λ refusal. session_of image.items log.items ≡ Err refusal)) }
-    ensures no_device { IfErr result (λ fault. OnFile fault (λ path. ⊥)) }
+    ensures err { IfErr result (λ fault. Unmeant IsRefusedSession (image.items, log.items) fault) }
 {
     let read = read_image(alloc, &image)?;
     drop(image);
@@ -99,21 +64,15 @@ fn hold_talk<C: Source, O: Sink>(
     requires fresh { talk.old.unended.items ≡ [] }
     requires lines { C.failed lines.old + 1 < 2 ^ 64 }
     requires out { O.failed out.old + 1 < 2 ^ 64 }
-    ensures ok { OnOk result (HeldTalk talk.old.session (λ bytes. C.gave lines.old bytes lines.new) (C.ended lines.new) (λ bytes. O.took out.old bytes out.new)) }
-    ensures well { OnOk result (C.failed lines.new ≡ C.failed lines.old) }
-    ensures memory { result ≡ Err Fault.Memory → WaitingTalk talk.old.session (λ bytes. C.gave lines.old bytes lines.new) (λ bytes. O.took out.old bytes out.new)
-        ⊎ ((C.failed lines.new ≡ C.failed lines.old)
-        × BrokenTalk talk.old.session (λ bytes. C.gave lines.old bytes lines.new) (C.ended lines.new) (λ bytes. O.took out.old bytes out.new)) }
-    ensures device { IfErr result (λ fault. OnFile fault (λ path. ((path ≡ C.place lines.old) × (C.failed lines.old < C.failed lines.new)
-        × WaitingTalk talk.old.session (λ bytes. C.gave lines.old bytes lines.new) (λ bytes. O.took out.old bytes out.new))
-        ⊎ ((path ≡ O.place out.old) × (O.failed out.old < O.failed out.new) × (C.failed lines.new ≡ C.failed lines.old)
-        × BrokenTalk talk.old.session (λ bytes. C.gave lines.old bytes lines.new) (C.ended lines.new) (λ bytes. O.took out.old bytes out.new)))) }
-    ensures kinds { IfErr result IsDeviceFault }
+    ensures { HoldsTalk talk.old.session (pieces_of C.place C.failed C.gave lines.old lines.new) (C.ended lines.new)
+        (sink_of O.place O.failed O.took out.old out.new) result }
 {
+    // Made before the first read, so that a read that fails needs no memory.
+    let path = String::from_str(alloc, lines.path())?;
     let mut buffer = [0; CHUNK];
     'pieces: for _ in 0..u64::MAX {
         let Ok(count) = lines.read(&mut buffer) else {
-            return Err(file_fault(alloc, lines.path()));
+            return Err(Fault::File(path));
         };
         let mut text = String::new(alloc);
         if count == 0 {

@@ -1,17 +1,15 @@
-//! What the program reads from and writes to.
+//! What the engines read from and write to.
 //!
-//! The program's work is generic over both traits, so that its contract names the bytes that were
-//! read and written, and a test can hand in devices that fail.
+//! An engine is generic over both traits, so that its contract names the bytes that were read and written, and a test can hand in
+//! devices that fail.
 
-ghost use Rattle.std.specs.Prelude.{◌≡◌, ◌≢◌, ℕ, ◌+◌, ◌<◌, ◌≤◌, ◌^◌, List, [], ◌++◌, length, take, OnOk, OnErr, IfOk, IfErr, Err};
-ghost use Rattle.std.specs.Prelude.{◌⊎◌};
-ghost use Rattle.std.specs.Str.{IsUtf8};
+ghost use Rattle.std.specs.Prelude.{◌≡◌, ℕ, ◌+◌, ◌<◌, ◌≤◌, ◌^◌, List, [], ◌++◌, length, take, OnOk, OnErr, IfOk};
 ghost use Rattle.std.specs.String.{string_bytes};
-ghost use Rattle.engines.specs.Drawing.{GaveNoText};
-ghost use Rattle.engines.specs.Faults.{OnFile, IsDeviceFault};
+ghost use Rattle.engines.specs.Devices.{bytes_of, sink_of, text_of};
+ghost use Rattle.engines.specs.Engine.{Reads, Writes};
 
 use crate::faults::Fault;
-use std::alloc::{AllocError, Global};
+use std::alloc::Global;
 use std::io;
 
 /// Bytes to be read, from a file or from memory.
@@ -92,32 +90,18 @@ pub trait Sink {
     ghost took_more: { (s t u : Self) (xs ys : List ℕ) → took s xs t → took t ys u → took s (xs ++ ys) u };
 }
 
-/// The fault of a source that failed, or that isn't text.
-pub fn file_fault(alloc: Global, path: &str) -> Fault
-    ensures path { OnFile result (λ named. named ≡ path.now) }
-    ensures kind { IsDeviceFault result }
-{
-    match String::from_str(alloc, path) {
-        Ok(path) => Fault::File(path),
-        Err(_) => Fault::Memory,
-    }
-}
-
 /// Reads all that a source has left. What was read stands in memory once.
 pub fn read_all<S: Source>(alloc: Global, source: &mut S) -> Result<Vec<u8>, Fault>
     requires { S.failed source.old + 1 < 2 ^ 64 }
-    ensures given { IfOk result (λ bytes. S.gave source.old bytes.items source.new) }
-    ensures ended { OnOk result (S.ended source.new) }
-    ensures well { OnOk result (S.failed source.new ≡ S.failed source.old) }
-    ensures path { S.place source.new ≡ S.place source.old }
-    ensures device { IfErr result (λ fault. OnFile fault (λ path. (path ≡ S.place source.old) × (S.failed source.old < S.failed source.new))) }
-    ensures kinds { IfErr result IsDeviceFault }
+    ensures { Reads (λ bytes. bytes.items) (bytes_of S.place S.failed S.gave S.ended source.old source.new) result }
 {
+    // Made before the first read, so that a read that fails needs no memory.
+    let path = String::from_str(alloc, source.path())?;
     let mut all = Vec::new(alloc);
     let mut buffer = [0; CHUNK];
     loop {
         let Ok(count) = source.read(&mut buffer) else {
-            return Err(file_fault(alloc, source.path()));
+            return Err(Fault::File(path));
         };
         if count == 0 {
             return Ok(all);
@@ -129,34 +113,24 @@ pub fn read_all<S: Source>(alloc: Global, source: &mut S) -> Result<Vec<u8>, Fau
 /// Reads all that a source has left, as a text.
 pub fn read_text<S: Source>(alloc: Global, source: &mut S) -> Result<String, Fault>
     requires { S.failed source.old + 1 < 2 ^ 64 }
-    ensures given { IfOk result (λ text. S.gave source.old (string_bytes text) source.new) }
-    ensures utf8 { IfOk result (λ text. IsUtf8 (string_bytes text)) }
-    ensures ended { OnOk result (S.ended source.new) }
-    ensures device { IfErr result (λ fault. OnFile fault (λ path. (path ≡ S.place source.old)
-        × ((S.failed source.old < S.failed source.new) ⊎ GaveNoText (λ bytes. S.gave source.old bytes source.new × S.ended source.new)))) }
-    ensures kinds { IfErr result IsDeviceFault }
+    ensures { Reads string_bytes (text_of S.place S.failed S.gave S.ended source.old source.new) result }
 {
+    let path = String::from_str(alloc, source.path())?;
     let bytes = read_all(alloc, source)?;
     match String::from_utf8(bytes) {
         Ok(text) => Ok(text),
-        Err(_) => Err(file_fault(alloc, source.path())),
+        Err(_) => Err(Fault::File(path)),
     }
 }
 
 /// How many bytes are read at a time.
 pub const CHUNK: usize = 65_536;
 
-/// Writes all the bytes. After a device fault the sink has taken a front of them; where memory ran out it was not touched.
+/// Writes all the bytes.
 pub fn write_all<S: Sink>(alloc: Global, sink: &mut S, bytes: &[u8]) -> Result<(), Fault>
     requires { S.failed sink.old + 1 < 2 ^ 64 }
-    ensures taken { OnOk result (S.took sink.old bytes.now sink.new) }
-    ensures begun { OnErr result ((n : ℕ) × S.took sink.old (take n bytes.now) sink.new) }
-    ensures memory { result ≡ Err Fault.Memory → S.took sink.old [] sink.new }
-    ensures untouched { result ≡ Err Fault.Memory → sink.new ≡ sink.old }
-    ensures well { OnOk result (S.failed sink.new ≡ S.failed sink.old) }
+    ensures writes { Writes (sink_of S.place S.failed S.took sink.old sink.new) bytes.now result }
     ensures path { S.place sink.new ≡ S.place sink.old }
-    ensures device { IfErr result (λ fault. OnFile fault (λ path. (path ≡ S.place sink.old) × (S.failed sink.old < S.failed sink.new))) }
-    ensures kinds { IfErr result IsDeviceFault }
 {
     // Made before the first write, so that a write that fails needs no memory.
     let path = String::from_str(alloc, sink.path())?;

@@ -3,7 +3,7 @@ use Rattle.std.proofs.Common.{◌≡◌, ℕ, zero, suc, ◌+◌, ◌-◌, ◌<�
 use Rattle.std.specs.Prelude.{◌&&◌, ◌||◌, ◌==◌, slice_get}
 use Rattle.std.proofs.lemmas.Bool.{and_parts, or_parts, eqb-true}
 use Rattle.std.proofs.lemmas.Option.{slice_get_past}
-use Rattle.halide_pipeline.specs.declared.pipelines.Pipeline.{Pipeline}
+use Rattle.halide_pipeline.specs.Pipelines.{Pipeline}
 use Rattle.schedule_lines.specs.declared.lines.Computed.{Computed}
 use Rattle.schedule_lines.specs.declared.lines.Computed.TheVariants as computed
 use Rattle.schedule.specs.declared.plans.ComputeLine.{ComputeLine}

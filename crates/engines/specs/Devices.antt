@@ -1,0 +1,112 @@
+-- What a call did with its devices, where what they give and take is a fact of their states and bytes.
+-- This project's own.
+use Rattle.std.specs.Prelude.{◌≡◌, ◌⊎◌, ℕ, ◌<◌, List, length, slice_get, Some}
+use Rattle.std.specs.Str.{IsUtf8}
+
+-- what a call did with sources
+pub record Sources (I : Type 0) : Type 1 where
+  -- they gave these inputs, all that they had
+  pub gave : I → Type 0
+  -- one with this path failed, and those before it gave all that they had
+  pub failed : List ℕ → Type 0
+  -- none failed
+  pub well : Type 0
+  -- they are as they were
+  pub untouched : Type 0
+
+-- what a call did with a sink
+pub record Taken : Type 1 where
+  -- it took these bytes
+  pub took : List ℕ → Type 0
+  -- it has this path, and failed
+  pub failed : List ℕ → Type 0
+  -- it didn't fail
+  pub well : Type 0
+  -- it is as it was
+  pub untouched : Type 0
+
+-- a source of bytes, by its state before the call and after it
+abbrev pub bytes_of : {S : Type 0} (place : S → List ℕ) (failures : S → ℕ) (gave : S → List ℕ → S → Type 0) (ended : S → Type 0) (before after : S)
+    → Sources (List ℕ)
+bytes_of place failures gave ended before after = record {
+  gave = λ bytes. gave before bytes after × ended after;
+  failed = λ path. (path ≡ place before) × (failures before < failures after);
+  well = failures after ≡ failures before;
+  untouched = after ≡ before;
+}
+
+-- a source that isn't read to its end
+abbrev pub pieces_of : {S : Type 0} (place : S → List ℕ) (failures : S → ℕ) (gave : S → List ℕ → S → Type 0) (before after : S) → Sources (List ℕ)
+pieces_of place failures gave before after = record {
+  gave = λ bytes. gave before bytes after;
+  failed = λ path. (path ≡ place before) × (failures before < failures after);
+  well = failures after ≡ failures before;
+  untouched = after ≡ before;
+}
+
+-- the bytes that a source gave are no text
+abbrev pub GaveNoText : (List ℕ → Type 0) → Type 0
+GaveNoText gave = (bytes : List ℕ) × gave bytes × (IsUtf8 bytes → ⊥)
+
+-- a source of text, which fails also where its bytes are none
+abbrev pub text_of : {S : Type 0} (place : S → List ℕ) (failures : S → ℕ) (gave : S → List ℕ → S → Type 0) (ended : S → Type 0) (before after : S)
+    → Sources (List ℕ)
+text_of place failures gave ended before after = record {
+  gave = λ text. IsUtf8 text × gave before text after × ended after;
+  failed = λ path. (path ≡ place before) × ((failures before < failures after) ⊎ GaveNoText (λ bytes. gave before bytes after × ended after));
+  well = failures after ≡ failures before;
+  untouched = after ≡ before;
+}
+
+-- ---- several sources of texts
+
+-- each source gave its text, from the first states to the later ones
+pub record GaveEach {S : Type 0} (gave : S → List ℕ → S → Type 0) (first : List S) (texts : List (List ℕ)) (later : List S) : Type 0 where
+  pub as_many : length texts ≡ length first
+  pub kept : length later ≡ length first
+  pub each : (place : ℕ) (s t : S) → slice_get first place ≡ Some s → slice_get later place ≡ Some t
+      → (text : List ℕ) × (slice_get texts place ≡ Some text) × gave s text t
+
+-- The path is that of a source that failed, or that gave all that it had, which is no text. All before it gave their texts.
+pub record NamesFailed {S : Type 0} (path_of : S → List ℕ) (failed : S → ℕ) (gave : S → List ℕ → S → Type 0) (first later : List S) (path : List ℕ) : Type 0 where
+  pub place : ℕ
+  pub before : S
+  pub after : S
+  pub is_before : slice_get first place ≡ Some before
+  pub is_after : slice_get later place ≡ Some after
+  pub is_path : path ≡ path_of before
+  pub failed_there : (failed before < failed after) ⊎ GaveNoText (λ bytes. gave before bytes after)
+  pub earlier : (sooner : ℕ) (s t : S) → sooner < place → slice_get first sooner ≡ Some s → slice_get later sooner ≡ Some t
+      → (text : List ℕ) × IsUtf8 text × gave s text t
+
+-- none of them failed
+abbrev pub NoneFailed : {S : Type 0} (failures : S → ℕ) (first later : List S) → Type 0
+NoneFailed {S} failures first later =
+    (place : ℕ) (s t : S) → slice_get first place ≡ Some s → slice_get later place ≡ Some t → failures t ≡ failures s
+
+abbrev pub texts_of : {S : Type 0} (place : S → List ℕ) (failures : S → ℕ) (gave : S → List ℕ → S → Type 0) (ended : S → Type 0) (before after : List S)
+    → Sources (List (List ℕ))
+texts_of place failures gave ended before after = record {
+  gave = λ texts. GaveEach (λ s text t. IsUtf8 text × gave s text t × ended t) before texts after;
+  failed = NamesFailed place failures (λ s bytes t. gave s bytes t × ended t) before after;
+  well = NoneFailed failures before after;
+  untouched = after ≡ before;
+}
+
+-- sources that are read one after the other: the second ones are untouched unless the first ones gave all that they had
+abbrev pub both : {I J : Type 0} → Sources I → Sources J → Sources (I × J)
+both {I} first second = record {
+  gave = λ inputs. first.gave inputs.0 × second.gave inputs.1;
+  failed = λ path. (first.failed path × second.untouched) ⊎ (((input : I) × first.gave input) × first.well × second.failed path);
+  well = first.well × second.well;
+  untouched = first.untouched × second.untouched;
+}
+
+-- a sink, by its state before the call and after it
+abbrev pub sink_of : {S : Type 0} (place : S → List ℕ) (failures : S → ℕ) (took : S → List ℕ → S → Type 0) (before after : S) → Taken
+sink_of place failures took before after = record {
+  took = λ bytes. took before bytes after;
+  failed = λ path. (path ≡ place before) × (failures before < failures after);
+  well = failures after ≡ failures before;
+  untouched = after ≡ before;
+}
