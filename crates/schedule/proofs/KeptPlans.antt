@@ -10,6 +10,7 @@ use Rattle.halide_pipeline.specs.declared.definitions.Update.{Update}
 use Rattle.halide_pipeline.specs.declared.expressions.Variable.TheVariants as variables
 use Rattle.halide_pipeline.specs.Pipelines.{Pipeline}
 use Rattle.halide_pipeline.specs.Definitions.{is_first_in_place, is_second_in_place}
+use Rattle.halide_pipeline.specs.WellFormed.{are_arguments, are_reductions, IsWellFormed}
 use Rattle.schedule_lines.specs.declared.faults.ScheduleFault.{ScheduleFault}
 use Rattle.schedule_lines.specs.declared.faults.ScheduleFault.TheVariants as fault
 use Rattle.schedule_lines.specs.declared.lines.Computed.{Computed}
@@ -33,13 +34,14 @@ use Rattle.schedule.specs.declared.readers.Target.{Target}
 use Rattle.schedule.specs.declared.readers.Target.TheVariants as targets
 use Rattle.schedule.specs.Accepted.{Pairwise, IsUpdateStage, IsPlan}
 use Rattle.schedule.specs.Plans.{plan_of, pure_loops, reduction_loops, with_second, with_first_in_place, update_loops, update_stage, stage, with_stage, with_compute}
+use Rattle.schedule.proofs.Differing.{pure_differs, update_differs}
 use Rattle.schedule.specs.Reading.{compute_fault, computed_as, computed_of, new_stage_of, directed_of, taken_directive, target, settled, line_of_bytes, taken, start}
 
 -- ---- lists in pairs
 
-pub pairwise_map : {A B : Type 0} (P : A → B → Type 0) (f : A → B) (xs : List A) → ((x : A) → P x (f x)) → Pairwise P xs (map f xs)
+pub pairwise_map : {A B : Type 0} (P : A → B → Type 0) (f : A → B) (xs : List A) → ((k : ℕ) (x : A) → slice_get xs k ≡ Some x → P x (f x)) → Pairwise P xs (map f xs)
 pairwise_map P f [] each = tt
-pairwise_map P f (x ∷ xs) each = (each x, pairwise_map P f xs each)
+pairwise_map P f (x ∷ xs) each = (each 0 x refl, pairwise_map P f xs (λ k y found. each (suc k) y found))
 
 pub pairwise_set : {A B : Type 0} (P : A → B → Type 0) (xs : List A) (ys : List B) (k : ℕ) (old new : B) → slice_get ys k ≡ Some old → ((x : A) → P x old → P x new)
     → Pairwise P xs ys → Pairwise P xs (slice_set ys k new)
@@ -107,10 +109,12 @@ update_stray func update =
 begun : (is_update : Bool) (start : List Loop) → length start ≤ 5 → total is_stray start ≡ 0 → Differ start → IsStage is_update start (record { loops = start; splits = [] })
 begun is_update start few unrolled differ = record { made = Begun; names = differ; few = few; unrolled = unrolled }
 
-plan_begun : (func : Func) → IsPlan func (plan_of func)
-plan_begun func = record {
-  pure = begun false (pure_loops func) (few_pure func.second_argument [] func refl) (pure_stray func);
-  updates = pairwise_map (IsUpdateStage func) (update_stage func) func.updates (λ update. begun true (update_loops func update) (few_update func update) (update_stray func update));
+plan_begun : (func : Func) → are_arguments func.first_argument func.second_argument ≡ true
+    → ((at : ℕ) (update : Update) → slice_get func.updates at ≡ Some update → are_reductions func.first_argument func.second_argument update ≡ true) → IsPlan func (plan_of func)
+plan_begun func arguments reductions = record {
+  pure = begun false (pure_loops func) (few_pure func.second_argument [] func refl) (pure_stray func) (pure_differs func arguments);
+  updates = pairwise_map (IsUpdateStage func) (update_stage func) func.updates
+      (λ at update found. begun true (update_loops func update) (few_update func update) (update_stray func update) (update_differs func update arguments (reductions at update found)));
 }
 
 -- ---- a plan behind a line
@@ -127,13 +131,13 @@ stage_kept : (update : Option ℕ) (func : Func) (plan : FuncPlan) (line : ℕ) 
 stage_kept None func plan line d own new found e is =
     let same : plan.pure ≡ own = cc in
     record {
-      pure = λ differ. directed_keeps false (pure_loops func) own line d new e (subst (λ (s : Stage). IsStage false (pure_loops func) s) same (is.pure differ));
+      pure = directed_keeps false (pure_loops func) own line d new e (subst (λ (s : Stage). IsStage false (pure_loops func) s) same is.pure);
       updates = is.updates;
     }
 stage_kept (Some at) func plan line d own new found e is = record {
   pure = is.pure;
   updates = pairwise_set (IsUpdateStage func) func.updates plan.updates at own new found
-      (λ update kept differ. directed_keeps true (update_loops func update) own line d new e (kept differ)) is.updates;
+      (λ update kept. directed_keeps true (update_loops func update) own line d new e kept) is.updates;
 }
 
 -- ---- lines
@@ -215,5 +219,6 @@ lines_keep pipeline number reader (line ∷ later) last e are =
     lines_by (taken pipeline reader line) pipeline number reader later last (line_keeps pipeline reader line)
     (λ next rest kept. lines_keep pipeline (number + 1) next later last rest kept) e are
 
-pub plans_begun : (pipeline : Pipeline) → ArePlans pipeline (start pipeline)
-plans_begun pipeline = pairwise_map IsPlan plan_of pipeline.funcs plan_begun
+pub plans_begun : (pipeline : Pipeline) → IsWellFormed pipeline → ArePlans pipeline (start pipeline)
+plans_begun pipeline rules =
+    pairwise_map IsPlan plan_of pipeline.funcs (λ k func found. plan_begun func (rules.funcs k func found).arguments (rules.funcs k func found).reductions)

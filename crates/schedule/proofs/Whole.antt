@@ -6,6 +6,7 @@ use Rattle.line_text.specs.Reading.{◌>>=◌, FailsAt}
 use Rattle.line_text.specs.declared.read_errors.LocatedError.{LocatedError}
 use Rattle.line_text.specs.declared.read_errors.LocatedError.TheVariants as places
 use Rattle.halide_pipeline.specs.Pipelines.{Pipeline}
+use Rattle.halide_pipeline.specs.WellFormed.{IsWellFormed}
 use Rattle.schedule_lines.specs.declared.faults.ScheduleFault.{ScheduleFault}
 use Rattle.schedule.specs.declared.readers.Reader.{Reader}
 use Rattle.schedule.specs.declared.schedules.Schedule.{Schedule}
@@ -39,15 +40,15 @@ accepted_by None pipeline reader schedule is e plans =
     })
 
 read_by : (given : Result Reader (ℕ × ScheduleFault)) (pipeline : Pipeline) (text : List ℕ) (schedule : Schedule) → taken_from (taken pipeline) 1 (start pipeline) (lines_of text) ≡ given
-    → (given >>= λ reader. finished pipeline reader) ≡ Ok schedule → IsAccepted pipeline schedule
-read_by (Err wrong) pipeline text schedule is e = cc
-read_by (Ok reader) pipeline text schedule is e =
+    → (given >>= λ reader. finished pipeline reader) ≡ Ok schedule → IsWellFormed pipeline → IsAccepted pipeline schedule
+read_by (Err wrong) pipeline text schedule is e rules = cc
+read_by (Ok reader) pipeline text schedule is e rules =
     accepted_by (verdict (standings pipeline reader.plans) reader.plans) pipeline reader schedule refl e
-    (lines_keep pipeline 1 (start pipeline) (lines_of text) reader is (plans_begun pipeline))
+    (lines_keep pipeline 1 (start pipeline) (lines_of text) reader is (plans_begun pipeline rules))
 
-pub read_keeps : (pipeline : Pipeline) (text : List ℕ) (schedule : Schedule) → read pipeline text ≡ Ok schedule → IsAccepted pipeline schedule
+pub read_keeps : (pipeline : Pipeline) (text : List ℕ) (schedule : Schedule) → read pipeline text ≡ Ok schedule → IsWellFormed pipeline → IsAccepted pipeline schedule
 unfolding read
-read_keeps pipeline text schedule e = read_by (taken_from (taken pipeline) 1 (start pipeline) (lines_of text)) pipeline text schedule refl e
+read_keeps pipeline text schedule e rules = read_by (taken_from (taken pipeline) 1 (start pipeline) (lines_of text)) pipeline text schedule refl e rules
 
 -- a line is faulty
 pub fails : (error : LocatedError ScheduleFault) (pipeline : Pipeline) (text : List ℕ) → FailsAt error (taken_from (taken pipeline) 1 (start pipeline) (lines_of text)) → FailsAt error (read pipeline text)

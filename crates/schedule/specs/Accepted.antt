@@ -9,7 +9,7 @@ use Rattle.schedule_lines.specs.declared.stages.Loop.{Loop}
 use Rattle.schedule_lines.specs.declared.stages.Mark.TheVariants as marks
 use Rattle.schedule_lines.specs.declared.stages.Stage.{Stage}
 use Rattle.schedule_lines.specs.Loops.{find, is_marked}
-use Rattle.schedule_lines.specs.Making.{Differ, IsStage}
+use Rattle.schedule_lines.specs.Making.{IsStage}
 use Rattle.schedule.specs.declared.legality.LoopRule.{LoopRule}
 use Rattle.schedule.specs.declared.plans.FuncPlan.{FuncPlan}
 use Rattle.schedule.specs.declared.schedules.Schedule.{Schedule}
@@ -33,13 +33,13 @@ abbrev pub Numbered : {A : Type 0} → (ℕ → A → Type 0) → ℕ → List A
 Numbered P at [] = Unit {0}
 Numbered P at (x ∷ xs) = P at x × Numbered P (at + 1) xs
 
--- ---- the stages of a Func are made of their first loops, where the names of these differ
+-- ---- the stages of a Func are made of their first loops
 
 abbrev pub IsUpdateStage : Func → Update → Stage → Type 0
-IsUpdateStage func update stage = Differ (update_loops func update) → IsStage true (update_loops func update) stage
+IsUpdateStage func update stage = IsStage true (update_loops func update) stage
 
 pub record IsPlan (func : Func) (plan : FuncPlan) : Type 0 where
-  pub pure : Differ (pure_loops func) → IsStage false (pure_loops func) plan.pure
+  pub pure : IsStage false (pure_loops func) plan.pure
   pub updates : Pairwise (IsUpdateStage func) func.updates plan.updates
 
 -- ---- the loops of a Func that the output reaches keep the rules

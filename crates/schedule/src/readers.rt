@@ -1,6 +1,7 @@
 //! One line after the other: what each line says of the Funcs, or its least fault.
 
 ghost use Rattle.std.specs.Prelude.{◌≡◌, IfOk};
+ghost use Rattle.halide_pipeline.specs.WellFormed.{IsWellFormed};
 ghost use Rattle.line_text.specs.LineReading.{Takes};
 ghost use Rattle.line_text.specs.Reading.{Gives};
 ghost use Rattle.schedule.specs.Reading as spec;
@@ -224,7 +225,8 @@ pub fn take_line(
 
 /// A reader before the first line.
 pub fn start(alloc: Global, pipeline: &Pipeline) -> Result<Reader, AllocError>
-    ensures { IfOk result (λ reader. reader ≡ spec.start pipeline.now) }
+    ensures given { IfOk result (λ reader. reader ≡ spec.start pipeline.now) }
+    ensures rules { IsWellFormed pipeline.now }
 {
     Ok(Reader {
         lines: 0,
