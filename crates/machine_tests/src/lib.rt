@@ -1,16 +1,14 @@
-//! Tests of the machine, from words to sessions of the debugger. They stand in a crate of their own, since a crate
-//! that has tests is proved twice.
+//! Tests of the machine and its texts, of what no file of cases can ask: calls of the libraries, and memory that fails. The program
+//! `conformance` answers files of cases. They stand in a crate of their own, since a crate that has tests is proved twice.
 //!
-//! - [`words`], [`vector_words`]: words of an assembler and what they mean.
-//! - [`memories`]: reads and writes of text and data, and their refusals.
-//! - [`turns`], [`operations`], [`vector_turns`]: turns of one hart.
-//! - [`machines`]: many turns of one hart at once.
-//! - [`images`], [`logs`]: files, and what is wrong with damaged ones.
-//! - [`sessions`]: the debugger over the two-hart counter.
+//! - [`memories`]: turns over a memory that covers text alone.
+//! - [`machines`]: many turns at once.
+//! - [`vectors`]: a vector state that is set and read.
+//! - [`logs`]: logs that are made turn by turn, and looked up.
+//! - [`sessions`]: the debugger over 2 ^ 40 turns.
+//! - [`texts`]: a small text that is assembled, stored and listed.
 #![tactic(auto)]
 
-#[cfg(test)]
-mod images;
 #[cfg(test)]
 mod logs;
 #[cfg(test)]
@@ -18,14 +16,8 @@ mod machines;
 #[cfg(test)]
 mod memories;
 #[cfg(test)]
-mod operations;
-#[cfg(test)]
 mod sessions;
 #[cfg(test)]
-mod turns;
+mod texts;
 #[cfg(test)]
-mod vector_turns;
-#[cfg(test)]
-mod vector_words;
-#[cfg(test)]
-mod words;
+mod vectors;

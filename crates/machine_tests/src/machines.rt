@@ -1,8 +1,20 @@
-ghost use Rattle.std.specs.Prelude.{◌≡◌, ◌<◌, ◌≤◌, length};
+//! Many turns at once.
 
-use multi_hart::Machine;
+ghost use Rattle.std.specs.Prelude.{◌≡◌, ◌<◌, ◌≤◌, IfOk, length};
+
+use multi_hart::{Machine, UnknownHart};
 use rv_insn::Outcome;
+use std::alloc::{AllocError, Global};
 use std::test::Fail;
+
+/// Two harts that each add 1 to the word of data, and finish.
+fn counter(alloc: Global) -> Result<Machine, AllocError>
+    ensures { IfOk result (λ machine. length machine.harts ≡ 2) }
+{
+    let words = [0x0020_02b7, 0x0010_0313, 0x0062_a3af, 0x0000_0073].to_vec(alloc)?;
+    let bytes = [0; 4].to_vec(alloc)?;
+    Machine::new(alloc, 0x0001_0000, words, bytes, 2)
+}
 
 /// So many turns of hart 0.
 fn turns_of_first(machine: &mut Machine, turns: u64) -> Outcome
@@ -14,15 +26,26 @@ fn turns_of_first(machine: &mut Machine, turns: u64) -> Outcome
 }
 
 #[test]
-fn turns_at_once(rt: HostRuntime) -> Result<(), Fail> {
-    let alloc = rt.alloc();
-    // Each hart adds 1 to the word of data, and finishes.
-    let words = [0x0020_02b7, 0x0010_0313, 0x0062_a3af, 0x0000_0073].to_vec(alloc)?;
-    let bytes = [0; 4].to_vec(alloc)?;
-    let mut machine = Machine::new(alloc, 0x0001_0000, words, bytes, 2)?;
+fn turns_of_one_hart(rt: HostRuntime) -> Result<(), Fail> {
+    let mut machine = counter(rt.alloc())?;
     assert_eq!(rt; turns_of_first(&mut machine, 3), Outcome::Stepped);
     assert_eq!(rt; turns_of_first(&mut machine, 1), Outcome::Finished);
     assert_eq!(rt; turns_of_first(&mut machine, 1 << 40), Outcome::Idle);
     assert_eq!(rt; machine.word(0x0020_0000), Some(1));
+    Ok(())
+}
+
+/// A list of turns is made up to the first hart that isn't there.
+#[test]
+fn turns_of_a_list(rt: HostRuntime) -> Result<(), Fail> {
+    let mut machine = counter(rt.alloc())?;
+    assert_eq!(rt;
+        machine.run(&[0, 1, 0, 0, 1, 1, 1, 2, 0]),
+        Err(UnknownHart { at: 7 })
+    );
+    assert_eq!(rt; machine.word(0x0020_0000), Some(2));
+    assert!(rt; !machine.is_finished());
+    assert_eq!(rt; machine.run(&[0]), Ok(()));
+    assert!(rt; machine.is_finished());
     Ok(())
 }

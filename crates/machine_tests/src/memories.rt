@@ -1,116 +1,94 @@
-ghost use Rattle.std.specs.Prelude.{◌≡◌, IfOk, length};
+//! Turns over a memory that covers text alone.
 
-use memory::{
-    Bytes, Memory, read_for_amo, read_u8, read_u16, read_u32, write_u8, write_u16, write_u32,
-};
-use rv_insn::Trap;
+ghost use Rattle.std.specs.Prelude.{◌≤◌, length};
+
+use hart_core::Hart;
+use memory::{Bytes, Memory};
+use rv_insn::{Outcome, Reg, Trap};
+use std::process::Abort;
 use std::test::Fail;
 
-/// One word of text and six bytes of data, 0x21 to 0x26.
-fn start(rt: &impl AllocGlobal) -> Result<Memory, Fail>
-    ensures text { IfOk result (λ memory. length memory.text ≡ 1) }
-    ensures data { IfOk result (λ memory. length memory.memory ≡ 6) }
+fn register(rt: &impl Abort, hart: &Hart, number: u8) -> u32 {
+    hart.register(Reg::new(number).expect(rt, "a register"))
+}
+
+/// Another memory than the plain one, though it keeps its bytes in one.
+#[derive(Drop)]
+struct Wrapped {
+    memory: Memory,
+}
+
+impl Bytes for Wrapped {
+    ghost text = { λ m. m.memory.text };
+
+    ghost memory = { λ m. m.memory.memory };
+
+    fn fetch(&self, pc: u32) -> Option<u32> {
+        self.memory.fetch(pc)
+    }
+
+    fn covers_load(&self, address: u32, count: u32) -> bool {
+        self.memory.covers_load(address, count)
+    }
+
+    fn covers_store(&self, address: u32, count: u32) -> bool {
+        self.memory.covers_store(address, count)
+    }
+
+    fn read(&self, address: u32) -> u8 {
+        self.memory.read(address)
+    }
+
+    fn write(&mut self, address: u32, value: u8) {
+        self.memory.write(address, value);
+    }
+}
+
+/// A memory of text alone.
+fn text_alone(rt: &impl AllocGlobal, words: &[u32]) -> Result<Wrapped, Fail>
+    requires { length words.now ≤ 16 }
 {
-    let words = [0x0403_8281u32];
-    let bytes = [0x21u8, 0x22, 0x23, 0x24, 0x25, 0x26];
-    Ok(Memory::new(words.to_vec(rt.alloc())?, bytes.to_vec(rt.alloc())?))
+    let memory = Memory::new(words.to_vec(rt.alloc())?, Vec::new(rt.alloc()));
+    Ok(Wrapped { memory })
 }
 
+/// Over text alone each aligned load outside text is trap 5, and each aligned store trap 7:
+/// the instruction at x5 = 0x00200000, or at 0.
 #[test]
-fn reads_text_and_data(rt: HostRuntime) -> Result<(), Fail> {
-    let memory = start(&rt)?;
-    assert_eq!(rt; memory.fetch(0x0001_0000), Some(0x0403_8281));
-    assert_eq!(rt; memory.fetch(0x0001_0002), None);
-    assert_eq!(rt; memory.fetch(0x0001_0004), None);
-    assert_eq!(rt; memory.fetch(0x0000_fffc), None);
-    assert_eq!(rt; memory.read(0x0001_0001), 0x82);
-    assert_eq!(rt; memory.read(0x0020_0005), 0x26);
-    assert_eq!(rt; read_u8(&memory, 0x0001_0003), Ok(0x04));
-    assert_eq!(rt; read_u8(&memory, 0x0020_0001), Ok(0x22));
-    assert_eq!(rt; read_u16(&memory, 0x0001_0000), Ok(0x8281));
-    assert_eq!(rt; read_u16(&memory, 0x0020_0004), Ok(0x2625));
-    assert_eq!(rt; read_u32(&memory, 0x0001_0000), Ok(0x0403_8281));
-    assert_eq!(rt; read_u32(&memory, 0x0020_0000), Ok(0x2423_2221));
-    assert_eq!(rt; read_for_amo(&memory, 0x0020_0000), Ok(0x2423_2221));
-    Ok(())
-}
-
-#[test]
-fn refuses_misaligned_before_outside(rt: HostRuntime) -> Result<(), Fail> {
-    let memory = start(&rt)?;
-    for (address, half, word) in [
-        (0x0000_0001, Trap::LoadMisaligned, Trap::LoadMisaligned),
-        (0x0000_0000, Trap::LoadOutside, Trap::LoadOutside),
-        (0x0001_0004, Trap::LoadOutside, Trap::LoadOutside),
-        (0x0020_0006, Trap::LoadOutside, Trap::LoadMisaligned),
-        (0x001f_fffc, Trap::LoadOutside, Trap::LoadOutside),
-        (0xffff_fffc, Trap::LoadOutside, Trap::LoadOutside),
-    ] {
-        assert_eq!(rt; read_u16(&memory, address), Err(half), "{address:08x}");
-        assert_eq!(rt; read_u32(&memory, address), Err(word), "{address:08x}");
-    }
-    assert_eq!(rt; read_u32(&memory, 0x0020_0004), Err(Trap::LoadOutside));
-    assert_eq!(rt; read_u8(&memory, 0x0020_0006), Err(Trap::LoadOutside));
-    assert_eq!(rt; read_u8(&memory, 0xffff_ffff), Err(Trap::LoadOutside));
-    assert_eq!(rt;
-        read_for_amo(&memory, 0x0020_0002),
-        Err(Trap::StoreMisaligned)
-    );
-    assert_eq!(rt; read_for_amo(&memory, 0x0001_0000), Err(Trap::StoreOutside));
-    Ok(())
-}
-
-#[test]
-fn writes_data_alone(rt: HostRuntime) -> Result<(), Fail> {
-    let mut memory = start(&rt)?;
-    assert_eq!(rt; write_u8(&mut memory, 0x0020_0001, 0xfe), Ok(()));
-    assert_eq!(rt; read_u32(&memory, 0x0020_0000), Ok(0x2423_fe21));
-    assert_eq!(rt; write_u16(&mut memory, 0x0020_0004, 0xbbaa), Ok(()));
-    assert_eq!(rt; read_u8(&memory, 0x0020_0004), Ok(0xaa));
-    assert_eq!(rt; read_u8(&memory, 0x0020_0005), Ok(0xbb));
-    assert_eq!(rt; read_u32(&memory, 0x0020_0000), Ok(0x2423_fe21));
-    assert_eq!(rt; write_u32(&mut memory, 0x0020_0000, 0x4433_2211), Ok(()));
-    assert_eq!(rt; read_u8(&memory, 0x0020_0000), Ok(0x11));
-    assert_eq!(rt; read_u8(&memory, 0x0020_0003), Ok(0x44));
-    assert_eq!(rt; read_u16(&memory, 0x0020_0004), Ok(0xbbaa));
-    Ok(())
-}
-
-#[test]
-fn refused_writes_change_nothing(rt: HostRuntime) -> Result<(), Fail> {
-    let mut memory = start(&rt)?;
-    for (address, half, word) in [
-        (0x0000_0001, Trap::StoreMisaligned, Trap::StoreMisaligned),
-        (0x0001_0000, Trap::StoreOutside, Trap::StoreOutside),
-        (0x0020_0006, Trap::StoreOutside, Trap::StoreMisaligned),
-        (0x001f_fffc, Trap::StoreOutside, Trap::StoreOutside),
-        (0xffff_fffc, Trap::StoreOutside, Trap::StoreOutside),
-    ] {
+fn text_alone_is_a_memory(rt: HostRuntime) -> Result<(), Fail> {
+    let cases = [
+        (0x0002_8283, Trap::LoadOutside), // lb x5,0(x5)
+        (0x0002_9283, Trap::LoadOutside), // lh
+        (0x0002_a283, Trap::LoadOutside), // lw
+        (0x0002_c283, Trap::LoadOutside), // lbu
+        (0x0002_d283, Trap::LoadOutside), // lhu
+        (0x0000_2283, Trap::LoadOutside), // lw x5,0(x0)
+        (0x0002_8023, Trap::StoreOutside), // sb x0,0(x5)
+        (0x0002_9023, Trap::StoreOutside), // sh
+        (0x0002_a023, Trap::StoreOutside), // sw
+        (0x0002_a2af, Trap::StoreOutside), // amoadd.w x5,x0,(x5)
+    ];
+    for (word, trap) in cases {
+        let mut memory = text_alone(&rt, &[0x0020_02b7, word])?; // lui x5,0x200
+        let mut hart = Hart::new(0x0001_0000, 1, 0);
+        assert_eq!(rt; hart.step(&mut memory), Outcome::Stepped);
         assert_eq!(rt;
-            write_u16(&mut memory, address, 0),
-            Err(half),
-            "{address:08x}"
+            hart.step(&mut memory),
+            Outcome::Trapped(trap),
+            "{word:08x}"
         );
-        assert_eq!(rt;
-            write_u32(&mut memory, address, 0),
-            Err(word),
-            "{address:08x}"
-        );
+        assert_eq!(rt; register(&rt, &hart, 5), 0x0020_0000);
     }
-    assert_eq!(rt;
-        write_u32(&mut memory, 0x0020_0004, 0),
-        Err(Trap::StoreOutside)
-    );
-    assert_eq!(rt;
-        write_u8(&mut memory, 0x0020_0006, 0),
-        Err(Trap::StoreOutside)
-    );
-    assert_eq!(rt;
-        write_u8(&mut memory, 0x0001_0003, 0),
-        Err(Trap::StoreOutside)
-    );
-    assert_eq!(rt; read_u32(&memory, 0x0001_0000), Ok(0x0403_8281));
-    assert_eq!(rt; read_u32(&memory, 0x0020_0000), Ok(0x2423_2221));
-    assert_eq!(rt; read_u16(&memory, 0x0020_0004), Ok(0x2625));
+    Ok(())
+}
+
+/// Over the same memory, lw of the text: lui x5,0x10; lw x6,0(x5).
+#[test]
+fn text_can_be_loaded(rt: HostRuntime) -> Result<(), Fail> {
+    let mut memory = text_alone(&rt, &[0x0001_02b7, 0x0002_a303])?;
+    let mut hart = Hart::new(0x0001_0000, 1, 0);
+    assert_eq!(rt; hart.step(&mut memory), Outcome::Stepped);
+    assert_eq!(rt; hart.step(&mut memory), Outcome::Stepped);
+    assert_eq!(rt; register(&rt, &hart, 6), 0x0001_02b7);
     Ok(())
 }
