@@ -49,6 +49,17 @@ def piece(line):
     return int(count) * "".join(escapes[next(letters)] if letter == "\\" else letter for letter in letters)
 
 
+def files():
+    """The names of all case files."""
+    return set(os.listdir(os.path.join(FOLDER, "data")))
+
+
+def arguments():
+    """The names that the program is given, in their order."""
+    with open(os.path.join(FOLDER, "args")) as file:
+        return file.read().split()
+
+
 def read_stdout():
     """The lines below each `file NAME`, and the names in their order."""
     sections = {}
