@@ -374,8 +374,8 @@ fn gives_the_pipeline(rt: HostRuntime) -> Result<(), Fail> {
     assert_eq!(rt; pipeline.source(b"two"), Some(Source::Input(1)));
     assert_eq!(rt; pipeline.source(b"g"), Some(Source::Func(1)));
     assert_eq!(rt; pipeline.source(b"x"), None);
-    assert_eq!(rt; pipeline.output.func, 1);
-    assert_eq!(rt; (pipeline.output.width, pipeline.output.height), (4, 5));
+    assert_eq!(rt; pipeline.output().func, 1);
+    assert_eq!(rt; (pipeline.output().width, pipeline.output().height), (4, 5));
     let first = pipeline.input(0).expect(&rt, "it is there");
     assert_eq!(rt; (first.width, first.height, first.dimensions), (8, 1, 1));
     let second = pipeline.input(1).expect(&rt, "it is there");

@@ -1,11 +1,7 @@
-//! Arithmetic of words, names, and a pipeline that is made by hand.
+//! Arithmetic of words, names, and the parts of a pipeline.
 
-use halide_pipeline::{
-    Expr, Func, Input, Names, Operation, Output, Pipeline, Reduction, Source, Update, Variable,
-    words,
-};
-use sqlite_items::{Boxed, Items};
-use std::alloc::{AllocError, Global};
+use halide_parser::parse;
+use halide_pipeline::{Names, Operation, Source, Variable, words};
 use std::test::Fail;
 
 /// The word of a signed number.
@@ -83,68 +79,23 @@ fn names_keep_their_sources(rt: HostRuntime) -> Result<(), Fail> {
     Ok(())
 }
 
-/// A Func of two arguments with an update that is made for all values of its first.
-fn updated_func(alloc: Global) -> Result<Func, AllocError> {
-    let x = Boxed::new(alloc, Expr::Variable(Variable::FirstArgument))?;
-    let mut updates = Items::new(alloc);
-    updates.push(Update {
-        left_x: Expr::Variable(Variable::FirstArgument),
-        left_y: Some(Expr::Variable(Variable::FirstReduction)),
-        right: Expr::Number(1),
-        first: Reduction {
-            name: Items::from_slice(alloc, b"r")?,
-            minimum: 0,
-            extent: 4,
-        },
-        second: None,
-    })?;
-    Ok(Func {
-        first_argument: Items::from_slice(alloc, b"x")?,
-        second_argument: Some(Items::from_slice(alloc, b"y")?),
-        pure: Expr::Call1(Source::Input(0), x),
-        updates,
-    })
-}
-
-/// The pipeline of this Func and one input.
-fn pipeline_of(alloc: Global, func: Func) -> Result<Pipeline, AllocError> {
-    let mut funcs = Items::new(alloc);
-    funcs.push(func)?;
-    let mut inputs = Items::new(alloc);
-    inputs.push(Input {
-        width: 8,
-        height: 1,
-        dimensions: 1,
-    })?;
-    let mut names = Names::new(alloc);
-    names.add(alloc, b"in", Source::Input(0))?;
-    names.add(alloc, b"f", Source::Func(0))?;
-    Ok(Pipeline {
-        names,
-        inputs,
-        funcs,
-        output: Output {
-            func: 0,
-            width: 8,
-            height: 4,
-            dimensions: 2,
-        },
-    })
-}
-
+/// The parts of a pipeline, which stand where their text has them.
 #[test]
 fn reads_a_pipeline(rt: HostRuntime) -> Result<(), Fail> {
-    let func = updated_func(rt.alloc())?;
+    let text = "input in 8\nfunc f(x,y) = in(x)\nupdate f(x,r) = 1 over r 0 4\noutput f 8 4";
+    let pipeline = parse(text, rt.alloc())?;
+    assert_eq!(rt; pipeline.source(b"f"), Some(Source::Func(0)));
+    assert_eq!(rt; pipeline.inputs().len(), 1);
+    assert_eq!(rt; pipeline.input(0).expect(&rt, "an input").width, 8);
+    assert!(rt; pipeline.input(1).is_none());
+    assert_eq!(rt; pipeline.funcs().len(), 1);
+    assert!(rt; pipeline.func(1).is_none());
+    assert_eq!(rt; pipeline.output().height, 4);
+    let func = pipeline.func(0).expect(&rt, "a Func");
+    assert_eq!(rt; func.dimensions(), 2);
     assert!(rt; func.pure.uses(Variable::FirstArgument));
     assert!(rt; !func.pure.uses(Variable::SecondArgument));
     assert!(rt; !func.pure.is_variable(Variable::FirstArgument));
-    let pipeline = pipeline_of(rt.alloc(), func)?;
-    assert_eq!(rt; pipeline.source(b"f"), Some(Source::Func(0)));
-    assert_eq!(rt; pipeline.input(0).expect(&rt, "an input").width, 8);
-    assert!(rt; pipeline.input(1).is_none());
-    assert!(rt; pipeline.func(1).is_none());
-    let func = pipeline.func(0).expect(&rt, "a Func");
-    assert_eq!(rt; func.dimensions(), 2);
     let update = func.updates.get(0).expect(&rt, "an update");
     assert!(rt; update.is_first_in_place());
     assert!(rt; !update.is_second_in_place());
