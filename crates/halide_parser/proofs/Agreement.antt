@@ -1,7 +1,7 @@
 -- What the code makes of a line, with what it knows of the expressions, is what the rules say of the line as it is written.
 use Rattle.std.proofs.Common.{◌≡◌, ℕ, ◌+◌, Bool, true, false, cond, not, List, length, Option, Some, None, Result, Ok, Err, refl, sym, ap, subst, arith, ◌∙◌}
 use Rattle.std.specs.Prelude.{◌||◌, min, nat_le, nat_lt}
-use Rattle.std.proofs.lemmas.Bool.{or_parts, leb-true, leb-false, le-leb, lt-leb, not-false}
+use Rattle.std.proofs.lemmas.Bool.{or_parts, leb-true, leb-false, le-leb, lt-leb}
 use Rattle.std.specs.declared.alloc.Global.{Global}
 use Rattle.line_text.specs.Reading.{◌>>=◌}
 use Rattle.line_text.specs.Lines.{lines_of}
@@ -40,7 +40,7 @@ use Rattle.halide_parser.proofs.Faultless.{chain, faultless, IsFaultless}
 use Rattle.halide_parser.proofs.Keeping.{none_of_three, none_of_four}
 use Rattle.halide_parser.proofs.Marks as marks
 use Rattle.halide_parser.proofs.Sizes.{tree_is}
-use Rattle.halide_parser.proofs.Wholeness.{IsPlain, plain_parts, fits_is, whole}
+use Rattle.halide_parser.proofs.Wholeness.{IsPlain, plain_parts, whole}
 
 -- ---- limits
 

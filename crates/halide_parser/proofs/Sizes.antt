@@ -1,14 +1,14 @@
 -- The tree of an expression within its limits keeps them: it has no more nodes, and needs no more brackets.
-use Rattle.std.proofs.Common.{◌≡◌, ℕ, ◌+◌, ◌≤◌, ◌<◌, Bool, true, false, cond, not, Option, Some, None, refl, sym, ap, subst, arith, ◌∙◌}
-use Rattle.std.specs.Prelude.{◌&&◌, min, max, nat_le}
-use Rattle.std.proofs.lemmas.Bool.{and_from, not-false, leb-true, leb-false, le-leb}
+use Rattle.std.proofs.Common.{◌≡◌, ℕ, ◌+◌, ◌≤◌, Bool, true, false, cond, Option, Some, None, refl, sym, ap, subst, arith}
+use Rattle.std.specs.Prelude.{min, max, nat_le}
+use Rattle.std.proofs.lemmas.Bool.{and_from, not-false, leb-true, le-leb}
 use Rattle.halide_pipeline.specs.declared.expressions.Expr.{Expr}
 use Rattle.halide_pipeline.specs.declared.expressions.Expr.TheVariants as trees
 use Rattle.halide_pipeline.specs.declared.expressions.Operation.{Operation}
 use Rattle.halide_pipeline.specs.declared.expressions.Operation.TheVariants as op
 use Rattle.halide_pipeline.specs.declared.expressions.Variable.{Variable}
 use Rattle.halide_pipeline.specs.Expressions.{nodes, Brackets, bracketed, within, operation_brackets, brackets_at, brackets}
-use Rattle.halide_pipeline.specs.WellFormed.{fits, is_sized, is_second_sized}
+use Rattle.halide_pipeline.specs.WellFormed.{fits, is_sized}
 use Rattle.halide_pipeline.proofs.Trees.{at_number, at_variable, at_binary, at_divide, at_remainder, at_select, at_call1, at_call2}
 use Rattle.halide_syntax.specs.declared.tokens.ProductOperator.TheVariants as products
 use Rattle.halide_syntax.specs.declared.tokens.SumOperator.{SumOperator}

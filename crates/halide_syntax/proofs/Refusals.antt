@@ -9,7 +9,7 @@ use Rattle.halide_syntax.specs.declared.tokens.SumOperator.TheVariants.{Add, Sub
 use Rattle.halide_syntax.specs.declared.lines.Line.{Line}
 use Rattle.halide_syntax.specs.inner.Algebra.{writing}
 use Rattle.halide_syntax.specs.Grammar.{Written}
-use Rattle.halide_syntax.specs.LineGrammar.{FollowsGrammar, IsRightLine, spell_line}
+use Rattle.halide_syntax.specs.LineGrammar.{FollowsGrammar}
 use Rattle.halide_syntax.specs.inner.LineReading as r
 use Rattle.halide_syntax.specs.inner.Machine as m
 use Rattle.halide_syntax.proofs.LinesBack.{line_read, line_written}
