@@ -6,11 +6,13 @@
 ghost use Rattle.std.specs.Prelude.{◌≡◌, ◌≤◌, length, IfOk, None};
 
 use engines::Sink;
+use std::fs::{OpenFile, OpenOptions};
+use std::io;
 use std::io::Write;
 use std::rt::Files;
-use std::{fs, io};
 
-/// A file to be written. It is made, or emptied, at its first write, so that where nothing is written no file is made or touched.
+/// A file to be written. It is made at its first write, so that where nothing is written no file is made or touched. What it held
+/// before stays until bytes stand in its place, so that a first write that fails leaves it as it was.
 #[derive(Drop)]
 pub struct FileSink<'a, R: Files> {
     rt: &'a R,
@@ -40,14 +42,28 @@ impl<'a, R: Files> FileSink<'a, R> {
         ensures path { self.new.path.now ≡ self.old.path.now }
         ensures failures { self.new.failures ≡ self.old.failures }
     {
-        if self.file.is_none() {
-            self.file = Some(fs::create(self.rt, self.path)?);
+        if let Some(file) = &mut self.file {
+            return file.write(bytes);
         }
-        match &mut self.file {
-            Some(file) => file.write(bytes),
-            None => Ok(0),
+        let mut file = OpenOptions::new()
+            .write(true)
+            .create(true)
+            .open(self.rt, self.path)?;
+        let count = file.write(bytes)?;
+        if count > 0 {
+            cut(&file, count as u64)?;
         }
+        self.file = Some(file);
+        Ok(count)
     }
+}
+
+/// Cuts off what a file holds behind so many bytes. What is no regular file, as a terminal or a pipe, has no length.
+fn cut<F: OpenFile>(file: &F, length: u64) -> io::Result<()> {
+    if file.metadata()?.is_file() {
+        file.set_len(length)?;
+    }
+    Ok(())
 }
 
 impl<'a, R: Files> Sink for FileSink<'a, R> {

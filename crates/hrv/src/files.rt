@@ -1,16 +1,55 @@
-//! The files that are read, and standard input and output, as devices.
+//! The system as the place where devices come from: the files that are read, and standard input and output.
 //!
 //! What a file or a terminal gives and takes is outside of what a proof can know, so the facts of bytes
 //! of these devices hold of any bytes. That each failure is counted is proved.
 
-ghost use Rattle.std.specs.Prelude.{◌≡◌, ◌≤◌, length, codes, map, IfOk};
-ghost use Rattle.std.specs.List.{All};
+ghost use Rattle.std.specs.Prelude.{◌≡◌, ◌≤◌, length, codes, IfOk};
 
+use crate::dispatch::Devices;
+use crate::file_sinks::FileSink;
 use engines::{Sink, Source};
-use std::alloc::{AllocError, Global};
 use std::io::{Read, Write};
 use std::rt::Files;
 use std::{fs, io};
+
+/// The system's files, and standard input and output.
+#[derive(Drop)]
+pub struct System<'a, R: Files> {
+    rt: &'a R,
+}
+
+impl<'a, R: Files> System<'a, R> {
+    /// The system that a program runs in.
+    pub fn new(rt: &'a R) -> System<'a, R> {
+        System { rt }
+    }
+}
+
+impl<'a, R: Files + Input + Print> Devices<'a> for System<'a, R> {
+    type Read = FileSource<'a, R>;
+
+    type Written = FileSink<'a, R>;
+
+    type Typed = StandardInput<R>;
+
+    type Printed = StandardOutput<'a, R>;
+
+    fn read(&self, path: &'a str) -> FileSource<'a, R> {
+        FileSource::new(self.rt, path)
+    }
+
+    fn written(&self, path: &'a str) -> FileSink<'a, R> {
+        FileSink::new(self.rt, path)
+    }
+
+    fn typed(&self) -> StandardInput<R> {
+        StandardInput::new(self.rt)
+    }
+
+    fn printed(&self) -> StandardOutput<'a, R> {
+        StandardOutput::new(self.rt)
+    }
+}
 
 /// A file to be read. It is opened at its first read, so that files are refused in the order in which
 /// they are read.
@@ -80,24 +119,6 @@ impl<'a, R: Files> Source for FileSource<'a, R> {
         }
         count
     }
-}
-
-/// The files at paths, none of them opened yet.
-pub fn sources_of<'a, R: Files>(
-    rt: &'a R,
-    alloc: Global,
-    paths: &[&'a str],
-) -> Result<Vec<FileSource<'a, R>>, AllocError>
-    ensures fresh { IfOk result (λ sources. All (λ source. source.failures ≡ 0) sources.items) }
-    ensures paths { IfOk result (λ sources. map (λ source. source.path.now) sources.items ≡ map (λ path. path.now) paths.now) }
-{
-    let mut sources = Vec::new(alloc);
-    let mut rest = paths;
-    while let [path, others @ ..] = rest {
-        sources.push(FileSource::new(rt, path))?;
-        rest = others;
-    }
-    Ok(sources)
 }
 
 /// Standard input. Its path is `-`. A read gives what there is, so that a terminal's lines come one by one.

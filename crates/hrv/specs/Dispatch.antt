@@ -1,0 +1,60 @@
+-- What the program does of what its words ask for: the engine of the command runs over devices at the places that the words name.
+-- This project's own.
+use Rattle.std.specs.Prelude.{◌≡◌, ◌⊎◌, ℕ, List, codes, map, Result, Err}
+use Rattle.std.specs.declared.alloc.Global.{Global}
+use Rattle.engines.specs.declared.faults.Fault.{Fault}
+use Rattle.engines.specs.declared.faults.Fault.TheVariants.{Memory}
+use Rattle.engines.specs.Asm.{IsAssembly, IsRefusedAssembly}
+use Rattle.engines.specs.Debug.{Talks}
+use Rattle.engines.specs.Devices.{both, bytes_of, pieces_of, sink_of, text_of, texts_of}
+use Rattle.engines.specs.Dis.{IsListing, IsRefusedListing}
+use Rattle.engines.specs.Drawing.{IsDrawing, IsRefusedDrawing}
+use Rattle.engines.specs.Engine.{Performs}
+use Rattle.engines.specs.Replay.{IsRefusedReplay, IsReplay}
+use Rattle.command_line.specs.CommandLine.{Asked, Replays, Debugs, Assembles, Lists, Draws}
+
+-- a fact of some device at this place, by its state before and after
+abbrev pub At : {S : Type 0} → (S → List ℕ) → List ℕ → (S → S → Type 0) → Type 0
+At {S} place path P = (before : S) × (after : S) × (place before ≡ path) × P before after
+
+-- a fact of some devices at these places
+abbrev pub AtEach : {S : Type 0} → (S → List ℕ) → List (List ℕ) → (List S → List S → Type 0) → Type 0
+AtEach {S} place paths P = (before : List S) × (after : List S) × (map place before ≡ paths) × P before after
+
+-- memory ran out before there were any devices
+abbrev pub OrMemory : {X : Type 0} → Result X Fault → Type 0 → Type 0
+OrMemory result P = P ⊎ (result ≡ Err Memory)
+
+-- standard input and output
+abbrev pub dash : List ℕ
+dash = codes "-"
+
+-- The engine of a command ran over files at the places that are asked for, read ones of type R and written ones of type W, and over
+-- standard input (T) and output (P).
+module _ {R W T P : Type 0}
+    (read_at : R → List ℕ) (read_failed : R → ℕ) (gave : R → List ℕ → R → Type 0) (ended : R → Type 0)
+    (written_at : W → List ℕ) (write_failed : W → ℕ) (stored : W → List ℕ → W → Type 0)
+    (typed_at : T → List ℕ) (typing_failed : T → ℕ) (typed : T → List ℕ → T → Type 0) (typed_all : T → Type 0)
+    (printed_at : P → List ℕ) (print_failed : P → ℕ) (printed : P → List ℕ → P → Type 0) where
+  abbrev pub Does : {X : Type 0} → Global → Asked → Result X Fault → Type 0
+  Does alloc (Assembles source image) result =
+      At read_at source (λ s t. At written_at image (λ o p.
+      Performs IsAssembly IsRefusedAssembly (text_of read_at read_failed gave ended s t) (sink_of written_at write_failed stored o p) result))
+  Does alloc (Lists image) result =
+      At read_at image (λ s t. At printed_at dash (λ o p.
+      Performs IsListing IsRefusedListing (bytes_of read_at read_failed gave ended s t) (sink_of printed_at print_failed printed o p) result))
+  Does alloc (Replays image log) result =
+      At read_at image (λ s t. At read_at log (λ u v. At printed_at dash (λ o p.
+      Performs IsReplay IsRefusedReplay
+      (both (bytes_of read_at read_failed gave ended s t) (bytes_of read_at read_failed gave ended u v))
+      (sink_of printed_at print_failed printed o p) result)))
+  Does alloc (Debugs image log) result =
+      At read_at image (λ s t. At read_at log (λ u v. At typed_at dash (λ k l. At printed_at dash (λ o p.
+      Talks (both (bytes_of read_at read_failed gave ended s t) (bytes_of read_at read_failed gave ended u v))
+      (pieces_of typed_at typing_failed typed k l) (typed_all l)
+      (sink_of printed_at print_failed printed o p) result))))
+  Does alloc (Draws algorithm inputs) result =
+      OrMemory result (At read_at algorithm (λ s t. AtEach read_at inputs (λ u v. At printed_at dash (λ o p.
+      Performs (IsDrawing alloc) (IsRefusedDrawing alloc)
+      (both (text_of read_at read_failed gave ended s t) (texts_of read_at read_failed gave ended u v))
+      (sink_of printed_at print_failed printed o p) result))))

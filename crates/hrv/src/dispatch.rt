@@ -1,0 +1,179 @@
+//! What the words ask for, done by the engine of the command over the devices that they name.
+
+ghost use Rattle.std.specs.Prelude.{◌≡◌, codes, map, IfOk};
+ghost use Rattle.std.specs.List.{All};
+ghost use Rattle.clap.specs.Walk.{texts};
+ghost use Rattle.command_line.specs.CommandLine.{Assembles, Debugs, Draws, Lists, Replays, asked_by};
+ghost use Rattle.hrv.specs.Dispatch.{Does};
+
+use command_line::Invocation;
+use engines::{
+    Fault, Sink, Source, asm_bytes, debug_bytes, dis_bytes, picture_bytes, replay_bytes,
+};
+use std::alloc::{AllocError, Global};
+use std::thread::Threads;
+
+/// Where the devices of a command come from. Paths live as long as `'a`.
+pub trait Devices<'a> {
+    /// A file that is read.
+    type Read: Source + Drop;
+    /// A file that is written.
+    type Written: Sink + Drop;
+    /// Standard input.
+    type Typed: Source + Drop;
+    /// Standard output.
+    type Printed: Sink + Drop;
+
+    /// The file at a path, to be read.
+    fn read(&self, path: &'a str) -> Self::Read
+        ensures place { Self.Read.place result ≡ path.entry.now }
+        ensures fresh { Self.Read.failed result ≡ 0 };
+
+    /// The file at a path, to be written.
+    fn written(&self, path: &'a str) -> Self::Written
+        ensures place { Self.Written.place result ≡ path.entry.now }
+        ensures fresh { Self.Written.failed result ≡ 0 };
+
+    /// Standard input.
+    fn typed(&self) -> Self::Typed
+        ensures place { Self.Typed.place result ≡ codes "-" }
+        ensures fresh { Self.Typed.failed result ≡ 0 };
+
+    /// Standard output.
+    fn printed(&self) -> Self::Printed
+        ensures place { Self.Printed.place result ≡ codes "-" }
+        ensures fresh { Self.Printed.failed result ≡ 0 };
+}
+
+/// Does what an invocation asks for.
+pub fn obey<'a, D: Devices<'a>>(
+    threads: &(impl Threads + Sync),
+    alloc: Global,
+    devices: &D,
+    invocation: Invocation<'a>,
+) -> Result<(), Fault>
+    ensures { Does D.Read.place D.Read.failed D.Read.gave D.Read.ended
+        D.Written.place D.Written.failed D.Written.took
+        D.Typed.place D.Typed.failed D.Typed.gave D.Typed.ended
+        D.Printed.place D.Printed.failed D.Printed.took alloc (asked_by invocation.entry) result }
+{
+    match invocation {
+        Invocation::Asm { source, image } => assemble(alloc, devices, source, image),
+        Invocation::Dis { image } => list(alloc, devices, image),
+        Invocation::Replay { image, log } => replay(alloc, devices, image, log),
+        Invocation::Debug { image, log } => debug(alloc, devices, image, log),
+        Invocation::Picture { algorithm, inputs } => {
+            draw(threads, alloc, devices, algorithm, inputs)
+        }
+    }
+}
+
+/// `asm SOURCE IMAGE`
+fn assemble<'a, D: Devices<'a>>(
+    alloc: Global,
+    devices: &D,
+    source: &'a str,
+    image: &'a str,
+) -> Result<(), Fault>
+    ensures { Does D.Read.place D.Read.failed D.Read.gave D.Read.ended
+        D.Written.place D.Written.failed D.Written.took
+        D.Typed.place D.Typed.failed D.Typed.gave D.Typed.ended
+        D.Printed.place D.Printed.failed D.Printed.took alloc (Assembles source.entry.now image.entry.now) result }
+{
+    asm_bytes(
+        alloc,
+        &mut devices.read(source),
+        &mut devices.written(image),
+    )
+}
+
+/// `dis IMAGE`
+fn list<'a, D: Devices<'a>>(alloc: Global, devices: &D, image: &'a str) -> Result<(), Fault>
+    ensures { Does D.Read.place D.Read.failed D.Read.gave D.Read.ended
+        D.Written.place D.Written.failed D.Written.took
+        D.Typed.place D.Typed.failed D.Typed.gave D.Typed.ended
+        D.Printed.place D.Printed.failed D.Printed.took alloc (Lists image.entry.now) result }
+{
+    dis_bytes(alloc, &mut devices.read(image), &mut devices.printed())
+}
+
+/// `replay IMAGE LOG`
+fn replay<'a, D: Devices<'a>>(
+    alloc: Global,
+    devices: &D,
+    image: &'a str,
+    log: &'a str,
+) -> Result<(), Fault>
+    ensures { Does D.Read.place D.Read.failed D.Read.gave D.Read.ended
+        D.Written.place D.Written.failed D.Written.took
+        D.Typed.place D.Typed.failed D.Typed.gave D.Typed.ended
+        D.Printed.place D.Printed.failed D.Printed.took alloc (Replays image.entry.now log.entry.now) result }
+{
+    let mut image = devices.read(image);
+    let mut log = devices.read(log);
+    replay_bytes(alloc, &mut image, &mut log, &mut devices.printed())
+}
+
+/// `debug IMAGE LOG`
+fn debug<'a, D: Devices<'a>>(
+    alloc: Global,
+    devices: &D,
+    image: &'a str,
+    log: &'a str,
+) -> Result<(), Fault>
+    ensures { Does D.Read.place D.Read.failed D.Read.gave D.Read.ended
+        D.Written.place D.Written.failed D.Written.took
+        D.Typed.place D.Typed.failed D.Typed.gave D.Typed.ended
+        D.Printed.place D.Printed.failed D.Printed.took alloc (Debugs image.entry.now log.entry.now) result }
+{
+    let mut image = devices.read(image);
+    let mut log = devices.read(log);
+    debug_bytes(
+        alloc,
+        &mut image,
+        &mut log,
+        &mut devices.typed(),
+        &mut devices.printed(),
+    )
+}
+
+/// `picture ALGORITHM [INPUT..]`
+fn draw<'a, D: Devices<'a>>(
+    threads: &(impl Threads + Sync),
+    alloc: Global,
+    devices: &D,
+    algorithm: &'a str,
+    inputs: Vec<&'a str>,
+) -> Result<(), Fault>
+    ensures { Does D.Read.place D.Read.failed D.Read.gave D.Read.ended
+        D.Written.place D.Written.failed D.Written.took
+        D.Typed.place D.Typed.failed D.Typed.gave D.Typed.ended
+        D.Printed.place D.Printed.failed D.Printed.took alloc (Draws algorithm.entry.now (texts inputs.items)) result }
+{
+    let mut sources = sources_of(alloc, devices, inputs.as_slice())?;
+    picture_bytes(
+        threads,
+        alloc,
+        &mut devices.read(algorithm),
+        sources.as_mut_slice(),
+        &mut devices.printed(),
+    )
+}
+
+/// The files at paths, to be read.
+fn sources_of<'a, D: Devices<'a>>(
+    alloc: Global,
+    devices: &D,
+    paths: &[&'a str],
+) -> Result<Vec<D::Read>, AllocError>
+    ensures fresh { IfOk result (λ sources. All (λ source. D.Read.failed source ≡ 0) sources.items) }
+    ensures places { IfOk result (λ sources. map D.Read.place sources.items ≡ texts paths.now) }
+{
+    let mut sources = Vec::new(alloc);
+    let mut rest = paths;
+    while let [path, others @ ..] = rest {
+        sources.push(devices.read(path))?;
+        rest = others;
+    }
+    Ok(sources)
+}
