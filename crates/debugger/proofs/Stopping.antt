@@ -6,7 +6,7 @@ use Rattle.std.specs.Option.{option_eq}
 use Rattle.std.proofs.lemmas.Bool.{eq-eqb, cases_lt}
 use Rattle.multi_hart.specs.Run.{State, hart_at, word_in}
 use Rattle.debugger.specs.Places.{SessionState, state_at}
-use Rattle.debugger.specs.Passing.{Latest}
+use Rattle.debugger.specs.inner.Passing.{Latest}
 use Rattle.debugger.specs.Stops.{stands_on, break_stops, differs, watch_stops, stops}
 
 any-none : (xs : List ℕ) → list_any (λ x. false) xs ≡ false

@@ -2,7 +2,7 @@
 
 ghost use Rattle.std.specs.Prelude.{◌≡◌, ◌+◌, ◌^◌, ◌<◌, ◌≤◌, length};
 ghost use Rattle.std.specs.List.{list_any};
-ghost use Rattle.debugger.specs.Passing.{IsPassed, Latest};
+ghost use Rattle.debugger.specs.inner.Passing.{IsPassed, Latest};
 ghost use Rattle.debugger.specs.Places.{SessionState, state_at};
 ghost use Rattle.debugger.specs.Stops.{break_stops};
 

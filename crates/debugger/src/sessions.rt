@@ -27,7 +27,7 @@ pub struct Session {
 
 impl Model for Session {
     ghost use Rattle.debugger.specs.Places.{SessionState};
-    ghost use Rattle.debugger.specs.Held.{Held};
+    ghost use Rattle.debugger.specs.inner.Held.{Held};
 
     ghost Value = { SessionState };
 

@@ -9,7 +9,7 @@ use Rattle.picture.specs.declared.scenes.Table.{Table}
 use Rattle.halide_meaning.specs.Picture.{PictureContents}
 use Rattle.halide_pipeline.specs.declared.definitions.Func.{Func}
 use Rattle.halide_meaning.specs.Pixel.{Plane}
-use Rattle.picture.specs.Evaluation.{IsTable, IsSliceOf, AreSlicesOf, numbered_pixel}
+use Rattle.picture.specs.inner.Evaluation.{IsTable, IsSliceOf, AreSlicesOf, numbered_pixel}
 
 zip_ok : {X : Type 0} (R : ℕ → X → Type 0) (places : List ℕ) (values : List X) → AllZip (λ at (r : Result X AllocError). IfOk r (R at)) places (map Ok values) → AllZip R places values
 zip_ok R [] [] zip = zip

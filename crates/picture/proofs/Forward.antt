@@ -17,7 +17,7 @@ use Rattle.picture.specs.declared.scenes.State.TheVariants as states
 use Rattle.halide_meaning.specs.Pixel.{Plane, Planes, Reads, value, variable, index_value, reads_of, with_plane, at_reduction, is_hit, after, after_all, stage, points}
 use Rattle.picture.specs.Slices.{is_on, is_forward, mentions, index_uses}
 use Rattle.picture.specs.Writes.{written, Sets, IsNone}
-use Rattle.picture.specs.Evaluation.{inputs_of, earlier_of, after_some, after_of, stage_some, stage_of, reads_in, stage_in, Holds, IsForward, IsSliceOf}
+use Rattle.picture.specs.inner.Evaluation.{inputs_of, earlier_of, after_some, after_of, stage_some, stage_of, reads_in, stage_in, Holds, IsForward, IsSliceOf}
 use Rattle.picture.proofs.Agrees.{value-agrees}
 use Rattle.picture.proofs.Levels.{reads-after}
 

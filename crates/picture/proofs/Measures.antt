@@ -13,7 +13,7 @@ use Rattle.halide_pipeline.specs.Expressions.{nodes, nodes_at}
 use Rattle.picture.specs.declared.scenes.Scene.{Scene}
 use Rattle.picture.specs.declared.scenes.State.{State}
 use Rattle.picture.specs.declared.scenes.State.TheVariants as states
-use Rattle.picture.specs.Evaluation.{all_nodes, all_updates, update_nodes, updates_nodes}
+use Rattle.picture.specs.inner.Evaluation.{all_nodes, all_updates, update_nodes, updates_nodes}
 
 -- past all updates of a Func
 abbrev pub last : Scene → ℕ

@@ -11,7 +11,7 @@ use Rattle.picture.specs.declared.scenes.Table.{Table}
 use Rattle.halide_meaning.specs.Picture.{PictureContents, IsPicture, picture_if, is_picture}
 use Rattle.halide_meaning.specs.Pixel.{Planes, func_plane, pixels, input_planes}
 use Rattle.picture.specs.Evaluated.{IsOutput}
-use Rattle.picture.specs.Evaluation.{plane_of, IsTable}
+use Rattle.picture.specs.inner.Evaluation.{plane_of, IsTable}
 use Rattle.picture.proofs.Levels.{pixels-before, pixels-past}
 use Rattle.picture.proofs.Tables.{pixel_at_place}
 use Rattle.picture.proofs.SpelledBack.{limits_of}

@@ -5,7 +5,7 @@ ghost use Rattle.std.specs.List.{AllZip, range_with_len};
 ghost use Rattle.halide_pipeline.specs.Words as word;
 ghost use Rattle.picture.specs.Slices.{is_forward};
 ghost use Rattle.picture.specs.Evaluated.{is_size, are_sizes, judged, Evaluates};
-ghost use Rattle.picture.specs.Evaluation.{plane_of, numbered_pixel, AreTables, AreTablesOf, AreKnownOf, AreSlicesOf, IsSliceOf, IsTable, IsAt};
+ghost use Rattle.picture.specs.inner.Evaluation.{plane_of, numbered_pixel, AreTables, AreTablesOf, AreKnownOf, AreSlicesOf, IsSliceOf, IsTable, IsAt};
 
 use crate::boxes::{Bounds, Slices, Wanted, bounds_of, find, slices_of};
 use crate::faults::EvalError;
@@ -51,7 +51,7 @@ fn judge(inputs: &[Input], pictures: &[Picture]) -> Option<EvalError>
 }
 
 /// The pixel with this number in a box of the Func at a place, by rows.
-#[tactic(auto, unfolding(crate::specs::Evaluation::numbered_pixel, halide_pipeline::specs::Words::add))]
+#[tactic(auto, unfolding(crate::specs::inner::Evaluation::numbered_pixel, halide_pipeline::specs::Words::add))]
 fn numbered(
     alloc: Global,
     scene: &Scene,

@@ -5,7 +5,7 @@ ghost use Rattle.std.specs.Option.{option_copied};
 ghost use Rattle.halide_pipeline.specs.Expressions.{nodes};
 ghost use Rattle.halide_meaning.specs.Pixel as spec;
 ghost use Rattle.halide_pipeline.specs.Words as word;
-ghost use Rattle.picture.specs.Evaluation.{inputs_of, earlier_of, plane_of, after_of, funcs_in, reads_in, stage_of, stage_in, IsForward, IsState, AreTables, AreKnownOf, AreSlicesOf, IsSliceOf, IsTable, all_nodes, index_nodes, update_nodes};
+ghost use Rattle.picture.specs.inner.Evaluation.{inputs_of, earlier_of, plane_of, after_of, funcs_in, reads_in, stage_of, stage_in, IsForward, IsState, AreTables, AreKnownOf, AreSlicesOf, IsSliceOf, IsTable, all_nodes, index_nodes, update_nodes};
 ghost use Rattle.picture.specs.Slices.{is_on, is_forward, mentions};
 ghost use Rattle.picture.specs.declared.scenes.State.TheVariants as states;
 ghost use Rattle.picture.specs.declared.scenes.Table.{Table};

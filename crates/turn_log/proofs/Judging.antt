@@ -7,7 +7,7 @@ use Rattle.std.proofs.lemmas.Bool.{lt-ltb, le-ltb, lt-leb, ne_eqb, or_from}
 use Rattle.std.proofs.lemmas.List.{append_assoc, append-nil, length-append, length-replicate, get_or-append-add, get_or-replicate}
 use Rattle.std.proofs.lemmas.Option.{slice_get-get_or}
 use Rattle.turn_log.specs.TurnLog.{count_of, most_turns}
-use Rattle.turn_log.specs.SoFar.{turns_before}
+use Rattle.turn_log.specs.inner.SoFar.{turns_before}
 use Rattle.turn_log.specs.LogSpelling.{◌>>=◌, begins_with, total_of, expanded, run_read, judged, front_run, front_runs}
 use Rattle.turn_log.specs.declared.log_faults.LogFault.{LogFault}
 use Rattle.turn_log.specs.declared.log_faults.LogFault.TheVariants.{Truncated, NotCanonical, TooManyTurns}

@@ -11,7 +11,7 @@ use Rattle.std.proofs.Math.Seq.{drop-nil}
 use Rattle.std.proofs.Math.Seq.{drop-append-add}
 use Rattle.turn_log.specs.TurnLog.{LogState, IsLog, count_of, most_turns}
 use Rattle.turn_log.specs.LogSpelling.{begins_with, expanded, runs_of, run_bytes, header, spelled}
-use Rattle.turn_log.specs.Kept.{runs_from, turns_of, is_of, with_run, IsRun, AreRuns, IsKept}
+use Rattle.turn_log.specs.inner.Kept.{runs_from, turns_of, is_of, with_run, IsRun, AreRuns, IsKept}
 use Rattle.turn_log.specs.RunAt.{ahead, first_run, run_at}
 use Rattle.turn_log.specs.declared.runs.Run.{Run}
 use Rattle.turn_log.specs.declared.stretches.Stretch.{Stretch}

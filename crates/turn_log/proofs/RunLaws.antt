@@ -9,7 +9,7 @@ use Rattle.std.proofs.lemmas.List.Folds.{sum_by-replicate}
 use Rattle.std.proofs.lemmas.List.Sums.{sum_by-cons, sum_by-append, sum_by_push}
 use Rattle.turn_log.specs.TurnLog.{LogState, count_of, most_turns, IsLog}
 use Rattle.turn_log.specs.LogSpelling.{begins_with, joined, runs_of, expanded, total_of}
-use Rattle.turn_log.specs.Kept.{IsRun, AreRuns}
+use Rattle.turn_log.specs.inner.Kept.{IsRun, AreRuns}
 use Rattle.turn_log.specs.declared.runs.Run.{Run}
 
 -- ---- the turns that runs stand for

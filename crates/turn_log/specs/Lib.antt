@@ -1,5 +1,4 @@
-pub mod Kept
 pub mod LogSpelling
 pub mod RunAt
-pub mod SoFar
 pub mod TurnLog
+pub mod inner

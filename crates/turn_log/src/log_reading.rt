@@ -2,7 +2,7 @@
 
 ghost use Rattle.std.specs.Prelude.{◌≡◌, ℕ, ◌≤◌, List, [], length, OnOk, IfOk, IfErr, MatchResult};
 ghost use Rattle.turn_log.specs.LogSpelling.{header_at, judged, log_of, Refuses};
-ghost use Rattle.turn_log.specs.SoFar.{IsOf};
+ghost use Rattle.turn_log.specs.inner.SoFar.{IsOf};
 ghost use Rattle.turn_log.specs.declared.runs.Run.{Run as RunState};
 
 use crate::log_faults::LogFault;

@@ -2,7 +2,7 @@
 
 ghost use Rattle.std.specs.Prelude.{◌≡◌, ℕ, ◌+◌, ◌*◌, ◌≤◌, ◌++◌, length, vec_len, vec_capacity};
 ghost use Rattle.std.specs.List.{flat_map};
-ghost use Rattle.turn_log.specs.Kept.{AreRuns, runs_from};
+ghost use Rattle.turn_log.specs.inner.Kept.{AreRuns, runs_from};
 ghost use Rattle.turn_log.specs.LogSpelling.{header, run_bytes};
 
 use crate::runs::Run;

@@ -2,7 +2,7 @@
 
 ghost use Rattle.std.specs.Prelude.{◌≡◌, ℕ, ◌-◌, ◌<◌, ◌≤◌, length, slice_get, false, OnOk, OnErr};
 ghost use Rattle.std.specs.List.Sorted.{IsNonDecreasingBy, IsPartitionPoint};
-ghost use Rattle.turn_log.specs.Kept.{AreRuns, is_of, runs_from, turns_of, with_run};
+ghost use Rattle.turn_log.specs.inner.Kept.{AreRuns, is_of, runs_from, turns_of, with_run};
 ghost use Rattle.turn_log.specs.RunAt.{run_at};
 ghost use Rattle.turn_log.specs.declared.stretches.Stretch.{Stretch as StretchState};
 

@@ -31,7 +31,7 @@ pub struct TurnLog {
 }
 
 impl Model for TurnLog {
-    ghost use Rattle.turn_log.specs.Kept.{turns_of, IsKept};
+    ghost use Rattle.turn_log.specs.inner.Kept.{turns_of, IsKept};
     ghost use Rattle.turn_log.specs.TurnLog.{LogState};
 
     ghost Value = { LogState };

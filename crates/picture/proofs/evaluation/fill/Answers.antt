@@ -4,7 +4,7 @@ use Rattle.std.specs.List.{AllZip, range_with_len}
 use Rattle.std.specs.declared.alloc.Global.{Global}
 use Rattle.rayon.specs.Numbers.{nat_range}
 use Rattle.picture.specs.declared.scenes.Scene.{Scene}
-use Rattle.picture.specs.Evaluation.{plane_of, numbered_pixel}
+use Rattle.picture.specs.inner.Evaluation.{plane_of, numbered_pixel}
 use Rattle.picture.proofs.Fills.{collected}
 use Rattle.picture.proofs.evaluation.fill.Goals as goal
 

@@ -1,4 +1,4 @@
-use Rattle.picture.specs.Evaluation.{AreKnownOf}
+use Rattle.picture.specs.inner.Evaluation.{AreKnownOf}
 use Rattle.picture.proofs.evaluation.know_all.Given as goal
 
 abbrev pub invariant-loop-updates : goal.invariant-loop-updates

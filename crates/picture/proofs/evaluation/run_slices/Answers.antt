@@ -7,7 +7,7 @@ use Rattle.halide_pipeline.specs.declared.definitions.Update.{Update}
 use Rattle.picture.specs.declared.boxes.Slices.{Slices}
 use Rattle.picture.specs.declared.scenes.Scene.{Scene}
 use Rattle.picture.specs.declared.scenes.Slice.{Slice}
-use Rattle.picture.specs.Evaluation.{IsSliceOf}
+use Rattle.picture.specs.inner.Evaluation.{IsSliceOf}
 use Rattle.picture.proofs.Fills.{collected, slices_collected}
 use Rattle.picture.proofs.evaluation.run_slices.Goals as goal
 

@@ -1,4 +1,4 @@
-use Rattle.picture.specs.Evaluation.{plane_of}
+use Rattle.picture.specs.inner.Evaluation.{plane_of}
 use Rattle.picture.proofs.Fills.{table_from_zip}
 use Rattle.picture.proofs.evaluation.tabulate.Goals as goal
 

@@ -1,5 +1,5 @@
 use Rattle.std.proofs.Common.{sym, ap, subst, ◌∙◌, length}
-use Rattle.picture.specs.Evaluation.{IsTable, AreKnownOf, AreTables, AreTablesOf, plane_in}
+use Rattle.picture.specs.inner.Evaluation.{IsTable, AreKnownOf, AreTables, AreTablesOf, plane_in}
 use Rattle.picture.proofs.Tables.{one_more_table}
 use Rattle.picture.proofs.evaluation.tabulate_all.Goals as goal
 use Rattle.picture.proofs.evaluation.tabulate_all.Goals.{then-is_wanted+in-Some+in_ok-know_all, else-is_wanted}

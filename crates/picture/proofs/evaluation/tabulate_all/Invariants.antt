@@ -1,4 +1,4 @@
-use Rattle.picture.specs.Evaluation.{AreTablesOf, AreKnownOf}
+use Rattle.picture.specs.inner.Evaluation.{AreTablesOf, AreKnownOf}
 use Rattle.picture.proofs.evaluation.tabulate_all.Given as goal
 
 abbrev pub invariant-loop-own : goal.invariant-loop-own

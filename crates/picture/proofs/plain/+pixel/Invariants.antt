@@ -2,7 +2,7 @@
 use Rattle.std.proofs.Common.{◌≡◌, ◌+◌, ◌-◌, ◌^◌}
 use Rattle.halide_pipeline.specs.Expressions.{nodes}
 use Rattle.halide_pipeline.specs.Definitions.{is_first_in_place, is_second_in_place}
-use Rattle.picture.specs.Evaluation.{all_nodes, IsForward}
+use Rattle.picture.specs.inner.Evaluation.{all_nodes, IsForward}
 use Rattle.picture.proofs.Measures.{measure, state_measure, last}
 use Rattle.picture.proofs.plain.+pixel.Given as goal
 

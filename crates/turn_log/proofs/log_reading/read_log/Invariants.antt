@@ -1,6 +1,6 @@
 use Rattle.std.proofs.Common.{◌≡◌, ◌-◌, List, [], drop}
 use Rattle.turn_log.specs.LogSpelling.{front_runs}
-use Rattle.turn_log.specs.SoFar.{IsOf}
+use Rattle.turn_log.specs.inner.SoFar.{IsOf}
 use Rattle.turn_log.specs.declared.runs.Run.{Run}
 use Rattle.turn_log.proofs.Judging.{with_front}
 use Rattle.turn_log.proofs.log_reading.read_log.Given as goal

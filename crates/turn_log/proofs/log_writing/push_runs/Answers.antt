@@ -1,7 +1,7 @@
 use Rattle.std.proofs.Common.{◌≡◌, ℕ, ◌+◌, ◌-◌, ◌*◌, ◌≤◌, List, ◌∷◌, ◌++◌, length, drop, get_or, ap, sym, subst, ◌∙◌, append_assoc, arith}
 use Rattle.std.specs.List.{flat_map}
 use Rattle.std.proofs.lemmas.List.{take_rest, length-drop}
-use Rattle.turn_log.specs.Kept.{AreRuns, runs_from}
+use Rattle.turn_log.specs.inner.Kept.{AreRuns, runs_from}
 use Rattle.turn_log.specs.LogSpelling.{run_bytes}
 use Rattle.turn_log.specs.declared.runs.Run.{Run}
 use Rattle.turn_log.specs.declared.stretches.Stretch.{Stretch}

@@ -1,6 +1,6 @@
 use Rattle.std.proofs.Common.{◌≡◌, ℕ, ◌+◌, ◌*◌, ◌≤◌, ◌++◌, length, vec_len, vec_capacity}
 use Rattle.std.specs.List.{flat_map}
-use Rattle.turn_log.specs.Kept.{AreRuns, runs_from}
+use Rattle.turn_log.specs.inner.Kept.{AreRuns, runs_from}
 use Rattle.turn_log.specs.LogSpelling.{run_bytes}
 use Rattle.turn_log.proofs.log_writing.push_runs.Given as goal
 

@@ -1,5 +1,5 @@
 use Rattle.std.proofs.Common.{◌≡◌, ℕ, ◌-◌, true, false, List, length, slice_get, set, ap, sym, ◌∙◌, rules}
-use Rattle.turn_log.specs.Kept.{is_of}
+use Rattle.turn_log.specs.inner.Kept.{is_of}
 use Rattle.turn_log.specs.declared.stretches.Stretch.{Stretch}
 use Rattle.turn_log.proofs.KeptLaws.{with_run-joins, with_run-opens, last_of, last_at}
 use Rattle.turn_log.proofs.stretches.push_stretch.Goals as goal

@@ -1,5 +1,5 @@
 use Rattle.std.proofs.Common.{ℕ, Option, sym, subst, ◌∙◌, arith}
-use Rattle.debugger.specs.Passing.{Latest}
+use Rattle.debugger.specs.inner.Passing.{Latest}
 use Rattle.debugger.proofs.Stopping.{latest-start, latest-start-none}
 use Rattle.debugger.proofs.sessions.Session.previous_stop.Goals.{then-is_on_break, else-is_on_break}
 use Rattle.debugger.proofs.sessions.Session.previous_stop.Goals as goal

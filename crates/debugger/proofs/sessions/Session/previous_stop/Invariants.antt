@@ -1,6 +1,6 @@
 use Rattle.std.proofs.Common.{◌≡◌, ◌-◌, ◌≤◌, length}
 use Rattle.debugger.specs.Places.{state_at}
-use Rattle.debugger.specs.Passing.{Latest}
+use Rattle.debugger.specs.inner.Passing.{Latest}
 use Rattle.debugger.proofs.sessions.Session.previous_stop.Given as goal
 
 abbrev pub invariant-loop-place : goal.invariant-loop-place

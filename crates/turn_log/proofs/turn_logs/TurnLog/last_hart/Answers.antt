@@ -1,6 +1,6 @@
 use Rattle.std.proofs.Common.{◌≡◌, ℕ, ◌-◌, List, length, Some, None, slice_get, ap, sym, ◌∙◌, arith}
 use Rattle.turn_log.specs.TurnLog.{LogState}
-use Rattle.turn_log.specs.Kept.{turns_of}
+use Rattle.turn_log.specs.inner.Kept.{turns_of}
 use Rattle.turn_log.specs.declared.stretches.Stretch.{Stretch}
 use Rattle.turn_log.proofs.KeptLaws.{last_of, last_at, last_hart-none, last_hart-some}
 use Rattle.turn_log.proofs.turn_logs.TurnLog.last_hart.Goals as goal
