@@ -148,7 +148,7 @@ fn draw<'a, D: Devices<'a>>(
     ensures { Does D.Read.place D.Read.failed D.Read.gave D.Read.ended
         D.Written.place D.Written.failed D.Written.took
         D.Typed.place D.Typed.failed D.Typed.gave D.Typed.ended
-        D.Printed.place D.Printed.failed D.Printed.took alloc (Draws algorithm.entry.now (texts inputs.items)) result }
+        D.Printed.place D.Printed.failed D.Printed.took alloc (Draws algorithm.entry.now (texts inputs.entry.items)) result }
 {
     let mut sources = sources_of(alloc, devices, inputs.as_slice())?;
     picture_bytes(
