@@ -12,10 +12,10 @@ ghost use Rattle.picture.specs.declared.scenes.Table.{Table};
 ghost use Rattle.halide_pipeline.specs.declared.definitions.Func.{Func};
 ghost use Rattle.halide_meaning.specs.Picture.{PictureContents};
 
-use halide_meaning::Environment;
 use crate::pictures::Picture;
 use crate::scenes::{Known, Scene, Slice, State, Table};
 use crate::writes::Writes;
+use halide_meaning::Environment;
 use halide_pipeline::{Expr, Func, Reduction, Source, Update, Variable, words};
 use std::alloc::{AllocError, Global};
 

@@ -65,8 +65,15 @@ marked_keeps is_update start stage own name marked e right is =
       made = Remarked stage.loops (mark_loop stage own name marked).loops stage.splits is.made (ap (map bare) loops_are ∙ replaced_map place.before new own place.after refl ∙ sym (ap (map bare) place.loops_are));
       names = λ n. omega (arith, same (has_name n) refl, is.names n);
       few = omega (arith, same one refl, total-ones (mark_loop stage own name marked).loops, total-ones stage.loops, is.few);
-      unrolled = omega (arith, ap (total is_stray) loops_are, ap (total is_stray) place.loops_are, total-append is_stray place.before (new ∷ place.after),
-        total-append is_stray place.before (own ∷ place.after), stray_mark (is_bad_unroll marked.mark own) own marked refl right, is.unrolled);
+      unrolled = omega (
+        arith,
+        ap (total is_stray) loops_are,
+        ap (total is_stray) place.loops_are,
+        total-append is_stray place.before (new ∷ place.after),
+        total-append is_stray place.before (own ∷ place.after),
+        stray_mark (is_bad_unroll marked.mark own) own marked refl right,
+        is.unrolled,
+      );
     }
 
 -- ---- a loop is split
@@ -138,8 +145,14 @@ split_keeps is_update start stage own line e right is =
           subst (λ (k : ℕ). k ≤ 1) (sym (new_total (has_name n)))
           (part_names (bytes_eq line.inner n) (bytes_eq line.outer n) n place.before own place.after _ _ refl refl known.1 no_inner no_outer old);
       few = omega (arith, new_total one, old_total one, counted, total-ones (split_loop stage own line).loops, total-ones stage.loops, below);
-      unrolled = omega (arith, new_total is_stray, old_total is_stray, total-append is_stray place.before (new_loops ++ place.after),
-        total-append is_stray place.before (own ∷ place.after), is.unrolled);
+      unrolled = omega (
+        arith,
+        new_total is_stray,
+        old_total is_stray,
+        total-append is_stray place.before (new_loops ++ place.after),
+        total-append is_stray place.before (own ∷ place.after),
+        is.unrolled,
+      );
     }
 
 -- ---- loops change places
