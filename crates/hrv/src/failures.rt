@@ -1,5 +1,7 @@
 //! Why the program gives no answer.
 
+ghost use Rattle.std.specs.Prelude.{◌≡◌};
+
 use command_line::CommandLineFault;
 use engines::Fault;
 use std::alloc::{AllocError, AllocFailed};
@@ -17,8 +19,12 @@ pub enum Failure {
 }
 
 impl Failure {
+    ghost use Rattle.hrv.specs.Failures.{status_of};
+
     /// The exit status: 2 for the command line, 1 for all else.
-    pub fn status(&self) -> u8 {
+    pub fn status(&self) -> u8
+        ensures { result ≡ status_of self.now }
+    {
         match self {
             Failure::CommandLine(fault) => fault.status(),
             Failure::Engine(fault) => fault.status(),
