@@ -91,7 +91,7 @@ fn finished(reader: Reader, count: u64) -> Result<Pipeline, LocatedError<ParseFa
 
 /// The pipeline that an algorithm text names, whatever reads its lines by the grammar. It keeps what evaluating and compiling it
 /// need: its output fits a picture, calls go to inputs and earlier Funcs with an index for each dimension, an update uses only
-/// arguments that stand in place and keeps them so in calls of its own Func, names differ, divisors are not 0, and the limits on
+/// arguments that stand in place and keeps them so in calls of its own Func, its variables' names differ, divisors are not 0, and the limits on
 /// counts, names, sizes, boxes and least values hold (`specs/WellFormed.antt` of `halide_pipeline`).
 ///
 /// # Errors

@@ -45,8 +45,8 @@ level (Sum op a b) = 2
 level (Comparison op a b) = 3
 level _ = 0
 
--- No operator stands beside one that binds more tightly, those of one level group to the left, and
--- comparisons do not chain.
+-- No operand is an operator that binds less tightly, those of one level group to the left, and comparisons do not
+-- chain.
 abbrev pub IsRight : Written → Type 0
 IsRight (Literal n) = Unit {0}
 IsRight (Bare name) = Unit {0}

@@ -113,6 +113,7 @@ plan_begun : (func : Func) → are_arguments func.first_argument func.second_arg
     → ((at : ℕ) (update : Update) → slice_get func.updates at ≡ Some update → are_reductions func.first_argument func.second_argument update ≡ true) → IsPlan func (plan_of func)
 plan_begun func arguments reductions = record {
   pure = begun false (pure_loops func) (few_pure func.second_argument [] func refl) (pure_stray func) (pure_differs func arguments);
+  undirected = λ e. refl;
   updates = pairwise_map (IsUpdateStage func) (update_stage func) func.updates
       (λ at update found. begun true (update_loops func update) (few_update func update) (update_stray func update) (update_differs func update arguments (reductions at update found)));
 }
@@ -123,7 +124,7 @@ abbrev ArePlans : Pipeline → Reader → Type 0
 ArePlans pipeline reader = Pairwise IsPlan pipeline.funcs reader.plans
 
 compute_kept : (func : Func) (plan : FuncPlan) (compute : ComputeLine) → IsPlan func plan → IsPlan func (with_compute plan compute)
-compute_kept func plan compute is = record { pure = is.pure; updates = is.updates }
+compute_kept func plan compute is = record { pure = is.pure; undirected = is.undirected; updates = is.updates }
 
 -- a stage that is there, and the one that a line makes of it
 stage_kept : (update : Option ℕ) (func : Func) (plan : FuncPlan) (line : ℕ) (d : LoopDirective) (own new : Stage) → stage plan update ≡ Some own → directed (is_some update) own line d ≡ Ok new
@@ -132,10 +133,12 @@ stage_kept None func plan line d own new found e is =
     let same : plan.pure ≡ own = cc in
     record {
       pure = directed_keeps false (pure_loops func) own line d new e (subst (λ (s : Stage). IsStage false (pure_loops func) s) same is.pure);
+      undirected = λ directed. absurd cc;
       updates = is.updates;
     }
 stage_kept (Some at) func plan line d own new found e is = record {
   pure = is.pure;
+  undirected = λ directed. absurd cc;
   updates = pairwise_set (IsUpdateStage func) func.updates plan.updates at own new found
       (λ update kept. directed_keeps true (update_loops func update) own line d new e kept) is.updates;
 }

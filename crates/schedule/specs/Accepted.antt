@@ -40,6 +40,8 @@ IsUpdateStage func update stage = IsStage true (update_loops func update) stage
 
 pub record IsPlan (func : Func) (plan : FuncPlan) : Type 0 where
   pub pure : IsStage false (pure_loops func) plan.pure
+  -- where no line is about its loops, they are the first ones
+  pub undirected : plan.is_directed ≡ false → plan.pure ≡ record { loops = pure_loops func; splits = [] }
   pub updates : Pairwise (IsUpdateStage func) func.updates plan.updates
 
 -- ---- the loops of a Func that the output reaches keep the rules
