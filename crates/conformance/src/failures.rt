@@ -1,14 +1,14 @@
 //! Why a case has no answer but a refusal.
 
 use assembler::AsmFault;
+use engines::Fault;
 use halide_syntax::ParseFault;
 use line_text::{LocatedError, ReadError};
 use loader::LoadFault;
-use picture::{EvalError, PictureFault};
+use picture::PictureFault;
 use schedule_lines::ScheduleFault;
 use std::alloc::{AllocError, AllocFailed};
 use std::fmt;
-use turn_log::LogFault;
 
 /// What stands in place of an answer.
 #[derive(Debug, Drop)]
@@ -19,6 +19,8 @@ pub enum Failure {
     Malformed(&'static str),
     /// A library refuses a text of the case.
     Refused(Refusal),
+    /// A command refuses the files of the case.
+    Command(Fault),
 }
 
 /// A library's refusal.
@@ -60,6 +62,7 @@ impl fmt::Display for Failure {
             Failure::Memory => write!(f, "out of memory"),
             Failure::Malformed(why) => write!(f, "malformed: {why}"),
             Failure::Refused(refusal) => write!(f, "{refusal}"),
+            Failure::Command(fault) => write!(f, "{fault}"),
         }
     }
 }
@@ -125,20 +128,14 @@ impl From<ReadError<PictureFault>> for Failure {
     }
 }
 
-impl From<EvalError> for Failure {
-    fn from(error: EvalError) -> Failure {
-        Failure::numbered("input", error.number())
-    }
-}
-
 impl From<LoadFault> for Failure {
     fn from(fault: LoadFault) -> Failure {
         Failure::numbered("load", fault.number())
     }
 }
 
-impl From<LogFault> for Failure {
-    fn from(fault: LogFault) -> Failure {
-        Failure::numbered("log", fault.number())
+impl From<Fault> for Failure {
+    fn from(fault: Fault) -> Failure {
+        Failure::Command(fault)
     }
 }

@@ -1,4 +1,4 @@
-//! `conformance`: what the libraries answer to cases that lie in files.
+//! `conformance`: what the libraries and the engines answer to cases that lie in files.
 //!
 //! The program reads the files that its arguments name, and prints each case's kind and name and below it the answer. `stdout` holds
 //! what the rules say of the cases in `data/`; none of it was copied from this program.
@@ -18,11 +18,12 @@
 //! | `list` | `words`: a word in hexadecimal each line | the line of each |
 //! | `turn` | `before`: an assembly text; `instructions`: one each line | each line, and what it changes behind the text before |
 //! | `replay` | `image`, `log`: lines in hexadecimal | the dump |
+//! | `debug` | `image`, `log`: lines in hexadecimal; `lines` | the talk |
 //!
 //! A refusal stands in place of an answer, as `hrv` prints it. A case that isn't one of these is answered `malformed: ` and why.
 //!
 //! - [`cases`]: the cases of a file.
-//! - [`algorithms`], [`schedules`], [`assemblies`], [`turns`], [`replays`]: the answers, a module each for one family.
+//! - [`algorithms`], [`schedules`], [`assemblies`], [`turns`], [`commands`]: the answers, a module each for one family.
 //! - [`harts`]: what a hart holds, as lines.
 //! - [`failures`]: what stands in place of an answer.
 #![tactic(auto)]
@@ -30,17 +31,17 @@
 mod algorithms;
 mod assemblies;
 mod cases;
+mod commands;
 mod failures;
 mod harts;
-mod replays;
 mod schedules;
 mod turns;
 
-use crate::algorithms::{push_drawing, push_reading, push_verdict};
+use crate::algorithms::{push_reading, push_verdict};
 use crate::assemblies::{push_listing, push_object};
 use crate::cases::{Case, read_cases};
+use crate::commands::{push_drawing, push_replay, push_talk};
 use crate::failures::Failure;
-use crate::replays::push_replay;
 use crate::schedules::push_schedule;
 use crate::turns::push_changes;
 use std::alloc::{AllocError, Global};
@@ -106,6 +107,7 @@ fn push_answer(
         "list" => push_listing(alloc, parts, out),
         "turn" => push_changes(alloc, parts, out),
         "replay" => push_replay(alloc, parts, out),
+        "debug" => push_talk(alloc, parts, out),
         _ => Err(Failure::Malformed("an unknown kind of case")),
     }
 }

@@ -1,11 +1,11 @@
 //! Assembly texts and their images, over devices in memory. The words were encoded by hand.
 
-use crate::tapes::{empty_page, line_of, tape_of};
 use assembler::AsmFault;
 use engines::{Fault, Refusal, asm_bytes, dis_bytes};
 use std::alloc::{AllocError, Global};
 use std::process::Abort;
 use std::test::Fail;
+use tapes::{empty_page, line_of, tape_of};
 
 static LOOP: &str = "start: li x5,-1
 beq x5,x0,start
@@ -36,14 +36,6 @@ fn listed(alloc: Global, image: &[u8]) -> Result<(Vec<u8>, String), AllocError> 
     let answered = dis_bytes(alloc, &mut tape_of("image", image), &mut out);
     let line = line_of(alloc, answered)?;
     Ok((out.bytes, line))
-}
-
-#[test]
-fn stores_an_image(rt: HostRuntime) -> Result<(), Fail> {
-    let (image, line) = assembled(rt.alloc(), LOOP.as_bytes())?;
-    assert_eq!(rt; line.as_str(), "");
-    assert_eq!(rt; image.as_slice(), LOOP_IMAGE.as_slice());
-    Ok(())
 }
 
 /// An entry that is not the first word, data, and a picture in it.
@@ -97,23 +89,6 @@ fn lists_words(rt: HostRuntime) -> Result<(), Fail> {
     let (again, line) = assembled(rt.alloc(), &lines)?;
     assert_eq!(rt; line.as_str(), "");
     assert_eq!(rt; again.as_slice(), LOOP_IMAGE.as_slice());
-    Ok(())
-}
-
-#[test]
-fn lists_no_damaged_image(rt: HostRuntime) -> Result<(), Fail> {
-    for end in 0..44usize {
-        let (front, _) = LOOP_IMAGE.split_at(end);
-        let (lines, line) = listed(rt.alloc(), front)?;
-        assert_eq!(rt; line.as_str(), "refused load 2", "{end}");
-        assert!(rt; lines.is_empty(), "{end}");
-    }
-    let mut elsewhere = LOOP_IMAGE.to_vec(rt.alloc())?;
-    assert_eq!(rt; elsewhere.len(), 44);
-    elsewhere[4] = 12;
-    let (lines, line) = listed(rt.alloc(), &elsewhere)?;
-    assert_eq!(rt; line.as_str(), "refused load 5");
-    assert!(rt; lines.is_empty());
     Ok(())
 }
 

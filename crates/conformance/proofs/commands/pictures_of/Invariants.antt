@@ -1,6 +1,6 @@
 use Rattle.std.proofs.Common.{◌≡◌, length}
 use Rattle.std.specs.List.{All}
-use Rattle.engine_tests.proofs.drawing.tapes_of.Given as goal
+use Rattle.conformance.proofs.commands.pictures_of.Given as goal
 
 abbrev pub invariant-loop-rest : goal.invariant-loop-rest
 invariant-loop-rest l = All (λ tape. tape.failures ≡ 0) l.tapes.items

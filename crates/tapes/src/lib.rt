@@ -1,4 +1,6 @@
-//! Devices in memory, which fail where a test wants it.
+//! Devices in memory, for tests: a [`Tape`] that is read from and a [`Page`] that is written to. Each gives or takes a few bytes at a
+//! time, and fails where a test wants it.
+#![tactic(auto)]
 
 ghost use Rattle.std.specs.Prelude.{◌≡◌, ◌≤◌, ◌<◌, ◌++◌, [], length, IfOk};
 
@@ -11,8 +13,11 @@ use std::io;
 pub struct Tape<'a> {
     name: &'a str,
     bytes: &'a [u8],
-    step: usize,
+    /// At most so many bytes a read.
+    pub step: usize,
+    /// How many reads succeed before one fails; None where all do.
     pub reads_left: Option<u32>,
+    /// How many reads have failed.
     pub failures: u64,
 }
 
@@ -60,9 +65,13 @@ impl Source for Tape<'_> {
 /// nothing.
 #[derive(Drop)]
 pub struct Page {
+    /// What was taken so far.
     pub bytes: Vec<u8>,
-    step: usize,
+    /// At most so many bytes a write.
+    pub step: usize,
+    /// How many writes succeed before one fails; None where all do.
     pub writes_left: Option<u32>,
+    /// How many writes have failed.
     pub failures: u64,
 }
 
@@ -105,6 +114,7 @@ impl Sink for Page {
     }
 }
 
+/// A tape with these bytes, 7 a read, whose path is the name.
 pub fn tape_of<'a>(name: &'a str, bytes: &'a [u8]) -> Tape<'a>
     ensures { result.failures ≡ 0 }
 {
@@ -117,6 +127,7 @@ pub fn tape_of<'a>(name: &'a str, bytes: &'a [u8]) -> Tape<'a>
     }
 }
 
+/// A page without bytes, which takes 9 a write and whose path is `page`.
 pub fn empty_page(alloc: Global) -> Page
     ensures { result.failures ≡ 0 }
 {
@@ -128,7 +139,7 @@ pub fn empty_page(alloc: Global) -> Page
     }
 }
 
-/// The line of a refusal, if any.
+/// The line of a refusal; empty where there is none.
 pub fn line_of(alloc: Global, answered: Result<(), Fault>) -> Result<String, AllocError> {
     match answered {
         Ok(()) => Ok(String::new(alloc)),
