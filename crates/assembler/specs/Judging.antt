@@ -10,7 +10,7 @@ use Rattle.std.specs.Str.{bytes_eq}
 use Rattle.memory.specs.Addresses.{is_text_word, most_bytes}
 use Rattle.rv_insn.specs.Encoding.{signed}
 use Rattle.rv_insn.specs.declared.operations.AluImmOp.TheVariants.{Addi}
-use Rattle.loader.specs.Image.{is_output}
+use Rattle.loader.specs.Image.{is_output, most_pixels}
 use Rattle.loader.specs.declared.outputs.Output.{Output as Picture}
 use Rattle.mnemonics.specs.declared.forms.Form.{Form}
 use Rattle.mnemonics.specs.declared.forms.Form.TheVariants as f
@@ -259,7 +259,7 @@ picture_at bytes at width height =
 
 -- neither side has more pixels than a picture may have
 abbrev pub is_extent : ℤ → Bool
-is_extent number = is_within (pos 0) (pos 1048576) number
+is_extent number = is_within (pos 0) (pos most_pixels) number
 
 abbrev pub picture_of : ℕ → Section → ℕ → ℤ → ℤ → Result Given AsmFault
 picture_of bytes Text at width height = Err Target

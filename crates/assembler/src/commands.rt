@@ -4,6 +4,7 @@ ghost use Rattle.std.specs.Prelude.{◌≡◌, ◌+◌, ◌/◌, ◌%◌, ◌^�
 ghost use Rattle.std.specs.Prelude.{unsigned_abs};
 ghost use Rattle.memory.specs.Addresses.{is_text_word};
 ghost use Rattle.rv_insn.specs.Encoding.{signed};
+ghost use Rattle.loader.specs.Image.{most_pixels};
 ghost use Rattle.mnemonics.specs.Registers.{integer_letter};
 ghost use Rattle.assembler.specs.Judging as spec;
 ghost use Rattle.assembler.specs.Products.{Performs, Makes};
@@ -224,14 +225,14 @@ fn entry(survey: &Survey, here: Here, operands: &[Operand]) -> Result<Product, A
 /// Whether an output may have so many rows, or so many pixels in a row.
 fn is_extent(number: i64) -> bool
     ensures value { result ≡ spec.is_extent number }
-    ensures small { IsTrue result → unsigned_abs number ≤ 1048576 }
+    ensures small { IsTrue result → unsigned_abs number ≤ most_pixels }
 {
     0 <= number && number <= MOST_PIXELS as i64
 }
 
 /// A picture of so many pixels a row and so many rows at an address, in data of so many bytes.
 fn picture_at(bytes: u64, address: u32, width: u32, height: u32) -> Result<Product, AsmFault>
-    requires { width ≤ 1048576 }
+    requires { width ≤ most_pixels }
     ensures { Performs (spec.picture_at bytes address width height) result }
 {
     let picture = Output {

@@ -41,9 +41,12 @@ taken_by read reader line = tokens_of line >>= λ tokens. settled_if reader toke
 
 -- ---- a text
 
--- a text of more than 65536 bytes is above its limit
+-- a text has at most so many bytes
+abbrev pub most_text : ℕ
+most_text = 65536
+
 abbrev pub is_oversized : List ℕ → Bool
-is_oversized text = nat_lt 65536 (length text)
+is_oversized text = nat_lt most_text (length text)
 
 abbrev pub start : Global → List ℕ → Reader
 start alloc text = record { alloc = alloc; is_oversized = is_oversized text; names = []; inputs = []; funcs = []; output = None; last_func = None }

@@ -8,7 +8,7 @@ use Rattle.halide_pipeline.specs.declared.definitions.Func.{Func}
 use Rattle.halide_pipeline.specs.declared.definitions.Output.{Output}
 use Rattle.halide_pipeline.specs.Definitions as definitions
 use Rattle.halide_pipeline.specs.Names.{lookup, is_named}
-use Rattle.halide_pipeline.specs.WellFormed.{is_alone, is_argument_name}
+use Rattle.halide_pipeline.specs.WellFormed.{is_alone, is_argument_name, most_extent, most_points}
 use Rattle.halide_syntax.specs.declared.faults.ParseFault.{ParseFault}
 use Rattle.halide_syntax.specs.declared.faults.ParseFault.TheVariants as fault
 use Rattle.halide_syntax.specs.declared.tokens.Token.{Token}
@@ -152,10 +152,10 @@ is_misshapen reader _ = false
 -- ---- limits
 
 abbrev pub is_bad_extent : ℕ → Bool
-is_bad_extent extent = nat_lt extent 1 || nat_lt 65536 extent
+is_bad_extent extent = nat_lt extent 1 || nat_lt most_extent extent
 
 abbrev pub is_bad_box : ℕ → ℕ → Bool
-is_bad_box width height = is_bad_extent width || is_bad_extent height || nat_lt 1048576 (width * height)
+is_bad_box width height = is_bad_extent width || is_bad_extent height || nat_lt most_points (width * height)
 
 abbrev pub height_of : Option ℕ → ℕ
 height_of None = 1

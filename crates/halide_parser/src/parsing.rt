@@ -55,13 +55,16 @@ impl LineReader for Reader {
     }
 }
 
+/// An algorithm text has at most so many bytes.
+const MOST_TEXT: usize = 65_536;
+
 /// A reader before the first line.
 fn start(alloc: Global, text: &[u8]) -> Reader
     ensures { result ≡ spec.start alloc text.now }
 {
     Reader {
         alloc,
-        is_oversized: text.len() > 65536,
+        is_oversized: text.len() > MOST_TEXT,
         names: Names::new(alloc),
         inputs: Items::new(alloc),
         funcs: Items::new(alloc),

@@ -7,7 +7,7 @@ ghost use Rattle.halide_parser.specs.inner.JudgedLines as lines;
 use crate::judging::{Judged, Marks, both_marks, fits, no_marks};
 use crate::readers::{Reader, func, func_place};
 use crate::scopes::is_named;
-use halide_pipeline::{Output, Variable};
+use halide_pipeline::{MOST_EXTENT, MOST_POINTS, Output, Variable};
 use halide_syntax::{Bounds, Change, Definition, Extents, Line, ParseFault, Token};
 use sqlite_items::Items;
 
@@ -241,19 +241,19 @@ fn is_misshapen(reader: &Reader, line: &Line<Judged>) -> bool
     }
 }
 
-/// Whether an extent is not from 1 to 65536.
+/// Whether an extent is not from 1 to the most.
 fn is_bad_extent(extent: u32) -> bool
     ensures { result ≡ spec.is_bad_extent extent }
 {
-    extent < 1 || extent > 65536
+    extent < 1 || extent > MOST_EXTENT
 }
 
-/// Whether a box has bad extents or more than 1048576 points.
+/// Whether a box has bad extents or too many points.
 fn is_bad_box(width: u32, height: u32) -> bool
     ensures { result ≡ spec.is_bad_box width height }
 {
     let points = u64::from(width).saturating_mul(u64::from(height));
-    is_bad_extent(width) || is_bad_extent(height) || points > 1_048_576
+    is_bad_extent(width) || is_bad_extent(height) || points > MOST_POINTS
 }
 
 /// The height, 1 where there is none.

@@ -6,6 +6,12 @@ ghost use Rattle.halide_pipeline.specs.Definitions as spec;
 use crate::expressions::{Expr, Variable};
 use sqlite_items::Items;
 
+/// A picture, and the box of a reduction, are at most so wide and so high.
+pub const MOST_EXTENT: u32 = 65_536;
+
+/// And they have at most so many points.
+pub const MOST_POINTS: u64 = 1_048_576;
+
 /// A reduction variable and its values: `extent` of them, one after the other from `minimum`.
 #[derive(Debug, Drop)]
 pub struct Reduction {

@@ -17,7 +17,7 @@ pub mod names;
 pub mod pipelines;
 pub mod words;
 
-pub use crate::definitions::{Func, Input, Output, Reduction, Update};
+pub use crate::definitions::{Func, Input, MOST_EXTENT, MOST_POINTS, Output, Reduction, Update};
 pub use crate::expressions::{Expr, Operation, Source, Variable};
 pub use crate::names::Names;
 pub use crate::pipelines::Pipeline;

@@ -4,13 +4,8 @@ ghost use Rattle.std.specs.Prelude.{◌≡◌, ◌<◌, IfSome};
 ghost use Rattle.halide_pipeline.specs.WellFormed.{is_width, is_height};
 ghost use Rattle.halide_meaning.specs.Picture.{IsPicture, picture_if, pixel_at};
 
+use halide_pipeline::{MOST_EXTENT, MOST_POINTS};
 use std::marker::Model;
-
-/// A picture is at most so wide and so high.
-pub const MOST_EXTENT: u32 = 65_536;
-
-/// A picture has at most so many pixels.
-pub const MOST_PIXELS: u64 = 1_048_576;
 
 /// A picture of 1 to 65,536 columns and rows and at most 1,048,576 pixels. A pixel is a signed
 /// number of 32 bits, given as the `u32` of the same bits. A contract sees a picture as a
@@ -43,7 +38,7 @@ pub fn is_width(width: u64) -> bool
 pub fn is_height(width: u32, height: u64) -> bool
     ensures { result ≡ is_height width height }
 {
-    1 <= height && height <= u64::from(MOST_EXTENT) && u64::from(width) * height <= MOST_PIXELS
+    1 <= height && height <= u64::from(MOST_EXTENT) && u64::from(width) * height <= MOST_POINTS
 }
 
 impl Picture {

@@ -8,7 +8,8 @@ ghost use Rattle.picture.specs.Spelling.{spelled};
 ghost use Rattle.picture.specs.Reading as spec;
 
 use crate::faults::PictureFault;
-use crate::pictures::{MOST_EXTENT, Picture, is_height, is_width};
+use crate::pictures::{Picture, is_height, is_width};
+use halide_pipeline::MOST_EXTENT;
 use line_text::ReadError;
 use line_text::numbers::saturating_number;
 use line_text::spans::digits_len;
