@@ -1,0 +1,70 @@
+-- What holds of every stage that lines make, and of every one that is accepted.
+-- This project's own.
+use Rattle.std.specs.Prelude.{◌≡◌, ◌<◌, ◌++◌, ℕ, true, false, if◌then◌else◌, List, [], ◌∷◌, Contains, Option, Some, None}
+use Rattle.std.specs.List.{AllByRecursion}
+use Rattle.halide_pipeline.specs.declared.definitions.Func.{Func}
+use Rattle.halide_pipeline.specs.declared.definitions.Update.{Update}
+use Rattle.halide_pipeline.specs.declared.expressions.Variable.{Variable}
+use Rattle.schedule_lines.specs.declared.stages.Loop.{Loop}
+use Rattle.schedule_lines.specs.declared.stages.LoopId.TheVariants as ids
+use Rattle.schedule_lines.specs.declared.stages.Stage.{Stage}
+use Rattle.stage_loops.specs.declared.extents.Extents.{Extents}
+use Rattle.stage_loops.specs.Counts.{Values, with, counts, extent_of, shifts_fit, AreSplits}
+use Rattle.stage_loops.specs.Iterations.{parallel, iteration, iteration_count, in_turn, IsOrder, HasOwner}
+use Rattle.stage_loops.specs.Reach.{AreTurns, has_uneven, wholes, IsReached}
+use Rattle.stage_loops.specs.Stages.{IsStageOf, IsLegal, IsVisitOf, first_loops, has_variable, is_slice_of, points_of}
+use Rattle.stage_loops.specs.Visits.{nest, over_loops, zeros, upto, visit_of, visits, slice, rising}
+
+-- The splits of a stage are few, and their factors small.
+abbrev pub StagesHaveFewSplits : Type 0
+StagesHaveFewSplits = (func : Func) (update : Option Update) (stage : Stage) → IsStageOf func update stage → AreSplits stage.splits
+
+-- Each visit of a stage is one of its slices and reduction points.
+abbrev pub VisitsLieWithin : Type 0
+VisitsLieWithin = (func : Func) (update : Option Update) (extents : Extents) (stage : Stage) → IsStageOf func update stage
+    → AllByRecursion (IsVisitOf func update extents) (visits extents stage)
+
+-- Whatever lines make of an update, each slice that there is sees all its reduction points, once each and in rising order, and no other
+-- does.
+abbrev pub UpdatesKeepTheirOrder : Type 0
+UpdatesKeepTheirOrder = (func : Func) (update : Update) (extents : Extents) (stage : Stage) → IsStageOf func (Some update) stage
+    → (x y : ℕ)
+    → slice x y (visits extents stage) ≡ rising x y 0 (if is_slice_of func (Some update) extents x y then points_of func (Some update) extents else 0)
+
+-- A pure definition is visited at each point of its box, if each shifted split has a whole round.
+abbrev pub PureStagesCover : Type 0
+PureStagesCover = (func : Func) (extents : Extents) (stage : Stage) → IsStageOf func None stage → shifts_fit extents stage.splits ≡ true
+    → (x y : ℕ) → is_slice_of func None extents x y ≡ true
+    → Contains (visits extents stage) (record { x = x; y = y; number = 0 })
+
+-- The iterations of an accepted stage in rising order are all that it visits.
+abbrev pub IterationsAreAll : Type 0
+IterationsAreAll = (func : Func) (update : Option Update) (extents : Extents) (stage : Stage) → IsStageOf func update stage → IsLegal stage
+    → visits extents stage ≡ upto (iteration_count extents stage) (iteration extents stage)
+
+-- An iteration is what the loops inside the parallel one list in a turn of that.
+abbrev pub IterationsAreTurns : Type 0
+IterationsAreTurns = (func : Func) (update : Option Update) (extents : Extents) (stage : Stage) (inside : List Loop) (own : Loop) → IsStageOf func update stage
+    → stage.loops ≡ inside ++ own ∷ [] → parallel stage ≡ Some own
+    → (number : ℕ) → number < counts extents stage.splits own.id
+    → iteration extents stage number
+    ≡ nest (counts extents stage.splits) inside (over_loops extents stage.splits (λ whole. visit_of extents whole ∷ [])) (with own.id number zeros)
+
+-- Each slice belongs to one iteration: so iterations of a pure definition visit points apart, and those of an update slices apart.
+abbrev pub IterationsAreApart : Type 0
+IterationsAreApart = (func : Func) (update : Option Update) (extents : Extents) (stage : Stage) → IsStageOf func update stage → IsLegal stage
+    → (x y : ℕ) → is_slice_of func update extents x y ≡ true → HasOwner (iteration_count extents stage) (iteration extents stage) x y
+
+-- In whatever order the iterations are done, each slice sees what it sees in rising order.
+abbrev pub IterationsInAnyOrder : Type 0
+IterationsInAnyOrder = (func : Func) (update : Option Update) (extents : Extents) (stage : Stage) → IsStageOf func update stage → IsLegal stage
+    → (order : List ℕ) → IsOrder (iteration_count extents stage) order
+    → (x y : ℕ) → slice x y (in_turn (iteration extents stage) order) ≡ slice x y (visits extents stage)
+
+-- While the loops outside are in given turns, those inside visit values of a variable that lie in its extent; and between a base and
+-- what the loops inside can add to it, unless an uneven loop is among those outside.
+abbrev pub VariablesAreReached : Type 0
+VariablesAreReached = (func : Func) (update : Option Update) (extents : Extents) (stage : Stage) (inside outside : List Loop) (variable : Variable) (turns : Values) → IsStageOf func update stage
+    → stage.loops ≡ inside ++ outside → has_variable variable (first_loops func update) ≡ true → AreTurns (counts extents stage.splits) outside turns
+    → AllByRecursion (λ whole. whole (ids.Whole variable) < extent_of extents variable) (wholes extents stage.splits inside turns)
+    × (has_uneven stage.splits variable outside ≡ false → AllByRecursion (IsReached extents stage.splits variable inside outside turns) (wholes extents stage.splits inside turns))

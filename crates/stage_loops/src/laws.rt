@@ -1,0 +1,50 @@
+//! Laws of the definitions, each the contract of a function that does nothing.
+
+ghost use Rattle.stage_loops.specs.Laws as law;
+
+/// A stage that lines make of its first loops has at most 4 splits, by factors of 1 to 64.
+pub fn stages_have_few_splits()
+    ensures { law.StagesHaveFewSplits }
+{}
+
+/// What a stage visits lies in its box, and among its reduction points.
+pub fn visits_lie_within()
+    ensures { law.VisitsLieWithin }
+{}
+
+/// Under every nest that lines make of an update, each slice (the visits with the same arguments in place) sees
+/// its reduction points in rising order, each once.
+pub fn updates_keep_their_order()
+    ensures { law.UpdatesKeepTheirOrder }
+{}
+
+/// Under every nest that lines make of a pure definition, each point of the box is visited, if the extent of each
+/// loop that a shifted split divides is not below the factor.
+pub fn pure_stages_cover()
+    ensures { law.PureStagesCover }
+{}
+
+/// The iterations of the parallel loop, in rising order, are all that an accepted stage visits.
+pub fn iterations_are_all()
+    ensures { law.IterationsAreAll }
+{}
+
+/// An iteration of the parallel loop is what the loops inside it list in one of its turns.
+pub fn iterations_are_turns()
+    ensures { law.IterationsAreTurns }
+{}
+
+/// Iterations of the parallel loop of an accepted stage visit slices apart: of a pure definition, points apart.
+pub fn iterations_are_apart()
+    ensures { law.IterationsAreApart }
+{}
+
+/// The iterations of an accepted stage may be done in any order: each slice sees the same visits in the same order.
+pub fn iterations_in_any_order()
+    ensures { law.IterationsInAnyOrder }
+{}
+
+/// A variable is its base plus what the loops inside add to it, or lies in its whole extent.
+pub fn variables_are_reached()
+    ensures { law.VariablesAreReached }
+{}
