@@ -20,7 +20,7 @@ use Rattle.schedule_lines.specs.Loops.{same_id}
 use Rattle.schedule_lines.specs.Directives.{parts, is_shift}
 use Rattle.schedule_lines.specs.Making.{total, IsSplit, IsMade}
 use Rattle.stage_loops.specs.declared.extents.Extents.{Extents}
-use Rattle.stage_loops.specs.Counts.{Values, with, rounds, whole_counts, more_counts, counts_from, fits, shifts_fit_from, shifts_fit}
+use Rattle.stage_loops.specs.Counts.{Values, with, rounds, whole_counts, more_counts, counts_from, shift_fits, shifts_fit_from, shifts_fit}
 use Rattle.stage_loops.specs.Stages.{has_variable, first_loops, is_slice_of, IsStageOf}
 use Rattle.stage_loops.specs.Visits.{upto, nest, whole_of, begin_of, split_body, split_bodies, zeros, Visit, visit_of, visits}
 use Rattle.stage_loops.proofs.Ids.{cases_id, is_old, old_apart, inner_new, outer_new, turned_id, with_same, with_other}
@@ -186,10 +186,10 @@ module _ {A : Type 0} (counts : Values) (body : Values → List A) (start : Valu
 -- ---- each shifted split has a whole round
 
 fit_parts : (splits : List Split) (counts : Values) (at : ℕ) (split : Split) → shifts_fit_from counts at (splits ++ split ∷ []) ≡ true
-    → (shifts_fit_from counts at splits ≡ true) × (fits (counts_from counts at splits) split ≡ true)
-fit_parts [] counts at split e = (refl, (and_parts (fits counts split) true e).0)
+    → (shifts_fit_from counts at splits ≡ true) × (shift_fits (counts_from counts at splits) split ≡ true)
+fit_parts [] counts at split e = (refl, (and_parts (shift_fits counts split) true e).0)
 fit_parts (first ∷ splits) counts at split e =
-    let p = and_parts (fits counts first) (shifts_fit_from (more_counts counts at first) (suc at) (splits ++ split ∷ [])) e in
+    let p = and_parts (shift_fits counts first) (shifts_fit_from (more_counts counts at first) (suc at) (splits ++ split ∷ [])) e in
     let later = fit_parts splits (more_counts counts at first) (suc at) split p.1 in
     (ap (λ (b : Bool). b && shifts_fit_from (more_counts counts at first) (suc at) splits) p.0 ∙ later.0, later.1)
 

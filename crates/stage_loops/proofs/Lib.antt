@@ -14,5 +14,7 @@ pub mod Selecting
 pub mod Slices
 pub mod Splitting
 pub mod Starts
+pub mod Tables
 pub mod Tasks
 pub mod Turns
+pub mod Written

@@ -1,13 +1,13 @@
 -- Nests of loops.
 use Rattle.std.proofs.Common.{◌≡◌, ℕ, ◌<◌, ◌≤◌, Bool, false, List, [], ◌∷◌, ◌++◌, refl, ap, subst, ◌∙◌, arith, inl, inr}
-use Rattle.std.specs.Prelude.{if◌then◌else◌}
+use Rattle.std.specs.Prelude.{if◌then◌else◌, filter}
 use Rattle.schedule_lines.specs.declared.stages.Loop.{Loop}
 use Rattle.schedule_lines.specs.declared.stages.LoopId.{LoopId}
 use Rattle.schedule_lines.specs.Loops.{same_id}
 use Rattle.schedule_lines.specs.Making.{total}
 use Rattle.stage_loops.specs.Counts.{Values, with}
-use Rattle.stage_loops.specs.Visits.{upto, nest, kept}
-use Rattle.stage_loops.proofs.Turns.{upto_same, kept-upto}
+use Rattle.stage_loops.specs.Visits.{upto, nest}
+use Rattle.stage_loops.proofs.Turns.{upto_same, filter-upto}
 use Rattle.stage_loops.proofs.Ids.{cases_id, turned_id, with_same, with_other, same_id-self}
 
 -- 1 for the loop that is this one
@@ -46,12 +46,12 @@ nest-append counts [] outside body values = refl
 nest-append counts (own ∷ inside) outside body values = nest-append counts inside outside (λ outer. upto (counts own.id) (λ turn. body (with own.id turn outer))) values
 
 -- what passes a test in a nest
-pub kept-nest : {A : Type 0} (test : A → Bool) (counts : Values) (loops : List Loop) (body : Values → List A) (values : Values) → kept test (nest counts loops body values) ≡ nest counts loops (λ v. kept test (body v)) values
-kept-nest test counts [] body values = refl
-kept-nest test counts (own ∷ outside) body values =
-    kept-nest test counts outside (λ outer. upto (counts own.id) (λ turn. body (with own.id turn outer))) values
-    ∙ nest_same counts outside (λ outer. kept test (upto (counts own.id) (λ turn. body (with own.id turn outer)))) (λ outer. upto (counts own.id) (λ turn. kept test (body (with own.id turn outer))))
-    (λ outer in_range. kept-upto test (counts own.id) (λ turn. body (with own.id turn outer))) values
+pub filter-nest : {A : Type 0} (test : A → Bool) (counts : Values) (loops : List Loop) (body : Values → List A) (values : Values) → filter test (nest counts loops body values) ≡ nest counts loops (λ v. filter test (body v)) values
+filter-nest test counts [] body values = refl
+filter-nest test counts (own ∷ outside) body values =
+    filter-nest test counts outside (λ outer. upto (counts own.id) (λ turn. body (with own.id turn outer))) values
+    ∙ nest_same counts outside (λ outer. filter test (upto (counts own.id) (λ turn. body (with own.id turn outer)))) (λ outer. upto (counts own.id) (λ turn. filter test (body (with own.id turn outer))))
+    (λ outer in_range. filter-upto test (counts own.id) (λ turn. body (with own.id turn outer))) values
 
 -- Each of the loops has as many turns by one count as by another.
 abbrev pub SameCounts : Values → Values → List Loop → Type 0

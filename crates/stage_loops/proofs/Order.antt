@@ -1,6 +1,6 @@
 -- Every nest that lines make of the loops of an update visits the reduction points of each slice in their order.
 use Rattle.std.proofs.Common.{◌≡◌, ℕ, ◌+◌, ◌*◌, ◌/◌, ◌%◌, ◌<◌, ◌≤◌, Bool, true, false, cond, List, [], ◌∷◌, ◌++◌, length, map, Some, None, refl, sym, ap, subst, ◌∙◌, arith, inl, inr}
-use Rattle.std.specs.Prelude.{◌&&◌, ◌||◌, nat_lt}
+use Rattle.std.specs.Prelude.{◌&&◌, ◌||◌, nat_lt, filter}
 use Rattle.std.proofs.lemmas.Bool.{ltb-true}
 use Rattle.std.proofs.lemmas.Nat.{div-mul-add, mod-mul-add}
 use Rattle.std.proofs.Math.Nat.{mod-lt, div-lt_iff_lt-mul}
@@ -15,9 +15,9 @@ use Rattle.schedule_lines.specs.Loops.{same_id}
 use Rattle.schedule_lines.specs.Directives.{parts, is_shift}
 use Rattle.schedule_lines.specs.Making.{total, bare, IsSplit, IsMade}
 use Rattle.stage_loops.specs.Counts.{Values, with, rounds, more_counts, counts_from}
-use Rattle.stage_loops.specs.Visits.{upto, nest, whole_of, split_body, split_bodies, kept}
+use Rattle.stage_loops.specs.Visits.{upto, nest, whole_of, split_body, split_bodies}
 use Rattle.stage_loops.proofs.Ids.{cases_id, same_id-self, is_old, outer_new, inner_new, old_apart, turned_id, with_same, with_other}
-use Rattle.stage_loops.proofs.Nesting.{has_id, has_other, has_same, InRange, kept-nest}
+use Rattle.stage_loops.proofs.Nesting.{has_id, has_other, has_same, InRange, filter-nest}
 use Rattle.stage_loops.proofs.Splitting.{OnOld, counts_old, rounds_reach, parted_nest}
 use Rattle.stage_loops.proofs.Selecting.{is_one, IsAmong, is_free, Only, among_has, moved_nest, only_moved}
 use Rattle.stage_loops.proofs.Making.{Stays, by_making, Sound, sound_stays, split_by, IsInner, IsOuter, IsNeither, part_of, total-append, total_parts, parts_inner, parts_neither, counts-more, bodies-more, bodies_on_old, is_old_has, bare_total, own_apart, apart_from}
@@ -48,11 +48,11 @@ module _ (A : Type 0) (extents : Values) (seen : Values → A) (keep : A → Boo
   abbrev counts_of : List Split → Values
   counts_of splits = counts_from extents 0 splits
 
-  -- what is kept is in_turn only where loops that pass the test have given values
+  -- what is filter is in_turn only where loops that pass the test have given values
   pub record Selects (test : Loop → Bool) (loops : List Loop) (splits : List Split) : Type 0 where
     pub given : Values
     pub range : (id : LoopId) → IsAmong test loops id → given id < counts_of splits id
-    pub only : Only test (counts_of splits) loops given (λ values. kept keep (body_of splits values))
+    pub only : Only test (counts_of splits) loops given (λ values. filter keep (body_of splits values))
 
   -- the values of the parts of a number
   abbrev parted_given : Values → ℕ → Split → Values
@@ -143,7 +143,7 @@ module _ (A : Type 0) (extents : Values) (seen : Values → A) (keep : A → Boo
     whole_guard : (values : Values) → line.tail ≡ tails.Guard → values (ids.Outer place) * line.factor + values (ids.Inner place) ≡ whole_of counts place split values
     whole_guard values guard = rw guard refl
 
-    kept_cond : (test : Bool) (xs : List A) → (test ≡ true → kept keep xs ≡ []) → kept keep (cond test xs []) ≡ []
+    kept_cond : (test : Bool) (xs : List A) → (test ≡ true → filter keep xs ≡ []) → filter keep (cond test xs []) ≡ []
     kept_cond true xs none = none refl
     kept_cond false xs none = refl
 
@@ -160,7 +160,7 @@ module _ (A : Type 0) (extents : Values) (seen : Values → A) (keep : A → Boo
           | IsNeither d f ↦
               omega (arith, given_old sel.given place split id d f, sel.range id (old_among id d f there), counts_old A counts place split id (sound.old id (omega (arith, among_has test id old_loops, old_among id d f there))))
         ] in
-        let only : Only test new_counts new_loops given (λ values. kept keep (split_body counts place split (body_of splits) values)) = λ values in_range id there differs.
+        let only : Only test new_counts new_loops given (λ values. filter keep (split_body counts place split (body_of splits) values)) = λ values in_range id there differs.
         kept_cond (nat_lt (whole_of counts place split values) (counts own.id)) (body_of splits (with own.id (whole_of counts place split values) values)) (λ below.
         let l : whole_of counts place split values < counts own.id = ltb-true (whole_of counts place split values) (counts own.id) below in
         let whole_values : Values = with own.id (whole_of counts place split values) values in
@@ -187,17 +187,17 @@ module _ (A : Type 0) (extents : Values) (seen : Values → A) (keep : A → Boo
         record {
           given = given;
           range = subst (λ (c : Values). (id : LoopId) → IsAmong test new_loops id → given id < c id) (sym counts_are) range;
-          only = subst (λ (c : Values). Only test c new_loops given (λ values. kept keep (body_of (splits ++ split_by own line ∷ []) values))) (sym counts_are)
-              (subst (λ (b : Values → List A). Only test new_counts new_loops given (λ values. kept keep (b values))) (sym bodies_are) only);
+          only = subst (λ (c : Values). Only test c new_loops given (λ values. filter keep (body_of (splits ++ split_by own line ∷ []) values))) (sym counts_are)
+              (subst (λ (b : Values → List A). Only test new_counts new_loops given (λ values. filter keep (b values))) (sym bodies_are) only);
         }
 
   -- ---- through all lines
 
-  -- whole variables alone are read, and what is kept has given values there
+  -- whole variables alone are read, and what is filter has given values there
   pub record Begins (test : Loop → Bool) (start : List Loop) (given : Values) : Type 0 where
     pub sound : Sound start []
     pub range : (id : LoopId) → IsAmong test start id → given id < extents id
-    pub only : Only test extents start given (λ values. kept keep (seen values ∷ []))
+    pub only : Only test extents start given (λ values. filter keep (seen values ∷ []))
 
   pub record Settled (test : Loop → Bool) (loops : List Loop) (splits : List Split) : Type 0 where
     pub sound : Sound loops splits
@@ -226,7 +226,7 @@ module _ (A : Type 0) (extents : Values) (seen : Values → A) (keep : A → Boo
       selects = record {
         given = settled.selects.given;
         range = λ id there. settled.selects.range id (omega (arith, same (is_one test id)));
-        only = only_moved test (counts_of splits) settled.selects.given loops new (λ values. kept keep (body_of splits values)) same settled.selects.only;
+        only = only_moved test (counts_of splits) settled.selects.given loops new (λ values. filter keep (body_of splits values)) same settled.selects.only;
       };
     };
   }
@@ -234,10 +234,10 @@ module _ (A : Type 0) (extents : Values) (seen : Values → A) (keep : A → Boo
   leaf_on_old : ((one other : Values) → ((id : LoopId) → is_old 0 id ≡ true → one id ≡ other id) → seen one ≡ seen other) → OnOld 0 (λ values. seen values ∷ [])
   leaf_on_old whole one other same = ap (λ (a : A). a ∷ []) (whole one other same)
 
-  -- What is kept of the visits is what is kept of those of the first loops.
+  -- What is filter of the visits is what is filter of those of the first loops.
   pub record Ordered (start : List Loop) (loops : List Loop) (splits : List Split) : Type 0 where
     pub settled : Settled is_free loops splits
-    pub same : (values : Values) → kept keep (nest (counts_of splits) loops (body_of splits) values) ≡ kept keep (nest extents start (λ v. seen v ∷ []) values)
+    pub same : (values : Values) → filter keep (nest (counts_of splits) loops (body_of splits) values) ≡ filter keep (nest extents start (λ v. seen v ∷ []) values)
 
   nest_bare : (counts : Values) (new loops : List Loop) (body : Values → List A) → map bare new ≡ map bare loops → (values : Values) → nest counts new body values ≡ nest counts loops body values
   nest_bare counts [] [] body e values = refl
@@ -266,9 +266,9 @@ module _ (A : Type 0) (extents : Values) (seen : Values → A) (keep : A → Boo
               let new_loops = before ++ (parts own (length splits) line ++ after) in
               let counts_are : counts_of (splits ++ split_by own line ∷ []) ≡ more_counts (counts_of splits) (length splits) (split_by own line) = counts-more splits extents 0 (length splits) (split_by own line) (omega arith) in
               let bodies_are : body_of (splits ++ split_by own line ∷ []) ≡ split_body (counts_of splits) (length splits) (split_by own line) (body_of splits) = bodies-more splits extents 0 (length splits) (split_by own line) (λ values. seen values ∷ []) (omega arith) in
-              ap (λ (c : Values). kept keep (nest c new_loops (body_of (splits ++ split_by own line ∷ [])) values)) counts_are
-              ∙ ap (λ (b : Values → List A). kept keep (nest (more_counts (counts_of splits) (length splits) (split_by own line)) new_loops b values)) bodies_are
-              ∙ ap (kept keep) (parted_nest A (counts_of splits) (length splits) (split_by own line) before after (inner_part own (length splits) line) (outer_part own (length splits) line) own (body_of splits)
+              ap (λ (c : Values). filter keep (nest c new_loops (body_of (splits ++ split_by own line ∷ [])) values)) counts_are
+              ∙ ap (λ (b : Values → List A). filter keep (nest (more_counts (counts_of splits) (length splits) (split_by own line)) new_loops b values)) bodies_are
+              ∙ ap (filter keep) (parted_nest A (counts_of splits) (length splits) (split_by own line) before after (inner_part own (length splits) line) (outer_part own (length splits) line) own (body_of splits)
               (record { inner_is = refl; outer_is = refl; own_is = refl })
               (apart_from (length splits) own.id before (λ id there. sound.old id (omega (arith, total-append (has_id id) before (own ∷ after)))) (omega (arith, none)))
               (apart_from (length splits) own.id after (λ id there. sound.old id (omega (arith, total-append (has_id id) before (own ∷ after)))) (omega (arith, none)))
@@ -277,16 +277,16 @@ module _ (A : Type 0) (extents : Values) (seen : Values → A) (keep : A → Boo
         };
         marked = λ loops new splits same ordered. record {
           settled = settled.marked loops new splits same ordered.settled;
-          same = λ values. ap (kept keep) (nest_bare (counts_of splits) new loops (body_of splits) same values) ∙ ordered.same values;
+          same = λ values. ap (filter keep) (nest_bare (counts_of splits) new loops (body_of splits) same values) ∙ ordered.same values;
         };
         moved = λ loops new splits same order ordered. record {
           settled = settled.moved loops new splits same order ordered.settled;
           same = λ values.
               let sel = ordered.settled.selects in
-              kept-nest keep (counts_of splits) new (body_of splits) values
-              ∙ moved_nest (counts_of splits) sel.given loops new (λ v. kept keep (body_of splits v)) same order ordered.settled.sound.unique
-              (λ one other all. ap (kept keep) (on splits one other (λ id old. all id))) sel.range sel.only values
-              ∙ sym (kept-nest keep (counts_of splits) loops (body_of splits) values)
+              filter-nest keep (counts_of splits) new (body_of splits) values
+              ∙ moved_nest (counts_of splits) sel.given loops new (λ v. filter keep (body_of splits v)) same order ordered.settled.sound.unique
+              (λ one other all. ap (filter keep) (on splits one other (λ id old. all id))) sel.range sel.only values
+              ∙ sym (filter-nest keep (counts_of splits) loops (body_of splits) values)
               ∙ ordered.same values;
         };
       }
@@ -294,16 +294,16 @@ module _ (A : Type 0) (extents : Values) (seen : Values → A) (keep : A → Boo
   -- Every nest that lines make keeps what the first nest keeps, in the same order.
   pub same_order : {start loops : List Loop} {splits : List Split} (given : Values) → IsPassedOn true is_free → Begins is_free start given
       → ((one other : Values) → ((id : LoopId) → is_old 0 id ≡ true → one id ≡ other id) → seen one ≡ seen other)
-      → IsMade true start loops splits → (values : Values) → kept keep (nest (counts_of splits) loops (body_of splits) values) ≡ kept keep (nest extents start (λ v. seen v ∷ []) values)
+      → IsMade true start loops splits → (values : Values) → filter keep (nest (counts_of splits) loops (body_of splits) values) ≡ filter keep (nest extents start (λ v. seen v ∷ []) values)
   same_order {start} given passed_on begins whole made values = (by_making (Ordered start) (ordered_stays start given passed_on begins whole) made).same values
 
-  -- ---- what is never kept
+  -- ---- what is never filter
 
   pub record Quiet (loops : List Loop) (splits : List Split) : Type 0 where
     pub sound : Sound loops splits
-    pub none : (values : Values) → InRange (counts_of splits) loops values → kept keep (body_of splits values) ≡ []
+    pub none : (values : Values) → InRange (counts_of splits) loops values → filter keep (body_of splits values) ≡ []
 
-  quiet_cond : (test : Bool) (xs : List A) → (test ≡ true → kept keep xs ≡ []) → kept keep (cond test xs []) ≡ []
+  quiet_cond : (test : Bool) (xs : List A) → (test ≡ true → filter keep xs ≡ []) → filter keep (cond test xs []) ≡ []
   quiet_cond true xs none = none refl
   quiet_cond false xs none = refl
 
@@ -315,14 +315,14 @@ module _ (A : Type 0) (extents : Values) (seen : Values → A) (keep : A → Boo
       none =
           let counts_are : counts_of (splits ++ split_by own line ∷ []) ≡ more_counts (counts_of splits) (length splits) (split_by own line) = counts-more splits extents 0 (length splits) (split_by own line) (omega arith) in
           let bodies_are : body_of (splits ++ split_by own line ∷ []) ≡ split_body (counts_of splits) (length splits) (split_by own line) (body_of splits) = bodies-more splits extents 0 (length splits) (split_by own line) (λ values. seen values ∷ []) (omega arith) in
-          let none : (values : Values) → InRange (more_counts (counts_of splits) (length splits) (split_by own line)) (before ++ (parts own (length splits) line ++ after)) values → kept keep (split_body (counts_of splits) (length splits) (split_by own line) (body_of splits) values) ≡ [] =
+          let none : (values : Values) → InRange (more_counts (counts_of splits) (length splits) (split_by own line)) (before ++ (parts own (length splits) line ++ after)) values → filter keep (split_body (counts_of splits) (length splits) (split_by own line) (body_of splits) values) ≡ [] =
           λ values in_range.
           let w = whole_of (counts_of splits) (length splits) (split_by own line) values in
           quiet_cond (nat_lt (whole_of (counts_of splits) (length splits) (split_by own line) values) (counts_of splits own.id)) (body_of splits (with own.id (whole_of (counts_of splits) (length splits) (split_by own line) values) values)) (λ below.
           quiet.none (with own.id (whole_of (counts_of splits) (length splits) (split_by own line) values) values)
           (whole_in_range is_update test passed_on before own after splits line is quiet.sound values in_range (ltb-true (whole_of (counts_of splits) (length splits) (split_by own line) values) (counts_of splits own.id) below))) in
-          subst (λ (c : Values). (values : Values) → InRange c (before ++ (parts own (length splits) line ++ after)) values → kept keep (body_of (splits ++ split_by own line ∷ []) values) ≡ []) (sym counts_are)
-          (subst (λ (b : Values → List A). (values : Values) → InRange (more_counts (counts_of splits) (length splits) (split_by own line)) (before ++ (parts own (length splits) line ++ after)) values → kept keep (b values) ≡ []) (sym bodies_are) none);
+          subst (λ (c : Values). (values : Values) → InRange c (before ++ (parts own (length splits) line ++ after)) values → filter keep (body_of (splits ++ split_by own line ∷ []) values) ≡ []) (sym counts_are)
+          (subst (λ (b : Values → List A). (values : Values) → InRange (more_counts (counts_of splits) (length splits) (split_by own line)) (before ++ (parts own (length splits) line ++ after)) values → filter keep (b values) ≡ []) (sym bodies_are) none);
     };
     marked = λ loops new splits same quiet. record {
       sound = (sound_stays is_update start begun.sound).marked loops new splits same quiet.sound;

@@ -17,9 +17,9 @@ use Rattle.schedule.specs.Legal.{breaks, is_empty}
 use Rattle.stage_loops.specs.declared.extents.Extents.{Extents}
 use Rattle.stage_loops.specs.Counts.{Values, with, whole_counts, counts}
 use Rattle.stage_loops.specs.Iterations.{parallel, count_of, iteration_count, is_turn, iteration, in_turn, IsOrder, HasOwner}
-use Rattle.stage_loops.specs.Stages.{first_loops, is_slice_of, IsStageOf, IsLegal}
-use Rattle.stage_loops.specs.Visits.{upto, nest, split_bodies, over_loops, zeros, kept, Visit, is_slice, slice, visit_of, visits}
-use Rattle.stage_loops.proofs.Turns.{upto_same, upto_one, upto_nil, first_turn, kept-upto}
+use Rattle.stage_loops.specs.Stages.{first_loops, is_slice_of, IsStageOf, KeepsRules}
+use Rattle.stage_loops.specs.Visits.{upto, nest, split_bodies, over_loops, zeros, Visit, is_slice, slice, visit_of, visits}
+use Rattle.stage_loops.proofs.Turns.{upto_same, upto_one, upto_nil, first_turn, filter-upto}
 use Rattle.stage_loops.proofs.Ids.{cases_id, with_same, with_other, turned_id}
 use Rattle.stage_loops.proofs.Nesting.{has_id, has_same}
 use Rattle.stage_loops.proofs.Selecting.{is_free, Unique}
@@ -90,7 +90,7 @@ pub record Outermost (stage : Stage) (own : Loop) : Type 0 where
   pub last : Last own stage.loops
   pub steady : is_steady own ≡ true
 
-pub outermost : (stage : Stage) (own : Loop) → IsLegal stage → parallel stage ≡ Some own → Outermost stage own
+pub outermost : (stage : Stage) (own : Loop) → KeepsRules stage → parallel stage ≡ Some own → Outermost stage own
 outermost stage own legal found =
     let l : Last own stage.loops = parallel_last legal.0 true stage.loops own (legal.1 rules_of.ParallelOutermost) found in
     let kept : (rule : LoopRule) → keeps rule legal.0 true (l.inside ++ own ∷ []) ≡ true = λ rule. ap (keeps rule legal.0 true) (sym l.loops_are) ∙ legal.1 rule in
@@ -206,28 +206,28 @@ module _ (func : Func) (update : Option Update) (extents : Extents) (stage : Sta
 
   -- ---- with a parallel loop or without
 
-  visits_at : IsLegal stage → (par : Option Loop) → parallel stage ≡ par → visits extents stage ≡ upto (count_of cs par) (iteration extents stage)
+  visits_at : KeepsRules stage → (par : Option Loop) → parallel stage ≡ par → visits extents stage ≡ upto (count_of cs par) (iteration extents stage)
   visits_at legal None e =
       ap (λ (p : Option Loop). nest cs stage.loops (λ v. cond (is_turn p 0 v) (whole_body v) []) zeros) (sym e)
       ∙ first_turn (iteration extents stage)
   visits_at legal (Some own) e = visits_are own e (outermost stage own legal e)
 
   -- the iterations in rising order are all that the stage visits
-  pub all_iterations : IsLegal stage → visits extents stage ≡ upto (iteration_count extents stage) (iteration extents stage)
+  pub all_iterations : KeepsRules stage → visits extents stage ≡ upto (iteration_count extents stage) (iteration extents stage)
   all_iterations legal = visits_at legal (parallel stage) refl
 
-  owner_at : IsLegal stage → (x y : ℕ) → is_slice_of func update extents x y ≡ true → (par : Option Loop) → parallel stage ≡ par → HasOwner (count_of cs par) (iteration extents stage) x y
+  owner_at : KeepsRules stage → (x y : ℕ) → is_slice_of func update extents x y ≡ true → (par : Option Loop) → parallel stage ≡ par → HasOwner (count_of cs par) (iteration extents stage) x y
   owner_at legal x y there None e = record { owner = 0; is_iteration = omega arith; no_other = λ n l d. absurd (omega (arith, l, d)) }
   owner_at legal x y there (Some own) e = owner own e (outermost stage own legal e) x y there
 
   -- each slice belongs to one iteration
-  pub slice_owner : IsLegal stage → (x y : ℕ) → is_slice_of func update extents x y ≡ true → HasOwner (iteration_count extents stage) (iteration extents stage) x y
+  pub slice_owner : KeepsRules stage → (x y : ℕ) → is_slice_of func update extents x y ≡ true → HasOwner (iteration_count extents stage) (iteration extents stage) x y
   slice_owner legal x y there = owner_at legal x y there (parallel stage) refl
 
-  slices_of_all : IsLegal stage → (x y : ℕ) → slice x y (visits extents stage) ≡ upto (iteration_count extents stage) (λ n. slice x y (iteration extents stage n))
-  slices_of_all legal x y = ap (slice x y) (all_iterations legal) ∙ kept-upto (is_slice x y) (iteration_count extents stage) (iteration extents stage)
+  slices_of_all : KeepsRules stage → (x y : ℕ) → slice x y (visits extents stage) ≡ upto (iteration_count extents stage) (λ n. slice x y (iteration extents stage n))
+  slices_of_all legal x y = ap (slice x y) (all_iterations legal) ∙ filter-upto (is_slice x y) (iteration_count extents stage) (iteration extents stage)
 
-  ordered_at : IsLegal stage → (order : List ℕ) → IsOrder (iteration_count extents stage) order → (x y : ℕ) → (there : Bool) → is_slice_of func update extents x y ≡ there
+  ordered_at : KeepsRules stage → (order : List ℕ) → IsOrder (iteration_count extents stage) order → (x y : ℕ) → (there : Bool) → is_slice_of func update extents x y ≡ there
       → slice x y (in_turn (iteration extents stage) order) ≡ slice x y (visits extents stage)
   ordered_at legal order is_order x y true e =
       let o = slice_owner legal x y e in
@@ -240,7 +240,7 @@ module _ (func : Func) (update : Option Update) (extents : Extents) (stage : Sta
       ∙ sym none
 
   -- in any order they visit each slice as the stage does
-  pub in_any_order : IsLegal stage → (order : List ℕ) → IsOrder (iteration_count extents stage) order → (x y : ℕ) → slice x y (in_turn (iteration extents stage) order) ≡ slice x y (visits extents stage)
+  pub in_any_order : KeepsRules stage → (order : List ℕ) → IsOrder (iteration_count extents stage) order → (x y : ℕ) → slice x y (in_turn (iteration extents stage) order) ≡ slice x y (visits extents stage)
   in_any_order legal order is_order x y = ordered_at legal order is_order x y (is_slice_of func update extents x y) refl
 
 -- An iteration is the nest inside the parallel loop.

@@ -1,6 +1,6 @@
 -- Slices and reduction points of a stage, and that nothing else is visited.
 use Rattle.std.proofs.Common.{◌≡◌, ℕ, suc, ◌+◌, ◌*◌, ◌<◌, ◌≤◌, Bool, true, false, not, cond, List, [], ◌∷◌, Option, Some, None, refl, ap, ◌∙◌, arith, ◌⊎◌, inl, inr}
-use Rattle.std.specs.Prelude.{◌&&◌, nat_lt}
+use Rattle.std.specs.Prelude.{◌&&◌, nat_lt, filter}
 use Rattle.std.specs.List.{AllByRecursion}
 use Rattle.std.proofs.lemmas.Bool.{lt-ltb, ltb-true, and_parts}
 use Rattle.std.proofs.Math.Nat.{mul-le-mul_right}
@@ -17,9 +17,9 @@ use Rattle.schedule.specs.Plans.{with_loop, with_second}
 use Rattle.stage_loops.specs.declared.extents.Extents.{Extents}
 use Rattle.stage_loops.specs.Counts.{Values, with, whole_counts, counts_from}
 use Rattle.stage_loops.specs.Stages.{has_variable, first_loops, extent_in, points_of, is_slice_of, IsStageOf, IsVisitOf}
-use Rattle.stage_loops.specs.Visits.{upto, nest, split_bodies, zeros, kept, Visit, visit_of, visits}
+use Rattle.stage_loops.specs.Visits.{upto, nest, split_bodies, zeros, Visit, visit_of, visits}
 use Rattle.stage_loops.proofs.Turns.{upto_none}
-use Rattle.stage_loops.proofs.Nesting.{InRange, nest_same, kept-nest}
+use Rattle.stage_loops.proofs.Nesting.{InRange, nest_same, filter-nest}
 use Rattle.stage_loops.proofs.Making.{by_making}
 use Rattle.stage_loops.proofs.Order.{Quiet, quiet_stays}
 use Rattle.stage_loops.proofs.FirstLoops.{Plain, sound, there, plain, update_start}
@@ -141,23 +141,23 @@ nest_empty {A} counts (own ∷ outside) values =
     ∙ nest_empty {A = A} counts outside values
 
 pub nest_quiet : {A : Type 0} (extents : Values) (seen : Values → A) (keep : A → Bool) (loops : List Loop) (splits : List Split) → Quiet A extents seen keep loops splits → (values : Values)
-    → kept keep (nest (counts_from extents 0 splits) loops (split_bodies extents 0 splits (λ v. seen v ∷ [])) values) ≡ []
+    → filter keep (nest (counts_from extents 0 splits) loops (split_bodies extents 0 splits (λ v. seen v ∷ [])) values) ≡ []
 nest_quiet {A} extents seen keep loops splits quiet values =
-    kept-nest keep (counts_from extents 0 splits) loops (split_bodies extents 0 splits (λ v. seen v ∷ [])) values
-    ∙ nest_same (counts_from extents 0 splits) loops (λ v. kept keep (split_bodies extents 0 splits (λ v. seen v ∷ []) v)) (nothing {A = A}) quiet.none values
+    filter-nest keep (counts_from extents 0 splits) loops (split_bodies extents 0 splits (λ v. seen v ∷ [])) values
+    ∙ nest_same (counts_from extents 0 splits) loops (λ v. filter keep (split_bodies extents 0 splits (λ v. seen v ∷ []) v)) (nothing {A = A}) quiet.none values
     ∙ nest_empty {A = A} (counts_from extents 0 splits) loops values
 
 all_at : {A : Type 0} (P : A → Type 0) (passes : A → Bool) → ((x : A) → passes x ≡ true → P x) → (x : A) (xs : List A) (test : Bool) → passes x ≡ test
-    → (kept (λ y. not (passes y)) xs ≡ [] → AllByRecursion P xs) → cond (not test) (x ∷ kept (λ y. not (passes y)) xs) (kept (λ y. not (passes y)) xs) ≡ [] → AllByRecursion P (x ∷ xs)
+    → (filter (λ y. not (passes y)) xs ≡ [] → AllByRecursion P xs) → cond (not test) (x ∷ filter (λ y. not (passes y)) xs) (filter (λ y. not (passes y)) xs) ≡ [] → AllByRecursion P (x ∷ xs)
 all_at P passes holds x xs true e later none = (holds x e, later none)
 all_at P passes holds x xs false e later none = cc
 
--- where nothing is kept that fails a test, all pass it
-pub all_pass : {A : Type 0} (P : A → Type 0) (passes : A → Bool) → ((x : A) → passes x ≡ true → P x) → (xs : List A) → kept (λ y. not (passes y)) xs ≡ [] → AllByRecursion P xs
+-- where nothing is filter that fails a test, all pass it
+pub all_pass : {A : Type 0} (P : A → Type 0) (passes : A → Bool) → ((x : A) → passes x ≡ true → P x) → (xs : List A) → filter (λ y. not (passes y)) xs ≡ [] → AllByRecursion P xs
 all_pass P passes holds [] none = tt
 all_pass P passes holds (x ∷ xs) none = all_at P passes holds x xs (passes x) refl (all_pass P passes holds xs) none
 
-fails_not : {A : Type 0} (passes : A → Bool) (x : A) → passes x ≡ true → kept (λ y. not (passes y)) (x ∷ []) ≡ []
+fails_not : {A : Type 0} (passes : A → Bool) (x : A) → passes x ≡ true → filter (λ y. not (passes y)) (x ∷ []) ≡ []
 fails_not passes x e = rw e refl
 
 -- what holds of each visit of the first loops holds of those of a stage
@@ -190,11 +190,11 @@ visits_seen func update extents stage is =
     zeros (zeros_rest start)
 
 -- no visit fails the test
-pub nothing_outside : (func : Func) (update : Option Update) (extents : Extents) (stage : Stage) → IsStageOf func update stage → kept (λ visit. not (passes func update extents visit)) (visits extents stage) ≡ []
+pub nothing_outside : (func : Func) (update : Option Update) (extents : Extents) (stage : Stage) → IsStageOf func update stage → filter (λ visit. not (passes func update extents visit)) (visits extents stage) ≡ []
 nothing_outside func update extents stage is =
     let start = first_loops func update in
     let s = seen start extents.first_reduction in
-    ap (kept (λ visit. not (passes func update extents visit))) (visits_seen func update extents stage is)
+    ap (filter (λ visit. not (passes func update extents visit))) (visits_seen func update extents stage is)
     ∙ nest_quiet (whole_counts extents) (seen (first_loops func update) extents.first_reduction) (λ visit. not (passes func update extents visit)) stage.loops stage.splits
     (quiet_from (whole_counts extents) (seen (first_loops func update) extents.first_reduction) (passes func update extents) (first_loops func update) (plain func update)
     (λ values in_range. passes_from func update extents (seen (first_loops func update) extents.first_reduction values) (is_visit func update extents (plain func update) (reductions_there func update) values in_range))

@@ -1,6 +1,6 @@
 -- The nests of an update, from its first loops on.
 use Rattle.std.proofs.Common.{◌≡◌, ◌≢◌, ℕ, zero, suc, ◌+◌, ◌*◌, ◌<◌, ◌≤◌, Bool, true, false, not, cond, List, [], ◌∷◌, ◌==◌, refl, sym, ap, subst, ◌∙◌, arith, inl, inr}
-use Rattle.std.specs.Prelude.{◌&&◌, ◌||◌}
+use Rattle.std.specs.Prelude.{◌&&◌, ◌||◌, filter}
 use Rattle.std.proofs.lemmas.Bool.{eq-eqb, ne_eqb, and_left, and_right}
 use Rattle.halide_pipeline.specs.declared.expressions.Variable.TheVariants as variables
 use Rattle.schedule_lines.specs.declared.stages.Loop.{Loop}
@@ -11,9 +11,9 @@ use Rattle.schedule_lines.specs.Directives.{is_shift}
 use Rattle.schedule_lines.specs.Making.{total}
 use Rattle.stage_loops.specs.Counts.{Values, with}
 use Rattle.stage_loops.specs.Stages.{has_variable}
-use Rattle.stage_loops.specs.Visits.{upto, nest, kept, Visit, is_slice, rising}
+use Rattle.stage_loops.specs.Visits.{upto, nest, Visit, is_slice, rising}
 use Rattle.stage_loops.proofs.Turns.{upto_same, upto-add, upto_split}
-use Rattle.stage_loops.proofs.Nesting.{kept-nest}
+use Rattle.stage_loops.proofs.Nesting.{filter-nest}
 use Rattle.stage_loops.proofs.Selecting.{fills, is_free, is_one, filled, nest_ids, selected}
 use Rattle.stage_loops.proofs.Order.{IsPassedOn, Begins, guard_from}
 use Rattle.stage_loops.proofs.FirstLoops.{Plain, free, among, sound, reductions_of, IsUpdateStart}
@@ -95,7 +95,7 @@ pub record IsSlice (start : List Loop) (extents : Values) (x y : ℕ) : Type 0 w
   pub no_x : has_variable variables.FirstArgument start ≡ false → x ≡ 0
   pub no_y : has_variable variables.SecondArgument start ≡ false → y ≡ 0
 
-kept_not : (keep : Visit → Bool) (visit : Visit) → keep visit ≡ false → kept keep (visit ∷ []) ≡ []
+kept_not : (keep : Visit → Bool) (visit : Visit) → keep visit ≡ false → filter keep (visit ∷ []) ≡ []
 kept_not keep visit e = rw e refl
 
 -- loops that pass a test, none of them over a reduction, have the values of the slice
@@ -134,7 +134,7 @@ pub in_place_is : (placed : Bool) (value x : ℕ) → (placed ≡ true → value
 in_place_is true value x here none = here refl
 in_place_is false value x here none = sym (none refl)
 
-slice_itself : (x y number : ℕ) → kept (is_slice x y) (record { x = x; y = y; number = number } ∷ []) ≡ record { x = x; y = y; number = number } ∷ []
+slice_itself : (x y number : ℕ) → filter (is_slice x y) (record { x = x; y = y; number = number } ∷ []) ≡ record { x = x; y = y; number = number } ∷ []
 slice_itself x y number = rw (eq-eqb x x refl, eq-eqb y y refl) refl
 
 -- how many reduction points there are
@@ -149,7 +149,7 @@ module _ (extents : Values) (start : List Loop) (is : IsUpdateStart start) (x y 
   w = filled (slice_values x y) start (λ id. 0)
 
   abbrev body : Values → List Visit
-  body values = kept (is_slice x y) (seen start count values ∷ [])
+  body values = filter (is_slice x y) (seen start count values ∷ [])
 
   filled_first : has_variable variables.FirstArgument start ≡ true → w (ids.Whole variables.FirstArgument) ≡ x
   filled_first p = (fills (slice_values x y) start (λ id. 0) (ids.Whole variables.FirstArgument)).0 (among variables.FirstArgument start is.plain refl p)
@@ -168,7 +168,7 @@ module _ (extents : Values) (start : List Loop) (is : IsUpdateStart start) (x y 
       ∙ ap (λ (b : ℕ). record { x = x; y = b; number = in_place (has_variable variables.SecondReduction start) (values (ids.Whole variables.SecondReduction)) * count + in_place (has_variable variables.FirstReduction start) (values (ids.Whole variables.FirstReduction)) }) fy
       ∙ ap (λ (c : ℕ). record { x = x; y = y; number = c * count + in_place (has_variable variables.FirstReduction start) (values (ids.Whole variables.FirstReduction)) }) ej
       ∙ ap (λ (c : ℕ). record { x = x; y = y; number = j * count + c }) fi in
-      ap (λ (v : Visit). kept (is_slice x y) (v ∷ [])) same ∙ slice_itself x y (j * count + i)
+      ap (λ (v : Visit). filter (is_slice x y) (v ∷ [])) same ∙ slice_itself x y (j * count + i)
 
   pub seen_same : (one other : Values) → ((id : LoopId) → one id ≡ other id) → seen start count one ≡ seen start count other
   seen_same one other same = rw (same (ids.Whole variables.FirstArgument), same (ids.Whole variables.SecondArgument), same (ids.Whole variables.FirstReduction), same (ids.Whole variables.SecondReduction)) refl
@@ -191,10 +191,10 @@ module _ (extents : Values) (start : List Loop) (is : IsUpdateStart start) (x y 
       ∙ upto_rises x y 0 count
 
   -- the first nest visits the points of a slice in their order
-  pub slice_rises : kept (is_slice x y) (nest extents start (λ v. seen start count v ∷ []) (λ id. 0)) ≡ rising x y 0 (points (has_variable variables.SecondReduction start) extents)
+  pub slice_rises : filter (is_slice x y) (nest extents start (λ v. seen start count v ∷ []) (λ id. 0)) ≡ rising x y 0 (points (has_variable variables.SecondReduction start) extents)
   slice_rises =
       let b = begins is_free free_free count extents start x y is.plain slice in
-      kept-nest (is_slice x y) extents start (λ v. seen start count v ∷ []) (λ id. 0)
-      ∙ selected Visit extents (slice_values x y) start body b.sound.unique (λ one other same. ap (λ (v : Visit). kept (is_slice x y) (v ∷ [])) (seen_same one other same)) b.range b.only (λ id. 0)
+      filter-nest (is_slice x y) extents start (λ v. seen start count v ∷ []) (λ id. 0)
+      ∙ selected Visit extents (slice_values x y) start body b.sound.unique (λ one other same. ap (λ (v : Visit). filter (is_slice x y) (v ∷ [])) (seen_same one other same)) b.range b.only (λ id. 0)
       ∙ ap (λ (ids : List LoopId). nest_ids extents ids body w) is.two
       ∙ by_reductions (has_variable variables.SecondReduction start) refl

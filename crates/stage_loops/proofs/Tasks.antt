@@ -1,16 +1,18 @@
 -- Tasks are the turns of the outermost loop. Each slice is visited by one of them, so they may come in any order.
 use Rattle.std.proofs.Common.{◌≡◌, ◌≢◌, ℕ, ◌<◌, ◌≤◌, Bool, true, false, cond, List, [], ◌∷◌, ◌++◌, ◌==◌, refl, sym, ap, subst, ◌∙◌, arith, inl, inr}
+use Rattle.std.specs.Prelude.{filter}
 use Rattle.std.proofs.lemmas.Bool.{cases_eq, eq-eqb, ne_eqb, cases_lt}
 use Rattle.std.proofs.lemmas.List.{append-nil}
+use Rattle.std.proofs.lemmas.List.Elements.{filter-append}
 use Rattle.schedule_lines.specs.declared.stages.Loop.{Loop}
 use Rattle.schedule_lines.specs.declared.stages.LoopId.{LoopId}
 use Rattle.schedule_lines.specs.Making.{total}
 use Rattle.stage_loops.specs.Counts.{Values, with}
 use Rattle.stage_loops.specs.Iterations.{in_turn, times, IsOrder}
-use Rattle.stage_loops.specs.Visits.{upto, nest, kept}
-use Rattle.stage_loops.proofs.Turns.{upto_none, upto_one, kept-append, kept-upto}
+use Rattle.stage_loops.specs.Visits.{upto, nest}
+use Rattle.stage_loops.proofs.Turns.{upto_none, upto_one, filter-upto}
 use Rattle.stage_loops.proofs.Ids.{same_id-self, with_same, with_other, turned_id, cases_id}
-use Rattle.stage_loops.proofs.Nesting.{has_id, has_same, has_other, InRange, in_range_more, nest-append, kept-nest}
+use Rattle.stage_loops.proofs.Nesting.{has_id, has_same, has_other, InRange, in_range_more, nest-append, filter-nest}
 use Rattle.stage_loops.proofs.Selecting.{IsAmong, Only, Unique, is_one}
 use Rattle.stage_loops.proofs.Making.{total-append}
 
@@ -53,13 +55,13 @@ turn_none counts inside own body turn l unique quiet values =
     (with own.id turn values) (with_same own.id turn values)
 
 module _ {A : Type 0} (test : Loop → Bool) (keep : A → Bool) (counts given : Values) (inside : List Loop) (own : Loop) (body : Values → List A)
-    (unique : Unique (inside ++ own ∷ [])) (passed : test own ≡ true) (only : Only test counts (inside ++ own ∷ []) given (λ values. kept keep (body values))) where
-  -- Only one task visits what is kept.
-  pub task_apart : (values : Values) (turn : ℕ) → turn < counts own.id → turn ≢ given own.id → kept keep (task counts inside own.id body values turn) ≡ []
+    (unique : Unique (inside ++ own ∷ [])) (passed : test own ≡ true) (only : Only test counts (inside ++ own ∷ []) given (λ values. filter keep (body values))) where
+  -- Only one task visits what is filter.
+  pub task_apart : (values : Values) (turn : ℕ) → turn < counts own.id → turn ≢ given own.id → filter keep (task counts inside own.id body values turn) ≡ []
   task_apart values turn l d =
       let none : total (has_id own.id) inside ≡ 0 = omega (arith, unique own.id, total-append (has_id own.id) inside (own ∷ []), has_same own) in
-      kept-nest keep counts inside body (with own.id turn values)
-      ∙ nest_none counts inside (λ v. kept keep (body v)) own.id turn none
+      filter-nest keep counts inside body (with own.id turn values)
+      ∙ nest_none counts inside (λ v. filter keep (body v)) own.id turn none
       (λ v in_range here. only v
       (λ id there. elim (cases_id own.id id) [
         | inl e ↦ subst (λ (i : LoopId). v i < counts i) e (omega (arith, here, l))
@@ -70,51 +72,51 @@ module _ {A : Type 0} (test : Loop → Bool) (keep : A → Bool) (counts given :
 
 -- ---- tasks in any order
 
-none_listed : {A : Type 0} (keep : A → Bool) (tasks : ℕ → List A) (order : List ℕ) → ((n : ℕ) → 1 ≤ times n order → kept keep (tasks n) ≡ []) → kept keep (in_turn tasks order) ≡ []
+none_listed : {A : Type 0} (keep : A → Bool) (tasks : ℕ → List A) (order : List ℕ) → ((n : ℕ) → 1 ≤ times n order → filter keep (tasks n) ≡ []) → filter keep (in_turn tasks order) ≡ []
 none_listed keep tasks [] none = refl
 none_listed {A} keep tasks (first ∷ others) none =
     let e : (first == first) ≡ true = eq-eqb first first refl in
     let one : cond {A = ℕ} (first == first) 1 0 ≡ 1 = rw e refl in
-    kept-append keep (tasks first) (in_turn tasks others)
-    ∙ ap (λ (xs : List A). xs ++ kept keep (in_turn tasks others)) (none first (omega arith))
+    filter-append keep (tasks first) (in_turn tasks others)
+    ∙ ap (λ (xs : List A). xs ++ filter keep (in_turn tasks others)) (none first (omega arith))
     ∙ none_listed keep tasks others (λ n there. none n (omega arith))
 
 -- what one of the tasks lists, if the others list nothing
-one_listed : {A : Type 0} (keep : A → Bool) (tasks : ℕ → List A) (owner : ℕ) (order : List ℕ) → times owner order ≡ 1 → ((n : ℕ) → 1 ≤ times n order → n ≢ owner → kept keep (tasks n) ≡ [])
-    → kept keep (in_turn tasks order) ≡ kept keep (tasks owner)
+one_listed : {A : Type 0} (keep : A → Bool) (tasks : ℕ → List A) (owner : ℕ) (order : List ℕ) → times owner order ≡ 1 → ((n : ℕ) → 1 ≤ times n order → n ≢ owner → filter keep (tasks n) ≡ [])
+    → filter keep (in_turn tasks order) ≡ filter keep (tasks owner)
 one_listed keep tasks owner [] once none = absurd (omega arith)
 one_listed {A} keep tasks owner (first ∷ others) once none = elim (cases_eq first owner) [
   | inl e ↦
       let t : (first == owner) ≡ true = eq-eqb first owner e in
       let one : cond {A = ℕ} (first == owner) 1 0 ≡ 1 = rw t refl in
-      kept-append keep (tasks first) (in_turn tasks others)
-      ∙ ap (λ (xs : List A). kept keep (tasks first) ++ xs) (none_listed keep tasks others (λ n there. elim (cases_eq n owner) [
+      filter-append keep (tasks first) (in_turn tasks others)
+      ∙ ap (λ (xs : List A). filter keep (tasks first) ++ xs) (none_listed keep tasks others (λ n there. elim (cases_eq n owner) [
         | inl same ↦ absurd (omega (arith, ap (λ (m : ℕ). times m others) same))
         | inr d ↦ none n (omega arith) d
       ]))
-      ∙ append-nil (kept keep (tasks first)) ∙ ap (λ (n : ℕ). kept keep (tasks n)) e
+      ∙ append-nil (filter keep (tasks first)) ∙ ap (λ (n : ℕ). filter keep (tasks n)) e
   | inr d ↦
       let t : (first == owner) ≡ false = ne_eqb first owner d in
       let zero_here : cond {A = ℕ} (first == owner) 1 0 ≡ 0 = rw t refl in
       let s : (first == first) ≡ true = eq-eqb first first refl in
       let one : cond {A = ℕ} (first == first) 1 0 ≡ 1 = rw s refl in
-      kept-append keep (tasks first) (in_turn tasks others)
-      ∙ ap (λ (xs : List A). xs ++ kept keep (in_turn tasks others)) (none first (omega arith) d)
+      filter-append keep (tasks first) (in_turn tasks others)
+      ∙ ap (λ (xs : List A). xs ++ filter keep (in_turn tasks others)) (none first (omega arith) d)
       ∙ one_listed keep tasks owner others (omega arith) (λ n there. none n (omega arith))
 ]
 
--- In any order tasks list what they list in rising order, if one owns what is kept.
+-- In any order tasks list what they list in rising order, if one owns what is filter.
 pub any_order : {A : Type 0} (keep : A → Bool) (tasks : ℕ → List A) (count owner : ℕ) (order : List ℕ) → IsOrder count order → owner < count
-    → ((n : ℕ) → n < count → n ≢ owner → kept keep (tasks n) ≡ []) → kept keep (in_turn tasks order) ≡ kept keep (upto count tasks)
+    → ((n : ℕ) → n < count → n ≢ owner → filter keep (tasks n) ≡ []) → filter keep (in_turn tasks order) ≡ filter keep (upto count tasks)
 any_order keep tasks count owner order is l none =
     one_listed keep tasks owner order (is.once owner l) (λ n there d. elim (cases_lt n count) [
       | inl below ↦ none n below d
       | inr above ↦ absurd (omega (arith, is.no_other n above))
     ])
-    ∙ sym (kept-upto keep count tasks ∙ upto_one count owner (λ n. kept keep (tasks n)) l none)
+    ∙ sym (filter-upto keep count tasks ∙ upto_one count owner (λ n. filter keep (tasks n)) l none)
 
--- Where no task lists anything that is kept, they may come in any order too.
-pub any_order_none : {A : Type 0} (keep : A → Bool) (tasks : ℕ → List A) (count : ℕ) (order : List ℕ) → IsOrder count order → ((n : ℕ) → n < count → kept keep (tasks n) ≡ []) → kept keep (in_turn tasks order) ≡ []
+-- Where no task lists anything that is filter, they may come in any order too.
+pub any_order_none : {A : Type 0} (keep : A → Bool) (tasks : ℕ → List A) (count : ℕ) (order : List ℕ) → IsOrder count order → ((n : ℕ) → n < count → filter keep (tasks n) ≡ []) → filter keep (in_turn tasks order) ≡ []
 any_order_none keep tasks count order is none =
     none_listed keep tasks order (λ n there. elim (cases_lt n count) [
       | inl below ↦ none n below

@@ -1,9 +1,10 @@
 -- Turns, one after the other.
-use Rattle.std.proofs.Common.{◌≡◌, ◌≢◌, ℕ, zero, suc, ◌+◌, ◌-◌, ◌*◌, ◌<◌, ◌≤◌, Bool, true, false, cond, List, [], ◌∷◌, ◌++◌, refl, sym, ap, ◌∙◌, arith, add-zero, add-suc, append_assoc, inl, inr}
-use Rattle.std.specs.Prelude.{nat_lt}
+use Rattle.std.proofs.Common.{◌≡◌, ◌≢◌, ℕ, zero, suc, ◌+◌, ◌-◌, ◌*◌, ◌<◌, ◌≤◌, Bool, cond, List, [], ◌∷◌, ◌++◌, refl, sym, ap, ◌∙◌, arith, add-zero, add-suc, append_assoc, inl, inr}
+use Rattle.std.specs.Prelude.{nat_lt, filter}
 use Rattle.std.proofs.lemmas.List.{append-nil}
+use Rattle.std.proofs.lemmas.List.Elements.{filter-append}
 use Rattle.std.proofs.lemmas.Bool.{cases_eq, lt-ltb, le-ltb}
-use Rattle.stage_loops.specs.Visits.{upto, kept}
+use Rattle.stage_loops.specs.Visits.{upto}
 
 pub upto_same : {A : Type 0} (n : ℕ) (f g : ℕ → List A) → ((v : ℕ) → v < n → f v ≡ g v) → upto n f ≡ upto n g
 unfolding upto
@@ -83,17 +84,8 @@ upto_guard {A} e c s f l =
 
 -- ---- what passes a test
 
-kept_at : {A : Type 0} (b : Bool) (x : A) (ys zs : List A) → cond b (x ∷ (ys ++ zs)) (ys ++ zs) ≡ cond b (x ∷ ys) ys ++ zs
-kept_at true x ys zs = refl
-kept_at false x ys zs = refl
-
-pub kept-append : {A : Type 0} (test : A → Bool) (xs ys : List A) → kept test (xs ++ ys) ≡ kept test xs ++ kept test ys
-kept-append test [] ys = refl
-kept-append {A} test (x ∷ xs) ys =
-    ap (λ (zs : List A). cond (test x) (x ∷ zs) zs) (kept-append test xs ys) ∙ kept_at (test x) x (kept test xs) (kept test ys)
-
-pub kept-upto : {A : Type 0} (test : A → Bool) (n : ℕ) (f : ℕ → List A) → kept test (upto n f) ≡ upto n (λ v. kept test (f v))
+pub filter-upto : {A : Type 0} (test : A → Bool) (n : ℕ) (f : ℕ → List A) → filter test (upto n f) ≡ upto n (λ v. filter test (f v))
 unfolding upto
-kept-upto test zero f = refl
-kept-upto {A} test (suc n) f =
-    kept-append test (upto n f) (f n) ∙ ap (λ (xs : List A). xs ++ kept test (f n)) (kept-upto test n f)
+filter-upto test zero f = refl
+filter-upto {A} test (suc n) f =
+    filter-append test (upto n f) (f n) ∙ ap (λ (xs : List A). xs ++ filter test (f n)) (filter-upto test n f)

@@ -85,12 +85,12 @@ is_uneven splits = uneven_from (λ id. false) 0 splits
 
 -- ---- A shifted split needs a loop of at least one whole round: its extent is not below the factor.
 
-abbrev pub fits : Values → Split → Bool
-fits counts split = not (is_shift split.tail) || nat_le split.factor (counts split.of)
+abbrev pub shift_fits : Values → Split → Bool
+shift_fits counts split = not (is_shift split.tail) || nat_le split.factor (counts split.of)
 
 abbrev pub shifts_fit_from : Values → ℕ → List Split → Bool
 shifts_fit_from counts place [] = true
-shifts_fit_from counts place (split ∷ others) = fits counts split && shifts_fit_from (more_counts counts place split) (suc place) others
+shifts_fit_from counts place (split ∷ others) = shift_fits counts split && shifts_fit_from (more_counts counts place split) (suc place) others
 
 abbrev pub shifts_fit : Extents → List Split → Bool
 shifts_fit extents splits = shifts_fit_from (whole_counts extents) 0 splits

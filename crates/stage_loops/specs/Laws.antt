@@ -10,10 +10,10 @@ use Rattle.schedule_lines.specs.declared.stages.LoopId.TheVariants as ids
 use Rattle.schedule_lines.specs.declared.stages.Stage.{Stage}
 use Rattle.stage_loops.specs.declared.extents.Extents.{Extents}
 use Rattle.stage_loops.specs.Counts.{Values, with, counts, extent_of, shifts_fit, AreSplits}
-use Rattle.stage_loops.specs.Iterations.{parallel, iteration, iteration_count, in_turn, IsOrder, HasOwner}
+use Rattle.stage_loops.specs.Iterations.{parallel, iteration, iteration_count, points_written, in_turn, IsOrder, HasOwner}
 use Rattle.stage_loops.specs.Reach.{AreTurns, has_uneven, wholes, IsReached}
-use Rattle.stage_loops.specs.Stages.{IsStageOf, IsLegal, IsVisitOf, first_loops, has_variable, is_slice_of, points_of}
-use Rattle.stage_loops.specs.Visits.{nest, over_loops, zeros, upto, visit_of, visits, slice, rising}
+use Rattle.stage_loops.specs.Stages.{IsStageOf, KeepsRules, IsVisitOf, first_loops, has_variable, is_slice_of, points_of}
+use Rattle.stage_loops.specs.Visits.{Visit, nest, over_loops, zeros, upto, visit_of, visits, slice, rising}
 
 -- The splits of a stage are few, and their factors small.
 abbrev pub StagesHaveFewSplits : Type 0
@@ -39,7 +39,7 @@ PureStagesCover = (func : Func) (extents : Extents) (stage : Stage) → IsStageO
 
 -- The iterations of an accepted stage in rising order are all that it visits.
 abbrev pub IterationsAreAll : Type 0
-IterationsAreAll = (func : Func) (update : Option Update) (extents : Extents) (stage : Stage) → IsStageOf func update stage → IsLegal stage
+IterationsAreAll = (func : Func) (update : Option Update) (extents : Extents) (stage : Stage) → IsStageOf func update stage → KeepsRules stage
     → visits extents stage ≡ upto (iteration_count extents stage) (iteration extents stage)
 
 -- An iteration is what the loops inside the parallel one list in a turn of that.
@@ -52,12 +52,21 @@ IterationsAreTurns = (func : Func) (update : Option Update) (extents : Extents) 
 
 -- Each slice belongs to one iteration: so iterations of a pure definition visit points apart, and those of an update slices apart.
 abbrev pub IterationsAreApart : Type 0
-IterationsAreApart = (func : Func) (update : Option Update) (extents : Extents) (stage : Stage) → IsStageOf func update stage → IsLegal stage
+IterationsAreApart = (func : Func) (update : Option Update) (extents : Extents) (stage : Stage) → IsStageOf func update stage → KeepsRules stage
     → (x y : ℕ) → is_slice_of func update extents x y ≡ true → HasOwner (iteration_count extents stage) (iteration extents stage) x y
+
+-- Iterations write points apart, where the left side names points apart at visits of slices apart, as a pure definition's does.
+abbrev pub IterationsWriteApart : Type 0
+IterationsWriteApart = (func : Func) (update : Option Update) (extents : Extents) (stage : Stage) → IsStageOf func update stage → KeepsRules stage
+    → (left : Visit → ℕ × ℕ)
+    → ((one other : Visit) → IsVisitOf func update extents one → IsVisitOf func update extents other → left one ≡ left other → (one.x ≡ other.x) × (one.y ≡ other.y))
+    → (first second : ℕ) → first < iteration_count extents stage → second < iteration_count extents stage
+    → (point : ℕ × ℕ) → Contains (points_written left extents stage first) point → Contains (points_written left extents stage second) point
+    → first ≡ second
 
 -- In whatever order the iterations are done, each slice sees what it sees in rising order.
 abbrev pub IterationsInAnyOrder : Type 0
-IterationsInAnyOrder = (func : Func) (update : Option Update) (extents : Extents) (stage : Stage) → IsStageOf func update stage → IsLegal stage
+IterationsInAnyOrder = (func : Func) (update : Option Update) (extents : Extents) (stage : Stage) → IsStageOf func update stage → KeepsRules stage
     → (order : List ℕ) → IsOrder (iteration_count extents stage) order
     → (x y : ℕ) → slice x y (in_turn (iteration extents stage) order) ≡ slice x y (visits extents stage)
 

@@ -2,5 +2,8 @@ pub mod Counts
 pub mod Iterations
 pub mod Laws
 pub mod Reach
+pub mod Rows
+pub mod Sizes
 pub mod Stages
 pub mod Visits
+pub mod inner

@@ -26,8 +26,8 @@ abbrev pub IsStageOf : Func → Option Update → Stage → Type 0
 IsStageOf func update stage = IsStage (is_some update) (first_loops func update) stage
 
 -- Its marked loops keep the rules.
-abbrev pub IsLegal : Stage → Type 0
-IsLegal stage = (at_root : Bool) × ((rule : LoopRule) → Keeps rule at_root stage)
+abbrev pub KeepsRules : Stage → Type 0
+KeepsRules stage = (at_root : Bool) × ((rule : LoopRule) → Keeps rule at_root stage)
 
 -- One of the loops is over the variable.
 abbrev pub has_variable : Variable → List Loop → Bool

@@ -3,7 +3,7 @@
 -- A split loop's value is `outer * factor + inner`; under a shift the least of `outer * factor` and extent - factor stands in place of the
 -- product. What lies past the extent is left out.
 -- This project's own.
-use Rattle.std.specs.Prelude.{ℕ, zero, suc, ◌+◌, ◌-◌, ◌*◌, min, Bool, ◌&&◌, ◌==◌, nat_lt, if◌then◌else◌, List, [], ◌∷◌, ◌++◌}
+use Rattle.std.specs.Prelude.{ℕ, zero, suc, ◌+◌, ◌-◌, ◌*◌, min, Bool, ◌&&◌, ◌==◌, nat_lt, if◌then◌else◌, List, [], ◌∷◌, ◌++◌, filter}
 use Rattle.halide_pipeline.specs.declared.expressions.Variable.TheVariants as variables
 use Rattle.schedule_lines.specs.declared.stages.Loop.{Loop}
 use Rattle.schedule_lines.specs.declared.stages.LoopId.TheVariants as ids
@@ -85,13 +85,8 @@ visits extents stage = listed_by extents stage (λ values. visit_of extents valu
 abbrev pub is_slice : ℕ → ℕ → Visit → Bool
 is_slice x y visit = visit.x == x && visit.y == y
 
--- those of a list that pass a test
-abbrev pub kept : {A : Type 0} → (A → Bool) → List A → List A
-kept test [] = []
-kept test (x ∷ xs) = if test x then x ∷ kept test xs else kept test xs
-
 abbrev pub slice : ℕ → ℕ → List Visit → List Visit
-slice x y visits = kept (is_slice x y) visits
+slice x y visits = filter (is_slice x y) visits
 
 -- so many points of a slice, in order
 abbrev pub rising : ℕ → ℕ → ℕ → ℕ → List Visit

@@ -1,6 +1,11 @@
 //! Laws of the definitions, each the contract of a function that does nothing.
 
+ghost use Rattle.std.specs.Prelude.{◌≡◌, ◌∷◌, []};
 ghost use Rattle.stage_loops.specs.Laws as law;
+ghost use Rattle.stage_loops.specs.Rows as row;
+ghost use Rattle.stage_loops.specs.Visits.{visits};
+
+use schedule_lines::Tail;
 
 /// A stage that lines make of its first loops has at most 4 splits, by factors of 1 to 64.
 pub fn stages_have_few_splits()
@@ -39,6 +44,12 @@ pub fn iterations_are_apart()
     ensures { law.IterationsAreApart }
 {}
 
+/// Iterations of the parallel loop of an accepted stage write points apart, where the left side names points apart
+/// of slices apart.
+pub fn iterations_write_apart()
+    ensures { law.IterationsWriteApart }
+{}
+
 /// The iterations of an accepted stage may be done in any order: each slice sees the same visits in the same order.
 pub fn iterations_in_any_order()
     ensures { law.IterationsInAnyOrder }
@@ -47,4 +58,13 @@ pub fn iterations_in_any_order()
 /// A variable is its base plus what the loops inside add to it, or lies in its whole extent.
 pub fn variables_are_reached()
     ensures { law.VariablesAreReached }
+{}
+
+/// Worked rows: 5 values split by 4 under guard, 8 by 3 under shift, and an update with its argument inside.
+#[tactic(auto, unfolding(crate::specs::Visits::upto))]
+pub fn worked_rows()
+    ensures guarded { row.first_values 5 4 Tail.Guard ≡ 0 ∷ 1 ∷ 2 ∷ 3 ∷ 4 ∷ [] }
+    ensures shifted { row.first_values 8 3 Tail.Shift ≡ 0 ∷ 1 ∷ 2 ∷ 3 ∷ 4 ∷ 5 ∷ 5 ∷ 6 ∷ 7 ∷ [] }
+    ensures turned { visits row.turned_extents row.turned
+        ≡ row.visit 0 0 ∷ row.visit 1 0 ∷ row.visit 0 1 ∷ row.visit 1 1 ∷ row.visit 0 2 ∷ row.visit 1 2 ∷ [] }
 {}

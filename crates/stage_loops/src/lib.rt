@@ -1,7 +1,18 @@
-//! What the final loops of a stage do: how many turns each has, how far a turn goes, what they visit and in which order.
+//! What the loops of a stage do: how many turns each has and how far a turn goes, what they visit and in which
+//! order, and what each iteration of the parallel loop visits.
+//!
+//! - [`extents`]: how many values each variable takes.
+//! - [`sizes`]: turns and strides of the loops (`specs/Counts.antt`, `specs/Sizes.antt`).
+//! - [`laws`]: what holds of every stage that lines make, and of every accepted one (`specs/Laws.antt`, over
+//!   `specs/Visits.antt`, `specs/Iterations.antt`, `specs/Reach.antt` and `specs/Stages.antt`).
+//!
+//! A stage's loops come from the first loops of its Func, and an accepted stage keeps the rules of marked loops:
+//! both are `schedule`'s words, so this crate stands on it.
 #![tactic(auto)]
 
 pub mod extents;
 pub mod laws;
+pub mod sizes;
 
 pub use crate::extents::Extents;
+pub use crate::sizes::{LoopSize, LoopSizes};
