@@ -256,18 +256,3 @@ all_rows extents splits rows left = sym (append-nil (splits_of rows)) ∙ left.a
 
 pub is_table : (extents : Extents) (splits : List Split) (rows : List SizedSplit) → RowsLeft extents splits rows [] → IsTable extents rows
 is_table extents splits rows left = ap (rows_from extents []) (all_rows extents splits rows left) ∙ sym left.made
-
--- a row, by what the code finds
-pub row_is : (whole : LoopSize) (split : Split) (count : ℕ) (uneven : Bool) → count ≡ rounds whole.count split.factor → uneven ≡ (whole.is_uneven || is_shift split.tail)
-    → record { split = split; extent = whole.count; outer = record { count = count; stride = whole.stride * split.factor; is_uneven = uneven }; inner = record { count = split.factor; stride = whole.stride; is_uneven = whole.is_uneven } } ≡ row_of whole split
-row_is whole split count uneven e f =
-    ap (λ (n : ℕ). record { split = split; extent = whole.count; outer = record { count = n; stride = whole.stride * split.factor; is_uneven = uneven }; inner = record { count = split.factor; stride = whole.stride; is_uneven = whole.is_uneven } }) e
-    ∙ ap (λ (b : Bool). record { split = split; extent = whole.count; outer = record { count = rounds whole.count split.factor; stride = whole.stride * split.factor; is_uneven = b }; inner = record { count = split.factor; stride = whole.stride; is_uneven = whole.is_uneven } }) f
-
-pub or_here : (a b : Bool) → a ≡ true → a ≡ (a || b)
-or_here true b e = refl
-or_here false b e = cc
-
-pub or_there : (a b r : Bool) → a ≡ false → r ≡ b → r ≡ (a || b)
-or_there true b r e f = cc
-or_there false b r e f = f

@@ -65,6 +65,15 @@ fn is_shift(tail: Tail) -> bool
     }
 }
 
+/// How often a factor goes into an extent, rounded up.
+#[tactic(auto, using(crate::proofs::Tables::ceiling))]
+fn rounds(extent: u32, factor: u32) -> u32
+    requires { 1 ≤ factor }
+    ensures { result ≡ counts.rounds extent factor }
+{
+    extent.div_ceil(factor)
+}
+
 /// The size of the loop over a whole variable.
 fn whole_size(extents: Extents, variable: Variable) -> LoopSize
     ensures { result ≡ table.whole_size extents variable }
@@ -107,7 +116,7 @@ impl SizedSplit {
             split,
             extent: whole.count,
             outer: LoopSize {
-                count: whole.count.div_ceil(split.factor),
+                count: rounds(whole.count, split.factor),
                 stride: whole.stride * split.factor,
                 is_uneven: whole.is_uneven || is_shift(split.tail),
             },
