@@ -14,7 +14,9 @@ pub mod Selecting
 pub mod Slices
 pub mod Splitting
 pub mod Starts
+pub mod Stepping
 pub mod Tables
 pub mod Tasks
 pub mod Turns
+pub mod Wholes
 pub mod Written

@@ -37,25 +37,25 @@ slack v strides uneven counts own = cond (same_variable own.variable v && uneven
 abbrev pub even : LoopId → Bool
 even id = false
 
-strides-more : (splits : List Split) (strides : Values) (place end : ℕ) (split : Split) → end ≡ place + length splits → strides_from strides place (splits ++ split ∷ []) ≡ more_strides (strides_from strides place splits) end split
+pub strides-more : (splits : List Split) (strides : Values) (place end : ℕ) (split : Split) → end ≡ place + length splits → strides_from strides place (splits ++ split ∷ []) ≡ more_strides (strides_from strides place splits) end split
 strides-more [] strides place end split e = let same : place ≡ end = omega arith in ap (λ (n : ℕ). more_strides strides n split) same
 strides-more (first ∷ splits) strides place end split e = strides-more splits (more_strides strides place first) (suc place) end split (omega arith)
 
-uneven-more : (splits : List Split) (uneven : LoopId → Bool) (place end : ℕ) (split : Split) → end ≡ place + length splits → uneven_from uneven place (splits ++ split ∷ []) ≡ more_uneven (uneven_from uneven place splits) end split
+pub uneven-more : (splits : List Split) (uneven : LoopId → Bool) (place end : ℕ) (split : Split) → end ≡ place + length splits → uneven_from uneven place (splits ++ split ∷ []) ≡ more_uneven (uneven_from uneven place splits) end split
 uneven-more [] uneven place end split e = let same : place ≡ end = omega arith in ap (λ (n : ℕ). more_uneven uneven n split) same
 uneven-more (first ∷ splits) uneven place end split e = uneven-more splits (more_uneven uneven place first) (suc place) end split (omega arith)
 
 -- what is added up over loops that are apart from a split
-total_apart : (place : ℕ) (of : LoopId) (f g : Loop → ℕ) (loops : List Loop) → ((own : Loop) → is_old place own.id ≡ true → same_id own.id of ≡ false → f own ≡ g own) → Apart place of loops → total f loops ≡ total g loops
+pub total_apart : (place : ℕ) (of : LoopId) (f g : Loop → ℕ) (loops : List Loop) → ((own : Loop) → is_old place own.id ≡ true → same_id own.id of ≡ false → f own ≡ g own) → Apart place of loops → total f loops ≡ total g loops
 total_apart place of f g [] same apart = refl
 total_apart place of f g (own ∷ loops) same apart = omega (arith, same own apart.0.0 apart.0.1, total_apart place of f g loops same apart.1)
 
 -- ---- one loop, and the two that it is split into
 
-times_sum : (s b i : ℕ) → s * (b + i) ≡ s * b + s * i
+pub times_sum : (s b i : ℕ) → s * (b + i) ≡ s * b + s * i
 times_sum s b i = omega arith
 
-times_factor : (s o f : ℕ) → s * (o * f) ≡ s * f * o
+pub times_factor : (s o f : ℕ) → s * (o * f) ≡ s * f * o
 times_factor s o f = omega arith
 
 reach_parts : (s e f r : ℕ) → 1 ≤ f → e ≤ r * f → s * (e - 1) ≤ s * f * (r - 1) + s * (f - 1)
@@ -90,7 +90,7 @@ begin_below : (tail : Tail) (factor extent outer : ℕ) → begin_of tail factor
 begin_below tails.Guard factor extent outer = omega arith
 begin_below tails.Shift factor extent outer = omega arith
 
-begin_guard : (tail : Tail) (factor extent outer : ℕ) → is_shift tail ≡ false → begin_of tail factor extent outer ≡ outer * factor
+pub begin_guard : (tail : Tail) (factor extent outer : ℕ) → is_shift tail ≡ false → begin_of tail factor extent outer ≡ outer * factor
 begin_guard tails.Guard factor extent outer e = refl
 begin_guard tails.Shift factor extent outer e = cc
 

@@ -1,17 +1,18 @@
 -- What holds of every stage that lines make, and of every one that is accepted.
 -- This project's own.
-use Rattle.std.specs.Prelude.{◌≡◌, ◌<◌, ◌++◌, ℕ, true, false, if◌then◌else◌, List, [], ◌∷◌, Contains, Option, Some, None}
+use Rattle.std.specs.Prelude.{◌≡◌, ◌<◌, ◌++◌, ℕ, ◌+◌, true, false, if◌then◌else◌, List, [], ◌∷◌, map, Contains, Option, Some, None}
 use Rattle.std.specs.List.{AllByRecursion}
 use Rattle.halide_pipeline.specs.declared.definitions.Func.{Func}
 use Rattle.halide_pipeline.specs.declared.definitions.Update.{Update}
 use Rattle.halide_pipeline.specs.declared.expressions.Variable.{Variable}
 use Rattle.schedule_lines.specs.declared.stages.Loop.{Loop}
 use Rattle.schedule_lines.specs.declared.stages.LoopId.TheVariants as ids
+use Rattle.schedule_lines.specs.declared.stages.Split.{Split}
 use Rattle.schedule_lines.specs.declared.stages.Stage.{Stage}
 use Rattle.stage_loops.specs.declared.extents.Extents.{Extents}
 use Rattle.stage_loops.specs.Counts.{Values, with, counts, extent_of, shifts_fit, AreSplits}
 use Rattle.stage_loops.specs.Iterations.{parallel, iteration, iteration_count, points_written, in_turn, IsOrder, HasOwner}
-use Rattle.stage_loops.specs.Reach.{AreTurns, has_uneven, wholes, IsReached}
+use Rattle.stage_loops.specs.Reach.{base, AreTurns, AgreeWhereUneven, has_uneven, wholes, IsReached}
 use Rattle.stage_loops.specs.Stages.{IsStageOf, KeepsRules, IsVisitOf, first_loops, has_variable, is_slice_of, points_of}
 use Rattle.stage_loops.specs.Visits.{Visit, nest, over_loops, zeros, upto, visit_of, visits, slice, rising}
 
@@ -77,3 +78,18 @@ VariablesAreReached = (func : Func) (update : Option Update) (extents : Extents)
     → stage.loops ≡ inside ++ outside → has_variable variable (first_loops func update) ≡ true → AreTurns (counts extents stage.splits) outside turns
     → AllByRecursion (λ whole. whole (ids.Whole variable) < extent_of extents variable) (wholes extents stage.splits inside turns)
     × (has_uneven stage.splits variable outside ≡ false → AllByRecursion (IsReached extents stage.splits variable inside outside turns) (wholes extents stage.splits inside turns))
+
+-- Where uneven loops are in the same turns, the values of a variable differ as the bases of all loops do: each turn of an even loop
+-- takes the variable its stride further.
+abbrev pub EvenLoopsStep : Type 0
+EvenLoopsStep = (func : Func) (update : Option Update) (extents : Extents) (stage : Stage) (variable : Variable) (one_turns other_turns one other : Values) → IsStageOf func update stage
+    → has_variable variable (first_loops func update) ≡ true
+    → AreTurns (counts extents stage.splits) stage.loops one_turns → AreTurns (counts extents stage.splits) stage.loops other_turns
+    → AgreeWhereUneven stage.splits stage.loops one_turns other_turns
+    → over_loops extents stage.splits (λ whole. whole ∷ []) one_turns ≡ one ∷ [] → over_loops extents stage.splits (λ whole. whole ∷ []) other_turns ≡ other ∷ []
+    → one (ids.Whole variable) + base stage.splits variable other_turns stage.loops ≡ other (ids.Whole variable) + base stage.splits variable one_turns stage.loops
+
+-- What loops visit is seen from the values of whole variables that they visit.
+abbrev pub VisitsAreOfWholes : Type 0
+VisitsAreOfWholes = (extents : Extents) (splits : List Split) (inside : List Loop) (turns : Values)
+    → nest (counts extents splits) inside (over_loops extents splits (λ whole. visit_of extents whole ∷ [])) turns ≡ map (visit_of extents) (wholes extents splits inside turns)

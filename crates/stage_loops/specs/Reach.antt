@@ -2,7 +2,7 @@
 -- inside can add. A loop adds its turn times its stride. Where an uneven loop over the variable is among those outside, it lies in its
 -- whole extent.
 -- This project's own.
-use Rattle.std.specs.Prelude.{◌<◌, ◌≤◌, ℕ, ◌+◌, ◌-◌, ◌*◌, Bool, false, ◌&&◌, ◌||◌, if◌then◌else◌, List, [], ◌∷◌}
+use Rattle.std.specs.Prelude.{◌≡◌, ◌<◌, ◌≤◌, ℕ, ◌+◌, ◌-◌, ◌*◌, Bool, true, false, ◌&&◌, ◌||◌, if◌then◌else◌, List, [], ◌∷◌}
 use Rattle.halide_pipeline.specs.declared.expressions.Variable.{Variable}
 use Rattle.halide_pipeline.specs.Expressions.{same_variable}
 use Rattle.schedule_lines.specs.declared.stages.Loop.{Loop}
@@ -39,3 +39,8 @@ wholes extents splits inside turns = nest (counts extents splits) inside (over_l
 pub record IsReached (extents : Extents) (splits : List Split) (variable : Variable) (inside outside : List Loop) (turns whole : Values) : Type 0 where
   pub low : base splits variable turns outside ≤ whole (ids.Whole variable)
   pub high : whole (ids.Whole variable) ≤ base splits variable turns outside + reach extents splits variable inside
+
+-- Two lists of turns are the same for uneven loops.
+abbrev pub AgreeWhereUneven : List Split → List Loop → Values → Values → Type 0
+AgreeWhereUneven splits [] one other = Unit {0}
+AgreeWhereUneven splits (own ∷ others) one other = (is_uneven splits own.id ≡ true → one own.id ≡ other own.id) × AgreeWhereUneven splits others one other

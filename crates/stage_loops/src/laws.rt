@@ -60,6 +60,16 @@ pub fn variables_are_reached()
     ensures { law.VariablesAreReached }
 {}
 
+/// A turn of a loop that is not uneven takes its variable its stride further.
+pub fn even_loops_step()
+    ensures { law.EvenLoopsStep }
+{}
+
+/// Visits are seen from the values of whole variables that loops visit.
+pub fn visits_are_of_wholes()
+    ensures { law.VisitsAreOfWholes }
+{}
+
 /// Worked rows: 5 values split by 4 under guard, 8 by 3 under shift, and an update with its argument inside.
 #[tactic(auto, unfolding(crate::specs::Visits::upto))]
 pub fn worked_rows()
