@@ -189,3 +189,6 @@ impl LoopSizes {
         }
     }
 }
+
+#[cfg(test)]
+mod tests;
