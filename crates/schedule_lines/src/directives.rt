@@ -107,7 +107,8 @@ fn is_known(loops: &[Loop], name: &[u8]) -> bool
     find(loops, name).is_some()
 }
 
-fn is_shift(tail: Tail) -> bool
+/// Whether the last round of a split begins earlier.
+pub fn is_shift(tail: Tail) -> bool
     ensures { result ≡ spec.is_shift tail }
 {
     matches!(tail, Tail::Shift)

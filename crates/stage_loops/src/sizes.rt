@@ -6,11 +6,11 @@ ghost use Rattle.stage_loops.specs.Counts as counts;
 ghost use Rattle.stage_loops.specs.Iterations.{iteration_count};
 ghost use Rattle.stage_loops.specs.Sizes as spec;
 ghost use Rattle.stage_loops.specs.inner.Table as table;
-ghost use Rattle.schedule_lines.specs.Directives.{is_shift};
 
 use crate::extents::Extents;
 use halide_pipeline::Variable;
-use schedule_lines::{LoopId, Split, Stage, Tail};
+use schedule_lines::directives::is_shift;
+use schedule_lines::{LoopId, Split, Stage};
 use sqlite_items::Items;
 use std::alloc::{AllocError, Global};
 use std::marker::Model;
@@ -53,16 +53,6 @@ impl Model for LoopSizes {
     ghost view = { λ s. record { extents = s.extents; splits = splits_of s.rows } };
 
     ghost invariant = { λ s. IsTable s.extents s.rows };
-}
-
-/// Whether a split is shifted.
-fn is_shift(tail: Tail) -> bool
-    ensures { result ≡ is_shift tail }
-{
-    match tail {
-        Tail::Guard => false,
-        Tail::Shift => true,
-    }
 }
 
 /// How often a factor goes into an extent, rounded up.
