@@ -4,10 +4,12 @@ pub mod Few
 pub mod FirstLoops
 pub mod Ids
 pub mod Linear
+pub mod Lists
 pub mod Making
 pub mod Nesting
 pub mod Order
 pub mod Parallel
+pub mod Reaching
 pub mod Resting
 pub mod Rising
 pub mod Selecting

@@ -1,14 +1,13 @@
 -- A table holds the sizes of the loops of its splits.
-use Rattle.std.proofs.Common.{◌≡◌, ℕ, zero, suc, ◌+◌, ◌-◌, ◌*◌, ◌^◌, ◌<◌, ◌≤◌, Bool, true, false, not, List, [], ◌∷◌, ◌++◌, length, get_or, take, drop, Some, None, refl, sym, ap, subst, ◌∙◌, arith, inl, inr, length-append}
+use Rattle.std.proofs.Common.{◌≡◌, ℕ, zero, suc, ◌+◌, ◌-◌, ◌*◌, ◌^◌, ◌<◌, ◌≤◌, Bool, true, false, not, List, [], ◌∷◌, ◌++◌, length, get_or, take, drop, None, refl, sym, ap, subst, ◌∙◌, arith, inl, inr, length-append}
 use Rattle.std.specs.Prelude.{◌&&◌, ◌||◌, nat_le, slice_get}
 use Rattle.std.specs.List.{AllByRecursion, list_all}
 use Rattle.std.specs.Int.{div_ceil}
-use Rattle.std.proofs.lemmas.Bool.{cases_eq, cases_lt, eq-eqb, ne_eqb}
+use Rattle.std.proofs.lemmas.Bool.{cases_eq, eq-eqb, ne_eqb}
 use Rattle.std.proofs.lemmas.Grind.{div_ceil_times}
 use Rattle.std.proofs.lemmas.List.{append-nil}
 use Rattle.std.proofs.lemmas.List.Folds.{list_all-append}
 use Rattle.std.proofs.lemmas.Nat.{mul-le}
-use Rattle.std.proofs.Math.Seq.{take-length}
 use Rattle.std.proofs.Math.Nat.{le-div_iff_mul-le, div-lt_iff_lt-mul}
 use Rattle.schedule_lines.specs.declared.stages.LoopId.{LoopId}
 use Rattle.schedule_lines.specs.declared.stages.LoopId.TheVariants as ids
@@ -18,8 +17,9 @@ use Rattle.stage_loops.specs.declared.extents.Extents.{Extents}
 use Rattle.stage_loops.specs.declared.sizes.LoopSize.{LoopSize}
 use Rattle.stage_loops.specs.declared.sizes.SizedSplit.{SizedSplit}
 use Rattle.stage_loops.specs.Counts.{Values, rounds, whole_counts, more_counts, counts_from, whole_strides, more_strides, strides_from, more_uneven, uneven_from, shift_fits, shifts_fit_from, IsFactor, AreSplits}
-use Rattle.stage_loops.specs.inner.Table.{looked_up, outer_of, inner_of, no_size, row_of, rows_from, splits_of, row_fits, IsTable, stride_limit, AreBounded}
+use Rattle.stage_loops.specs.inner.Table.{looked_up, outer_of, inner_of, no_size, row_of, rows_from, splits_of, row_fits, IsTable, IsKept, stride_limit, AreBounded}
 use Rattle.stage_loops.proofs.Linear.{even}
+use Rattle.stage_loops.proofs.Lists.{first_of_rest, get_last, get_other}
 
 -- ---- a quotient rounded up
 
@@ -32,26 +32,6 @@ ceiling a b some =
     let over : a + (b - 1) < suc (div_ceil a b) * b = omega (arith, t.0, e) in
     let high : rounds a b < suc (div_ceil a b) = (div-lt_iff_lt-mul {k = b} {x = a + (b - 1)} {y = suc (div_ceil a b)} some).1 over in
     omega (arith, low, high)
-
--- ---- places in a list with one more at its end
-
-pub get_last : {A : Type 0} (xs : List A) (x : A) → slice_get (xs ++ x ∷ []) (length xs) ≡ Some x
-get_last [] x = refl
-get_last (y ∷ xs) x = get_last xs x
-
-pub get_before : {A : Type 0} (xs : List A) (x : A) (i : ℕ) → i < length xs → slice_get (xs ++ x ∷ []) i ≡ slice_get xs i
-get_before [] x i l = absurd (omega arith)
-get_before (y ∷ xs) x zero l = refl
-get_before (y ∷ xs) x (suc i) l = get_before xs x i (omega arith)
-
-pub get_behind : {A : Type 0} (xs : List A) (x : A) (i : ℕ) → length xs < i → slice_get (xs ++ x ∷ []) i ≡ slice_get xs i
-get_behind [] x zero l = absurd (omega arith)
-get_behind [] x (suc i) l = refl
-get_behind (y ∷ xs) x zero l = absurd (omega arith)
-get_behind (y ∷ xs) x (suc i) l = get_behind xs x i (omega arith)
-
-pub get_other : {A : Type 0} (xs : List A) (x : A) (i : ℕ) → (length xs ≡ i → ⊥) → slice_get (xs ++ x ∷ []) i ≡ slice_get xs i
-get_other xs x i d = elim (cases_lt i (length xs)) [ inl l ↦ get_before xs x i l | inr g ↦ get_behind xs x i (omega (arith, d)) ]
 
 -- ---- each row
 
@@ -195,6 +175,29 @@ limit_below (suc (suc zero)) l = omega arith
 limit_below (suc (suc (suc zero))) l = omega arith
 limit_below (suc (suc (suc (suc n)))) l = absurd (omega arith)
 
+bounded_from : (splits : List Split) (extents : Extents) (rows : List SizedSplit) → AllByRecursion IsFactor splits → AreBounded extents rows → AreBounded extents (rows_from extents rows splits)
+bounded_from [] extents rows factors bounded = bounded
+bounded_from (split ∷ splits) extents rows factors bounded =
+    bounded_from splits extents (rows ++ row_of (looked_up extents rows split.of) split ∷ []) factors.1 (bounded_more extents rows bounded split factors.0.few)
+
+limit_most : (n : ℕ) → n ≤ 4 → stride_limit n ≤ 64 ^ 4
+limit_most zero l = omega arith
+limit_most (suc zero) l = omega arith
+limit_most (suc (suc zero)) l = omega arith
+limit_most (suc (suc (suc zero))) l = omega arith
+limit_most (suc (suc (suc (suc zero)))) l = omega arith
+limit_most (suc (suc (suc (suc (suc n))))) l = absurd (omega arith)
+
+length_splits : (rows : List SizedSplit) → length (splits_of rows) ≡ length rows
+length_splits [] = refl
+length_splits (first ∷ rows) = omega (arith, length_splits rows)
+
+-- each stride of a table is small
+pub few_strides : (extents : Extents) (rows : List SizedSplit) → IsKept extents rows → (id : LoopId) → (looked_up extents rows id).stride ≤ 64 ^ 4
+few_strides extents rows kept id =
+    let b : AreBounded extents rows = subst (AreBounded extents) kept.table (bounded_from (splits_of rows) extents [] kept.splits.factors (bounded_begun extents)) in
+    omega (arith, b id, limit_most (length rows) (omega (arith, length_splits rows, kept.splits.few)))
+
 -- ---- a loop that makes the table
 
 pub record RowsLeft (extents : Extents) (splits : List Split) (rows : List SizedSplit) (rest : List Split) : Type 0 where
@@ -220,12 +223,6 @@ one_more extents splits rows split rest left = record {
   few = omega (arith, left.few, length-append rows (row_of (looked_up extents rows split.of) split ∷ []));
   bounded = bounded_more extents rows left.bounded split left.factors.0.few;
 }
-
-first_of_rest : (rest : List Split) (other : Split) → 1 ≤ length rest → rest ≡ get_or rest 0 other ∷ take (length rest - 1) (drop 1 rest)
-first_of_rest [] other some = absurd (omega arith)
-first_of_rest (split ∷ rest) other some =
-    let e : suc (length rest) - 1 ≡ length rest = omega arith in
-    ap (λ (xs : List Split). split ∷ xs) (sym (ap (λ (n : ℕ). take n rest) e ∙ take-length rest))
 
 -- where a loop takes the first of the splits that are left
 module _ (extents : Extents) (splits : List Split) (rows : List SizedSplit) (rest : List Split) (other : Split) (some : 1 ≤ length rest) (left : RowsLeft extents splits rows rest) (seen : List SizedSplit) (size : LoopSize) (seen_is : seen ≡ rows)
@@ -254,5 +251,7 @@ module _ (extents : Extents) (splits : List Split) (rows : List SizedSplit) (res
 pub all_rows : (extents : Extents) (splits : List Split) (rows : List SizedSplit) → RowsLeft extents splits rows [] → splits_of rows ≡ splits
 all_rows extents splits rows left = sym (append-nil (splits_of rows)) ∙ left.all
 
-pub is_table : (extents : Extents) (splits : List Split) (rows : List SizedSplit) → RowsLeft extents splits rows [] → IsTable extents rows
-is_table extents splits rows left = ap (rows_from extents []) (all_rows extents splits rows left) ∙ sym left.made
+pub is_kept : (extents : Extents) (splits : List Split) (rows : List SizedSplit) → AreSplits splits → RowsLeft extents splits rows [] → IsKept extents rows
+is_kept extents splits rows are left =
+    let all : splits_of rows ≡ splits = all_rows extents splits rows left in
+    record { table = ap (rows_from extents []) all ∙ sym left.made; splits = subst AreSplits (sym all) are }

@@ -2,7 +2,8 @@
 -- inside can add. A loop adds its turn times its stride. Where an uneven loop over the variable is among those outside, it lies in its
 -- whole extent.
 -- This project's own.
-use Rattle.std.specs.Prelude.{◌≡◌, ◌<◌, ◌≤◌, ℕ, ◌+◌, ◌-◌, ◌*◌, Bool, true, false, ◌&&◌, ◌||◌, if◌then◌else◌, List, [], ◌∷◌}
+use Rattle.std.specs.Prelude.{◌≡◌, ◌<◌, ◌≤◌, ℕ, ◌+◌, ◌-◌, ◌*◌, Bool, true, ◌&&◌, if◌then◌else◌, List, [], ◌∷◌}
+use Rattle.std.specs.List.{list_any}
 use Rattle.halide_pipeline.specs.declared.expressions.Variable.{Variable}
 use Rattle.halide_pipeline.specs.Expressions.{same_variable}
 use Rattle.schedule_lines.specs.declared.stages.Loop.{Loop}
@@ -17,14 +18,17 @@ use Rattle.stage_loops.specs.Visits.{nest, over_loops}
 abbrev pub base : List Split → Variable → Values → List Loop → ℕ
 base splits variable turns loops = total (λ own. if same_variable own.variable variable then strides splits own.id * turns own.id else 0) loops
 
--- the most that loops over a variable can add
+-- the most that a loop can add to a variable
+abbrev pub most_added : Extents → List Split → Variable → Loop → ℕ
+most_added extents splits variable own = if same_variable own.variable variable then strides splits own.id * (counts extents splits own.id - 1) else 0
+
+-- the most that loops can
 abbrev pub reach : Extents → List Split → Variable → List Loop → ℕ
-reach extents splits variable loops = total (λ own. if same_variable own.variable variable then strides splits own.id * (counts extents splits own.id - 1) else 0) loops
+reach extents splits variable loops = total (most_added extents splits variable) loops
 
 -- One of the loops is an uneven one over the variable.
 abbrev pub has_uneven : List Split → Variable → List Loop → Bool
-has_uneven splits variable [] = false
-has_uneven splits variable (own ∷ others) = (same_variable own.variable variable && is_uneven splits own.id) || has_uneven splits variable others
+has_uneven splits variable loops = list_any (λ own. same_variable own.variable variable && is_uneven splits own.id) loops
 
 -- Each of the loops is in one of its turns.
 abbrev pub AreTurns : Values → List Loop → Values → Type 0

@@ -1,6 +1,7 @@
 -- The stages of a Func, and how many values each variable takes in one.
 -- This project's own.
-use Rattle.std.specs.Prelude.{◌≡◌, ◌<◌, ℕ, ◌*◌, Bool, true, false, ◌&&◌, ◌||◌, nat_lt, if◌then◌else◌, List, [], ◌∷◌, Option, Some, None, is_some}
+use Rattle.std.specs.Prelude.{◌≡◌, ◌<◌, ℕ, ◌*◌, Bool, true, ◌&&◌, nat_lt, if◌then◌else◌, List, Option, Some, None, is_some}
+use Rattle.std.specs.List.{list_any}
 use Rattle.halide_pipeline.specs.declared.definitions.Func.{Func}
 use Rattle.halide_pipeline.specs.declared.definitions.Update.{Update}
 use Rattle.halide_pipeline.specs.declared.expressions.Variable.{Variable}
@@ -31,8 +32,7 @@ KeepsRules stage = (at_root : Bool) × ((rule : LoopRule) → Keeps rule at_root
 
 -- One of the loops is over the variable.
 abbrev pub has_variable : Variable → List Loop → Bool
-has_variable variable [] = false
-has_variable variable (first ∷ others) = same_variable first.variable variable || has_variable variable others
+has_variable variable loops = list_any (λ own. same_variable own.variable variable) loops
 
 -- how many values the variable takes: 0 alone, where no loop is over it
 abbrev pub extent_in : Func → Option Update → Extents → Variable → ℕ

@@ -3,6 +3,7 @@
 //!
 //! - [`extents`]: how many values each variable takes.
 //! - [`sizes`]: turns and strides of the loops (`specs/Counts.antt`, `specs/Sizes.antt`).
+//! - [`reach`]: how far loops take a variable (`specs/Reach.antt`).
 //! - [`laws`]: what holds of every stage that lines make, and of every accepted one (`specs/Laws.antt`, over
 //!   `specs/Visits.antt`, `specs/Iterations.antt`, `specs/Reach.antt` and `specs/Stages.antt`).
 //!
@@ -12,6 +13,7 @@
 
 pub mod extents;
 pub mod laws;
+pub mod reach;
 pub mod sizes;
 
 pub use crate::extents::Extents;

@@ -46,13 +46,13 @@ pub struct LoopSizes {
 
 impl Model for LoopSizes {
     ghost use Rattle.stage_loops.specs.Sizes.{SizedLoops};
-    ghost use Rattle.stage_loops.specs.inner.Table.{splits_of, IsTable};
+    ghost use Rattle.stage_loops.specs.inner.Table.{splits_of, IsKept};
 
     ghost Value = { SizedLoops };
 
     ghost view = { λ s. record { extents = s.extents; splits = splits_of s.rows } };
 
-    ghost invariant = { λ s. IsTable s.extents s.rows };
+    ghost invariant = { λ s. IsKept s.extents s.rows };
 }
 
 /// How often a factor goes into an extent, rounded up.
@@ -156,7 +156,8 @@ impl LoopSizes {
 
     /// The size of a loop; no turn, and no stride, where the splits leave none of this identity.
     pub fn size(&self, id: LoopId) -> LoopSize
-        ensures { result ≡ spec.size self.now id }
+        ensures is { result ≡ spec.size self.now id }
+        ensures few { result.stride ≤ 64 ^ 4 }
     {
         size_in(self.extents, self.rows.as_slice(), id)
     }

@@ -9,7 +9,7 @@ use Rattle.schedule_lines.specs.Directives.{is_shift}
 use Rattle.stage_loops.specs.declared.extents.Extents.{Extents}
 use Rattle.stage_loops.specs.declared.sizes.LoopSize.{LoopSize}
 use Rattle.stage_loops.specs.declared.sizes.SizedSplit.{SizedSplit}
-use Rattle.stage_loops.specs.Counts.{extent_of, rounds}
+use Rattle.stage_loops.specs.Counts.{extent_of, rounds, AreSplits}
 
 abbrev pub whole_size : Extents → Variable → LoopSize
 whole_size extents variable = record { count = extent_of extents variable; stride = 1; is_uneven = false }
@@ -55,6 +55,11 @@ splits_of rows = map split_of rows
 -- The table is the one of its splits.
 abbrev pub IsTable : Extents → List SizedSplit → Type 0
 IsTable extents rows = rows_from extents [] (splits_of rows) ≡ rows
+
+-- what every table keeps
+pub record IsKept (extents : Extents) (rows : List SizedSplit) : Type 0 where
+  pub table : IsTable extents rows
+  pub splits : AreSplits (splits_of rows)
 
 -- the most that a stride is behind so many splits
 abbrev pub stride_limit : ℕ → ℕ

@@ -9,4 +9,4 @@ use Rattle.stage_loops.proofs.sizes.LoopSizes.shifts_fit.Goals as goal
 pub returns : goal.returns
 returns c =
     c.all_fit.ensures ∙ ap (list_all row_fits) c.as_slice.ensures
-    ∙ table_fits c.self.inside.extents c.self.inside.rows c.self.invariant ∙ ap (λ (s : spec.SizedLoops). shifts_fit s.extents s.splits) c.self.view_is
+    ∙ table_fits c.self.inside.extents c.self.inside.rows c.self.invariant.table ∙ ap (λ (s : spec.SizedLoops). shifts_fit s.extents s.splits) c.self.view_is
