@@ -1,3 +1,4 @@
+pub mod AcceptedStages
 pub mod Bounded
 pub mod Covering
 pub mod Few

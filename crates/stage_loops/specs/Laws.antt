@@ -1,6 +1,6 @@
 -- What holds of every stage that lines make, and of every one that is accepted.
 -- This project's own.
-use Rattle.std.specs.Prelude.{◌≡◌, ◌<◌, ◌++◌, ℕ, ◌+◌, true, false, if◌then◌else◌, List, [], ◌∷◌, map, Contains, Option, Some, None}
+use Rattle.std.specs.Prelude.{◌≡◌, ◌<◌, ◌++◌, ℕ, ◌+◌, true, false, if◌then◌else◌, List, [], ◌∷◌, map, Contains, slice_get, Option, Some, None}
 use Rattle.std.specs.List.{AllByRecursion}
 use Rattle.halide_pipeline.specs.declared.definitions.Func.{Func}
 use Rattle.halide_pipeline.specs.declared.definitions.Update.{Update}
@@ -9,12 +9,22 @@ use Rattle.schedule_lines.specs.declared.stages.Loop.{Loop}
 use Rattle.schedule_lines.specs.declared.stages.LoopId.TheVariants as ids
 use Rattle.schedule_lines.specs.declared.stages.Split.{Split}
 use Rattle.schedule_lines.specs.declared.stages.Stage.{Stage}
+use Rattle.schedule.specs.declared.plans.FuncPlan.{FuncPlan}
+use Rattle.schedule.specs.declared.standings.Standing.{Standing}
+use Rattle.schedule.specs.Accepted.{IsPlan, IsLegal}
 use Rattle.stage_loops.specs.declared.extents.Extents.{Extents}
 use Rattle.stage_loops.specs.Counts.{Values, with, counts, extent_of, shifts_fit, AreSplits}
 use Rattle.stage_loops.specs.Iterations.{parallel, iteration, iteration_count, points_written, in_turn, IsOrder, HasOwner}
 use Rattle.stage_loops.specs.Reach.{base, AreTurns, AgreeWhereUneven, has_uneven, wholes, IsReached}
 use Rattle.stage_loops.specs.Stages.{IsStageOf, KeepsRules, IsVisitOf, first_loops, has_variable, is_slice_of, points_of}
 use Rattle.stage_loops.specs.Visits.{Visit, nest, over_loops, zeros, upto, visit_of, visits, slice, rising}
+
+-- Where the output reaches a Func, an accepted schedule has such stages for its pure definition and for each of its updates.
+abbrev pub AcceptedStages : Type 0
+AcceptedStages = (func : Func) (plan : FuncPlan) (own : Standing) → IsPlan func plan → IsLegal plan own → own.is_reached ≡ true
+    → (IsStageOf func None plan.pure × KeepsRules plan.pure)
+    × ((at : ℕ) (update : Update) (stage : Stage) → slice_get func.updates at ≡ Some update → slice_get plan.updates at ≡ Some stage
+    → IsStageOf func (Some update) stage × KeepsRules stage)
 
 -- The splits of a stage are few, and their factors small.
 abbrev pub StagesHaveFewSplits : Type 0

@@ -7,6 +7,11 @@ ghost use Rattle.stage_loops.specs.Visits.{visits};
 
 use schedule_lines::Tail;
 
+/// An accepted schedule gives what the laws ask of stages.
+pub fn accepted_stages()
+    ensures { law.AcceptedStages }
+{}
+
 /// A stage that lines make of its first loops has at most 4 splits, by factors of 1 to 64.
 pub fn stages_have_few_splits()
     ensures { law.StagesHaveFewSplits }
