@@ -38,7 +38,7 @@ has_variable variable loops = list_any (λ own. same_variable own.variable varia
 abbrev pub extent_in : Func → Option Update → Extents → Variable → ℕ
 extent_in func update extents variable = if has_variable variable (first_loops func update) then extent_of extents variable else 1
 
--- how many reduction points a slice goes through, all of them if it is there
+-- how many reduction points each slice goes through; of a pure definition, the one point
 abbrev pub points_of : Func → Option Update → Extents → ℕ
 points_of func update extents = extent_in func update extents variables.SecondReduction * extent_in func update extents variables.FirstReduction
 
