@@ -28,34 +28,41 @@ AcceptedStages = (func : Func) (plan : FuncPlan) (own : Standing) → IsPlan fun
 
 -- The splits of a stage are few, and their factors small.
 abbrev pub StagesHaveFewSplits : Type 0
-StagesHaveFewSplits = (func : Func) (update : Option Update) (stage : Stage) → IsStageOf func update stage → AreSplits stage.splits
+StagesHaveFewSplits = (func : Func) (update : Option Update) (stage : Stage)
+    → IsStageOf func update stage → AreSplits stage.splits
 
 -- Each visit of a stage is one of its slices and reduction points.
 abbrev pub VisitsLieWithin : Type 0
-VisitsLieWithin = (func : Func) (update : Option Update) (extents : Extents) (stage : Stage) → IsStageOf func update stage
+VisitsLieWithin = (func : Func) (update : Option Update) (extents : Extents) (stage : Stage)
+    → IsStageOf func update stage
     → AllByRecursion (IsVisitOf func update extents) (visits extents stage)
 
 -- Whatever lines make of an update, each slice that there is sees all its reduction points, once each and in rising order, and no other
 -- does.
 abbrev pub UpdatesKeepTheirOrder : Type 0
-UpdatesKeepTheirOrder = (func : Func) (update : Update) (extents : Extents) (stage : Stage) → IsStageOf func (Some update) stage
+UpdatesKeepTheirOrder = (func : Func) (update : Update) (extents : Extents) (stage : Stage)
+    → IsStageOf func (Some update) stage
     → (x y : ℕ)
-    → slice x y (visits extents stage) ≡ rising x y 0 (if is_slice_of func (Some update) extents x y then points_of func (Some update) extents else 0)
+    → slice x y (visits extents stage)
+    ≡ rising x y 0 (if is_slice_of func (Some update) extents x y then points_of func (Some update) extents else 0)
 
 -- A pure definition is visited at each point of its box, if each shifted split has a whole round.
 abbrev pub PureStagesCover : Type 0
-PureStagesCover = (func : Func) (extents : Extents) (stage : Stage) → IsStageOf func None stage → shifts_fit extents stage.splits ≡ true
+PureStagesCover = (func : Func) (extents : Extents) (stage : Stage)
+    → IsStageOf func None stage → shifts_fit extents stage.splits ≡ true
     → (x y : ℕ) → is_slice_of func None extents x y ≡ true
     → Contains (visits extents stage) (record { x = x; y = y; number = 0 })
 
 -- The iterations of an accepted stage in rising order are all that it visits.
 abbrev pub IterationsAreAll : Type 0
-IterationsAreAll = (func : Func) (update : Option Update) (extents : Extents) (stage : Stage) → IsStageOf func update stage → KeepsRules stage
+IterationsAreAll = (func : Func) (update : Option Update) (extents : Extents) (stage : Stage)
+    → IsStageOf func update stage → KeepsRules stage
     → visits extents stage ≡ upto (iteration_count extents stage) (iteration extents stage)
 
 -- An iteration is what the loops inside the parallel one list in a turn of that.
 abbrev pub IterationsAreTurns : Type 0
-IterationsAreTurns = (func : Func) (update : Option Update) (extents : Extents) (stage : Stage) (inside : List Loop) (own : Loop) → IsStageOf func update stage
+IterationsAreTurns = (func : Func) (update : Option Update) (extents : Extents) (stage : Stage) (inside : List Loop) (own : Loop)
+    → IsStageOf func update stage
     → stage.loops ≡ inside ++ own ∷ [] → parallel stage ≡ Some own
     → (number : ℕ) → number < counts extents stage.splits own.id
     → iteration extents stage number
@@ -63,43 +70,57 @@ IterationsAreTurns = (func : Func) (update : Option Update) (extents : Extents) 
 
 -- Each slice belongs to one iteration: so iterations of a pure definition visit points apart, and those of an update slices apart.
 abbrev pub IterationsAreApart : Type 0
-IterationsAreApart = (func : Func) (update : Option Update) (extents : Extents) (stage : Stage) → IsStageOf func update stage → KeepsRules stage
-    → (x y : ℕ) → is_slice_of func update extents x y ≡ true → HasOwner (iteration_count extents stage) (iteration extents stage) x y
+IterationsAreApart = (func : Func) (update : Option Update) (extents : Extents) (stage : Stage)
+    → IsStageOf func update stage → KeepsRules stage
+    → (x y : ℕ) → is_slice_of func update extents x y ≡ true
+    → HasOwner (iteration_count extents stage) (iteration extents stage) x y
 
 -- Iterations write points apart, where the left side names points apart at visits of slices apart, as a pure definition's does.
 abbrev pub IterationsWriteApart : Type 0
-IterationsWriteApart = (func : Func) (update : Option Update) (extents : Extents) (stage : Stage) → IsStageOf func update stage → KeepsRules stage
+IterationsWriteApart = (func : Func) (update : Option Update) (extents : Extents) (stage : Stage)
+    → IsStageOf func update stage → KeepsRules stage
     → (left : Visit → ℕ × ℕ)
-    → ((one other : Visit) → IsVisitOf func update extents one → IsVisitOf func update extents other → left one ≡ left other → (one.x ≡ other.x) × (one.y ≡ other.y))
+    → ((one other : Visit) → IsVisitOf func update extents one → IsVisitOf func update extents other
+    → left one ≡ left other → (one.x ≡ other.x) × (one.y ≡ other.y))
     → (first second : ℕ) → first < iteration_count extents stage → second < iteration_count extents stage
-    → (point : ℕ × ℕ) → Contains (points_written left extents stage first) point → Contains (points_written left extents stage second) point
+    → (point : ℕ × ℕ)
+    → Contains (points_written left extents stage first) point → Contains (points_written left extents stage second) point
     → first ≡ second
 
 -- In whatever order the iterations are done, each slice sees what it sees in rising order.
 abbrev pub IterationsInAnyOrder : Type 0
-IterationsInAnyOrder = (func : Func) (update : Option Update) (extents : Extents) (stage : Stage) → IsStageOf func update stage → KeepsRules stage
+IterationsInAnyOrder = (func : Func) (update : Option Update) (extents : Extents) (stage : Stage)
+    → IsStageOf func update stage → KeepsRules stage
     → (order : List ℕ) → IsOrder (iteration_count extents stage) order
     → (x y : ℕ) → slice x y (in_turn (iteration extents stage) order) ≡ slice x y (visits extents stage)
 
 -- While the loops outside are in given turns, those inside visit values of a variable that lie in its extent; and between a base and
 -- what the loops inside can add to it, unless an uneven loop is among those outside.
 abbrev pub VariablesAreReached : Type 0
-VariablesAreReached = (func : Func) (update : Option Update) (extents : Extents) (stage : Stage) (inside outside : List Loop) (variable : Variable) (turns : Values) → IsStageOf func update stage
-    → stage.loops ≡ inside ++ outside → has_variable variable (first_loops func update) ≡ true → AreTurns (counts extents stage.splits) outside turns
+VariablesAreReached = (func : Func) (update : Option Update) (extents : Extents) (stage : Stage) (inside outside : List Loop) (variable : Variable) (turns : Values)
+    → IsStageOf func update stage
+    → stage.loops ≡ inside ++ outside → has_variable variable (first_loops func update) ≡ true
+    → AreTurns (counts extents stage.splits) outside turns
     → AllByRecursion (λ whole. whole (ids.Whole variable) < extent_of extents variable) (wholes extents stage.splits inside turns)
-    × (has_uneven stage.splits variable outside ≡ false → AllByRecursion (IsReached extents stage.splits variable inside outside turns) (wholes extents stage.splits inside turns))
+    × (has_uneven stage.splits variable outside ≡ false
+    → AllByRecursion (IsReached extents stage.splits variable inside outside turns) (wholes extents stage.splits inside turns))
 
 -- Where uneven loops are in the same turns, the values of a variable differ as the bases of all loops do: each turn of an even loop
 -- takes the variable its stride further.
 abbrev pub EvenLoopsStep : Type 0
-EvenLoopsStep = (func : Func) (update : Option Update) (extents : Extents) (stage : Stage) (variable : Variable) (one_turns other_turns one other : Values) → IsStageOf func update stage
+EvenLoopsStep = (func : Func) (update : Option Update) (extents : Extents) (stage : Stage) (variable : Variable) (one_turns other_turns one other : Values)
+    → IsStageOf func update stage
     → has_variable variable (first_loops func update) ≡ true
-    → AreTurns (counts extents stage.splits) stage.loops one_turns → AreTurns (counts extents stage.splits) stage.loops other_turns
+    → AreTurns (counts extents stage.splits) stage.loops one_turns
+    → AreTurns (counts extents stage.splits) stage.loops other_turns
     → AgreeWhereUneven stage.splits stage.loops one_turns other_turns
-    → over_loops extents stage.splits (λ whole. whole ∷ []) one_turns ≡ one ∷ [] → over_loops extents stage.splits (λ whole. whole ∷ []) other_turns ≡ other ∷ []
-    → one (ids.Whole variable) + base stage.splits variable other_turns stage.loops ≡ other (ids.Whole variable) + base stage.splits variable one_turns stage.loops
+    → over_loops extents stage.splits (λ whole. whole ∷ []) one_turns ≡ one ∷ []
+    → over_loops extents stage.splits (λ whole. whole ∷ []) other_turns ≡ other ∷ []
+    → one (ids.Whole variable) + base stage.splits variable other_turns stage.loops
+    ≡ other (ids.Whole variable) + base stage.splits variable one_turns stage.loops
 
 -- What loops visit is seen from the values of whole variables that they visit.
 abbrev pub VisitsAreOfWholes : Type 0
 VisitsAreOfWholes = (extents : Extents) (splits : List Split) (inside : List Loop) (turns : Values)
-    → nest (counts extents splits) inside (over_loops extents splits (λ whole. visit_of extents whole ∷ [])) turns ≡ map (visit_of extents) (wholes extents splits inside turns)
+    → nest (counts extents splits) inside (over_loops extents splits (λ whole. visit_of extents whole ∷ [])) turns
+    ≡ map (visit_of extents) (wholes extents splits inside turns)
