@@ -1,0 +1,3 @@
+pub mod Folds
+pub mod Seeing
+pub mod Tracing

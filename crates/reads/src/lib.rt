@@ -1,0 +1,7 @@
+//! Which points a pixel reads, and that it depends on nothing else.
+//!
+//! - `specs/Points.antt`: **the points that an expression reads, and a pixel**, with all that these read in turn.
+//! - [`laws`]: values and pixels depend on these points alone.
+#![tactic(auto)]
+
+pub mod laws;
