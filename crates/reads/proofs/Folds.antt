@@ -3,20 +3,9 @@ use Rattle.std.proofs.Common.{◌≡◌, sym, subst}
 use Rattle.halide_pipeline.specs.declared.expressions.Expr.{Expr, fold-Expr, ind-Expr, fold-roll-Expr, roll-Expr, map-Expr}
 use Rattle.halide_pipeline.specs.declared.expressions.Expr.TheOpen.{Expr-F}
 use Rattle.halide_pipeline.specs.declared.expressions.Expr.TheOpen as layer
+use Rattle.reads.specs.Levels.{Both, left_of, right_of}
 
 module _ {A B : Type 0} (R : A → B → Type 0) where
-  -- what is made of a part on both sides
-  pub record Both : Type 0 where
-    pub left : A
-    pub right : B
-    pub is : R left right
-
-  abbrev pub left_of : Expr-F Both → Expr-F A
-  left_of y = map-Expr Both A (λ p. p.left) y
-
-  abbrev pub right_of : Expr-F Both → Expr-F B
-  right_of y = map-Expr Both B (λ p. p.right) y
-
   module _ (f : Expr-F A → A) (g : Expr-F B → B) where
     abbrev of_f : Expr → A
     of_f e = fold-Expr A f e
@@ -28,13 +17,13 @@ module _ {A B : Type 0} (R : A → B → Type 0) where
     rolled : (y : Expr-F Expr) (a : A) (b : B) → of_f (roll-Expr y) ≡ a → of_g (roll-Expr y) ≡ b → R a b → R (of_f (roll-Expr y)) (of_g (roll-Expr y))
     rolled y a b ea eb r = subst (λ (x : A). R x (of_g (roll-Expr y))) (sym ea) (subst (λ (x : B). R a x) (sym eb) r)
 
-    level : (y : Expr-F Expr) (pairs : Expr-F Both) → of_f (roll-Expr y) ≡ f (left_of pairs) → of_g (roll-Expr y) ≡ g (right_of pairs) → R (f (left_of pairs)) (g (right_of pairs)) → R (of_f (roll-Expr y)) (of_g (roll-Expr y))
-    level y pairs ea eb r = rolled y (f (left_of pairs)) (g (right_of pairs)) ea eb r
+    level : (y : Expr-F Expr) (pairs : Expr-F (Both R)) → of_f (roll-Expr y) ≡ f (left_of R pairs) → of_g (roll-Expr y) ≡ g (right_of R pairs) → R (f (left_of R pairs)) (g (right_of R pairs)) → R (of_f (roll-Expr y)) (of_g (roll-Expr y))
+    level y pairs ea eb r = rolled y (f (left_of R pairs)) (g (right_of R pairs)) ea eb r
 
-    abbrev both : (e : Expr) → R (of_f e) (of_g e) → Both
+    abbrev both : (e : Expr) → R (of_f e) (of_g e) → Both R
     both e is = record { left = of_f e; right = of_g e; is = is }
 
-    module _ (levels : (y : Expr-F Both) → R (f (left_of y)) (g (right_of y))) where
+    module _ (levels : (y : Expr-F (Both R)) → R (f (left_of R y)) (g (right_of R y))) where
       abbrev Holds : Expr → Type 0
       Holds e = R (of_f e) (of_g e)
 

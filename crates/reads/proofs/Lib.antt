@@ -1,3 +1,4 @@
 pub mod Folds
 pub mod Seeing
 pub mod Tracing
+pub mod Earlier

@@ -8,7 +8,8 @@ use Rattle.halide_pipeline.specs.Words as word
 use Rattle.halide_meaning.specs.declared.environments.Environment.{Environment}
 use Rattle.halide_meaning.specs.Pixel.{Reads, value, value_at}
 use Rattle.reads.specs.Points.{Seen, seen, seen_at, AgreeAt, Agree, SeesValues, ValuesDependOnReads}
-use Rattle.reads.proofs.Folds.{Both, left_of, right_of, folds_related}
+use Rattle.reads.specs.Levels.{Both, left_of, right_of}
+use Rattle.reads.proofs.Folds.{folds_related}
 
 -- all of two lists
 pub all_parts : {A : Type 0} (P : A → Type 0) (xs ys : List A) → AllByRecursion P (xs ++ ys) → AllByRecursion P xs × AllByRecursion P ys
@@ -20,10 +21,10 @@ all_both P [] ys some others = others
 all_both P (x ∷ xs) ys some others = (some.0, all_both P xs ys some.1 others)
 
 module _ (reads : Reads) (environment : Environment) where
-  abbrev SameValue : Seen → ℕ → Type 0
+  abbrev pub SameValue : Seen → ℕ → Type 0
   SameValue s v = s.value ≡ v
 
-  same_at : (y : Expr-F (Both SameValue)) → SameValue (seen_at reads environment (left_of SameValue y)) (value_at reads environment (right_of SameValue y))
+  pub same_at : (y : Expr-F (Both SameValue)) → SameValue (seen_at reads environment (left_of SameValue y)) (value_at reads environment (right_of SameValue y))
   same_at (layer.Number n) = refl
   same_at (layer.Variable v) = refl
   same_at (layer.Binary op a b) = ap (λ (x : ℕ). word.applied op x b.left.value) a.is ∙ ap (λ (x : ℕ). word.applied op a.right x) b.is
@@ -35,10 +36,10 @@ module _ (reads : Reads) (environment : Environment) where
   same_at (layer.Call2 s a b) = ap (λ (x : ℕ). reads s x b.left.value) a.is ∙ ap (λ (x : ℕ). reads s a.right x) b.is
 
   module _ (other : Reads) where
-    abbrev Matches : Seen → ℕ → Type 0
+    abbrev pub Matches : Seen → ℕ → Type 0
     Matches s v = Agree reads other s.points → v ≡ s.value
 
-    matches_at : (y : Expr-F (Both Matches)) → Matches (seen_at reads environment (left_of Matches y)) (value_at other environment (right_of Matches y))
+    pub matches_at : (y : Expr-F (Both Matches)) → Matches (seen_at reads environment (left_of Matches y)) (value_at other environment (right_of Matches y))
     matches_at (layer.Number n) agree = refl
     matches_at (layer.Variable v) agree = refl
     matches_at (layer.Binary op a b) agree =

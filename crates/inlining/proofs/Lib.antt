@@ -1,0 +1,5 @@
+pub mod KeptFolds
+pub mod Through
+pub mod Kept
+pub mod Pixels
+pub mod Seeing

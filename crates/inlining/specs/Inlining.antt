@@ -1,0 +1,94 @@
+-- What is made of an expression through its inlined Funcs: a call of one is answered by what is made of that Func's
+-- pure definition, where its arguments stand for what is made of those of the call.
+-- This project's own.
+use Rattle.std.specs.Prelude.{ℕ, zero, suc, ◌==◌, ◌&&◌, Bool, true, false, not, if◌then◌else◌, List, Option, Some, None, slice_get}
+use Rattle.halide_pipeline.specs.declared.definitions.Func.{Func}
+use Rattle.halide_pipeline.specs.declared.expressions.Expr.{Expr, fold-Expr}
+use Rattle.halide_pipeline.specs.declared.expressions.Expr.TheOpen.{Expr-F}
+use Rattle.halide_pipeline.specs.declared.expressions.Expr.TheOpen as layer
+use Rattle.halide_pipeline.specs.declared.expressions.Source.{Source}
+use Rattle.halide_pipeline.specs.declared.expressions.Source.TheVariants as sources
+use Rattle.halide_pipeline.specs.declared.expressions.Variable.{Variable}
+use Rattle.halide_pipeline.specs.declared.expressions.Variable.TheVariants as variables
+
+pub record Algebra (A : Type 0) : Type 0 where
+  -- what is made of a level from what is made of its parts
+  pub level : Expr-F A → A
+  -- what is made of a call of an inlined Func, from what is made of its definition, of the first argument, and of the
+  -- second one where there are two
+  pub call : Func → A → A → Option A → A
+
+-- what stands for an argument that isn't there
+abbrev pub none : {A : Type 0} → Algebra A → A
+none algebra = algebra.level (layer.Number 0)
+
+abbrev pub second_of : {A : Type 0} → A → Option A → A
+second_of missing None = missing
+second_of missing (Some y) = y
+
+-- what stands for the variables of a pure definition
+abbrev pub arguments : {A : Type 0} → A → A → A → Variable → A
+arguments other x y variables.FirstArgument = x
+arguments other x y variables.SecondArgument = y
+arguments other x y variables.FirstReduction = other
+arguments other x y variables.SecondReduction = other
+
+-- what answers calls of the Func at each place, where that is inlined
+abbrev pub Inside : Type 0 → Type 0
+Inside A = ℕ → Option (A → Option A → A)
+
+abbrev pub answer : {A : Type 0} → Inside A → Source → Option (A → Option A → A)
+answer inside (sources.Input place) = None
+answer inside (sources.Func place) = inside place
+
+-- a call that isn't inlined is the other
+abbrev pub answered : {A : Type 0} → A → A → Option A → Option (A → Option A → A) → A
+answered other x y None = other
+answered other x y (Some inlined) = inlined x y
+
+abbrev pub through_at : {A : Type 0} → Algebra A → Inside A → (Variable → A) → Expr-F A → A
+through_at algebra inside variables (layer.Number n) = algebra.level (layer.Number n)
+through_at algebra inside variables (layer.Variable v) = variables v
+through_at algebra inside variables (layer.Binary op a b) = algebra.level (layer.Binary op a b)
+through_at algebra inside variables (layer.Divide a c) = algebra.level (layer.Divide a c)
+through_at algebra inside variables (layer.Remainder a c) = algebra.level (layer.Remainder a c)
+through_at algebra inside variables (layer.Select c a b) = algebra.level (layer.Select c a b)
+through_at algebra inside variables (layer.Call1 s x) = answered (algebra.level (layer.Call1 s x)) x None (answer inside s)
+through_at algebra inside variables (layer.Call2 s x y) = answered (algebra.level (layer.Call2 s x y)) x (Some y) (answer inside s)
+
+-- what is made of an expression, where its variables stand for these
+unfoldable pub through : {A : Type 0} → Algebra A → Inside A → (Variable → A) → Expr → A
+through {A} algebra inside variables e = fold-Expr A (through_at algebra inside variables) e
+
+abbrev pub made_of : {A : Type 0} → Algebra A → Inside A → Func → A → Option A → A
+made_of algebra inside func x y = algebra.call func (through algebra inside (arguments (none algebra) x (second_of (none algebra) y)) func.pure) x y
+
+abbrev pub made_in : {A : Type 0} → Algebra A → Inside A → Option Func → Option (A → Option A → A)
+made_in algebra inside None = None
+made_in algebra inside (Some func) = Some (made_of algebra inside func)
+
+-- the first so many Funcs, of which these are inlined
+unfoldable pub inside : {A : Type 0} → Algebra A → (ℕ → Bool) → List Func → ℕ → Inside A
+inside algebra is_inlined funcs zero place = None
+inside algebra is_inlined funcs (suc count) place =
+    if is_inlined place && place == count then made_in algebra (inside algebra is_inlined funcs count) (slice_get funcs count)
+    else inside algebra is_inlined funcs count place
+
+-- what is made of an expression that calls the first so many Funcs
+abbrev pub inlined : {A : Type 0} → Algebra A → (ℕ → Bool) → List Func → ℕ → (Variable → A) → Expr → A
+inlined algebra is_inlined funcs count variables e = through algebra (inside algebra is_inlined funcs count) variables e
+
+-- ---- which Funcs are inlined
+
+abbrev pub flag_of : Option Bool → Bool
+flag_of None = false
+flag_of (Some own) = own
+
+-- the Funcs whose flags are set
+abbrev pub flagged : List Bool → ℕ → Bool
+flagged flags place = flag_of (slice_get flags place)
+
+-- an input, or a Func that isn't inlined
+abbrev pub is_computed : (ℕ → Bool) → Source → Bool
+is_computed is_inlined (sources.Input place) = true
+is_computed is_inlined (sources.Func place) = not (is_inlined place)

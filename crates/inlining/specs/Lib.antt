@@ -1,0 +1,4 @@
+pub mod Inlining
+pub mod Values
+pub mod Weights
+pub mod Laws
