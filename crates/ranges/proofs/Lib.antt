@@ -1,0 +1,5 @@
+pub mod Sums
+pub mod Lying
+pub mod Division
+pub mod Products
+pub mod Operations

@@ -1,0 +1,162 @@
+-- The value of an expression lies in its range.
+use Rattle.std.proofs.Common.{◌≡◌, ℕ, ◌+◌, ◌-◌, ◌%◌, ◌^◌, ◌<◌, ◌≤◌, Bool, true, false, not, cond, List, ◌==◌, refl, arith, inl, inr}
+use Rattle.std.specs.Prelude.{nat_le, min, max}
+use Rattle.std.proofs.lemmas.Bool.{lt-ltb, le-ltb, leb-true, cases_lt, and_parts}
+use Rattle.halide_pipeline.specs.declared.expressions.Expr.TheOpen.{Expr-F}
+use Rattle.halide_pipeline.specs.declared.expressions.Expr.TheOpen as layer
+use Rattle.halide_pipeline.specs.declared.expressions.Operation.{Operation}
+use Rattle.halide_pipeline.specs.declared.expressions.Operation.TheVariants as op
+use Rattle.halide_pipeline.specs.declared.expressions.Source.{Source}
+use Rattle.halide_pipeline.specs.Words.{add, subtract, less, truth, minimum, maximum, applied}
+use Rattle.halide_meaning.specs.Pixel.{Reads}
+use Rattle.inlining.specs.Laws.{RelatesLevels, RelatesCalls}
+use Rattle.inlining.specs.Values as spec
+use Rattle.inlining.proofs.Kept.{folds_are_related}
+use Rattle.ranges.specs.declared.ranges.CommonBase.{CommonBase}
+use Rattle.ranges.specs.declared.ranges.Ends.{Ends}
+use Rattle.ranges.specs.declared.ranges.Range.{Range}
+use Rattle.ranges.specs.Bases.{no_base, add_base, negated, same_base, more_sum, less_sum}
+use Rattle.ranges.specs.Ranges.{origin, least, greatest, spot, ends_of, fit, widened, added, subtracted, aligned, together, lesser, greater, hull, truths, operated}
+use Rattle.ranges.specs.Expressions.{ranging}
+use Rattle.ranges.specs.Laws.{Below, Lies, ValuesLie}
+use Rattle.ranges.proofs.Sums.{more_below, less_below, add_sums, negated_more, negated_less, negated_small, same_sums}
+use Rattle.ranges.proofs.Lying.{between_lies, every_lies, small_of, widened_stands, fit_lies, plain_lies}
+use Rattle.ranges.proofs.Products.{multiplied_lies}
+use Rattle.ranges.proofs.Division.{divided_lies, remainder_lies}
+
+-- sums of signed words that stay signed words
+sum_between : (x y al bl ah bh am an bm bn m n : ℕ) → x < 2 ^ 32 → y < 2 ^ 32
+    → al + am ≤ spot x + an → bl + bm ≤ spot y + bn → spot x + an ≤ ah + am → spot y + bn ≤ bh + bm
+    → least + n ≤ al + bl - origin → ah + bh - origin + m ≤ greatest → m + (an + bn) ≡ n + (am + bm) → least ≤ al → least ≤ bl
+    → (al + bl - origin + m ≤ spot ((x + y) % 2 ^ 32) + n) × (spot ((x + y) % 2 ^ 32) + n ≤ ah + bh - origin + m)
+sum_between x y al bl ah bh am an bm bn m n wx wy lx ly hx hy fl fh e a b =
+    let s : spot ((x + y) % 2 ^ 32) + origin ≡ spot x + spot y = omega arith in
+    (omega (arith, s), omega (arith, s))
+
+-- differences of signed words that stay signed words
+difference_between : (x y al bl ah bh am an bm bn m n : ℕ) → x < 2 ^ 32 → y < 2 ^ 32
+    → al + am ≤ spot x + an → bl + bm ≤ spot y + bn → spot x + an ≤ ah + am → spot y + bn ≤ bh + bm
+    → least + n ≤ al + origin - bh → ah + origin - bl + m ≤ greatest → m + (an + bm) ≡ n + (am + bn) → least ≤ al → bh ≤ greatest → least ≤ bl → ah ≤ greatest
+    → (al + origin - bh + m ≤ spot ((x + (2 ^ 32 - y)) % 2 ^ 32) + n) × (spot ((x + (2 ^ 32 - y)) % 2 ^ 32) + n ≤ ah + origin - bl + m)
+difference_between x y al bl ah bh am an bm bn m n wx wy lx ly hx hy fl fh e a b c d =
+    let s : spot ((x + (2 ^ 32 - y)) % 2 ^ 32) + spot y ≡ spot x + origin = omega arith in
+    (omega (arith, s), omega (arith, s))
+
+-- what is picked of two words, by ends
+record Picks (ends : Ends → Ends → Ends) (p q r : ℕ) : Type 0 where
+  pub below : (a b : Ends) (m n : ℕ) → a.low + m ≤ p + n → b.low + m ≤ q + n → (ends a b).low + m ≤ r + n
+  pub above : (a b : Ends) (m n : ℕ) → p + n ≤ a.high + m → q + n ≤ b.high + m → r + n ≤ (ends a b).high + m
+
+picks_first : (p q : ℕ) → Picks hull p q p
+picks_first p q = record { below = λ a b m n l k. omega arith; above = λ a b m n l k. omega arith }
+
+picks_second : (p q : ℕ) → Picks hull p q q
+picks_second p q = record { below = λ a b m n l k. omega arith; above = λ a b m n l k. omega arith }
+
+picks_least : (p q r : ℕ) → r ≡ min p q → Picks lesser p q r
+picks_least p q r e = record { below = λ a b m n l k. omega (arith, e); above = λ a b m n l k. omega (arith, e) }
+
+picks_greatest : (p q r : ℕ) → r ≡ max p q → Picks greater p q r
+picks_greatest p q r e = record { below = λ a b m n l k. omega (arith, e); above = λ a b m n l k. omega (arith, e) }
+
+spot_minimum : (x y : ℕ) → spot (minimum x y) ≡ min (spot x) (spot y)
+unfolding less
+spot_minimum x y = elim (cases_lt ((y + 2 ^ 31) % 2 ^ 32) ((x + 2 ^ 31) % 2 ^ 32)) [
+  | inl l ↦ rw (lt-ltb ((y + 2 ^ 31) % 2 ^ 32) ((x + 2 ^ 31) % 2 ^ 32) l) (omega arith)
+  | inr l ↦ rw (le-ltb ((y + 2 ^ 31) % 2 ^ 32) ((x + 2 ^ 31) % 2 ^ 32) l) (omega arith)
+]
+
+spot_maximum : (x y : ℕ) → spot (maximum x y) ≡ max (spot x) (spot y)
+unfolding less
+spot_maximum x y = elim (cases_lt ((x + 2 ^ 31) % 2 ^ 32) ((y + 2 ^ 31) % 2 ^ 32)) [
+  | inl l ↦ rw (lt-ltb ((x + 2 ^ 31) % 2 ^ 32) ((y + 2 ^ 31) % 2 ^ 32) l) (omega arith)
+  | inr l ↦ rw (le-ltb ((x + 2 ^ 31) % 2 ^ 32) ((y + 2 ^ 31) % 2 ^ 32) l) (omega arith)
+]
+
+one_of_two : (test : Bool) (x y : ℕ) → x < 2 ^ 32 → y < 2 ^ 32 → cond test x y < 2 ^ 32
+one_of_two true x y lx ly = lx
+one_of_two false x y lx ly = ly
+
+module _ (lasts values : List ℕ) (below : Below values lasts) where
+  added_lies : (a b : Range) (x y : ℕ) → Lies lasts values a x → Lies lasts values b y → Lies lasts values (added lasts a b) (add x y)
+  unfolding add
+  added_lies a b x y la lb =
+      fit_lies lasts values below (add_base a.base b.base) (record { low = a.low + b.low - origin; high = a.high + b.high - origin }) ((x + y) % 2 ^ 32) (omega arith)
+      (λ l h.
+      let s = add_sums a.base b.base values lasts below (small_of lasts values below a x la) (small_of lasts values below b y lb) in
+      let m = more_below (add_base a.base b.base) values lasts below in
+      let n = less_below (add_base a.base b.base) values lasts below in
+      sum_between x y a.low b.low a.high b.high (more_sum a.base values) (less_sum a.base values) (more_sum b.base values) (less_sum b.base values) (more_sum (add_base a.base b.base) values) (less_sum (add_base a.base b.base) values)
+      la.word lb.word la.low lb.low la.high lb.high (omega (arith, l, n)) (omega (arith, h, m)) s (omega (arith, la.fits_low)) (omega (arith, lb.fits_low)))
+
+  subtracted_lies : (a b : Range) (x y : ℕ) → Lies lasts values a x → Lies lasts values b y → Lies lasts values (subtracted lasts a b) (subtract x y)
+  unfolding subtract
+  subtracted_lies a b x y la lb =
+      fit_lies lasts values below (add_base a.base (negated b.base)) (record { low = a.low + origin - b.high; high = a.high + origin - b.low }) ((x + (2 ^ 32 - y)) % 2 ^ 32) (omega arith)
+      (λ l h.
+      let s = add_sums a.base (negated b.base) values lasts below (small_of lasts values below a x la) (negated_small b.base lasts (small_of lasts values below b y lb)) in
+      let m = more_below (add_base a.base (negated b.base)) values lasts below in
+      let n = less_below (add_base a.base (negated b.base)) values lasts below in
+      difference_between x y a.low b.low a.high b.high (more_sum a.base values) (less_sum a.base values) (more_sum b.base values) (less_sum b.base values) (more_sum (add_base a.base (negated b.base)) values) (less_sum (add_base a.base (negated b.base)) values)
+      la.word lb.word la.low lb.low la.high lb.high (omega (arith, l, n)) (omega (arith, h, m)) (omega (arith, s, negated_more b.base values, negated_less b.base values)) (omega (arith, la.fits_low)) (omega (arith, lb.fits_high)) (omega (arith, lb.fits_low)) (omega (arith, la.fits_high)))
+
+  together_at : (test : Bool) (ends : Ends → Ends → Ends) (a b : Range) (x y z : ℕ) → same_base a.base b.base ≡ test → Lies lasts values a x → Lies lasts values b y → z < 2 ^ 32 → Picks ends (spot x) (spot y) (spot z)
+      → (both : CommonBase) → both ≡ cond test (record { base = a.base; first = ends_of a; second = ends_of b }) (record { base = no_base; first = widened lasts a; second = widened lasts b })
+      → Lies lasts values (fit lasts both.base (ends both.first both.second)) z
+  together_at true ends a b x y z e la lb word picks both is =
+      let s = same_sums a.base b.base values lasts below (small_of lasts values below a x la) (small_of lasts values below b y lb) e in
+      rw is
+      (fit_lies lasts values below a.base (ends (ends_of a) (ends_of b)) z word
+      (λ l h. (picks.below (ends_of a) (ends_of b) (more_sum a.base values) (less_sum a.base values) la.low (omega (arith, lb.low, s)), picks.above (ends_of a) (ends_of b) (more_sum a.base values) (less_sum a.base values) la.high (omega (arith, lb.high, s)))))
+  together_at false ends a b x y z e la lb word picks both is =
+      let wa = widened_stands lasts values below a x la in
+      let wb = widened_stands lasts values below b y lb in
+      rw is
+      (plain_lies lasts values below (ends (widened lasts a) (widened lasts b)) z word
+      (λ l h. (omega (arith, picks.below (widened lasts a) (widened lasts b) 0 0 (omega (arith, wa.low)) (omega (arith, wb.low))), omega (arith, picks.above (widened lasts a) (widened lasts b) 0 0 (omega (arith, wa.high)) (omega (arith, wb.high))))))
+
+  together_lies : (ends : Ends → Ends → Ends) (a b : Range) (x y z : ℕ) → Lies lasts values a x → Lies lasts values b y → z < 2 ^ 32 → Picks ends (spot x) (spot y) (spot z) → Lies lasts values (together lasts ends a b) z
+  together_lies ends a b x y z la lb word picks = together_at (same_base a.base b.base) ends a b x y z refl la lb word picks (aligned lasts a b) refl
+
+  truth_lies : (test : Bool) → Lies lasts values truths (truth test)
+  truth_lies true = between_lies lasts values below origin (origin + 1) 1 (omega arith) (omega arith) (omega arith) (omega arith) (omega arith)
+  truth_lies false = between_lies lasts values below origin (origin + 1) 0 (omega arith) (omega arith) (omega arith) (omega arith) (omega arith)
+
+  operated_lies : (operation : Operation) (a b : Range) (x y : ℕ) → Lies lasts values a x → Lies lasts values b y → Lies lasts values (operated lasts operation a b) (applied operation x y)
+  operated_lies op.Add a b x y la lb = added_lies a b x y la lb
+  operated_lies op.Subtract a b x y la lb = subtracted_lies a b x y la lb
+  operated_lies op.Multiply a b x y la lb = multiplied_lies lasts values below a b x y la lb
+  operated_lies op.Minimum a b x y la lb = together_lies lesser a b x y (minimum x y) la lb (one_of_two (less y x) y x lb.word la.word) (picks_least (spot x) (spot y) (spot (minimum x y)) (spot_minimum x y))
+  operated_lies op.Maximum a b x y la lb = together_lies greater a b x y (maximum x y) la lb (one_of_two (less x y) y x lb.word la.word) (picks_greatest (spot x) (spot y) (spot (maximum x y)) (spot_maximum x y))
+  operated_lies op.Less a b x y la lb = truth_lies (less x y)
+  operated_lies op.LessOrEqual a b x y la lb = truth_lies (not (less y x))
+  operated_lies op.Greater a b x y la lb = truth_lies (less y x)
+  operated_lies op.GreaterOrEqual a b x y la lb = truth_lies (not (less x y))
+  operated_lies op.Equal a b x y la lb = truth_lies (x == y)
+  operated_lies op.NotEqual a b x y la lb = truth_lies (not (x == y))
+
+  select_lies : (test : Bool) (a b : Range) (x y : ℕ) → Lies lasts values a x → Lies lasts values b y → Lies lasts values (together lasts hull a b) (cond test y x)
+  select_lies true a b x y la lb = together_lies hull a b x y y la lb lb.word (picks_second (spot x) (spot y))
+  select_lies false a b x y la lb = together_lies hull a b x y x la lb la.word (picks_first (spot x) (spot y))
+
+  module _ (reads : Reads) (words : (s : Source) (x y : ℕ) → reads s x y < 2 ^ 32) (is_inlined : ℕ → Bool) where
+    levels : RelatesLevels (Lies lasts values) is_inlined (ranging lasts) (spec.values reads)
+    unfolding ranging spec.values
+    levels (layer.Number n) kept =
+        let l = leb-true n 0x7fffffff kept in
+        between_lies lasts values below (origin + n) (origin + n) n (omega (arith, l)) (omega arith) (omega (arith, l)) (omega (arith, l)) (omega (arith, l))
+    levels (layer.Variable v) kept = absurd cc
+    levels (layer.Binary operation a b) kept = operated_lies operation a.left b.left a.right b.right a.is b.is
+    levels (layer.Divide a n) kept = divided_lies lasts values below a.left a.right n (leb-true 1 n (and_parts (nat_le 1 n) (nat_le n 0x7fffffff) kept).0) a.is
+    levels (layer.Remainder a n) kept = let k = and_parts (nat_le 1 n) (nat_le n 0x7fffffff) kept in remainder_lies lasts values below a.right n (leb-true 1 n k.0) (leb-true n 0x7fffffff k.1)
+    levels (layer.Select c a b) kept = select_lies (c.right == 0) a.left b.left a.right b.right a.is b.is
+    levels (layer.Call1 s a) kept = every_lies lasts values below (reads s a.right 0) (words s a.right 0)
+    levels (layer.Call2 s a b) kept = every_lies lasts values below (reads s a.right b.right) (words s a.right b.right)
+
+    calls : RelatesCalls (Lies lasts values) (ranging lasts) (spec.values reads)
+    unfolding ranging spec.values
+    calls func v x y w z u r s t = r
+
+pub values_lie : ValuesLie
+values_lie lasts values below reads words is_inlined inputs funcs are count has ranges variables lie e kept =
+    folds_are_related (Lies lasts values) (ranging lasts) (spec.values reads) is_inlined inputs funcs are (levels lasts values below reads words is_inlined) (calls lasts values below reads words is_inlined) count has ranges variables lie e kept

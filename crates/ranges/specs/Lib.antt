@@ -1,0 +1,4 @@
+pub mod Bases
+pub mod Ranges
+pub mod Expressions
+pub mod Laws
