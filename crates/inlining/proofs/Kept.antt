@@ -14,7 +14,7 @@ use Rattle.halide_pipeline.specs.declared.expressions.Variable.{Variable}
 use Rattle.halide_pipeline.specs.Definitions.{dimensions}
 use Rattle.halide_pipeline.specs.WellFormed.{keeps, is_read, is_func_of, is_argument}
 use Rattle.inlining.specs.Inlining.{Algebra, none, second_of, arguments, answer, answered, through, through_at, inside, made_in, inlined, is_computed}
-use Rattle.inlining.specs.Laws.{AreFuncs, RelatesLevels, RelatesSeconds, RelatesCalls, FoldsAreRelated}
+use Rattle.inlining.specs.Laws.{AreFuncs, RelatesLevels, RelatesSeconds, RelatesArguments, RelatesCalls, FoldsAreRelated}
 use Rattle.inlining.proofs.KeptFolds.{KeptLevels, kept_folds_related}
 use Rattle.inlining.proofs.Through.{arguments_related, seconds_related}
 
@@ -26,7 +26,7 @@ inside_computed algebra is_inlined funcs zero place is = refl
 inside_computed algebra is_inlined funcs (suc count) place is = rw is (inside_computed algebra is_inlined funcs count place is)
 
 module _ {A B : Type 0} (R : A → B → Type 0) (p : Algebra A) (q : Algebra B) (is_inlined : ℕ → Bool) (inputs : List Input) (funcs : List Func) (are : AreFuncs inputs funcs)
-    (levels : RelatesLevels R is_inlined p q) (calls : RelatesCalls R p q) where
+    (levels : RelatesLevels R is_inlined p q) (args : RelatesArguments R p q) (calls : RelatesCalls R p q) where
   abbrev Related : ℕ → Type 0
   Related count = (has : Variable → Bool) (va : Variable → A) (vb : Variable → B) → ((v : Variable) → has v ≡ true → R (va v) (vb v))
       → (e : Expr) → keeps (is_read inputs funcs count) has e ≡ true → R (inlined p is_inlined funcs count va e) (inlined q is_inlined funcs count vb e)
@@ -86,8 +86,9 @@ module _ {A B : Type 0} (R : A → B → Type 0) (p : Algebra A) (q : Algebra B)
   func_related place n (Some func) is ok inner = λ x y z u rx ry.
       let rn : R (none p) (none q) = levels (layer.Number 0) refl in
       calls func _ x y _ z u
-      (inner (is_argument (dimensions func)) (arguments (none p) x (second_of (none p) y)) (arguments (none q) z (second_of (none q) u))
-      (λ v has. arguments_related R (none p) x (second_of (none p) y) (none q) z (second_of (none q) u) rn rx (seconds_related R (none p) y (none q) u rn ry) v) func.pure (are place func is).pure)
+      (inner (is_argument (dimensions func)) (arguments (none p) (p.argument x) (p.argument (second_of (none p) y))) (arguments (none q) (q.argument z) (q.argument (second_of (none q) u)))
+      (λ v has. arguments_related R (none p) (p.argument x) (p.argument (second_of (none p) y)) (none q) (q.argument z) (q.argument (second_of (none q) u)) rn
+      (args x z rx) (args (second_of (none p) y) (second_of (none q) u) (seconds_related R (none p) y (none q) u rn ry)) v) func.pure (are place func is).pure)
       rx ry
 
   made_below : (count : ℕ) → MadeBelow count
@@ -106,4 +107,4 @@ module _ {A B : Type 0} (R : A → B → Type 0) (p : Algebra A) (q : Algebra B)
   kept_related count = from_made count (made_below count)
 
 pub folds_are_related : {A B : Type 0} → (R : A → B → Type 0) → FoldsAreRelated R
-folds_are_related R p q is_inlined inputs funcs are levels calls count has left right vars e kept = kept_related R p q is_inlined inputs funcs are levels calls count has left right vars e kept
+folds_are_related R p q is_inlined inputs funcs are levels args calls count has left right vars e kept = kept_related R p q is_inlined inputs funcs are levels args calls count has left right vars e kept

@@ -3,3 +3,4 @@ pub mod Through
 pub mod Kept
 pub mod Pixels
 pub mod Seeing
+pub mod Steps

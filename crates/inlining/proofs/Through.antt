@@ -11,8 +11,8 @@ use Rattle.halide_pipeline.specs.declared.expressions.Variable.{Variable}
 use Rattle.halide_pipeline.specs.declared.expressions.Variable.TheVariants as variables
 use Rattle.reads.specs.Levels.{Both, left_of, right_of}
 use Rattle.reads.proofs.Folds.{folds_related}
-use Rattle.inlining.specs.Inlining.{Algebra, Inside, none, second_of, arguments, answer, answered, through, through_at, inside, made_in, inlined}
-use Rattle.inlining.specs.Laws.{RelatesSeconds, RelatesCalls}
+use Rattle.inlining.specs.Inlining.{Algebra, Inside, none, second_of, arguments, answer, answered, through, through_at, made_of, inside, made_in, inlined}
+use Rattle.inlining.specs.Laws.{RelatesSeconds, RelatesArguments, RelatesCalls}
 
 module _ {A B : Type 0} (R : A → B → Type 0) where
   -- what answers calls on both sides
@@ -65,15 +65,24 @@ module _ {A B : Type 0} (R : A → B → Type 0) where
         unfolding through
         through_related e = folds_related R (through_at p left va) (through_at q right vb) through_levels e
 
-    module _ (calls : RelatesCalls R p q) where
-      made_related : (left : Inside A) (right : Inside B) → AnswersAll left right → (func : Option Func) → Answers (made_in p left func) (made_in q right func)
-      made_related left right answers None = tt
-      made_related left right answers (Some func) = λ x y z u rx ry.
-          let rn = levels (layer.Number 0) in
-          calls func _ x y _ z u
-          (through_related left right answers (arguments (none p) x (second_of (none p) y)) (arguments (none q) z (second_of (none q) u))
-          (arguments_related (none p) x (second_of (none p) y) (none q) z (second_of (none q) u) rn rx (seconds_related (none p) y (none q) u rn ry)) func.pure)
-          rx ry
+    -- what is made of a Func on both sides, where what answers the calls in it is related
+    abbrev pub RelatesMade : Type 0
+    RelatesMade = (left : Inside A) (right : Inside B) → AnswersAll left right → (func : Func) → Answers (Some (made_of p left func)) (Some (made_of q right func))
+
+    -- so it is if arguments and calls are
+    pub made_related : RelatesArguments R p q → RelatesCalls R p q → RelatesMade
+    made_related args calls left right answers func = λ x y z u rx ry.
+        let rn = levels (layer.Number 0) in
+        calls func _ x y _ z u
+        (through_related left right answers (arguments (none p) (p.argument x) (p.argument (second_of (none p) y))) (arguments (none q) (q.argument z) (q.argument (second_of (none q) u)))
+        (arguments_related (none p) (p.argument x) (p.argument (second_of (none p) y)) (none q) (q.argument z) (q.argument (second_of (none q) u)) rn
+        (args x z rx) (args (second_of (none p) y) (second_of (none q) u) (seconds_related (none p) y (none q) u rn ry))) func.pure)
+        rx ry
+
+    module _ (made : RelatesMade) where
+      made_answers : (left : Inside A) (right : Inside B) → AnswersAll left right → (func : Option Func) → Answers (made_in p left func) (made_in q right func)
+      made_answers left right answers None = tt
+      made_answers left right answers (Some func) = made left right answers func
 
       either : (test : Bool) (f : Option (A → Option A → A)) (g : Option (B → Option B → B)) (h : Option (A → Option A → A)) (k : Option (B → Option B → B))
           → Answers f g → Answers h k → Answers (cond test f h) (cond test g k)
@@ -85,7 +94,7 @@ module _ {A B : Type 0} (R : A → B → Type 0) where
       inside_related is_inlined funcs zero place = tt
       inside_related is_inlined funcs (suc count) place =
           let before = inside_related is_inlined funcs count in
-          either (is_inlined place && place == count) _ _ _ _ (made_related (inside p is_inlined funcs count) (inside q is_inlined funcs count) before (slice_get funcs count)) (before place)
+          either (is_inlined place && place == count) _ _ _ _ (made_answers (inside p is_inlined funcs count) (inside q is_inlined funcs count) before (slice_get funcs count)) (before place)
 
       pub inlined_related : (is_inlined : ℕ → Bool) (funcs : List Func) (count : ℕ) (va : Variable → A) (vb : Variable → B) → ((v : Variable) → R (va v) (vb v))
           → (e : Expr) → R (inlined p is_inlined funcs count va e) (inlined q is_inlined funcs count vb e)

@@ -1,7 +1,7 @@
 -- What is made of an expression through its inlined Funcs: a call of one is answered by what is made of that Func's
 -- pure definition, where its arguments stand for what is made of those of the call.
 -- This project's own.
-use Rattle.std.specs.Prelude.{ℕ, zero, suc, ◌==◌, ◌&&◌, Bool, true, false, not, if◌then◌else◌, List, Option, Some, None, slice_get}
+use Rattle.std.specs.Prelude.{ℕ, zero, suc, ◌==◌, ◌&&◌, nat_lt, Bool, true, false, not, if◌then◌else◌, List, Option, Some, None, slice_get}
 use Rattle.halide_pipeline.specs.declared.definitions.Func.{Func}
 use Rattle.halide_pipeline.specs.declared.expressions.Expr.{Expr, fold-Expr}
 use Rattle.halide_pipeline.specs.declared.expressions.Expr.TheOpen.{Expr-F}
@@ -14,6 +14,8 @@ use Rattle.halide_pipeline.specs.declared.expressions.Variable.TheVariants as va
 pub record Algebra (A : Type 0) : Type 0 where
   -- what is made of a level from what is made of its parts
   pub level : Expr-F A → A
+  -- what stands for an argument in the definition of an inlined Func, by what is made of that argument
+  pub argument : A → A
   -- what is made of a call of an inlined Func, from what is made of its definition, of the first argument, and of the
   -- second one where there are two
   pub call : Func → A → A → Option A → A
@@ -61,7 +63,8 @@ unfoldable pub through : {A : Type 0} → Algebra A → Inside A → (Variable �
 through {A} algebra inside variables e = fold-Expr A (through_at algebra inside variables) e
 
 abbrev pub made_of : {A : Type 0} → Algebra A → Inside A → Func → A → Option A → A
-made_of algebra inside func x y = algebra.call func (through algebra inside (arguments (none algebra) x (second_of (none algebra) y)) func.pure) x y
+made_of algebra inside func x y =
+    algebra.call func (through algebra inside (arguments (none algebra) (algebra.argument x) (algebra.argument (second_of (none algebra) y))) func.pure) x y
 
 abbrev pub made_in : {A : Type 0} → Algebra A → Inside A → Option Func → Option (A → Option A → A)
 made_in algebra inside None = None
@@ -92,3 +95,7 @@ flagged flags place = flag_of (slice_get flags place)
 abbrev pub is_computed : (ℕ → Bool) → Source → Bool
 is_computed is_inlined (sources.Input place) = true
 is_computed is_inlined (sources.Func place) = not (is_inlined place)
+
+-- the Func at a place, if it is one of the first so many and is inlined
+abbrev pub func_in : List Func → (ℕ → Bool) → ℕ → ℕ → Option Func
+func_in funcs is_inlined count place = if nat_lt place count && is_inlined place then slice_get funcs place else None

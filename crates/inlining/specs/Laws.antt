@@ -42,10 +42,13 @@ abbrev pub RelatesCalls : {A B : Type 0} → (A → B → Type 0) → Algebra A 
 RelatesCalls {A} {B} R p q = (func : Func) (v x : A) (y : Option A) (w z : B) (u : Option B)
     → R v w → R x z → RelatesSeconds R y u → R (p.call func v x y) (q.call func w z u)
 
+abbrev pub RelatesArguments : {A B : Type 0} → (A → B → Type 0) → Algebra A → Algebra B → Type 0
+RelatesArguments {A} {B} R p q = (x : A) (z : B) → R x z → R (p.argument x) (q.argument z)
+
 -- They then make related things of each expression of a pipeline, whose variables stand for related things.
 abbrev pub FoldsAreRelated : {A B : Type 0} → (A → B → Type 0) → Type 0
 FoldsAreRelated {A} {B} R = (p : Algebra A) (q : Algebra B) (is_inlined : ℕ → Bool) (inputs : List Input) (funcs : List Func) → AreFuncs inputs funcs
-    → RelatesLevels R is_inlined p q → RelatesCalls R p q
+    → RelatesLevels R is_inlined p q → RelatesArguments R p q → RelatesCalls R p q
     → (count : ℕ) (has : Variable → Bool) (left : Variable → A) (right : Variable → B) → ((v : Variable) → has v ≡ true → R (left v) (right v))
     → (e : Expr) → keeps (is_read inputs funcs count) has e ≡ true → R (inlined p is_inlined funcs count left e) (inlined q is_inlined funcs count right e)
 
@@ -81,3 +84,8 @@ abbrev pub InlinedValuesDependOnReads : Type 0
 InlinedValuesDependOnReads = (reads other : Reads) (is_inlined : ℕ → Bool) (funcs : List Func) (count : ℕ) (environment : Environment) (e : Expr)
     → Agree reads other (inlined (seeing reads) is_inlined funcs count (seen_variable environment) e).points
     → inlined (values other) is_inlined funcs count (variable environment) e ≡ inlined (values reads) is_inlined funcs count (variable environment) e
+
+-- The value that is seen through inlined Funcs is the expression's.
+abbrev pub SeesInlinedValues : Type 0
+SeesInlinedValues = (reads : Reads) (is_inlined : ℕ → Bool) (funcs : List Func) (count : ℕ) (environment : Environment) (e : Expr)
+    → (inlined (seeing reads) is_inlined funcs count (seen_variable environment) e).value ≡ inlined (values reads) is_inlined funcs count (variable environment) e

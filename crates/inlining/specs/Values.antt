@@ -7,15 +7,21 @@ use Rattle.inlining.specs.Inlining.{Algebra}
 
 -- values, where inputs and computed Funcs answer so
 unfoldable pub values : Reads → Algebra ℕ
-values reads = record { level = value_at reads (at_point 0 0); call = λ func v x y. v }
+values reads = record { level = value_at reads (at_point 0 0); argument = λ x. x; call = λ func v x y. v }
+
+-- the value alone
+abbrev pub unread : Seen → Seen
+unread x = record { value = x.value; points = [] }
 
 abbrev pub second_points : Option Seen → List Point
 second_points None = []
 second_points (Some y) = y.points
 
--- values, and the points of inputs and computed Funcs that are read, also in arguments that an inlined Func doesn't use
+-- Values, and the points of inputs and computed Funcs that are read. What an argument reads is read once, whether or
+-- not the inlined Func uses it.
 unfoldable pub seeing : Reads → Algebra Seen
 seeing reads = record {
   level = seen_at reads (at_point 0 0);
-  call = λ func v x y. record { value = v.value; points = v.points ++ (x.points ++ second_points y) };
+  argument = unread;
+  call = λ func v x y. record { value = v.value; points = x.points ++ (second_points y ++ v.points) };
 }

@@ -20,6 +20,7 @@ dropped_second is_used (Some n) = dropped is_used n
 unfoldable pub counting : Algebra ℕ
 counting = record {
   level = nodes_at;
+  argument = λ x. x;
   call = λ func n x y. n + dropped (uses variables.FirstArgument func.pure) x + dropped_second (uses variables.SecondArgument func.pure) y;
 }
 
@@ -37,4 +38,4 @@ need_at (layer.Call2 s a b) = max a (1 + b)
 
 -- an argument that isn't used needs nothing
 unfoldable pub needing : Algebra ℕ
-needing = record { level = need_at; call = λ func n x y. n }
+needing = record { level = need_at; argument = λ x. x; call = λ func n x y. n }

@@ -1,4 +1,12 @@
 //! Expressions with their inlined Funcs put in place.
+//!
+//! - `specs/Inlining.antt`: **one fold of expressions through inlined Funcs**, over any algebra; `specs/Values.antt`
+//!   and `specs/Weights.antt` have its instances: values, points read, nodes and need.
+//! - [`funcs`]: which Funcs are inlined.
+//! - [`laws`]: what inlining keeps (`specs/Laws.antt`).
 #![tactic(auto)]
 
+pub mod funcs;
 pub mod laws;
+
+pub use crate::funcs::inlined_func;
