@@ -4,7 +4,7 @@ use Rattle.std.proofs.lemmas.Bool.{le-leb, lt-leb, lt-ltb, le-ltb, ne_eqb, cases
 use Rattle.std.proofs.Math.Nat.{mod-lt, div-lt_iff_lt-mul, div-le_self}
 use Rattle.halide_pipeline.specs.Words.{divide, remainder}
 use Rattle.ranges.specs.declared.ranges.Range.{Range}
-use Rattle.ranges.specs.Ranges.{origin, spot, widened, divided_end, divided_ends, divided, remainders}
+use Rattle.ranges.specs.Ranges.{origin, spot, widened, divided_end, divided_ends, divided, remainders, literal}
 use Rattle.ranges.specs.Laws.{Below, Lies}
 use Rattle.ranges.proofs.Lying.{between_lies, widened_stands, plain_lies}
 
@@ -77,7 +77,11 @@ module _ (lasts values : List ℕ) (below : Below values lasts) where
       (plain_lies lasts values below (divided_ends (widened lasts a) c) (divide x c) (divide_word x c l la.word)
       (λ fl fh. (omega (arith, divide_spot x c l la.word, divided_rises (widened lasts a).low (spot x) c l w.low), omega (arith, divide_spot x c l la.word, divided_rises (spot x) (widened lasts a).high c l w.high))))
 
-  pub remainder_lies : (x c : ℕ) → 1 ≤ c → c ≤ 0x7fffffff → Lies lasts values (remainders c) (remainder x c)
+  pub remainder_lies : (x c : ℕ) → 1 ≤ c → c ≤ 0x7fffffff → Lies lasts values (remainders lasts c) (remainder x c)
   remainder_lies x c l m =
       let r = remainder_below x c l in
-      rw (nonzero c l) (between_lies lasts values below origin (origin + c - 1) (remainder x c) (omega (arith, r, m)) (omega arith) (omega (arith, r, m)) (omega (arith, r, m)) (omega (arith, m)))
+      rw (nonzero c l) (plain_lies lasts values below (record { low = origin; high = origin + c - 1 }) (remainder x c) (omega (arith, r, m))
+      (λ fl fh. (omega (arith, r, fl, fh), omega (arith, r, fl, fh))))
+
+  pub literal_lies : (n : ℕ) → n < 2 ^ 32 → Lies lasts values (literal lasts n) n
+  literal_lies n l = plain_lies lasts values below (record { low = origin + n; high = origin + n }) n l (λ fl fh. (omega (arith, fl, fh), omega (arith, fl, fh)))

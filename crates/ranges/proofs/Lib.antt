@@ -3,3 +3,5 @@ pub mod Lying
 pub mod Division
 pub mod Products
 pub mod Operations
+pub mod Walking
+pub mod Rows

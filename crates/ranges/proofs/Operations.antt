@@ -1,6 +1,6 @@
 -- The value of an expression lies in its range.
-use Rattle.std.proofs.Common.{◌≡◌, ℕ, ◌+◌, ◌-◌, ◌%◌, ◌^◌, ◌<◌, ◌≤◌, Bool, true, false, not, cond, List, ◌==◌, refl, arith, inl, inr}
-use Rattle.std.specs.Prelude.{nat_le, min, max}
+use Rattle.std.proofs.Common.{◌≡◌, ℕ, ◌+◌, ◌-◌, ◌%◌, ◌^◌, ◌<◌, ◌≤◌, Bool, true, false, not, cond, List, [], ◌∷◌, ◌++◌, Option, None, Some, ◌==◌, refl, arith, inl, inr}
+use Rattle.std.specs.Prelude.{◌&&◌, nat_le, min, max}
 use Rattle.std.proofs.lemmas.Bool.{lt-ltb, le-ltb, leb-true, cases_lt, and_parts}
 use Rattle.halide_pipeline.specs.declared.expressions.Expr.TheOpen.{Expr-F}
 use Rattle.halide_pipeline.specs.declared.expressions.Expr.TheOpen as layer
@@ -9,20 +9,22 @@ use Rattle.halide_pipeline.specs.declared.expressions.Operation.TheVariants as o
 use Rattle.halide_pipeline.specs.declared.expressions.Source.{Source}
 use Rattle.halide_pipeline.specs.Words.{add, subtract, less, truth, minimum, maximum, applied}
 use Rattle.halide_meaning.specs.Pixel.{Reads}
-use Rattle.inlining.specs.Laws.{RelatesLevels, RelatesCalls}
-use Rattle.inlining.specs.Values as spec
+use Rattle.reads.specs.Points.{Point, Seen}
+use Rattle.inlining.specs.Laws.{RelatesLevels, RelatesArguments, RelatesSeconds, RelatesCalls, seen_variable}
+use Rattle.inlining.specs.Values.{seeing, second_points}
 use Rattle.inlining.proofs.Kept.{folds_are_related}
 use Rattle.ranges.specs.declared.ranges.CommonBase.{CommonBase}
 use Rattle.ranges.specs.declared.ranges.Ends.{Ends}
+use Rattle.ranges.specs.declared.expressions.Asked.{Asked}
 use Rattle.ranges.specs.declared.ranges.Range.{Range}
 use Rattle.ranges.specs.Bases.{no_base, add_base, negated, same_base, more_sum, less_sum}
-use Rattle.ranges.specs.Ranges.{origin, least, greatest, spot, ends_of, fit, widened, added, subtracted, aligned, together, lesser, greater, hull, truths, operated}
-use Rattle.ranges.specs.Expressions.{ranging}
-use Rattle.ranges.specs.Laws.{Below, Lies, ValuesLie}
+use Rattle.ranges.specs.Ranges.{origin, least, greatest, spot, ends_of, fit, widened, added, subtracted, aligned, together, lesser, greater, hull, truths, literal, operated}
+use Rattle.ranges.specs.Expressions.{Ranged, ranging, second_asked, unasked_variable}
+use Rattle.ranges.specs.Laws.{Below, Lies, LiesAt, AllLie, Covers, RangesCover}
 use Rattle.ranges.proofs.Sums.{more_below, less_below, add_sums, negated_more, negated_less, negated_small, same_sums}
 use Rattle.ranges.proofs.Lying.{between_lies, every_lies, small_of, widened_stands, fit_lies, plain_lies}
 use Rattle.ranges.proofs.Products.{multiplied_lies}
-use Rattle.ranges.proofs.Division.{divided_lies, remainder_lies}
+use Rattle.ranges.proofs.Division.{divided_lies, remainder_lies, literal_lies}
 
 -- sums of signed words that stay signed words
 sum_between : (x y al bl ah bh am an bm bn m n : ℕ) → x < 2 ^ 32 → y < 2 ^ 32
@@ -139,24 +141,75 @@ module _ (lasts values : List ℕ) (below : Below values lasts) where
   select_lies true a b x y la lb = together_lies hull a b x y y la lb lb.word (picks_second (spot x) (spot y))
   select_lies false a b x y la lb = together_lies hull a b x y x la lb la.word (picks_first (spot x) (spot y))
 
+  -- ---- points
+
+  all_lie_both : (a b : List Asked) (p q : List Point) → AllLie lasts values a p → AllLie lasts values b q → AllLie lasts values (a ++ b) (p ++ q)
+  all_lie_both [] b [] q la lb = lb
+  all_lie_both [] b (point ∷ p) q la lb = absurd la
+  all_lie_both (first ∷ a) b [] q la lb = absurd la
+  all_lie_both (first ∷ a) b (point ∷ p) q la lb = (la.0, all_lie_both a b p q la.1 lb)
+
   module _ (reads : Reads) (words : (s : Source) (x y : ℕ) → reads s x y < 2 ^ 32) (is_inlined : ℕ → Bool) where
-    levels : RelatesLevels (Lies lasts values) is_inlined (ranging lasts) (spec.values reads)
-    unfolding ranging spec.values
-    levels (layer.Number n) kept =
-        let l = leb-true n 0x7fffffff kept in
-        between_lies lasts values below (origin + n) (origin + n) n (omega (arith, l)) (omega arith) (omega (arith, l)) (omega (arith, l)) (omega (arith, l))
+    abbrev R : Ranged → Seen → Type 0
+    R = Covers lasts values
+
+    -- a read behind others
+    one_more : (s : Source) (before : List Asked) (points : List Point) (x y : Range) (v w : ℕ) → AllLie lasts values before points → Lies lasts values x v → Lies lasts values y w
+        → AllLie lasts values (before ++ (record { source = s; x = x; y = y } ∷ [])) (points ++ (record { source = s; x = v; y = w } ∷ []))
+    one_more s before points x y v w all lx ly =
+        all_lie_both before (record { source = s; x = x; y = y } ∷ []) points (record { source = s; x = v; y = w } ∷ []) all (record { source = refl; x = lx; y = ly }, tt)
+
+    levels : RelatesLevels R is_inlined (ranging lasts) (seeing reads)
+    unfolding ranging seeing
+    levels (layer.Number n) kept = record { value = literal_lies lasts values below n (let l = leb-true n 0x7fffffff kept in omega (arith, l)); points = tt }
     levels (layer.Variable v) kept = absurd cc
-    levels (layer.Binary operation a b) kept = operated_lies operation a.left b.left a.right b.right a.is b.is
-    levels (layer.Divide a n) kept = divided_lies lasts values below a.left a.right n (leb-true 1 n (and_parts (nat_le 1 n) (nat_le n 0x7fffffff) kept).0) a.is
-    levels (layer.Remainder a n) kept = let k = and_parts (nat_le 1 n) (nat_le n 0x7fffffff) kept in remainder_lies lasts values below a.right n (leb-true 1 n k.0) (leb-true n 0x7fffffff k.1)
-    levels (layer.Select c a b) kept = select_lies (c.right == 0) a.left b.left a.right b.right a.is b.is
-    levels (layer.Call1 s a) kept = every_lies lasts values below (reads s a.right 0) (words s a.right 0)
-    levels (layer.Call2 s a b) kept = every_lies lasts values below (reads s a.right b.right) (words s a.right b.right)
+    levels (layer.Binary operation a b) kept = record {
+      value = operated_lies operation a.left.range b.left.range a.right.value b.right.value a.is.value b.is.value;
+      points = all_lie_both a.left.asked b.left.asked a.right.points b.right.points a.is.points b.is.points;
+    }
+    levels (layer.Divide a n) kept = record {
+      value = divided_lies lasts values below a.left.range a.right.value n (leb-true 1 n (and_parts (nat_le 1 n) (nat_le n 0x7fffffff) kept).0) a.is.value;
+      points = a.is.points;
+    }
+    levels (layer.Remainder a n) kept = record {
+      value = let k = and_parts (nat_le 1 n) (nat_le n 0x7fffffff) kept in remainder_lies lasts values below a.right.value n (leb-true 1 n k.0) (leb-true n 0x7fffffff k.1);
+      points = a.is.points;
+    }
+    levels (layer.Select c a b) kept = record {
+      value = select_lies (c.right.value == 0) a.left.range b.left.range a.right.value b.right.value a.is.value b.is.value;
+      points = all_lie_both c.left.asked (a.left.asked ++ b.left.asked) c.right.points (a.right.points ++ b.right.points) c.is.points
+          (all_lie_both a.left.asked b.left.asked a.right.points b.right.points a.is.points b.is.points);
+    }
+    levels (layer.Call1 s a) kept = record {
+      value = every_lies lasts values below (reads s a.right.value 0) (words s a.right.value 0);
+      points = one_more s a.left.asked a.right.points a.left.range (literal lasts 0) a.right.value 0 a.is.points a.is.value (literal_lies lasts values below 0 (omega arith));
+    }
+    levels (layer.Call2 s a b) kept = record {
+      value = every_lies lasts values below (reads s a.right.value b.right.value) (words s a.right.value b.right.value);
+      points = one_more s (a.left.asked ++ b.left.asked) (a.right.points ++ b.right.points) a.left.range b.left.range a.right.value b.right.value
+          (all_lie_both a.left.asked b.left.asked a.right.points b.right.points a.is.points b.is.points) a.is.value b.is.value;
+    }
 
-    calls : RelatesCalls (Lies lasts values) (ranging lasts) (spec.values reads)
-    unfolding ranging spec.values
-    calls func v x y w z u r s t = r
+    args : RelatesArguments R (ranging lasts) (seeing reads)
+    unfolding ranging seeing
+    args x z r = record { value = r.value; points = tt }
 
-pub values_lie : ValuesLie
-values_lie lasts values below reads words is_inlined inputs funcs are count has ranges variables lie e kept =
-    folds_are_related (Lies lasts values) (ranging lasts) (spec.values reads) is_inlined inputs funcs are (levels lasts values below reads words is_inlined) (calls lasts values below reads words is_inlined) count has ranges variables lie e kept
+    seconds : (y : Option Ranged) (u : Option Seen) → RelatesSeconds R y u → AllLie lasts values (second_asked y) (second_points u)
+    seconds None None r = tt
+    seconds None (Some z) r = absurd r
+    seconds (Some y) None r = absurd r
+    seconds (Some y) (Some z) r = r.points
+
+    calls : RelatesCalls R (ranging lasts) (seeing reads)
+    unfolding ranging seeing
+    calls func v x y w z u r s t = record {
+      value = r.value;
+      points = all_lie_both x.asked (second_asked y ++ v.asked) z.points (second_points u ++ w.points) s.points
+          (all_lie_both (second_asked y) v.asked (second_points u) w.points (seconds y u t) r.points);
+    }
+
+pub ranges_cover : RangesCover
+ranges_cover lasts values below reads words is_inlined inputs funcs are count has ranges environment lie e kept =
+    folds_are_related (Covers lasts values) (ranging lasts) (seeing reads) is_inlined inputs funcs are
+    (levels lasts values below reads words is_inlined) (args lasts values below reads words is_inlined) (calls lasts values below reads words is_inlined)
+    count has (unasked_variable ranges) (seen_variable environment) (λ v held. record { value = lie v held; points = tt }) e kept

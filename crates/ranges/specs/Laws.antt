@@ -7,14 +7,17 @@ use Rattle.halide_pipeline.specs.declared.expressions.Expr.{Expr}
 use Rattle.halide_pipeline.specs.declared.expressions.Source.{Source}
 use Rattle.halide_pipeline.specs.declared.expressions.Variable.{Variable}
 use Rattle.halide_pipeline.specs.WellFormed.{keeps, is_read}
-use Rattle.halide_meaning.specs.Pixel.{Reads}
+use Rattle.halide_meaning.specs.declared.environments.Environment.{Environment}
+use Rattle.halide_meaning.specs.Pixel.{Reads, variable}
+use Rattle.reads.specs.Points.{Point, Seen}
 use Rattle.inlining.specs.Inlining.{inlined}
-use Rattle.inlining.specs.Values as spec
-use Rattle.inlining.specs.Laws.{AreFuncs}
+use Rattle.inlining.specs.Values.{seeing}
+use Rattle.inlining.specs.Laws.{AreFuncs, seen_variable}
+use Rattle.ranges.specs.declared.expressions.Asked.{Asked}
 use Rattle.ranges.specs.declared.ranges.Range.{Range}
 use Rattle.ranges.specs.Bases.{more_sum, less_sum}
 use Rattle.ranges.specs.Ranges.{least, greatest, spot}
-use Rattle.ranges.specs.Expressions.{range}
+use Rattle.ranges.specs.Expressions.{Ranged, ranged}
 
 -- Each loop has a value up to its greatest.
 abbrev pub Below : List ℕ → List ℕ → Type 0
@@ -32,11 +35,30 @@ pub record Lies (lasts values : List ℕ) (range : Range) (x : ℕ) : Type 0 whe
   pub fits_low : least + less_sum range.base lasts ≤ range.low
   pub fits_high : range.high + more_sum range.base lasts ≤ greatest
 
--- The value of an expression of a pipeline, through inlined Funcs, lies in its range.
-abbrev pub ValuesLie : Type 0
-ValuesLie = (lasts values : List ℕ) → Below values lasts → (reads : Reads) → ((s : Source) (x y : ℕ) → reads s x y < 2 ^ 32)
+-- A point is one of the source, and its coordinates lie in these ranges.
+pub record LiesAt (lasts values : List ℕ) (asked : Asked) (point : Point) : Type 0 where
+  pub source : point.source ≡ asked.source
+  pub x : Lies lasts values asked.x point.x
+  pub y : Lies lasts values asked.y point.y
+
+-- Each point lies in the ranges in its place.
+abbrev pub AllLie : List ℕ → List ℕ → List Asked → List Point → Type 0
+AllLie lasts values [] [] = Unit {0}
+AllLie lasts values [] (point ∷ points) = ⊥
+AllLie lasts values (first ∷ asked) [] = ⊥
+AllLie lasts values (first ∷ asked) (point ∷ points) = LiesAt lasts values first point × AllLie lasts values asked points
+
+-- The value and the points that are seen lie in these ranges.
+pub record Covers (lasts values : List ℕ) (r : Ranged) (s : Seen) : Type 0 where
+  pub value : Lies lasts values r.range s.value
+  pub points : AllLie lasts values r.asked s.points
+
+-- Through inlined Funcs the value of an expression of a pipeline lies in its range, and each point that it reads lies
+-- in ranges that are asked.
+abbrev pub RangesCover : Type 0
+RangesCover = (lasts values : List ℕ) → Below values lasts → (reads : Reads) → ((s : Source) (x y : ℕ) → reads s x y < 2 ^ 32)
     → (is_inlined : ℕ → Bool) (inputs : List Input) (funcs : List Func) → AreFuncs inputs funcs
-    → (count : ℕ) (has : Variable → Bool) (ranges : Variable → Range) (variables : Variable → ℕ)
-    → ((v : Variable) → has v ≡ true → Lies lasts values (ranges v) (variables v))
+    → (count : ℕ) (has : Variable → Bool) (ranges : Variable → Range) (environment : Environment)
+    → ((v : Variable) → has v ≡ true → Lies lasts values (ranges v) (variable environment v))
     → (e : Expr) → keeps (is_read inputs funcs count) has e ≡ true
-    → Lies lasts values (range lasts is_inlined funcs count ranges e) (inlined (spec.values reads) is_inlined funcs count variables e)
+    → Covers lasts values (ranged lasts is_inlined funcs count ranges e) (inlined (seeing reads) is_inlined funcs count (seen_variable environment) e)

@@ -124,8 +124,13 @@ abbrev pub divided : List ℕ → Range → ℕ → Range
 divided lasts a c = if c == 0 then every else fit lasts no_base (divided_ends (widened lasts a) c)
 
 -- from 0 to the divisor less 1
-abbrev pub remainders : ℕ → Range
-remainders c = if c == 0 then every else between origin (origin + c - 1)
+abbrev pub remainders : List ℕ → ℕ → Range
+remainders lasts c = if c == 0 then every else fit lasts no_base (record { low = origin; high = origin + c - 1 })
+
+-- ---- numbers
+
+abbrev pub literal : List ℕ → ℕ → Range
+literal lasts n = fit lasts no_base (record { low = origin + n; high = origin + n })
 
 -- ---- comparisons
 

@@ -1,8 +1,9 @@
 //! The law of ranges, the contract of a function that does nothing.
 
-ghost use Rattle.ranges.specs.Laws.{ValuesLie};
+ghost use Rattle.ranges.specs.Laws.{RangesCover};
 
-/// The value of an expression of a pipeline lies in its range, also through inlined Funcs.
-pub fn values_lie()
-    ensures { ValuesLie }
+/// The value of an expression of a pipeline lies in its range, and each point that it reads in ranges that are asked,
+/// also through inlined Funcs.
+pub fn ranges_cover()
+    ensures { RangesCover }
 {}

@@ -6,5 +6,6 @@
 #![tactic(auto)]
 
 pub mod bases;
+pub mod expressions;
 pub mod laws;
 pub mod ranges;

@@ -367,15 +367,34 @@ pub fn divided(lasts: &Lasts, a: &Range, c: u32) -> Range
 
 /// The range of remainders.
 pub fn remainders(lasts: &Lasts, c: u32) -> Range
-    requires { c < 2 ^ 31 }
-    ensures value { result ≡ spec.remainders c }
+    ensures value { result ≡ spec.remainders lasts.now c }
     ensures fits { spec.IsFit lasts.now result }
 {
     if c == 0 {
         every()
     } else {
-        between(ORIGIN, ORIGIN + u64::from(c) - 1)
+        let ends = Ends {
+            low: ORIGIN,
+            high: ORIGIN + u64::from(c) - 1,
+        };
+        fit(lasts, no_base(), ends)
     }
+}
+
+/// The range of a number.
+pub fn literal(lasts: &Lasts, n: u32) -> Range
+    ensures value { result ≡ spec.literal lasts.now n }
+    ensures fits { spec.IsFit lasts.now result }
+{
+    let end = ORIGIN + u64::from(n);
+    fit(
+        lasts,
+        no_base(),
+        Ends {
+            low: end,
+            high: end,
+        },
+    )
 }
 
 /// The range of an operation on two numbers.
