@@ -4,3 +4,5 @@ pub mod Kept
 pub mod Pixels
 pub mod Seeing
 pub mod Steps
+pub mod Capping
+pub mod Counting

@@ -2,3 +2,4 @@ pub mod Inlining
 pub mod Values
 pub mod Weights
 pub mod Laws
+pub mod inner

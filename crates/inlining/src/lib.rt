@@ -6,6 +6,7 @@
 //! - [`laws`]: what inlining keeps (`specs/Laws.antt`).
 #![tactic(auto)]
 
+pub mod counts;
 pub mod funcs;
 pub mod laws;
 

@@ -1,0 +1,54 @@
+-- Numbers up to the greatest that 32 bits hold, and how what is counted of an inlined Func depends on its arguments.
+-- This project's own.
+use Rattle.std.specs.Prelude.{◌≡◌, ℕ, ◌+◌, ◌-◌, ◌*◌, ◌^◌, Bool, min, List, length, slice_get, Option, Some, None}
+use Rattle.halide_pipeline.specs.declared.definitions.Func.{Func}
+use Rattle.inlining.specs.declared.counts.CountCall.{CountCall}
+use Rattle.inlining.specs.declared.counts.Sum.{Sum}
+use Rattle.inlining.specs.Inlining.{Inside, inside, made_in, func_in, flagged}
+use Rattle.inlining.specs.Laws.{RelatesSeconds}
+use Rattle.inlining.specs.Weights.{counting}
+
+abbrev pub most : ℕ
+most = 2 ^ 32 - 1
+
+-- equal up to there
+abbrev pub Same : ℕ → ℕ → Type 0
+Same m n = min m most ≡ min n most
+
+-- where the arguments have so many nodes
+abbrev pub sum_at : Sum → ℕ → ℕ → ℕ
+sum_at sum x y = sum.own + (sum.first * x + sum.second * y)
+
+abbrev pub count_call : CountCall → ℕ → Option ℕ → ℕ
+count_call call x None = sum_at call.one x 0
+count_call call x (Some y) = sum_at call.two x y
+
+abbrev pub call_of : Option CountCall → Option (ℕ → Option ℕ → ℕ)
+call_of None = None
+call_of (Some call) = Some (count_call call)
+
+abbrev pub call_at : Option (Option CountCall) → Option (ℕ → Option ℕ → ℕ)
+call_at None = None
+call_at (Some call) = call_of call
+
+-- what answers calls, by a table
+abbrev pub counted : List (Option CountCall) → Inside ℕ
+counted table place = call_at (slice_get table place)
+
+abbrev pub SameCall : Option (ℕ → Option ℕ → ℕ) → Option (ℕ → Option ℕ → ℕ) → Type 0
+SameCall None None = Unit {0}
+SameCall None (Some g) = ⊥
+SameCall (Some f) None = ⊥
+SameCall (Some f) (Some g) = (x : ℕ) (y : Option ℕ) (z : ℕ) (u : Option ℕ) → Same x z → RelatesSeconds Same y u → Same (f x y) (g z u)
+
+-- A table for the first Funcs, of which the flagged ones are inlined, counts as the definition does.
+abbrev pub Counts : List Bool → List Func → List (Option CountCall) → Type 0
+Counts flags funcs table = (place : ℕ) → SameCall (counted table place) (inside counting (flagged flags) funcs (length table) place)
+
+-- what a call of the Func at a place is counted as
+abbrev pub made_at : List Bool → List Func → ℕ → Option (ℕ → Option ℕ → ℕ)
+made_at flags funcs place = made_in counting (inside counting (flagged flags) funcs place) (func_in funcs (flagged flags) (place + 1) place)
+
+-- so often
+abbrev pub times : ℕ → ℕ → ℕ
+times n m = n * m
