@@ -1,9 +1,10 @@
 -- Numbers that are equal up to the greatest that 32 bits hold.
-use Rattle.std.proofs.Common.{◌≡◌, ℕ, zero, suc, ◌+◌, ◌-◌, ◌*◌, ◌^◌, ◌<◌, ◌≤◌, refl, sym, ap, ◌∙◌, arith, inl, inr}
-use Rattle.std.specs.Prelude.{min}
+use Rattle.std.proofs.Common.{◌≡◌, ℕ, zero, suc, ◌+◌, ◌*◌, ◌≤◌, refl, ap, ◌∙◌, arith, inl, inr}
+use Rattle.std.specs.Prelude.{min, max, Option, None, Some}
 use Rattle.std.proofs.lemmas.Bool.{cases_lt}
-use Rattle.std.proofs.Math.Nat.{mul-le-mul_left, mul-le-mul_right}
-use Rattle.inlining.specs.inner.Summing.{most, Same}
+use Rattle.std.proofs.Math.Nat.{mul-le-mul_right}
+use Rattle.inlining.specs.declared.needs.Need.{Need}
+use Rattle.inlining.specs.inner.Summing.{most, Same, waited, need_at}
 
 pub same_add : (a b c d : ℕ) → Same a b → Same c d → Same (a + c) (b + d)
 same_add a b c d e f = omega (arith, e, f)
@@ -67,3 +68,15 @@ both_same nn k x y m n p q hn hp hq hx hy = omega (arith, hn, hp, hq, hx, hy)
 
 pub four_same : (nn w x y k m n p q r : ℕ) → Same nn 1 → Same p (nn + w) → Same q (x + y) → Same r (p + q) → Same w k → Same x m → Same y n → Same r (1 + k + m + n)
 four_same nn w x y k m n p q r hn hp hq hr hw hx hy = omega (arith, hn, hp, hq, hr, hw, hx, hy)
+
+pub same_max : (a b c d : ℕ) → Same a b → Same c d → Same (max a c) (max b d)
+same_max a b c d e f = omega (arith, e, f)
+
+waited_same : (wait : Option ℕ) (x m : ℕ) → Same x m → Same (waited wait x) (waited wait m)
+waited_same None x m e = refl
+waited_same (Some wait) x m e = omega (arith, e)
+
+pub need_same : (need : Need) (x y m n : ℕ) → Same x m → Same y n → Same (need_at need x y) (need_at need m n)
+need_same need x y m n e f =
+    same_max need.own need.own (max (waited need.first x) (waited need.second y)) (max (waited need.first m) (waited need.second n)) refl
+    (same_max (waited need.first x) (waited need.first m) (waited need.second y) (waited need.second n) (waited_same need.first x m e) (waited_same need.second y n f))

@@ -1,8 +1,7 @@
 -- A table counts as the definition does.
-use Rattle.std.proofs.Common.{◌≡◌, ℕ, zero, suc, ◌+◌, ◌<◌, ◌≤◌, Bool, true, false, cond, List, [], ◌∷◌, ◌++◌, length, Option, None, Some, refl, sym, ap, subst, ◌∙◌, arith, inl, inr}
-use Rattle.std.specs.Prelude.{◌==◌, ◌&&◌, min, nat_lt, slice_get}
+use Rattle.std.proofs.Common.{◌≡◌, ℕ, zero, suc, ◌+◌, ◌<◌, Bool, true, false, List, [], ◌∷◌, ◌++◌, length, Option, None, Some, refl, sym, ap, subst, ◌∙◌, arith, inl, inr}
+use Rattle.std.specs.Prelude.{slice_get}
 use Rattle.std.proofs.lemmas.Bool.{cases_lt, cases_eq, lt-ltb}
-use Rattle.std.proofs.lemmas.Bool.Decides.{nat_tests}
 use Rattle.std.proofs.lemmas.Option.{slice_get_past}
 use Rattle.halide_pipeline.specs.declared.definitions.Func.{Func}
 use Rattle.halide_pipeline.specs.declared.expressions.Expr.{Expr}
@@ -15,9 +14,8 @@ use Rattle.reads.specs.Levels.{Both, left_of, right_of}
 use Rattle.inlining.specs.declared.counts.CountCall.{CountCall}
 use Rattle.inlining.specs.declared.counts.Sum.{Sum}
 use Rattle.inlining.specs.Inlining.{arguments, through, inside, inlined, made_in, made_of, func_in, flagged}
-use Rattle.inlining.specs.Laws.{RelatesSeconds}
-use Rattle.inlining.specs.Weights.{counting, dropped, dropped_second}
-use Rattle.inlining.specs.inner.Summing.{Same, most, sum_at, count_call, call_of, call_at, counted, SameCall, Counts, made_at}
+use Rattle.inlining.specs.Weights.{counting, dropped}
+use Rattle.inlining.specs.inner.Summing.{Same, sum_at, count_call, call_of, call_at, counted, SameCall, Counts, made_at}
 use Rattle.inlining.proofs.Through.{Answers, arguments_related, through_related}
 use Rattle.inlining.proofs.Steps.{inside_is, inside_past}
 
@@ -71,18 +69,18 @@ module _ (flags : List Bool) (funcs : List Func) (table : List (Option CountCall
 
 -- ---- a table that grows
 
-get_before : {A : Type 0} → (xs ys : List A) (n : ℕ) → n < length xs → slice_get (xs ++ ys) n ≡ slice_get xs n
+pub get_before : {A : Type 0} → (xs ys : List A) (n : ℕ) → n < length xs → slice_get (xs ++ ys) n ≡ slice_get xs n
 get_before [] ys n less = absurd (omega (arith, less))
 get_before (x ∷ xs) ys zero less = refl
 get_before (x ∷ xs) ys (suc n) less = get_before xs ys n (omega (arith, less))
 
-get_last : {A : Type 0} → (xs : List A) (y : A) (n : ℕ) → n ≡ length xs → slice_get (xs ++ y ∷ []) n ≡ Some y
+pub get_last : {A : Type 0} → (xs : List A) (y : A) (n : ℕ) → n ≡ length xs → slice_get (xs ++ y ∷ []) n ≡ Some y
 get_last [] y zero e = refl
 get_last [] y (suc n) e = absurd (omega (arith, e))
 get_last (x ∷ xs) y zero e = absurd (omega (arith, e))
 get_last (x ∷ xs) y (suc n) e = get_last xs y n (omega (arith, e))
 
-more_length : {A : Type 0} → (xs : List A) (y : A) → length (xs ++ y ∷ []) ≡ length xs + 1
+pub more_length : {A : Type 0} → (xs : List A) (y : A) → length (xs ++ y ∷ []) ≡ length xs + 1
 more_length [] y = refl
 more_length (x ∷ xs) y = omega (arith, more_length xs y)
 

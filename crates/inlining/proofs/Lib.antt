@@ -6,3 +6,4 @@ pub mod Seeing
 pub mod Steps
 pub mod Capping
 pub mod Counting
+pub mod Needing

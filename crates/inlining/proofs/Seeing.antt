@@ -5,7 +5,7 @@ use Rattle.halide_meaning.specs.Pixel.{Reads, variable, at_point}
 use Rattle.reads.specs.Levels.{Both, left_of, right_of}
 use Rattle.reads.specs.Points.{Seen, Agree, AgreeAt}
 use Rattle.reads.proofs.Seeing.{SameValue, same_at, Matches, matches_at, all_parts}
-use Rattle.inlining.specs.Inlining.{none, second_of, arguments, through}
+use Rattle.inlining.specs.Inlining.{none, second_of, arguments}
 use Rattle.inlining.specs.Values.{values, seeing, unread, second_points}
 use Rattle.inlining.specs.Laws.{RelatesSeconds, RelatesArguments, RelatesCalls, seen_variable, InlinedValuesDependOnReads, SeesInlinedValues}
 use Rattle.inlining.proofs.Through.{RelatesMade, arguments_related, through_related, made_related, inlined_related}

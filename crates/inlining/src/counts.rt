@@ -87,7 +87,10 @@ fn variable(variable: Variable) -> Sum
 fn applied(sum: Sum, x: Sum, y: Sum) -> Sum
     ensures { (p q m n : ℕ) → inner.Same (inner.sum_at x p q) m → inner.Same (inner.sum_at y p q) n → inner.Same (inner.sum_at result p q) (inner.sum_at sum m n) }
 {
-    plus(number(sum.own), plus(times(sum.first, x), times(sum.second, y)))
+    plus(
+        number(sum.own),
+        plus(times(sum.first, x), times(sum.second, y)),
+    )
 }
 
 /// What is known of the Func that is called, if it is inlined.
@@ -134,7 +137,10 @@ fn sum_of(table: &[Option<CountCall>], expr: &Expr) -> Sum
         Expr::Variable(own) => variable(*own),
         Expr::Divide(a, _) => plus(number(2), sum_of(table, a.get())),
         Expr::Remainder(a, _) => plus(number(2), sum_of(table, a.get())),
-        Expr::Binary(_, a, b) => plus(number(1), plus(sum_of(table, a.get()), sum_of(table, b.get()))),
+        Expr::Binary(_, a, b) => plus(
+            number(1),
+            plus(sum_of(table, a.get()), sum_of(table, b.get())),
+        ),
         Expr::Select(c, a, b) => plus(
             plus(number(1), sum_of(table, c.get())),
             plus(sum_of(table, a.get()), sum_of(table, b.get())),

@@ -2,6 +2,7 @@
 //!
 //! - `specs/Inlining.antt`: **one fold of expressions through inlined Funcs**, over any algebra; `specs/Values.antt`
 //!   and `specs/Weights.antt` have its instances: values, points read, nodes and need.
+//! - [`counts`], [`needs`]: an expression's nodes and need, in time that is linear in the texts of the Funcs.
 //! - [`funcs`]: which Funcs are inlined.
 //! - [`laws`]: what inlining keeps (`specs/Laws.antt`).
 #![tactic(auto)]
@@ -9,5 +10,6 @@
 pub mod counts;
 pub mod funcs;
 pub mod laws;
+pub mod needs;
 
 pub use crate::funcs::inlined_func;

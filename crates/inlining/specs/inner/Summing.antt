@@ -1,12 +1,13 @@
 -- Numbers up to the greatest that 32 bits hold, and how what is counted of an inlined Func depends on its arguments.
 -- This project's own.
-use Rattle.std.specs.Prelude.{◌≡◌, ℕ, ◌+◌, ◌-◌, ◌*◌, ◌^◌, Bool, min, List, length, slice_get, Option, Some, None}
+use Rattle.std.specs.Prelude.{◌≡◌, ℕ, ◌+◌, ◌-◌, ◌*◌, ◌^◌, Bool, min, max, List, length, slice_get, Option, Some, None}
 use Rattle.halide_pipeline.specs.declared.definitions.Func.{Func}
 use Rattle.inlining.specs.declared.counts.CountCall.{CountCall}
 use Rattle.inlining.specs.declared.counts.Sum.{Sum}
-use Rattle.inlining.specs.Inlining.{Inside, inside, made_in, func_in, flagged}
+use Rattle.inlining.specs.declared.needs.Need.{Need}
+use Rattle.inlining.specs.Inlining.{Inside, second_of, inside, made_in, func_in, flagged}
 use Rattle.inlining.specs.Laws.{RelatesSeconds}
-use Rattle.inlining.specs.Weights.{counting}
+use Rattle.inlining.specs.Weights.{counting, needing}
 
 abbrev pub most : ℕ
 most = 2 ^ 32 - 1
@@ -52,3 +53,34 @@ made_at flags funcs place = made_in counting (inside counting (flagged flags) fu
 -- so often
 abbrev pub times : ℕ → ℕ → ℕ
 times n m = n * m
+
+-- ---- needs
+
+abbrev pub waited : Option ℕ → ℕ → ℕ
+waited None n = 0
+waited (Some wait) n = wait + n
+
+-- where the arguments need so much
+abbrev pub need_at : Need → ℕ → ℕ → ℕ
+need_at need x y = max need.own (max (waited need.first x) (waited need.second y))
+
+abbrev pub need_call : Need → ℕ → Option ℕ → ℕ
+need_call need x y = need_at need x (second_of 1 y)
+
+abbrev pub need_of : Option Need → Option (ℕ → Option ℕ → ℕ)
+need_of None = None
+need_of (Some need) = Some (need_call need)
+
+abbrev pub need_in : Option (Option Need) → Option (ℕ → Option ℕ → ℕ)
+need_in None = None
+need_in (Some need) = need_of need
+
+abbrev pub needed : List (Option Need) → Inside ℕ
+needed table place = need_in (slice_get table place)
+
+-- A table for the first Funcs, of which the flagged ones are inlined, needs what the definition needs.
+abbrev pub Needs : List Bool → List Func → List (Option Need) → Type 0
+Needs flags funcs table = (place : ℕ) → SameCall (needed table place) (inside needing (flagged flags) funcs (length table) place)
+
+abbrev pub need_made : List Bool → List Func → ℕ → Option (ℕ → Option ℕ → ℕ)
+need_made flags funcs place = made_in needing (inside needing (flagged flags) funcs place) (func_in funcs (flagged flags) (place + 1) place)

@@ -3,7 +3,7 @@ use Rattle.std.specs.Option.{option_copied}
 use Rattle.halide_pipeline.specs.declared.definitions.Func.{Func}
 use Rattle.inlining.specs.Inlining.{flagged, func_in, inside, made_in, made_of}
 use Rattle.inlining.specs.Weights.{counting}
-use Rattle.inlining.specs.inner.Summing.{SameCall, count_call, made_at}
+use Rattle.inlining.specs.inner.Summing.{SameCall, count_call}
 use Rattle.inlining.proofs.Counting.{made_same}
 use Rattle.inlining.proofs.counts.call_at.Goals as goal
 

@@ -1,4 +1,4 @@
-use Rattle.std.proofs.Common.{◌≡◌, ℕ, ◌+◌, Option, None, Some, sym, ap, subst, ◌∙◌, arith}
+use Rattle.std.proofs.Common.{◌≡◌, ℕ, ◌+◌, Option, None, Some, sym, ap, subst, ◌∙◌}
 use Rattle.inlining.specs.Inlining.{answer, answered}
 use Rattle.inlining.specs.inner.Summing.{Same, sum_at, count_call, call_of, counted}
 use Rattle.inlining.proofs.Capping.{both_same}

@@ -1,4 +1,4 @@
-use Rattle.std.proofs.Common.{◌≡◌, ℕ, ◌+◌, List, [], ◌∷◌, ◌++◌, length, Option, refl, sym, subst}
+use Rattle.std.proofs.Common.{◌≡◌, ◌+◌, List, length, Option, refl, sym, subst}
 use Rattle.inlining.specs.declared.counts.CountCall.{CountCall}
 use Rattle.inlining.specs.inner.Summing.{Counts}
 use Rattle.inlining.proofs.Counting.{no_counts, counts_more, grown_length}
@@ -11,6 +11,7 @@ loop-place-init c =
 pub loop-place-preserved : goal.loop-place-preserved
 loop-place-preserved c =
     let before = c.loop-place.invariant in
-    subst (λ (items : List (Option CountCall)). Counts c.args.flags.now c.args.funcs.now items × (length items ≡ c.loop-place.place + 1)) (sym c.in_ok-push.ensures.items)
-    (counts_more c.args.flags.now c.args.funcs.now c.loop-place.table.items c.call_at-call.result c.loop-place.place before.1 before.0 c.call_at-call.ensures,
-    grown_length c.loop-place.table.items c.call_at-call.result c.loop-place.place before.1)
+    subst (λ (items : List (Option CountCall)). Counts c.args.flags.now c.args.funcs.now items × (length items ≡ c.loop-place.place + 1)) (sym c.in_ok-push.ensures.items) (
+      counts_more c.args.flags.now c.args.funcs.now c.loop-place.table.items c.call_at-call.result c.loop-place.place before.1 before.0 c.call_at-call.ensures,
+      grown_length c.loop-place.table.items c.call_at-call.result c.loop-place.place before.1,
+    )

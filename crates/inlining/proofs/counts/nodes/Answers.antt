@@ -1,4 +1,4 @@
-use Rattle.std.proofs.Common.{ℕ, length, refl, arith}
+use Rattle.std.proofs.Common.{refl, arith}
 use Rattle.halide_pipeline.specs.declared.expressions.Variable.{Variable}
 use Rattle.halide_pipeline.specs.declared.expressions.Variable.TheVariants as variables
 use Rattle.inlining.specs.Inlining.{arguments}
