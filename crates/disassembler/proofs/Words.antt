@@ -77,6 +77,7 @@ form_first (f.Vector v.MoveVi) = refl
 form_first (f.Vector v.MoveToScalar) = refl
 form_first (f.Vector v.MoveFromScalar) = refl
 form_first (f.Vector v.ElementNumbers) = refl
+form_first (f.Vector v.ExtendBytes) = refl
 form_first (f.Vector v.Vsetvli) = refl
 form_first (f.Vector v.Vsetivli) = refl
 form_first (f.Vector v.Vsetvl) = refl

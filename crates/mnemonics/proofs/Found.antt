@@ -181,6 +181,7 @@ found (f.Vector v.MoveVi) = refl
 found (f.Vector v.MoveToScalar) = refl
 found (f.Vector v.MoveFromScalar) = refl
 found (f.Vector v.ElementNumbers) = refl
+found (f.Vector v.ExtendBytes) = refl
 found (f.Vector v.Vsetvli) = refl
 found (f.Vector v.Vsetivli) = refl
 found (f.Vector v.Vsetvl) = refl

@@ -266,6 +266,7 @@ vector_fillable v.MoveVi = refl
 vector_fillable v.MoveToScalar = refl
 vector_fillable v.MoveFromScalar = refl
 vector_fillable v.ElementNumbers = refl
+vector_fillable v.ExtendBytes = refl
 vector_fillable v.Vsetvli = refl
 vector_fillable v.Vsetivli = refl
 vector_fillable v.Vsetvl = refl

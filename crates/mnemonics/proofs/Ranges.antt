@@ -247,6 +247,7 @@ vector_count (i.MoveVi vd imm) = refl
 vector_count (i.MoveToScalar rd vs2) = refl
 vector_count (i.MoveFromScalar vd rs1) = refl
 vector_count (i.ElementNumbers vd vm) = refl
+vector_count (i.ExtendBytes vd vs2 vm) = refl
 vector_count (i.Vsetvli rd rs1 vtype) = refl
 vector_count (i.Vsetivli rd length vtype) = refl
 vector_count (i.Vsetvl rd rs1 rs2) = refl

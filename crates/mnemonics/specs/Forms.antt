@@ -10,7 +10,7 @@ use Rattle.rv_insn.specs.VectorMeaning.{arithmetic_vv_name, arithmetic_vx_name, 
 use Rattle.rv_insn.specs.declared.instructions.Insn.{Insn}
 use Rattle.rv_insn.specs.declared.instructions.Insn.TheVariants.{Lui, Auipc, Jal, Jalr, Branch, Load, Store, AluImm, Shift, Alu, AmoaddW, Fence, Ecall, Ebreak, Vector}
 use Rattle.rv_insn.specs.declared.vector_instructions.VectorInsn.{VectorInsn}
-use Rattle.rv_insn.specs.declared.vector_instructions.VectorInsn.TheVariants.{ArithmeticVv, ArithmeticVx, ArithmeticVi, ShiftVi, CompareVv, CompareVx, CompareVi, MultiplyVv, MultiplyVx, Reduce, MergeVv, MergeVx, MergeVi, MoveVv, MoveVx, MoveVi, MoveToScalar, MoveFromScalar, ElementNumbers, Vsetvli, Vsetivli, Vsetvl, LoadUnit, LoadStrided, LoadIndexed, StoreUnit, StoreStrided, StoreIndexed}
+use Rattle.rv_insn.specs.declared.vector_instructions.VectorInsn.TheVariants.{ArithmeticVv, ArithmeticVx, ArithmeticVi, ShiftVi, CompareVv, CompareVx, CompareVi, MultiplyVv, MultiplyVx, Reduce, MergeVv, MergeVx, MergeVi, MoveVv, MoveVx, MoveVi, MoveToScalar, MoveFromScalar, ElementNumbers, ExtendBytes, Vsetvli, Vsetivli, Vsetvl, LoadUnit, LoadStrided, LoadIndexed, StoreUnit, StoreStrided, StoreIndexed}
 use Rattle.mnemonics.specs.declared.forms.Form.{Form}
 use Rattle.mnemonics.specs.declared.forms.Form.TheVariants as f
 use Rattle.mnemonics.specs.declared.forms.VectorForm.{VectorForm}
@@ -38,6 +38,7 @@ vector_form_of (MoveVi vd imm) = v.MoveVi
 vector_form_of (MoveToScalar rd vs2) = v.MoveToScalar
 vector_form_of (MoveFromScalar vd rs1) = v.MoveFromScalar
 vector_form_of (ElementNumbers vd vm) = v.ElementNumbers
+vector_form_of (ExtendBytes vd vs2 vm) = v.ExtendBytes
 vector_form_of (Vsetvli rd rs1 vtype) = v.Vsetvli
 vector_form_of (Vsetivli rd length vtype) = v.Vsetivli
 vector_form_of (Vsetvl rd rs1 rs2) = v.Vsetvl
@@ -87,6 +88,7 @@ vector_row_name v.MoveVi = codes "vmv.v.i"
 vector_row_name v.MoveToScalar = codes "vmv.x.s"
 vector_row_name v.MoveFromScalar = codes "vmv.s.x"
 vector_row_name v.ElementNumbers = codes "vid.v"
+vector_row_name v.ExtendBytes = codes "vzext.vf4"
 vector_row_name v.Vsetvli = codes "vsetvli"
 vector_row_name v.Vsetivli = codes "vsetivli"
 vector_row_name v.Vsetvl = codes "vsetvl"

@@ -105,7 +105,7 @@ v_forms =
 unfoldable pub other_vector_forms : List Form
 other_vector_forms =
     f.Vector (v.Reduce reductions.Vredsum) ∷ f.Vector (v.Reduce reductions.Vredminu) ∷ f.Vector (v.Reduce reductions.Vredmin) ∷ f.Vector (v.Reduce reductions.Vredmaxu) ∷ f.Vector (v.Reduce reductions.Vredmax) ∷
-    f.Vector v.MergeVv ∷ f.Vector v.MergeVx ∷ f.Vector v.MergeVi ∷ f.Vector v.MoveVx ∷ f.Vector v.MoveVi ∷ f.Vector v.MoveToScalar ∷ f.Vector v.MoveFromScalar ∷ f.Vector v.Vsetvli ∷ f.Vector v.Vsetivli ∷ f.Vector v.Vsetvl ∷
+    f.Vector v.MergeVv ∷ f.Vector v.MergeVx ∷ f.Vector v.MergeVi ∷ f.Vector v.MoveVx ∷ f.Vector v.MoveVi ∷ f.Vector v.MoveToScalar ∷ f.Vector v.MoveFromScalar ∷ f.Vector v.ExtendBytes ∷ f.Vector v.Vsetvli ∷ f.Vector v.Vsetivli ∷ f.Vector v.Vsetvl ∷
     []
 
 unfoldable pub forms : List Form

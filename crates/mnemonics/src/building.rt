@@ -216,6 +216,11 @@ impl VectorForm {
                 vd: vector_at(fields, 0),
                 vm: flag_at(fields, 1),
             },
+            VectorForm::ExtendBytes => VectorInsn::ExtendBytes {
+                vd: vector_at(fields, 0),
+                vs2: vector_at(fields, 1),
+                vm: flag_at(fields, 2),
+            },
             VectorForm::Vsetvli => VectorInsn::Vsetvli {
                 rd: integer_at(fields, 0),
                 rs1: integer_at(fields, 1),

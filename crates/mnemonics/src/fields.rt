@@ -237,6 +237,9 @@ impl Fields {
             VectorInsn::MoveVi { vd, imm } => Fields::two(vector(vd), imm.value() as i64),
             VectorInsn::MoveToScalar { rd, vs2 } => Fields::two(integer(rd), vector(vs2)),
             VectorInsn::ElementNumbers { vd, vm } => Fields::two(vector(vd), bit(vm)),
+            VectorInsn::ExtendBytes { vd, vs2, vm } => {
+                Fields::three(vector(vd), vector(vs2), bit(vm))
+            }
             VectorInsn::Vsetvli { rd, rs1, vtype } => {
                 Fields::three(integer(rd), integer(rs1), vtype.value() as i64)
             }
@@ -342,7 +345,9 @@ impl VectorForm {
             VectorForm::Vsetvli | VectorForm::Vsetivli | VectorForm::Vsetvl => {
                 Fields::three(0, 0, 0)
             }
-            VectorForm::LoadUnit(_) | VectorForm::StoreUnit(_) => Fields::three(0, 0, 1),
+            VectorForm::ExtendBytes | VectorForm::LoadUnit(_) | VectorForm::StoreUnit(_) => {
+                Fields::three(0, 0, 1)
+            }
             _ => Fields::four(0, 0, 0, 1),
         }
     }

@@ -213,7 +213,7 @@ const V_FORMS: [Form; 20] = [
 ];
 
 // The other mnemonics that begin with `v`.
-const OTHER_VECTOR_FORMS: [Form; 15] = [
+const OTHER_VECTOR_FORMS: [Form; 16] = [
     Form::Vector(VectorForm::Reduce(ReductionOp::Vredsum)),
     Form::Vector(VectorForm::Reduce(ReductionOp::Vredminu)),
     Form::Vector(VectorForm::Reduce(ReductionOp::Vredmin)),
@@ -226,6 +226,7 @@ const OTHER_VECTOR_FORMS: [Form; 15] = [
     Form::Vector(VectorForm::MoveVi),
     Form::Vector(VectorForm::MoveToScalar),
     Form::Vector(VectorForm::MoveFromScalar),
+    Form::Vector(VectorForm::ExtendBytes),
     Form::Vector(VectorForm::Vsetvli),
     Form::Vector(VectorForm::Vsetivli),
     Form::Vector(VectorForm::Vsetvl),

@@ -78,6 +78,8 @@ const MOVE_VI: [Slot; 2] = [
 
 const ELEMENT_NUMBERS: [Slot; 2] = [Slot::Vector(0), Slot::Mask(1)];
 
+const EXTEND_BYTES: [Slot; 3] = [Slot::Vector(0), Slot::Vector(1), Slot::Mask(2)];
+
 // Configurations.
 const VSETVLI: [Slot; 3] = [
     Slot::Integer(0),
@@ -184,6 +186,7 @@ impl VectorForm {
             VectorForm::MoveVi => &MOVE_VI,
             VectorForm::MoveToScalar => &MOVE_XV,
             VectorForm::ElementNumbers => &ELEMENT_NUMBERS,
+            VectorForm::ExtendBytes => &EXTEND_BYTES,
             VectorForm::Vsetvli => &VSETVLI,
             VectorForm::Vsetivli => &VSETIVLI,
             VectorForm::Vsetvl => &VSETVL,

@@ -181,6 +181,7 @@ row_named-name_of (Vector (v.MoveVi vd imm)) = refl
 row_named-name_of (Vector (v.MoveToScalar rd vs2)) = refl
 row_named-name_of (Vector (v.MoveFromScalar vd rs1)) = refl
 row_named-name_of (Vector (v.ElementNumbers vd vm)) = refl
+row_named-name_of (Vector (v.ExtendBytes vd vs2 vm)) = refl
 row_named-name_of (Vector (v.Vsetvli rd rs1 vtype)) = refl
 row_named-name_of (Vector (v.Vsetivli rd length vtype)) = refl
 row_named-name_of (Vector (v.Vsetvl rd rs1 rs2)) = refl

@@ -4,7 +4,7 @@ use Rattle.std.proofs.Common.{◌≡◌, ℕ, ◌+◌, ◌/◌, ◌%◌, ◌^◌
 use Rattle.std.specs.Prelude.{map}
 use Rattle.rv_insn.specs.Encoding.{signed, Field, field_of, bit_of, span}
 use Rattle.rv_insn.specs.VectorTable as table
-use Rattle.rv_insn.specs.VectorTable.{v_row, opivi_type, merge_vi_type, move_vi_type, to_scalar_type, from_scalar_type, numbers_type, vsetvli_type, vsetivli_type, vsetvl_type, unit_type}
+use Rattle.rv_insn.specs.VectorTable.{v_row, opivi_type, merge_vi_type, move_vi_type, to_scalar_type, from_scalar_type, numbers_type, extend_type, vsetvli_type, vsetivli_type, vsetvl_type, unit_type}
 use Rattle.rv_encoding.specs.Formats.{Stands, registers_shape, merge_shape, move_shape, offset_shape}
 use Rattle.rv_encoding.specs.Decoding.{part, rd_of, rs1_of, rs2_of, vector_immediate_of, vtype10_of, vtype11_of, vm_of}
 use Rattle.rv_encoding.proofs.Bits.{number_at-span, PartsAre, parts_made}
@@ -59,6 +59,9 @@ to_scalar_made word rd vs2 p0 p1 p2 p3 p4 rd_is vs2_is = stands word _ _ _ (p0, 
 
 pub from_scalar_made : (word vd rs1 : ℕ) → part word 0 7 ≡ 0b1010111 → part word 12 3 ≡ 0b110 → part word 26 6 ≡ 0b010000 → part word 25 1 ≡ 1 → part word 20 5 ≡ 0 → vd ≡ rd_of word → rs1 ≡ rs1_of word → Stands word (from_scalar_type []) (pos vd ∷ pos rs1 ∷ [])
 from_scalar_made word vd rs1 p0 p1 p2 p3 p4 vd_is rs1_is = stands word _ _ _ (p0, (p1, (p2, (p3, (p4, tt))))) (values_2 (ap pos vd_is ∙ sym (rd_read word)) (ap pos rs1_is ∙ sym (rs1_read word)))
+
+pub extended_made : (word vd vs2 : ℕ) (vm : Bool) → part word 0 7 ≡ 0b1010111 → part word 12 3 ≡ 0b010 → part word 26 6 ≡ 0b010010 → part word 15 5 ≡ 0b00100 → vd ≡ rd_of word → vs2 ≡ rs2_of word → bit_of vm ≡ part word 25 1 → Stands word (extend_type []) (pos vd ∷ pos vs2 ∷ pos (bit_of vm) ∷ [])
+extended_made word vd vs2 vm p0 p1 p2 p3 vd_is vs2_is vm_is = stands word _ _ _ (p0, (p1, (p2, (p3, tt)))) (values_3 (ap pos vd_is ∙ sym (rd_read word)) (ap pos vs2_is ∙ sym (rs2_read word)) (ap pos vm_is ∙ sym (vm_read word)))
 
 pub numbers_made : (word vd : ℕ) (vm : Bool) → part word 0 7 ≡ 0b1010111 → part word 12 3 ≡ 0b010 → part word 26 6 ≡ 0b010100 → part word 15 5 ≡ 0b10001 → part word 20 5 ≡ 0 → vd ≡ rd_of word → bit_of vm ≡ part word 25 1 → Stands word (numbers_type []) (pos vd ∷ pos (bit_of vm) ∷ [])
 numbers_made word vd vm p0 p1 p2 p3 p4 vd_is vm_is = stands word _ _ _ (p0, (p1, (p2, (p3, (p4, tt))))) (values_2 (ap pos vd_is ∙ sym (rd_read word)) (ap pos vm_is ∙ sym (vm_read word)))
@@ -133,6 +136,12 @@ pub to_scalar_read : (word vd vs2 : ℕ) → (pos vd ∷ pos vs2 ∷ []) ≡ map
 to_scalar_read word vd vs2 h =
     let values = h ∙ values_2 (rd_read word) (rs2_read word) in
     (cc, cc)
+
+pub extended_read : (word vd vs2 : ℕ) (vm : Bool) → (pos vd ∷ pos vs2 ∷ pos (bit_of vm) ∷ []) ≡ map (field_of word) (table.vd ∷ table.vs2 ∷ table.vm ∷ []) → (vd ≡ rd_of word) × (vs2 ≡ rs2_of word) × (vm ≡ vm_of word)
+extended_read word vd vs2 vm h =
+    let values = h ∙ values_3 (rd_read word) (rs2_read word) (vm_read word) in
+    let flag : vm_of word ≡ vm = flag_of-bit vm (part word 25 1) (omega arith) cc in
+    (cc, cc, sym flag)
 
 pub numbers_read : (word vd : ℕ) (vm : Bool) → (pos vd ∷ pos (bit_of vm) ∷ []) ≡ map (field_of word) (table.vd ∷ table.vm ∷ []) → (vd ≡ rd_of word) × (vm ≡ vm_of word)
 numbers_read word vd vm h =

@@ -9,12 +9,12 @@ use Rattle.rv_insn.specs.declared.vector_instructions.VectorInsn.{VectorInsn}
 use Rattle.rv_insn.specs.declared.vector_instructions.VectorInsn.TheVariants as v
 use Rattle.rv_insn.specs.declared.vector_operations.ElementWidth.{ElementWidth}
 use Rattle.rv_encoding.specs.Formats.{Stands, StandsFor, vector_shape_of}
-use Rattle.rv_encoding.specs.Decoding.{part, rd_of, rs1_of, rs2_of, vector_immediate_of, vtype10_of, vtype11_of, vm_of, with_op, op_or, merge_in, opivv_in, opivx_in, opivi_in, opmvv_in, opmvx_in, to_scalar_in, from_scalar_in, numbers_in, config_in, vector_in, vector_load_in, load_unit_in, load_strided_in, load_indexed_in, vector_store_in, store_unit_in, store_strided_in, store_indexed_in, vector_by_opcode, by_keys, decoded}
+use Rattle.rv_encoding.specs.Decoding.{part, rd_of, rs1_of, rs2_of, vector_immediate_of, vtype10_of, vtype11_of, vm_of, with_op, op_or, merge_in, opivv_in, opivx_in, opivi_in, opmvv_in, opmvx_in, to_scalar_in, from_scalar_in, numbers_in, extended_in, config_in, vector_in, vector_load_in, load_unit_in, load_strided_in, load_indexed_in, vector_store_in, store_unit_in, store_strided_in, store_indexed_in, vector_by_opcode, by_keys, decoded}
 use Rattle.rv_encoding.specs.VectorOperations.{arithmetic_vv_funct6, arithmetic_vv_of, arithmetic_vx_funct6, arithmetic_vx_of, arithmetic_vi_funct6, arithmetic_vi_of, shift_vi_funct6, shift_vi_of, compare_vv_funct6, compare_vv_of, compare_vx_funct6, compare_vx_of, compare_vi_funct6, compare_vi_of, multiply_funct6, multiply_of, reduction_funct6, reduction_of, width_funct3, width_of}
 use Rattle.rv_encoding.proofs.Bits.{PartsAre, parts_read}
 use Rattle.rv_encoding.proofs.Formats.{bit_of-flag}
-use Rattle.rv_encoding.proofs.VectorFormats.{registers_made, immediate_made, merge_made, merge_immediate_made, move_made, move_immediate_made, to_scalar_made, from_scalar_made, numbers_made, vsetvl_made, unit_made, offset_made, vsetvli_stands, vsetivli_stands, registers_read, immediate_read_back, merge_read, merge_immediate_read, move_read, move_immediate_read, to_scalar_read, numbers_read, vsetvli_read, vsetivli_read, vsetvl_read, unit_read, offset_read}
-use Rattle.rv_encoding.proofs.VectorOperations.{arithmetic_vv_funct6-lt, arithmetic_vv_of-funct6, arithmetic_vv_found, arithmetic_vv_is_not_merge, arithmetic_vx_funct6-lt, arithmetic_vx_of-funct6, arithmetic_vx_found, arithmetic_vx_is_not_merge, arithmetic_vi_funct6-lt, arithmetic_vi_of-funct6, arithmetic_vi_found, arithmetic_vi_is_not_merge, shift_vi_funct6-lt, shift_vi_of-funct6, shift_vi_found, shift_vi_is_not_merge, compare_vv_funct6-lt, compare_vv_of-funct6, compare_vv_found, compare_vv_is_not_merge, compare_vx_funct6-lt, compare_vx_of-funct6, compare_vx_found, compare_vx_is_not_merge, compare_vi_funct6-lt, compare_vi_of-funct6, compare_vi_found, compare_vi_is_not_merge, multiply_funct6-lt, multiply_of-funct6, multiply_found, multiply_is_not_scalar_move, multiply_is_not_numbers, reduction_funct6-lt, reduction_of-funct6, reduction_found, reduction_is_not_scalar_move, reduction_is_not_numbers, compare_vv_is_no_arithmetic_vv, compare_vx_is_no_arithmetic_vx, shift_vi_is_no_arithmetic_vi, compare_vi_is_no_arithmetic_vi, compare_vi_is_no_shift_vi, multiply_is_no_reduction, width_funct3-lt, width_of-funct3, width_found}
+use Rattle.rv_encoding.proofs.VectorFormats.{registers_made, immediate_made, merge_made, merge_immediate_made, move_made, move_immediate_made, to_scalar_made, from_scalar_made, numbers_made, extended_made, vsetvl_made, unit_made, offset_made, vsetvli_stands, vsetivli_stands, registers_read, immediate_read_back, merge_read, merge_immediate_read, move_read, move_immediate_read, to_scalar_read, numbers_read, extended_read, vsetvli_read, vsetivli_read, vsetvl_read, unit_read, offset_read}
+use Rattle.rv_encoding.proofs.VectorOperations.{arithmetic_vv_funct6-lt, arithmetic_vv_of-funct6, arithmetic_vv_found, arithmetic_vv_is_not_merge, arithmetic_vx_funct6-lt, arithmetic_vx_of-funct6, arithmetic_vx_found, arithmetic_vx_is_not_merge, arithmetic_vi_funct6-lt, arithmetic_vi_of-funct6, arithmetic_vi_found, arithmetic_vi_is_not_merge, shift_vi_funct6-lt, shift_vi_of-funct6, shift_vi_found, shift_vi_is_not_merge, compare_vv_funct6-lt, compare_vv_of-funct6, compare_vv_found, compare_vv_is_not_merge, compare_vx_funct6-lt, compare_vx_of-funct6, compare_vx_found, compare_vx_is_not_merge, compare_vi_funct6-lt, compare_vi_of-funct6, compare_vi_found, compare_vi_is_not_merge, multiply_funct6-lt, multiply_of-funct6, multiply_found, multiply_is_not_scalar_move, multiply_is_not_numbers, multiply_is_not_extended, reduction_funct6-lt, reduction_of-funct6, reduction_found, reduction_is_not_scalar_move, reduction_is_not_numbers, reduction_is_not_extended, compare_vv_is_no_arithmetic_vv, compare_vx_is_no_arithmetic_vx, shift_vi_is_no_arithmetic_vi, compare_vi_is_no_arithmetic_vi, compare_vi_is_no_shift_vi, multiply_is_no_reduction, width_funct3-lt, width_of-funct3, width_found}
 
 -- ---- what stands for an instruction is decoded to it
 
@@ -59,7 +59,7 @@ vector_decoded word (v.MultiplyVv op vd vs2 vs1 vm) h =
     let p = parts_read word ((0, 7, 0b1010111) ∷ (12, 3, 0b010) ∷ (26, 6, multiply_funct6 op) ∷ []) (lit< tt, (lit< tt, (multiply_funct6-lt op, tt))) h.0 in
     let e = registers_read word vd vs2 vs1 vm h.1 in
     let same : Some (Vector (v.MultiplyVv op (rd_of word) (rs2_of word) (rs1_of word) (vm_of word))) ≡ Some (Vector (v.MultiplyVv op vd vs2 vs1 vm)) = cc in
-    rw (p.0, p.1.0, p.1.1.0, multiply_is_not_scalar_move op, multiply_is_not_numbers op, multiply_is_no_reduction op, multiply_of-funct6 op) same
+    rw (p.0, p.1.0, p.1.1.0, multiply_is_not_scalar_move op, multiply_is_not_numbers op, multiply_is_not_extended op, multiply_is_no_reduction op, multiply_of-funct6 op) same
 vector_decoded word (v.MultiplyVx op vd vs2 rs1 vm) h =
     let p = parts_read word ((0, 7, 0b1010111) ∷ (12, 3, 0b110) ∷ (26, 6, multiply_funct6 op) ∷ []) (lit< tt, (lit< tt, (multiply_funct6-lt op, tt))) h.0 in
     let e = registers_read word vd vs2 rs1 vm h.1 in
@@ -69,7 +69,7 @@ vector_decoded word (v.Reduce op vd vs2 vs1 vm) h =
     let p = parts_read word ((0, 7, 0b1010111) ∷ (12, 3, 0b010) ∷ (26, 6, reduction_funct6 op) ∷ []) (lit< tt, (lit< tt, (reduction_funct6-lt op, tt))) h.0 in
     let e = registers_read word vd vs2 vs1 vm h.1 in
     let same : Some (Vector (v.Reduce op (rd_of word) (rs2_of word) (rs1_of word) (vm_of word))) ≡ Some (Vector (v.Reduce op vd vs2 vs1 vm)) = cc in
-    rw (p.0, p.1.0, p.1.1.0, reduction_is_not_scalar_move op, reduction_is_not_numbers op, reduction_of-funct6 op) same
+    rw (p.0, p.1.0, p.1.1.0, reduction_is_not_scalar_move op, reduction_is_not_numbers op, reduction_is_not_extended op, reduction_of-funct6 op) same
 vector_decoded word (v.MergeVv vd vs2 vs1) h =
     let p = parts_read word ((0, 7, 0b1010111) ∷ (12, 3, 0b000) ∷ (26, 6, 0b010111) ∷ (25, 1, 0) ∷ []) (lit< tt, (lit< tt, (lit< tt, (lit< tt, tt)))) h.0 in
     let e = merge_read word vd vs2 vs1 h.1 in
@@ -115,6 +115,11 @@ vector_decoded word (v.ElementNumbers vd vm) h =
     let e = numbers_read word vd vm h.1 in
     let same : Some (Vector (v.ElementNumbers (rd_of word) (vm_of word))) ≡ Some (Vector (v.ElementNumbers vd vm)) = cc in
     rw (p.0, p.1.0, p.1.1.0, p.1.1.1.0, p.1.1.1.1.0) same
+vector_decoded word (v.ExtendBytes vd vs2 vm) h =
+    let p = parts_read word ((0, 7, 0b1010111) ∷ (12, 3, 0b010) ∷ (26, 6, 0b010010) ∷ (15, 5, 0b00100) ∷ []) (lit< tt, (lit< tt, (lit< tt, (lit< tt, tt)))) h.0 in
+    let e = extended_read word vd vs2 vm h.1 in
+    let same : Some (Vector (v.ExtendBytes (rd_of word) (rs2_of word) (vm_of word))) ≡ Some (Vector (v.ExtendBytes vd vs2 vm)) = cc in
+    rw (p.0, p.1.0, p.1.1.0, p.1.1.1.0) same
 vector_decoded word (v.Vsetvli rd rs1 vtype) h =
     let p = parts_read word ((0, 7, 0b1010111) ∷ (12, 3, 0b111) ∷ (31, 1, 0) ∷ []) (lit< tt, (lit< tt, (lit< tt, tt))) h.0 in
     let e = vsetvli_read word rd rs1 vtype h.1 in
@@ -212,8 +217,10 @@ opmvv_stands word o f =
     (λ s. tried (part word 25 1) 1 _ _ (StandsFor word) (λ m. tried (part word 15 5) 0 _ _ (StandsFor word) (λ z. to_scalar_made word _ _ o f s m z refl refl) tt) tt)
     (tried (part word 26 6) 0b010100 _ _ (StandsFor word)
     (λ s. tried (part word 15 5) 0b10001 _ _ (StandsFor word) (λ m. tried (part word 20 5) 0 _ _ (StandsFor word) (λ z. numbers_made word _ _ o f s m z refl (bit_of-flag (part word 25 1) (omega arith))) tt) tt)
+    (tried (part word 26 6) 0b010010 _ _ (StandsFor word)
+    (λ s. tried (part word 15 5) 0b00100 _ _ (StandsFor word) (λ m. extended_made word _ _ _ o f s m refl refl (bit_of-flag (part word 25 1) (omega arith))) tt)
     (or_found _ (reduction_of (part word 26 6)) _ (StandsFor word) (λ op e. registers_made word 0b010 (reduction_funct6 op) _ _ _ _ o f (sym (reduction_found _ op e)) refl refl refl (bit_of-flag (part word 25 1) (omega arith)))
-    (with_found _ (multiply_of (part word 26 6)) (StandsFor word) (λ op e. registers_made word 0b010 (multiply_funct6 op) _ _ _ _ o f (sym (multiply_found _ op e)) refl refl refl (bit_of-flag (part word 25 1) (omega arith))))))
+    (with_found _ (multiply_of (part word 26 6)) (StandsFor word) (λ op e. registers_made word 0b010 (multiply_funct6 op) _ _ _ _ o f (sym (multiply_found _ op e)) refl refl refl (bit_of-flag (part word 25 1) (omega arith)))))))
 
 opmvx_stands : (word : ℕ) → part word 0 7 ≡ 0b1010111 → part word 12 3 ≡ 0b110 → IfSome (opmvx_in (part word 26 6) (part word 25 1) (part word 20 5) word) (StandsFor word)
 opmvx_stands word o f =

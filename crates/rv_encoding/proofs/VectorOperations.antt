@@ -305,6 +305,16 @@ multiply_is_not_numbers multiplies.Vmul = refl
 multiply_is_not_numbers multiplies.Vmulhsu = refl
 multiply_is_not_numbers multiplies.Vmulh = refl
 
+pub multiply_is_not_extended : (op : MultiplyOp) → nat_eq (multiply_funct6 op) 0b010010 ≡ false
+multiply_is_not_extended multiplies.Vdivu = refl
+multiply_is_not_extended multiplies.Vdiv = refl
+multiply_is_not_extended multiplies.Vremu = refl
+multiply_is_not_extended multiplies.Vrem = refl
+multiply_is_not_extended multiplies.Vmulhu = refl
+multiply_is_not_extended multiplies.Vmul = refl
+multiply_is_not_extended multiplies.Vmulhsu = refl
+multiply_is_not_extended multiplies.Vmulh = refl
+
 -- ---- a reduction
 
 pub reduction_funct6-lt : (op : ReductionOp) → reduction_funct6 op < 2 ^ 6
@@ -337,6 +347,13 @@ reduction_is_not_numbers reductions.Vredminu = refl
 reduction_is_not_numbers reductions.Vredmin = refl
 reduction_is_not_numbers reductions.Vredmaxu = refl
 reduction_is_not_numbers reductions.Vredmax = refl
+
+pub reduction_is_not_extended : (op : ReductionOp) → nat_eq (reduction_funct6 op) 0b010010 ≡ false
+reduction_is_not_extended reductions.Vredsum = refl
+reduction_is_not_extended reductions.Vredminu = refl
+reduction_is_not_extended reductions.Vredmin = refl
+reduction_is_not_extended reductions.Vredmaxu = refl
+reduction_is_not_extended reductions.Vredmax = refl
 
 -- ---- groups that are tried one after the other
 

@@ -142,12 +142,16 @@ from_scalar_in vm vs2 word = if vm == 1 then (if vs2 == 0 then Some (Vector (v.M
 abbrev pub numbers_in : ℕ → ℕ → ℕ → Option Insn
 numbers_in vs1 vs2 word = if vs1 == 0b10001 then (if vs2 == 0 then Some (Vector (v.ElementNumbers (rd_of word) (vm_of word))) else None) else None
 
+abbrev pub extended_in : ℕ → ℕ → Option Insn
+extended_in vs1 word = if vs1 == 0b00100 then Some (Vector (v.ExtendBytes (rd_of word) (rs2_of word) (vm_of word))) else None
+
 abbrev pub opmvv_in : ℕ → ℕ → ℕ → ℕ → ℕ → Option Insn
 opmvv_in funct6 vm vs1 vs2 word =
     if funct6 == 0b010000 then to_scalar_in vm vs1 word
     else (if funct6 == 0b010100 then numbers_in vs1 vs2 word
+    else (if funct6 == 0b010010 then extended_in vs1 word
     else op_or (λ op. Vector (v.Reduce op (rd_of word) (rs2_of word) (rs1_of word) (vm_of word))) (reduction_of funct6)
-    (with_op (λ op. Vector (v.MultiplyVv op (rd_of word) (rs2_of word) (rs1_of word) (vm_of word))) (multiply_of funct6)))
+    (with_op (λ op. Vector (v.MultiplyVv op (rd_of word) (rs2_of word) (rs1_of word) (vm_of word))) (multiply_of funct6))))
 
 abbrev pub opmvx_in : ℕ → ℕ → ℕ → ℕ → Option Insn
 opmvx_in funct6 vm vs2 word =

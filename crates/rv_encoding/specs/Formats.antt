@@ -9,7 +9,7 @@ use Rattle.rv_insn.specs.declared.instructions.Insn.TheVariants.{Lui, Auipc, Jal
 use Rattle.rv_insn.specs.declared.vector_instructions.VectorInsn.{VectorInsn}
 use Rattle.rv_insn.specs.declared.vector_instructions.VectorInsn.TheVariants as v
 use Rattle.rv_insn.specs.VectorTable as fields
-use Rattle.rv_insn.specs.VectorTable.{v_row, opivv_type, opmvv_type, opivi_type, opivi_shift_type, opivx_type, opmvx_type, merge_vv_type, merge_vi_type, merge_vx_type, move_vv_type, move_vi_type, move_vx_type, to_scalar_type, from_scalar_type, numbers_type, vsetvli_type, vsetivli_type, vsetvl_type, unit_type, strided_type, indexed_type}
+use Rattle.rv_insn.specs.VectorTable.{v_row, opivv_type, opmvv_type, opivi_type, opivi_shift_type, opivx_type, opmvx_type, merge_vv_type, merge_vi_type, merge_vx_type, move_vv_type, move_vi_type, move_vx_type, to_scalar_type, from_scalar_type, numbers_type, extend_type, vsetvli_type, vsetivli_type, vsetvl_type, unit_type, strided_type, indexed_type}
 use Rattle.rv_encoding.specs.VectorOperations.{arithmetic_vv_funct6, arithmetic_vx_funct6, arithmetic_vi_funct6, shift_vi_funct6, compare_vv_funct6, compare_vx_funct6, compare_vi_funct6, multiply_funct6, reduction_funct6, width_funct3}
 use Rattle.rv_encoding.specs.Operations.{branch_funct3, load_funct3, store_funct3, alu_imm_funct3, shift_funct3, shift_funct7, alu_funct3, alu_funct7}
 
@@ -38,6 +38,7 @@ vector_shape_of (v.MoveVi vd imm) = move_vi_type []
 vector_shape_of (v.MoveToScalar rd vs2) = to_scalar_type []
 vector_shape_of (v.MoveFromScalar vd rs1) = from_scalar_type []
 vector_shape_of (v.ElementNumbers vd vm) = numbers_type []
+vector_shape_of (v.ExtendBytes vd vs2 vm) = extend_type []
 vector_shape_of (v.Vsetvli rd rs1 vtype) = vsetvli_type []
 vector_shape_of (v.Vsetivli rd length vtype) = vsetivli_type []
 vector_shape_of (v.Vsetvl rd rs1 rs2) = vsetvl_type []

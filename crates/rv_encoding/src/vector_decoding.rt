@@ -1,7 +1,7 @@
 //! Decoding of the vector instructions.
 
 ghost use Rattle.std.specs.Prelude.{◌≡◌, ◌==◌};
-ghost use Rattle.rv_encoding.specs.Decoding.{part, merge_in, opivv_in, opivx_in, opivi_in, opmvv_in, opmvx_in, config_in, vector_in, vector_by_opcode, to_scalar_in, from_scalar_in, numbers_in, vector_load_in, load_unit_in, load_strided_in, load_indexed_in, vector_store_in, store_unit_in, store_strided_in, store_indexed_in};
+ghost use Rattle.rv_encoding.specs.Decoding.{part, merge_in, opivv_in, opivx_in, opivi_in, opmvv_in, opmvx_in, config_in, vector_in, vector_by_opcode, to_scalar_in, from_scalar_in, numbers_in, extended_in, vector_load_in, load_unit_in, load_strided_in, load_indexed_in, vector_store_in, store_unit_in, store_strided_in, store_indexed_in};
 
 use crate::fields::{
     bits, flag, funct3, funct6, length, opcode, rd, rs1, rs2, vd, vector_amount, vector_immediate,
@@ -22,6 +22,9 @@ const SCALAR_MOVE: u32 = 0b01_0000;
 
 /// That of the elements' numbers.
 const NUMBERS: u32 = 0b01_0100;
+
+/// That of extended elements.
+const EXTENSION: u32 = 0b01_0010;
 
 // With the mask bit 0 a merge, else a move, which has no vs2.
 fn merge_or_move(word: u32, merge: VectorInsn, moved: VectorInsn) -> Option<Insn>
@@ -166,6 +169,9 @@ fn opmvv(word: u32) -> Option<Insn>
     if funct6 == NUMBERS {
         return element_numbers(word);
     }
+    if funct6 == EXTENSION {
+        return extended(word);
+    }
     if let Some(op) = reduction_op(funct6) {
         return Some(Insn::Vector(VectorInsn::Reduce {
             op,
@@ -204,6 +210,20 @@ fn element_numbers(word: u32) -> Option<Insn>
     if bits(word, 15, 5) == 0b1_0001 && bits(word, 20, 5) == 0 {
         Some(Insn::Vector(VectorInsn::ElementNumbers {
             vd: vd(word),
+            vm: flag(word, 25),
+        }))
+    } else {
+        None
+    }
+}
+
+fn extended(word: u32) -> Option<Insn>
+    ensures { result ≡ extended_in (part word 15 5) word }
+{
+    if bits(word, 15, 5) == 0b0_0100 {
+        Some(Insn::Vector(VectorInsn::ExtendBytes {
+            vd: vd(word),
+            vs2: vs2(word),
             vm: flag(word, 25),
         }))
     } else {

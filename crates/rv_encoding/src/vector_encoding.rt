@@ -3,7 +3,7 @@
 ghost use Rattle.std.specs.Prelude.{◌≡◌, ◌<◌, ◌^◌, ℕ, pos, [], ◌∷◌};
 ghost use Rattle.rv_insn.specs.Encoding.{bit_of};
 ghost use Rattle.rv_insn.specs.VectorMeaning.{vector_fields_of};
-ghost use Rattle.rv_insn.specs.VectorTable.{opivi_type, merge_vi_type, move_vi_type, to_scalar_type, from_scalar_type, numbers_type, vsetvli_type, vsetivli_type, vsetvl_type, unit_type};
+ghost use Rattle.rv_insn.specs.VectorTable.{opivi_type, merge_vi_type, move_vi_type, to_scalar_type, from_scalar_type, numbers_type, extend_type, vsetvli_type, vsetivli_type, vsetvl_type, unit_type};
 ghost use Rattle.rv_encoding.specs.Formats.{Stands, vector_shape_of, registers_shape, merge_shape, move_shape, offset_shape};
 
 use crate::opcodes;
@@ -29,12 +29,14 @@ const OPMVX: u32 = 0b110;
 const CONFIGURATION: u32 = 0b111;
 
 /// The fields funct6 of merges and moves, of the moves between a register and element 0, and of the
-/// elements' numbers.
+/// elements' numbers and of extended elements.
 const MERGE: u32 = 0b01_0111;
 
 const SCALAR_MOVE: u32 = 0b01_0000;
 
 const NUMBERS: u32 = 0b01_0100;
+
+const EXTENSION: u32 = 0b01_0010;
 
 /// The addressing modes, in the place of funct6.
 const UNIT: u32 = 0b00;
@@ -183,6 +185,21 @@ fn numbers_word(vd: VReg, vm: bool) -> u32
         0,
         vm,
         NUMBERS,
+    )
+}
+
+#[tactic(auto, using(crate::proofs::VectorFormats::extended_made), unfolding(crate::specs::Decoding::rd_of, crate::specs::Decoding::rs1_of, crate::specs::Decoding::rs2_of, crate::specs::Decoding::vector_immediate_of, crate::specs::Decoding::vtype10_of, crate::specs::Decoding::vtype11_of))]
+fn extended_word(vd: VReg, vs2: VReg, vm: bool) -> u32
+    ensures { Stands result (extend_type []) (pos vd ∷ pos vs2 ∷ pos (bit_of vm) ∷ []) }
+{
+    pack_v(
+        opcodes::OP_V,
+        vd.number() as u32,
+        OPMVV,
+        0b0_0100,
+        vs2.number() as u32,
+        vm,
+        EXTENSION,
     )
 }
 
@@ -388,6 +405,7 @@ pub fn vector_word(insn: VectorInsn) -> u32
         VectorInsn::MoveToScalar { rd, vs2 } => to_scalar_word(rd, vs2),
         VectorInsn::MoveFromScalar { vd, rs1 } => from_scalar_word(vd, rs1),
         VectorInsn::ElementNumbers { vd, vm } => numbers_word(vd, vm),
+        VectorInsn::ExtendBytes { vd, vs2, vm } => extended_word(vd, vs2, vm),
         VectorInsn::Vsetvli { rd, rs1, vtype } => vsetvli_word(rd, rs1, vtype),
         VectorInsn::Vsetivli { rd, length, vtype } => vsetivli_word(rd, length, vtype),
         VectorInsn::Vsetvl { rd, rs1, rs2 } => vsetvl_word(rd, rs1, rs2),

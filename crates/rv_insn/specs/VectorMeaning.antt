@@ -3,7 +3,7 @@
 use Rattle.std.specs.Prelude.{ℕ, ℤ, pos, List, [], ◌∷◌, codes}
 use Rattle.rv_insn.specs.Encoding.{bit_of}
 use Rattle.rv_insn.specs.declared.vector_instructions.VectorInsn.{VectorInsn}
-use Rattle.rv_insn.specs.declared.vector_instructions.VectorInsn.TheVariants.{ArithmeticVv, ArithmeticVx, ArithmeticVi, ShiftVi, CompareVv, CompareVx, CompareVi, MultiplyVv, MultiplyVx, Reduce, MergeVv, MergeVx, MergeVi, MoveVv, MoveVx, MoveVi, MoveToScalar, MoveFromScalar, ElementNumbers, Vsetvli, Vsetivli, Vsetvl, LoadUnit, LoadStrided, LoadIndexed, StoreUnit, StoreStrided, StoreIndexed}
+use Rattle.rv_insn.specs.declared.vector_instructions.VectorInsn.TheVariants.{ArithmeticVv, ArithmeticVx, ArithmeticVi, ShiftVi, CompareVv, CompareVx, CompareVi, MultiplyVv, MultiplyVx, Reduce, MergeVv, MergeVx, MergeVi, MoveVv, MoveVx, MoveVi, MoveToScalar, MoveFromScalar, ElementNumbers, ExtendBytes, Vsetvli, Vsetivli, Vsetvl, LoadUnit, LoadStrided, LoadIndexed, StoreUnit, StoreStrided, StoreIndexed}
 use Rattle.rv_insn.specs.declared.vector_operations.ArithmeticVvOp.{ArithmeticVvOp}
 use Rattle.rv_insn.specs.declared.vector_operations.ArithmeticVvOp.TheVariants as arithmetic_vvs
 use Rattle.rv_insn.specs.declared.vector_operations.ArithmeticVxOp.{ArithmeticVxOp}
@@ -171,6 +171,7 @@ vector_name_of (MoveVi vd imm) = codes "vmv.v.i"
 vector_name_of (MoveToScalar rd vs2) = codes "vmv.x.s"
 vector_name_of (MoveFromScalar vd rs1) = codes "vmv.s.x"
 vector_name_of (ElementNumbers vd vm) = codes "vid.v"
+vector_name_of (ExtendBytes vd vs2 vm) = codes "vzext.vf4"
 vector_name_of (Vsetvli rd rs1 vtype) = codes "vsetvli"
 vector_name_of (Vsetivli rd length vtype) = codes "vsetivli"
 vector_name_of (Vsetvl rd rs1 rs2) = codes "vsetvl"
@@ -203,6 +204,7 @@ vector_fields_of (MoveVi vd imm) = pos vd ∷ imm ∷ []
 vector_fields_of (MoveToScalar rd vs2) = pos rd ∷ pos vs2 ∷ []
 vector_fields_of (MoveFromScalar vd rs1) = pos vd ∷ pos rs1 ∷ []
 vector_fields_of (ElementNumbers vd vm) = pos vd ∷ pos (bit_of vm) ∷ []
+vector_fields_of (ExtendBytes vd vs2 vm) = pos vd ∷ pos vs2 ∷ pos (bit_of vm) ∷ []
 vector_fields_of (Vsetvli rd rs1 vtype) = pos rd ∷ pos rs1 ∷ pos vtype ∷ []
 vector_fields_of (Vsetivli rd length vtype) = pos rd ∷ pos length ∷ pos vtype ∷ []
 vector_fields_of (Vsetvl rd rs1 rs2) = pos rd ∷ pos rs1 ∷ pos rs2 ∷ []

@@ -98,6 +98,9 @@ numbers_type name = v_row name ((0, 7, 0b1010111) ∷ (12, 3, 0b010) ∷ (26, 6,
 abbrev pub vsetvli_type : List ℕ → Row
 vsetvli_type name = v_row name ((0, 7, 0b1010111) ∷ (12, 3, 0b111) ∷ (31, 1, 0) ∷ []) (rd ∷ rs1 ∷ vtype11 ∷ [])
 
+abbrev pub extend_type : List ℕ → Row
+extend_type name = v_row name ((0, 7, 0b1010111) ∷ (12, 3, 0b010) ∷ (26, 6, 0b010010) ∷ (15, 5, 0b00100) ∷ []) (vd ∷ vs2 ∷ vm ∷ [])
+
 abbrev pub vsetivli_type : List ℕ → Row
 vsetivli_type name = v_row name ((0, 7, 0b1010111) ∷ (12, 3, 0b111) ∷ (30, 2, 0b11) ∷ []) (rd ∷ amount ∷ vtype10 ∷ [])
 
@@ -200,6 +203,7 @@ vector_table =
     to_scalar_type (codes "vmv.x.s") ∷
     from_scalar_type (codes "vmv.s.x") ∷
     numbers_type (codes "vid.v") ∷
+    extend_type (codes "vzext.vf4") ∷
     vsetvli_type (codes "vsetvli") ∷
     vsetivli_type (codes "vsetivli") ∷
     vsetvl_type (codes "vsetvl") ∷

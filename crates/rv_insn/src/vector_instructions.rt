@@ -139,6 +139,12 @@ pub enum VectorInsn {
         vd: VReg,
         vm: bool,
     },
+    /// `vzext.vf4 vd,vs2`: the bytes of `vs2`, each unsigned in an element of 32 bits.
+    ExtendBytes {
+        vd: VReg,
+        vs2: VReg,
+        vm: bool,
+    },
     /// `vsetvli rd,rs1,vtype`: a configuration for as many elements as `rs1` asks for.
     Vsetvli {
         rd: Reg,

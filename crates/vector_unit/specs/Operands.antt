@@ -36,6 +36,7 @@ pair_of (v.MoveVi vd imm) number = None
 pair_of (v.MoveToScalar rd vs2) number = None
 pair_of (v.MoveFromScalar vd rs1) number = None
 pair_of (v.ElementNumbers vd vm) number = None
+pair_of (v.ExtendBytes vd vs2 vm) number = None
 pair_of (v.Vsetvli rd rs1 vtype) number = None
 pair_of (v.Vsetivli rd length vtype) number = None
 pair_of (v.Vsetvl rd rs1 rs2) number = None

@@ -1,12 +1,12 @@
 -- The rows of the vector instructions: what each that touches no memory leaves of the vector state, what it gives to an
 -- integer register, and which rows are illegal in a state.
 -- RISC-V Vector Extension 1.0, chapters 5 "Vector Instruction Formats", 7 "Vector Loads and Stores", with section 7.3
--- "Vector Load/Store Width Encoding", 11 "Vector Integer Arithmetic Instructions", with sections 11.15 "Vector Integer Merge
+-- "Vector Load/Store Width Encoding", 11 "Vector Integer Arithmetic Instructions", with sections 11.3 "Vector Integer Extension", 11.15 "Vector Integer Merge
 -- Instructions" and 11.16 "Vector Integer Move Instructions", 14 "Vector Reduction Operations"; sections 15.9 "Vector Element
 -- Index Instruction" and 16.1 "Integer Scalar Move Instructions". This project's own are that elements which are not active
 -- are kept, that a masked row whose destination is v0 is illegal (vmerge too, compares and reductions apart), and that a
 -- load's or store's width has to be the configured one.
-use Rattle.std.specs.Prelude.{ℕ, ◌%◌, ◌^◌, ◌==◌, ◌&&◌, ◌||◌, not, Bool, true, false, if◌then◌else◌, List, replicate, Option, Some, None, ℤ}
+use Rattle.std.specs.Prelude.{ℕ, ◌%◌, ◌^◌, ◌==◌, ◌&&◌, ◌||◌, not, Bool, true, false, if◌then◌else◌, List, map, slice_index, replicate, Option, Some, None, ℤ}
 use Rattle.std.specs.List.{range_with_len}
 use Rattle.lanes.specs.Words as word
 use Rattle.lanes.specs.Registers.{element, with_element, elements, register_of}
@@ -38,6 +38,10 @@ of_scalar state number = replicate (count state) (number % 2 ^ width state)
 
 abbrev pub of_immediate : Vectors → ℤ → List ℕ
 of_immediate state imm = replicate (count state) (word.wrapped (width state) imm)
+
+-- the first bytes of a vector register, as many as there are elements
+abbrev pub bytes_of_register : Vectors → ℕ → List ℕ
+bytes_of_register state v = map (slice_index (register state v)) (range_with_len 0 (count state))
 
 -- which elements are active, by the mask bit of the word
 abbrev pub active_in : Vectors → Bool → List Bool
@@ -86,6 +90,7 @@ asked_of (v.MoveVi vd imm) x = None
 asked_of (v.MoveToScalar rd vs2) x = None
 asked_of (v.MoveFromScalar vd rs1) x = None
 asked_of (v.ElementNumbers vd vm) x = None
+asked_of (v.ExtendBytes vd vs2 vm) x = None
 asked_of (v.Vsetvli rd rs1 vtype) x = Some (vtype, asked_by rd rs1 (x rs1))
 asked_of (v.Vsetivli rd length vtype) x = Some (vtype, AtMost length)
 asked_of (v.Vsetvl rd rs1 rs2) x = Some (x rs2, asked_by rd rs1 (x rs1))
@@ -119,6 +124,7 @@ vector_after (v.MoveVi vd imm) x state = with_elements state vd true (of_immedia
 vector_after (v.MoveToScalar rd vs2) x state = state
 vector_after (v.MoveFromScalar vd rs1) x state = with_first state vd (x rs1 % 2 ^ width state)
 vector_after (v.ElementNumbers vd vm) x state = with_elements state vd vm (range_with_len 0 (count state))
+vector_after (v.ExtendBytes vd vs2 vm) x state = with_elements state vd vm (bytes_of_register state vs2)
 vector_after (v.Vsetvli rd rs1 vtype) x state = state
 vector_after (v.Vsetivli rd length vtype) x state = state
 vector_after (v.Vsetvl rd rs1 rs2) x state = state
@@ -150,6 +156,7 @@ scalar_given (v.MoveVi vd imm) state = None
 scalar_given (v.MoveToScalar rd vs2) state = Some (rd, word.wrapped 32 (word.signed (width state) (element (width state) (register state vs2) 0)))
 scalar_given (v.MoveFromScalar vd rs1) state = None
 scalar_given (v.ElementNumbers vd vm) state = None
+scalar_given (v.ExtendBytes vd vs2 vm) state = None
 scalar_given (v.Vsetvli rd rs1 vtype) state = None
 scalar_given (v.Vsetivli rd length vtype) state = None
 scalar_given (v.Vsetvl rd rs1 rs2) state = None
@@ -193,6 +200,7 @@ overwrites_mask (v.MoveVi vd imm) = false
 overwrites_mask (v.MoveToScalar rd vs2) = false
 overwrites_mask (v.MoveFromScalar vd rs1) = false
 overwrites_mask (v.ElementNumbers vd vm) = not vm && vd == 0
+overwrites_mask (v.ExtendBytes vd vs2 vm) = not vm && vd == 0
 overwrites_mask (v.Vsetvli rd rs1 vtype) = false
 overwrites_mask (v.Vsetivli rd length vtype) = false
 overwrites_mask (v.Vsetvl rd rs1 rs2) = false
@@ -203,7 +211,7 @@ overwrites_mask (v.StoreUnit w vs3 rs1 vm) = false
 overwrites_mask (v.StoreStrided w vs3 rs1 rs2 vm) = false
 overwrites_mask (v.StoreIndexed w vs3 rs1 vs2 vm) = false
 
--- a load's or store's width, which has to be the configured one
+-- the width that has to be the configured one: a load's or store's, and that of extended bytes
 abbrev pub width_in : VectorInsn → Option ElementWidth
 width_in (v.ArithmeticVv o vd vs2 vs1 vm) = None
 width_in (v.ArithmeticVx o vd vs2 rs1 vm) = None
@@ -224,6 +232,7 @@ width_in (v.MoveVi vd imm) = None
 width_in (v.MoveToScalar rd vs2) = None
 width_in (v.MoveFromScalar vd rs1) = None
 width_in (v.ElementNumbers vd vm) = None
+width_in (v.ExtendBytes vd vs2 vm) = Some widths.Bits32
 width_in (v.Vsetvli rd rs1 vtype) = None
 width_in (v.Vsetivli rd length vtype) = None
 width_in (v.Vsetvl rd rs1 rs2) = None
@@ -259,6 +268,7 @@ is_own (v.MoveVi vd imm) = true
 is_own (v.MoveToScalar rd vs2) = true
 is_own (v.MoveFromScalar vd rs1) = true
 is_own (v.ElementNumbers vd vm) = true
+is_own (v.ExtendBytes vd vs2 vm) = true
 is_own (v.Vsetvli rd rs1 vtype) = false
 is_own (v.Vsetivli rd length vtype) = false
 is_own (v.Vsetvl rd rs1 rs2) = false

@@ -1,10 +1,10 @@
 //! Instructions that write elements of a register, at the configured width.
 
-ghost use Rattle.std.specs.Prelude.{◌≡◌, true, false};
+ghost use Rattle.std.specs.Prelude.{◌≡◌, true, false, map, slice_index};
 ghost use Rattle.std.specs.List.{range_with_len};
 ghost use Rattle.lanes.specs.Elementwise.{zip_with};
 ghost use Rattle.vector_unit.specs.VectorState.{has_vill};
-ghost use Rattle.vector_unit.specs.Vector.{width, count, of_register, merged_by_mask, with_elements};
+ghost use Rattle.vector_unit.specs.Vector.{width, count, of_register, bytes_of_register, merged_by_mask, with_elements};
 ghost use Rattle.vector_unit.specs.Operands.{operand_elements};
 ghost use Rattle.vector_unit.specs.Operations as op;
 
@@ -108,6 +108,16 @@ impl VectorState {
         }
     }
 
+    /// Writes the first bytes of `vs2`, each as an element of 32 bits.
+    pub(crate) fn extend_bytes(&mut self, vd: VReg, vs2: VReg, vm: bool)
+        requires width { width self.old ≡ 32 }
+        ensures { self.new ≡ with_elements self.old vd vm (bytes_of_register self.old vs2) }
+    {
+        let new = extended(&self.register(vs2));
+        let before = self.words(Operand::Register(vd));
+        self.put(vd, vm, &before, &new);
+    }
+
     /// Writes each element's number.
     pub(crate) fn number_elements(&mut self, vd: VReg, vm: bool)
         requires { has_vill self.old ≡ false }
@@ -129,4 +139,16 @@ impl VectorState {
             }
         }
     }
+}
+
+/// The first four bytes of a register, each as a word.
+fn extended(register: &[u8; 16]) -> Lanes<u32, 4>
+    ensures { result ≡ map (slice_index register.now) (range_with_len 0 4) }
+{
+    let mut words = Lanes::<u32, 4>::splat(0);
+    words.set(0, u32::from(register[0]));
+    words.set(1, u32::from(register[1]));
+    words.set(2, u32::from(register[2]));
+    words.set(3, u32::from(register[3]));
+    words
 }

@@ -3,7 +3,7 @@
 ghost use Rattle.std.specs.Prelude.{◌≡◌, ℕ, true, false, ◌&&◌, not, None, Some, OnOk, OnErr, IfOk, IfErr};
 ghost use Rattle.rv_insn.specs.declared.outcomes.Trap.TheVariants.{IllegalInstruction};
 ghost use Rattle.vector_unit.specs.VectorState.{has_vill};
-ghost use Rattle.vector_unit.specs.Vector.{vector_after, scalar_given, number_of, is_own, is_refused, overwrites_mask, width_in};
+ghost use Rattle.vector_unit.specs.Vector.{vector_after, scalar_given, number_of, is_own, is_other_width, is_refused, overwrites_mask, width_in};
 ghost use Rattle.vector_unit.specs.Operands.{pair_of};
 
 use crate::operands::{Operand, Pair};
@@ -80,6 +80,7 @@ impl VectorState {
     /// Executes an instruction that doesn't work on pairs.
     fn execute_other(&mut self, insn: &VectorInsn, scalar: u32) -> Result<Option<u32>, Trap>
         requires configured { has_vill self.old ≡ false }
+        requires width { is_other_width self.old (width_in insn.now) ≡ false }
         requires other { pair_of insn.now scalar ≡ None }
         ensures own { OnOk result (is_own insn.now ≡ true) }
         ensures state { OnOk result (self.new ≡ vector_after insn.now (λ r. scalar) self.old) }
@@ -105,6 +106,7 @@ impl VectorState {
             VectorInsn::MoveToScalar { vs2, .. } => return Ok(Some(self.scalar(vs2))),
             VectorInsn::MoveFromScalar { vd, .. } => self.put_scalar(vd, scalar),
             VectorInsn::ElementNumbers { vd, vm } => self.number_elements(vd, vm),
+            VectorInsn::ExtendBytes { vd, vs2, vm } => self.extend_bytes(vd, vs2, vm),
             _ => return Err(Trap::IllegalInstruction),
         }
         Ok(None)
@@ -123,6 +125,7 @@ fn overwrites_mask(insn: &VectorInsn) -> bool
         | VectorInsn::MultiplyVv { vd, vm, .. }
         | VectorInsn::MultiplyVx { vd, vm, .. }
         | VectorInsn::ElementNumbers { vd, vm }
+        | VectorInsn::ExtendBytes { vd, vm, .. }
         | VectorInsn::LoadUnit { vd, vm, .. }
         | VectorInsn::LoadStrided { vd, vm, .. }
         | VectorInsn::LoadIndexed { vd, vm, .. } => !vm && vd.number() == 0,
@@ -133,7 +136,7 @@ fn overwrites_mask(insn: &VectorInsn) -> bool
     }
 }
 
-/// The width of a load or store.
+/// The width that has to be the configured one.
 fn width_in(insn: &VectorInsn) -> Option<ElementWidth>
     ensures { result ≡ width_in insn.now }
 {
@@ -144,6 +147,7 @@ fn width_in(insn: &VectorInsn) -> Option<ElementWidth>
         | VectorInsn::StoreUnit { width, .. }
         | VectorInsn::StoreStrided { width, .. }
         | VectorInsn::StoreIndexed { width, .. } => Some(width),
+        VectorInsn::ExtendBytes { .. } => Some(ElementWidth::Bits32),
         _ => None,
     }
 }
