@@ -15,16 +15,19 @@ def read_image(image):
 
     if len(image) < 4:
         refuse(2)
-    if image[:4] != b"HRV1":
+    if image[:4] not in (b"HRV1", b"HRV2"):
         refuse(1)
-    if len(image) < 32:
+    header = 32 if image[:4] == b"HRV1" else 36
+    if len(image) < header:
         refuse(2)
     entry, words, data, address, width, height, stride = struct.unpack("<7I", image[4:32])
-    if words > 262144 or data > 33554432:
+    stored = data if header == 32 else struct.unpack("<I", image[32:36])[0]
+    if words > 262144 or data > 33554432 or stored > data:
         refuse(4)
-    if len(image) < 32 + 4 * words + data:
+    behind = header + 4 * words
+    if len(image) < behind + stored:
         refuse(2)
-    if len(image) > 32 + 4 * words + data:
+    if len(image) > behind + stored:
         refuse(3)
     if entry % 4 or not TEXT <= entry < TEXT + 4 * words:
         refuse(5)
@@ -34,8 +37,10 @@ def read_image(image):
         if (address % 4 or stride % 4 or width < 1 or height < 1 or width * height > 1048576 or stride < 4 * width
                 or address < DATA or last > DATA + data):
             refuse(6)
-    text = struct.unpack(f"<{words}I", image[32:32 + 4 * words])
-    return entry, list(text), image[32 + 4 * words:], output if any(output) else None
+    if header == 36 and stored and image[-1] == 0:
+        refuse(8)
+    text = struct.unpack(f"<{words}I", image[header:behind])
+    return entry, list(text), image[behind:] + bytes(data - stored), output if any(output) else None
 
 
 def read_log(log):

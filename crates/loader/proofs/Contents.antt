@@ -1,17 +1,19 @@
 -- The contents of an image, spelled and read again, behind which anything may stand.
 use Rattle.std.proofs.Common.{◌≡◌, ℕ, ◌+◌, ◌*◌, ◌%◌, ◌^◌, ◌<◌, ◌≤◌, true, false, List, [], ◌∷◌, ◌++◌, length, take, drop, Option, Some, None, refl, sym, ap, ◌∙◌, append_assoc, arith}
-use Rattle.std.specs.Prelude.{IfSome, IsTrue, nat_le, nat_lt, nat_eq, ◌&&◌, ◌==◌}
-use Rattle.std.specs.List.{starts_with}
-use Rattle.std.specs.Int.{w32, from_le_bytes}
+use Rattle.std.specs.Prelude.{IfSome, IsTrue, nat_le, nat_lt, ◌&&◌, ◌==◌}
+use Rattle.std.specs.Int.{w32, to_le_bytes, from_le_bytes}
 use Rattle.std.proofs.lemmas.Bool.{and_parts, and_left, and_right, leb-true, ltb-true, ne_eqb, cond-false}
 use Rattle.std.proofs.lemmas.List.{drop-drop, drop_at, take_at, length-append}
 use Rattle.std.proofs.lemmas.List.Elements.{recursion_from_All}
 use Rattle.std.proofs.lemmas.Nat.{from_le_bytes-to_le_bytes_4}
 use Rattle.memory.specs.Addresses.{most_words, most_bytes, text_start, data_start}
+use Rattle.loader.specs.declared.formats.Format.{Format}
+use Rattle.loader.specs.declared.formats.Format.TheVariants.{Hrv1, Hrv2}
 use Rattle.loader.specs.declared.outputs.Output.{Output}
 use Rattle.loader.specs.Image.{ImageContents, IsImage, IsInWords, is_output_or_none, is_output, is_picture, end_of, most_pixels}
-use Rattle.loader.specs.Spelling.{magic, spelled_numbers, output_fields, spelled_header, spelled, number_at, numbers_in, output_at, word_count, byte_count, contents_in}
-use Rattle.loader.proofs.Numbers.{drop_twice, numbers_again, length-spelled_numbers}
+use Rattle.loader.specs.Spelling.{header_length, stored, stored_field, spelled_numbers, output_fields, spelled_start, spelled_header, spelled, number_at, numbers_in, output_at, format_of, word_count, byte_count, stored_count, stored_in, contents_in}
+use Rattle.loader.proofs.Numbers.{drop_twice, number_again, numbers_again, length-spelled_numbers}
+use Rattle.loader.proofs.Trims.{length-stored, stored_padded}
 
 -- ---- sizes
 
@@ -41,7 +43,7 @@ has_width bytes output e =
 -- ---- the header
 
 -- a number behind what stands in front
-number_behind : (bytes tail : List ℕ) (m n k : ℕ) → drop m bytes ≡ tail → m + n ≡ k → number_at bytes k ≡ number_at tail n
+pub number_behind : (bytes tail : List ℕ) (m n k : ℕ) → drop m bytes ≡ tail → m + n ≡ k → number_at bytes k ≡ number_at tail n
 unfolding number_at
 number_behind bytes tail m n k e sum_is =
     ap (λ (xs : List ℕ). from_le_bytes w32 (take 4 xs)) (sym (drop_twice m n k bytes sum_is) ∙ ap (λ (xs : List ℕ). drop n xs) e)
@@ -88,9 +90,9 @@ output_again bytes rest count (Some o) e lies fits =
     )
     (cond-false (o.address == 0 && o.width == 0 && o.height == 0 && o.stride == 0) None (Some o) no_zeros)
 
--- a header, and what stands behind it
-pub record ReadsHeader (image : ImageContents) (bytes rest : List ℕ) : Type 0 where
-  pub begins : starts_with nat_eq bytes magic ≡ true
+-- the part of a header that both formats have, and what stands behind it
+record ReadsStart (format : Format) (image : ImageContents) (bytes rest : List ℕ) : Type 0 where
+  pub begins : format_of bytes ≡ Some format
   pub entry : number_at bytes 4 ≡ image.entry
   pub words : word_count bytes ≡ length image.words
   pub data_bytes : byte_count bytes ≡ length image.bytes
@@ -101,9 +103,9 @@ length-output_fields : (output : Option Output) → length (spelled_numbers (out
 length-output_fields None = refl
 length-output_fields (Some output) = refl
 
-pub header_again : (image : ImageContents) (rest : List ℕ) → IsImage image → ReadsHeader image (spelled_header image ++ rest) rest
-unfolding spelled_header number_at
-header_again image rest rules =
+start_again : (format : Format) (image : ImageContents) (rest : List ℕ) → IsImage image → ReadsStart format image (spelled_start format image ++ rest) rest
+unfolding format_of spelled_start number_at
+start_again Hrv1 image rest rules =
     let sized = sizes_of image rules in
     let fields = spelled_numbers (output_fields image.output) in
     record {
@@ -111,40 +113,109 @@ header_again image rest rules =
       entry = from_le_bytes-to_le_bytes_4 image.entry sized.entry;
       words = from_le_bytes-to_le_bytes_4 (length image.words) (omega arith);
       data_bytes = from_le_bytes-to_le_bytes_4 (length image.bytes) (omega arith);
-      output = output_again (spelled_header image ++ rest) rest (length image.bytes) image.output refl rules.output rules.output_fits;
-      behind = sym (drop-drop 16 16 (spelled_header image ++ rest)) ∙ drop_at fields rest 16 (length-output_fields image.output);
+      output = output_again (spelled_start Hrv1 image ++ rest) rest (length image.bytes) image.output refl rules.output rules.output_fits;
+      behind = sym (drop-drop 16 16 (spelled_start Hrv1 image ++ rest)) ∙ drop_at fields rest 16 (length-output_fields image.output);
     }
+start_again Hrv2 image rest rules =
+    let sized = sizes_of image rules in
+    let fields = spelled_numbers (output_fields image.output) in
+    record {
+      begins = refl;
+      entry = from_le_bytes-to_le_bytes_4 image.entry sized.entry;
+      words = from_le_bytes-to_le_bytes_4 (length image.words) (omega arith);
+      data_bytes = from_le_bytes-to_le_bytes_4 (length image.bytes) (omega arith);
+      output = output_again (spelled_start Hrv2 image ++ rest) rest (length image.bytes) image.output refl rules.output rules.output_fits;
+      behind = sym (drop-drop 16 16 (spelled_start Hrv2 image ++ rest)) ∙ drop_at fields rest 16 (length-output_fields image.output);
+    }
+
+-- a header, and what stands behind it
+pub record ReadsHeader (format : Format) (image : ImageContents) (bytes rest : List ℕ) : Type 0 where
+  pub begins : format_of bytes ≡ Some format
+  pub entry : number_at bytes 4 ≡ image.entry
+  pub words : word_count bytes ≡ length image.words
+  pub data_bytes : byte_count bytes ≡ length image.bytes
+  pub output : output_at bytes ≡ image.output
+  pub stored_bytes : stored_count format bytes ≡ length (stored format image.bytes)
+  pub behind : drop (header_length format) bytes ≡ rest
+
+with_field : (format : Format) (image : ImageContents) (bytes rest : List ℕ) → IsImage image
+    → ReadsStart format image bytes (stored_field format (length (stored format image.bytes)) ++ rest) → ReadsHeader format image bytes rest
+with_field Hrv1 image bytes rest rules start =
+    record { begins = start.begins; entry = start.entry; words = start.words; data_bytes = start.data_bytes; output = start.output; stored_bytes = start.data_bytes; behind = start.behind }
+with_field Hrv2 image bytes rest rules start =
+    let sized = sizes_of image rules in
+    let count = length (stored Hrv2 image.bytes) in
+    let fits : count < 2 ^ 32 = omega (arith, length-stored Hrv2 image.bytes) in
+    record {
+      begins = start.begins;
+      entry = start.entry;
+      words = start.words;
+      data_bytes = start.data_bytes;
+      output = start.output;
+      stored_bytes = number_behind bytes (to_le_bytes w32 count ++ rest) 32 0 32 start.behind refl ∙ number_again count rest fits;
+      behind = sym (drop_twice 32 4 36 bytes refl) ∙ ap (λ (xs : List ℕ). drop 4 xs) start.behind;
+    }
+
+pub header_again : (format : Format) (image : ImageContents) (rest : List ℕ) → IsImage image → ReadsHeader format image (spelled_header format image ++ rest) rest
+unfolding spelled_header
+header_again format image rest rules =
+    let field = stored_field format (length (stored format image.bytes)) in
+    with_field format image (spelled_header format image ++ rest) rest rules
+    (rw (append_assoc (spelled_start format image) field rest) (start_again format image (field ++ rest) rules))
 
 -- ---- the whole
 
-regrouped : (image : ImageContents) (rest : List ℕ) → spelled image ++ rest ≡ spelled_header image ++ (spelled_numbers image.words ++ (image.bytes ++ rest))
+regrouped : (format : Format) (image : ImageContents) (rest : List ℕ)
+    → spelled format image ++ rest ≡ spelled_header format image ++ (spelled_numbers image.words ++ (stored format image.bytes ++ rest))
 unfolding spelled
-regrouped image rest =
-    append_assoc (spelled_header image ++ spelled_numbers image.words) image.bytes rest
-    ∙ append_assoc (spelled_header image) (spelled_numbers image.words) (image.bytes ++ rest)
+regrouped format image rest =
+    append_assoc (spelled_header format image ++ spelled_numbers image.words) (stored format image.bytes) rest
+    ∙ append_assoc (spelled_header format image) (spelled_numbers image.words) (stored format image.bytes ++ rest)
 
-pub spelled_again : (image : ImageContents) (rest : List ℕ) → IsImage image → ReadsHeader image (spelled image ++ rest) (spelled_numbers image.words ++ (image.bytes ++ rest))
-spelled_again image rest rules = rw (regrouped image rest) (header_again image (spelled_numbers image.words ++ (image.bytes ++ rest)) rules)
+pub spelled_again : (format : Format) (image : ImageContents) (rest : List ℕ) → IsImage image
+    → ReadsHeader format image (spelled format image ++ rest) (spelled_numbers image.words ++ (stored format image.bytes ++ rest))
+spelled_again format image rest rules =
+    rw (regrouped format image rest) (header_again format image (spelled_numbers image.words ++ (stored format image.bytes ++ rest)) rules)
 
--- contents are read from the front, whatever follows
-pub contents_again : (image : ImageContents) (rest : List ℕ) → IsImage image → contents_in (spelled image ++ rest) ≡ image
-contents_again image rest rules =
-    let read = spelled_again image rest rules in
-    let words : numbers_in (length image.words) (spelled_numbers image.words ++ (image.bytes ++ rest)) ≡ image.words =
-    numbers_again image.words (image.bytes ++ rest) (recursion_from_All (λ word. word < 2 ^ 32) image.words rules.words_fit) in
-    let behind : drop (32 + 4 * length image.words) (spelled image ++ rest) ≡ image.bytes ++ rest =
-    sym (drop_twice 32 (4 * length image.words) (32 + 4 * length image.words) (spelled image ++ rest) refl)
+-- what is stored is read from the front, whatever follows
+pub stored_again : (format : Format) (image : ImageContents) (rest : List ℕ) → IsImage image → stored_in format (spelled format image ++ rest) ≡ stored format image.bytes
+stored_again format image rest rules =
+    let read = spelled_again format image rest rules in
+    let front = stored format image.bytes in
+    let behind : drop (header_length format + 4 * length image.words) (spelled format image ++ rest) ≡ front ++ rest =
+    sym (drop_twice (header_length format) (4 * length image.words) (header_length format + 4 * length image.words) (spelled format image ++ rest) refl)
     ∙ ap (λ (xs : List ℕ). drop (4 * length image.words) xs) read.behind
-    ∙ drop_at (spelled_numbers image.words) (image.bytes ++ rest) (4 * length image.words) (length-spelled_numbers image.words) in
-    rw (read.entry, read.words, read.data_bytes, read.output, read.behind, words, behind, take_at image.bytes rest (length image.bytes) refl) refl
+    ∙ drop_at (spelled_numbers image.words) (front ++ rest) (4 * length image.words) (length-spelled_numbers image.words) in
+    rw (read.stored_bytes, read.words, behind) (take_at front rest (length front) refl)
 
-pub length-spelled : (image : ImageContents) → length (spelled image) ≡ 32 + 4 * length image.words + length image.bytes
-unfolding spelled spelled_header
-length-spelled image =
+-- and so are the contents
+pub contents_again : (format : Format) (image : ImageContents) (rest : List ℕ) → IsImage image → contents_in format (spelled format image ++ rest) ≡ image
+contents_again format image rest rules =
+    let read = spelled_again format image rest rules in
+    let words : numbers_in (length image.words) (spelled_numbers image.words ++ (stored format image.bytes ++ rest)) ≡ image.words =
+    numbers_again image.words (stored format image.bytes ++ rest) (recursion_from_All (λ word. word < 2 ^ 32) image.words rules.words_fit) in
+    rw (stored_again format image rest rules, read.entry, read.words, read.data_bytes, read.output, read.behind, words, stored_padded format image.bytes) refl
+
+length-start : (format : Format) (image : ImageContents) → length (spelled_start format image) ≡ 32
+unfolding spelled_start
+length-start Hrv1 image = omega (arith, length-output_fields image.output)
+length-start Hrv2 image = omega (arith, length-output_fields image.output)
+
+pub length-header : (format : Format) (image : ImageContents) → length (spelled_header format image) ≡ header_length format
+unfolding spelled_header
+length-header Hrv1 image =
+    omega (arith, length-append (spelled_start Hrv1 image) (stored_field Hrv1 (length (stored Hrv1 image.bytes))), length-start Hrv1 image)
+length-header Hrv2 image =
+    omega (arith, length-append (spelled_start Hrv2 image) (stored_field Hrv2 (length (stored Hrv2 image.bytes))), length-start Hrv2 image)
+
+pub length-spelled : (format : Format) (image : ImageContents)
+    → length (spelled format image) ≡ header_length format + 4 * length image.words + length (stored format image.bytes)
+unfolding spelled
+length-spelled format image =
     omega (
       arith,
-      length-append (spelled_header image ++ spelled_numbers image.words) image.bytes,
-      length-append (spelled_header image) (spelled_numbers image.words),
+      length-append (spelled_header format image ++ spelled_numbers image.words) (stored format image.bytes),
+      length-append (spelled_header format image) (spelled_numbers image.words),
       length-spelled_numbers image.words,
-      length-output_fields image.output,
+      length-header format image,
     )

@@ -1,17 +1,20 @@
 -- What a call answers, and the laws of the format: what is read is spelled so, what is spelled so is read, and
 -- no two images share a spelling.
-use Rattle.std.proofs.Common.{◌≡◌, ℕ, ◌+◌, ◌*◌, ◌≤◌, cond, List, [], ◌∷◌, ◌++◌, length, take, drop, Some, None, Result, Ok, Err, refl, sym, ap, subst, ◌∙◌, append_assoc, arith, inl, inr}
-use Rattle.std.specs.Prelude.{IfOk, ◌==◌, ◌&&◌}
+use Rattle.std.proofs.Common.{◌≡◌, ℕ, ◌*◌, ◌≤◌, cond, Bool, false, List, [], ◌∷◌, ◌++◌, length, take, drop, Some, None, Result, Ok, Err, refl, sym, ap, subst, ◌∙◌, append_assoc, arith, inl, inr}
+use Rattle.std.specs.Prelude.{IfOk, IsErrAnd, ◌==◌, ◌&&◌}
 use Rattle.std.specs.Int.{w32, to_le_bytes}
 use Rattle.std.proofs.lemmas.Bool.{cases_Bool, and_parts, eqb-true, cond-true, cond-false}
 use Rattle.std.proofs.lemmas.List.{append-nil, append_cancel_left, take-append-drop, length-drop}
+use Rattle.loader.specs.declared.formats.Format.{Format}
+use Rattle.loader.specs.declared.formats.Format.TheVariants.{Hrv1, Hrv2}
 use Rattle.loader.specs.declared.faults.LoadFault.{LoadFault}
-use Rattle.loader.specs.declared.faults.LoadFault.TheVariants.{Magic, Truncated, TrailingBytes, OverLimit, Entry, OutputRange, HartCount, OutOfMemory}
+use Rattle.loader.specs.declared.faults.LoadFault.TheVariants.{Magic, Truncated, TrailingBytes, OverLimit, Entry, OutputRange, HartCount, StoredZero, OutOfMemory}
 use Rattle.loader.specs.Image.{ImageContents, IsImage, judged}
-use Rattle.loader.specs.Spelling.{magic, spelled_numbers, output_fields, spelled_header, spelled, number_at, numbers_in, output_at, word_count, byte_count, contents_in, image_of, Refuses, Answers}
+use Rattle.loader.specs.Spelling.{magic, header_length, stored, stored_field, spelled_numbers, output_fields, spelled_start, spelled_header, spelled, Spells, number_at, numbers_in, output_at, format_of, word_count, byte_count, stored_count, stored_place, stored_in, padded, contents_in, stores_zero, unless_zero, image_of, Refuses, Answers}
 use Rattle.loader.proofs.Numbers.{IsBytes, IsBytes-drop, drop_twice, number_cut, numbers_cut, length-numbers_in}
-use Rattle.loader.proofs.Frames.{IsFramed, image_of_framed, framed_since, magic_is, data_in}
-use Rattle.loader.proofs.Contents.{sizes_of, spelled_again, contents_again, length-spelled}
+use Rattle.loader.proofs.Trims.{length-stored, length-padded, padded_stored, stored_ends}
+use Rattle.loader.proofs.Frames.{IsFramed, image_of_framed, framed_since, least_header, magic_is, stored_at_end, length-stored_in}
+use Rattle.loader.proofs.Contents.{sizes_of, spelled_again, stored_again, contents_again, length-spelled}
 
 -- ---- answers
 
@@ -23,12 +26,19 @@ refuses_from OverLimit wanted e = e
 refuses_from Entry wanted e = e
 refuses_from OutputRange wanted e = e
 refuses_from HartCount wanted e = e
+refuses_from StoredZero wanted e = e
 refuses_from OutOfMemory wanted e = tt
 
 -- an exact answer
 pub answers_from : (answer wanted : Result ImageContents LoadFault) → wanted ≡ answer → Answers answer wanted
 answers_from (Ok image) wanted e = e
 answers_from (Err fault) wanted e = refuses_from fault wanted e
+
+-- an error that is passed on
+pub answers_err : (answer : Result ImageContents LoadFault) (fault : LoadFault) (wanted : Result ImageContents LoadFault) → IsErrAnd answer (λ f. f ≡ fault) → wanted ≡ Err fault
+    → Answers answer wanted
+answers_err (Ok image) fault wanted is e = absurd is
+answers_err (Err f) fault wanted is e = refuses_from f wanted (e ∙ ap Err (sym is))
 
 -- ---- what is read is spelled so
 
@@ -54,14 +64,15 @@ fields_are bytes = by_test (number_at bytes 16) (number_at bytes 20) (number_at 
 assembled : (m e t d a w h s rest : List ℕ) → m ++ (e ++ (t ++ (d ++ (a ++ (w ++ (h ++ (s ++ rest))))))) ≡ (m ++ e ++ t ++ d ++ (a ++ (w ++ (h ++ (s ++ []))))) ++ rest
 assembled m e t d a w h s rest = simp append_assoc
 
--- the header of bytes, with the counts that it names
-header_of : List ℕ → ℕ → ℕ → List ℕ
-header_of bytes words data_bytes =
-    magic ++ to_le_bytes w32 (number_at bytes 4) ++ to_le_bytes w32 words ++ to_le_bytes w32 data_bytes ++ spelled_numbers (output_fields (output_at bytes))
+-- the part of the header that both formats have, with the counts that it names
+start_of : Format → List ℕ → ℕ → ℕ → List ℕ
+start_of format bytes words data_bytes =
+    magic format ++ to_le_bytes w32 (number_at bytes 4) ++ to_le_bytes w32 words ++ to_le_bytes w32 data_bytes ++ spelled_numbers (output_fields (output_at bytes))
 
-header_cut : (bytes : List ℕ) → IsBytes bytes → 32 ≤ length bytes → take 4 bytes ≡ magic → bytes ≡ header_of bytes (word_count bytes) (byte_count bytes) ++ drop 32 bytes
-unfolding header_of
-header_cut bytes fits long begins =
+start_cut : (format : Format) (bytes : List ℕ) → IsBytes bytes → 32 ≤ length bytes → take 4 bytes ≡ magic format
+    → bytes ≡ start_of format bytes (word_count bytes) (byte_count bytes) ++ drop 32 bytes
+unfolding start_of
+start_cut format bytes fits long begins =
     let at : ℕ → List ℕ = λ place. to_le_bytes w32 (number_at bytes place) in
     let from28 : drop 28 bytes ≡ at 28 ++ drop 32 bytes = number_cut bytes 28 32 fits refl long in
     let from24 : drop 24 bytes ≡ at 24 ++ (at 28 ++ drop 32 bytes) = number_cut bytes 24 28 fits refl (omega arith) ∙ ap (λ (xs : List ℕ). at 24 ++ xs) from28 in
@@ -72,66 +83,106 @@ header_cut bytes fits long begins =
     let from4 = number_cut bytes 4 8 fits refl (omega arith) ∙ ap (λ (xs : List ℕ). at 4 ++ xs) from8 in
     sym (take-append-drop 4 bytes)
     ∙ ap (λ (xs : List ℕ). xs ++ drop 4 bytes) begins
-    ∙ ap (λ (xs : List ℕ). magic ++ xs) from4
-    ∙ assembled magic (at 4) (at 8) (at 12) (at 16) (at 20) (at 24) (at 28) (drop 32 bytes)
-    ∙ ap (λ (fields : List ℕ). (magic ++ at 4 ++ at 8 ++ at 12 ++ spelled_numbers fields) ++ drop 32 bytes) (sym (fields_are bytes))
+    ∙ ap (λ (xs : List ℕ). magic format ++ xs) from4
+    ∙ assembled (magic format) (at 4) (at 8) (at 12) (at 16) (at 20) (at 24) (at 28) (drop 32 bytes)
+    ∙ ap (λ (fields : List ℕ). (magic format ++ at 4 ++ at 8 ++ at 12 ++ spelled_numbers fields) ++ drop 32 bytes) (sym (fields_are bytes))
+
+-- and behind it what the second format has more
+field_cut : (format : Format) (bytes : List ℕ) → IsBytes bytes → header_length format ≤ length bytes
+    → drop 32 bytes ≡ stored_field format (stored_count format bytes) ++ drop (header_length format) bytes
+field_cut Hrv1 bytes fits long = refl
+field_cut Hrv2 bytes fits long = number_cut bytes 32 36 fits refl long
+
+header_of : Format → List ℕ → ℕ → ℕ → ℕ → List ℕ
+header_of format bytes words data_bytes count = start_of format bytes words data_bytes ++ stored_field format count
+
+header_cut : (format : Format) (bytes : List ℕ) → IsBytes bytes → IsFramed format bytes
+    → bytes ≡ header_of format bytes (word_count bytes) (byte_count bytes) (stored_count format bytes) ++ drop (header_length format) bytes
+unfolding header_of
+header_cut format bytes fits framed =
+    let least = least_header format in
+    let header = framed.header in
+    let start = start_of format bytes (word_count bytes) (byte_count bytes) in
+    start_cut format bytes fits (omega arith) (magic_is format bytes framed.begins)
+    ∙ ap (λ (xs : List ℕ). start ++ xs) (field_cut format bytes fits header)
+    ∙ sym (append_assoc start (stored_field format (stored_count format bytes)) (drop (header_length format) bytes))
 
 -- the words and the data behind a header
-behind_cut : (bytes : List ℕ) → IsBytes bytes → IsFramed bytes
-    → drop 32 bytes ≡ spelled_numbers (numbers_in (word_count bytes) (drop 32 bytes)) ++ take (byte_count bytes) (drop (32 + 4 * word_count bytes) bytes)
-behind_cut bytes fits framed =
-    let words = numbers_cut (word_count bytes) (drop 32 bytes) (IsBytes-drop 32 bytes fits) (omega (arith, length-drop 32 bytes, framed.whole)) in
-    let rest = drop_twice 32 (4 * word_count bytes) (32 + 4 * word_count bytes) bytes refl ∙ sym (data_in bytes framed.whole) in
-    words ∙ ap (λ (xs : List ℕ). spelled_numbers (numbers_in (word_count bytes) (drop 32 bytes)) ++ xs) rest
+behind_cut : (format : Format) (bytes : List ℕ) → IsBytes bytes → IsFramed format bytes
+    → drop (header_length format) bytes ≡ spelled_numbers (numbers_in (word_count bytes) (drop (header_length format) bytes)) ++ stored_in format bytes
+behind_cut format bytes fits framed =
+    let from = header_length format in
+    let whole = framed.whole in
+    let words = numbers_cut (word_count bytes) (drop from bytes) (IsBytes-drop from bytes fits) (omega (arith, length-drop from bytes)) in
+    let rest = drop_twice from (4 * word_count bytes) (stored_place format bytes) bytes refl ∙ sym (stored_at_end format bytes whole) in
+    words ∙ ap (λ (xs : List ℕ). spelled_numbers (numbers_in (word_count bytes) (drop from bytes)) ++ xs) rest
 
-pub spelled_from_image_of : (bytes : List ℕ) (image : ImageContents) → IsBytes bytes → image_of bytes ≡ Ok image → bytes ≡ spelled image
-unfolding header_of spelled spelled_header
+spelled_contents : (format : Format) (bytes : List ℕ) → IsBytes bytes → IsFramed format bytes → stores_zero format (stored_in format bytes) ≡ false
+    → bytes ≡ spelled format (contents_in format bytes)
+unfolding header_of start_of spelled spelled_header spelled_start
+spelled_contents format bytes fits framed ends =
+    let words = numbers_in (word_count bytes) (drop (header_length format) bytes) in
+    let front = stored_in format bytes in
+    let front_len : length front ≡ stored_count format bytes = length-stored_in format bytes framed.whole in
+    let fitting : length front ≤ byte_count bytes = omega (arith, framed.stored) in
+    let word_len : length words ≡ word_count bytes = length-numbers_in (word_count bytes) (drop (header_length format) bytes) in
+    let byte_len : length (padded (byte_count bytes) front) ≡ byte_count bytes = length-padded (byte_count bytes) front fitting in
+    let kept : stored format (padded (byte_count bytes) front) ≡ front = padded_stored format bytes front front_len ends in
+    header_cut format bytes fits framed
+    ∙ ap (λ (xs : List ℕ). header_of format bytes (word_count bytes) (byte_count bytes) (stored_count format bytes) ++ xs) (behind_cut format bytes fits framed)
+    ∙ sym (append_assoc (header_of format bytes (word_count bytes) (byte_count bytes) (stored_count format bytes)) (spelled_numbers words) front)
+    ∙ ap (λ (n : ℕ). header_of format bytes n (byte_count bytes) (stored_count format bytes) ++ spelled_numbers words ++ front) (sym word_len)
+    ∙ ap (λ (n : ℕ). header_of format bytes (length words) n (stored_count format bytes) ++ spelled_numbers words ++ front) (sym byte_len)
+    ∙ ap (λ (n : ℕ). header_of format bytes (length words) (length (padded (byte_count bytes) front)) n ++ spelled_numbers words ++ front) (sym front_len)
+    ∙ ap (λ (xs : List ℕ). header_of format bytes (length words) (length (padded (byte_count bytes) front)) (length xs) ++ spelled_numbers words ++ xs) (sym kept)
+
+pub spelled_from_image_of : (bytes : List ℕ) (image : ImageContents) → IsBytes bytes → image_of bytes ≡ Ok image → Spells bytes image
 spelled_from_image_of bytes image fits e =
     let read = framed_since bytes image e in
-    let words = numbers_in (word_count bytes) (drop 32 bytes) in
-    let data_bytes = take (byte_count bytes) (drop (32 + 4 * word_count bytes) bytes) in
-    let word_len : length words ≡ word_count bytes = length-numbers_in (word_count bytes) (drop 32 bytes) in
-    let byte_len : length data_bytes ≡ byte_count bytes = ap length (data_in bytes read.0.whole) ∙ length-drop (32 + 4 * word_count bytes) bytes ∙ omega (arith, read.0.whole) in
-    let whole : bytes ≡ header_of bytes (length words) (length data_bytes) ++ spelled_numbers words ++ data_bytes =
-    header_cut bytes fits read.0.header (magic_is bytes read.0.begins)
-    ∙ ap (λ (xs : List ℕ). header_of bytes (word_count bytes) (byte_count bytes) ++ xs) (behind_cut bytes fits read.0)
-    ∙ sym (append_assoc (header_of bytes (word_count bytes) (byte_count bytes)) (spelled_numbers words) data_bytes)
-    ∙ ap (λ (n : ℕ). header_of bytes n (byte_count bytes) ++ spelled_numbers words ++ data_bytes) (sym word_len)
-    ∙ ap (λ (n : ℕ). header_of bytes (length words) n ++ spelled_numbers words ++ data_bytes) (sym byte_len) in
-    whole ∙ ap spelled read.1
+    record { format = read.format; bytes_are = spelled_contents read.format bytes fits read.framed read.ends ∙ ap (spelled read.format) read.contents }
 
 -- ---- what is spelled so is read
 
 judged_kept : (image : ImageContents) → IsImage image → judged image ≡ Ok image
 judged_kept image rules = rw (rules.limits, rules.entry, rules.output) refl
 
-pub image_of-spelled : (image : ImageContents) → IsImage image → image_of (spelled image) ≡ Ok image
-image_of-spelled image rules =
+pub image_of-spelled : (format : Format) (image : ImageContents) → IsImage image → image_of (spelled format image) ≡ Ok image
+image_of-spelled format image rules =
     let sized = sizes_of image rules in
-    let read = rw (append-nil (spelled image)) at (spelled_again image [] rules) in
-    let contents = rw (append-nil (spelled image)) at (contents_again image [] rules) in
-    let framed : IsFramed (spelled image) = record {
-      header = omega (arith, length-spelled image);
+    let whole = spelled format image in
+    let read = rw (append-nil whole) at (spelled_again format image [] rules) in
+    let contents = rw (append-nil whole) at (contents_again format image [] rules) in
+    let front = rw (append-nil whole) at (stored_again format image [] rules) in
+    let len = length-spelled format image in
+    let framed : IsFramed format whole = record {
+      header = omega arith;
       begins = read.begins;
       words = omega (arith, read.words);
       data_bytes = omega (arith, read.data_bytes);
-      whole = omega (arith, length-spelled image, read.words, read.data_bytes);
+      stored = omega (arith, read.data_bytes, read.stored_bytes, length-stored format image.bytes);
+      whole = omega (arith, read.words, read.stored_bytes);
     } in
-    image_of_framed (spelled image) framed ∙ ap judged contents ∙ judged_kept image rules
+    image_of_framed format whole framed
+    ∙ ap (λ (b : Bool). unless_zero b (judged (contents_in format whole))) (ap (stores_zero format) front ∙ stored_ends format image.bytes)
+    ∙ ap (unless_zero false) (ap judged contents ∙ judged_kept image rules)
 
 -- ---- one spelling
 
-pub same_from_spelled : (a b : ImageContents) (x y : List ℕ) → IsImage a → IsImage b → spelled a ++ x ≡ spelled b ++ y → (a ≡ b) × (x ≡ y)
-same_from_spelled a b x y fits_a fits_b e =
-    let same : a ≡ b = sym (contents_again a x fits_a) ∙ ap contents_in e ∙ contents_again b y fits_b in
-    (same, append_cancel_left (spelled a) x y (e ∙ ap (λ (image : ImageContents). spelled image ++ y) (sym same)))
+pub same_from_spelled : (f g : Format) (a b : ImageContents) (x y : List ℕ) → IsImage a → IsImage b → spelled f a ++ x ≡ spelled g b ++ y
+    → (f ≡ g) × (a ≡ b) × (x ≡ y)
+same_from_spelled f g a b x y fits_a fits_b e =
+    let found : Some f ≡ Some g = sym (spelled_again f a x fits_a).begins ∙ ap format_of e ∙ (spelled_again g b y fits_b).begins in
+    let format : f ≡ g = cc found in
+    let e' : spelled f a ++ x ≡ spelled f b ++ y = e ∙ ap (λ (h : Format). spelled h b ++ y) (sym format) in
+    let same : a ≡ b = sym (contents_again f a x fits_a) ∙ ap (contents_in f) e' ∙ contents_again f b y fits_b in
+    (format, same, append_cancel_left (spelled f a) x y (e' ∙ ap (λ (image : ImageContents). spelled f image ++ y) (sym same)))
 
 -- ---- the same, of what a call answers
 
-pub IfOk-found : (bytes : List ℕ) (answer : Result ImageContents LoadFault) → IsBytes bytes → Answers answer (image_of bytes) → IfOk answer (λ image. bytes ≡ spelled image)
+pub IfOk-found : (bytes : List ℕ) (answer : Result ImageContents LoadFault) → IsBytes bytes → Answers answer (image_of bytes) → IfOk answer (Spells bytes)
 IfOk-found bytes (Ok image) fits e = spelled_from_image_of bytes image fits e
 IfOk-found bytes (Err fault) fits e = tt
 
-pub answers_again : (bytes : List ℕ) (answer : Result ImageContents LoadFault) (image : ImageContents) → Answers answer (image_of bytes) → IsImage image → bytes ≡ spelled image → Answers answer (Ok image)
-answers_again bytes answer image e rules is_spelled =
-    subst (λ (wanted : Result ImageContents LoadFault). Answers answer wanted) (ap image_of is_spelled ∙ image_of-spelled image rules) e
+pub answers_again : (bytes : List ℕ) (answer : Result ImageContents LoadFault) (image : ImageContents) → Answers answer (image_of bytes) → IsImage image → Spells bytes image → Answers answer (Ok image)
+answers_again bytes answer image e rules spells =
+    subst (λ (wanted : Result ImageContents LoadFault). Answers answer wanted) (ap image_of spells.bytes_are ∙ image_of-spelled spells.format image rules) e

@@ -1,4 +1,5 @@
 pub mod Numbers
+pub mod Trims
 pub mod Frames
 pub mod Contents
 pub mod Laws

@@ -1,7 +1,7 @@
 -- The numbers of the faults, which are this project's own.
 use Rattle.std.specs.Prelude.{ℕ, Option, Some, None}
 use Rattle.loader.specs.declared.faults.LoadFault.{LoadFault}
-use Rattle.loader.specs.declared.faults.LoadFault.TheVariants.{Magic, Truncated, TrailingBytes, OverLimit, Entry, OutputRange, HartCount, OutOfMemory}
+use Rattle.loader.specs.declared.faults.LoadFault.TheVariants.{Magic, Truncated, TrailingBytes, OverLimit, Entry, OutputRange, HartCount, StoredZero, OutOfMemory}
 
 abbrev pub number_of : LoadFault → Option ℕ
 number_of Magic = Some 1
@@ -11,4 +11,5 @@ number_of OverLimit = Some 4
 number_of Entry = Some 5
 number_of OutputRange = Some 6
 number_of HartCount = Some 7
+number_of StoredZero = Some 8
 number_of OutOfMemory = None

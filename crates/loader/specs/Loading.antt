@@ -5,7 +5,7 @@ use Rattle.multi_hart.specs.Run.{State, opened}
 use Rattle.loader.specs.declared.faults.LoadFault.{LoadFault}
 use Rattle.loader.specs.declared.faults.LoadFault.TheVariants.{HartCount}
 use Rattle.loader.specs.Image.{ImageContents, IsImage}
-use Rattle.loader.specs.Spelling.{image_of, spelled}
+use Rattle.loader.specs.Spelling.{Spells, image_of}
 
 -- a machine at the start, of so many harts
 abbrev pub machine_of : ImageContents → ℕ → State
@@ -24,7 +24,7 @@ loaded bytes harts = with_harts harts (image_of bytes)
 pub record IsLoaded (bytes : List ℕ) (harts : ℕ) (machine : State) : Type 0 where
   pub image : ImageContents
   pub rules : IsImage image
-  pub bytes_are : bytes ≡ spelled image
+  pub spells : Spells bytes image
   pub some : 1 ≤ harts
   pub few : harts ≤ 8
   pub opened : machine ≡ machine_of image harts

@@ -10,8 +10,8 @@ use thiserror::Error;
 /// Why an image is refused: the first fault in the format's order, or no memory.
 #[derive(Clone, Copy, Debug, PartialEq, Eq, Error)]
 pub enum LoadFault {
-    /// The first four bytes aren't `HRV1`.
-    #[error("the bytes do not begin with HRV1")]
+    /// The first four bytes are neither `HRV1` nor `HRV2`.
+    #[error("the bytes begin with neither HRV1 nor HRV2")]
     Magic,
 
     /// Fewer bytes than the magic, the header or the header's counts ask for.
@@ -22,8 +22,8 @@ pub enum LoadFault {
     #[error("bytes stand after the end of the image")]
     TrailingBytes,
 
-    /// More than 262,144 words or 33,554,432 data bytes.
-    #[error("the image has more words or data bytes than a machine holds")]
+    /// More than 262,144 words or 33,554,432 data bytes, or more stored bytes than data bytes.
+    #[error("the image has more words or data bytes than it may have")]
     OverLimit,
 
     /// The entry isn't the address of a word of text.
@@ -38,13 +38,17 @@ pub enum LoadFault {
     #[error("the number of harts is not one that a machine has")]
     HartCount,
 
+    /// The last stored byte is 0.
+    #[error("the last stored byte of data is 0")]
+    StoredZero,
+
     /// Memory ran out.
     #[error("out of memory")]
     OutOfMemory,
 }
 
 impl LoadFault {
-    /// The fault's number, from 1 to 7; a lack of memory has none.
+    /// The fault's number, from 1 to 8; a lack of memory has none.
     pub fn number(self) -> Option<u8>
         ensures { result ≡ number_of self }
     {
@@ -56,6 +60,7 @@ impl LoadFault {
             LoadFault::Entry => Some(5),
             LoadFault::OutputRange => Some(6),
             LoadFault::HartCount => Some(7),
+            LoadFault::StoredZero => Some(8),
             LoadFault::OutOfMemory => None,
         }
     }

@@ -1,12 +1,14 @@
 //! Images: what a machine starts from, as values and as bytes.
 //!
 //! `specs/Image.antt` has what an image holds and the rules that it keeps, and `specs/Spelling.antt`
-//! has its bytes: [`read_image`] reads exactly what is spelled so, [`store`] spells an image, and
-//! [`one_spelling`] is the law that each image has one spelling and no spelling begins another.
+//! has its bytes in the two formats: [`read_image`] reads exactly what is spelled in one of them,
+//! [`store`] spells an image in the second, and [`one_spelling`] is the law that each image has one
+//! spelling in each format and no spelling begins another.
 //! [`load`] and [`Image::machine`] make the machine of an image at its start (`specs/Loading.antt`).
 #![tactic(auto)]
 
 pub mod faults;
+pub mod formats;
 pub mod images;
 pub mod loading;
 pub mod outputs;
@@ -14,6 +16,7 @@ pub mod readings;
 pub mod spellings;
 
 pub use crate::faults::LoadFault;
+pub use crate::formats::Format;
 pub use crate::images::Image;
 pub use crate::loading::load;
 pub use crate::outputs::{MOST_PIXELS, Output};

@@ -3,11 +3,11 @@
 ghost use Rattle.std.specs.Prelude.{◌≡◌, ◌+◌, ◌*◌, ◌<◌, ◌≤◌, ◌++◌, ℕ, List, OnOk, OnErr, length, vec_len, vec_capacity};
 ghost use Rattle.std.specs.Int.{w32, to_le_bytes};
 ghost use Rattle.loader.specs.Image.{ImageContents, IsImage};
-ghost use Rattle.loader.specs.Spelling.{spelled, spelled_numbers, output_fields, magic, spelled_header};
+ghost use Rattle.loader.specs.Spelling.{spelled, spelled_numbers, output_fields, spelled_start, spelled_header, stored, trimmed};
 
+use crate::formats::Format;
 use crate::images::Image;
 use crate::outputs::Output;
-use crate::readings::{HEADER_LEN, MAGIC};
 use byteorder::{ByteOrder, LittleEndian};
 use std::alloc::AllocError;
 
@@ -55,37 +55,52 @@ fn push_numbers(out: &mut Vec<u8>, numbers: &[u32])
     }
 }
 
-/// Appends an image's header, where there is room for it.
-fn push_header(out: &mut Vec<u8>, image: &Image)
+/// Appends the part of a header that both formats have, where there is room for it.
+fn push_start(out: &mut Vec<u8>, image: &Image)
     requires { vec_len out.old + 32 ≤ vec_capacity out.old }
-    ensures items { out.new.items ≡ out.old.items ++ spelled_header image.now }
+    ensures items { out.new.items ≡ out.old.items ++ spelled_start Format.Hrv2 image.now }
     ensures len { vec_len out.new ≡ vec_len out.old + 32 }
     ensures capacity { vec_capacity out.old ≤ vec_capacity out.new }
 {
-    push_bytes(out, &MAGIC);
+    push_bytes(out, &Format::Hrv2.magic());
     push_number(out, image.entry());
     push_number(out, image.words().len() as u32);
     push_number(out, image.data().len() as u32);
     push_numbers(out, &output_fields(image.output()));
 }
 
-/// Appends an image's bytes. Refused, with what `out` held unchanged, only where it has no room for them and memory runs out.
-#[tactic(auto, using(crate::proofs::Joined::joined), unfolding(crate::specs::Spelling::spelled))]
+/// The bytes without the zeros at their end.
+fn trimmed(bytes: &[u8]) -> &[u8]
+    ensures value { result.now ≡ trimmed bytes.now }
+    ensures len { length result.now ≤ length bytes.now }
+{
+    let mut count = bytes.len();
+    while count > 0 && bytes[count - 1] == 0 {
+        count -= 1;
+    }
+    &bytes[..count]
+}
+
+/// Appends an image's bytes, in the second format. Refused, with what `out` held unchanged, only where it has no room for them and
+/// memory runs out.
+#[tactic(auto, using(crate::proofs::Joined::joined), unfolding(crate::specs::Spelling::spelled, crate::specs::Spelling::spelled_header))]
 pub fn store(image: &Image, out: &mut Vec<u8>) -> Result<(), AllocError>
-    ensures ok { OnOk result (out.new.items ≡ out.old.items ++ spelled image.now) }
+    ensures ok { OnOk result (out.new.items ≡ out.old.items ++ spelled Format.Hrv2 image.now) }
     ensures err { OnErr result (out.new.items ≡ out.old.items) }
-    ensures full { OnErr result (vec_capacity out.old < vec_len out.old + length (spelled image.now)) }
+    ensures full { OnErr result (vec_capacity out.old < vec_len out.old + length (spelled Format.Hrv2 image.now)) }
 {
     let words = image.words();
-    let data = image.data();
-    out.reserve(HEADER_LEN + 4 * words.len() + data.len())?;
-    push_header(out, image);
+    let stored = trimmed(image.data());
+    out.reserve(Format::Hrv2.header_len() + 4 * words.len() + stored.len())?;
+    push_start(out, image);
+    push_number(out, stored.len() as u32);
     push_numbers(out, words);
-    push_bytes(out, data);
+    push_bytes(out, stored);
     Ok(())
 }
 
-/// A law: each image has one spelling, and no spelling begins another.
+/// A law: in each format an image has one spelling, and no spelling begins another.
 pub fn one_spelling()
-    ensures { (a b : ImageContents) (x y : List ℕ) → IsImage a → IsImage b → spelled a ++ x ≡ spelled b ++ y → (a ≡ b) × (x ≡ y) }
+    ensures { (f g : Format) (a b : ImageContents) (x y : List ℕ) → IsImage a → IsImage b → spelled f a ++ x ≡ spelled g b ++ y
+        → (f ≡ g) × (a ≡ b) × (x ≡ y) }
 {}
