@@ -164,7 +164,7 @@ change_faults reader tokens u =
 same_fault : (reader : Reader) (tokens : List Token) (l : Line Written) → lines.fault_of reader tokens (lines.judged_line reader l) ≡ r.fault_of reader tokens l
 unfolding lines.fault_of r.fault_of
 same_fault reader tokens line.Blank = refl
-same_fault reader tokens (line.Input e) = refl
+same_fault reader tokens (line.Input e is_bytes) = refl
 same_fault reader tokens (line.Func d) = definition_faults reader tokens d
 same_fault reader tokens (line.Update u) = change_faults reader tokens u
 same_fault reader tokens (line.Output e) = refl
@@ -210,7 +210,7 @@ module _ (reader : Reader) (scope : Scope) where
 
 same_added : (reader : Reader) (tokens : List Token) (l : Line Written) → IsFaultless reader tokens (lines.judged_line reader l) → applied lines.tree_of reader (lines.judged_line reader l) ≡ applied (asked.tree reader (scope_of reader l)) reader l
 same_added reader tokens line.Blank right = refl
-same_added reader tokens (line.Input e) right = refl
+same_added reader tokens (line.Input e is_bytes) right = refl
 same_added reader tokens (line.Func d) right =
     let scope = scope_of reader (line.Func d) in
     let plain : IsPlain (judge reader scope d.right).marks = record { known = right.known; counts = right.counts; divisors = right.divisors } in

@@ -73,7 +73,7 @@ none_of (Some a) e = cc
 
 is_free : (reader : Reader) (l : Line Judged) → is_taken reader l ≡ false → IsFree reader l
 is_free reader line.Blank e = tt
-is_free reader (line.Input extents) e = none_of _ e
+is_free reader (line.Input extents is_bytes) e = none_of _ e
 is_free reader (line.Func definition) e = none_of _ (or_parts _ _ e).0
 is_free reader (line.Update change) e = tt
 is_free reader (line.Output extents) e = tt

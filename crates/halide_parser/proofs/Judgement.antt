@@ -30,7 +30,7 @@ same_change (Some f) own alg u = refl
 -- the scope of a line doesn't depend on what is made of its expressions
 same_scope : (reader : Reader) (alg : Algebra Judged) (w : Line Written) → scope_of reader (made_line alg w) ≡ scope_of reader w
 same_scope reader alg line.Blank = refl
-same_scope reader alg (line.Input e) = refl
+same_scope reader alg (line.Input e is_bytes) = refl
 same_scope reader alg (line.Func d) = refl
 same_scope reader alg (line.Update u) = same_change (func reader u.name) (func_place reader u.name) alg u
 same_scope reader alg (line.Output e) = refl

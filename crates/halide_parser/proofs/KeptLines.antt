@@ -46,24 +46,25 @@ one_more xs x most e = le-leb (length (xs ++ x ∷ [])) most (omega (arith, leng
 
 -- ---- an input
 
-abbrev new_input : Extents → Input
-new_input e = record { width = e.width; height = r.height_of e.height; dimensions = r.count_with e.height }
+abbrev new_input : Extents → Bool → Input
+new_input e is_bytes = record { width = e.width; height = r.height_of e.height; dimensions = r.count_with e.height; is_bytes = is_bytes }
 
-input_is : (e : Extents) → r.is_bad_box e.width (r.height_of e.height) ≡ false → is_input (new_input e) ≡ true
-input_is e good =
+input_is : (e : Extents) (is_bytes : Bool) → r.is_bad_box e.width (r.height_of e.height) ≡ false → is_input (new_input e is_bytes) ≡ true
+input_is e is_bytes good =
     let sizes = box e.width (r.height_of e.height) good in
     all_of_three (is_width e.width) (is_height e.width (r.height_of e.height)) (are_dimensions (r.count_with e.height) (r.height_of e.height)) sizes.0 sizes.1 (counted e.height)
 
-pub input_keeps : (reader : Reader) (tokens : List Token) (e : Extents) → is_name e.name ≡ true → IsKept reader → IsFaultless reader tokens (line.Input e) → IsKept (with_input reader e)
-input_keeps reader tokens e short kept right =
+pub input_keeps : (reader : Reader) (tokens : List Token) (e : Extents) (is_bytes : Bool) → is_name e.name ≡ true → IsKept reader → IsFaultless reader tokens (line.Input e is_bytes)
+    → IsKept (with_input reader e is_bytes)
+input_keeps reader tokens e is_bytes short kept right =
     let parts = or_parts (nat_le 4 (length reader.inputs)) (r.is_bad_box e.width (r.height_of e.height)) right.within in
-    let new = new_input e in
+    let new = new_input e is_bytes in
     record {
       few_inputs = one_more reader.inputs new 4 parts.0;
       few_funcs = kept.few_funcs;
       inputs = λ place input found. elim (get-last reader.inputs new place input found) [
         | inl before ↦ kept.inputs place input before
-        | inr last ↦ subst (λ (i : Input). is_input i ≡ true) last.1 (input_is e parts.1)
+        | inr last ↦ subst (λ (i : Input). is_input i ≡ true) last.1 (input_is e is_bytes parts.1)
       ];
       funcs = λ place func found. func_grows reader.inputs reader.funcs (reader.inputs ++ new ∷ []) reader.funcs (inputs_grow reader.inputs (new ∷ []) reader.funcs) place func (kept.funcs place func found);
       short_names = names_join reader.names (e.name, sources.Input (length reader.inputs)) kept.short_names short;

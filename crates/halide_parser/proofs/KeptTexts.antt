@@ -55,7 +55,7 @@ small_change u e =
 
 line_keeps : (reader : Reader) (tokens : List Token) (w : Line Written) → IsRightLine w → tokens ≡ spell_line w → IsKept reader → AreSmall tokens → AreShort tokens → IsFaultless reader tokens (judged_line reader w) → IsKept (applied tree_of reader (judged_line reader w))
 line_keeps reader tokens line.Blank written is kept few short right = kept
-line_keeps reader tokens (line.Input e) written is kept few short right = input_keeps reader tokens e (short_input e (subst AreShort is short)) kept right
+line_keeps reader tokens (line.Input e is_bytes) written is kept few short right = input_keeps reader tokens e is_bytes (short_input e is_bytes (subst AreShort is short)) kept right
 line_keeps reader tokens (line.Func d) written is kept few short right = func_keeps reader tokens d kept (small_definition d.name d.first_argument d.second_argument d.right (subst AreSmall is few)) written (short_definition d (subst AreShort is short)) right
 line_keeps reader tokens (line.Update u) written is kept few short right =
     update_keeps reader tokens u kept (small_change u (subst AreSmall is few)) (record { left_x = written.0; left_y = written.1; right = written.2 }) (short_change u (subst AreShort is short)) right

@@ -13,7 +13,7 @@ use Rattle.halide_syntax.specs.declared.lines.Definition.{Definition}
 use Rattle.halide_syntax.specs.declared.lines.Extents.{Extents}
 use Rattle.halide_syntax.specs.declared.lines.Line.TheVariants as line
 use Rattle.halide_syntax.specs.Grammar.{Written, spell, Literal, Bare, Group, Minus, Call, CallTwo, Two, Three, Product, Sum, Comparison}
-use Rattle.halide_syntax.specs.LineGrammar.{spell_line, spell_height, spell_argument, spell_index, spell_sign, spell_second_bounds}
+use Rattle.halide_syntax.specs.LineGrammar.{spell_line, spell_height, spell_kind, spell_argument, spell_index, spell_sign, spell_second_bounds}
 use Rattle.halide_parser.specs.Rules.{is_long}
 use Rattle.halide_parser.specs.Scopes.{bounds_name}
 
@@ -45,8 +45,8 @@ behind (Comparison op a b) rest e = behind b rest (behind a (t.Compare op ∷ sp
 
 -- ---- lines
 
-pub short_input : (e : Extents) → AreShort (spell_line (line.Input e)) → is_name e.name ≡ true
-short_input e is = (name_first e.name (t.Number e.width ∷ spell_height e.height) is).0
+pub short_input : (e : Extents) (is_bytes : Bool) → AreShort (spell_line (line.Input e is_bytes)) → is_name e.name ≡ true
+short_input e is_bytes is = (name_first e.name (t.Number e.width ∷ spell_height e.height (spell_kind is_bytes)) is).0
 
 pub record ShortDefinition (d : Definition Written) : Type 0 where
   pub name : is_name d.name ≡ true

@@ -1,6 +1,6 @@
 -- What a faultless line adds to the lines before it.
 -- This project's own.
-use Rattle.std.specs.Prelude.{◌≡◌, ℕ, if◌then◌else◌, List, [], ◌∷◌, ◌++◌, length, Option, Some, None}
+use Rattle.std.specs.Prelude.{◌≡◌, ℕ, Bool, if◌then◌else◌, List, [], ◌∷◌, ◌++◌, length, Option, Some, None}
 use Rattle.halide_pipeline.specs.declared.expressions.Expr.{Expr}
 use Rattle.halide_pipeline.specs.declared.expressions.Source.TheVariants as sources
 use Rattle.halide_pipeline.specs.declared.definitions.Func.{Func}
@@ -40,12 +40,12 @@ update_of tree change = record {
   second = second_reduction change.second;
 }
 
-abbrev pub with_input : Reader → Extents → Reader
-with_input reader extents = record {
+abbrev pub with_input : Reader → Extents → Bool → Reader
+with_input reader extents is_bytes = record {
   alloc = reader.alloc;
   is_oversized = reader.is_oversized;
   names = reader.names ++ (extents.name, sources.Input (length reader.inputs)) ∷ [];
-  inputs = reader.inputs ++ record { width = extents.width; height = height_of extents.height; dimensions = count_with extents.height } ∷ [];
+  inputs = reader.inputs ++ record { width = extents.width; height = height_of extents.height; dimensions = count_with extents.height; is_bytes = is_bytes } ∷ [];
   funcs = reader.funcs;
   output = reader.output;
   last_func = None;
@@ -86,7 +86,7 @@ with_output reader extents = record {
 -- What is named with one more line. `tree` is the tree of an expression.
 abbrev pub applied : {V : Type 0} → (V → Expr) → Reader → Line V → Reader
 applied tree reader line.Blank = reader
-applied tree reader (line.Input extents) = with_input reader extents
+applied tree reader (line.Input extents is_bytes) = with_input reader extents is_bytes
 applied tree reader (line.Func definition) = with_func tree reader definition
 applied tree reader (line.Update change) = record {
   alloc = reader.alloc;
@@ -101,6 +101,6 @@ applied tree reader (line.Output extents) = with_output reader extents
 
 -- The name of an input or a Func is new.
 abbrev pub IsFree : {V : Type 0} → Reader → Line V → Type 0
-IsFree reader (line.Input extents) = lookup extents.name reader.names ≡ None
+IsFree reader (line.Input extents is_bytes) = lookup extents.name reader.names ≡ None
 IsFree reader (line.Func definition) = lookup definition.name reader.names ≡ None
 IsFree reader _ = Unit {0}

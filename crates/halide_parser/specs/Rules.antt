@@ -84,7 +84,7 @@ is_reduction_taken reader change = is_argument reader change.name change.first.n
 
 -- an input or Func twice; an argument or reduction variable twice in a definition
 abbrev pub is_taken : {V : Type 0} → Reader → Line V → Bool
-is_taken reader (line.Input extents) = is_some (lookup extents.name reader.names)
+is_taken reader (line.Input extents is_bytes) = is_some (lookup extents.name reader.names)
 is_taken reader (line.Func definition) = is_some (lookup definition.name reader.names) || is_named definition.second_argument definition.first_argument
 is_taken reader (line.Update change) = is_reduction_taken reader change
 is_taken reader _ = false
@@ -191,7 +191,7 @@ is_change_over_limit exceeds reader change =
 -- 4 inputs, 12 Funcs, and boxes
 abbrev pub is_line_over_limit : {V : Type 0} → (V → Bool) → Reader → Line V → Bool
 is_line_over_limit exceeds reader line.Blank = false
-is_line_over_limit exceeds reader (line.Input extents) = nat_le 4 (length reader.inputs) || is_bad_box extents.width (height_of extents.height)
+is_line_over_limit exceeds reader (line.Input extents is_bytes) = nat_le 4 (length reader.inputs) || is_bad_box extents.width (height_of extents.height)
 is_line_over_limit exceeds reader (line.Func definition) = nat_le 12 (length reader.funcs) || exceeds definition.right
 is_line_over_limit exceeds reader (line.Update change) = is_change_over_limit exceeds reader change
 is_line_over_limit exceeds reader (line.Output extents) = is_bad_box extents.width (height_of extents.height)

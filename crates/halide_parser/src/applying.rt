@@ -165,9 +165,9 @@ fn update_of(change: Change<Judged>) -> Update
 }
 
 /// Adds an input.
-fn add_input(reader: &mut Reader, extents: Extents) -> Result<(), AllocError>
+fn add_input(reader: &mut Reader, extents: Extents, is_bytes: bool) -> Result<(), AllocError>
     requires { lookup extents.name reader.old.names ≡ None }
-    ensures { OnOk result (reader.new ≡ spec.with_input reader.old extents) }
+    ensures { OnOk result (reader.new ≡ spec.with_input reader.old extents is_bytes) }
 {
     let height = height_of(&extents);
     let dimensions = if extents.height.is_some() { 2 } else { 1 };
@@ -176,6 +176,7 @@ fn add_input(reader: &mut Reader, extents: Extents) -> Result<(), AllocError>
         width: extents.width,
         height,
         dimensions,
+        is_bytes,
     })?;
     let source = Source::Input(place);
     reader
@@ -245,7 +246,7 @@ pub fn apply(reader: &mut Reader, line: Line<Judged>) -> Result<(), AllocError>
 {
     match line {
         Line::Blank => Ok(()),
-        Line::Input(extents) => Ok(add_input(reader, extents)?),
+        Line::Input { extents, is_bytes } => Ok(add_input(reader, extents, is_bytes)?),
         Line::Func(definition) => Ok(add_func(reader, definition)?),
         Line::Update(change) => {
             add_update(&mut reader.funcs, update_of(change))?;

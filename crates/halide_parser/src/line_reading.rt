@@ -9,7 +9,7 @@ use crate::judging::Judged;
 use crate::passes::expression;
 use crate::readers::Reader;
 use crate::scopes::Scope;
-use halide_syntax::line_parts::{arguments, assigned, bounds, extents, more_bounds, over};
+use halide_syntax::line_parts::{arguments, assigned, bounds, extents, kind, more_bounds, over};
 use halide_syntax::{Change, Definition, Line, ParseFault, Token};
 use line_text::ReadError;
 use sqlite_items::Items;
@@ -95,8 +95,18 @@ pub fn read_line(
 {
     match tokens {
         [] => Ok(Line::Blank),
-        [Token::Input, rest @ ..] => Ok(Line::Input(extents(reader.alloc, rest)?)),
-        [Token::Output, rest @ ..] => Ok(Line::Output(extents(reader.alloc, rest)?)),
+        [Token::Input, rest @ ..] => {
+            let (extents, behind) = extents(reader.alloc, rest)?;
+            let is_bytes = kind(behind)?;
+            Ok(Line::Input { extents, is_bytes })
+        }
+        [Token::Output, rest @ ..] => {
+            let (extents, behind) = extents(reader.alloc, rest)?;
+            if !behind.is_empty() {
+                return Err(ReadError::Fault(ParseFault::Syntax));
+            }
+            Ok(Line::Output(extents))
+        }
         [Token::Func, Token::Name(name), Token::Open, rest @ ..] => {
             Ok(definition(reader, scope, name, rest)?)
         }

@@ -118,7 +118,7 @@ fn is_taken(reader: &Reader, line: &Line<Judged>) -> bool
     ensures { result ≡ spec.is_taken reader.now line.now }
 {
     match line {
-        Line::Input(extents) => reader.names.get(extents.name.as_slice()).is_some(),
+        Line::Input { extents, .. } => reader.names.get(extents.name.as_slice()).is_some(),
         Line::Func(definition) => {
             reader.names.get(definition.name.as_slice()).is_some()
                 || is_named(
@@ -329,7 +329,7 @@ fn is_over_limit(reader: &Reader, tokens: &[Token], line: &Line<Judged>) -> bool
 {
     let is_over = match line {
         Line::Blank => false,
-        Line::Input(extents) => {
+        Line::Input { extents, .. } => {
             reader.inputs.len() >= 4 || is_bad_box(extents.width, height_of(extents))
         }
         Line::Func(definition) => reader.funcs.len() >= 12 || exceeds(&definition.right),

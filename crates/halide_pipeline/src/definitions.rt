@@ -86,6 +86,8 @@ pub struct Input {
     pub height: u32,
     /// 1 or 2.
     pub dimensions: usize,
+    /// Whether each pixel is a byte, from 0 to 255.
+    pub is_bytes: bool,
 }
 
 /// What is asked for: the pixels of a Func from 0 on in each dimension. With one dimension the height

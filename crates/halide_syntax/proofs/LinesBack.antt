@@ -1,5 +1,8 @@
 -- A line that is read is the line that is written.
 use Rattle.std.proofs.Common.{◌≡◌, ℕ, Bool, true, false, List, [], ◌∷◌, Result, Ok, Err, Option, Some, None, refl, ap, subst, ◌∙◌}
+use Rattle.std.specs.Prelude.{codes}
+use Rattle.std.specs.Str.{bytes_eq}
+use Rattle.std.proofs.lemmas.Slice.Eq.{bytes_eq-Decides}
 use Rattle.line_text.specs.Reading.{◌>>=◌}
 use Rattle.halide_syntax.specs.declared.faults.ParseFault.{ParseFault}
 use Rattle.halide_syntax.specs.declared.tokens.Token.{Token}
@@ -13,7 +16,7 @@ use Rattle.halide_syntax.specs.declared.lines.Line.{Line}
 use Rattle.halide_syntax.specs.declared.lines.Line.TheVariants as line
 use Rattle.halide_syntax.specs.inner.Algebra.{writing}
 use Rattle.halide_syntax.specs.Grammar.{Written, spell, IsRight, is_open}
-use Rattle.halide_syntax.specs.LineGrammar.{spell_height, spell_extents, spell_sign, spell_bounds, spell_second_bounds, spell_argument, spell_index, spell_line, IsRightIndex, IsRightLine}
+use Rattle.halide_syntax.specs.LineGrammar.{spell_height, spell_extents, spell_kind, spell_sign, spell_bounds, spell_second_bounds, spell_argument, spell_index, spell_line, IsRightIndex, IsRightLine}
 use Rattle.halide_syntax.specs.inner.LineReading as r
 use Rattle.halide_syntax.specs.inner.Machine as m
 use Rattle.halide_syntax.proofs.Complete.{is_read}
@@ -28,16 +31,30 @@ bind_ok (Err e) f y h = cc
 ok_inj : {A : Type 0} (x y : A) → ◌≡◌ {A = Result A ParseFault} (Ok x) (Ok y) → x ≡ y
 ok_inj x y h = cc
 
-extents_written : (ts : List Token) (e : Extents) → r.extents ts ≡ Ok e → ts ≡ spell_extents e
+abbrev spell_extents_of : Extents × List Token → List Token
+spell_extents_of x = spell_extents x.0 x.1
+
+extents_written : (ts : List Token) (e : Extents) (rest : List Token) → r.extents ts ≡ Ok (e, rest) → ts ≡ spell_extents e rest
 unfolding r.extents
-extents_written [] e h = cc
-extents_written (t.Name name ∷ []) e h = cc
-extents_written (t.Name name ∷ t.Number width ∷ []) e h = ap spell_extents (ok_inj _ e h)
-extents_written (t.Name name ∷ t.Number width ∷ t.Number height ∷ []) e h = ap spell_extents (ok_inj _ e h)
-extents_written (t.Name name ∷ t.Number width ∷ t.Number height ∷ x ∷ ts) e h = cc
-extents_written (t.Name name ∷ t.Number width ∷ x ∷ ts) e h = cc
-extents_written (t.Name name ∷ x ∷ ts) e h = cc
-extents_written (x ∷ ts) e h = cc
+extents_written [] e rest h = cc
+extents_written (t.Name name ∷ []) e rest h = cc
+extents_written (t.Name name ∷ t.Number width ∷ []) e rest h = ap spell_extents_of (ok_inj _ (e, rest) h)
+extents_written (t.Name name ∷ t.Number width ∷ t.Number height ∷ ts) e rest h = ap spell_extents_of (ok_inj _ (e, rest) h)
+extents_written (t.Name name ∷ t.Number width ∷ x ∷ ts) e rest h = ap spell_extents_of (ok_inj _ (e, rest) h)
+extents_written (t.Name name ∷ x ∷ ts) e rest h = cc
+extents_written (x ∷ ts) e rest h = cc
+
+by_word : (word : List ℕ) (is : Bool) (is_bytes : Bool) → bytes_eq word (codes "u8") ≡ is → r.kind_by is ≡ Ok is_bytes → t.Name word ∷ [] ≡ spell_kind is_bytes
+by_word word true is_bytes same h =
+    ap (λ (w : List ℕ). t.Name w ∷ []) ((bytes_eq-Decides word (codes "u8")).0 same) ∙ ap spell_kind (ok_inj true is_bytes h)
+by_word word false is_bytes same h = cc
+
+kind_written : (ts : List Token) (is_bytes : Bool) → r.kind ts ≡ Ok is_bytes → ts ≡ spell_kind is_bytes
+unfolding r.kind
+kind_written [] is_bytes h = ap spell_kind (ok_inj false is_bytes h)
+kind_written (t.Name word ∷ []) is_bytes h = by_word word (bytes_eq word (codes "u8")) is_bytes refl h
+kind_written (t.Name word ∷ x ∷ ts) is_bytes h = cc
+kind_written (x ∷ ts) is_bytes h = cc
 
 abbrev spell_bounds_of : Bounds × List Token → List Token
 spell_bounds_of x = spell_bounds x.0 x.1
@@ -169,13 +186,16 @@ pub line_written : (ts : List Token) (l : Line Written) → r.read_line writing 
 unfolding r.read_line
 line_written [] l h = let e = ok_inj line.Blank l h in (subst IsRightLine e tt, ap spell_line e)
 line_written (t.Input ∷ ts) l h =
-    let (x, first, last) = bind_ok (r.extents ts) _ l h in
-    let e = ok_inj (line.Input x) l last in
-    (subst IsRightLine e tt, ap (λ (k : List Token). t.Input ∷ k) (extents_written ts x first) ∙ ap spell_line e)
+    let (x, first, next) = bind_ok (r.extents ts) _ l h in
+    let (is_bytes, second, last) = bind_ok (r.kind x.1) _ l next in
+    let e = ok_inj (line.Input x.0 is_bytes) l last in
+    let spelled : ts ≡ spell_extents x.0 (spell_kind is_bytes) = extents_written ts x.0 x.1 first ∙ ap (spell_extents x.0) (kind_written x.1 is_bytes second) in
+    (subst IsRightLine e tt, ap (λ (k : List Token). t.Input ∷ k) spelled ∙ ap spell_line e)
 line_written (t.Output ∷ ts) l h =
     let (x, first, last) = bind_ok (r.extents ts) _ l h in
-    let e = ok_inj (line.Output x) l last in
-    (subst IsRightLine e tt, ap (λ (k : List Token). t.Output ∷ k) (extents_written ts x first) ∙ ap spell_line e)
+    let e = left_written (line.Output x.0) l x.1 last in
+    let spelled : ts ≡ spell_extents x.0 [] = extents_written ts x.0 x.1 first ∙ ap (spell_extents x.0) e.1 in
+    (subst IsRightLine e.0 tt, ap (λ (k : List Token). t.Output ∷ k) spelled ∙ ap spell_line e.0)
 line_written (t.Func ∷ t.Name name ∷ t.Open ∷ ts) l h = definition_written name ts l h
 line_written (t.Update ∷ t.Name name ∷ t.Open ∷ ts) l h = change_written name ts l h
 line_written (t.Func ∷ []) l h = cc
@@ -190,10 +210,18 @@ line_written (x ∷ ts) l h = cc
 
 -- ---- what is written is read
 
-extents_read : (name : List ℕ) (width : ℕ) (height : Option ℕ) → r.extents (t.Name name ∷ t.Number width ∷ spell_height height) ≡ Ok (record { name = name; width = width; height = height })
+-- behind extents there stands no number
+extents_read : (name : List ℕ) (width : ℕ) (height : Option ℕ) (is_bytes : Bool)
+    → r.extents (t.Name name ∷ t.Number width ∷ spell_height height (spell_kind is_bytes)) ≡ Ok (record { name = name; width = width; height = height }, spell_kind is_bytes)
 unfolding r.extents
-extents_read name width None = refl
-extents_read name width (Some height) = refl
+extents_read name width None false = refl
+extents_read name width None true = refl
+extents_read name width (Some height) is_bytes = refl
+
+kind_read : (is_bytes : Bool) → r.kind (spell_kind is_bytes) ≡ Ok is_bytes
+unfolding r.kind
+kind_read false = refl
+kind_read true = refl
 
 bounds_read : (name : List ℕ) (is_negative : Bool) (minimum extent : ℕ) (rest : List Token)
     → r.bounds (t.Name name ∷ spell_sign is_negative (t.Number minimum ∷ t.Number extent ∷ rest)) ≡ Ok (record { name = name; is_negative = is_negative; minimum = minimum; extent = extent }, rest)
@@ -245,7 +273,7 @@ change_read u rx ry rr =
 pub line_read : (l : Line Written) → IsRightLine l → r.read_line writing (spell_line l) ≡ Ok l
 unfolding r.read_line
 line_read line.Blank right = refl
-line_read (line.Input e) right = rw (extents_read e.name e.width e.height) refl
+line_read (line.Input e is_bytes) right = rw (extents_read e.name e.width e.height is_bytes, kind_read is_bytes) refl
 line_read (line.Func d) right = definition_read d right
 line_read (line.Update u) right = change_read u right.0 right.1 right.2
-line_read (line.Output e) right = rw (extents_read e.name e.width e.height) refl
+line_read (line.Output e) right = rw (extents_read e.name e.width e.height false) refl

@@ -86,8 +86,8 @@ module _ {V : Type 0} (alg : Algebra V) where
   pub read_line : (ts : List Token) → r.read_line alg ts ≡ (r.read_line writing ts >>= line_of)
   unfolding r.read_line
   read_line [] = refl
-  read_line (t.Input ∷ rest) = same (r.extents rest) _ _ line_of (λ e. refl)
-  read_line (t.Output ∷ rest) = same (r.extents rest) _ _ line_of (λ e. refl)
+  read_line (t.Input ∷ rest) = same (r.extents rest) _ _ line_of (λ e. same (r.kind e.1) _ _ line_of (λ is_bytes. refl))
+  read_line (t.Output ∷ rest) = same (r.extents rest) _ _ line_of (λ e. left (line.Output e.0) e.1)
   read_line (t.Func ∷ t.Name name ∷ t.Open ∷ rest) = definition name rest
   read_line (t.Update ∷ t.Name name ∷ t.Open ∷ rest) = change name rest
   read_line (_ ∷ rest) = refl

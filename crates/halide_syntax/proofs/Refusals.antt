@@ -1,5 +1,7 @@
 -- A line that is not read is a syntax fault, and there is one way to read that follows the grammar.
 use Rattle.std.proofs.Common.{◌≡◌, ℕ, Bool, true, false, List, [], ◌∷◌, Result, Ok, Err, Option, Some, None, refl, sym, ap, ◌∙◌}
+use Rattle.std.specs.Prelude.{codes}
+use Rattle.std.specs.Str.{bytes_eq}
 use Rattle.line_text.specs.Reading.{◌>>=◌}
 use Rattle.halide_syntax.specs.declared.faults.ParseFault.{ParseFault}
 use Rattle.halide_syntax.specs.declared.faults.ParseFault.TheVariants.{Syntax}
@@ -7,6 +9,7 @@ use Rattle.halide_syntax.specs.declared.tokens.Token.{Token}
 use Rattle.halide_syntax.specs.declared.tokens.Token.TheVariants as t
 use Rattle.halide_syntax.specs.declared.tokens.SumOperator.TheVariants.{Add, Subtract}
 use Rattle.halide_syntax.specs.declared.lines.Line.{Line}
+use Rattle.halide_syntax.specs.declared.lines.Line.TheVariants as line
 use Rattle.halide_syntax.specs.inner.Algebra.{writing}
 use Rattle.halide_syntax.specs.Grammar.{Written}
 use Rattle.halide_syntax.specs.LineGrammar.{FollowsGrammar}
@@ -33,11 +36,21 @@ unfolding r.extents
 extents_only [] = refl
 extents_only (t.Name name ∷ []) = refl
 extents_only (t.Name name ∷ t.Number width ∷ []) = tt
-extents_only (t.Name name ∷ t.Number width ∷ t.Number height ∷ []) = tt
-extents_only (t.Name name ∷ t.Number width ∷ t.Number height ∷ x ∷ ts) = refl
-extents_only (t.Name name ∷ t.Number width ∷ x ∷ ts) = refl
+extents_only (t.Name name ∷ t.Number width ∷ t.Number height ∷ ts) = tt
+extents_only (t.Name name ∷ t.Number width ∷ x ∷ ts) = tt
 extents_only (t.Name name ∷ x ∷ ts) = refl
 extents_only (x ∷ ts) = refl
+
+kind_by_only : (is : Bool) → OnlySyntax (r.kind_by is)
+kind_by_only true = tt
+kind_by_only false = refl
+
+kind_only : (ts : List Token) → OnlySyntax (r.kind ts)
+unfolding r.kind
+kind_only [] = tt
+kind_only (t.Name word ∷ []) = kind_by_only (bytes_eq word (codes "u8"))
+kind_only (t.Name word ∷ x ∷ ts) = refl
+kind_only (x ∷ ts) = refl
 
 bounds_from_only : (name : List ℕ) (is_negative : Bool) (ts : List Token) → OnlySyntax (r.bounds_from name is_negative ts)
 bounds_from_only name is_negative [] = refl
@@ -127,8 +140,8 @@ change_only name ts =
 line_only : (ts : List Token) → OnlySyntax (r.read_line writing ts)
 unfolding r.read_line
 line_only [] = tt
-line_only (t.Input ∷ ts) = bound (r.extents ts) _ (extents_only ts) (λ e. tt)
-line_only (t.Output ∷ ts) = bound (r.extents ts) _ (extents_only ts) (λ e. tt)
+line_only (t.Input ∷ ts) = bound (r.extents ts) _ (extents_only ts) (λ e. bound (r.kind e.1) _ (kind_only e.1) (λ is_bytes. tt))
+line_only (t.Output ∷ ts) = bound (r.extents ts) _ (extents_only ts) (λ e. left_only (line.Output e.0) e.1)
 line_only (t.Func ∷ []) = refl
 line_only (t.Func ∷ t.Name name ∷ []) = refl
 line_only (t.Func ∷ t.Name name ∷ t.Open ∷ ts) = definition_only name ts

@@ -17,30 +17,63 @@ fn copied(alloc: Global, name: &Items<u8>) -> Result<Items<u8>, AllocError>
     Items::from_slice(alloc, name.as_slice())
 }
 
-/// A name with one or two extents, and nothing else.
+/// A name with one or two extents, and the tokens behind it.
 ///
 /// # Errors
 ///
 /// `Syntax` where the tokens are other; memory ran out.
 #[tactic(auto, unfolding(crate::specs::inner::LineReading::extents))]
-pub fn extents(alloc: Global, tokens: &[Token]) -> Result<Extents, ReadError<ParseFault>>
-    ensures { Gives (λ x. x) result (spec.extents tokens.now) }
+pub fn extents(
+    alloc: Global,
+    tokens: &[Token],
+) -> Result<(Extents, &[Token]), ReadError<ParseFault>>
+    ensures { Gives (λ x. (x.0, x.1.now)) result (spec.extents tokens.now) }
 {
     match tokens {
-        [Token::Name(name), Token::Number(width)] => Ok(Extents {
-            name: copied(alloc, name)?,
-            width: *width,
-            height: None,
-        }),
         [
             Token::Name(name),
             Token::Number(width),
             Token::Number(height),
-        ] => Ok(Extents {
-            name: copied(alloc, name)?,
-            width: *width,
-            height: Some(*height),
-        }),
+            rest @ ..,
+        ] => {
+            let name = copied(alloc, name)?;
+            let height = Some(*height);
+            Ok((
+                Extents {
+                    name,
+                    width: *width,
+                    height,
+                },
+                rest,
+            ))
+        }
+        [Token::Name(name), Token::Number(width), rest @ ..] => {
+            let name = copied(alloc, name)?;
+            Ok((
+                Extents {
+                    name,
+                    width: *width,
+                    height: None,
+                },
+                rest,
+            ))
+        }
+        _ => Err(ReadError::Fault(ParseFault::Syntax)),
+    }
+}
+
+/// Whether an input's pixels are bytes: nothing, or `u8` and nothing else.
+///
+/// # Errors
+///
+/// `Syntax` where the tokens are other.
+#[tactic(auto, unfolding(crate::specs::inner::LineReading::kind))]
+pub fn kind(tokens: &[Token]) -> Result<bool, ReadError<ParseFault>>
+    ensures { Gives (λ x. x) result (spec.kind tokens.now) }
+{
+    match tokens {
+        [] => Ok(false),
+        [Token::Name(word)] if word.as_slice() == b"u8".as_slice() => Ok(true),
         _ => Err(ReadError::Fault(ParseFault::Syntax)),
     }
 }

@@ -44,7 +44,11 @@ pub struct Change<V> {
 #[derive(Drop)]
 pub enum Line<V> {
     Blank,
-    Input(Extents),
+    Input {
+        extents: Extents,
+        /// Whether each pixel is a byte.
+        is_bytes: bool,
+    },
     Func(Definition<V>),
     Update(Change<V>),
     Output(Extents),

@@ -1,6 +1,7 @@
 -- What `evaluate` answers: a pipeline's output, or why the pictures aren't those that the pipeline asks for.
 -- This project's own.
-use Rattle.std.specs.Prelude.{◌≡◌, ℕ, ◌<◌, ◌==◌, ◌&&◌, not, Bool, true, if◌then◌else◌, List, [], ◌∷◌, length, Option, Some, None, Result, Ok, Err}
+use Rattle.std.specs.Prelude.{◌≡◌, ℕ, ◌<◌, ◌==◌, ◌&&◌, ◌||◌, nat_lt, not, Bool, true, if◌then◌else◌, List, [], ◌∷◌, length, Option, Some, None, Result, Ok, Err}
+use Rattle.std.specs.List.{list_all}
 use Rattle.halide_pipeline.specs.declared.definitions.Input.{Input}
 use Rattle.halide_pipeline.specs.Pipelines.{Pipeline}
 use Rattle.picture.specs.declared.faults.EvalError.{EvalError}
@@ -11,6 +12,7 @@ use Rattle.halide_meaning.specs.Pixel.{output_pixel}
 abbrev pub error_number : EvalError → Option ℕ
 error_number errors.InputCount = Some 1
 error_number errors.InputSize = Some 2
+error_number errors.InputByte = Some 3
 error_number errors.OutOfMemory = None
 
 -- the picture has the size that the input asks for
@@ -23,11 +25,23 @@ are_sizes [] pictures = true
 are_sizes (input ∷ inputs) [] = true
 are_sizes (input ∷ inputs) (picture ∷ pictures) = is_size input picture && are_sizes inputs pictures
 
--- the pictures are as many as are asked for, and have the sizes, or not: the count is judged first
+-- where the input is one of bytes, each pixel is one
+abbrev pub holds_bytes : Input → PictureContents → Bool
+holds_bytes input picture = not input.is_bytes || list_all (λ pixel. nat_lt pixel 256) picture.pixels
+
+-- each picture holds what its input asks for
+abbrev pub hold_bytes : List Input → List PictureContents → Bool
+hold_bytes [] pictures = true
+hold_bytes (input ∷ inputs) [] = true
+hold_bytes (input ∷ inputs) (picture ∷ pictures) = holds_bytes input picture && hold_bytes inputs pictures
+
+-- the pictures are as many as are asked for, have the sizes and hold bytes where they should, or not: the count is judged first, the
+-- pixels last
 abbrev pub judged : List Input → List PictureContents → Option EvalError
 judged inputs pictures =
     if not (length pictures == length inputs) then Some errors.InputCount
     else if not (are_sizes inputs pictures) then Some errors.InputSize
+    else if not (hold_bytes inputs pictures) then Some errors.InputByte
     else None
 
 -- the picture has the output's size, and at each point the output's pixel
@@ -44,3 +58,4 @@ Evaluates pipeline pictures (Ok picture) = (judged pipeline.inputs pictures ≡ 
 Evaluates pipeline pictures (Err errors.OutOfMemory) = judged pipeline.inputs pictures ≡ None
 Evaluates pipeline pictures (Err errors.InputCount) = judged pipeline.inputs pictures ≡ Some errors.InputCount
 Evaluates pipeline pictures (Err errors.InputSize) = judged pipeline.inputs pictures ≡ Some errors.InputSize
+Evaluates pipeline pictures (Err errors.InputByte) = judged pipeline.inputs pictures ≡ Some errors.InputByte

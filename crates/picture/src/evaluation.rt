@@ -1,10 +1,10 @@
 //! The output of a pipeline.
 
-ghost use Rattle.std.specs.Prelude.{◌≡◌, ◌<◌, ◌≤◌, ◌+◌, ◌*◌, ◌/◌, ◌%◌, ◌^◌, ◌==◌, ◌&&◌, ℕ, Ok, Some, None, IfSome, OnOk, slice_get, IfOk, IfErr, true, length, slice_index};
-ghost use Rattle.std.specs.List.{AllZip, range_with_len};
+ghost use Rattle.std.specs.Prelude.{◌≡◌, ◌<◌, ◌≤◌, ◌+◌, ◌*◌, ◌/◌, ◌%◌, ◌^◌, ◌==◌, ◌&&◌, ℕ, Ok, Some, None, IfSome, OnOk, slice_get, IfOk, IfErr, true, length, nat_lt, slice_index};
+ghost use Rattle.std.specs.List.{AllZip, list_all, range_with_len};
 ghost use Rattle.halide_pipeline.specs.Words as word;
 ghost use Rattle.picture.specs.Slices.{is_forward};
-ghost use Rattle.picture.specs.Evaluated.{is_size, are_sizes, judged, Evaluates};
+ghost use Rattle.picture.specs.Evaluated.{is_size, are_sizes, holds_bytes, hold_bytes, judged, Evaluates};
 ghost use Rattle.picture.specs.inner.Evaluation.{plane_of, numbered_pixel, AreTables, AreTablesOf, AreKnownOf, AreSlicesOf, IsSliceOf, IsTable, IsAt};
 
 use crate::boxes::{Bounds, Slices, Wanted, bounds_of, find, slices_of};
@@ -37,7 +37,36 @@ fn are_sizes(inputs: &[Input], pictures: &[Picture]) -> bool
     }
 }
 
-/// Judges the pictures, their count first.
+/// Whether each pixel is a byte.
+fn are_bytes(pixels: &[u32]) -> bool
+    ensures { result ≡ list_all (λ pixel. nat_lt pixel 256) pixels.now }
+{
+    pixels.iter().all(|pixel| *pixel < 256)
+}
+
+/// The same where the input is one of bytes.
+fn holds_bytes(input: &Input, picture: &Picture) -> bool
+    ensures { result ≡ holds_bytes input.now picture.now }
+{
+    !input.is_bytes || are_bytes(picture.pixels())
+}
+
+/// Whether each picture holds what its input asks for.
+fn hold_bytes(inputs: &[Input], pictures: &[Picture]) -> bool
+    ensures { result ≡ hold_bytes inputs.now pictures.now }
+{
+    match inputs {
+        [] => true,
+        [input, inputs @ ..] => match pictures {
+            [] => true,
+            [picture, pictures @ ..] => {
+                holds_bytes(input, picture) && hold_bytes(inputs, pictures)
+            }
+        },
+    }
+}
+
+/// Judges the pictures, their count first and their pixels last.
 fn judge(inputs: &[Input], pictures: &[Picture]) -> Option<EvalError>
     ensures { result ≡ judged inputs.now pictures.now }
 {
@@ -46,6 +75,9 @@ fn judge(inputs: &[Input], pictures: &[Picture]) -> Option<EvalError>
     }
     if !are_sizes(inputs, pictures) {
         return Some(EvalError::InputSize);
+    }
+    if !hold_bytes(inputs, pictures) {
+        return Some(EvalError::InputByte);
     }
     None
 }

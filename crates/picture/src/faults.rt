@@ -58,19 +58,24 @@ pub enum EvalError {
     #[error("a picture does not have its input's size")]
     InputSize,
 
+    /// A pixel of an input of bytes isn't from 0 to 255.
+    #[error("a pixel of an input of bytes is not from 0 to 255")]
+    InputByte,
+
     /// Memory ran out.
     #[error("out of memory")]
     OutOfMemory,
 }
 
 impl EvalError {
-    /// The fault's number, 1 or 2; a lack of memory has none.
+    /// The fault's number, 1 to 3; a lack of memory has none.
     pub fn number(self) -> Option<u8>
         ensures { result ≡ error_number self }
     {
         match self {
             EvalError::InputCount => Some(1),
             EvalError::InputSize => Some(2),
+            EvalError::InputByte => Some(3),
             EvalError::OutOfMemory => None,
         }
     }

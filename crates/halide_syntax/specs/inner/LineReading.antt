@@ -1,6 +1,7 @@
 -- A line read from its tokens, its expressions by an algebra.
 -- This project's own.
-use Rattle.std.specs.Prelude.{ℕ, Bool, true, false, List, [], ◌∷◌, Option, Some, None, Result, Ok, Err}
+use Rattle.std.specs.Prelude.{ℕ, Bool, true, false, List, [], ◌∷◌, codes, Option, Some, None, Result, Ok, Err}
+use Rattle.std.specs.Str.{bytes_eq}
 use Rattle.line_text.specs.Reading.{◌>>=◌}
 use Rattle.halide_syntax.specs.declared.faults.ParseFault.{ParseFault}
 use Rattle.halide_syntax.specs.declared.faults.ParseFault.TheVariants.{Syntax}
@@ -19,11 +20,22 @@ use Rattle.halide_syntax.specs.inner.Machine.{expression}
 abbrev pub Read : Type 0 → Type 0
 Read A = Result (A × List Token) ParseFault
 
--- name number [number], and nothing else
-unfoldable pub extents : List Token → Result Extents ParseFault
-extents (t.Name name ∷ t.Number width ∷ []) = Ok (record { name = name; width = width; height = None })
-extents (t.Name name ∷ t.Number width ∷ t.Number height ∷ []) = Ok (record { name = name; width = width; height = Some height })
+-- name number [number]
+unfoldable pub extents : List Token → Read Extents
+extents (t.Name name ∷ t.Number width ∷ t.Number height ∷ rest) = Ok (record { name = name; width = width; height = Some height }, rest)
+extents (t.Name name ∷ t.Number width ∷ rest) = Ok (record { name = name; width = width; height = None }, rest)
 extents _ = Err Syntax
+
+-- the word behind an input's extents
+abbrev pub kind_by : Bool → Result Bool ParseFault
+kind_by true = Ok true
+kind_by false = Err Syntax
+
+-- [u8], and nothing else
+unfoldable pub kind : List Token → Result Bool ParseFault
+kind [] = Ok false
+kind (t.Name word ∷ []) = kind_by (bytes_eq word (codes "u8"))
+kind _ = Err Syntax
 
 -- behind the minimum
 abbrev pub bounds_from : List ℕ → Bool → List Token → Read Bounds
@@ -94,8 +106,8 @@ module _ {V : Type 0} (alg : Algebra V) where
   -- what the tokens of a line say
   unfoldable pub read_line : List Token → Result (Line V) ParseFault
   read_line [] = Ok line.Blank
-  read_line (t.Input ∷ rest) = extents rest >>= λ e. Ok (line.Input e)
-  read_line (t.Output ∷ rest) = extents rest >>= λ e. Ok (line.Output e)
+  read_line (t.Input ∷ rest) = extents rest >>= λ e. kind e.1 >>= λ is_bytes. Ok (line.Input e.0 is_bytes)
+  read_line (t.Output ∷ rest) = extents rest >>= λ e. nothing_left (line.Output e.0) e.1
   read_line (t.Func ∷ t.Name name ∷ t.Open ∷ rest) = definition name rest
   read_line (t.Update ∷ t.Name name ∷ t.Open ∷ rest) = change name rest
   read_line _ = Err Syntax
