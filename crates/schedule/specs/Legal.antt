@@ -21,14 +21,15 @@ use Rattle.schedule_lines.specs.Loops.{is_marked, is_reduction}
 
 -- ---- the rules of marked loops
 
-abbrev pub is_four : Option ℕ → Bool
-is_four None = false
-is_four (Some factor) = factor == 4
+-- so many elements are worked on at once
+abbrev pub is_vector_length : Option ℕ → Bool
+is_vector_length None = false
+is_vector_length (Some factor) = factor == 4 || factor == 8 || factor == 16
 
--- A vectorized loop is the innermost, so a stage has no second one; it is the inner loop of a split by 4, and not
--- over a reduction variable.
+-- A vectorized loop is the innermost, so a stage has no second one; it is the inner loop of a split by 4, 8 or 16,
+-- and not over a reduction variable.
 abbrev pub is_bad_vector : Bool → Loop → Bool
-is_bad_vector is_innermost own = not is_innermost || not (is_four own.inner_of) || is_reduction own.variable
+is_bad_vector is_innermost own = not is_innermost || not (is_vector_length own.inner_of) || is_reduction own.variable
 
 -- A loop breaks a rule. What is asked beside it: whether its Func is at root, and whether it is the innermost and
 -- the outermost of its stage.

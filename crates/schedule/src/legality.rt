@@ -17,17 +17,17 @@ pub enum LoopRule {
     ParallelOverArgument,
     /// A parallel loop comes from no split with its last round shifted.
     ParallelUnshifted,
-    /// A vectorized loop is the innermost of its stage, the inner loop of a split by 4, and not over a
+    /// A vectorized loop is the innermost of its stage, the inner loop of a split by 4, 8 or 16, and not over a
     /// reduction variable.
     VectorizedInnermost,
 }
 
-fn is_four(factor: Option<u32>) -> bool
-    ensures { result ≡ spec.is_four factor }
+fn is_vector_length(factor: Option<u32>) -> bool
+    ensures { result ≡ spec.is_vector_length factor }
 {
     match factor {
         None => false,
-        Some(factor) => factor == 4,
+        Some(factor) => factor == 4 || factor == 8 || factor == 16,
     }
 }
 
@@ -45,7 +45,7 @@ fn breaks(rule: LoopRule, is_root: bool, is_innermost: bool, is_outermost: bool,
         LoopRule::ParallelUnshifted => is_marked(own, Mark::Parallel) && own.is_from_shift,
         LoopRule::VectorizedInnermost => {
             is_marked(own, Mark::Vectorized)
-                && (!is_innermost || !is_four(own.inner_of) || is_reduction(own.variable))
+                && (!is_innermost || !is_vector_length(own.inner_of) || is_reduction(own.variable))
         }
     }
 }

@@ -27,7 +27,7 @@ pub enum ScheduleFault {
     ShiftOnUpdate,
     /// A parallel loop comes from a split with its last round shifted.
     ParallelInShift,
-    /// A vectorized loop is not the innermost, is not the inner loop of a split by 4, or is over a reduction
+    /// A vectorized loop is not the innermost, is not the inner loop of a split by 4, 8 or 16, or is over a reduction
     /// variable.
     VectorizedLoop,
     /// An unrolled loop is not the inner loop of a split.
