@@ -8,13 +8,14 @@ use Rattle.clap.specs.Walk.{Row, Text, rows_after}
 use Rattle.clap.specs.Simple.{subcommand_of}
 use Rattle.clap.specs.Kinds.{Kinds}
 use Rattle.clap.specs.Faults.{fault_of}
-use Rattle.command_line.specs.CommandLine.{Asked, Assembles, Debugs, Draws, IsPlainWord, IsSpelled, Lists, Replays, asked_of, asm_of, debug_of, dis_of, hrv_app, named, picture_of, replay_of, unless_fault, unmarked}
+use Rattle.command_line.specs.CommandLine.{Asked, Assembles, Debugs, Draws, IsPlainWord, IsSpelled, Lists, Renews, Replays, asked_of, asm_of, debug_of, dis_of, hrv_app, named, picture_of, renew_of, replay_of, unless_fault, unmarked}
 use Rattle.command_line.proofs.Positionals.{ArePlain, marked, none, passes_all, plain, takes_all, unmarked-plain}
-use Rattle.command_line.proofs.Subcommands.{IsName, first_is_name, is_asm, is_debug, is_dis, is_picture, is_replay, name_free, name_given, name_passes}
+use Rattle.command_line.proofs.Subcommands.{IsName, first_is_name, is_asm, is_debug, is_dis, is_picture, is_renew, is_replay, name_free, name_given, name_passes}
 use Rattle.command_line.proofs.ReplayWords as replay
 use Rattle.command_line.proofs.DebugWords as debug
 use Rattle.command_line.proofs.AsmWords as asm
 use Rattle.command_line.proofs.DisWords as dis
+use Rattle.command_line.proofs.RenewWords as renew
 use Rattle.command_line.proofs.PictureWords as picture
 
 -- what words with no fault ask for
@@ -82,6 +83,20 @@ asks_dis words rest e split =
       spelled = ap unmarked split ∙ ap (λ ws. codes "dis" ∷ ws) one.1;
     }
 
+asks_renew : (words rest : List Text) → fault_of hrv_app words ≡ [] → words ≡ codes "renew" ∷ rest → Asks words
+unfolding renew.takes_two
+asks_renew words rest e split =
+    let all = takes_all renew.takes_two rest (name_passes renew.renew_command rest (subst (λ ws. fault_of hrv_app ws ≡ []) split e)) in
+    let both = renew.two_values (unmarked rest) all.1 in
+    record {
+      asked = Renews both.0 both.1;
+      name = codes "renew";
+      rows = rows_after renew.leaf.rules [] rest;
+      met = ap (subcommand_of hrv_app) split ∙ name_given renew.renew_command rest;
+      asks = ap renew_of all.0 ∙ both.3;
+      spelled = ap unmarked split ∙ ap (λ ws. codes "renew" ∷ ws) both.2;
+    }
+
 asks_picture : (words rest : List Text) → fault_of hrv_app words ≡ [] → words ≡ codes "picture" ∷ rest → Asks words
 unfolding picture.takes_rest
 asks_picture words rest e split =
@@ -106,6 +121,7 @@ words_ask words e =
     by_name _ is_debug rest split = asks_debug words rest e split
     by_name _ is_asm rest split = asks_asm words rest e split
     by_name _ is_dis rest split = asks_dis words rest e split
+    by_name _ is_renew rest split = asks_renew words rest e split
     by_name _ is_picture rest split = asks_picture words rest e split
 
 -- and they name it
@@ -218,6 +234,35 @@ plain_asm source image source_plain image_plain =
 
 pub marked_asm : (source image : Text) → named (codes "asm" ∷ codes "--" ∷ source ∷ image ∷ []) ≡ Some (Assembles source image)
 marked_asm source image = values_asm (codes "--" ∷ source ∷ image ∷ []) source image (marked (source ∷ image ∷ [])) refl
+
+-- and for a renewal
+abbrev renewed_in : List Text → Asked
+renewed_in (name ∷ old ∷ new ∷ []) = Renews old new
+renewed_in _ = Renews [] []
+
+-- two values, of which those before a first `--` are plain, name a renewal
+pub values_renew : (words : List Text) (old new : Text) → ArePlain words → unmarked words ≡ old ∷ new ∷ []
+    → named (codes "renew" ∷ words) ≡ Some (Renews old new)
+unfolding renew.takes_two
+values_renew words old new are_plain two =
+    let enough = ap renew.takes_two.is_enough two in
+    let free = passes_all renew.takes_two words are_plain enough in
+    let pass = name_free renew.renew_command words free in
+    let all = takes_all renew.takes_two words free in
+    let both = renew.two_values (unmarked words) enough in
+    let rows = ap renew_of all.0 ∙ both.3 in
+    let same : renewed_in (codes "renew" ∷ both.0 ∷ both.1 ∷ []) ≡ renewed_in (codes "renew" ∷ old ∷ new ∷ []) =
+    ap (λ ws. renewed_in (codes "renew" ∷ ws)) (sym both.2 ∙ two) in
+    ap (λ kinds. unless_fault kinds (option_and_then asked_of (subcommand_of hrv_app (codes "renew" ∷ words)))) pass
+    ∙ ap (option_and_then asked_of) (name_given renew.renew_command words) ∙ rows ∙ ap (λ a. Some a) same
+
+pub plain_renew : (old new : Text) → IsPlainWord old → IsPlainWord new → named (codes "renew" ∷ old ∷ new ∷ []) ≡ Some (Renews old new)
+plain_renew old new old_plain new_plain =
+    let two = unmarked-plain old (new ∷ []) old_plain ∙ ap (λ ws. old ∷ ws) (unmarked-plain new [] new_plain) in
+    values_renew (old ∷ new ∷ []) old new (plain old_plain (plain new_plain none)) two
+
+pub marked_renew : (old new : Text) → named (codes "renew" ∷ codes "--" ∷ old ∷ new ∷ []) ≡ Some (Renews old new)
+marked_renew old new = values_renew (codes "--" ∷ old ∷ new ∷ []) old new (marked (old ∷ new ∷ [])) refl
 
 -- and for a listing
 abbrev listed_in : List Text → Asked

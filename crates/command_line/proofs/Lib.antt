@@ -6,5 +6,6 @@ mod HelpOnly
 mod Parses
 mod PictureWords
 mod Positionals
+mod RenewWords
 mod ReplayWords
 mod Subcommands

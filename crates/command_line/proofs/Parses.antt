@@ -27,7 +27,7 @@ use Rattle.command_line.specs.Faults.{fault_for}
 use Rattle.command_line.specs.declared.command_lines.Invocation.{Invocation}
 use Rattle.command_line.specs.declared.faults.CommandLineFault.{CommandLineFault}
 use Rattle.command_line.specs.declared.faults.CommandLineFault.TheVariants.{Refused, Memory}
-use Rattle.command_line.specs.CommandLine.{Asked, Assembles, Debugs, Draws, IsRefusal, IsSpelled, Lists, Makes, Replays, asked_of, asm_of, debug_of, dis_of, hrv_app, named, picture_of, replay_of}
+use Rattle.command_line.specs.CommandLine.{Asked, Assembles, Debugs, Draws, IsRefusal, IsSpelled, Lists, Makes, Renews, Replays, asked_of, asm_of, debug_of, dis_of, hrv_app, named, picture_of, renew_of, replay_of}
 use Rattle.command_line.proofs.AskedWords.{Asks, asked_named, fault_of-named, words_ask}
 
 -- the program's command is one that `clap` gives the matches and the faults of
@@ -94,6 +94,14 @@ asm_given rows some = both_given Assembles (first_of (codes "SOURCE") rows) (fir
 pub asm_read : (rows : List Row) (source image : Text) → first_of (codes "SOURCE") rows ≡ Some source
     → first_of (codes "IMAGE") rows ≡ Some image → asm_of rows ≡ Some (Assembles source image)
 asm_read rows source image first second = ap₂ (λ s i. option_and_then (λ x. option_map (λ y. Assembles x y) i) s) first second
+
+-- and those of a renewal
+pub renew_given : (rows : List Row) → IsSome (renew_of rows) → IsSome (first_of (codes "OLD") rows) × IsSome (first_of (codes "NEW") rows)
+renew_given rows some = both_given Renews (first_of (codes "OLD") rows) (first_of (codes "NEW") rows) some
+
+pub renew_read : (rows : List Row) (old new : Text) → first_of (codes "OLD") rows ≡ Some old
+    → first_of (codes "NEW") rows ≡ Some new → renew_of rows ≡ Some (Renews old new)
+renew_read rows old new first second = ap₂ (λ o n. option_and_then (λ x. option_map (λ y. Renews x y) n) o) first second
 
 -- the image of a listing is there
 image_given : (image : Option Text) → IsSome (option_map (λ i. Lists i) image) → IsSome image

@@ -21,6 +21,7 @@ pub data IsName : Text → Type 0 where
   is_debug : IsName (codes "debug")
   is_asm : IsName (codes "asm")
   is_dis : IsName (codes "dis")
+  is_renew : IsName (codes "renew")
   is_picture : IsName (codes "picture")
 
 -- past the subcommand, the words are its own
@@ -88,21 +89,28 @@ first_is_name (word ∷ rest) e = by_replay (bytes_eq (codes "replay") word) ref
     by_mark false mark unnamed = absurd (stray word unnamed mark first)
 
     by_help : (b : Bool) → bytes_eq (codes "help") word ≡ b → bytes_eq (codes "replay") word ≡ false → bytes_eq (codes "debug") word ≡ false
-        → bytes_eq (codes "asm") word ≡ false → bytes_eq (codes "dis") word ≡ false → bytes_eq (codes "picture") word ≡ false → Named (word ∷ rest)
-    by_help true help no_replay no_debug no_asm no_dis no_picture =
-        absurd (some_fault _ _ (rw (no_replay, no_debug, no_asm, no_dis, no_picture, help) at first))
-    by_help false help no_replay no_debug no_asm no_dis no_picture =
-        by_mark (bytes_eq word (codes "--")) refl (rw (no_replay, no_debug, no_asm, no_dis, no_picture, help) refl)
+        → bytes_eq (codes "asm") word ≡ false → bytes_eq (codes "dis") word ≡ false → bytes_eq (codes "renew") word ≡ false → bytes_eq (codes "picture") word ≡ false
+        → Named (word ∷ rest)
+    by_help true help no_replay no_debug no_asm no_dis no_renew no_picture =
+        absurd (some_fault _ _ (rw (no_replay, no_debug, no_asm, no_dis, no_renew, no_picture, help) at first))
+    by_help false help no_replay no_debug no_asm no_dis no_renew no_picture =
+        by_mark (bytes_eq word (codes "--")) refl (rw (no_replay, no_debug, no_asm, no_dis, no_renew, no_picture, help) refl)
 
     by_picture : (b : Bool) → bytes_eq (codes "picture") word ≡ b → bytes_eq (codes "replay") word ≡ false → bytes_eq (codes "debug") word ≡ false
+        → bytes_eq (codes "asm") word ≡ false → bytes_eq (codes "dis") word ≡ false → bytes_eq (codes "renew") word ≡ false → Named (word ∷ rest)
+    by_picture true same no_replay no_debug no_asm no_dis no_renew = begins word rest (codes "picture") is_picture same
+    by_picture false other no_replay no_debug no_asm no_dis no_renew =
+        by_help (bytes_eq (codes "help") word) refl no_replay no_debug no_asm no_dis no_renew other
+
+    by_renew : (b : Bool) → bytes_eq (codes "renew") word ≡ b → bytes_eq (codes "replay") word ≡ false → bytes_eq (codes "debug") word ≡ false
         → bytes_eq (codes "asm") word ≡ false → bytes_eq (codes "dis") word ≡ false → Named (word ∷ rest)
-    by_picture true same no_replay no_debug no_asm no_dis = begins word rest (codes "picture") is_picture same
-    by_picture false other no_replay no_debug no_asm no_dis = by_help (bytes_eq (codes "help") word) refl no_replay no_debug no_asm no_dis other
+    by_renew true same no_replay no_debug no_asm no_dis = begins word rest (codes "renew") is_renew same
+    by_renew false other no_replay no_debug no_asm no_dis = by_picture (bytes_eq (codes "picture") word) refl no_replay no_debug no_asm no_dis other
 
     by_dis : (b : Bool) → bytes_eq (codes "dis") word ≡ b → bytes_eq (codes "replay") word ≡ false → bytes_eq (codes "debug") word ≡ false
         → bytes_eq (codes "asm") word ≡ false → Named (word ∷ rest)
     by_dis true same no_replay no_debug no_asm = begins word rest (codes "dis") is_dis same
-    by_dis false other no_replay no_debug no_asm = by_picture (bytes_eq (codes "picture") word) refl no_replay no_debug no_asm other
+    by_dis false other no_replay no_debug no_asm = by_renew (bytes_eq (codes "renew") word) refl no_replay no_debug no_asm other
 
     by_asm : (b : Bool) → bytes_eq (codes "asm") word ≡ b → bytes_eq (codes "replay") word ≡ false → bytes_eq (codes "debug") word ≡ false
         → Named (word ∷ rest)

@@ -11,7 +11,7 @@ use Rattle.clap.specs.declared.builder.command.Command.{Command}
 use Rattle.clap.specs.declared.builder.command.Command.TheViews.{out-Command}
 use Rattle.clap.specs.declared.error.Error.{Error}
 use Rattle.command_line.specs.declared.command_lines.Invocation.{Invocation}
-use Rattle.command_line.specs.declared.command_lines.Invocation.TheVariants.{Asm, Debug, Dis, Picture, Replay}
+use Rattle.command_line.specs.declared.command_lines.Invocation.TheVariants.{Asm, Debug, Dis, Picture, Renew, Replay}
 use Rattle.command_line.specs.declared.faults.CommandLineFault.{CommandLineFault}
 use Rattle.command_line.specs.declared.faults.CommandLineFault.TheVariants.{Refused, Memory}
 
@@ -21,6 +21,7 @@ pub data Asked : Type 0 where
   Debugs : (image log : List ℕ) → Asked
   Assembles : (source image : List ℕ) → Asked
   Lists : (image : List ℕ) → Asked
+  Renews : (old new : List ℕ) → Asked
   Draws : (algorithm : List ℕ) → (inputs : List (List ℕ)) → Asked
 
 abbrev pub asked_by : Invocation → Asked
@@ -28,6 +29,7 @@ asked_by (Replay image log) = Replays image.now log.now
 asked_by (Debug image log) = Debugs image.now log.now
 asked_by (Asm source image) = Assembles source.now image.now
 asked_by (Dis image) = Lists image.now
+asked_by (Renew old new) = Renews old.now new.now
 asked_by (Picture algorithm inputs) = Draws algorithm.now (texts inputs.items)
 
 -- ---- the program's command
@@ -59,6 +61,11 @@ asm_app = with_rule (with_rule (new_app (codes "asm")) (required_rule (codes "SO
 abbrev pub dis_app : App
 dis_app = with_rule (new_app (codes "dis")) (required_rule (codes "IMAGE"))
 
+-- `renew OLD NEW`
+abbrev pub renew_app : App
+renew_app = with_rule (with_rule (new_app (codes "renew")) (required_rule (codes "OLD")))
+    (required_rule (codes "NEW"))
+
 -- `picture ALGORITHM [INPUT..]`
 abbrev pub picture_app : App
 picture_app = with_rule (with_rule (new_app (codes "picture")) (required_rule (codes "ALGORITHM")))
@@ -74,7 +81,7 @@ log_app = with_subcommand (with_subcommand bare_app replay_app.top) debug_app.to
 
 -- and with those that take an assembly text or an image alone
 abbrev pub text_app : App
-text_app = with_subcommand (with_subcommand log_app asm_app.top) dis_app.top
+text_app = with_subcommand (with_subcommand (with_subcommand log_app asm_app.top) dis_app.top) renew_app.top
 
 abbrev pub hrv_app : App
 hrv_app = with_subcommand text_app picture_app.top
@@ -101,6 +108,10 @@ asm_of given = option_and_then (λ source. option_map (λ image. Assembles sourc
 abbrev pub dis_of : List Row → Option Asked
 dis_of given = option_map (λ image. Lists image) (first_of (codes "IMAGE") given)
 
+abbrev pub renew_of : List Row → Option Asked
+renew_of given = option_and_then (λ old. option_map (λ new. Renews old new)
+    (first_of (codes "NEW") given)) (first_of (codes "OLD") given)
+
 -- an argument that takes the words left over has no row where there are none
 abbrev pub picture_of : List Row → Option Asked
 picture_of given = option_map (λ algorithm. Draws algorithm (unwrap_or (all_of (codes "INPUT") given) []))
@@ -112,7 +123,8 @@ asked_of met = if bytes_eq met.0 (codes "replay") then replay_of met.1
     else (if bytes_eq met.0 (codes "debug") then debug_of met.1
     else (if bytes_eq met.0 (codes "asm") then asm_of met.1
     else (if bytes_eq met.0 (codes "dis") then dis_of met.1
-    else (if bytes_eq met.0 (codes "picture") then picture_of met.1 else None))))
+    else (if bytes_eq met.0 (codes "renew") then renew_of met.1
+    else (if bytes_eq met.0 (codes "picture") then picture_of met.1 else None)))))
 
 -- nothing, where there is a fault
 abbrev pub unless_fault : Kinds → Option Asked → Option Asked
@@ -147,4 +159,5 @@ IsSpelled words (Replays image log) = unmarked words ≡ codes "replay" ∷ imag
 IsSpelled words (Debugs image log) = unmarked words ≡ codes "debug" ∷ image ∷ log ∷ []
 IsSpelled words (Assembles source image) = unmarked words ≡ codes "asm" ∷ source ∷ image ∷ []
 IsSpelled words (Lists image) = unmarked words ≡ codes "dis" ∷ image ∷ []
+IsSpelled words (Renews old new) = unmarked words ≡ codes "renew" ∷ old ∷ new ∷ []
 IsSpelled words (Draws algorithm inputs) = unmarked words ≡ codes "picture" ∷ algorithm ∷ inputs

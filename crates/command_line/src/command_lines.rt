@@ -4,8 +4,8 @@ ghost use Rattle.std.specs.List.{AllByRecursion};
 ghost use Rattle.clap.specs.Lexer.{usize_max};
 ghost use Rattle.clap.specs.Words.{all_of, found_of, rows_of, rule_of};
 ghost use Rattle.clap.specs.Walk.{texts};
-ghost use Rattle.command_line.specs.CommandLine.{Asked, Assembles, Debugs, Draws, IsPlainWord, IsRefusal, IsSpelled, Lists, Makes, Replays};
-ghost use Rattle.command_line.specs.CommandLine.{asked_by, asked_of, asm_app, asm_of, debug_app, debug_of, dis_app, dis_of, hrv_app, log_app, named, picture_app, picture_of, replay_app, replay_of, rest_rule, text_app};
+ghost use Rattle.command_line.specs.CommandLine.{Asked, Assembles, Debugs, Draws, IsPlainWord, IsRefusal, IsSpelled, Lists, Makes, Renews, Replays};
+ghost use Rattle.command_line.specs.CommandLine.{asked_by, asked_of, asm_app, asm_of, debug_app, debug_of, dis_app, dis_of, hrv_app, log_app, named, picture_app, picture_of, renew_app, renew_of, replay_app, replay_of, rest_rule, text_app};
 
 use crate::faults::CommandLineFault;
 use clap::{Arg, ArgMatches, Command};
@@ -22,6 +22,11 @@ pub enum Invocation<'a> {
     /// `dis IMAGE`
     Dis {
         image: &'a str,
+    },
+    /// `renew OLD NEW`
+    Renew {
+        old: &'a str,
+        new: &'a str,
     },
     /// `replay IMAGE LOG`
     Replay {
@@ -70,6 +75,7 @@ fn asked_for<'a>(
         "debug" => Ok(debug_asked(given)),
         "asm" => Ok(asm_asked(given)),
         "dis" => Ok(dis_asked(given)),
+        "renew" => Ok(renew_asked(given)),
         "picture" => picture_asked(alloc, given),
         _ => unreachable!(),
     }
@@ -113,6 +119,16 @@ fn dis_asked<'a>(given: &ArgMatches<'a>) -> Invocation<'a>
 {
     let image = given.get_str("IMAGE").unwrap();
     Invocation::Dis { image }
+}
+
+// What the arguments of `renew` ask for.
+fn renew_asked<'a>(given: &ArgMatches<'a>) -> Invocation<'a>
+    requires { IsSome (renew_of (rows_of (found_of given.now))) }
+    ensures { renew_of (rows_of (found_of given.now)) ≡ Some (asked_by result) }
+{
+    let old = given.get_str("OLD").unwrap();
+    let new = given.get_str("NEW").unwrap();
+    Invocation::Renew { old, new }
 }
 
 // What the arguments of `picture` ask for.
@@ -167,6 +183,14 @@ pub fn dis_is_named()
     ensures marked { (image : List ℕ) → named (codes "dis" ∷ codes "--" ∷ image ∷ []) ≡ Some (Lists image) }
 {}
 
+/// Which words name a renewal: `renew` and two names, after `--` where one begins with `-`.
+pub fn renew_is_named()
+    ensures plain { (old new : List ℕ) → IsPlainWord old → IsPlainWord new
+        → named (codes "renew" ∷ old ∷ new ∷ []) ≡ Some (Renews old new) }
+    ensures marked { (old new : List ℕ)
+        → named (codes "renew" ∷ codes "--" ∷ old ∷ new ∷ []) ≡ Some (Renews old new) }
+{}
+
 /// Which words name a picture: `picture`, an algorithm and any number of inputs, after `--` where one begins with `-`.
 pub fn picture_is_named()
     ensures plain { (algorithm : List ℕ) (inputs : List (List ℕ)) → AllByRecursion IsPlainWord (algorithm ∷ inputs) → length inputs ≤ usize_max
@@ -188,7 +212,8 @@ fn text_program<'a>(alloc: Global) -> Result<Command<'a>, AllocError>
 {
     log_program(alloc)?
         .subcommand(asm_command(alloc)?)?
-        .subcommand(dis_command(alloc)?)
+        .subcommand(dis_command(alloc)?)?
+        .subcommand(renew_command(alloc)?)
 }
 
 // The program's command with the subcommands that take a log.
@@ -241,6 +266,16 @@ fn dis_command<'a>(alloc: Global) -> Result<Command<'a>, AllocError>
     Command::new(alloc, "dis")
         .about("Prints a line for each word of an image's text")
         .arg(Arg::new(alloc, "IMAGE").required(true))
+}
+
+// `renew OLD NEW`
+fn renew_command<'a>(alloc: Global) -> Result<Command<'a>, AllocError>
+    ensures { IfOk result (Makes renew_app) }
+{
+    Command::new(alloc, "renew")
+        .about("Stores an image in the newest format")
+        .arg(Arg::new(alloc, "OLD").required(true))?
+        .arg(Arg::new(alloc, "NEW").required(true))
 }
 
 // `picture ALGORITHM [INPUT..]`

@@ -2,7 +2,7 @@
 -- This project's own.
 use Rattle.std.specs.Prelude.{◌≡◌, ℕ, List, Option, Some, None, Result, Ok, Err}
 use Rattle.loader.specs.Image.{ImageContents}
-use Rattle.loader.specs.Spelling.{image_of, spelled}
+use Rattle.loader.specs.Spelling.{Spells, image_of}
 use Rattle.loader.specs.declared.faults.LoadFault.{LoadFault}
 use Rattle.disassembler.specs.Listing.{listing}
 use Rattle.engines.specs.declared.faults.Refusal.{Refusal}
@@ -12,7 +12,7 @@ use Rattle.engines.specs.declared.faults.Refusal.TheVariants.{Load}
 pub record IsListing (image text : List ℕ) : Type 0 where
   pub contents : ImageContents
   pub is_read : image_of image ≡ Ok contents
-  pub is_spelled : image ≡ spelled contents
+  pub is_spelled : Spells image contents
   pub is_listed : text ≡ listing contents.words
 
 abbrev pub refused_by : Result ImageContents LoadFault → Option Refusal
@@ -20,5 +20,5 @@ refused_by (Ok contents) = None
 refused_by (Err fault) = Some (Load fault)
 
 -- why bytes are refused as an image
-abbrev pub IsRefusedListing : List ℕ → Refusal → Type 0
-IsRefusedListing image refusal = refused_by (image_of image) ≡ Some refusal
+abbrev pub IsRefusedImage : List ℕ → Refusal → Type 0
+IsRefusedImage image refusal = refused_by (image_of image) ≡ Some refusal

@@ -8,6 +8,7 @@ pub mod Dump
 pub mod Engine
 pub mod Faults
 pub mod Refusals
+pub mod Renew
 pub mod Replay
 pub mod Talk
 pub mod TalkSoFar

@@ -2,7 +2,7 @@
 
 ghost use Rattle.std.specs.Prelude.{◌+◌, ◌<◌, ◌^◌};
 ghost use Rattle.engines.specs.Devices.{bytes_of, sink_of};
-ghost use Rattle.engines.specs.Dis.{IsListing, IsRefusedListing};
+ghost use Rattle.engines.specs.Dis.{IsListing, IsRefusedImage};
 ghost use Rattle.engines.specs.Engine.{Judges, Performs};
 
 use crate::devices::{Sink, Source, read_all, write_all};
@@ -15,7 +15,7 @@ use std::alloc::Global;
 pub fn dis_bytes<I: Source, O: Sink>(alloc: Global, image: &mut I, out: &mut O) -> Result<(), Fault>
     requires image { I.failed image.old + 1 < 2 ^ 64 }
     requires out { O.failed out.old + 1 < 2 ^ 64 }
-    ensures { Performs IsListing IsRefusedListing
+    ensures { Performs IsListing IsRefusedImage
         (bytes_of I.place I.failed I.gave I.ended image.old image.new)
         (sink_of O.place O.failed O.took out.old out.new) result }
 {
@@ -26,7 +26,7 @@ pub fn dis_bytes<I: Source, O: Sink>(alloc: Global, image: &mut I, out: &mut O) 
 
 /// The lines of the words of an image, or the refusal of the image. Its bytes are let go as soon as they are read.
 fn listing_of(alloc: Global, bytes: Vec<u8>) -> Result<Vec<u8>, Fault>
-    ensures { Judges (λ lines. lines.items) IsListing IsRefusedListing bytes.items result }
+    ensures { Judges (λ lines. lines.items) IsListing IsRefusedImage bytes.items result }
 {
     let image = read_image(alloc, &bytes)?;
     drop(bytes);

@@ -2,6 +2,7 @@
 //!
 //! - [`asm`]: an assembly text becomes an image; [`asm_bytes`], over `specs/Asm.antt`.
 //! - [`dis`]: the words of an image become lines; [`dis_bytes`], over `specs/Dis.antt`.
+//! - [`renew`]: an image is stored in the second format; [`renew_bytes`], over `specs/Renew.antt`.
 //! - [`replay`]: an image and a log of turns become a dump; [`replay_bytes`], over `specs/Replay.antt` and `Dump.antt`.
 //! - [`debug`]: an image, a log of turns and lines of commands become a talk; [`debug_bytes`], over `specs/Debug.antt` and `Talk.antt`.
 //! - [`drawing`]: an algorithm and input pictures become the reference picture; [`picture_bytes`], over `specs/Drawing.antt`.
@@ -22,6 +23,7 @@ pub mod drawing;
 mod dumps;
 pub mod faults;
 mod pictures;
+pub mod renew;
 pub mod replay;
 mod talks;
 
@@ -31,4 +33,5 @@ pub use crate::devices::{Sink, Source};
 pub use crate::dis::dis_bytes;
 pub use crate::drawing::picture_bytes;
 pub use crate::faults::{Fault, Refusal};
+pub use crate::renew::renew_bytes;
 pub use crate::replay::replay_bytes;

@@ -7,11 +7,12 @@ use Rattle.engines.specs.declared.faults.Fault.TheVariants.{Memory}
 use Rattle.engines.specs.Asm.{IsAssembly, IsRefusedAssembly}
 use Rattle.engines.specs.Debug.{Talks}
 use Rattle.engines.specs.Devices.{both, bytes_of, pieces_of, sink_of, text_of, texts_of}
-use Rattle.engines.specs.Dis.{IsListing, IsRefusedListing}
+use Rattle.engines.specs.Dis.{IsListing, IsRefusedImage}
 use Rattle.engines.specs.Drawing.{IsDrawing, IsRefusedDrawing}
 use Rattle.engines.specs.Engine.{Performs}
+use Rattle.engines.specs.Renew.{IsRenewal}
 use Rattle.engines.specs.Replay.{IsRefusedReplay, IsReplay}
-use Rattle.command_line.specs.CommandLine.{Asked, Replays, Debugs, Assembles, Lists, Draws}
+use Rattle.command_line.specs.CommandLine.{Asked, Replays, Debugs, Assembles, Lists, Renews, Draws}
 
 -- a fact of some device at this place, by its state before and after
 abbrev pub At : {S : Type 0} → (S → List ℕ) → List ℕ → (S → S → Type 0) → Type 0
@@ -42,7 +43,10 @@ module _ {R W T P : Type 0}
       Performs IsAssembly IsRefusedAssembly (text_of read_at read_failed gave ended s t) (sink_of written_at write_failed stored o p) result))
   Does alloc (Lists image) result =
       At read_at image (λ s t. At printed_at dash (λ o p.
-      Performs IsListing IsRefusedListing (bytes_of read_at read_failed gave ended s t) (sink_of printed_at print_failed printed o p) result))
+      Performs IsListing IsRefusedImage (bytes_of read_at read_failed gave ended s t) (sink_of printed_at print_failed printed o p) result))
+  Does alloc (Renews old new) result =
+      At read_at old (λ s t. At written_at new (λ o p.
+      Performs IsRenewal IsRefusedImage (bytes_of read_at read_failed gave ended s t) (sink_of written_at write_failed stored o p) result))
   Does alloc (Replays image log) result =
       At read_at image (λ s t. At read_at log (λ u v. At printed_at dash (λ o p.
       Performs IsReplay IsRefusedReplay

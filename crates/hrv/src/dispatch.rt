@@ -3,12 +3,13 @@
 ghost use Rattle.std.specs.Prelude.{◌≡◌, codes, map, IfOk};
 ghost use Rattle.std.specs.List.{All};
 ghost use Rattle.clap.specs.Walk.{texts};
-ghost use Rattle.command_line.specs.CommandLine.{Assembles, Debugs, Draws, Lists, Replays, asked_by};
+ghost use Rattle.command_line.specs.CommandLine.{Assembles, Debugs, Draws, Lists, Renews, Replays, asked_by};
 ghost use Rattle.hrv.specs.Dispatch.{Does};
 
 use command_line::Invocation;
 use engines::{
-    Fault, Sink, Source, asm_bytes, debug_bytes, dis_bytes, picture_bytes, replay_bytes,
+    Fault, Sink, Source, asm_bytes, debug_bytes, dis_bytes, picture_bytes, renew_bytes,
+    replay_bytes,
 };
 use std::alloc::{AllocError, Global};
 use std::thread::Threads;
@@ -60,6 +61,7 @@ pub fn obey<'a, D: Devices<'a>>(
     match invocation {
         Invocation::Asm { source, image } => assemble(alloc, devices, source, image),
         Invocation::Dis { image } => list(alloc, devices, image),
+        Invocation::Renew { old, new } => renew(alloc, devices, old, new),
         Invocation::Replay { image, log } => replay(alloc, devices, image, log),
         Invocation::Debug { image, log } => debug(alloc, devices, image, log),
         Invocation::Picture { algorithm, inputs } => {
@@ -95,6 +97,21 @@ fn list<'a, D: Devices<'a>>(alloc: Global, devices: &D, image: &'a str) -> Resul
         D.Printed.place D.Printed.failed D.Printed.took alloc (Lists image.entry.now) result }
 {
     dis_bytes(alloc, &mut devices.read(image), &mut devices.printed())
+}
+
+/// `renew OLD NEW`
+fn renew<'a, D: Devices<'a>>(
+    alloc: Global,
+    devices: &D,
+    from: &'a str,
+    to: &'a str,
+) -> Result<(), Fault>
+    ensures { Does D.Read.place D.Read.failed D.Read.gave D.Read.ended
+        D.Written.place D.Written.failed D.Written.took
+        D.Typed.place D.Typed.failed D.Typed.gave D.Typed.ended
+        D.Printed.place D.Printed.failed D.Printed.took alloc (Renews from.entry.now to.entry.now) result }
+{
+    renew_bytes(alloc, &mut devices.read(from), &mut devices.written(to))
 }
 
 /// `replay IMAGE LOG`

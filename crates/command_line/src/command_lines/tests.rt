@@ -1,6 +1,6 @@
 use super::{
     Invocation, asm_is_named, command, debug_is_named, dis_is_named, picture_is_named,
-    replay_is_named,
+    renew_is_named, replay_is_named,
 };
 use crate::faults::CommandLineFault;
 use std::alloc::{AllocError, Global};
@@ -123,6 +123,28 @@ fn reads_a_listing(rt: HostRuntime) -> Result<(), Fail> {
 fn is_dis(invocation: &Invocation, image: &str) -> bool {
     match invocation {
         Invocation::Dis { image: i } => *i == image,
+        _ => false,
+    }
+}
+
+#[test]
+fn reads_a_renewal(rt: HostRuntime) -> Result<(), Fail> {
+    let lines: [(&[&str], &str, &str); 3] = [
+        (&["renew", "a", "a"], "a", "a"),
+        (&["renew", "--", "-a", "-b"], "-a", "-b"),
+        (&["renew", "a", "--", "--"], "a", "--"),
+    ];
+    for (words, old, new) in lines {
+        let invocation = command(rt.alloc(), words)?;
+        assert!(rt; is_renew(&invocation, old, new), "{words:?}");
+    }
+    renew_is_named();
+    Ok(())
+}
+
+fn is_renew(invocation: &Invocation, old: &str, new: &str) -> bool {
+    match invocation {
+        Invocation::Renew { old: o, new: n } => *o == old && *n == new,
         _ => false,
     }
 }
