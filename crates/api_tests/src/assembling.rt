@@ -12,9 +12,9 @@ beq x5,x0,start
 ";
 
 /// The loop as an image: three words and no data, to be started at the first word.
-static LOOP_IMAGE: [u8; 44] = [
-    0x48, 0x52, 0x56, 0x31, 0, 0, 1, 0, 3, 0, 0, 0, 0, 0, 0, 0, 0, 0, 0, 0, 0, 0, 0, 0, 0, 0, 0, 0,
-    0, 0, 0, 0, 0xb7, 0x02, 0, 0, 0x93, 0x82, 0xf2, 0xff, 0xe3, 0x8c, 0x02, 0xfe,
+static LOOP_IMAGE: [u8; 48] = [
+    0x48, 0x52, 0x56, 0x32, 0, 0, 1, 0, 3, 0, 0, 0, 0, 0, 0, 0, 0, 0, 0, 0, 0, 0, 0, 0, 0, 0, 0, 0,
+    0, 0, 0, 0, 0, 0, 0, 0, 0xb7, 0x02, 0, 0, 0x93, 0x82, 0xf2, 0xff, 0xe3, 0x8c, 0x02, 0xfe,
 ];
 
 static LOOP_LINES: &str = "lui x5,0x00000
@@ -52,9 +52,9 @@ ecall
 main: ecall # the last word
 ";
     let wanted = [
-        0x48, 0x52, 0x56, 0x31, 4, 0, 1, 0, 2, 0, 0, 0, 12, 0, 0, 0, 4, 0, 0x20, 0, 2, 0, 0, 0, 1,
-        0, 0, 0, 8, 0, 0, 0, 0x73, 0, 0, 0, 0x73, 0, 0, 0, 0, 0, 0, 0, 255, 255, 255, 255, 2, 1, 0,
-        0,
+        0x48, 0x52, 0x56, 0x32, 4, 0, 1, 0, 2, 0, 0, 0, 12, 0, 0, 0, 4, 0, 0x20, 0, 2, 0, 0, 0, 1,
+        0, 0, 0, 8, 0, 0, 0, 10, 0, 0, 0, 0x73, 0, 0, 0, 0x73, 0, 0, 0, 0, 0, 0, 0, 255, 255, 255,
+        255, 2, 1,
     ];
     let (image, line) = assembled(rt.alloc(), text.as_slice())?;
     assert_eq!(rt; line.as_str(), "");

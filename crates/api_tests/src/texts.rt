@@ -19,8 +19,8 @@ fn assembles_and_lists(rt: HostRuntime) -> Result<(), Fail> {
     let mut bytes = Vec::new(rt.alloc());
     store(&object.into_image(), &mut bytes)?;
     let image = [
-        0x48, 0x52, 0x56, 0x31, 0, 0, 1, 0, 3, 0, 0, 0, 0, 0, 0, 0, 0, 0, 0, 0, 0, 0, 0, 0, 0, 0,
-        0, 0, 0, 0, 0, 0, 0xb7, 2, 0, 0, 0x93, 0x82, 0xf2, 0xff, 0xe3, 0x8c, 2, 0xfe,
+        0x48, 0x52, 0x56, 0x32, 0, 0, 1, 0, 3, 0, 0, 0, 0, 0, 0, 0, 0, 0, 0, 0, 0, 0, 0, 0, 0, 0,
+        0, 0, 0, 0, 0, 0, 0, 0, 0, 0, 0xb7, 2, 0, 0, 0x93, 0x82, 0xf2, 0xff, 0xe3, 0x8c, 2, 0xfe,
     ];
     assert_eq!(rt; bytes.as_slice(), image.as_slice());
     Ok(())

@@ -295,6 +295,3 @@ fn rest_arg<'a>(alloc: Global, id: &'a str) -> Arg<'a>
 {
     Arg::new(alloc, id).num_args(..)
 }
-
-#[cfg(test)]
-mod tests;

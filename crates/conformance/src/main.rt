@@ -19,11 +19,12 @@
 //! | `turn` | `before`: an assembly text; `instructions`: one each line | each line, and what it changes behind the text before |
 //! | `replay` | `image`, `log`: lines in hexadecimal | the dump |
 //! | `debug` | `image`, `log`: lines in hexadecimal; `lines` | the talk |
+//! | `words` | `words`: a word of a command line each line | the command and its files, or the refusal's first line |
 //!
 //! A refusal stands in place of an answer, as `hrv` prints it. A case that isn't one of these is answered `malformed: ` and why.
 //!
 //! - [`cases`]: the cases of a file.
-//! - [`algorithms`], [`schedules`], [`assemblies`], [`turns`], [`commands`]: the answers, a module each for one family.
+//! - [`algorithms`], [`schedules`], [`assemblies`], [`turns`], [`commands`], [`invocations`]: the answers, a module each for one family.
 //! - [`harts`]: what a hart holds, as lines.
 //! - [`failures`]: what stands in place of an answer.
 #![tactic(auto)]
@@ -34,6 +35,7 @@ mod cases;
 mod commands;
 mod failures;
 mod harts;
+mod invocations;
 mod schedules;
 mod turns;
 
@@ -42,6 +44,7 @@ use crate::assemblies::{push_listing, push_object};
 use crate::cases::{Case, read_cases};
 use crate::commands::{push_drawing, push_replay, push_talk};
 use crate::failures::Failure;
+use crate::invocations::push_invocation;
 use crate::schedules::push_schedule;
 use crate::turns::push_changes;
 use std::alloc::{AllocError, Global};
@@ -108,6 +111,7 @@ fn push_answer(
         "turn" => push_changes(alloc, parts, out),
         "replay" => push_replay(alloc, parts, out),
         "debug" => push_talk(alloc, parts, out),
+        "words" => push_invocation(alloc, parts, out),
         _ => Err(Failure::Malformed("an unknown kind of case")),
     }
 }
