@@ -2,7 +2,9 @@
 //!
 //! - [`bases`]: sums of multiples of loops (`specs/Bases.antt`).
 //! - [`ranges`]: ranges, and what operations make of them (`specs/Ranges.antt`).
-//! - [`laws`]: each value lies in its range (`specs/Laws.antt`).
+//! - [`expressions`]: **the range of an expression through its inlined Funcs, and of the points that it reads**
+//!   (`specs/Expressions.antt`).
+//! - [`laws`]: each value and each point lies in its range (`specs/Laws.antt`).
 #![tactic(auto)]
 
 pub mod bases;
