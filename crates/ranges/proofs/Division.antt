@@ -6,7 +6,7 @@ use Rattle.halide_pipeline.specs.Words.{divide, remainder}
 use Rattle.ranges.specs.declared.ranges.Range.{Range}
 use Rattle.ranges.specs.Ranges.{origin, spot, widened, divided_end, divided_ends, divided, remainders, literal}
 use Rattle.ranges.specs.Laws.{Below, Lies}
-use Rattle.ranges.proofs.Lying.{between_lies, widened_stands, plain_lies}
+use Rattle.ranges.proofs.Lying.{widened_stands, plain_lies}
 
 divided_above : (end c : ℕ) → origin ≤ end → divided_end end c ≡ origin + (end - origin) / c
 divided_above end c l = rw (le-leb origin end l) refl

@@ -1,6 +1,6 @@
 -- The value of an expression lies in its range.
 use Rattle.std.proofs.Common.{◌≡◌, ℕ, ◌+◌, ◌-◌, ◌%◌, ◌^◌, ◌<◌, ◌≤◌, Bool, true, false, not, cond, List, [], ◌∷◌, ◌++◌, Option, None, Some, ◌==◌, refl, arith, inl, inr}
-use Rattle.std.specs.Prelude.{◌&&◌, nat_le, min, max}
+use Rattle.std.specs.Prelude.{nat_le, min, max}
 use Rattle.std.proofs.lemmas.Bool.{lt-ltb, le-ltb, leb-true, cases_lt, and_parts}
 use Rattle.halide_pipeline.specs.declared.expressions.Expr.TheOpen.{Expr-F}
 use Rattle.halide_pipeline.specs.declared.expressions.Expr.TheOpen as layer
@@ -20,7 +20,7 @@ use Rattle.ranges.specs.declared.ranges.Range.{Range}
 use Rattle.ranges.specs.Bases.{no_base, add_base, negated, same_base, more_sum, less_sum}
 use Rattle.ranges.specs.Ranges.{origin, least, greatest, spot, ends_of, fit, widened, added, subtracted, aligned, together, lesser, greater, hull, truths, literal, operated}
 use Rattle.ranges.specs.Expressions.{Ranged, ranging, second_asked, unasked_variable}
-use Rattle.ranges.specs.Laws.{Below, Lies, LiesAt, AllLie, Covers, RangesCover}
+use Rattle.ranges.specs.Laws.{Below, Lies, AllLie, Covers, RangesCover}
 use Rattle.ranges.proofs.Sums.{more_below, less_below, add_sums, negated_more, negated_less, negated_small, same_sums}
 use Rattle.ranges.proofs.Lying.{between_lies, every_lies, small_of, widened_stands, fit_lies, plain_lies}
 use Rattle.ranges.proofs.Products.{multiplied_lies}

@@ -1,8 +1,7 @@
 -- Small ranges, by computing.
 use Rattle.std.proofs.Common.{◌≡◌, ℕ, ◌+◌, ◌-◌, List, [], ◌∷◌, refl}
-use Rattle.ranges.specs.declared.bases.Multiple.{Multiple}
 use Rattle.ranges.specs.declared.ranges.Range.{Range}
-use Rattle.ranges.specs.Bases.{no_base, zero_multiple}
+use Rattle.ranges.specs.Bases.{zero_multiple}
 use Rattle.ranges.specs.Ranges.{origin, between, every, added, subtracted, multiplied, divided, remainders, literal, together, lesser, hull}
 
 -- one loop with the values 0 to 5

@@ -1,19 +1,16 @@
 -- What the walk over an expression comes to at each variant.
-use Rattle.std.proofs.Common.{◌≡◌, ℕ, ◌+◌, ◌<◌, ◌≤◌, Bool, List, [], ◌∷◌, ◌++◌, Option, None, Some, refl, sym, ap, subst, ◌∙◌}
-use Rattle.std.specs.Prelude.{slice_get}
+use Rattle.std.proofs.Common.{◌≡◌, ℕ, Bool, List, [], ◌∷◌, ◌++◌, Option, None, Some, refl, sym, ap, subst, ◌∙◌}
 use Rattle.std.proofs.lemmas.List.{append_assoc}
 use mathlib.Core.Path.{fun_ext}
 use Rattle.halide_pipeline.specs.declared.definitions.Func.{Func}
-use Rattle.halide_pipeline.specs.declared.expressions.Expr.{Expr}
 use Rattle.halide_pipeline.specs.declared.expressions.Expr.TheOpen as layer
 use Rattle.halide_pipeline.specs.declared.expressions.Source.{Source}
 use Rattle.halide_pipeline.specs.declared.expressions.Source.TheVariants as sources
 use Rattle.halide_pipeline.specs.declared.expressions.Variable.{Variable}
 use Rattle.halide_pipeline.specs.declared.expressions.Variable.TheVariants as variables
-use Rattle.inlining.specs.Inlining.{Inside, none, arguments, answer, answered, inside, made_in, made_of, flagged, func_in, through}
+use Rattle.inlining.specs.Inlining.{Inside, none, arguments, answer, answered, inside, made_in, flagged, func_in, through}
 use Rattle.inlining.proofs.Steps.{inside_is}
 use Rattle.ranges.specs.declared.expressions.Asked.{Asked}
-use Rattle.ranges.specs.declared.expressions.Variables.{Variables}
 use Rattle.ranges.specs.declared.ranges.Range.{Range}
 use Rattle.ranges.specs.Ranges.{IsFit, literal}
 use Rattle.ranges.specs.Expressions.{Ranged, ranging, called, unasked, unasked_variable, AreFit, range_of, walked}

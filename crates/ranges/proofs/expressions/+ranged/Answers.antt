@@ -1,17 +1,14 @@
-use Rattle.std.proofs.Common.{◌≡◌, ℕ, List, ◌++◌, Option, Some, None, refl, sym, ap, ◌∙◌, arith}
+use Rattle.std.proofs.Common.{◌≡◌, ◌++◌, Some, None, refl, sym, ap, ◌∙◌, arith}
 use Rattle.std.specs.Option.{option_copied}
-use Rattle.halide_pipeline.specs.declared.definitions.Func.{Func}
 use Rattle.halide_pipeline.specs.declared.expressions.Expr.{Expr}
-use Rattle.halide_pipeline.specs.declared.expressions.Expr.TheOpen as layer
 use Rattle.halide_pipeline.specs.declared.expressions.Source.{Source}
 use Rattle.halide_pipeline.specs.declared.expressions.Source.TheVariants as sources
 use Rattle.halide_pipeline.specs.Expressions.{nodes}
-use Rattle.inlining.specs.Inlining.{answer, answered, flagged, inside, func_in}
-use Rattle.inlining.proofs.Steps.{less_size, less_place, few_nodes, func_in_parts, nodes-Binary, nodes-Divide, nodes-Remainder, nodes-Select, nodes-Call1, nodes-Call2, of_binary, of_select, of_call1, of_call2}
-use Rattle.ranges.specs.declared.expressions.Asked.{Asked}
+use Rattle.inlining.specs.Inlining.{flagged, inside, func_in}
+use Rattle.inlining.proofs.Steps.{less_size, less_place, few_nodes, func_in_parts, nodes-Binary, nodes-Divide, nodes-Remainder, nodes-Select, nodes-Call1, nodes-Call2, of_call1, of_call2}
 use Rattle.ranges.specs.declared.ranges.Range.{Range}
-use Rattle.ranges.specs.Ranges.{literal, operated, together, hull}
-use Rattle.ranges.specs.Expressions.{Ranged, ranging, unasked_variable, AreFit, range_of, walked}
+use Rattle.ranges.specs.Ranges.{literal}
+use Rattle.ranges.specs.Expressions.{Ranged, ranging, unasked_variable, range_of, walked}
 use Rattle.ranges.specs.inner.Walking.{answer_of}
 use Rattle.ranges.proofs.Walking.{joined2, joined3, are_fit, answered1, answered2, answer_alone, answer_inlined}
 use Rattle.ranges.proofs.expressions.+ranged.Goals as goal
