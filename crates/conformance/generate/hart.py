@@ -213,6 +213,12 @@ class Hart:
         elif name == "vmv.s.x":
             if self.vl:
                 self.put(f["vd"], 0, bits, self.x[f["rs1"]])
+        elif name == "vzext.vf4":
+            if bits != 32:
+                raise Trap(1)
+            found = bytes(self.v[f["vs2"]])
+            for i in self.active(f):
+                self.put(f["vd"], i, bits, found[i])
         elif name == "vid.v":
             for i in self.active(f):
                 self.put(f["vd"], i, bits, i)

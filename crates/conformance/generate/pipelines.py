@@ -92,7 +92,7 @@ class Pipeline:
 
     def read_input(self, r):
         name, width = r.next(), r.next()
-        self.inputs[name] = (width, r.next() if r.peek() is not None else None)
+        self.inputs[name] = (width, r.next() if isinstance(r.peek(), int) else None)
 
     def read_func(self, r):
         name = r.next()

@@ -149,6 +149,7 @@ def vector_rows():
             yield row(f"v{letter}se{bits}.v" if letter == "l" else f"vsse{bits}.v", ["vd", "rs1", "rs2", "vm"],
                       (27, 26, 0b10), *memory)
             yield row(f"v{letter}uxei{bits}.v", ["vd", "rs1", "vs2", "vm"], (27, 26, 0b01), *memory)
+    yield row("vzext.vf4", ["vd", "vs2", "vm"], (19, 15, 0b00100), *fixed(OPMVV, 0b010010))
 
 
 SCALAR = list(scalar_rows())

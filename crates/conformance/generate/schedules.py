@@ -136,5 +136,5 @@ class Schedule:
             if name in reached:
                 first = min((line for line, _, _ in marked), default=None)
                 lines += [line for line, place, loop in marked
-                          if place or loop["rounds"] != 4 or "variable" in loop["over"] or line != first]
+                          if place or loop["rounds"] not in (4, 8, 16) or "variable" in loop["over"] or line != first]
         return min(lines, default=None)
