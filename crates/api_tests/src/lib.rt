@@ -9,7 +9,7 @@
 //! - [`texts`]: a small text that is assembled, stored and listed.
 //! - [`algorithms`]: a small algorithm and its picture.
 //! - [`schedules`]: a small schedule, and its stages.
-//! - [`replaying`], [`assembling`], [`renewing`], [`drawing`], [`debugging`]: the engines, over devices that fail.
+//! - [`replaying`], [`assembling`], [`drawing`], [`debugging`]: the engines, over devices that fail.
 #![tactic(auto)]
 
 #[cfg(test)]
@@ -26,8 +26,6 @@ mod logs;
 mod machines;
 #[cfg(test)]
 mod memories;
-#[cfg(test)]
-mod renewing;
 #[cfg(test)]
 mod replaying;
 #[cfg(test)]
