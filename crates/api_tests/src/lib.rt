@@ -1,5 +1,5 @@
-//! Tests of what no file of cases can ask: calls of the libraries, devices and memory that fail. The program `conformance` answers
-//! files of cases. They stand in a crate of their own, since a crate that has tests is proved twice.
+//! Tests of what no file of cases can ask: calls of the libraries, and memory that fails. The program `conformance` answers files of
+//! cases. They stand in a crate of their own, since a crate that has tests is proved twice.
 //!
 //! - [`memories`]: turns over a memory that covers text alone.
 //! - [`machines`]: many turns at once.
@@ -9,25 +9,19 @@
 //! - [`texts`]: a small text that is assembled, stored and listed.
 //! - [`algorithms`]: a small algorithm and its picture.
 //! - [`schedules`]: a small schedule, and its stages.
-//! - [`replaying`], [`assembling`], [`drawing`], [`debugging`]: the engines, over devices that fail.
+//! - [`faults`]: the lines of the commands' faults.
 #![tactic(auto)]
 
 #[cfg(test)]
 mod algorithms;
 #[cfg(test)]
-mod assembling;
-#[cfg(test)]
-mod debugging;
-#[cfg(test)]
-mod drawing;
+mod faults;
 #[cfg(test)]
 mod logs;
 #[cfg(test)]
 mod machines;
 #[cfg(test)]
 mod memories;
-#[cfg(test)]
-mod replaying;
 #[cfg(test)]
 mod schedules;
 #[cfg(test)]

@@ -34,8 +34,8 @@ def read_cases(name):
             if line.startswith("== "):
                 cases.append((*line[3:].split(" ", 1), []))
             elif cases and line.startswith("-- "):
-                heading = line[3:].removesuffix(" in pieces")
-                cases[-1][2].append([heading, "", heading != line[3:]])
+                heading = line[3:].removesuffix(" in hexadecimal").removesuffix(" in pieces")
+                cases[-1][2].append([heading, "", line.endswith(" in pieces")])
             elif cases and cases[-1][2]:
                 part = cases[-1][2][-1]
                 part[1] += piece(line) if part[2] else line + "\n"

@@ -15,9 +15,17 @@ pub struct Case {
 #[derive(Drop)]
 pub struct Part {
     pub name: String,
-    /// Whether its lines are pieces.
-    is_pieces: bool,
+    form: Form,
     pub text: String,
+}
+
+/// How the lines of a part stand for its text.
+#[derive(Debug, Clone, Copy, PartialEq)]
+enum Form {
+    Lines,
+    Pieces,
+    /// The text is the digits of bytes.
+    Hexadecimal,
 }
 
 impl Part {
@@ -29,6 +37,27 @@ impl Part {
             Err(Failure::Malformed("a part has another name"))
         }
     }
+
+    /// The bytes of the text, or those that its digits stand for, where the part has this name.
+    pub fn bytes(&self, alloc: Global, name: &str) -> Result<Vec<u8>, Failure> {
+        let text = self.named(name)?;
+        match self.form {
+            Form::Hexadecimal => bytes_of(alloc, text),
+            Form::Lines | Form::Pieces => Ok(text.as_bytes().to_vec(alloc)?),
+        }
+    }
+}
+
+/// The bytes of lines of hexadecimal digits.
+pub fn bytes_of(alloc: Global, lines: &str) -> Result<Vec<u8>, Failure> {
+    let mut bytes = Vec::new(alloc);
+    for line in lines.lines() {
+        let Ok(found) = hex::decode(alloc, line) else {
+            return Err(Failure::Malformed("a line that is not in hexadecimal"));
+        };
+        bytes.extend_from_slice(&found)?;
+    }
+    Ok(bytes)
 }
 
 /// The cases of a file's text, up to the end or to the first line that is malformed.
@@ -79,18 +108,29 @@ fn take_part_line(alloc: Global, parts: &mut Vec<Part>, line: &str) -> Result<()
 
 /// A part without lines.
 fn begun(alloc: Global, heading: &str) -> Result<Part, AllocError> {
-    let plain = heading.strip_suffix(" in pieces");
+    let (name, form) = named_form(heading);
     Ok(Part {
-        name: String::from_str(alloc, plain.unwrap_or(heading))?,
-        is_pieces: plain.is_some(),
+        name: String::from_str(alloc, name)?,
+        form,
         text: String::new(alloc),
     })
+}
+
+/// A part's name and form, as its heading says them.
+fn named_form(heading: &str) -> (&str, Form) {
+    if let Some(name) = heading.strip_suffix(" in pieces") {
+        return (name, Form::Pieces);
+    }
+    match heading.strip_suffix(" in hexadecimal") {
+        Some(name) => (name, Form::Hexadecimal),
+        None => (heading, Form::Lines),
+    }
 }
 
 impl Part {
     /// Adds a line as it stands, or what its piece says.
     fn take_line(&mut self, alloc: Global, line: &str) -> Result<(), Failure> {
-        if self.is_pieces {
+        if self.form == Form::Pieces {
             return push_piece(alloc, &mut self.text, line);
         }
         self.text.push_str(line)?;

@@ -4,25 +4,63 @@ ghost use Rattle.std.specs.Prelude.{◌≡◌, IfOk};
 ghost use Rattle.std.specs.List.{All};
 
 use crate::algorithms::push_bytes;
-use crate::cases::Part;
+use crate::cases::{Part, bytes_of};
+use crate::devices::{Devices, devices_of};
 use crate::failures::Failure;
-use engines::{Fault, debug_bytes, picture_bytes, replay_bytes};
+use engines::{Fault, asm_bytes, debug_bytes, dis_bytes, picture_bytes, renew_bytes, replay_bytes};
 use std::alloc::{AllocError, Global};
 use std::thread::Threads;
-use tapes::{Page, Tape, empty_page, tape_of};
+use tapes::{Page, Tape};
+
+/// The image that a source becomes.
+pub fn push_image(alloc: Global, parts: &[Part], out: &mut String) -> Result<(), Failure> {
+    let (parts, devices) = devices_of(parts);
+    let [source] = parts else {
+        return Err(Failure::Malformed("not one part"));
+    };
+    let source = source.bytes(alloc, "source")?;
+    let mut page = devices.page(alloc)?;
+    let answered = asm_bytes(alloc, &mut devices.tape("source", &source)?, &mut page);
+    push_stored(answered, &page, out)
+}
+
+/// The listing of an image.
+pub fn push_lines(alloc: Global, parts: &[Part], out: &mut String) -> Result<(), Failure> {
+    let (parts, devices) = devices_of(parts);
+    let [image] = parts else {
+        return Err(Failure::Malformed("not one part"));
+    };
+    let image = bytes_of(alloc, image.named("image")?)?;
+    let mut page = devices.page(alloc)?;
+    let answered = dis_bytes(alloc, &mut devices.tape("image", &image)?, &mut page);
+    push_answer(answered, &page, out)
+}
+
+/// An image in the newest format.
+pub fn push_renewal(alloc: Global, parts: &[Part], out: &mut String) -> Result<(), Failure> {
+    let (parts, devices) = devices_of(parts);
+    let [image] = parts else {
+        return Err(Failure::Malformed("not one part"));
+    };
+    let image = bytes_of(alloc, image.named("image")?)?;
+    let mut page = devices.page(alloc)?;
+    let answered = renew_bytes(alloc, &mut devices.tape("image", &image)?, &mut page);
+    push_stored(answered, &page, out)
+}
 
 /// The dump of a machine after a log's turns.
 pub fn push_replay(alloc: Global, parts: &[Part], out: &mut String) -> Result<(), Failure> {
+    let (parts, devices) = devices_of(parts);
     let [image, log] = parts else {
         return Err(Failure::Malformed("not two parts"));
     };
     let image = bytes_of(alloc, image.named("image")?)?;
     let log = bytes_of(alloc, log.named("log")?)?;
-    let mut page = whole_page(alloc);
+    let mut page = devices.page(alloc)?;
     let answered = replay_bytes(
         alloc,
-        &mut whole("image", &image),
-        &mut whole("log", &log),
+        &mut devices.tape("image", &image)?,
+        &mut devices.tape("log", &log)?,
         &mut page,
     );
     push_answer(answered, &page, out)
@@ -30,18 +68,19 @@ pub fn push_replay(alloc: Global, parts: &[Part], out: &mut String) -> Result<()
 
 /// What is answered to lines about an image and a log.
 pub fn push_talk(alloc: Global, parts: &[Part], out: &mut String) -> Result<(), Failure> {
+    let (parts, devices) = devices_of(parts);
     let [image, log, lines] = parts else {
         return Err(Failure::Malformed("not three parts"));
     };
     let image = bytes_of(alloc, image.named("image")?)?;
     let log = bytes_of(alloc, log.named("log")?)?;
-    let lines = lines.named("lines")?.as_bytes();
-    let mut page = whole_page(alloc);
+    let lines = lines.bytes(alloc, "lines")?;
+    let mut page = devices.page(alloc)?;
     let answered = debug_bytes(
         alloc,
-        &mut whole("image", &image),
-        &mut whole("log", &log),
-        &mut whole("lines", lines),
+        &mut devices.tape("image", &image)?,
+        &mut devices.tape("log", &log)?,
+        &mut devices.tape("lines", &lines)?,
         &mut page,
     );
     push_answer(answered, &page, out)
@@ -54,76 +93,71 @@ pub fn push_drawing(
     parts: &[Part],
     out: &mut String,
 ) -> Result<(), Failure> {
+    let (parts, devices) = devices_of(parts);
     let [algorithm, inputs @ ..] = parts else {
         return Err(Failure::Malformed("no parts"));
     };
-    let algorithm = algorithm.named("algorithm")?.as_bytes();
-    are_pictures(inputs)?;
-    let mut pictures = pictures_of(alloc, inputs)?;
-    let mut page = whole_page(alloc);
+    let algorithm = algorithm.bytes(alloc, "algorithm")?;
+    let texts = texts_of(alloc, inputs)?;
+    let mut pictures = pictures_of(alloc, &devices, &texts)?;
+    let mut page = devices.page(alloc)?;
     let answered = picture_bytes(
         rt,
         alloc,
-        &mut whole("algorithm", algorithm),
+        &mut devices.tape("algorithm", &algorithm)?,
         pictures.as_mut_slice(),
         &mut page,
     );
     push_answer(answered, &page, out)
 }
 
-/// Whether all parts are pictures.
-fn are_pictures(inputs: &[Part]) -> Result<(), Failure> {
+/// The bytes of each picture.
+fn texts_of(alloc: Global, inputs: &[Part]) -> Result<Vec<Vec<u8>>, Failure> {
+    let mut texts = Vec::new(alloc);
     for input in inputs {
-        let _text = input.named("picture")?;
+        texts.push(input.bytes(alloc, "picture")?)?;
     }
-    Ok(())
+    Ok(texts)
 }
 
 /// Each input in memory.
-fn pictures_of<'a>(alloc: Global, inputs: &'a [Part]) -> Result<Vec<Tape<'a>>, AllocError>
+fn pictures_of<'a>(
+    alloc: Global,
+    devices: &Devices,
+    texts: &'a [Vec<u8>],
+) -> Result<Vec<Tape<'a>>, Failure>
     ensures { IfOk result (λ tapes. All (λ tape. tape.failures ≡ 0) tapes.items) }
 {
     let mut tapes = Vec::new(alloc);
-    let mut rest = inputs;
-    while let [input, others @ ..] = rest {
-        tapes.push(whole("picture", input.text.as_bytes()))?;
+    let mut rest = texts;
+    while let [text, others @ ..] = rest {
+        tapes.push(devices.tape("picture", text)?)?;
         rest = others;
     }
     Ok(tapes)
 }
 
-/// A file that is read at once.
-fn whole<'a>(name: &'a str, bytes: &'a [u8]) -> Tape<'a>
-    ensures { result.failures ≡ 0 }
-{
-    let mut tape = tape_of(name, bytes);
-    tape.step = usize::MAX;
-    tape
-}
-
-/// A file that is written at once.
-fn whole_page(alloc: Global) -> Page
-    ensures { result.failures ≡ 0 }
-{
-    let mut page = empty_page(alloc);
-    page.step = usize::MAX;
-    page
-}
-
-/// What the command wrote, or why it refused.
+/// What the command wrote, or why it refused. A backslash ends a text whose last line has no line feed.
 fn push_answer(answered: Result<(), Fault>, page: &Page, out: &mut String) -> Result<(), Failure> {
     push_bytes(&page.bytes, out)?;
+    if !matches!(page.bytes.last(), None | Some(b'\n')) {
+        out.push_str("\\\n")?;
+    }
     Ok(answered?)
 }
 
-/// The bytes of lines of hexadecimal digits.
-fn bytes_of(alloc: Global, lines: &str) -> Result<Vec<u8>, Failure> {
-    let mut bytes = Vec::new(alloc);
-    for line in lines.lines() {
-        let Ok(found) = hex::decode(alloc, line) else {
-            return Err(Failure::Malformed("a line that is not in hexadecimal"));
-        };
-        bytes.extend_from_slice(&found)?;
+/// The bytes that the command wrote, 32 a line, or why it refused.
+fn push_stored(answered: Result<(), Fault>, page: &Page, out: &mut String) -> Result<(), Failure> {
+    for line in page.bytes.chunks(32) {
+        push_digits(line, out)?;
     }
-    Ok(bytes)
+    Ok(answered?)
+}
+
+/// A line with the digits of bytes.
+fn push_digits(bytes: &[u8], out: &mut String) -> Result<(), AllocError> {
+    for byte in bytes {
+        write!(out, "{byte:02x}")?;
+    }
+    out.push_str("\n")
 }

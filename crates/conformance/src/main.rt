@@ -17,14 +17,23 @@
 //! | `assemble` | `text` | the object |
 //! | `list` | `words`: a word in hexadecimal each line | the line of each |
 //! | `turn` | `before`: an assembly text; `instructions`: one each line | each line, and what it changes behind the text before |
+//! | `asm` | `source` | the image's bytes, in hexadecimal |
+//! | `dis` | `image` | the listing |
+//! | `renew` | `image` | the renewed image's bytes, in hexadecimal |
 //! | `replay` | `image`, `log`: lines in hexadecimal | the dump |
 //! | `debug` | `image`, `log`: lines in hexadecimal; `lines` | the talk |
 //! | `words` | `words`: a word of a command line each line | the command and its files, or the refusal's first line |
 //!
-//! A refusal stands in place of an answer, as `hrv` prints it. A case that isn't one of these is answered `malformed: ` and why.
+//! A text may stand in hexadecimal too, with `in hexadecimal` behind the part's name. Images and logs always do. The cases of `draw`
+//! and of those from `asm` to `debug` go through the engines; a last part `devices` says how their files give and take bytes: a line
+//! `NAME STEP` for at most so many bytes a call, `NAME STEP CALLS` where the call behind so many fails. What is written is `page`.
+//!
+//! A refusal stands in place of an answer, or behind what was written before, as `hrv` prints it; a backslash ends a text without a
+//! last line feed there. A case that isn't one of these is answered `malformed: ` and why.
 //!
 //! - [`cases`]: the cases of a file.
 //! - [`algorithms`], [`schedules`], [`assemblies`], [`turns`], [`commands`], [`invocations`]: the answers, a module each for one family.
+//! - [`devices`]: files in memory.
 //! - [`harts`]: what a hart holds, as lines.
 //! - [`failures`]: what stands in place of an answer.
 #![tactic(auto)]
@@ -33,6 +42,7 @@ mod algorithms;
 mod assemblies;
 mod cases;
 mod commands;
+mod devices;
 mod failures;
 mod harts;
 mod invocations;
@@ -42,7 +52,7 @@ mod turns;
 use crate::algorithms::{push_reading, push_verdict};
 use crate::assemblies::{push_listing, push_object};
 use crate::cases::{Case, read_cases};
-use crate::commands::{push_drawing, push_replay, push_talk};
+use crate::commands::{push_drawing, push_image, push_lines, push_renewal, push_replay, push_talk};
 use crate::failures::Failure;
 use crate::invocations::push_invocation;
 use crate::schedules::push_schedule;
@@ -109,6 +119,9 @@ fn push_answer(
         "assemble" => push_object(alloc, parts, out),
         "list" => push_listing(alloc, parts, out),
         "turn" => push_changes(alloc, parts, out),
+        "asm" => push_image(alloc, parts, out),
+        "dis" => push_lines(alloc, parts, out),
+        "renew" => push_renewal(alloc, parts, out),
         "replay" => push_replay(alloc, parts, out),
         "debug" => push_talk(alloc, parts, out),
         "words" => push_invocation(alloc, parts, out),

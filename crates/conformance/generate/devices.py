@@ -1,0 +1,175 @@
+"""Commands over files that give and take a few bytes at a time, and fail. The whole outputs were worked out by hand; a failing read leaves
+nothing written, and a failing write a beginning of the output."""
+
+COUNTER = bytes.fromhex("4852563100000100040000000400000000002000010000000100000004000000"
+                        "b702200013031000afa362007300000000000000")
+
+# The same image in the second format, whose data need no byte.
+RENEWED = bytes.fromhex("485256320000010004000000040000000000200001000000010000000400000000000000"
+                        "b702200013031000afa3620073000000")
+
+# The turns 0 1 0 1 1 0 0 1.
+TURNS = bytes.fromhex("48524c31020000000600000000000000000100000000000000010100000000000000"
+                      "00010000000000000001020000000000000000020000000000000001010000000000"
+                      "0000")
+
+DUMP = """hart 0 finished pc 0x0001000c turns 4
+  x5 0x00200000
+  x6 0x00000001
+  x7 0x00000001
+  x11 0x00000002
+  vl 0 vtype 0x80000000
+hart 1 finished pc 0x0001000c turns 4
+  x5 0x00200000
+  x6 0x00000001
+  x10 0x00000001
+  x11 0x00000002
+  vl 0 vtype 0x80000000
+picture 1 1
+2
+"""
+
+LOOP = "start: li x5,-1\nbeq x5,x0,start\n"
+
+# Three words and no data, to be started at the first word.
+LOOP_IMAGE = bytes.fromhex("485256320000010003000000000000000000000000000000000000000000000000000000"
+                           "b70200009382f2ffe38c02fe")
+
+LOOP_LINES = "lui x5,0x00000\naddi x5,x5,-1\nbeq x5,x0,-8\n"
+
+BLUR = "input in 8\nfunc b(x) = (in(clamp(x-1,0,7)) + in(x) + in(clamp(x+1,0,7))) / 3\noutput b 8\n"
+BLUR_INPUT = "picture 8 1\n0 3 6 9 12 15 18 21\n"
+BLUR_OUTPUT = "picture 8 1\n1 3 6 9 12 15 18 20\n"
+
+TALK = [("next", "at 1\n"), ("next", "at 2\n"),
+        ("status", "at 2 of 8\nhart 0 running pc 0x00010004\nhart 1 running pc 0x00010004\n"), ("back", "at 1\n")]
+
+
+def digits(data):
+    return [data[at:at + 32].hex() for at in range(0, len(data), 32)]
+
+
+def is_plain(text):
+    return text.endswith("\n") and all(line and not line.startswith(("-- ", "== ")) for line in text[:-1].split("\n"))
+
+
+def part(name, content):
+    """A part with a text or with bytes. Images and logs are digits without a word of it."""
+    if isinstance(content, str):
+        assert is_plain(content)
+        return name, content[:-1].split("\n")
+    return (name if name in ("image", "log") else f"{name} in hexadecimal"), digits(content)
+
+
+def written(content):
+    """What a page holds."""
+    if isinstance(content, bytes):
+        return digits(content)
+    lines = content.split("\n")
+    return lines[:-1] + ([lines[-1] + "\\"] if lines[-1] else [])
+
+
+class Command:
+    """A command with its files by their names, and what it writes."""
+
+    def __init__(self, kind, files, output):
+        self.kind, self.files, self.output = kind, files, output
+
+    def case(self, file, name, settings, answer):
+        parts = [part(*it) for it in self.files] + [("devices", settings)]
+        file.case(self.kind, f"{self.kind}: {name}", parts, answer)
+
+    def whole(self, file):
+        settings = [f"{name} 7" for name in dict(self.files)] + ["page 9"]
+        self.case(file, "a few bytes at a time", settings, written(self.output))
+
+    def failing_reads(self, file, name):
+        """Each read of a file that is read whole before anything is written."""
+        for calls in range(-(-len(dict(self.files)[name]) // 7) + 1):
+            self.case(file, f"read {calls} of {name} fails", [f"{name} 7 {calls}"], [f"refused file {name}"])
+
+    def failing_writes(self, file, step):
+        for calls in range(-(-len(self.output) // step)):
+            answer = written(self.output[:calls * step]) + ["refused file page"]
+            self.case(file, f"write {calls} fails", [f"page {step} {calls}"], answer)
+
+    def failing(self, file):
+        self.whole(file)
+        for name in dict(self.files):
+            self.failing_reads(file, name)
+        self.failing_writes(file, 9)
+
+
+def stored(file, _):
+    """Assembly, listing and renewal."""
+    Command("asm", [("source", LOOP)], LOOP_IMAGE).failing(file)
+    Command("dis", [("image", LOOP_IMAGE)], LOOP_LINES).failing(file)
+    Command("asm", [("source", LOOP_LINES)], LOOP_IMAGE).case(file, "the listing", [], written(LOOP_IMAGE))
+    Command("renew", [("image", COUNTER)], RENEWED).failing(file)
+    Command("renew", [("image", RENEWED)], RENEWED).case(file, "the second format", [], written(RENEWED))
+    zeros = Command("renew", [("image", COUNTER[:50] + b"\7" + COUNTER[51:])], None)
+    zeros.case(file, "zeros before another byte are stored", [], written(RENEWED[:32] + b"\3" + RENEWED[33:] + b"\0\0\7"))
+    trailing = Command("renew", [("image", RENEWED[:32] + b"\1" + RENEWED[33:] + b"\0")], None)
+    trailing.case(file, "a last stored byte of 0", [], ["refused load 8"])
+    text = ".entry main\n.output pixels, 2, 1\n.data\n.space 4\npixels: .word -1\n.word 258\n.text\necall\nmain: ecall # the last word\n"
+    image = bytes.fromhex("485256320400010002000000" "0c000000" "0400200002000000" "01000000" "08000000" "0a000000"
+                          "7300000073000000" "00000000" "ffffffff" "0201")
+    Command("asm", [("source", text)], image).case(file, "data and an output", ["source 7", "page 9"], written(image))
+
+
+def refused_sources(file, _):
+    """The first faulty line decides, and a text that is no UTF-8 comes before it."""
+    cases = [(b"addi x5,x0,2048", "asm 4 line 1"), (b"ecall\necal\naddi x5,x0,2048\n", "asm 2 line 2"),
+             (b"ecall\n\n# \nbeq x5,x0,there\n", "asm 5 line 4"), (b"", "asm 1 line 1"),
+             (b"ecall # \xff\n", "file source"), (b"addi x5,x0,2048\n\xc0", "file source")]
+    for number, (source, why) in enumerate(cases):
+        Command("asm", [("source", source)], None).case(file, f"refused {number}", ["source 7"], [f"refused {why}"])
+
+
+def replays(file, _):
+    replay = Command("replay", [("image", COUNTER), ("log", TURNS)], DUMP)
+    replay.failing(file)
+    for calls in range(8):
+        settings = [f"image 7 {calls}", "page 9 0"]
+        replay.case(file, f"read {calls} of image fails, and each write", settings, ["refused file image"])
+
+
+def drawings(file, _):
+    picture = Command("draw", [("algorithm", BLUR), ("picture", BLUR_INPUT)], BLUR_OUTPUT)
+    picture.failing(file)
+    blur, good = ("algorithm", BLUR.encode()), ("picture", BLUR_INPUT.encode())
+    bad = ("picture", b"picture 8 1\n0 3 6 9 12 15 18 2147483648\n")
+    unknown = ("algorithm", b"input in 8\nfunc b(x) = c(x)\noutput b 8\n")
+    zero = ("algorithm", b"input in 8\nfunc b(x) = in(x) / 0\n")
+    no_text = b"# \xff\n"
+    cases = [([blur], "input 1"), ([blur, good, good], "input 1"), ([blur, ("picture", b"picture 2 1\n1 2\n")], "input 2"),
+             ([blur, bad], "picture 3"), ([blur, good, ("picture", b"picture 70000 1\n")], "picture 2"),
+             ([blur, ("picture", b""), bad], "picture 1"), ([unknown, ("picture", b"picture")], "parse 2 line 2"),
+             ([zero], "parse 5 line 2"), ([("algorithm", b"")], "parse 9 line 1"), ([unknown, ("picture", no_text)], "file picture"),
+             ([("algorithm", no_text), ("picture", no_text)], "file algorithm"), ([("algorithm", no_text)], "file algorithm")]
+    for number, (files, why) in enumerate(cases):
+        Command("draw", files, None).case(file, f"refused {number}", ["algorithm 7", "picture 7"], [f"refused {why}"])
+
+
+def talks(file, _):
+    lines = "".join(line + "\n" for line, _ in TALK)
+    talk = Command("debug", [("image", COUNTER), ("log", TURNS), ("lines", lines)], "".join(text for _, text in TALK))
+    talk.whole(file)
+    talk.failing_reads(file, "image")
+    talk.failing_reads(file, "log")
+    # What was read when the source fails has its answers.
+    for calls in range(5):
+        count = lines[:7 * calls].count("\n")
+        answer = written("".join(text for _, text in TALK[:count])) + ["refused file lines"]
+        talk.case(file, f"read {calls} of lines fails", [f"lines 7 {calls}"], answer)
+    for calls in range(0, len(talk.output), 3):
+        answer = written(talk.output[:calls]) + ["refused file page"]
+        talk.case(file, f"write {calls} fails", ["lines 7", f"page 1 {calls}"], answer)
+    files = talk.files[:2]
+    cases = [("answers come before more is read", "next\nnext\nnext\n", ["lines 7 1"], ["at 1", "refused file lines"]),
+             ("nothing is read where answers can't be written", "next\nnext\nnext\n", ["lines 7 1", "page 9 0"], ["refused file page"]),
+             ("nothing is read behind quit", "quit\nnext\n", ["lines 7 1"], []),
+             ("quit at the end of a piece", "bc\nquit 1\nnext\n", ["lines 7"], ["unknown", "unknown", "at 1"]),
+             ("lines that are no text", b"next \xff\nword\xff 1\n\xff\nnext", [], ["unknown", "unknown", "unknown", "at 1"])]
+    for name, text, settings, answer in cases:
+        Command("debug", files + [("lines", text)], None).case(file, name, settings, answer)
