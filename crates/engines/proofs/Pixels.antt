@@ -8,7 +8,7 @@ use Rattle.memory.specs.Access.{Reads, fault_of, word_at}
 use Rattle.loader.specs.declared.outputs.Output.{Output}
 use Rattle.loader.specs.Image.{is_output, end_of}
 use Rattle.multi_hart.specs.Run.{State, if_no_fault, word_in}
-use Rattle.engines.specs.Dump.{pixel_address}
+use Rattle.engines.specs.Dump.{pixel_address, pixel}
 
 -- what the rules of an output say
 record Lies (bytes : ℕ) (output : Output) : Type 0 where
@@ -51,6 +51,6 @@ pixel_no_fault words bytes output x y h below_x below_y =
     no_fault words bytes (pixel_address output x y) aligned low high
 
 -- so the word of a pixel is there
-pub pixel_word : (state : State) (output : Output) (x y : ℕ) → IsTrue (is_output (length state.memory) output) → x < output.width → y < output.height → word_in state (pixel_address output x y) ≡ Some (word_at state.text state.memory (pixel_address output x y))
+pub pixel_word : (state : State) (output : Output) (x y : ℕ) → IsTrue (is_output (length state.memory) output) → x < output.width → y < output.height → word_in state (pixel_address output x y) ≡ Some (pixel state output x y)
 pixel_word state output x y h below_x below_y =
     ap (λ f. if_no_fault f (word_at state.text state.memory (pixel_address output x y))) (pixel_no_fault (length state.text) (length state.memory) output x y h below_x below_y)

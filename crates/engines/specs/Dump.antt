@@ -1,9 +1,9 @@
 -- What the program prints of a machine: a heading and the registers of each hart, and the picture.
 -- The text is this project's own.
-use Rattle.std.specs.Prelude.{ℕ, zero, suc, ◌+◌, ◌*◌, ◌/◌, ◌%◌, ◌==◌, nat_lt, if◌then◌else◌, List, [], ◌∷◌, ◌++◌, length, codes, Option, Some, None, ℤ}
+use Rattle.std.specs.Prelude.{ℕ, zero, suc, ◌+◌, ◌*◌, ◌/◌, ◌%◌, ◌==◌, nat_lt, if◌then◌else◌, List, [], ◌∷◌, ◌++◌, length, codes, Option, Some, None}
 use Rattle.std.specs.List.{list_all}
-use Rattle.std.specs.Int.{w32, cast_signed, to_be_bytes}
-use Rattle.std.specs.Fmt.{decimal, signed_decimal}
+use Rattle.std.specs.Int.{w32, to_be_bytes}
+use Rattle.std.specs.Fmt.{decimal}
 use Rattle.rv_insn.specs.Trap.{trap_number}
 use Rattle.hart_core.specs.declared.harts.Status.{Status}
 use Rattle.hart_core.specs.declared.harts.Status.TheVariants.{Running, Finished, Trapped}
@@ -13,6 +13,7 @@ use Rattle.multi_hart.specs.Run.{State, hart_at}
 use Rattle.multi_hart.specs.Finished.{all_finished}
 use Rattle.turn_log.specs.TurnLog.{count_of}
 use Rattle.loader.specs.declared.outputs.Output.{Output}
+use Rattle.picture.specs.Spelling as spelling
 
 -- ---- numbers
 
@@ -83,35 +84,23 @@ hart_texts state turns (suc number) = hart_texts state turns number ++ hart_text
 abbrev pub pixel_address : Output → ℕ → ℕ → ℕ
 pixel_address output x y = output.address + y * output.stride + 4 * x
 
--- the signed number that stands there
-unfoldable pub pixel : State → Output → ℕ → ℕ → ℤ
-pixel state output x y = cast_signed w32 (word_at state.text state.memory (pixel_address output x y))
+-- the word that stands there
+abbrev pub pixel : State → Output → ℕ → ℕ → ℕ
+pixel state output x y = word_at state.text state.memory (pixel_address output x y)
 
--- a number of a row; each but the first has a space before it
-unfoldable pub number_text : ℕ → ℤ → List ℕ
-number_text x value = (if x == 0 then [] else codes " ") ++ signed_decimal value
+-- the first so many pixels of a row
+unfoldable pub row : State → Output → ℕ → ℕ → List ℕ
+row state output y zero = []
+row state output y (suc x) = row state output y x ++ pixel state output x y ∷ []
 
--- the first so many numbers of a row
-unfoldable pub numbers : State → Output → ℕ → ℕ → List ℕ
-numbers state output y zero = []
-numbers state output y (suc x) = numbers state output y x ++ number_text x (pixel state output x y)
-
--- a row
-unfoldable pub row_text : State → Output → ℕ → List ℕ
-row_text state output y = numbers state output y output.width ++ newline
-
--- the first so many rows
+-- the first so many rows, as a picture's text has them
 unfoldable pub rows : State → Output → ℕ → List ℕ
 rows state output zero = []
-rows state output (suc y) = rows state output y ++ row_text state output y
+rows state output (suc y) = rows state output y ++ spelling.row_text (row state output y output.width)
 
--- `picture W H`
-unfoldable pub picture_heading : Output → List ℕ
-picture_heading output = codes "picture " ++ decimal output.width ++ codes " " ++ decimal output.height ++ newline
-
--- and a line for each row
+-- the picture's text; an output may be wider than what is read as a picture
 unfoldable pub picture_text : State → Output → List ℕ
-picture_text state output = picture_heading output ++ rows state output output.height
+picture_text state output = spelling.heading output.width output.height ++ rows state output output.height
 
 -- the picture is printed where there is an output and all harts have finished
 unfoldable pub picture_part : State → Option Output → List ℕ

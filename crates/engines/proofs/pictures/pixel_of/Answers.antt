@@ -1,7 +1,6 @@
 use Rattle.std.proofs.Common.{◌≡◌, Some, sym, ◌∙◌, subst, refl}
 use Rattle.std.specs.Prelude.{IsSome}
-use Rattle.memory.specs.Access.{word_at}
-use Rattle.engines.specs.Dump.{pixel_address}
+use Rattle.engines.specs.Dump.{pixel}
 use Rattle.engines.proofs.Pixels.{pixel_word}
 use Rattle.engines.proofs.pictures.pixel_of.Goals as goal
 
@@ -13,5 +12,5 @@ unwrap-requires c =
 pub returns : goal.returns
 returns c =
     let found = pixel_word c.args.machine.now c.args.output c.args.x c.args.y c.requires.fits c.requires.column c.requires.row in
-    let same : Some c.unwrap.result ≡ Some (word_at c.args.machine.now.text c.args.machine.now.memory (pixel_address c.args.output c.args.x c.args.y)) = sym c.unwrap.ensures ∙ c.word.ensures ∙ found in
+    let same : Some c.unwrap.result ≡ Some (pixel c.args.machine.now c.args.output c.args.x c.args.y) = sym c.unwrap.ensures ∙ c.word.ensures ∙ found in
     cc

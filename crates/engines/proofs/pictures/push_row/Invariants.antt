@@ -1,6 +1,6 @@
 use Rattle.std.proofs.Common.{◌≡◌, ◌++◌}
 use Rattle.std.specs.String.{string_bytes}
-use Rattle.engines.specs.Dump.{numbers}
+use Rattle.engines.proofs.Printing.{numbers}
 use Rattle.engines.proofs.pictures.push_row.Given as goal
 
 abbrev pub invariant-loop-x : goal.invariant-loop-x
