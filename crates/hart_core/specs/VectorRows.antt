@@ -12,8 +12,8 @@ use Rattle.memory.specs.Access.{Size, Byte, Half, Word, Kind, NoAccess, Reads, W
 use Rattle.vector_unit.specs.VectorState.{asked_by, configured}
 use Rattle.vector_unit.specs.declared.configuration.Asked.{Asked}
 use Rattle.vector_unit.specs.declared.configuration.Asked.TheVariants.{AtMost}
-use Rattle.vector_unit.specs.Vector.{vector_after, scalar_given, width_in}
-use Rattle.vector_unit.specs.Accesses.{addresses, loaded_by}
+use Rattle.vector_unit.specs.Vector.{vector_after, scalar_given}
+use Rattle.vector_unit.specs.Accesses.{addresses, loaded_by, width_in}
 use Rattle.hart_core.specs.HartState.{HartState, vectors_of, with_vectors, register, with_register, advanced, given}
 
 abbrev pub vector_kind : VectorInsn → Kind

@@ -52,7 +52,7 @@ pub fn read_numbers<M: Bytes>(
     memory: &M,
     addresses: &[u32],
 ) -> Result<Numbers, Trap>
-    requires { length addresses.now ≤ 16 }
+    requires { length addresses.now ≤ 64 }
     ensures fits { OnOk result (first_fault (length (M.text memory.now)) (length (M.memory memory.now)) Reads (accesses_at width addresses.now) ≡ None) }
     ensures numbers { IfOk result (λ numbers. numbers ≡ map (number_at (M.text memory.now) (M.memory memory.now)) (accesses_at width addresses.now)) }
     ensures err { IfErr result (λ trap. first_fault (length (M.text memory.now)) (length (M.memory memory.now)) Reads (accesses_at width addresses.now) ≡ Some trap) }

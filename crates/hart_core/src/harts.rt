@@ -6,7 +6,7 @@ ghost use Rattle.vector_unit.specs.Vector.{is_own, is_refused, vector_after, sca
 ghost use Rattle.vector_unit.specs.Accesses.{loaded};
 ghost use Rattle.hart_core.specs.HartState.{register, vector, has_finished, with_register, at_pc, advanced, with_status, opening_hart, vectors_of, with_vectors, given};
 
-use rv_insn::{Outcome, Reg, Trap, VReg, VectorInsn};
+use rv_insn::{ElementWidth, Outcome, Reg, Trap, VReg, VectorInsn};
 use std::marker::Model;
 use vector_unit::{Asked, VectorState};
 
@@ -190,11 +190,11 @@ impl Hart {
         self.unit.execute(insn, scalar)
     }
 
-    /// Writes numbers to the active elements of a vector register.
-    pub(crate) fn load_elements(&mut self, vd: VReg, vm: bool, numbers: &[u32])
+    /// Writes numbers to the active elements of a vector register or group.
+    pub(crate) fn load_elements(&mut self, width: ElementWidth, vd: VReg, vm: bool, numbers: &[u32])
         requires { has_vill (vectors_of self.old) ≡ false }
-        ensures { self.new ≡ with_vectors self.old (loaded (vectors_of self.old) vd vm numbers.now) }
+        ensures { self.new ≡ with_vectors self.old (loaded (vectors_of self.old) width vd vm numbers.now) }
     {
-        self.unit.load(vd, vm, numbers);
+        self.unit.load(width, vd, vm, numbers);
     }
 }

@@ -63,7 +63,7 @@ impl Hart {
         self.check_legal(insn)?;
         match *insn {
             VectorInsn::LoadUnit { width, vd, rs1, vm } => {
-                self.load_vector(memory, width, vd, vm, rs1, Spacing::UnitStride)
+                self.load_vector(memory, width, vd, vm, rs1, Spacing::UnitStride(width))
             }
             VectorInsn::LoadStrided {
                 width,
@@ -87,7 +87,7 @@ impl Hart {
                 vs3,
                 rs1,
                 vm,
-            } => self.store_vector(memory, width, vs3, vm, rs1, Spacing::UnitStride),
+            } => self.store_vector(memory, width, vs3, vm, rs1, Spacing::UnitStride(width)),
             VectorInsn::StoreStrided {
                 width,
                 vs3,
@@ -187,7 +187,7 @@ impl Hart {
     ) -> Result<Outcome, Trap>
         requires { has_vill (vectors_of self.old) ≡ false }
         ensures fits { OnOk result (first_fault (length (M.text memory.now)) (length (M.memory memory.now)) Reads (accesses_at width (addresses_by (vectors_of self.old) spacing vm (register self.old rs1))) ≡ None) }
-        ensures hart { OnOk result (self.new ≡ advanced (with_vectors self.old (loaded (vectors_of self.old) vd vm
+        ensures hart { OnOk result (self.new ≡ advanced (with_vectors self.old (loaded (vectors_of self.old) width vd vm
             (map (number_at (M.text memory.now) (M.memory memory.now)) (accesses_at width (addresses_by (vectors_of self.old) spacing vm (register self.old rs1))))))) }
         ensures outcome { IfOk result (λ outcome. outcome ≡ Outcome.Stepped) }
         ensures err { IfErr result (λ trap. first_fault (length (M.text memory.now)) (length (M.memory memory.now)) Reads (accesses_at width (addresses_by (vectors_of self.old) spacing vm (register self.old rs1))) ≡ Some trap) }
@@ -195,7 +195,7 @@ impl Hart {
     {
         let addresses = self.addresses(spacing, vm, rs1);
         let numbers = read_numbers(width, memory, addresses.as_slice())?;
-        self.load_elements(vd, vm, numbers.as_slice());
+        self.load_elements(width, vd, vm, numbers.as_slice());
         Ok(self.advance())
     }
 
@@ -214,7 +214,7 @@ impl Hart {
         ensures fits { OnOk result (first_fault (length (M.text memory.old)) (length (M.memory memory.old)) Writes (accesses_at width (addresses_by (vectors_of self.old) spacing vm (register self.old rs1))) ≡ None) }
         ensures hart { OnOk result (self.new ≡ advanced self.old) }
         ensures put { OnOk result (M.memory memory.new ≡ put (M.memory memory.old) (touched (accesses_at width (addresses_by (vectors_of self.old) spacing vm (register self.old rs1))))
-            (spread (accesses_at width (addresses_by (vectors_of self.old) spacing vm (register self.old rs1))) (active_numbers (vectors_of self.old) vs3 vm))) }
+            (spread (accesses_at width (addresses_by (vectors_of self.old) spacing vm (register self.old rs1))) (active_numbers (vectors_of self.old) width vs3 vm))) }
         ensures outcome { IfOk result (λ outcome. outcome ≡ Outcome.Stepped) }
         ensures err { IfErr result (λ trap. first_fault (length (M.text memory.old)) (length (M.memory memory.old)) Writes (accesses_at width (addresses_by (vectors_of self.old) spacing vm (register self.old rs1))) ≡ Some trap) }
         ensures unchanged { OnErr result (self.new ≡ self.old) }
@@ -223,7 +223,7 @@ impl Hart {
     {
         let addresses = self.addresses(spacing, vm, rs1);
         check_stores(width, memory, addresses.as_slice())?;
-        let numbers = self.vectors().active_numbers(vs3, vm);
+        let numbers = self.vectors().active_numbers(width, vs3, vm);
         write_numbers(width, memory, addresses.as_slice(), numbers.as_slice());
         Ok(self.advance())
     }

@@ -10,16 +10,17 @@ use Rattle.std.specs.List.{range_with_len}
 abbrev pub mask_bit : List ℕ → ℕ → Bool
 mask_bit bytes i = bit_at (slice_index bytes (i / 8)) (i % 8) == 1
 
--- so many of the first bits of a mask register
-unfoldable pub mask_bits : ℕ → List ℕ → List Bool
-mask_bits count bytes = map (mask_bit bytes) (range_with_len 0 count)
+-- so many bits of a mask register, from one on
+unfoldable pub mask_bits : ℕ → ℕ → List ℕ → List Bool
+mask_bits first count bytes = map (λ i. mask_bit bytes (first + i)) (range_with_len 0 count)
 
 -- element i is active below vl, where the instruction is unmasked or bit i of the mask is 1
 abbrev pub is_active : ℕ → Bool → List ℕ → ℕ → Bool
 is_active vl unmasked mask i = nat_lt i vl && (unmasked || mask_bit mask i)
 
-unfoldable pub active : ℕ → ℕ → Bool → List ℕ → List Bool
-active count vl unmasked mask = map (is_active vl unmasked mask) (range_with_len 0 count)
+-- so many elements, from one on
+unfoldable pub active : ℕ → ℕ → ℕ → Bool → List ℕ → List Bool
+active first count vl unmasked mask = map (λ i. is_active vl unmasked mask (first + i)) (range_with_len 0 count)
 
 -- a byte whose bit k becomes 1 or 0
 abbrev pub with_bit : ℕ → ℕ → Bool → ℕ

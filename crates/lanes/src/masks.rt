@@ -1,7 +1,7 @@
 //! Masks: which elements are active, and results that are written as bits of a register.
 
-ghost use Rattle.std.specs.Prelude.{◌≡◌, ◌<◌, ◌≤◌};
-ghost use Rattle.lanes.specs.Masks.{mask_bit, mask_bits, active, with_bit, with_mask_bit, with_mask_bits};
+ghost use Rattle.std.specs.Prelude.{◌≡◌, ◌+◌, ◌<◌, ◌≤◌};
+ghost use Rattle.lanes.specs.Masks.{mask_bit, mask_bits, active, with_bit, with_mask_bit, with_mask_bits_from};
 
 use crate::kernels::each_index;
 
@@ -13,39 +13,40 @@ pub fn mask_bit(register: &[u8; 16], index: usize) -> bool
     register[index / 8] >> (index % 8) & 1 == 1
 }
 
-/// The first N bits of a mask register.
+/// N bits of a mask register, from `first` on.
 #[tactic(auto, using(crate::proofs::Elements::tests_from_indices), unfolding(crate::specs::Masks::mask_bits))]
-pub fn mask_bits<const N: usize>(register: &[u8; 16]) -> [bool; N]
-    requires { N ≤ 128 }
-    ensures { result ≡ mask_bits N register.now }
+pub fn mask_bits<const N: usize>(first: usize, register: &[u8; 16]) -> [bool; N]
+    requires { first + N ≤ 128 }
+    ensures { result ≡ mask_bits first N register.now }
 {
-    each_index([false; N], |index| mask_bit(register, index))
+    each_index([false; N], |index| mask_bit(register, first + index))
 }
 
-/// Which of N elements an instruction works on: those below `vl`, and of them, where it is not
+/// Which of N elements from `first` on an instruction works on: those below `vl`, and of them, where it is not
 /// `unmasked`, those whose bit in the mask register is 1.
 #[tactic(auto, using(crate::proofs::Elements::tests_from_indices), unfolding(crate::specs::Masks::active))]
-pub fn active<const N: usize>(vl: usize, unmasked: bool, mask: &[u8; 16]) -> [bool; N]
-    requires { N ≤ 128 }
-    ensures { result ≡ active N vl unmasked mask.now }
+pub fn active<const N: usize>(first: usize, vl: usize, unmasked: bool, mask: &[u8; 16]) -> [bool; N]
+    requires { first + N ≤ 128 }
+    ensures { result ≡ active first N vl unmasked mask.now }
 {
     each_index([false; N], |index| {
-        index < vl && (unmasked || mask_bit(mask, index))
+        first + index < vl && (unmasked || mask_bit(mask, first + index))
     })
 }
 
-/// Writes the bits of the active elements into a mask register, and keeps every other bit.
+/// Writes the bits of the active elements from `first` on into a mask register, and keeps every other bit.
 pub fn write_mask_bits<const N: usize>(
     register: &mut [u8; 16],
+    first: usize,
     active: &[bool; N],
     bits: &[bool; N],
 )
-    requires { N ≤ 128 }
-    ensures { register.new ≡ with_mask_bits active.now bits.now register.old }
+    requires { first + N ≤ 128 }
+    ensures { register.new ≡ with_mask_bits_from first active.now bits.now register.old }
 {
     for index in 0..N {
         if active[index] {
-            write_mask_bit(register, index, bits[index]);
+            write_mask_bit(register, first + index, bits[index]);
         }
     }
 }

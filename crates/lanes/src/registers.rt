@@ -1,6 +1,6 @@
 //! A vector register as N elements of one kind.
 
-ghost use Rattle.std.specs.Prelude.{◌≡◌, ◌*◌, ◌<◌, ◌≤◌, ◌%◌, ◌^◌, map, slice_index, slice_set, replicate};
+ghost use Rattle.std.specs.Prelude.{◌≡◌, ◌+◌, ◌*◌, ◌<◌, ◌≤◌, ◌%◌, ◌^◌, map, slice_index, slice_set, replicate};
 ghost use Rattle.std.specs.List.{range_with_len};
 ghost use Rattle.lanes.specs.Registers.{elements, register_of};
 ghost use Rattle.lanes.specs.Elementwise.{merged};
@@ -70,14 +70,30 @@ impl<K: LaneKind, const N: usize> Lanes<K, N> {
         }
     }
 
-    /// The elements 0, 1, .., as far as they fit the width.
+    /// The numbers from `first` on, as far as they fit the width.
     #[tactic(auto, using(crate::proofs::Elements::map_from_indices))]
-    pub fn indices() -> Lanes<K, N>
-        requires { N * K.width ≡ 128 }
-        ensures { result ≡ map (λ i. i % 2 ^ K.width) (range_with_len 0 N) }
+    pub fn indices(first: u32) -> Lanes<K, N>
+        requires width { N * K.width ≡ 128 }
+        requires few { first ≤ 128 }
+        ensures { result ≡ map (λ i. (first + i) % 2 ^ K.width) (range_with_len 0 N) }
     {
         Lanes {
-            elements: kernels::each_index([K::from_u32(0); N], |index| K::from_u32(index as u32)),
+            elements: kernels::each_index([K::from_u32(0); N], |index| {
+                K::from_u32(first + index as u32)
+            }),
+        }
+    }
+
+    /// Bytes of a register from `first` on, each as an element.
+    #[tactic(auto, using(crate::proofs::Elements::map_from_indices))]
+    pub fn from_bytes(register: &[u8; 16], first: usize) -> Lanes<K, N>
+        requires { first + N ≤ 16 }
+        ensures { result ≡ map (λ i. slice_index register.now (first + i)) (range_with_len 0 N) }
+    {
+        Lanes {
+            elements: kernels::each_index([K::from_u32(0); N], |index| {
+                K::from_u32(u32::from(register[first + index]))
+            }),
         }
     }
 

@@ -1,3 +1,6 @@
+pub mod Actives
 pub mod Choices
-pub mod Fillings
+pub mod Configurations
+pub mod Groups
+pub mod Parts
 pub mod Zips

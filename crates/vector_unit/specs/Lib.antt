@@ -3,3 +3,4 @@ pub mod Operands
 pub mod Operations
 pub mod Vector
 pub mod VectorState
+pub mod inner

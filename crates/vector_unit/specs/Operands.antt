@@ -7,10 +7,10 @@ use Rattle.vector_unit.specs.declared.operands.Operand.{Operand}
 use Rattle.vector_unit.specs.declared.operands.Operand.TheVariants.{Register, Number, Immediate, Amount}
 use Rattle.vector_unit.specs.declared.operands.Pair.{Pair}
 use Rattle.vector_unit.specs.VectorState.{Vectors}
-use Rattle.vector_unit.specs.Vector.{count, of_register, of_scalar, of_immediate}
+use Rattle.vector_unit.specs.Vector.{count, of_group, of_scalar, of_immediate}
 
 abbrev pub operand_elements : Vectors → Operand → List ℕ
-operand_elements state (Register v) = of_register state v
+operand_elements state (Register v) = of_group state v
 operand_elements state (Number n) = of_scalar state n
 operand_elements state (Immediate imm) = of_immediate state imm
 operand_elements state (Amount amount) = replicate (count state) amount

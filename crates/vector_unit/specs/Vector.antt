@@ -1,22 +1,24 @@
 -- The rows of the vector instructions: what each that touches no memory leaves of the vector state, what it gives to an
 -- integer register, and which rows are illegal in a state.
 -- RISC-V Vector Extension 1.0, chapters 5 "Vector Instruction Formats", 7 "Vector Loads and Stores", with section 7.3
--- "Vector Load/Store Width Encoding", 11 "Vector Integer Arithmetic Instructions", with sections 11.3 "Vector Integer Extension", 11.15 "Vector Integer Merge
--- Instructions" and 11.16 "Vector Integer Move Instructions", 14 "Vector Reduction Operations"; sections 15.9 "Vector Element
--- Index Instruction" and 16.1 "Integer Scalar Move Instructions". This project's own are that elements which are not active
--- are kept, that a masked row whose destination is v0 is illegal (vmerge too, compares and reductions apart), and that a
--- load's or store's width has to be the configured one.
-use Rattle.std.specs.Prelude.{ℕ, ◌%◌, ◌^◌, ◌==◌, ◌&&◌, ◌||◌, not, Bool, true, false, if◌then◌else◌, List, map, slice_index, replicate, Option, Some, None, ℤ}
-use Rattle.std.specs.List.{range_with_len}
+-- "Vector Load/Store Width Encoding", 11 "Vector Integer Arithmetic Instructions", with sections 11.3 "Vector Integer
+-- Extension", 11.15 "Vector Integer Merge Instructions" and 11.16 "Vector Integer Move Instructions", 14 "Vector Reduction
+-- Operations"; sections 3.4.2 "Vector Register Grouping (vlmul[2:0])" and 4.3 "Mapping for LMUL > 1", 5.2 "Vector Operands"
+-- (EMUL), 15.9 "Vector Element Index Instruction" and 16.1 "Integer Scalar Move Instructions". This project's own are that
+-- elements which are not active are kept, that a masked row whose destination is v0 is illegal (vmerge too, compares and
+-- reductions apart), that the width of accesses at offsets, and of extended bytes, has to be the configured one, that no row
+-- takes more than four registers, and that all sources are read before anything is written, whatever overlaps.
+use Rattle.std.specs.Prelude.{ℕ, zero, suc, ◌+◌, ◌*◌, ◌/◌, ◌%◌, ◌^◌, ◌==◌, ◌&&◌, ◌||◌, not, Bool, true, false, if◌then◌else◌, nat_lt, List, [], ◌∷◌, map, take, drop, slice_index, replicate, Option, Some, None, ℤ}
+use Rattle.std.specs.List.{list_any, range_with_len}
 use Rattle.lanes.specs.Words as word
-use Rattle.lanes.specs.Registers.{element, with_element, elements, register_of}
-use Rattle.lanes.specs.Masks.{active, mask_bits, with_mask_bits}
+use Rattle.lanes.specs.Registers.{element, with_element, register_of}
+use Rattle.lanes.specs.Masks.{active, mask_bits, with_mask_bits_from}
 use Rattle.lanes.specs.Elementwise.{zip_with, merged, reduced}
 use Rattle.rv_insn.specs.declared.vector_instructions.VectorInsn.{VectorInsn}
 use Rattle.rv_insn.specs.declared.vector_instructions.VectorInsn.TheVariants as v
 use Rattle.rv_insn.specs.declared.vector_operations.ElementWidth.{ElementWidth}
 use Rattle.rv_insn.specs.declared.vector_operations.ElementWidth.TheVariants as widths
-use Rattle.vector_unit.specs.VectorState.{Vectors, register, with_register, has_vill, width_of, most_elements, asked_by, is_illegal_configuration}
+use Rattle.vector_unit.specs.VectorState.{Vectors, register, with_register, has_vill, width_of, most_elements, group_of, asked_by, is_illegal_configuration}
 use Rattle.vector_unit.specs.declared.configuration.Asked.{Asked}
 use Rattle.vector_unit.specs.declared.configuration.Asked.TheVariants.{AtMost}
 use Rattle.vector_unit.specs.Operations as op
@@ -29,9 +31,17 @@ width state = width_of state.vtype
 abbrev pub count : Vectors → ℕ
 count state = most_elements state.vtype
 
--- the elements of a vector register, of the low bits of an integer register, of a signed immediate
-abbrev pub of_register : Vectors → ℕ → List ℕ
-of_register state v = elements (width state) (register state v)
+-- how many registers a group has
+abbrev pub group : Vectors → ℕ
+group state = group_of state.vtype
+
+-- element i of a width, of those of the registers from one on, one register after the other
+abbrev pub element_from : Vectors → ℕ → ℕ → ℕ → ℕ
+element_from state w v i = element w (register state (v + i / (128 / w))) (i % (128 / w))
+
+-- the elements of a group of registers, of the low bits of an integer register, of a signed immediate
+abbrev pub of_group : Vectors → ℕ → List ℕ
+of_group state v = map (element_from state (width state) v) (range_with_len 0 (count state))
 
 abbrev pub of_scalar : Vectors → ℕ → List ℕ
 of_scalar state number = replicate (count state) (number % 2 ^ width state)
@@ -45,18 +55,23 @@ bytes_of_register state v = map (slice_index (register state v)) (range_with_len
 
 -- which elements are active, by the mask bit of the word
 abbrev pub active_in : Vectors → Bool → List Bool
-active_in state vm = active (count state) state.vl vm (register state 0)
+active_in state vm = active 0 (count state) state.vl vm (register state 0)
 
 -- ---- results
 
+-- so many registers from one on, holding elements of a width one register after the other
+abbrev pub with_registers : Vectors → ℕ → ℕ → ℕ → List ℕ → Vectors
+with_registers state w v zero numbers = state
+with_registers state w v (suc others) numbers =
+    with_register (with_registers state w (v + 1) others (drop (128 / w) numbers)) v (register_of w (take (128 / w) numbers))
+
 -- new elements where they are active, the old ones elsewhere
 abbrev pub with_elements : Vectors → ℕ → Bool → List ℕ → Vectors
-with_elements state vd vm new =
-    with_register state vd (register_of (width state) (merged (active_in state vm) new (of_register state vd)))
+with_elements state vd vm new = with_registers state (width state) vd (group state) (merged (active_in state vm) new (of_group state vd))
 
 -- new mask bits where the elements are active, the old ones elsewhere
 abbrev pub with_bits : Vectors → ℕ → Bool → List Bool → Vectors
-with_bits state vd vm bits = with_register state vd (with_mask_bits (active_in state vm) bits (register state vd))
+with_bits state vd vm bits = with_register state vd (with_mask_bits_from 0 (active_in state vm) bits (register state vd))
 
 -- element 0, unless vl is 0
 abbrev pub with_first : Vectors → ℕ → ℕ → Vectors
@@ -65,7 +80,7 @@ with_first state vd number =
 
 -- the other operand where v0 has a 1, else the elements of vs2
 abbrev pub merged_by_mask : Vectors → List ℕ → List ℕ → List ℕ
-merged_by_mask state other of_vs2 = merged (mask_bits (count state) (register state 0)) other of_vs2
+merged_by_mask state other of_vs2 = merged (mask_bits 0 (count state) (register state 0)) other of_vs2
 
 -- ---- configuration
 
@@ -104,21 +119,21 @@ asked_of (v.StoreIndexed w vs3 rs1 vs2 vm) x = None
 -- ---- the vector state afterwards; configuration and memory are elsewhere
 
 abbrev pub vector_after : VectorInsn → (ℕ → ℕ) → Vectors → Vectors
-vector_after (v.ArithmeticVv o vd vs2 vs1 vm) x state = with_elements state vd vm (zip_with (op.arithmetic_vv o (width state)) (of_register state vs2) (of_register state vs1))
-vector_after (v.ArithmeticVx o vd vs2 rs1 vm) x state = with_elements state vd vm (zip_with (op.arithmetic_vx o (width state)) (of_register state vs2) (of_scalar state (x rs1)))
-vector_after (v.ArithmeticVi o vd vs2 imm vm) x state = with_elements state vd vm (zip_with (op.arithmetic_vi o (width state)) (of_register state vs2) (of_immediate state imm))
-vector_after (v.ShiftVi o vd vs2 amount vm) x state = with_elements state vd vm (zip_with (op.shift_vi o (width state)) (of_register state vs2) (replicate (count state) amount))
-vector_after (v.CompareVv o vd vs2 vs1 vm) x state = with_bits state vd vm (zip_with (op.compare_vv o (width state)) (of_register state vs2) (of_register state vs1))
-vector_after (v.CompareVx o vd vs2 rs1 vm) x state = with_bits state vd vm (zip_with (op.compare_vx o (width state)) (of_register state vs2) (of_scalar state (x rs1)))
-vector_after (v.CompareVi o vd vs2 imm vm) x state = with_bits state vd vm (zip_with (op.compare_vi o (width state)) (of_register state vs2) (of_immediate state imm))
-vector_after (v.MultiplyVv o vd vs2 vs1 vm) x state = with_elements state vd vm (zip_with (op.multiply o (width state)) (of_register state vs2) (of_register state vs1))
-vector_after (v.MultiplyVx o vd vs2 rs1 vm) x state = with_elements state vd vm (zip_with (op.multiply o (width state)) (of_register state vs2) (of_scalar state (x rs1)))
+vector_after (v.ArithmeticVv o vd vs2 vs1 vm) x state = with_elements state vd vm (zip_with (op.arithmetic_vv o (width state)) (of_group state vs2) (of_group state vs1))
+vector_after (v.ArithmeticVx o vd vs2 rs1 vm) x state = with_elements state vd vm (zip_with (op.arithmetic_vx o (width state)) (of_group state vs2) (of_scalar state (x rs1)))
+vector_after (v.ArithmeticVi o vd vs2 imm vm) x state = with_elements state vd vm (zip_with (op.arithmetic_vi o (width state)) (of_group state vs2) (of_immediate state imm))
+vector_after (v.ShiftVi o vd vs2 amount vm) x state = with_elements state vd vm (zip_with (op.shift_vi o (width state)) (of_group state vs2) (replicate (count state) amount))
+vector_after (v.CompareVv o vd vs2 vs1 vm) x state = with_bits state vd vm (zip_with (op.compare_vv o (width state)) (of_group state vs2) (of_group state vs1))
+vector_after (v.CompareVx o vd vs2 rs1 vm) x state = with_bits state vd vm (zip_with (op.compare_vx o (width state)) (of_group state vs2) (of_scalar state (x rs1)))
+vector_after (v.CompareVi o vd vs2 imm vm) x state = with_bits state vd vm (zip_with (op.compare_vi o (width state)) (of_group state vs2) (of_immediate state imm))
+vector_after (v.MultiplyVv o vd vs2 vs1 vm) x state = with_elements state vd vm (zip_with (op.multiply o (width state)) (of_group state vs2) (of_group state vs1))
+vector_after (v.MultiplyVx o vd vs2 rs1 vm) x state = with_elements state vd vm (zip_with (op.multiply o (width state)) (of_group state vs2) (of_scalar state (x rs1)))
 vector_after (v.Reduce o vd vs2 vs1 vm) x state =
-    with_first state vd (reduced (op.reduction o (width state)) (active_in state vm) (element (width state) (register state vs1) 0) (of_register state vs2))
-vector_after (v.MergeVv vd vs2 vs1) x state = with_elements state vd true (merged_by_mask state (of_register state vs1) (of_register state vs2))
-vector_after (v.MergeVx vd vs2 rs1) x state = with_elements state vd true (merged_by_mask state (of_scalar state (x rs1)) (of_register state vs2))
-vector_after (v.MergeVi vd vs2 imm) x state = with_elements state vd true (merged_by_mask state (of_immediate state imm) (of_register state vs2))
-vector_after (v.MoveVv vd vs1) x state = with_elements state vd true (of_register state vs1)
+    with_first state vd (reduced (op.reduction o (width state)) (active_in state vm) (element (width state) (register state vs1) 0) (of_group state vs2))
+vector_after (v.MergeVv vd vs2 vs1) x state = with_elements state vd true (merged_by_mask state (of_group state vs1) (of_group state vs2))
+vector_after (v.MergeVx vd vs2 rs1) x state = with_elements state vd true (merged_by_mask state (of_scalar state (x rs1)) (of_group state vs2))
+vector_after (v.MergeVi vd vs2 imm) x state = with_elements state vd true (merged_by_mask state (of_immediate state imm) (of_group state vs2))
+vector_after (v.MoveVv vd vs1) x state = with_elements state vd true (of_group state vs1)
 vector_after (v.MoveVx vd rs1) x state = with_elements state vd true (of_scalar state (x rs1))
 vector_after (v.MoveVi vd imm) x state = with_elements state vd true (of_immediate state imm)
 vector_after (v.MoveToScalar rd vs2) x state = state
@@ -211,41 +226,121 @@ overwrites_mask (v.StoreUnit w vs3 rs1 vm) = false
 overwrites_mask (v.StoreStrided w vs3 rs1 rs2 vm) = false
 overwrites_mask (v.StoreIndexed w vs3 rs1 vs2 vm) = false
 
--- the width that has to be the configured one: a load's or store's, and that of extended bytes
-abbrev pub width_in : VectorInsn → Option ElementWidth
-width_in (v.ArithmeticVv o vd vs2 vs1 vm) = None
-width_in (v.ArithmeticVx o vd vs2 rs1 vm) = None
-width_in (v.ArithmeticVi o vd vs2 imm vm) = None
-width_in (v.ShiftVi o vd vs2 amount vm) = None
-width_in (v.CompareVv o vd vs2 vs1 vm) = None
-width_in (v.CompareVx o vd vs2 rs1 vm) = None
-width_in (v.CompareVi o vd vs2 imm vm) = None
-width_in (v.MultiplyVv o vd vs2 vs1 vm) = None
-width_in (v.MultiplyVx o vd vs2 rs1 vm) = None
-width_in (v.Reduce o vd vs2 vs1 vm) = None
-width_in (v.MergeVv vd vs2 vs1) = None
-width_in (v.MergeVx vd vs2 rs1) = None
-width_in (v.MergeVi vd vs2 imm) = None
-width_in (v.MoveVv vd vs1) = None
-width_in (v.MoveVx vd rs1) = None
-width_in (v.MoveVi vd imm) = None
-width_in (v.MoveToScalar rd vs2) = None
-width_in (v.MoveFromScalar vd rs1) = None
-width_in (v.ElementNumbers vd vm) = None
-width_in (v.ExtendBytes vd vs2 vm) = Some widths.Bits32
-width_in (v.Vsetvli rd rs1 vtype) = None
-width_in (v.Vsetivli rd length vtype) = None
-width_in (v.Vsetvl rd rs1 rs2) = None
-width_in (v.LoadUnit w vd rs1 vm) = Some w
-width_in (v.LoadStrided w vd rs1 rs2 vm) = Some w
-width_in (v.LoadIndexed w vd rs1 vs2 vm) = Some w
-width_in (v.StoreUnit w vs3 rs1 vm) = Some w
-width_in (v.StoreStrided w vs3 rs1 rs2 vm) = Some w
-width_in (v.StoreIndexed w vs3 rs1 vs2 vm) = Some w
+-- the width that has to be the configured one: that of accesses at offsets, and that of extended bytes
+abbrev pub fixed_width : VectorInsn → Option ElementWidth
+fixed_width (v.ArithmeticVv o vd vs2 vs1 vm) = None
+fixed_width (v.ArithmeticVx o vd vs2 rs1 vm) = None
+fixed_width (v.ArithmeticVi o vd vs2 imm vm) = None
+fixed_width (v.ShiftVi o vd vs2 amount vm) = None
+fixed_width (v.CompareVv o vd vs2 vs1 vm) = None
+fixed_width (v.CompareVx o vd vs2 rs1 vm) = None
+fixed_width (v.CompareVi o vd vs2 imm vm) = None
+fixed_width (v.MultiplyVv o vd vs2 vs1 vm) = None
+fixed_width (v.MultiplyVx o vd vs2 rs1 vm) = None
+fixed_width (v.Reduce o vd vs2 vs1 vm) = None
+fixed_width (v.MergeVv vd vs2 vs1) = None
+fixed_width (v.MergeVx vd vs2 rs1) = None
+fixed_width (v.MergeVi vd vs2 imm) = None
+fixed_width (v.MoveVv vd vs1) = None
+fixed_width (v.MoveVx vd rs1) = None
+fixed_width (v.MoveVi vd imm) = None
+fixed_width (v.MoveToScalar rd vs2) = None
+fixed_width (v.MoveFromScalar vd rs1) = None
+fixed_width (v.ElementNumbers vd vm) = None
+fixed_width (v.ExtendBytes vd vs2 vm) = Some widths.Bits32
+fixed_width (v.Vsetvli rd rs1 vtype) = None
+fixed_width (v.Vsetivli rd length vtype) = None
+fixed_width (v.Vsetvl rd rs1 rs2) = None
+fixed_width (v.LoadUnit w vd rs1 vm) = None
+fixed_width (v.LoadStrided w vd rs1 rs2 vm) = None
+fixed_width (v.LoadIndexed w vd rs1 vs2 vm) = Some w
+fixed_width (v.StoreUnit w vs3 rs1 vm) = None
+fixed_width (v.StoreStrided w vs3 rs1 rs2 vm) = None
+fixed_width (v.StoreIndexed w vs3 rs1 vs2 vm) = Some w
 
 abbrev pub is_other_width : Vectors → Option ElementWidth → Bool
 is_other_width state None = false
 is_other_width state (Some w) = not (bits_of w == width state)
+
+-- the registers that are groups; the others of a row stand alone: a mask, a comparison's vd, a reduction's vd and vs1, the
+-- bytes that are extended, and what is moved between an integer register and element 0
+abbrev pub groups_in : VectorInsn → List ℕ
+groups_in (v.ArithmeticVv o vd vs2 vs1 vm) = vd ∷ vs2 ∷ vs1 ∷ []
+groups_in (v.ArithmeticVx o vd vs2 rs1 vm) = vd ∷ vs2 ∷ []
+groups_in (v.ArithmeticVi o vd vs2 imm vm) = vd ∷ vs2 ∷ []
+groups_in (v.ShiftVi o vd vs2 amount vm) = vd ∷ vs2 ∷ []
+groups_in (v.CompareVv o vd vs2 vs1 vm) = vs2 ∷ vs1 ∷ []
+groups_in (v.CompareVx o vd vs2 rs1 vm) = vs2 ∷ []
+groups_in (v.CompareVi o vd vs2 imm vm) = vs2 ∷ []
+groups_in (v.MultiplyVv o vd vs2 vs1 vm) = vd ∷ vs2 ∷ vs1 ∷ []
+groups_in (v.MultiplyVx o vd vs2 rs1 vm) = vd ∷ vs2 ∷ []
+groups_in (v.Reduce o vd vs2 vs1 vm) = vs2 ∷ []
+groups_in (v.MergeVv vd vs2 vs1) = vd ∷ vs2 ∷ vs1 ∷ []
+groups_in (v.MergeVx vd vs2 rs1) = vd ∷ vs2 ∷ []
+groups_in (v.MergeVi vd vs2 imm) = vd ∷ vs2 ∷ []
+groups_in (v.MoveVv vd vs1) = vd ∷ vs1 ∷ []
+groups_in (v.MoveVx vd rs1) = vd ∷ []
+groups_in (v.MoveVi vd imm) = vd ∷ []
+groups_in (v.MoveToScalar rd vs2) = []
+groups_in (v.MoveFromScalar vd rs1) = []
+groups_in (v.ElementNumbers vd vm) = vd ∷ []
+groups_in (v.ExtendBytes vd vs2 vm) = vd ∷ []
+groups_in (v.Vsetvli rd rs1 vtype) = []
+groups_in (v.Vsetivli rd length vtype) = []
+groups_in (v.Vsetvl rd rs1 rs2) = []
+groups_in (v.LoadUnit w vd rs1 vm) = []
+groups_in (v.LoadStrided w vd rs1 rs2 vm) = []
+groups_in (v.LoadIndexed w vd rs1 vs2 vm) = vd ∷ vs2 ∷ []
+groups_in (v.StoreUnit w vs3 rs1 vm) = []
+groups_in (v.StoreStrided w vs3 rs1 rs2 vm) = []
+groups_in (v.StoreIndexed w vs3 rs1 vs2 vm) = vs3 ∷ vs2 ∷ []
+
+-- a group begins at a multiple of its size
+abbrev pub is_misplaced : Vectors → List ℕ → Bool
+is_misplaced state groups = list_any (λ v. not (v % group state == 0)) groups
+
+-- the width and the register of a row whose width may differ from the configured one
+abbrev pub moved_in : VectorInsn → Option (ElementWidth × ℕ)
+moved_in (v.ArithmeticVv o vd vs2 vs1 vm) = None
+moved_in (v.ArithmeticVx o vd vs2 rs1 vm) = None
+moved_in (v.ArithmeticVi o vd vs2 imm vm) = None
+moved_in (v.ShiftVi o vd vs2 amount vm) = None
+moved_in (v.CompareVv o vd vs2 vs1 vm) = None
+moved_in (v.CompareVx o vd vs2 rs1 vm) = None
+moved_in (v.CompareVi o vd vs2 imm vm) = None
+moved_in (v.MultiplyVv o vd vs2 vs1 vm) = None
+moved_in (v.MultiplyVx o vd vs2 rs1 vm) = None
+moved_in (v.Reduce o vd vs2 vs1 vm) = None
+moved_in (v.MergeVv vd vs2 vs1) = None
+moved_in (v.MergeVx vd vs2 rs1) = None
+moved_in (v.MergeVi vd vs2 imm) = None
+moved_in (v.MoveVv vd vs1) = None
+moved_in (v.MoveVx vd rs1) = None
+moved_in (v.MoveVi vd imm) = None
+moved_in (v.MoveToScalar rd vs2) = None
+moved_in (v.MoveFromScalar vd rs1) = None
+moved_in (v.ElementNumbers vd vm) = None
+moved_in (v.ExtendBytes vd vs2 vm) = None
+moved_in (v.Vsetvli rd rs1 vtype) = None
+moved_in (v.Vsetivli rd length vtype) = None
+moved_in (v.Vsetvl rd rs1 rs2) = None
+moved_in (v.LoadUnit w vd rs1 vm) = Some (w, vd)
+moved_in (v.LoadStrided w vd rs1 rs2 vm) = Some (w, vd)
+moved_in (v.LoadIndexed w vd rs1 vs2 vm) = None
+moved_in (v.StoreUnit w vs3 rs1 vm) = Some (w, vs3)
+moved_in (v.StoreStrided w vs3 rs1 rs2 vm) = Some (w, vs3)
+moved_in (v.StoreIndexed w vs3 rs1 vs2 vm) = None
+
+-- how many registers elements of a width take, where as many as are configured: EMUL, rounded down
+abbrev pub group_at : Vectors → ElementWidth → ℕ
+group_at state w = bits_of w * group state / width state
+
+-- more than 4 registers, or a group that doesn't begin at a multiple of its size
+abbrev pub is_unfit : Vectors → Option (ElementWidth × ℕ) → Bool
+is_unfit state None = false
+is_unfit state (Some moved) =
+    nat_lt 4 (group_at state moved.0)
+    || (nat_lt 1 (group_at state moved.0) && not (moved.1 % group_at state moved.0 == 0))
 
 -- whether the vector unit alone executes a row: one that neither configures it nor touches memory
 abbrev pub is_own : VectorInsn → Bool
@@ -281,7 +376,9 @@ is_own (v.StoreIndexed w vs3 rs1 vs2 vm) = false
 
 -- whether a row that is no configuration is illegal
 abbrev pub is_refused : VectorInsn → Vectors → Bool
-is_refused insn state = has_vill state || overwrites_mask insn || is_other_width state (width_in insn)
+is_refused insn state =
+    has_vill state || overwrites_mask insn || is_other_width state (fixed_width insn) || is_misplaced state (groups_in insn)
+    || is_unfit state (moved_in insn)
 
 abbrev pub is_illegal_unless_asked : VectorInsn → Vectors → Option (ℕ × Asked) → Bool
 is_illegal_unless_asked insn state (Some asked) = is_illegal_configuration state asked.0 asked.1

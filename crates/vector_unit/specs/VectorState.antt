@@ -1,8 +1,9 @@
 -- The vector state of a hart, and its configuration.
--- RISC-V Vector Extension 1.0, chapters 3 "Vector Extension Programmer's Model" and 6 "Configuration-Setting Instructions
--- (vsetvli/vsetivli/vsetvl)". That a register has 16 bytes, which vtypes are supported, that vl is the smaller of AVL and
--- VLMAX, and that it is illegal to keep a vl where there is no configuration or VLMAX would change, are this project's own.
-use Rattle.std.specs.Prelude.{ℕ, ◌*◌, ◌/◌, ◌%◌, ◌^◌, ◌==◌, ◌&&◌, ◌||◌, min, nat_lt, nat_le, not, Bool, false, if◌then◌else◌, List, [], slice_index_or, slice_set, replicate}
+-- RISC-V Vector Extension 1.0, chapters 3 "Vector Extension Programmer's Model", with section 3.4.2 "Vector Register Grouping
+-- (vlmul[2:0])", and 6 "Configuration-Setting Instructions (vsetvli/vsetivli/vsetvl)". That a register has 16 bytes, which
+-- vtypes are supported, that vl is the smaller of AVL and VLMAX, and that it is illegal to keep a vl where there is no
+-- configuration or VLMAX would change, are this project's own.
+use Rattle.std.specs.Prelude.{ℕ, ◌*◌, ◌/◌, ◌%◌, ◌^◌, ◌==◌, ◌&&◌, ◌||◌, min, nat_lt, nat_le, not, Bool, false, if◌then◌else◌, List, slice_index_or, slice_set, replicate}
 use Rattle.vector_unit.specs.declared.configuration.Asked.{Asked}
 use Rattle.vector_unit.specs.declared.configuration.Asked.TheVariants.{AtMost, AsManyAsFit, AsBefore}
 
@@ -12,9 +13,9 @@ pub record Vectors : Type 0 where
   pub vl : ℕ
   pub vtype : ℕ
 
--- the bytes of a register, byte 0 first
+-- the bytes of a register, byte 0 first; beyond the last register, which no legal row names, they are 0
 abbrev pub register : Vectors → ℕ → List ℕ
-register state v = slice_index_or state.registers v []
+register state v = slice_index_or state.registers v (replicate 16 0)
 
 abbrev pub with_register : Vectors → ℕ → List ℕ → Vectors
 with_register state v bytes = record state { registers = slice_set state.registers v bytes }
@@ -31,17 +32,21 @@ vlmul_of vtype = vtype % 8
 abbrev pub vsew_of : ℕ → ℕ
 vsew_of vtype = vtype / 8 % 8
 
--- elements of 8, 16 or 32 bits in one register, and no bit set but those of vsew, vta and vma
+-- elements of 8, 16 or 32 bits in groups of 1, 2 or 4 registers, and no bit set but those of vlmul, vsew, vta and vma
 abbrev pub is_supported : ℕ → Bool
-is_supported vtype = nat_lt vtype 256 && vlmul_of vtype == 0 && nat_le (vsew_of vtype) 2
+is_supported vtype = nat_lt vtype 256 && nat_le (vlmul_of vtype) 2 && nat_le (vsew_of vtype) 2
 
 -- how many bits an element has
 abbrev pub width_of : ℕ → ℕ
 width_of vtype = 8 * 2 ^ vsew_of vtype
 
--- how many elements a register has: VLMAX
+-- how many registers a group has: LMUL
+abbrev pub group_of : ℕ → ℕ
+group_of vtype = 2 ^ vlmul_of vtype
+
+-- how many elements a group has: VLMAX
 abbrev pub most_elements : ℕ → ℕ
-most_elements vtype = 128 / width_of vtype
+most_elements vtype = 128 * group_of vtype / width_of vtype
 
 -- at the start all is 0, and there is no configuration
 abbrev pub opening_vector_state : Vectors

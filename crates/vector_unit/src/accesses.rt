@@ -1,36 +1,47 @@
 //! What vector loads and stores need of the vector unit: where the elements lie, and the elements
 //! themselves, one by one.
 
-ghost use Rattle.std.specs.Prelude.{◌≡◌, ◌<◌, ◌≤◌, ◌*◌, ◌%◌, ◌^◌, false, map, length};
-ghost use Rattle.lanes.specs.Registers.{element, with_element};
+ghost use Rattle.std.specs.Prelude.{◌≡◌, ◌<◌, ◌≤◌, ◌+◌, ◌*◌, false, length};
+ghost use Rattle.lanes.specs.Registers.{with_element};
 ghost use Rattle.lanes.specs.Masks.{is_active};
 ghost use Rattle.vector_unit.specs.VectorState.{register, with_register, has_vill};
-ghost use Rattle.vector_unit.specs.Vector.{width, count, bits_of, of_register};
-ghost use Rattle.vector_unit.specs.Accesses.{offset, addresses_by, active_numbers, filled, loaded};
+ghost use Rattle.vector_unit.specs.Vector as spec;
+ghost use Rattle.vector_unit.specs.Vector.{width, count, group_at, element_from};
+ghost use Rattle.vector_unit.specs.Accesses.{offset, addresses_by, active_numbers, filled_from, loaded, with_element_from};
 
 use crate::numbers::Numbers;
-use crate::operands::Operand;
 use crate::states::VectorState;
 use crate::vtypes::{most_elements, width_of};
-use lanes::{LaneKind, Lanes, mask_bit};
+use lanes::{LaneKind, mask_bit};
 use rv_insn::{ElementWidth, VReg};
 
 /// How the elements of an access lie.
 #[derive(Clone, Copy, Debug, PartialEq, Eq)]
 pub enum Spacing {
-    /// One behind the other.
-    UnitStride,
+    /// One behind the other, at this width.
+    UnitStride(ElementWidth),
     /// So many bytes apart, modulo 2^32.
     Strided(u32),
-    /// At the offsets in bytes that are the elements of a register.
+    /// At the offsets in bytes that are the elements of a group of registers, at the configured width.
     Indexed(VReg),
 }
 
+/// How many bits an element of a width has.
+fn bits_of(width: ElementWidth) -> usize
+    ensures { result ≡ spec.bits_of width }
+{
+    match width {
+        ElementWidth::Bits8 => 8,
+        ElementWidth::Bits16 => 16,
+        ElementWidth::Bits32 => 32,
+    }
+}
+
 impl VectorState {
-    /// How many elements a register has in the state's configuration, at most 16.
+    /// How many elements a group has in the state's configuration, at most 64.
     pub fn count(&self) -> u32
         ensures value { result ≡ count self.now }
-        ensures few { result ≤ 16 }
+        ensures few { has_vill self.now ≡ false → result ≤ 64 }
     {
         most_elements(self.vtype)
     }
@@ -38,56 +49,43 @@ impl VectorState {
     /// How wide elements are.
     pub fn width(&self) -> ElementWidth
         requires { has_vill self.now ≡ false }
-        ensures { bits_of result ≡ width self.now }
+        ensures { spec.bits_of result ≡ width self.now }
     {
         width_of(self.vtype)
+    }
+
+    /// How many registers elements of a width take, where there are as many as are configured; 0 for a part of one.
+    pub(crate) fn group_at(&self, width: ElementWidth) -> usize
+        requires { has_vill self.now ≡ false }
+        ensures { result ≡ group_at self.now width }
+    {
+        bits_of(width) * self.group() / bits_of(self.width())
     }
 
     /// How many bytes from the base an element lies, modulo 2^32.
     pub fn offset(&self, spacing: Spacing, index: u32) -> u32
         requires configured { has_vill self.now ≡ false }
-        requires in_register { index < count self.now }
+        requires index { index < 64 }
         ensures { result ≡ offset self.now spacing index }
     {
         match spacing {
-            Spacing::UnitStride => match self.width() {
-                ElementWidth::Bits8 => index,
-                ElementWidth::Bits16 => index * 2,
-                ElementWidth::Bits32 => index * 4,
-            },
+            Spacing::UnitStride(width) => index * (bits_of(width) / 8) as u32,
             Spacing::Strided(stride) => index.wrapping_mul(stride),
-            Spacing::Indexed(vs2) => self.element(vs2, index),
+            Spacing::Indexed(vs2) => self.element(self.width(), vs2, index),
         }
     }
 
-    /// The number that an element of a register is, read as unsigned.
-    pub fn element(&self, v: VReg, index: u32) -> u32
-        requires configured { has_vill self.now ≡ false }
-        requires in_register { index < count self.now }
-        ensures { result ≡ element (width self.now) (register self.now v) index }
+    /// The number that an element of a width is, of those of the registers from one on, read as unsigned.
+    pub fn element(&self, width: ElementWidth, v: VReg, index: u32) -> u32
+        requires { index < 64 }
+        ensures { result ≡ element_from self.now (spec.bits_of width) v index }
     {
-        let register = self.register(v);
-        match self.width() {
-            ElementWidth::Bits8 => u8::read(&register, index as usize).to_u32(),
-            ElementWidth::Bits16 => u16::read(&register, index as usize).to_u32(),
-            ElementWidth::Bits32 => u32::read(&register, index as usize).to_u32(),
+        let index = index as usize;
+        match width {
+            ElementWidth::Bits8 => u8::read(&self.part(v, index / 16), index % 16).to_u32(),
+            ElementWidth::Bits16 => u16::read(&self.part(v, index / 8), index % 8).to_u32(),
+            ElementWidth::Bits32 => u32::read(&self.part(v, index / 4), index % 4).to_u32(),
         }
-    }
-
-    /// Writes an element of a register.
-    pub fn set_element(&mut self, v: VReg, index: u32, number: u32)
-        requires configured { has_vill self.old ≡ false }
-        requires in_register { index < count self.old }
-        requires fits { number < 2 ^ width self.old }
-        ensures { self.new ≡ with_register self.old v (with_element (width self.old) (register self.old v) index number) }
-    {
-        let mut register = self.register(v);
-        match self.width() {
-            ElementWidth::Bits8 => u8::from_u32(number).write(&mut register, index as usize),
-            ElementWidth::Bits16 => u16::from_u32(number).write(&mut register, index as usize),
-            ElementWidth::Bits32 => u32::from_u32(number).write(&mut register, index as usize),
-        }
-        self.set_register(v, register);
     }
 
     /// Whether an instruction with this mask bit works on an element.
@@ -115,14 +113,14 @@ impl VectorState {
         addresses
     }
 
-    /// The numbers of the active elements of a register, element by element.
-    pub fn active_numbers(&self, v: VReg, vm: bool) -> Numbers
+    /// The numbers of the active elements of a width, element by element.
+    pub fn active_numbers(&self, width: ElementWidth, v: VReg, vm: bool) -> Numbers
         requires { has_vill self.now ≡ false }
-        ensures { result ≡ active_numbers self.now v vm }
+        ensures { result ≡ active_numbers self.now width v vm }
     {
         let mut numbers = Numbers::new();
         for index in 0..self.count() {
-            let number = self.element(v, index);
+            let number = self.element(width, v, index);
             if self.is_active(vm, index) {
                 numbers.push(number);
             }
@@ -130,54 +128,55 @@ impl VectorState {
         numbers
     }
 
-    /// Writes the low bits of numbers to the active elements of a register, one after the other.
-    pub fn load(&mut self, vd: VReg, vm: bool, numbers: &[u32])
+    /// Writes the low bits of numbers to the active elements of a width, one after the other.
+    pub fn load(&mut self, width: ElementWidth, vd: VReg, vm: bool, numbers: &[u32])
         requires { has_vill self.old ≡ false }
-        ensures { self.new ≡ loaded self.old vd vm numbers.now }
+        ensures { self.new ≡ loaded self.old width vd vm numbers.now }
     {
-        let before = Operand::Register(vd);
-        match self.width() {
-            ElementWidth::Bits8 => self.fill(vd, vm, self.bytes(before), numbers),
-            ElementWidth::Bits16 => self.fill(vd, vm, self.halves(before), numbers),
-            ElementWidth::Bits32 => self.fill(vd, vm, self.words(before), numbers),
+        let active = self.active::<64>(vm, 0);
+        self.fill(width, vd, &active[..self.count() as usize], numbers, 0);
+    }
+
+    /// Of the elements from `index` on each that is active takes the next number.
+    fn fill(&mut self, width: ElementWidth, vd: VReg, active: &[bool], numbers: &[u32], index: u32)
+        requires { index + length active.now ≤ 64 }
+        ensures { self.new ≡ filled_from index self.old (spec.bits_of width) vd active.now numbers.now }
+    {
+        let [is_active, active @ ..] = active else {
+            return;
+        };
+        if !*is_active {
+            self.fill(width, vd, active, numbers, index + 1);
+            return;
+        }
+        let [number, numbers @ ..] = numbers else {
+            return;
+        };
+        self.put_element(width, vd, index, *number);
+        self.fill(width, vd, active, numbers, index + 1);
+    }
+
+    /// Writes the low bits of a number to an element of a width, of those of the registers from one on.
+    fn put_element(&mut self, width: ElementWidth, v: VReg, index: u32, number: u32)
+        requires { index < 64 }
+        ensures { self.new ≡ with_element_from self.old (spec.bits_of width) v index number }
+    {
+        let index = index as usize;
+        match width {
+            ElementWidth::Bits8 => self.put(u8::from_u32(number), v, index / 16, index % 16),
+            ElementWidth::Bits16 => self.put(u16::from_u32(number), v, index / 8, index % 8),
+            ElementWidth::Bits32 => self.put(u32::from_u32(number), v, index / 4, index % 4),
         }
     }
 
-    // The same at a width, from the register's elements.
-    fn fill<K: LaneKind, const N: usize>(
-        &mut self,
-        vd: VReg,
-        vm: bool,
-        mut elements: Lanes<K, N>,
-        numbers: &[u32],
-    )
-        requires width { width self.old ≡ K.width }
-        requires count { count self.old ≡ N }
-        requires fills { N * K.width ≡ 128 }
-        requires at_most { N ≤ 128 }
-        requires before { elements ≡ of_register self.old vd }
-        ensures { self.new ≡ loaded self.old vd vm numbers.now }
+    /// Writes an element of a register of a group.
+    fn put<K: LaneKind>(&mut self, value: K, v: VReg, part: usize, place: usize)
+        requires part { part < 64 }
+        requires place { place * K.width + K.width ≤ 128 }
+        ensures { self.new ≡ with_register self.old (v + part) (with_element K.width (register self.old (v + part)) place (K.number value)) }
     {
-        let active = self.active::<N>(vm);
-        fill(&mut elements, &active, numbers);
-        self.set_register(vd, elements.to_register());
-    }
-}
-
-// One number after the other where the elements are active, as far as there are any.
-fn fill<K: LaneKind, const N: usize>(
-    elements: &mut Lanes<K, N>,
-    active: &[bool; N],
-    numbers: &[u32],
-)
-    requires { length elements.old ≡ N }
-    ensures { elements.new ≡ filled active.now (map (λ n. n % 2 ^ K.width) numbers.now) elements.old }
-{
-    let mut taken = 0;
-    for index in 0..N {
-        if active[index] && taken < numbers.len() {
-            elements.set(index, K::from_u32(numbers[taken]));
-            taken += 1;
-        }
+        let mut register = self.part(v, part);
+        value.write(&mut register, place);
+        self.set_part(v, part, register);
     }
 }

@@ -1,45 +1,88 @@
 //! Instructions that write bits of a register or its first element alone, at the configured width.
 
-ghost use Rattle.std.specs.Prelude.{◌≡◌, ◌%◌, ◌^◌, false};
+ghost use Rattle.std.specs.Prelude.{◌≡◌, ◌<◌, ◌≤◌, ◌+◌, ◌%◌, ◌^◌, false};
 ghost use Rattle.lanes.specs.Words as word;
 ghost use Rattle.lanes.specs.Registers.{element};
 ghost use Rattle.lanes.specs.Elementwise.{zip_with, reduced};
 ghost use Rattle.vector_unit.specs.VectorState.{register, has_vill};
-ghost use Rattle.vector_unit.specs.Vector.{width, of_register, active_in, with_bits, with_first};
+ghost use Rattle.vector_unit.specs.Vector.{width, of_group, active_in, with_bits, with_first};
 ghost use Rattle.vector_unit.specs.Operands.{operand_elements};
+ghost use Rattle.vector_unit.specs.inner.Parts.{with_part_bits, with_parts_bits, reduced_parts};
 ghost use Rattle.vector_unit.specs.Operations as op;
 
 use crate::comparisons::{compared, joined};
 use crate::operands::{Operand, Pair};
 use crate::states::VectorState;
-use lanes::LaneKind;
+use lanes::{LaneKind, write_mask_bits};
 use rv_insn::{CompareVxOp, ElementWidth, ReductionOp, VReg};
 
 impl VectorState {
-    /// Writes as bits where a comparison holds of the pair.
+    /// Writes as bits where a comparison holds of the pair. All bits are made before any is written.
+    #[tactic(auto, using(crate::proofs::Groups::compared_bits))]
     pub(crate) fn compare(&mut self, operation: CompareVxOp, pair: Pair)
         requires { has_vill self.old ≡ false }
-        ensures { self.new ≡ with_bits self.old pair.vd pair.vm (zip_with (op.compare_vx operation (width self.old)) (of_register self.old pair.vs2) (operand_elements self.old pair.other)) }
+        ensures { self.new ≡ with_bits self.old pair.vd pair.vm (zip_with (op.compare_vx operation (width self.old)) (of_group self.old pair.vs2) (operand_elements self.old pair.other)) }
     {
-        let Pair { vd, vs2, other, vm } = pair;
+        let mut register = self.register(pair.vd);
+        self.compare_parts(operation, &pair, 0, self.group(), &mut register);
+        self.set_register(pair.vd, register);
+    }
+
+    /// The same of so many registers of a group from one on, written into a register's bytes.
+    fn compare_parts(
+        &self,
+        operation: CompareVxOp,
+        pair: &Pair,
+        part: usize,
+        others: usize,
+        register: &mut [u8; 16],
+    )
+        requires configured { has_vill self.now ≡ false }
+        requires few { part + others ≤ 4 }
+        ensures { register.new ≡ with_parts_bits self.now operation pair.now.vs2 pair.now.other pair.now.vm part others register.old }
+    {
+        if others > 0 {
+            self.compare_part(operation, pair, part, register);
+            self.compare_parts(operation, pair, part + 1, others - 1, register);
+        }
+    }
+
+    /// The same of one register of a group.
+    fn compare_part(
+        &self,
+        operation: CompareVxOp,
+        pair: &Pair,
+        part: usize,
+        register: &mut [u8; 16],
+    )
+        requires configured { has_vill self.now ≡ false }
+        requires part { part < 4 }
+        ensures { register.new ≡ with_part_bits self.now operation pair.now.vs2 pair.now.other pair.now.vm part register.old }
+    {
+        let Pair { vs2, other, vm, .. } = *pair;
         let vs2 = Operand::Register(vs2);
         match self.width() {
             ElementWidth::Bits8 => {
-                let bits = compared(operation, &self.bytes(vs2), &self.bytes(other));
-                self.put_bits(vd, vm, &bits);
+                let bits = compared(operation, &self.bytes(vs2, part), &self.bytes(other, part));
+                write_mask_bits(register, part * 16, &self.active::<16>(vm, part), &bits);
             }
             ElementWidth::Bits16 => {
-                let bits = compared(operation, &self.halves(vs2), &self.halves(other));
-                self.put_bits(vd, vm, &bits);
+                let bits = compared(
+                    operation,
+                    &self.halves(vs2, part),
+                    &self.halves(other, part),
+                );
+                write_mask_bits(register, part * 8, &self.active::<8>(vm, part), &bits);
             }
             ElementWidth::Bits32 => {
-                let bits = compared(operation, &self.words(vs2), &self.words(other));
-                self.put_bits(vd, vm, &bits);
+                let bits = compared(operation, &self.words(vs2, part), &self.words(other, part));
+                write_mask_bits(register, part * 4, &self.active::<4>(vm, part), &bits);
             }
         }
     }
 
-    /// Writes to element 0 what element 0 of `vs1` and the active elements of `vs2` are joined to.
+    /// Writes to element 0 what element 0 of `vs1` and the active elements of the group `vs2` are joined to.
+    #[tactic(auto, using(crate::proofs::Groups::joined_all))]
     pub(crate) fn reduce(
         &mut self,
         operation: ReductionOp,
@@ -49,27 +92,93 @@ impl VectorState {
         vm: bool,
     )
         requires { has_vill self.old ≡ false }
-        ensures { self.new ≡ with_first self.old vd (reduced (op.reduction operation (width self.old)) (active_in self.old vm) (element (width self.old) (register self.old vs1) 0) (of_register self.old vs2)) }
+        ensures { self.new ≡ with_first self.old vd (reduced (op.reduction operation (width self.old)) (active_in self.old vm) (element (width self.old) (register self.old vs1) 0) (of_group self.old vs2)) }
     {
         let start = self.register(vs1);
-        let vs2 = Operand::Register(vs2);
+        let group = self.group();
         match self.width() {
             ElementWidth::Bits8 => {
-                let active = self.active::<16>(vm);
                 let start = u8::read(&start, 0);
-                self.put_first(vd, joined(operation, start, &self.bytes(vs2), &active));
+                let total = self.join_bytes(operation, start, vs2, vm, 0, group);
+                self.put_first(vd, total);
             }
             ElementWidth::Bits16 => {
-                let active = self.active::<8>(vm);
                 let start = u16::read(&start, 0);
-                self.put_first(vd, joined(operation, start, &self.halves(vs2), &active));
+                let total = self.join_halves(operation, start, vs2, vm, 0, group);
+                self.put_first(vd, total);
             }
             ElementWidth::Bits32 => {
-                let active = self.active::<4>(vm);
                 let start = u32::read(&start, 0);
-                self.put_first(vd, joined(operation, start, &self.words(vs2), &active));
+                let total = self.join_words(operation, start, vs2, vm, 0, group);
+                self.put_first(vd, total);
             }
         }
+    }
+
+    /// A start, joined with the active elements of so many registers of a group from one on, at 8 bits.
+    fn join_bytes(
+        &self,
+        operation: ReductionOp,
+        start: u8,
+        vs2: VReg,
+        vm: bool,
+        part: usize,
+        others: usize,
+    ) -> u8
+        requires width { width self.now ≡ 8 }
+        requires few { part + others ≤ 4 }
+        ensures { result ≡ reduced_parts self.now operation vs2 vm part others start }
+    {
+        if others == 0 {
+            return start;
+        }
+        let elements = self.bytes(Operand::Register(vs2), part);
+        let total = joined(operation, start, &elements, &self.active::<16>(vm, part));
+        self.join_bytes(operation, total, vs2, vm, part + 1, others - 1)
+    }
+
+    /// A start, joined with the active elements of so many registers of a group from one on, at 16 bits.
+    fn join_halves(
+        &self,
+        operation: ReductionOp,
+        start: u16,
+        vs2: VReg,
+        vm: bool,
+        part: usize,
+        others: usize,
+    ) -> u16
+        requires width { width self.now ≡ 16 }
+        requires few { part + others ≤ 4 }
+        ensures { result ≡ reduced_parts self.now operation vs2 vm part others start }
+    {
+        if others == 0 {
+            return start;
+        }
+        let elements = self.halves(Operand::Register(vs2), part);
+        let total = joined(operation, start, &elements, &self.active::<8>(vm, part));
+        self.join_halves(operation, total, vs2, vm, part + 1, others - 1)
+    }
+
+    /// A start, joined with the active elements of so many registers of a group from one on, at 32 bits.
+    fn join_words(
+        &self,
+        operation: ReductionOp,
+        start: u32,
+        vs2: VReg,
+        vm: bool,
+        part: usize,
+        others: usize,
+    ) -> u32
+        requires width { width self.now ≡ 32 }
+        requires few { part + others ≤ 4 }
+        ensures { result ≡ reduced_parts self.now operation vs2 vm part others start }
+    {
+        if others == 0 {
+            return start;
+        }
+        let elements = self.words(Operand::Register(vs2), part);
+        let total = joined(operation, start, &elements, &self.active::<4>(vm, part));
+        self.join_words(operation, total, vs2, vm, part + 1, others - 1)
     }
 
     /// Writes the low bits of a number to element 0.

@@ -13,7 +13,7 @@ use rv_insn::{Reg, Trap};
 pub enum Asked {
     /// So many, if they fit.
     AtMost(u32),
-    /// As many as a register has.
+    /// As many as a group has.
     AsManyAsFit,
     /// As many as before.
     AsBefore,

@@ -1,154 +1,197 @@
-//! Instructions that write elements of a register, at the configured width.
+//! Instructions that write the elements of a group, at the configured width.
 
-ghost use Rattle.std.specs.Prelude.{◌≡◌, true, false, map, slice_index};
-ghost use Rattle.std.specs.List.{range_with_len};
-ghost use Rattle.lanes.specs.Elementwise.{zip_with};
+ghost use Rattle.std.specs.Prelude.{◌≡◌, ◌<◌, ◌≤◌, ◌+◌, false};
 ghost use Rattle.vector_unit.specs.VectorState.{has_vill};
-ghost use Rattle.vector_unit.specs.Vector.{width, count, of_register, bytes_of_register, merged_by_mask, with_elements};
-ghost use Rattle.vector_unit.specs.Operands.{operand_elements};
-ghost use Rattle.vector_unit.specs.Operations as op;
+ghost use Rattle.vector_unit.specs.Vector.{width, with_elements};
+ghost use Rattle.vector_unit.specs.inner.Parts.{new_elements, new_part, merged_register, with_parts, AtWords};
 
-use crate::operands::{Operand, Pair};
+use crate::operands::Operand;
 use crate::operations::{arithmetic, multiplied};
 use crate::states::VectorState;
 use lanes::{Lanes, mask_bits};
 use rv_insn::{ArithmeticVxOp, ElementWidth, MultiplyOp, VReg};
 
-impl VectorState {
-    /// Writes what an operation makes of each pair.
-    pub(crate) fn compute(&mut self, operation: ArithmeticVxOp, pair: Pair)
-        requires { has_vill self.old ≡ false }
-        ensures { self.new ≡ with_elements self.old pair.vd pair.vm (zip_with (op.arithmetic_vx operation (width self.old)) (of_register self.old pair.vs2) (operand_elements self.old pair.other)) }
-    {
-        let Pair { vd, vs2, other, vm } = pair;
-        let vs2 = Operand::Register(vs2);
-        let before = Operand::Register(vd);
-        match self.width() {
-            ElementWidth::Bits8 => {
-                let new = arithmetic(operation, &self.bytes(vs2), &self.bytes(other));
-                self.put(vd, vm, &self.bytes(before), &new);
-            }
-            ElementWidth::Bits16 => {
-                let new = arithmetic(operation, &self.halves(vs2), &self.halves(other));
-                self.put(vd, vm, &self.halves(before), &new);
-            }
-            ElementWidth::Bits32 => {
-                let new = arithmetic(operation, &self.words(vs2), &self.words(other));
-                self.put(vd, vm, &self.words(before), &new);
-            }
-        }
-    }
-
-    /// Writes what a multiplication or division makes of each pair.
-    pub(crate) fn multiply(&mut self, operation: MultiplyOp, pair: Pair)
-        requires { has_vill self.old ≡ false }
-        ensures { self.new ≡ with_elements self.old pair.vd pair.vm (zip_with (op.multiply operation (width self.old)) (of_register self.old pair.vs2) (operand_elements self.old pair.other)) }
-    {
-        let Pair { vd, vs2, other, vm } = pair;
-        let vs2 = Operand::Register(vs2);
-        let before = Operand::Register(vd);
-        match self.width() {
-            ElementWidth::Bits8 => {
-                let new = multiplied(operation, &self.bytes(vs2), &self.bytes(other));
-                self.put(vd, vm, &self.bytes(before), &new);
-            }
-            ElementWidth::Bits16 => {
-                let new = multiplied(operation, &self.halves(vs2), &self.halves(other));
-                self.put(vd, vm, &self.halves(before), &new);
-            }
-            ElementWidth::Bits32 => {
-                let new = multiplied(operation, &self.words(vs2), &self.words(other));
-                self.put(vd, vm, &self.words(before), &new);
-            }
-        }
-    }
-
-    /// Writes the other operand where the mask has a 1, and the elements of `vs2` where it has a 0.
-    pub(crate) fn merge(&mut self, vd: VReg, vs2: VReg, other: Operand)
-        requires { has_vill self.old ≡ false }
-        ensures { self.new ≡ with_elements self.old vd true (merged_by_mask self.old (operand_elements self.old other) (of_register self.old vs2)) }
-    {
-        let vs2 = Operand::Register(vs2);
-        let before = Operand::Register(vd);
-        match self.width() {
-            ElementWidth::Bits8 => {
-                let chosen = mask_bits::<16>(&self.registers[0]);
-                let new = self.bytes(vs2).merge(&self.bytes(other), &chosen);
-                self.put(vd, true, &self.bytes(before), &new);
-            }
-            ElementWidth::Bits16 => {
-                let chosen = mask_bits::<8>(&self.registers[0]);
-                let new = self.halves(vs2).merge(&self.halves(other), &chosen);
-                self.put(vd, true, &self.halves(before), &new);
-            }
-            ElementWidth::Bits32 => {
-                let chosen = mask_bits::<4>(&self.registers[0]);
-                let new = self.words(vs2).merge(&self.words(other), &chosen);
-                self.put(vd, true, &self.words(before), &new);
-            }
-        }
-    }
-
-    /// Writes an operand.
-    pub(crate) fn copy(&mut self, vd: VReg, operand: Operand)
-        requires { has_vill self.old ≡ false }
-        ensures { self.new ≡ with_elements self.old vd true (operand_elements self.old operand) }
-    {
-        let before = Operand::Register(vd);
-        match self.width() {
-            ElementWidth::Bits8 => {
-                self.put(vd, true, &self.bytes(before), &self.bytes(operand));
-            }
-            ElementWidth::Bits16 => {
-                self.put(vd, true, &self.halves(before), &self.halves(operand));
-            }
-            ElementWidth::Bits32 => {
-                self.put(vd, true, &self.words(before), &self.words(operand));
-            }
-        }
-    }
-
-    /// Writes the first bytes of `vs2`, each as an element of 32 bits.
-    pub(crate) fn extend_bytes(&mut self, vd: VReg, vs2: VReg, vm: bool)
-        requires width { width self.old ≡ 32 }
-        ensures { self.new ≡ with_elements self.old vd vm (bytes_of_register self.old vs2) }
-    {
-        let new = extended(&self.register(vs2));
-        let before = self.words(Operand::Register(vd));
-        self.put(vd, vm, &before, &new);
-    }
-
-    /// Writes each element's number.
-    pub(crate) fn number_elements(&mut self, vd: VReg, vm: bool)
-        requires { has_vill self.old ≡ false }
-        ensures { self.new ≡ with_elements self.old vd vm (range_with_len 0 (count self.old)) }
-    {
-        let before = Operand::Register(vd);
-        match self.width() {
-            ElementWidth::Bits8 => {
-                let new = Lanes::<u8, 16>::indices();
-                self.put(vd, vm, &self.bytes(before), &new);
-            }
-            ElementWidth::Bits16 => {
-                let new = Lanes::<u16, 8>::indices();
-                self.put(vd, vm, &self.halves(before), &new);
-            }
-            ElementWidth::Bits32 => {
-                let new = Lanes::<u32, 4>::indices();
-                self.put(vd, vm, &self.words(before), &new);
-            }
-        }
-    }
+/// What the new elements of a group are.
+#[derive(Clone, Copy)]
+pub(crate) enum NewElements {
+    /// What an operation makes of each pair.
+    Arithmetic {
+        op: ArithmeticVxOp,
+        vs2: VReg,
+        other: Operand,
+    },
+    /// What a multiplication or division makes of each pair.
+    Multiply {
+        op: MultiplyOp,
+        vs2: VReg,
+        other: Operand,
+    },
+    /// The other operand where the mask has a 1, and the elements of `vs2` where it has a 0.
+    Merge {
+        vs2: VReg,
+        other: Operand,
+    },
+    /// An operand.
+    Copy {
+        other: Operand,
+    },
+    /// Each element's number.
+    Numbers,
+    /// The first bytes of a register, at 32 bits alone.
+    Bytes {
+        vs2: VReg,
+    },
 }
 
-/// The first four bytes of a register, each as a word.
-fn extended(register: &[u8; 16]) -> Lanes<u32, 4>
-    ensures { result ≡ map (slice_index register.now) (range_with_len 0 4) }
-{
-    let mut words = Lanes::<u32, 4>::splat(0);
-    words.set(0, u32::from(register[0]));
-    words.set(1, u32::from(register[1]));
-    words.set(2, u32::from(register[2]));
-    words.set(3, u32::from(register[3]));
-    words
+impl VectorState {
+    /// Writes new elements to a group where they are active.
+    #[tactic(auto, using(crate::proofs::Groups::written))]
+    pub(crate) fn write_elements(&mut self, vd: VReg, vm: bool, new: NewElements)
+        requires configured { has_vill self.old ≡ false }
+        requires bytes { AtWords self.old new }
+        ensures { self.new ≡ with_elements self.old vd vm (new_elements self.old new) }
+    {
+        self.write_parts(vd, vm, &new, 0, self.group());
+    }
+
+    /// Writes new elements to so many registers of a group, from one on. What a register gets is made before any that
+    /// is behind it is written, so that all is read before anything is written.
+    fn write_parts(&mut self, vd: VReg, vm: bool, new: &NewElements, part: usize, others: usize)
+        requires configured { has_vill self.old ≡ false }
+        requires bytes { AtWords self.old new.now }
+        requires few { part + others ≤ 4 }
+        ensures { self.new ≡ with_parts self.old vd vm new.now part others }
+    {
+        if others > 0 {
+            let register = self.new_register(vd, vm, new, part);
+            self.write_parts(vd, vm, new, part + 1, others - 1);
+            self.set_part(vd, part, register);
+        }
+    }
+
+    /// The bytes of a register of a group with new elements.
+    fn new_register(&self, vd: VReg, vm: bool, new: &NewElements, part: usize) -> [u8; 16]
+        requires configured { has_vill self.now ≡ false }
+        requires bytes { AtWords self.now new.now }
+        requires part { part < 4 }
+        ensures { result ≡ merged_register self.now vd vm new.now part }
+    {
+        let before = Operand::Register(vd);
+        match self.width() {
+            ElementWidth::Bits8 => {
+                self.merged(
+                    vm,
+                    part,
+                    &self.bytes(before, part),
+                    &self.new_bytes(new, part),
+                )
+            }
+            ElementWidth::Bits16 => {
+                self.merged(
+                    vm,
+                    part,
+                    &self.halves(before, part),
+                    &self.new_halves(new, part),
+                )
+            }
+            ElementWidth::Bits32 => {
+                self.merged(
+                    vm,
+                    part,
+                    &self.words(before, part),
+                    &self.new_words(new, part),
+                )
+            }
+        }
+    }
+
+    /// A part of new elements, at 8 bits.
+    fn new_bytes(&self, new: &NewElements, part: usize) -> Lanes<u8, 16>
+        requires width { width self.now ≡ 8 }
+        requires bytes { AtWords self.now new.now }
+        requires part { part < 4 }
+        ensures { result ≡ new_part self.now new.now part }
+    {
+        match *new {
+            NewElements::Arithmetic { op, vs2, other } => arithmetic(
+                op,
+                &self.bytes(Operand::Register(vs2), part),
+                &self.bytes(other, part),
+            ),
+            NewElements::Multiply { op, vs2, other } => multiplied(
+                op,
+                &self.bytes(Operand::Register(vs2), part),
+                &self.bytes(other, part),
+            ),
+            NewElements::Merge { vs2, other } => {
+                let chosen = mask_bits::<16>(part * 16, &self.registers[0]);
+                self.bytes(Operand::Register(vs2), part)
+                    .merge(&self.bytes(other, part), &chosen)
+            }
+            NewElements::Copy { other } => self.bytes(other, part),
+            NewElements::Numbers => Lanes::<u8, 16>::indices(part as u32 * 16),
+            NewElements::Bytes { vs2 } => Lanes::<u8, 16>::from_bytes(&self.register(vs2), 0),
+        }
+    }
+
+    /// A part of new elements, at 16 bits.
+    fn new_halves(&self, new: &NewElements, part: usize) -> Lanes<u16, 8>
+        requires width { width self.now ≡ 16 }
+        requires bytes { AtWords self.now new.now }
+        requires part { part < 4 }
+        ensures { result ≡ new_part self.now new.now part }
+    {
+        match *new {
+            NewElements::Arithmetic { op, vs2, other } => arithmetic(
+                op,
+                &self.halves(Operand::Register(vs2), part),
+                &self.halves(other, part),
+            ),
+            NewElements::Multiply { op, vs2, other } => multiplied(
+                op,
+                &self.halves(Operand::Register(vs2), part),
+                &self.halves(other, part),
+            ),
+            NewElements::Merge { vs2, other } => {
+                let chosen = mask_bits::<8>(part * 8, &self.registers[0]);
+                self.halves(Operand::Register(vs2), part)
+                    .merge(&self.halves(other, part), &chosen)
+            }
+            NewElements::Copy { other } => self.halves(other, part),
+            NewElements::Numbers => Lanes::<u16, 8>::indices(part as u32 * 8),
+            NewElements::Bytes { vs2 } => Lanes::<u16, 8>::from_bytes(&self.register(vs2), 0),
+        }
+    }
+
+    /// A part of new elements, at 32 bits.
+    fn new_words(&self, new: &NewElements, part: usize) -> Lanes<u32, 4>
+        requires width { width self.now ≡ 32 }
+        requires bytes { AtWords self.now new.now }
+        requires part { part < 4 }
+        ensures { result ≡ new_part self.now new.now part }
+    {
+        match *new {
+            NewElements::Arithmetic { op, vs2, other } => arithmetic(
+                op,
+                &self.words(Operand::Register(vs2), part),
+                &self.words(other, part),
+            ),
+            NewElements::Multiply { op, vs2, other } => multiplied(
+                op,
+                &self.words(Operand::Register(vs2), part),
+                &self.words(other, part),
+            ),
+            NewElements::Merge { vs2, other } => {
+                let chosen = mask_bits::<4>(part * 4, &self.registers[0]);
+                self.words(Operand::Register(vs2), part)
+                    .merge(&self.words(other, part), &chosen)
+            }
+            NewElements::Copy { other } => self.words(other, part),
+            NewElements::Numbers => Lanes::<u32, 4>::indices(part as u32 * 4),
+            NewElements::Bytes { vs2 } => Lanes::<u32, 4>::from_bytes(
+                &self.register(vs2),
+                part * 4,
+            ),
+        }
+    }
 }

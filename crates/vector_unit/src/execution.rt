@@ -1,15 +1,18 @@
 //! The instructions that touch no memory.
 
-ghost use Rattle.std.specs.Prelude.{◌≡◌, ℕ, true, false, ◌&&◌, not, None, Some, OnOk, OnErr, IfOk, IfErr};
+ghost use Rattle.std.specs.Prelude.{◌≡◌, ◌==◌, ◌%◌, ℕ, true, false, ◌&&◌, not, None, Some, OnOk, OnErr, IfOk, IfErr};
 ghost use Rattle.rv_insn.specs.declared.outcomes.Trap.TheVariants.{IllegalInstruction};
 ghost use Rattle.vector_unit.specs.VectorState.{has_vill};
-ghost use Rattle.vector_unit.specs.Vector.{vector_after, scalar_given, number_of, is_own, is_other_width, is_refused, overwrites_mask, width_in};
-ghost use Rattle.vector_unit.specs.Operands.{pair_of};
+ghost use Rattle.vector_unit.specs.Vector.{vector_after, scalar_given, number_of, is_own, is_other_width, is_refused, overwrites_mask, fixed_width, group, groups_in, is_misplaced, moved_in, is_unfit, width, of_group, merged_by_mask, with_elements};
+ghost use Rattle.vector_unit.specs.Operations as op;
+ghost use Rattle.lanes.specs.Elementwise.{zip_with};
+ghost use Rattle.vector_unit.specs.Operands.{operand_elements, pair_of};
 
+use crate::elements::NewElements;
 use crate::operands::{Operand, Pair};
 use crate::states::VectorState;
 use crate::{comparisons, operations};
-use rv_insn::{ElementWidth, Trap, VectorInsn};
+use rv_insn::{ArithmeticVxOp, ElementWidth, MultiplyOp, Trap, VReg, VectorInsn};
 
 impl VectorState {
     /// Executes an instruction that neither configures the unit nor touches memory; `scalar` is the number in
@@ -43,10 +46,72 @@ impl VectorState {
         if self.has_vill() || overwrites_mask(insn) {
             return true;
         }
-        match width_in(insn) {
-            Some(width) => width != self.width(),
-            None => false,
+        if let Some(width) = fixed_width(insn)
+            && width != self.width()
+        {
+            return true;
         }
+        self.is_misplaced(insn) || self.is_unfit(insn)
+    }
+
+    /// Whether a register doesn't begin a group.
+    fn is_inside(&self, v: VReg) -> bool
+        ensures { result ≡ not (v % group self.now == 0) }
+    {
+        v.number() as usize % self.group() != 0
+    }
+
+    /// Whether a group of an instruction doesn't begin at a multiple of its size.
+    fn is_misplaced(&self, insn: &VectorInsn) -> bool
+        ensures { result ≡ is_misplaced self.now (groups_in insn.now) }
+    {
+        match *insn {
+            VectorInsn::ArithmeticVv { vd, vs2, vs1, .. }
+            | VectorInsn::MultiplyVv { vd, vs2, vs1, .. }
+            | VectorInsn::MergeVv { vd, vs2, vs1 } => {
+                self.is_inside(vd) || self.is_inside(vs2) || self.is_inside(vs1)
+            }
+            VectorInsn::ArithmeticVx { vd, vs2, .. }
+            | VectorInsn::ArithmeticVi { vd, vs2, .. }
+            | VectorInsn::ShiftVi { vd, vs2, .. }
+            | VectorInsn::MultiplyVx { vd, vs2, .. }
+            | VectorInsn::MergeVx { vd, vs2, .. }
+            | VectorInsn::MergeVi { vd, vs2, .. }
+            | VectorInsn::LoadIndexed { vd, vs2, .. } => {
+                self.is_inside(vd) || self.is_inside(vs2)
+            }
+            VectorInsn::StoreIndexed { vs3, vs2, .. } => {
+                self.is_inside(vs3) || self.is_inside(vs2)
+            }
+            VectorInsn::CompareVv { vs2, vs1, .. } => self.is_inside(vs2) || self.is_inside(vs1),
+            VectorInsn::CompareVx { vs2, .. }
+            | VectorInsn::CompareVi { vs2, .. }
+            | VectorInsn::Reduce { vs2, .. } => self.is_inside(vs2),
+            VectorInsn::MoveVv { vd, vs1 } => self.is_inside(vd) || self.is_inside(vs1),
+            VectorInsn::MoveVx { vd, .. }
+            | VectorInsn::MoveVi { vd, .. }
+            | VectorInsn::ElementNumbers { vd, .. }
+            | VectorInsn::ExtendBytes { vd, .. } => self.is_inside(vd),
+            _ => false,
+        }
+    }
+
+    /// Whether a load or store at its own width takes more than 4 registers, or a group that doesn't begin at a
+    /// multiple of its size.
+    fn is_unfit(&self, insn: &VectorInsn) -> bool
+        requires { has_vill self.now ≡ false }
+        ensures { result ≡ is_unfit self.now (moved_in insn.now) }
+    {
+        let (width, v) = match *insn {
+            VectorInsn::LoadUnit { width, vd, .. } | VectorInsn::LoadStrided { width, vd, .. } => {
+                (width, vd)
+            }
+            VectorInsn::StoreUnit { width, vs3, .. }
+            | VectorInsn::StoreStrided { width, vs3, .. } => (width, vs3),
+            _ => return false,
+        };
+        let registers = self.group_at(width);
+        registers > 4 || (registers > 1 && v.number() as usize % registers != 0)
     }
 
     /// Executes an instruction with these operands.
@@ -77,10 +142,54 @@ impl VectorState {
         }
     }
 
+    /// Writes what an operation makes of each pair.
+    fn compute(&mut self, operation: ArithmeticVxOp, pair: Pair)
+        requires { has_vill self.old ≡ false }
+        ensures { self.new ≡ with_elements self.old pair.vd pair.vm (zip_with (op.arithmetic_vx operation (width self.old)) (of_group self.old pair.vs2) (operand_elements self.old pair.other)) }
+    {
+        let Pair { vd, vs2, other, vm } = pair;
+        let new = NewElements::Arithmetic {
+            op: operation,
+            vs2,
+            other,
+        };
+        self.write_elements(vd, vm, new);
+    }
+
+    /// Writes what a multiplication or division makes of each pair.
+    fn multiply(&mut self, operation: MultiplyOp, pair: Pair)
+        requires { has_vill self.old ≡ false }
+        ensures { self.new ≡ with_elements self.old pair.vd pair.vm (zip_with (op.multiply operation (width self.old)) (of_group self.old pair.vs2) (operand_elements self.old pair.other)) }
+    {
+        let Pair { vd, vs2, other, vm } = pair;
+        let new = NewElements::Multiply {
+            op: operation,
+            vs2,
+            other,
+        };
+        self.write_elements(vd, vm, new);
+    }
+
+    /// Writes the other operand where the mask has a 1, and the elements of `vs2` where it has a 0.
+    fn merge(&mut self, vd: VReg, vs2: VReg, other: Operand)
+        requires { has_vill self.old ≡ false }
+        ensures { self.new ≡ with_elements self.old vd true (merged_by_mask self.old (operand_elements self.old other) (of_group self.old vs2)) }
+    {
+        self.write_elements(vd, true, NewElements::Merge { vs2, other });
+    }
+
+    /// Writes an operand.
+    fn copy(&mut self, vd: VReg, other: Operand)
+        requires { has_vill self.old ≡ false }
+        ensures { self.new ≡ with_elements self.old vd true (operand_elements self.old other) }
+    {
+        self.write_elements(vd, true, NewElements::Copy { other });
+    }
+
     /// Executes an instruction that doesn't work on pairs.
     fn execute_other(&mut self, insn: &VectorInsn, scalar: u32) -> Result<Option<u32>, Trap>
         requires configured { has_vill self.old ≡ false }
-        requires width { is_other_width self.old (width_in insn.now) ≡ false }
+        requires width { is_other_width self.old (fixed_width insn.now) ≡ false }
         requires other { pair_of insn.now scalar ≡ None }
         ensures own { OnOk result (is_own insn.now ≡ true) }
         ensures state { OnOk result (self.new ≡ vector_after insn.now (λ r. scalar) self.old) }
@@ -105,8 +214,12 @@ impl VectorState {
             VectorInsn::MoveVi { vd, imm } => self.copy(vd, Operand::Immediate(imm)),
             VectorInsn::MoveToScalar { vs2, .. } => return Ok(Some(self.scalar(vs2))),
             VectorInsn::MoveFromScalar { vd, .. } => self.put_scalar(vd, scalar),
-            VectorInsn::ElementNumbers { vd, vm } => self.number_elements(vd, vm),
-            VectorInsn::ExtendBytes { vd, vs2, vm } => self.extend_bytes(vd, vs2, vm),
+            VectorInsn::ElementNumbers { vd, vm } => {
+                self.write_elements(vd, vm, NewElements::Numbers)
+            }
+            VectorInsn::ExtendBytes { vd, vs2, vm } => {
+                self.write_elements(vd, vm, NewElements::Bytes { vs2 })
+            }
             _ => return Err(Trap::IllegalInstruction),
         }
         Ok(None)
@@ -137,16 +250,13 @@ fn overwrites_mask(insn: &VectorInsn) -> bool
 }
 
 /// The width that has to be the configured one.
-fn width_in(insn: &VectorInsn) -> Option<ElementWidth>
-    ensures { result ≡ width_in insn.now }
+fn fixed_width(insn: &VectorInsn) -> Option<ElementWidth>
+    ensures { result ≡ fixed_width insn.now }
 {
     match *insn {
-        VectorInsn::LoadUnit { width, .. }
-        | VectorInsn::LoadStrided { width, .. }
-        | VectorInsn::LoadIndexed { width, .. }
-        | VectorInsn::StoreUnit { width, .. }
-        | VectorInsn::StoreStrided { width, .. }
-        | VectorInsn::StoreIndexed { width, .. } => Some(width),
+        VectorInsn::LoadIndexed { width, .. } | VectorInsn::StoreIndexed { width, .. } => {
+            Some(width)
+        }
         VectorInsn::ExtendBytes { .. } => Some(ElementWidth::Bits32),
         _ => None,
     }

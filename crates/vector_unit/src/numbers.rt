@@ -1,13 +1,13 @@
-//! A list of at most 16 numbers, as many as a register has elements.
+//! A list of at most 64 numbers, as many as a group has elements.
 
 ghost use Rattle.std.specs.Prelude.{◌≡◌, ◌<◌, ◌++◌, length, [], ◌∷◌};
 
 use std::marker::Model;
 
-/// Numbers in order, at most 16. A contract sees the list.
+/// Numbers in order, at most 64. A contract sees the list.
 #[derive(Drop)]
 pub struct Numbers {
-    numbers: [u32; 16],
+    numbers: [u32; 64],
     count: usize,
 }
 
@@ -18,7 +18,7 @@ impl Model for Numbers {
 
     ghost view = { λ n. take n.count n.numbers };
 
-    ghost invariant = { λ n. n.count ≤ 16 };
+    ghost invariant = { λ n. n.count ≤ 64 };
 }
 
 impl Numbers {
@@ -27,14 +27,14 @@ impl Numbers {
         ensures { result ≡ [] }
     {
         Numbers {
-            numbers: [0; 16],
+            numbers: [0; 64],
             count: 0,
         }
     }
 
     /// Appends a number.
     pub fn push(&mut self, number: u32)
-        requires { length self.old < 16 }
+        requires { length self.old < 64 }
         ensures { self.new ≡ self.old ++ number ∷ [] }
     {
         self.numbers[self.count] = number;

@@ -1,12 +1,17 @@
-//! Operands as lanes of each width, and results that are written back.
+//! Operands as lanes of each width, a register of a group at a time, and results as a register's bytes.
 
-ghost use Rattle.std.specs.Prelude.{◌≡◌, ◌*◌, ◌≤◌, ◌%◌, ◌^◌};
+ghost use Rattle.std.specs.Prelude.{◌≡◌, ◌+◌, ◌*◌, ◌<◌, ◌≤◌, ◌%◌, ◌^◌};
 ghost use Rattle.lanes.specs.Words.{wrapped};
-ghost use Rattle.vector_unit.specs.Vector.{width, count, of_register, active_in, with_elements, with_bits};
-ghost use Rattle.vector_unit.specs.Operands.{operand_elements, pair_of};
+ghost use Rattle.lanes.specs.Registers.{register_of};
+ghost use Rattle.lanes.specs.Masks.{active};
+ghost use Rattle.lanes.specs.Elementwise.{merged};
+ghost use Rattle.vector_unit.specs.VectorState.{register};
+ghost use Rattle.vector_unit.specs.Vector.{width};
+ghost use Rattle.vector_unit.specs.Operands.{pair_of};
+ghost use Rattle.vector_unit.specs.inner.Parts.{operand_part};
 
 use crate::states::VectorState;
-use lanes::{LaneKind, Lanes, active, write_mask_bits};
+use lanes::{LaneKind, Lanes, active};
 use rv_insn::{Imm5, ShiftAmount, VReg, VectorInsn};
 
 /// The other operand of an instruction.
@@ -78,85 +83,68 @@ fn word_of(imm: Imm5) -> u32
 }
 
 impl VectorState {
-    /// An operand as elements of 8 bits.
-    pub(crate) fn bytes(&self, operand: Operand) -> Lanes<u8, 16>
+    /// A part of an operand, as elements of 8 bits.
+    pub(crate) fn bytes(&self, operand: Operand, part: usize) -> Lanes<u8, 16>
         requires width { width self.now ≡ 8 }
-        requires count { count self.now ≡ 16 }
-        ensures { result ≡ operand_elements self.now operand }
+        requires part { part < 4 }
+        ensures { result ≡ operand_part self.now operand part }
     {
         match operand {
-            Operand::Register(v) => Lanes::<u8, 16>::from_register(&self.register(v)),
+            Operand::Register(v) => Lanes::<u8, 16>::from_register(&self.part(v, part)),
             Operand::Number(number) => Lanes::<u8, 16>::splat(u8::from_u32(number)),
             Operand::Immediate(imm) => Lanes::<u8, 16>::splat(u8::from_u32(word_of(imm))),
             Operand::Amount(amount) => Lanes::<u8, 16>::splat(amount.value()),
         }
     }
 
-    /// An operand as elements of 16 bits.
-    pub(crate) fn halves(&self, operand: Operand) -> Lanes<u16, 8>
+    /// A part of an operand, as elements of 16 bits.
+    pub(crate) fn halves(&self, operand: Operand, part: usize) -> Lanes<u16, 8>
         requires width { width self.now ≡ 16 }
-        requires count { count self.now ≡ 8 }
-        ensures { result ≡ operand_elements self.now operand }
+        requires part { part < 4 }
+        ensures { result ≡ operand_part self.now operand part }
     {
         match operand {
-            Operand::Register(v) => Lanes::<u16, 8>::from_register(&self.register(v)),
+            Operand::Register(v) => Lanes::<u16, 8>::from_register(&self.part(v, part)),
             Operand::Number(number) => Lanes::<u16, 8>::splat(u16::from_u32(number)),
             Operand::Immediate(imm) => Lanes::<u16, 8>::splat(u16::from_u32(word_of(imm))),
             Operand::Amount(amount) => Lanes::<u16, 8>::splat(u16::from(amount.value())),
         }
     }
 
-    /// An operand as elements of 32 bits.
-    pub(crate) fn words(&self, operand: Operand) -> Lanes<u32, 4>
+    /// A part of an operand, as elements of 32 bits.
+    pub(crate) fn words(&self, operand: Operand, part: usize) -> Lanes<u32, 4>
         requires width { width self.now ≡ 32 }
-        requires count { count self.now ≡ 4 }
-        ensures { result ≡ operand_elements self.now operand }
+        requires part { part < 4 }
+        ensures { result ≡ operand_part self.now operand part }
     {
         match operand {
-            Operand::Register(v) => Lanes::<u32, 4>::from_register(&self.register(v)),
+            Operand::Register(v) => Lanes::<u32, 4>::from_register(&self.part(v, part)),
             Operand::Number(number) => Lanes::<u32, 4>::splat(u32::from_u32(number)),
             Operand::Immediate(imm) => Lanes::<u32, 4>::splat(u32::from_u32(word_of(imm))),
             Operand::Amount(amount) => Lanes::<u32, 4>::splat(u32::from(amount.value())),
         }
     }
 
-    /// Which elements an instruction with this mask bit works on.
-    pub(crate) fn active<const N: usize>(&self, vm: bool) -> [bool; N]
-        requires count { count self.now ≡ N }
-        requires at_most { N ≤ 128 }
-        ensures { result ≡ active_in self.now vm }
+    /// Which elements of a part an instruction with this mask bit works on.
+    pub(crate) fn active<const N: usize>(&self, vm: bool, part: usize) -> [bool; N]
+        requires { part * N + N ≤ 128 }
+        ensures { result ≡ active (part * N) N self.now.vl vm (register self.now 0) }
     {
-        active(self.vl as usize, vm, &self.registers[0])
+        active(part * N, self.vl as usize, vm, &self.registers[0])
     }
 
-    /// Writes new elements where they are active; the old ones stay elsewhere.
-    pub(crate) fn put<K: LaneKind, const N: usize>(
-        &mut self,
-        vd: VReg,
+    /// The bytes of a register of a group, with new elements where they are active and the old ones elsewhere.
+    pub(crate) fn merged<K: LaneKind, const N: usize>(
+        &self,
         vm: bool,
+        part: usize,
         before: &Lanes<K, N>,
         new: &Lanes<K, N>,
-    )
-        requires width { width self.old ≡ K.width }
-        requires count { count self.old ≡ N }
+    ) -> [u8; 16]
+        requires few { part * N + N ≤ 128 }
         requires fills { N * K.width ≡ 128 }
-        requires at_most { N ≤ 128 }
-        requires before { before.now ≡ of_register self.old vd }
-        ensures { self.new ≡ with_elements self.old vd vm new.now }
+        ensures { result ≡ register_of K.width (merged (active (part * N) N self.now.vl vm (register self.now 0)) new.now before.now) }
     {
-        let active = self.active::<N>(vm);
-        self.set_register(vd, before.merge(new, &active).to_register());
-    }
-
-    /// Writes bits where the elements are active; the old ones stay elsewhere.
-    pub(crate) fn put_bits<const N: usize>(&mut self, vd: VReg, vm: bool, bits: &[bool; N])
-        requires count { count self.old ≡ N }
-        requires at_most { N ≤ 128 }
-        ensures { self.new ≡ with_bits self.old vd vm bits.now }
-    {
-        let active = self.active::<N>(vm);
-        let mut register = self.register(vd);
-        write_mask_bits(&mut register, &active, bits);
-        self.set_register(vd, register);
+        before.merge(new, &self.active(vm, part)).to_register()
     }
 }

@@ -1,9 +1,10 @@
 //! The vector state of a hart.
 
-ghost use Rattle.std.specs.Prelude.{◌≡◌};
+ghost use Rattle.std.specs.Prelude.{◌≡◌, ◌<◌, ◌≤◌, ◌+◌, false, [], slice_index_or};
 ghost use Rattle.vector_unit.specs.VectorState.{register, with_register, opening_vector_state, has_vill};
+ghost use Rattle.vector_unit.specs.Vector.{group};
 
-use crate::vtypes::is_supported;
+use crate::vtypes::{group_of, is_supported};
 use rv_insn::VReg;
 use std::marker::Model;
 
@@ -41,7 +42,8 @@ impl VectorState {
 
     /// The 16 bytes of a register, byte 0 first.
     pub fn register(&self, v: VReg) -> [u8; 16]
-        ensures { result ≡ register self.now v }
+        ensures value { result ≡ register self.now v }
+        ensures held { result ≡ slice_index_or self.now.registers v [] }
     {
         self.registers[v.number() as usize]
     }
@@ -51,6 +53,38 @@ impl VectorState {
         ensures { self.new ≡ with_register self.old v bytes }
     {
         self.registers[v.number() as usize] = bytes;
+    }
+
+    /// How many registers a group has.
+    pub fn group(&self) -> usize
+        ensures value { result ≡ group self.now }
+        ensures few { has_vill self.now ≡ false → result ≤ 4 }
+    {
+        group_of(self.vtype) as usize
+    }
+
+    /// The 16 bytes of a register of a group; beyond the last register they are 0.
+    pub(crate) fn part(&self, v: VReg, part: usize) -> [u8; 16]
+        requires { part < 64 }
+        ensures { result ≡ register self.now (v + part) }
+    {
+        let place = v.number() as usize + part;
+        if place < 32 {
+            self.registers[place]
+        } else {
+            [0; 16]
+        }
+    }
+
+    /// Writes a register of a group; beyond the last register nothing.
+    pub(crate) fn set_part(&mut self, v: VReg, part: usize, bytes: [u8; 16])
+        requires { part < 64 }
+        ensures { self.new ≡ with_register self.old (v + part) bytes }
+    {
+        let place = v.number() as usize + part;
+        if place < 32 {
+            self.registers[place] = bytes;
+        }
     }
 
     /// The number of elements that instructions work on.

@@ -11,7 +11,7 @@ invariant-loop-rest g l =
     let memory = g.M.Bytes.memory l.fn.memory in record {
       fault : first_fault (length text) (length memory) Reads (accesses_at l.fn.width l.rest) ≡ first_fault (length text) (length memory) Reads (accesses_at l.fn.width l.fn.addresses);
       numbers : l.numbers ++ map (number_at text memory) (accesses_at l.fn.width l.rest) ≡ map (number_at text memory) (accesses_at l.fn.width l.fn.addresses);
-      few : length l.numbers + length l.rest ≤ 16;
+      few : length l.numbers + length l.rest ≤ 64;
     }
 
 abbrev pub decreases-loop-rest : goal.decreases-loop-rest

@@ -1,19 +1,16 @@
 use Rattle.std.proofs.Common.{ℕ, arith, rules}
-use Rattle.std.proofs.lemmas.List.{map-id, length_push}
-use Rattle.lanes.specs.Masks.{active}
-use Rattle.lanes.specs.Registers.{elements}
+use Rattle.std.proofs.lemmas.List.{length_push}
 use Rattle.vector_unit.proofs.Choices.{left_at_start, left_after_active, left_after_other}
-use Rattle.vector_unit.specs.Accesses.{active_numbers}
+use Rattle.vector_unit.proofs.Actives.{numbers_each}
 use Rattle.vector_unit.proofs.states.VectorState.active_numbers.Goals as goal
 use Rattle.vector_unit.proofs.states.VectorState.active_numbers.Goals.{then-is_active, else-is_active}
 
 pub loop-index-init : goal.loop-index-init
-unfolding active elements
 loop-index-init c = rw c.new-numbers.ensures (record {
   few = omega arith;
   end = c.count-index-end.ensures.value;
-  at_most = omega arith;
-  left = left_at_start _ _ _ _ _ (map-id (active_numbers c.args.self.now c.args.v c.args.vm));
+  at_most = let few = c.count-index-end.ensures.few c.requires in rw c.count-index-end.ensures.value at few;
+  left = left_at_start _ _ _ _ _ (numbers_each c.args.self.now c.args.width c.args.v c.args.vm);
 })
 
 pub loop-index-preserved : goal.loop-index-preserved

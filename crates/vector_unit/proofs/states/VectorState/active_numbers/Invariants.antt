@@ -1,8 +1,7 @@
 use Rattle.std.proofs.Common.{◌≡◌, ◌≤◌, length}
 use Rattle.lanes.specs.Masks.{is_active}
-use Rattle.lanes.specs.Registers.{element}
 use Rattle.vector_unit.specs.VectorState.{register}
-use Rattle.vector_unit.specs.Vector.{width, count}
+use Rattle.vector_unit.specs.Vector.{bits_of, count, element_from}
 use Rattle.vector_unit.specs.Accesses.{active_numbers}
 use Rattle.vector_unit.proofs.Choices.{IsLeft}
 use Rattle.vector_unit.proofs.states.VectorState.active_numbers.Given as goal
@@ -12,6 +11,6 @@ abbrev pub invariant-loop-index : goal.invariant-loop-index
 invariant-loop-index l = record {
   few : length l.numbers ≤ l.index;
   end : l.index-end ≡ count l.self;
-  at_most : count l.self ≤ 16;
-  left : IsLeft (is_active l.self.vl l.vm (register l.self 0)) (element (width l.self) (register l.self l.v)) (λ n. n) l.index (count l.self) l.numbers (active_numbers l.self l.v l.vm);
+  at_most : count l.self ≤ 64;
+  left : IsLeft (is_active l.self.vl l.vm (register l.self 0)) (element_from l.self (bits_of l.width) l.v) (λ n. n) l.index (count l.self) l.numbers (active_numbers l.self l.width l.v l.vm);
 }

@@ -1,18 +1,16 @@
-use Rattle.std.proofs.Common.{ℕ, arith, refl, rules}
+use Rattle.std.proofs.Common.{ℕ, arith, rules}
 use Rattle.std.proofs.lemmas.List.{length_push}
-use Rattle.lanes.specs.Masks.{active}
-use Rattle.vector_unit.specs.Accesses.{addresses_by}
+use Rattle.vector_unit.proofs.Actives.{addresses_each}
 use Rattle.vector_unit.proofs.Choices.{left_at_start, left_after_active, left_after_other}
 use Rattle.vector_unit.proofs.states.VectorState.addresses.Goals as goal
 use Rattle.vector_unit.proofs.states.VectorState.addresses.Goals.{then-is_active, else-is_active}
 
 pub loop-index-init : goal.loop-index-init
-unfolding active addresses_by
 loop-index-init c = rw c.new-addresses.ensures (record {
   few = omega arith;
   end = c.count-index-end.ensures.value;
-  at_most = omega arith;
-  left = left_at_start _ _ _ _ _ refl;
+  at_most = let few = c.count-index-end.ensures.few c.requires in rw c.count-index-end.ensures.value at few;
+  left = left_at_start _ _ _ _ _ (addresses_each c.args.self.now c.args.spacing c.args.vm c.args.base);
 })
 
 pub loop-index-preserved : goal.loop-index-preserved
