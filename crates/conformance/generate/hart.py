@@ -160,11 +160,21 @@ class Hart:
     def width(self):
         return 8 << (self.vtype >> 3 & 7)
 
+    def group(self):
+        """How many registers an operand has: LMUL."""
+        return 1 << (self.vtype & 7)
+
+    def most(self):
+        return 128 * self.group() // self.width()
+
     def element(self, register, index, bits):
+        """An element of the registers from one on, as if they were one."""
+        register, index = register + index // (128 // bits), index % (128 // bits)
         count = bits // 8
         return int.from_bytes(self.v[register][index * count:(index + 1) * count], "little")
 
     def put(self, register, index, bits, value):
+        register, index = register + index // (128 // bits), index % (128 // bits)
         count = bits // 8
         self.v[register][index * count:(index + 1) * count] = (value & ((1 << bits) - 1)).to_bytes(count, "little")
 
@@ -176,18 +186,18 @@ class Hart:
 
     def configure(self, name, f):
         vtype = {"vsetvli": lambda: f["vtype11"], "vsetivli": lambda: f["vtype10"], "vsetvl": lambda: self.x[f["rs2"]]}[name]()
-        if vtype & ~0xC0 not in (0, 8, 16):
+        if vtype & ~0xC0 not in (0, 8, 16, 1, 9, 17, 2, 10, 18):
             self.vtype, self.vl = VILL, 0
             self.set_x(f["rd"], 0)
             return
-        most = 128 // (8 << (vtype >> 3 & 7))
+        most = (128 << (vtype & 7)) // (8 << (vtype >> 3 & 7))
         if name == "vsetivli":
             self.vl = min(f["length"], most)
         elif f["rs1"]:
             self.vl = min(self.x[f["rs1"]], most)
         elif f["rd"]:
             self.vl = most
-        elif self.vtype == VILL or 128 // self.width() != most:
+        elif self.vtype == VILL or self.most() != most:
             raise Trap(1)
         self.vtype = vtype
         self.set_x(f["rd"], self.vl)
@@ -208,6 +218,8 @@ class Hart:
         is_reduction = base.startswith("vred")
         if "vd" in f and f["vd"] == 0 and not is_compare and not is_reduction and (f.get("vm", 1) == 0 or base == "vmerge"):
             raise Trap(1)
+        if any(f[field] % self.group() for field in self.groups(name, base, f)):
+            raise Trap(1)
         if name == "vmv.x.s":
             self.set_x(f["rd"], signed(self.element(f["vs2"], 0, bits), bits))
         elif name == "vmv.s.x":
@@ -226,6 +238,17 @@ class Hart:
             self.reduce(base, f, bits)
         else:
             self.elementwise(base, f, bits, is_compare)
+
+    def groups(self, name, base, f):
+        """The fields that name groups of registers; the others name one."""
+        if name in ("vmv.x.s", "vmv.s.x"):
+            return []
+        if name == "vzext.vf4":
+            return ["vd"]
+        if base.startswith("vred"):
+            return ["vs2"]
+        single = ("vd",) if base.startswith("vms") else ()
+        return [field for field in ("vd", "vs1", "vs2") if field in f and field not in single]
 
     def other(self, f, bits):
         """The operand beside vs2, for each element."""
@@ -261,9 +284,19 @@ class Hart:
 
     def move_elements(self, base, f, memory, bits):
         is_load = base[1] == "l"
-        width = int(base.rpartition("e")[2] if "ei" not in base else base.rpartition("ei")[2])
-        if width != bits or (is_load and f["vm"] == 0 and f["vd"] == 0):
+        is_indexed = "ei" in base
+        width = int(base.rpartition("ei" if is_indexed else "e")[2])
+        if is_load and f["vm"] == 0 and f["vd"] == 0:
             raise Trap(1)
+        if is_indexed:
+            if width != bits or f["vd"] % self.group() or f["vs2"] % self.group():
+                raise Trap(1)
+        else:
+            # How many registers the elements take, if that is a whole number: EMUL.
+            count = width * self.group() // bits
+            if count > 4 or (count > 1 and f["vd"] % count):
+                raise Trap(1)
+            bits = width
         start = self.x[f["rs1"]]
         if "rs2" in f:
             address = lambda i: start + i * self.x[f["rs2"]] & MOST

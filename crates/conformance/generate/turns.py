@@ -199,7 +199,7 @@ def vectors(file, random):
 
 
 def configurations(file, random):
-    vtypes = [0, 8, 16, 0x40, 0x88, 0xD0, 3, 4, 5, 6, 7, 0x18, 0x38, 0x100, 0x3FF]
+    vtypes = [0, 8, 16, 0x40, 0x88, 0xD0, 1, 2, 9, 10, 17, 18, 0xD1, 3, 4, 5, 6, 7, 0x18, 0x19, 0x38, 0x100, 0x3FF]
     for bits in (0, 8, 16, 32):
         for asked in (0, 3, 16, 0xFFFFFFFF):
             before = Before()
@@ -221,6 +221,50 @@ def configurations(file, random):
 
 
 MOVES = [r for r in rows.VECTOR if r.base & 0x7F in (0b0000111, 0b0100111)]
+
+
+def group_state(random, bits, code, length, registers):
+    """Registers that hold elements, a mask, an index, and a configuration of groups of 1, 2 or 4 registers."""
+    before = Before()
+    before.vectors([(0, bytes(random.getrandbits(8) for _ in range(16)))] + [(r, random_vector(random, bits)) for r in registers])
+    before.li(6, random.getrandbits(32))
+    before.li(5, length)
+    before.row("vsetvli", rd=0, rs1=5, vtype11={8: 0, 16: 8, 32: 16}[bits] | code)
+    return before
+
+
+def groups(file, random):
+    """The rows on groups of registers, some of which begin inside another group or are an operand."""
+    for code in (1, 2):
+        size = 1 << code
+        for bits in (8, 16, 32):
+            most = 128 * size // bits
+            for length in (most, most - 1, most // size + 1, 1, 0):
+                before = group_state(random, bits, code, length, range(4, 16))
+                words = [w for r in PLAIN for w in plain_words(r, random, vd=12, vs2=4, vs1=8)]
+                words += [w for r in PLAIN for own in ({"vd": 4}, {"vd": 8}, {"vd": 13}, {"vs2": 5}, {"vs1": 10 if code == 2 else 9}, {"vd": 0})
+                          for w in plain_words(r, random, **{"vd": 12, "vs2": 4, "vs1": 8, **own}) if random.random() < 0.15]
+                turn_case(file, f"e{bits} m{size} vl {length}", before, words)
+
+
+def group_memories(file, random):
+    """Loads and stores of each width in groups and in parts of registers."""
+    for code in (0, 1, 2):
+        size = 1 << code
+        for bits in (8, 16, 32):
+            most = 128 * size // bits
+            for length, start, stride in [(most, 128, 4), (most - 1, 192, -4 & 0xFFFFFFFF), (most // 2 + 1, 128, 3), (0, 1, 1)]:
+                before = group_state(random, bits, code, length, range(4, 16))
+                before.data += [random.getrandbits(32) for _ in range(96 - len(before.data))]
+                before.li(7, DATA + start)
+                before.li(9, stride)
+                words = []
+                for r in MOVES:
+                    for vd in (12, 8, 13, 14, 0):
+                        fields = {"vd": vd, "rs1": 7, "rs2": 9, "vs2": 4, "vm": 1 if random.random() < 0.6 else 0}
+                        if vd == 12 or random.random() < 0.4:
+                            words.append(rows.encode(r, {field: fields[field] for field in r.shape}))
+                turn_case(file, f"moves at e{bits} m{size} vl {length} from {start}", before, words)
 
 
 def moved_words(bits, vd):
