@@ -103,6 +103,11 @@ module _ {A B : Type 0} (R : A → B → Type 0) (p : Algebra A) (q : Algebra B)
         rw flag (rw test (made_below count place n (omega (arith, other, below)) ok flag))
   ]
 
+  -- the levels, through inlined Funcs
+  pub levels_related : (count : ℕ) (has : Variable → Bool) (va : Variable → A) (vb : Variable → B) → ((v : Variable) → has v ≡ true → R (va v) (vb v))
+      → KeptLevels R (is_read inputs funcs count) has (through_at p (inside p is_inlined funcs count) va) (through_at q (inside q is_inlined funcs count) vb)
+  levels_related count has va vb vars = through_levels count (made_below count) has va vb vars
+
   pub kept_related : (count : ℕ) → Related count
   kept_related count = from_made count (made_below count)
 

@@ -1,26 +1,37 @@
 -- The value of an expression lies in its range.
 use Rattle.std.proofs.Common.{◌≡◌, ℕ, ◌+◌, ◌-◌, ◌%◌, ◌^◌, ◌<◌, ◌≤◌, Bool, true, false, not, cond, List, [], ◌∷◌, ◌++◌, Option, None, Some, ◌==◌, refl, arith, inl, inr}
-use Rattle.std.specs.Prelude.{nat_le, min, max}
+use Rattle.std.specs.Prelude.{nat_le, min, max, slice_get, if◌then◌else◌}
 use Rattle.std.proofs.lemmas.Bool.{lt-ltb, le-ltb, leb-true, cases_lt, and_parts}
+use Rattle.halide_pipeline.specs.declared.definitions.Func.{Func}
+use Rattle.halide_pipeline.specs.declared.definitions.Input.{Input}
+use Rattle.halide_pipeline.specs.declared.expressions.Expr.{Expr}
 use Rattle.halide_pipeline.specs.declared.expressions.Expr.TheOpen.{Expr-F}
 use Rattle.halide_pipeline.specs.declared.expressions.Expr.TheOpen as layer
 use Rattle.halide_pipeline.specs.declared.expressions.Operation.{Operation}
 use Rattle.halide_pipeline.specs.declared.expressions.Operation.TheVariants as op
 use Rattle.halide_pipeline.specs.declared.expressions.Source.{Source}
+use Rattle.halide_pipeline.specs.declared.expressions.Source.TheVariants as sources
+use Rattle.halide_pipeline.specs.declared.expressions.Variable.{Variable}
+use Rattle.halide_pipeline.specs.WellFormed.{keeps, is_read}
 use Rattle.halide_pipeline.specs.Words.{add, subtract, less, truth, minimum, maximum, applied}
-use Rattle.halide_meaning.specs.Pixel.{Reads}
+use Rattle.halide_meaning.specs.declared.environments.Environment.{Environment}
+use Rattle.halide_meaning.specs.Pixel.{Reads, variable}
+use Rattle.reads.specs.Levels.{Both}
 use Rattle.reads.specs.Points.{Point, Seen}
-use Rattle.inlining.specs.Laws.{RelatesLevels, RelatesArguments, RelatesSeconds, RelatesCalls, seen_variable}
+use Rattle.inlining.specs.Inlining.{Inside, inside, through, through_at, inlined}
+use Rattle.inlining.specs.Laws.{AreFuncs, RelatesLevels, RelatesArguments, RelatesSeconds, RelatesCalls, seen_variable}
 use Rattle.inlining.specs.Values.{seeing, second_points}
-use Rattle.inlining.proofs.Kept.{folds_are_related}
+use Rattle.inlining.proofs.Kept.{folds_are_related, levels_related}
+use Rattle.inlining.proofs.KeptFolds.{KeptLevels, kept_folds_related}
 use Rattle.ranges.specs.declared.ranges.CommonBase.{CommonBase}
 use Rattle.ranges.specs.declared.ranges.Ends.{Ends}
 use Rattle.ranges.specs.declared.expressions.Asked.{Asked}
+use Rattle.ranges.specs.declared.expressions.OwnCalls.{OwnCalls}
 use Rattle.ranges.specs.declared.ranges.Range.{Range}
 use Rattle.ranges.specs.Bases.{no_base, add_base, negated, same_base, more_sum, less_sum}
-use Rattle.ranges.specs.Ranges.{origin, least, greatest, spot, ends_of, fit, widened, added, subtracted, aligned, together, lesser, greater, hull, truths, literal, operated}
-use Rattle.ranges.specs.Expressions.{Ranged, ranging, second_asked, unasked_variable}
-use Rattle.ranges.specs.Laws.{Below, Lies, AllLie, Covers, RangesCover}
+use Rattle.ranges.specs.Ranges.{origin, least, greatest, spot, between, every, ends_of, fit, widened, added, subtracted, aligned, together, lesser, greater, hull, truths, literal, operated}
+use Rattle.ranges.specs.Expressions.{Ranged, ranging, second_asked, unasked_variable, pixels_of, called, ranges_where, is_anywhere, chosen, ranged_update}
+use Rattle.ranges.specs.Laws.{Below, Lies, AllLie, Covers, AnswerWords, RangesCover, UpdateRangesCover}
 use Rattle.ranges.proofs.Sums.{more_below, less_below, add_sums, negated_more, negated_less, negated_small, same_sums}
 use Rattle.ranges.proofs.Lying.{between_lies, every_lies, small_of, widened_stands, fit_lies, plain_lies}
 use Rattle.ranges.proofs.Products.{multiplied_lies}
@@ -149,7 +160,20 @@ module _ (lasts values : List ℕ) (below : Below values lasts) where
   all_lie_both (first ∷ a) b [] q la lb = absurd la
   all_lie_both (first ∷ a) b (point ∷ p) q la lb = (la.0, all_lie_both a b p q la.1 lb)
 
-  module _ (reads : Reads) (words : (s : Source) (x y : ℕ) → reads s x y < 2 ^ 32) (is_inlined : ℕ → Bool) where
+  module _ (reads : Reads) (inputs : List Input) (words : AnswerWords inputs reads) (is_inlined : ℕ → Bool) where
+    byte_lies : (is_bytes : Bool) (x : ℕ) → x < 2 ^ 32 → (is_bytes ≡ true → x < 256) → Lies lasts values (if is_bytes then between origin (origin + 255) else every) x
+    byte_lies true x word byte = let b = byte refl in between_lies lasts values below origin (origin + 255) x word (omega arith) (omega (arith, b)) (omega (arith, b)) (omega arith)
+    byte_lies false x word byte = every_lies lasts values below x word
+
+    pixel_lies : (place x y : ℕ) (own : Option Input) → slice_get inputs place ≡ own → Lies lasts values (pixels_of own) (reads (sources.Input place) x y)
+    pixel_lies place x y None is = every_lies lasts values below (reads (sources.Input place) x y) (words.words (sources.Input place) x y)
+    pixel_lies place x y (Some input) is =
+        byte_lies input.is_bytes (reads (sources.Input place) x y) (words.words (sources.Input place) x y) (λ held. words.bytes place input is held x y)
+
+    called_lies : (s : Source) (x y : ℕ) → Lies lasts values (called inputs s) (reads s x y)
+    called_lies (sources.Input place) x y = pixel_lies place x y (slice_get inputs place) refl
+    called_lies (sources.Func place) x y = every_lies lasts values below (reads (sources.Func place) x y) (words.words (sources.Func place) x y)
+
     abbrev R : Ranged → Seen → Type 0
     R = Covers lasts values
 
@@ -159,7 +183,7 @@ module _ (lasts values : List ℕ) (below : Below values lasts) where
     one_more s before points x y v w all lx ly =
         all_lie_both before (record { source = s; x = x; y = y } ∷ []) points (record { source = s; x = v; y = w } ∷ []) all (record { source = refl; x = lx; y = ly }, tt)
 
-    levels : RelatesLevels R is_inlined (ranging lasts) (seeing reads)
+    levels : RelatesLevels R is_inlined (ranging lasts inputs) (seeing reads)
     unfolding ranging seeing
     levels (layer.Number n) kept = record { value = literal_lies lasts values below n (let l = leb-true n 0x7fffffff kept in omega (arith, l)); points = tt }
     levels (layer.Variable v) kept = absurd cc
@@ -181,16 +205,16 @@ module _ (lasts values : List ℕ) (below : Below values lasts) where
           (all_lie_both a.left.asked b.left.asked a.right.points b.right.points a.is.points b.is.points);
     }
     levels (layer.Call1 s a) kept = record {
-      value = every_lies lasts values below (reads s a.right.value 0) (words s a.right.value 0);
+      value = called_lies s a.right.value 0;
       points = one_more s a.left.asked a.right.points a.left.range (literal lasts 0) a.right.value 0 a.is.points a.is.value (literal_lies lasts values below 0 (omega arith));
     }
     levels (layer.Call2 s a b) kept = record {
-      value = every_lies lasts values below (reads s a.right.value b.right.value) (words s a.right.value b.right.value);
+      value = called_lies s a.right.value b.right.value;
       points = one_more s (a.left.asked ++ b.left.asked) (a.right.points ++ b.right.points) a.left.range b.left.range a.right.value b.right.value
           (all_lie_both a.left.asked b.left.asked a.right.points b.right.points a.is.points b.is.points) a.is.value b.is.value;
     }
 
-    args : RelatesArguments R (ranging lasts) (seeing reads)
+    args : RelatesArguments R (ranging lasts inputs) (seeing reads)
     unfolding ranging seeing
     args x z r = record { value = r.value; points = tt }
 
@@ -200,7 +224,7 @@ module _ (lasts values : List ℕ) (below : Below values lasts) where
     seconds (Some y) None r = absurd r
     seconds (Some y) (Some z) r = r.points
 
-    calls : RelatesCalls R (ranging lasts) (seeing reads)
+    calls : RelatesCalls R (ranging lasts inputs) (seeing reads)
     unfolding ranging seeing
     calls func v x y w z u r s t = record {
       value = r.value;
@@ -209,7 +233,58 @@ module _ (lasts values : List ℕ) (below : Below values lasts) where
     }
 
 pub ranges_cover : RangesCover
-ranges_cover lasts values below reads words is_inlined inputs funcs are count has ranges environment lie e kept =
-    folds_are_related (Covers lasts values) (ranging lasts) (seeing reads) is_inlined inputs funcs are
-    (levels lasts values below reads words is_inlined) (args lasts values below reads words is_inlined) (calls lasts values below reads words is_inlined)
+ranges_cover lasts values below reads inputs words is_inlined funcs are count has ranges environment lie e kept =
+    folds_are_related (Covers lasts values) (ranging lasts inputs) (seeing reads) is_inlined inputs funcs are
+    (levels lasts values below reads inputs words is_inlined) (args lasts values below reads inputs words is_inlined) (calls lasts values below reads inputs words is_inlined)
     count has (unasked_variable ranges) (seen_variable environment) (λ v held. record { value = lie v held; points = tt }) e kept
+
+-- ---- updates
+
+module _ (lasts values : List ℕ) (below : Below values lasts) (reads : Reads) (inputs : List Input) (words : AnswerWords inputs reads) (is_inlined : ℕ → Bool) (funcs : List Func)
+    (are : AreFuncs inputs funcs) (count : ℕ) (own : OwnCalls) (has : Variable → Bool) (ranges : Variable → Range) (environment : Environment)
+    (lie : (around : Bool) (v : Variable) → has v ≡ true → Lies lasts values (ranges_where lasts ranges around v) (variable environment v)) where
+  -- both where arguments may be anywhere and where not
+  abbrev BothWays : (Bool → Ranged) → Seen → Type 0
+  BothWays r s = (around : Bool) → Covers lasts values (r around) s
+
+  abbrev within : Inside Ranged
+  within = inside (ranging lasts inputs) is_inlined funcs count
+
+  abbrev seen_within : Inside Seen
+  seen_within = inside (seeing reads) is_inlined funcs count
+
+  abbrev at : Bool → Both BothWays → Both (Covers lasts values)
+  at around part = record { left = part.left around; right = part.right; is = part.is around }
+
+  one_way : (around : Bool) → KeptLevels (Covers lasts values) (is_read inputs funcs count) has
+      (through_at (ranging lasts inputs) within (unasked_variable (ranges_where lasts ranges around)))
+      (through_at (seeing reads) seen_within (seen_variable environment))
+  one_way around =
+      levels_related (Covers lasts values) (ranging lasts inputs) (seeing reads) is_inlined inputs funcs are
+      (levels lasts values below reads inputs words is_inlined) (args lasts values below reads inputs words is_inlined) (calls lasts values below reads inputs words is_inlined)
+      count has (unasked_variable (ranges_where lasts ranges around)) (seen_variable environment) (λ v held. record { value = lie around v held; points = tt })
+
+  both_ways : KeptLevels BothWays (is_read inputs funcs count) has
+      (λ level around. through_at (ranging lasts inputs) within (unasked_variable (ranges_where lasts ranges around)) (chosen own around level))
+      (through_at (seeing reads) seen_within (seen_variable environment))
+  both_ways (layer.Number n) kept around = one_way around (layer.Number n) kept
+  both_ways (layer.Variable v) kept around = one_way around (layer.Variable v) kept
+  both_ways (layer.Binary op a b) kept around = one_way around (layer.Binary op (at around a) (at around b)) kept
+  both_ways (layer.Divide a n) kept around = one_way around (layer.Divide (at around a) n) kept
+  both_ways (layer.Remainder a n) kept around = one_way around (layer.Remainder (at around a) n) kept
+  both_ways (layer.Select c a b) kept around = one_way around (layer.Select (at around c) (at around a) (at around b)) kept
+  both_ways (layer.Call1 s a) kept around = one_way around (layer.Call1 s (at (is_anywhere own around s own.first_in_place) a)) kept
+  both_ways (layer.Call2 s a b) kept around =
+      one_way around (layer.Call2 s (at (is_anywhere own around s own.first_in_place) a) (at (is_anywhere own around s own.second_in_place) b)) kept
+
+  pub update_covers : (e : Expr) → keeps (is_read inputs funcs count) has e ≡ true
+      → BothWays (ranged_update lasts inputs is_inlined funcs count own ranges e) (inlined (seeing reads) is_inlined funcs count (seen_variable environment) e)
+  unfolding ranged_update through
+  update_covers e kept =
+      kept_folds_related BothWays (is_read inputs funcs count) has
+      (λ level around. through_at (ranging lasts inputs) within (unasked_variable (ranges_where lasts ranges around)) (chosen own around level))
+      (through_at (seeing reads) seen_within (seen_variable environment)) both_ways e kept
+
+pub update_ranges_cover : UpdateRangesCover
+update_ranges_cover lasts values below reads inputs words is_inlined funcs are count own has ranges environment lie e kept around =
+    update_covers lasts values below reads inputs words is_inlined funcs are count own has ranges environment lie e kept around

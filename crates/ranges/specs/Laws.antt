@@ -1,10 +1,11 @@
 -- Each value lies in its range.
 -- This project's own.
-use Rattle.std.specs.Prelude.{◌≡◌, ℕ, ◌+◌, ◌^◌, ◌<◌, ◌≤◌, Bool, true, List, [], ◌∷◌}
+use Rattle.std.specs.Prelude.{◌≡◌, ℕ, ◌+◌, ◌^◌, ◌<◌, ◌≤◌, Bool, true, List, [], ◌∷◌, slice_get, Some}
 use Rattle.halide_pipeline.specs.declared.definitions.Func.{Func}
 use Rattle.halide_pipeline.specs.declared.definitions.Input.{Input}
 use Rattle.halide_pipeline.specs.declared.expressions.Expr.{Expr}
 use Rattle.halide_pipeline.specs.declared.expressions.Source.{Source}
+use Rattle.halide_pipeline.specs.declared.expressions.Source.TheVariants as sources
 use Rattle.halide_pipeline.specs.declared.expressions.Variable.{Variable}
 use Rattle.halide_pipeline.specs.WellFormed.{keeps, is_read}
 use Rattle.halide_meaning.specs.declared.environments.Environment.{Environment}
@@ -14,10 +15,11 @@ use Rattle.inlining.specs.Inlining.{inlined}
 use Rattle.inlining.specs.Values.{seeing}
 use Rattle.inlining.specs.Laws.{AreFuncs, seen_variable}
 use Rattle.ranges.specs.declared.expressions.Asked.{Asked}
+use Rattle.ranges.specs.declared.expressions.OwnCalls.{OwnCalls}
 use Rattle.ranges.specs.declared.ranges.Range.{Range}
 use Rattle.ranges.specs.Bases.{more_sum, less_sum}
 use Rattle.ranges.specs.Ranges.{least, greatest, spot}
-use Rattle.ranges.specs.Expressions.{Ranged, ranged}
+use Rattle.ranges.specs.Expressions.{Ranged, ranged, ranged_update, ranges_where}
 
 -- Each loop has a value up to its greatest.
 abbrev pub Below : List ℕ → List ℕ → Type 0
@@ -53,12 +55,27 @@ pub record Covers (lasts values : List ℕ) (r : Ranged) (s : Seen) : Type 0 whe
   pub value : Lies lasts values r.range s.value
   pub points : AllLie lasts values r.asked s.points
 
+-- Each pixel is a word, and each of an input of bytes is a byte.
+pub record AnswerWords (inputs : List Input) (reads : Reads) : Type 0 where
+  pub words : (s : Source) (x y : ℕ) → reads s x y < 2 ^ 32
+  pub bytes : (place : ℕ) (input : Input) → slice_get inputs place ≡ Some input → input.is_bytes ≡ true → (x y : ℕ) → reads (sources.Input place) x y < 256
+
 -- Through inlined Funcs the value of an expression of a pipeline lies in its range, and each point that it reads lies
 -- in ranges that are asked.
 abbrev pub RangesCover : Type 0
-RangesCover = (lasts values : List ℕ) → Below values lasts → (reads : Reads) → ((s : Source) (x y : ℕ) → reads s x y < 2 ^ 32)
-    → (is_inlined : ℕ → Bool) (inputs : List Input) (funcs : List Func) → AreFuncs inputs funcs
+RangesCover = (lasts values : List ℕ) → Below values lasts → (reads : Reads) (inputs : List Input) → AnswerWords inputs reads
+    → (is_inlined : ℕ → Bool) (funcs : List Func) → AreFuncs inputs funcs
     → (count : ℕ) (has : Variable → Bool) (ranges : Variable → Range) (environment : Environment)
     → ((v : Variable) → has v ≡ true → Lies lasts values (ranges v) (variable environment v))
     → (e : Expr) → keeps (is_read inputs funcs count) has e ≡ true
-    → Covers lasts values (ranged lasts is_inlined funcs count ranges e) (inlined (seeing reads) is_inlined funcs count (seen_variable environment) e)
+    → Covers lasts values (ranged lasts inputs is_inlined funcs count ranges e) (inlined (seeing reads) is_inlined funcs count (seen_variable environment) e)
+
+-- So it is in an update, where the arguments also lie from -2^24 to 2^24, both where they may be anywhere and where
+-- not.
+abbrev pub UpdateRangesCover : Type 0
+UpdateRangesCover = (lasts values : List ℕ) → Below values lasts → (reads : Reads) (inputs : List Input) → AnswerWords inputs reads
+    → (is_inlined : ℕ → Bool) (funcs : List Func) → AreFuncs inputs funcs
+    → (count : ℕ) (own : OwnCalls) (has : Variable → Bool) (ranges : Variable → Range) (environment : Environment)
+    → ((around : Bool) (v : Variable) → has v ≡ true → Lies lasts values (ranges_where lasts ranges around v) (variable environment v))
+    → (e : Expr) → keeps (is_read inputs funcs count) has e ≡ true → (around : Bool)
+    → Covers lasts values (ranged_update lasts inputs is_inlined funcs count own ranges e around) (inlined (seeing reads) is_inlined funcs count (seen_variable environment) e)

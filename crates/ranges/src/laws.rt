@@ -1,9 +1,14 @@
-//! The law of ranges, the contract of a function that does nothing.
+//! Laws of ranges, each the contract of a function that does nothing.
 
-ghost use Rattle.ranges.specs.Laws.{RangesCover};
+ghost use Rattle.ranges.specs.Laws.{RangesCover, UpdateRangesCover};
 
 /// The value of an expression of a pipeline lies in its range, and each point that it reads in ranges that are asked,
 /// also through inlined Funcs.
 pub fn ranges_cover()
     ensures { RangesCover }
+{}
+
+/// So it is in an update, also where its arguments may be anywhere.
+pub fn update_ranges_cover()
+    ensures { UpdateRangesCover }
 {}
