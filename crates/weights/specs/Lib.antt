@@ -1,0 +1,4 @@
+pub mod Copies
+pub mod Weight
+pub mod Need
+pub mod inner
