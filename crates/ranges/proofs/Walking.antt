@@ -20,7 +20,7 @@ use Rattle.ranges.specs.declared.expressions.OwnCalls.{OwnCalls}
 use Rattle.ranges.specs.declared.expressions.Variables.{Variables}
 use Rattle.ranges.specs.declared.ranges.Range.{Range}
 use Rattle.ranges.specs.Ranges.{IsFit, literal}
-use Rattle.ranges.specs.Expressions.{Ranged, ranging, called, unasked, unasked_variable, AreFit, range_of, walked, walked_update, ranged_update, ranges_where, is_anywhere, chosen}
+use Rattle.ranges.specs.Expressions.{Ranged, ranging, called, unasked, unasked_variable, AreFit, AreFitReads, range_of, walked, walked_update, ranged_update, ranges_where, is_anywhere, chosen}
 use Rattle.ranges.specs.inner.Walking.{answer_of}
 
 pub two_asked : (old first second a b : List Asked) → first ≡ old ++ a → second ≡ first ++ b → second ≡ old ++ (a ++ b)
@@ -166,3 +166,10 @@ module _ (lasts : List ℕ) (inputs : List Input) (flags : List Bool) (funcs : L
       ap (of_update around) is
       ∙ ap (λ (f : Bool → Ranged). f around) (at_call2 (Bool → Ranged) level_update s a b)
       ∙ answered2 lasts inputs flags funcs count s (of_update (first_at around s) a) (of_update (second_at around s) b)
+
+-- one more read whose ranges stay within the words
+pub fit_behind : (lasts : List ℕ) (reads : List Asked) (source : Source) (x y : Range) → AreFitReads lasts reads → IsFit lasts x → IsFit lasts y
+    → AreFitReads lasts (reads ++ record { source = source; x = x; y = y } ∷ [])
+unfolding AreFitReads
+fit_behind lasts [] source x y all first second = ((first, second), tt)
+fit_behind lasts (read ∷ others) source x y all first second = (all.0, fit_behind lasts others source x y all.1 first second)

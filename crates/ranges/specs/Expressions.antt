@@ -1,6 +1,7 @@
 -- The range of an expression with its inlined Funcs put in place, and the ranges of the points that it reads.
 -- This project's own.
 use Rattle.std.specs.Prelude.{ℕ, ◌+◌, ◌-◌, ◌^◌, Bool, true, false, not, ◌&&◌, ◌||◌, if◌then◌else◌, List, [], ◌∷◌, ◌++◌, Option, Some, None, slice_get}
+use Rattle.std.specs.List.{AllByRecursion}
 use Rattle.halide_pipeline.specs.declared.definitions.Func.{Func}
 use Rattle.halide_pipeline.specs.declared.definitions.Input.{Input}
 use Rattle.halide_pipeline.specs.declared.expressions.Expr.{Expr, fold-Expr, map-Expr}
@@ -129,6 +130,13 @@ range_of given variables.SecondReduction = given.second_reduction
 -- no range leaves the words
 abbrev pub AreFit : List ℕ → Variables → Type 0
 AreFit lasts given = (v : Variable) → IsFit lasts (range_of given v)
+
+-- nor do those in which points are read
+abbrev pub IsFitRead : List ℕ → Asked → Type 0
+IsFitRead lasts read = IsFit lasts read.x × IsFit lasts read.y
+
+unfoldable pub AreFitReads : List ℕ → List Asked → Type 0
+AreFitReads lasts reads = AllByRecursion (IsFitRead lasts) reads
 
 -- the flagged Funcs are inlined
 abbrev pub walked : List ℕ → List Input → List Bool → List Func → ℕ → Variables → Expr → Ranged

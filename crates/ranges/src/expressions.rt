@@ -91,10 +91,12 @@ pub fn ranged(
     expr: &Expr,
     asked: &mut Vec<Asked>,
 ) -> Result<Range, AllocError>
-    requires { spec.AreFit lasts.now variables.now }
+    requires variables { spec.AreFit lasts.now variables.now }
+    requires reads { spec.AreFitReads lasts.now asked.old.items }
     ensures range { IfOk result (λ r. r ≡ (spec.walked lasts.now inputs.now flags.now funcs.now count variables.now expr.now).range) }
     ensures asked { OnOk result (asked.new.items ≡ asked.old.items ++ (spec.walked lasts.now inputs.now flags.now funcs.now count variables.now expr.now).asked) }
     ensures fits { IfOk result (λ r. IsFit lasts.now r) }
+    ensures reads { OnOk result (spec.AreFitReads lasts.now asked.new.items) }
 {
     match expr {
         Expr::Number(number) => Ok(literal(lasts, *number)),
@@ -226,6 +228,7 @@ pub fn ranged(
 }
 
 /// The range of a call of an input or a computed Func, which is appended.
+#[tactic(auto, using(crate::proofs::Walking::fit_behind))]
 fn ask(
     lasts: &Lasts,
     inputs: &[Input],
@@ -234,8 +237,12 @@ fn ask(
     y: Range,
     asked: &mut Vec<Asked>,
 ) -> Result<Range, AllocError>
+    requires first { IsFit lasts.now x }
+    requires second { IsFit lasts.now y }
+    requires reads { spec.AreFitReads lasts.now asked.old.items }
     ensures range { IfOk result (λ r. r ≡ spec.called inputs.now source) }
     ensures fits { IfOk result (λ r. IsFit lasts.now r) }
+    ensures reads { OnOk result (spec.AreFitReads lasts.now asked.new.items) }
     ensures asked { OnOk result (asked.new.items ≡ asked.old.items ++ (record { source = source; x = x; y = y } ∷ [])) }
 {
     asked.push(Asked { source, x, y })?;
@@ -257,9 +264,11 @@ fn answered(
 ) -> Result<Range, AllocError>
     requires first { IsFit lasts.now x }
     requires second { IsFit lasts.now y }
+    requires reads { spec.AreFitReads lasts.now asked.old.items }
     ensures range { IfOk result (λ r. r ≡ (walking.answer_of lasts.now inputs.now flags.now funcs.now count source x y).range) }
     ensures asked { OnOk result (asked.new.items ≡ asked.old.items ++ (walking.answer_of lasts.now inputs.now flags.now funcs.now count source x y).asked) }
     ensures fits { IfOk result (λ r. IsFit lasts.now r) }
+    ensures reads { OnOk result (spec.AreFitReads lasts.now asked.new.items) }
 {
     let Source::Func(place) = source else {
         let range = ask(lasts, inputs, source, x, y, asked)?;
@@ -334,10 +343,12 @@ pub fn ranged_update(
     expr: &Expr,
     asked: &mut Vec<Asked>,
 ) -> Result<Range, AllocError>
-    requires { spec.AreFit lasts.now variables.now }
+    requires variables { spec.AreFit lasts.now variables.now }
+    requires reads { spec.AreFitReads lasts.now asked.old.items }
     ensures range { IfOk result (λ r. r ≡ (spec.walked_update lasts.now inputs.now flags.now funcs.now count own.now anywhere variables.now expr.now).range) }
     ensures asked { OnOk result (asked.new.items ≡ asked.old.items ++ (spec.walked_update lasts.now inputs.now flags.now funcs.now count own.now anywhere variables.now expr.now).asked) }
     ensures fits { IfOk result (λ r. IsFit lasts.now r) }
+    ensures reads { OnOk result (spec.AreFitReads lasts.now asked.new.items) }
 {
     match expr {
         Expr::Number(number) => Ok(literal(lasts, *number)),

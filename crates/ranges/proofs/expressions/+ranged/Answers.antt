@@ -17,78 +17,78 @@ pub ranged-ranged-requires : goal.ranged-ranged-requires
 ranged-ranged-requires t c =
     let n = nodes-Binary c.args.expr.now c.in-Binary.operation c.in-Binary.a c.in-Binary.b c.in-Binary.is in
     let part : nodes c.get.result.now ≡ nodes c.in-Binary.a = ap nodes c.get.ensures in
-    (rw c.decreases at (less_size c.args.funcs.now c.args.count (nodes c.get.result.now) (nodes c.args.expr.now) (omega (arith, n, part))), c.requires)
+    (rw c.decreases at (less_size c.args.funcs.now c.args.count (nodes c.get.result.now) (nodes c.args.expr.now) (omega (arith, n, part))), (c.requires.variables, c.requires.reads))
 
 pub ranged-ranged-requires-in-Binary : goal.ranged-ranged-requires-in-Binary
 ranged-ranged-requires-in-Binary t c =
     let n = nodes-Binary c.args.expr.now c.in-Binary.operation c.in-Binary.a c.in-Binary.b c.in-Binary.is in
     let part : nodes c.get-in-Binary.result.now ≡ nodes c.in-Binary.b = ap nodes c.get-in-Binary.ensures in
-    (rw c.decreases at (less_size c.args.funcs.now c.args.count (nodes c.get-in-Binary.result.now) (nodes c.args.expr.now) (omega (arith, n, part))), c.requires)
+    (rw c.decreases at (less_size c.args.funcs.now c.args.count (nodes c.get-in-Binary.result.now) (nodes c.args.expr.now) (omega (arith, n, part))), (c.requires.variables, c.in_ok-a-in-Binary.ensures.reads))
 
 pub ranged-ranged-requires-in-Divide : goal.ranged-ranged-requires-in-Divide
 ranged-ranged-requires-in-Divide t c =
     let n = nodes-Divide c.args.expr.now c.in-Divide.a c.in-Divide.divisor c.in-Divide.is in
     let part : nodes c.get-in-Divide.result.now ≡ nodes c.in-Divide.a = ap nodes c.get-in-Divide.ensures in
-    (rw c.decreases at (less_size c.args.funcs.now c.args.count (nodes c.get-in-Divide.result.now) (nodes c.args.expr.now) (omega (arith, n, part))), c.requires)
+    (rw c.decreases at (less_size c.args.funcs.now c.args.count (nodes c.get-in-Divide.result.now) (nodes c.args.expr.now) (omega (arith, n, part))), (c.requires.variables, c.requires.reads))
 
 pub ranged-ranged-requires-in-Remainder : goal.ranged-ranged-requires-in-Remainder
 ranged-ranged-requires-in-Remainder t c =
     let n = nodes-Remainder c.args.expr.now c.in-Remainder.a c.in-Remainder.divisor c.in-Remainder.is in
     let part : nodes c.get-in-Remainder.result.now ≡ nodes c.in-Remainder.a = ap nodes c.get-in-Remainder.ensures in
-    (rw c.decreases at (less_size c.args.funcs.now c.args.count (nodes c.get-in-Remainder.result.now) (nodes c.args.expr.now) (omega (arith, n, part))), c.requires)
+    (rw c.decreases at (less_size c.args.funcs.now c.args.count (nodes c.get-in-Remainder.result.now) (nodes c.args.expr.now) (omega (arith, n, part))), (c.requires.variables, c.requires.reads))
 
 pub ranged-ranged-requires-in-Select : goal.ranged-ranged-requires-in-Select
 ranged-ranged-requires-in-Select t c =
     let n = nodes-Select c.args.expr.now c.in-Select.c c.in-Select.a c.in-Select.b c.in-Select.is in
     let part : nodes c.get-in-Select.result.now ≡ nodes c.in-Select.c = ap nodes c.get-in-Select.ensures in
-    (rw c.decreases at (less_size c.args.funcs.now c.args.count (nodes c.get-in-Select.result.now) (nodes c.args.expr.now) (omega (arith, n, part))), c.requires)
+    (rw c.decreases at (less_size c.args.funcs.now c.args.count (nodes c.get-in-Select.result.now) (nodes c.args.expr.now) (omega (arith, n, part))), (c.requires.variables, c.requires.reads))
 
 pub ranged-ranged-requires-in-Select-2 : goal.ranged-ranged-requires-in-Select-2
 ranged-ranged-requires-in-Select-2 t c =
     let n = nodes-Select c.args.expr.now c.in-Select.c c.in-Select.a c.in-Select.b c.in-Select.is in
     let part : nodes c.get-in-Select-2.result.now ≡ nodes c.in-Select.a = ap nodes c.get-in-Select-2.ensures in
-    (rw c.decreases at (less_size c.args.funcs.now c.args.count (nodes c.get-in-Select-2.result.now) (nodes c.args.expr.now) (omega (arith, n, part))), c.requires)
+    (rw c.decreases at (less_size c.args.funcs.now c.args.count (nodes c.get-in-Select-2.result.now) (nodes c.args.expr.now) (omega (arith, n, part))), (c.requires.variables, c.in_ok-ranged-in-Select.ensures.reads))
 
 pub ranged-ranged-requires-in-Select-3 : goal.ranged-ranged-requires-in-Select-3
 ranged-ranged-requires-in-Select-3 t c =
     let n = nodes-Select c.args.expr.now c.in-Select.c c.in-Select.a c.in-Select.b c.in-Select.is in
     let part : nodes c.get-in-Select-3.result.now ≡ nodes c.in-Select.b = ap nodes c.get-in-Select-3.ensures in
-    (rw c.decreases at (less_size c.args.funcs.now c.args.count (nodes c.get-in-Select-3.result.now) (nodes c.args.expr.now) (omega (arith, n, part))), c.requires)
+    (rw c.decreases at (less_size c.args.funcs.now c.args.count (nodes c.get-in-Select-3.result.now) (nodes c.args.expr.now) (omega (arith, n, part))), (c.requires.variables, c.in_ok-a-in-Select.ensures.reads))
 
 pub ranged-ranged-requires-in-Call1 : goal.ranged-ranged-requires-in-Call1
 ranged-ranged-requires-in-Call1 t c =
     let n = nodes-Call1 c.args.expr.now c.in-Call1.source c.in-Call1.x c.in-Call1.is in
     let part : nodes c.get-in-Call1.result.now ≡ nodes c.in-Call1.x = ap nodes c.get-in-Call1.ensures in
-    (rw c.decreases at (less_size c.args.funcs.now c.args.count (nodes c.get-in-Call1.result.now) (nodes c.args.expr.now) (omega (arith, n, part))), c.requires)
+    (rw c.decreases at (less_size c.args.funcs.now c.args.count (nodes c.get-in-Call1.result.now) (nodes c.args.expr.now) (omega (arith, n, part))), (c.requires.variables, c.requires.reads))
 
 pub ranged-ranged-requires-in-Call2 : goal.ranged-ranged-requires-in-Call2
 ranged-ranged-requires-in-Call2 t c =
     let n = nodes-Call2 c.args.expr.now c.in-Call2.source c.in-Call2.x c.in-Call2.y c.in-Call2.is in
     let part : nodes c.get-in-Call2.result.now ≡ nodes c.in-Call2.x = ap nodes c.get-in-Call2.ensures in
-    (rw c.decreases at (less_size c.args.funcs.now c.args.count (nodes c.get-in-Call2.result.now) (nodes c.args.expr.now) (omega (arith, n, part))), c.requires)
+    (rw c.decreases at (less_size c.args.funcs.now c.args.count (nodes c.get-in-Call2.result.now) (nodes c.args.expr.now) (omega (arith, n, part))), (c.requires.variables, c.requires.reads))
 
 pub ranged-ranged-requires-in-Call2-2 : goal.ranged-ranged-requires-in-Call2-2
 ranged-ranged-requires-in-Call2-2 t c =
     let n = nodes-Call2 c.args.expr.now c.in-Call2.source c.in-Call2.x c.in-Call2.y c.in-Call2.is in
     let part : nodes c.get-in-Call2-2.result.now ≡ nodes c.in-Call2.y = ap nodes c.get-in-Call2-2.ensures in
-    (rw c.decreases at (less_size c.args.funcs.now c.args.count (nodes c.get-in-Call2-2.result.now) (nodes c.args.expr.now) (omega (arith, n, part))), c.requires)
+    (rw c.decreases at (less_size c.args.funcs.now c.args.count (nodes c.get-in-Call2-2.result.now) (nodes c.args.expr.now) (omega (arith, n, part))), (c.requires.variables, c.in_ok-x-in-Call2.ensures.reads))
 
 pub ranged-answered-requires : goal.ranged-answered-requires
 ranged-answered-requires t c =
     let n = nodes-Call1 c.args.expr.now c.in-Call1.source c.in-Call1.x c.in-Call1.is in
-    (rw c.decreases at (less_size c.args.funcs.now c.args.count 0 (nodes c.args.expr.now) (omega (arith, n))), (c.in_ok-x-in-Call1.ensures.fits, c.literal-y.ensures.fits))
+    (rw c.decreases at (less_size c.args.funcs.now c.args.count 0 (nodes c.args.expr.now) (omega (arith, n))), (c.in_ok-x-in-Call1.ensures.fits, (c.literal-y.ensures.fits, c.in_ok-x-in-Call1.ensures.reads)))
 
 pub ranged-answered-requires-in-Call2 : goal.ranged-answered-requires-in-Call2
 ranged-answered-requires-in-Call2 t c =
     let n = nodes-Call2 c.args.expr.now c.in-Call2.source c.in-Call2.x c.in-Call2.y c.in-Call2.is in
-    (rw c.decreases at (less_size c.args.funcs.now c.args.count 0 (nodes c.args.expr.now) (omega (arith, n))), (c.in_ok-x-in-Call2.ensures.fits, c.in_ok-second-in-Call2.ensures.fits))
+    (rw c.decreases at (less_size c.args.funcs.now c.args.count 0 (nodes c.args.expr.now) (omega (arith, n))), (c.in_ok-x-in-Call2.ensures.fits, (c.in_ok-second-in-Call2.ensures.fits, c.in_ok-second-in-Call2.ensures.reads)))
 
 pub answered-ranged-requires : goal.answered-ranged-requires
 answered-ranged-requires t c =
     let found : func_in c.args.funcs.now (flagged c.args.flags.now) c.args.count c.in-Func.place ≡ Some c.in-Some.func.now = sym c.inlined_func.ensures ∙ ap option_copied c.in-Some.is in
     let f = func_in_parts c.args.funcs.now (flagged c.args.flags.now) c.args.count c.in-Func.place c.in-Some.func.now found in (
       rw c.decreases at (less_place c.args.funcs.now c.in-Func.place c.args.count (nodes c.in-Some.func.now.pure) 0 f.0 (few_nodes c.args.funcs.now c.in-Func.place c.in-Some.func.now f.1)),
-      are_fit c.args.lasts.now c.args.x c.args.y c.literal-zero.result c.requires.first c.requires.second c.literal-zero.ensures.fits,
+      (are_fit c.args.lasts.now c.args.x c.args.y c.literal-zero.result c.requires.first c.requires.second c.literal-zero.ensures.fits, c.requires.reads),
     )
 
 pub answered-returns-in_ok-range-in-None-clause-range : goal.answered-returns-in_ok-range-in-None-clause-range
