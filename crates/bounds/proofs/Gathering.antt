@@ -1,0 +1,13 @@
+-- What a loop over reads keeps.
+use Rattle.std.proofs.Common.{◌≡◌, ℕ, Bool, List, Option}
+use Rattle.halide_pipeline.specs.declared.expressions.Source.{Source}
+use Rattle.ranges.specs.declared.expressions.Asked.{Asked}
+use Rattle.ranges.specs.Expressions.{AreFitReads}
+use Rattle.bounds.specs.declared.boxes.HostLoop.{HostLoop}
+use Rattle.bounds.specs.declared.boxes.Spread.{Spread}
+use Rattle.bounds.specs.Boxes.{lasts_of, gathered, IsSpread}
+
+pub record IsGathering (host : Option HostLoop) (lasts : List ℕ) (source : Source) (first second : Bool) (spread : Spread) (asked : List Asked) (found : Spread) (rest : List Asked) : Type 0 where
+  pub same : gathered host lasts source first second found rest ≡ gathered host lasts source first second spread asked
+  pub fits : IsSpread (lasts_of host) found
+  pub reads : AreFitReads lasts rest

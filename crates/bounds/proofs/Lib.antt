@@ -1,0 +1,5 @@
+pub mod Near
+pub mod Gathering
+pub mod Settling
+pub mod Totals
+pub mod Variables

@@ -1,0 +1,21 @@
+-- Boxes that stay within -2^24 to 2^24 are short.
+use Rattle.std.proofs.Common.{◌≡◌, ℕ, ◌+◌, ◌-◌, ◌^◌, ◌≤◌, true, List, arith}
+use Rattle.std.specs.Prelude.{nat_le}
+use Rattle.std.proofs.lemmas.Bool.{and_parts, leb-true}
+use Rattle.ranges.specs.declared.ranges.Range.{Range}
+use Rattle.ranges.specs.Bases.{more_sum, less_sum}
+use Rattle.ranges.specs.Ranges.{origin, IsFit, widened}
+use Rattle.bounds.specs.declared.boxes.SourceBox.{SourceBox}
+use Rattle.bounds.specs.Boxes.{IsBox, are_near}
+
+short : (lasts : List ℕ) (range : Range) → IsFit lasts range → are_near (widened lasts range) ≡ true → range.high ≤ range.low + 2 ^ 25
+short lasts range fits near =
+    let ends = widened lasts range in
+    let parts = and_parts (nat_le (origin - 2 ^ 24) ends.low) (nat_le ends.high (origin + 2 ^ 24)) near in
+    omega (arith, fits.low, fits.high, leb-true (origin - 2 ^ 24) ends.low parts.0, leb-true ends.high (origin + 2 ^ 24) parts.1)
+
+pub short_x : (own : SourceBox) → IsBox own → own.x.high ≤ own.x.low + 2 ^ 25
+short_x own is = short own.lasts own.x is.x (and_parts (are_near (widened own.lasts own.x)) (are_near (widened own.lasts own.y)) is.near).0
+
+pub short_y : (own : SourceBox) → IsBox own → own.y.high ≤ own.y.low + 2 ^ 25
+short_y own is = short own.lasts own.y is.y (and_parts (are_near (widened own.lasts own.x)) (are_near (widened own.lasts own.y)) is.near).1

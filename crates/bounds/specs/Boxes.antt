@@ -1,0 +1,112 @@
+-- Boxes of sources: which points of an input or a Func are read or computed.
+--
+-- A box is a range for each dimension, the second one 0 to 0 where there is one dimension. The box of a Func that is computed at a
+-- loop is that of one iteration: its ranges have bases over the loops of the host, the Func whose loop it is, and `lasts` has the
+-- greatest value of each of these. All other boxes have no base.
+-- This project's own.
+use Rattle.std.specs.Prelude.{◌≡◌, ℕ, ◌+◌, ◌-◌, ◌*◌, ◌^◌, ◌&&◌, nat_le, Bool, true, if◌then◌else◌, List, [], ◌∷◌, Option, Some, None}
+use Rattle.halide_pipeline.specs.declared.expressions.Source.{Source}
+use Rattle.ranges.specs.declared.expressions.Asked.{Asked}
+use Rattle.ranges.specs.declared.ranges.Ends.{Ends}
+use Rattle.ranges.specs.declared.ranges.Range.{Range}
+use Rattle.ranges.specs.Bases.{no_base}
+use Rattle.ranges.specs.Ranges.{origin, ends_of, fit, IsFit, widened, together, hull}
+use Rattle.bounds.specs.declared.boxes.HostLoop.{HostLoop}
+use Rattle.bounds.specs.declared.boxes.SourceBox.{SourceBox}
+use Rattle.bounds.specs.declared.boxes.Spread.{Spread}
+use Rattle.bounds.specs.Sources.{same_source}
+
+-- the greatest values of loops that aren't there
+abbrev pub no_loops : List ℕ
+no_loops = 0 ∷ 0 ∷ 0 ∷ 0 ∷ 0 ∷ []
+
+-- how many numbers a range has, in one iteration
+abbrev pub extent : Range → ℕ
+extent range = range.high + 1 - range.low
+
+-- how many points a box has, in one iteration
+abbrev pub points : SourceBox → ℕ
+points own = extent own.x * extent own.y
+
+-- ---- A box stays within -2^24 to 2^24, whatever the values of the loops.
+
+abbrev pub are_near : Ends → Bool
+are_near ends = nat_le (origin - 2 ^ 24) ends.low && nat_le ends.high (origin + 2 ^ 24)
+
+abbrev pub is_near : SourceBox → Bool
+is_near own = are_near (widened own.lasts own.x) && are_near (widened own.lasts own.y)
+
+-- what boxes keep
+pub record IsBox (own : SourceBox) : Type 0 where
+  pub x : IsFit own.lasts own.x
+  pub y : IsFit own.lasts own.y
+  pub near : is_near own ≡ true
+
+abbrev pub IsBoxOrNone : Option SourceBox → Type 0
+IsBoxOrNone None = Unit {0}
+IsBoxOrNone (Some own) = IsBox own
+
+-- ---- A box is the hull of all ranges in which its source is read. Each dimension is alone. For a Func at a loop all ranges
+-- are widened first if any two of them differ in base; for all others each range is widened.
+
+-- the greatest values of the loops of a box's bases
+abbrev pub lasts_of : Option HostLoop → List ℕ
+lasts_of None = no_loops
+lasts_of (Some host) = host.lasts
+
+-- A range that is asked by a reader with these loops, as one over the loops of the source's host. All that read a Func at a loop
+-- have its host's loops, so nothing is lost.
+abbrev pub taken : Option HostLoop → List ℕ → Range → Range
+taken None lasts range = fit no_loops no_base (widened lasts range)
+taken (Some host) lasts range = fit host.lasts range.base (ends_of range)
+
+abbrev pub with_range : List ℕ → Option Range → Range → Range
+with_range lasts None range = range
+with_range lasts (Some own) range = together lasts hull own range
+
+abbrev pub joined : List ℕ → Bool → Option Range → Range → Option Range
+joined lasts counts own range = if counts then Some (with_range lasts own range) else own
+
+-- with one read, of whose dimensions these count
+abbrev pub with_read : Option HostLoop → List ℕ → Bool → Bool → Spread → Asked → Spread
+with_read host lasts first second spread read = record {
+  x = joined (lasts_of host) first spread.x (taken host lasts read.x);
+  y = joined (lasts_of host) second spread.y (taken host lasts read.y);
+}
+
+-- with all reads of the source among these
+abbrev pub gathered : Option HostLoop → List ℕ → Source → Bool → Bool → Spread → List Asked → Spread
+gathered host lasts source first second spread [] = spread
+gathered host lasts source first second spread (read ∷ others) =
+    gathered host lasts source first second (if same_source read.source source then with_read host lasts first second spread read else spread) others
+
+-- nothing is read yet
+abbrev pub no_spread : Spread
+no_spread = record { x = None; y = None }
+
+abbrev pub box_with : List ℕ → Range → Option Range → Option SourceBox
+box_with lasts x None = None
+box_with lasts x (Some y) = Some (record { x = x; y = y; lasts = lasts })
+
+abbrev pub box_of : List ℕ → Option Range → Option Range → Option SourceBox
+box_of lasts None y = None
+box_of lasts (Some x) y = box_with lasts x y
+
+-- the box of what is read, if anything is
+abbrev pub spread_box : Option HostLoop → Spread → Option SourceBox
+spread_box host spread = box_of (lasts_of host) spread.x spread.y
+
+-- ---- what is joined keeps to the words
+
+abbrev pub IsFitOrNone : List ℕ → Option Range → Type 0
+IsFitOrNone lasts None = Unit {0}
+IsFitOrNone lasts (Some range) = IsFit lasts range
+
+-- the ranges of a box
+abbrev pub IsFitBox : Option SourceBox → Type 0
+IsFitBox None = Unit {0}
+IsFitBox (Some own) = IsFit own.lasts own.x × IsFit own.lasts own.y
+
+pub record IsSpread (lasts : List ℕ) (spread : Spread) : Type 0 where
+  pub x : IsFitOrNone lasts spread.x
+  pub y : IsFitOrNone lasts spread.y

@@ -1,0 +1,4 @@
+pub mod Sources
+pub mod Boxes
+pub mod Views
+pub mod Asks

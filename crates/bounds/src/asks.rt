@@ -1,0 +1,307 @@
+//! What a Func reads that is computed, inlined Funcs put in place.
+
+ghost use Rattle.std.specs.Prelude.{◌≡◌, ◌≤◌, ◌<◌, ◌+◌, ◌^◌, ◌++◌, OnOk, IfOk};
+ghost use Rattle.ranges.specs.Expressions.{AreFit, AreFitReads};
+ghost use Rattle.ranges.specs.Ranges as ranges;
+ghost use Rattle.ranges.specs.Ranges.{IsFit};
+ghost use Rattle.bounds.specs.Asks as spec;
+
+use crate::boxes::{NO_LOOPS, SourceBox};
+use halide_pipeline::{Expr, Func, Input, Reduction, Source, Update};
+use ranges::bases::no_base;
+use ranges::expressions::{Asked, OwnCalls, Variables, ranged, ranged_update};
+use ranges::ranges::{Ends, LEAST, Lasts, Range, fit, literal};
+use std::alloc::AllocError;
+
+/// The end that stands for a word, as a signed number.
+fn spot(word: u32) -> u64
+    ensures is { result ≡ ranges.spot word }
+    ensures high { result ≤ 2 ^ 62 + 2 ^ 31 }
+{
+    u64::from(word.wrapping_add(1 << 31)) + LEAST
+}
+
+/// The range of a reduction variable.
+fn reduction_range(lasts: &Lasts, own: &Reduction) -> Range
+    ensures value { result ≡ spec.reduction_range lasts.now own.now }
+    ensures fits { IsFit lasts.now result }
+{
+    let low = spot(own.minimum);
+    let ends = Ends {
+        low,
+        high: low + u64::from(own.extent.saturating_sub(1)),
+    };
+    fit(lasts, no_base(), ends)
+}
+
+/// The range of a second one, 0 where there is none.
+fn second_range(lasts: &Lasts, second: &Option<Reduction>) -> Range
+    ensures value { result ≡ spec.second_range lasts.now second.now }
+    ensures fits { IsFit lasts.now result }
+{
+    match second {
+        None => literal(lasts, 0),
+        Some(own) => reduction_range(lasts, own),
+    }
+}
+
+/// The variables of a pure definition, whose arguments lie in this box.
+#[tactic(auto, using(crate::proofs::Variables::are_fit))]
+fn pure_variables(view: &SourceBox) -> Variables
+    requires x { IsFit view.now.lasts view.now.x }
+    requires y { IsFit view.now.lasts view.now.y }
+    ensures value { result ≡ spec.pure_variables view.now }
+    ensures fits { AreFit view.now.lasts result }
+{
+    let zero = literal(&view.lasts, 0);
+    Variables {
+        first_argument: view.x,
+        second_argument: view.y,
+        first_reduction: zero,
+        second_reduction: zero,
+    }
+}
+
+/// Those of an update.
+#[tactic(auto, using(crate::proofs::Variables::are_fit))]
+fn update_variables(view: &SourceBox, update: &Update) -> Variables
+    requires x { IsFit view.now.lasts view.now.x }
+    requires y { IsFit view.now.lasts view.now.y }
+    ensures value { result ≡ spec.update_variables view.now update.now }
+    ensures fits { AreFit view.now.lasts result }
+{
+    Variables {
+        first_argument: view.x,
+        second_argument: view.y,
+        first_reduction: reduction_range(&view.lasts, &update.first),
+        second_reduction: second_range(&view.lasts, &update.second),
+    }
+}
+
+fn own_calls(place: usize, update: &Update) -> OwnCalls
+    ensures { result ≡ spec.own_calls place update.now }
+{
+    OwnCalls {
+        func: place,
+        first_in_place: update.is_first_in_place(),
+        second_in_place: update.is_second_in_place(),
+    }
+}
+
+/// The range of a left index, behind what it reads.
+#[tactic(auto, unfolding(crate::specs::Asks::left))]
+fn ask_left(
+    inputs: &[Input],
+    funcs: &[Func],
+    flags: &[bool],
+    place: usize,
+    view: &SourceBox,
+    update: &Update,
+    index: &Expr,
+    asked: &mut Vec<Asked>,
+) -> Result<Range, AllocError>
+    requires x { IsFit view.now.lasts view.now.x }
+    requires y { IsFit view.now.lasts view.now.y }
+    requires reads { AreFitReads view.now.lasts asked.old.items }
+    ensures range { IfOk result (λ r. r ≡ (spec.left inputs.now funcs.now flags.now place view.now update.now index.now).range) }
+    ensures fits { IfOk result (λ r. IsFit view.now.lasts r) }
+    ensures asked { OnOk result (asked.new.items ≡ asked.old.items ++ (spec.left inputs.now funcs.now flags.now place view.now update.now index.now).asked) }
+    ensures reads { OnOk result (AreFitReads view.now.lasts asked.new.items) }
+{
+    let variables = update_variables(view, update);
+    let own = own_calls(place, update);
+    let range = ranged_update(
+        &view.lasts,
+        inputs,
+        funcs,
+        flags,
+        place,
+        &own,
+        true,
+        &variables,
+        index,
+        asked,
+    )?;
+    Ok(range)
+}
+
+/// The same of a second left index; 0 where there is none.
+fn ask_second_left(
+    inputs: &[Input],
+    funcs: &[Func],
+    flags: &[bool],
+    place: usize,
+    view: &SourceBox,
+    update: &Update,
+    asked: &mut Vec<Asked>,
+) -> Result<Range, AllocError>
+    requires x { IsFit view.now.lasts view.now.x }
+    requires y { IsFit view.now.lasts view.now.y }
+    requires reads { AreFitReads view.now.lasts asked.old.items }
+    ensures range { IfOk result (λ r. r ≡ (spec.second_left inputs.now funcs.now flags.now place view.now update.now update.now.left_y).range) }
+    ensures fits { IfOk result (λ r. IsFit view.now.lasts r) }
+    ensures asked { OnOk result (asked.new.items ≡ asked.old.items ++ (spec.second_left inputs.now funcs.now flags.now place view.now update.now update.now.left_y).asked) }
+    ensures reads { OnOk result (AreFitReads view.now.lasts asked.new.items) }
+{
+    match &update.left_y {
+        None => Ok(literal(&view.lasts, 0)),
+        Some(index) => {
+            let range = ask_left(inputs, funcs, flags, place, view, update, index, asked)?;
+            Ok(range)
+        }
+    }
+}
+
+/// Appends what the right side of an update reads.
+#[tactic(auto, unfolding(crate::specs::Asks::right))]
+fn ask_right(
+    inputs: &[Input],
+    funcs: &[Func],
+    flags: &[bool],
+    place: usize,
+    view: &SourceBox,
+    update: &Update,
+    asked: &mut Vec<Asked>,
+) -> Result<(), AllocError>
+    requires few { place < 2 ^ 63 }
+    requires x { IsFit view.now.lasts view.now.x }
+    requires y { IsFit view.now.lasts view.now.y }
+    requires reads { AreFitReads view.now.lasts asked.old.items }
+    ensures asked { OnOk result (asked.new.items ≡ asked.old.items ++ (spec.right inputs.now funcs.now flags.now place view.now update.now).asked) }
+    ensures reads { OnOk result (AreFitReads view.now.lasts asked.new.items) }
+{
+    let variables = update_variables(view, update);
+    let own = own_calls(place, update);
+    ranged_update(
+        &view.lasts,
+        inputs,
+        funcs,
+        flags,
+        place + 1,
+        &own,
+        false,
+        &variables,
+        &update.right,
+        asked,
+    )?;
+    Ok(())
+}
+
+/// Appends what an update of the Func at a place reads, and its left side as a read of the Func.
+#[tactic(auto, unfolding(crate::specs::Asks::update_asked), using(ranges::proofs::Walking::fit_behind))]
+pub fn ask_update(
+    inputs: &[Input],
+    funcs: &[Func],
+    flags: &[bool],
+    place: usize,
+    view: &SourceBox,
+    update: &Update,
+    asked: &mut Vec<Asked>,
+) -> Result<(), AllocError>
+    requires few { place < 2 ^ 63 }
+    requires x { IsFit view.now.lasts view.now.x }
+    requires y { IsFit view.now.lasts view.now.y }
+    requires reads { AreFitReads view.now.lasts asked.old.items }
+    ensures asked { OnOk result (asked.new.items ≡ asked.old.items ++ spec.update_asked inputs.now funcs.now flags.now place view.now update.now) }
+    ensures reads { OnOk result (AreFitReads view.now.lasts asked.new.items) }
+{
+    let x = ask_left(
+        inputs,
+        funcs,
+        flags,
+        place,
+        view,
+        update,
+        &update.left_x,
+        asked,
+    )?;
+    let y = ask_second_left(inputs, funcs, flags, place, view, update, asked)?;
+    asked.push(Asked {
+        source: Source::Func(place),
+        x,
+        y,
+    })?;
+    ask_right(inputs, funcs, flags, place, view, update, asked)?;
+    Ok(())
+}
+
+/// The same of updates.
+fn ask_updates(
+    inputs: &[Input],
+    funcs: &[Func],
+    flags: &[bool],
+    place: usize,
+    view: &SourceBox,
+    updates: &[Update],
+    asked: &mut Vec<Asked>,
+) -> Result<(), AllocError>
+    requires few { place < 2 ^ 63 }
+    requires x { IsFit view.now.lasts view.now.x }
+    requires y { IsFit view.now.lasts view.now.y }
+    requires reads { AreFitReads view.now.lasts asked.old.items }
+    ensures asked { OnOk result (asked.new.items ≡ asked.old.items ++ spec.updates_asked inputs.now funcs.now flags.now place view.now updates.now) }
+    ensures reads { OnOk result (AreFitReads view.now.lasts asked.new.items) }
+{
+    match updates {
+        [] => Ok(()),
+        [update, others @ ..] => {
+            ask_update(inputs, funcs, flags, place, view, update, asked)?;
+            ask_updates(inputs, funcs, flags, place, view, others, asked)?;
+            Ok(())
+        }
+    }
+}
+
+/// Appends all that the Func at a place reads, whose arguments lie in this box.
+pub fn ask_func(
+    inputs: &[Input],
+    funcs: &[Func],
+    flags: &[bool],
+    place: usize,
+    view: &SourceBox,
+    func: &Func,
+    asked: &mut Vec<Asked>,
+) -> Result<(), AllocError>
+    requires few { place < 2 ^ 63 }
+    requires x { IsFit view.now.lasts view.now.x }
+    requires y { IsFit view.now.lasts view.now.y }
+    requires reads { AreFitReads view.now.lasts asked.old.items }
+    ensures asked { OnOk result (asked.new.items ≡ asked.old.items ++ spec.func_asked inputs.now funcs.now flags.now place view.now func.now) }
+    ensures reads { OnOk result (AreFitReads view.now.lasts asked.new.items) }
+{
+    let variables = pure_variables(view);
+    ranged(
+        &view.lasts,
+        inputs,
+        funcs,
+        flags,
+        place,
+        &variables,
+        &func.pure,
+        asked,
+    )?;
+    ask_updates(
+        inputs,
+        funcs,
+        flags,
+        place,
+        view,
+        func.updates.as_slice(),
+        asked,
+    )?;
+    Ok(())
+}
+
+/// Where what stands in place has no range of its own.
+pub fn unplaced() -> SourceBox
+    ensures value { result ≡ spec.unplaced }
+    ensures x { IsFit result.lasts result.x }
+    ensures y { IsFit result.lasts result.y }
+{
+    let zero = literal(&NO_LOOPS, 0);
+    SourceBox {
+        x: zero,
+        y: zero,
+        lasts: NO_LOOPS,
+    }
+}

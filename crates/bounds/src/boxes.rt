@@ -1,0 +1,211 @@
+//! Boxes of sources.
+
+ghost use Rattle.std.specs.Prelude.{◌≡◌, ◌≤◌, ◌+◌, ◌^◌};
+ghost use Rattle.bounds.specs.Boxes as spec;
+ghost use Rattle.bounds.specs.Views as views;
+ghost use Rattle.ranges.specs.Expressions.{AreFitReads};
+ghost use Rattle.ranges.specs.Ranges.{IsFit};
+
+use crate::sources::same_source;
+use halide_pipeline::Source;
+use ranges::bases::no_base;
+use ranges::expressions::Asked;
+use ranges::ranges::{Ends, Lasts, ORIGIN, Range, fit, hull, widened};
+use schedule_lines::LoopId;
+use stage_loops::Extents;
+
+/// Which points of a source are read or computed: a range for each dimension, the second one 0 to 0 where there is
+/// one dimension.
+///
+/// That of a Func computed at a loop is its box in one iteration of the loop: its ranges have bases over the loops
+/// of the Func whose loop it is. All other boxes have no base.
+#[derive(Clone, Copy, Debug)]
+pub struct SourceBox {
+    pub x: Range,
+    pub y: Range,
+    /// The greatest value of each loop of the bases, innermost first.
+    pub lasts: Lasts,
+}
+
+/// The loop at which a Func is computed.
+#[derive(Clone, Copy, Debug)]
+pub struct HostLoop {
+    pub inside: LoopId,
+    /// How many loops of its stage stand inside it.
+    pub inner: usize,
+    /// The greatest value of each loop of its stage, innermost first.
+    pub lasts: Lasts,
+}
+
+/// The ranges so far in which a source is read.
+#[derive(Clone, Copy, Debug)]
+pub struct Spread {
+    pub x: Option<Range>,
+    pub y: Option<Range>,
+}
+
+/// The greatest values of loops that aren't there.
+pub const NO_LOOPS: Lasts = [0; 5];
+
+/// How many numbers a range has, in one iteration.
+fn extent(range: &Range) -> u32
+    requires ordered { range.now.low ≤ range.now.high }
+    requires short { range.now.high ≤ range.now.low + 2 ^ 25 }
+    ensures is { result ≡ spec.extent range.now }
+    ensures few { result ≤ 2 ^ 25 + 1 }
+{
+    (range.high - range.low + 1) as u32
+}
+
+/// How many values the arguments take in a box, in one iteration.
+#[tactic(auto, using(crate::proofs::Near::short_x, crate::proofs::Near::short_y))]
+pub fn extents_of(own: &SourceBox) -> Extents
+    requires { spec.IsBox own.now }
+    ensures { result ≡ views.extents_of own.now }
+{
+    Extents {
+        first_argument: extent(&own.x),
+        second_argument: extent(&own.y),
+        first_reduction: 0,
+        second_reduction: 0,
+    }
+}
+
+/// How many points a box has, in one iteration.
+#[tactic(auto, using(crate::proofs::Near::short_x, crate::proofs::Near::short_y))]
+pub fn points(own: &SourceBox) -> u64
+    requires { spec.IsBox own.now }
+    ensures { result ≡ spec.points own.now }
+{
+    u64::from(extent(&own.x)) * u64::from(extent(&own.y))
+}
+
+/// Whether ends lie from -2^24 to 2^24.
+fn are_near(ends: Ends) -> bool
+    ensures { result ≡ spec.are_near ends }
+{
+    ORIGIN - (1 << 24) <= ends.low && ends.high <= ORIGIN + (1 << 24)
+}
+
+/// Whether a box stays from -2^24 to 2^24, whatever the values of the loops.
+pub fn is_near(own: &SourceBox) -> bool
+    requires first { IsFit own.now.lasts own.now.x }
+    requires second { IsFit own.now.lasts own.now.y }
+    ensures { result ≡ spec.is_near own.now }
+{
+    are_near(widened(&own.lasts, &own.x)) && are_near(widened(&own.lasts, &own.y))
+}
+
+/// The greatest values of the loops of the host.
+fn lasts_of(host: &Option<HostLoop>) -> Lasts
+    ensures { result ≡ spec.lasts_of host.now }
+{
+    match host {
+        None => NO_LOOPS,
+        Some(host) => host.lasts,
+    }
+}
+
+/// A range that is asked by a reader with these loops, as one over the loops of the source's host.
+fn taken(host: &Option<HostLoop>, lasts: &Lasts, range: &Range) -> Range
+    requires { IsFit lasts.now range.now }
+    ensures value { result ≡ spec.taken host.now lasts.now range.now }
+    ensures fits { IsFit (spec.lasts_of host.now) result }
+{
+    match host {
+        None => fit(&NO_LOOPS, no_base(), widened(lasts, range)),
+        Some(host) => {
+            let ends = Ends {
+                low: range.low,
+                high: range.high,
+            };
+            fit(&host.lasts, range.base, ends)
+        }
+    }
+}
+
+/// The hull of the ranges so far and another one, if that counts.
+fn joined(lasts: &Lasts, counts: bool, own: Option<Range>, range: Range) -> Option<Range>
+    requires own { spec.IsFitOrNone lasts.now own }
+    requires other { IsFit lasts.now range }
+    ensures value { result ≡ spec.joined lasts.now counts own range }
+    ensures fits { spec.IsFitOrNone lasts.now result }
+{
+    if !counts {
+        return own;
+    }
+    match own {
+        None => Some(range),
+        Some(own) => Some(hull(lasts, &own, &range)),
+    }
+}
+
+/// The ranges so far with one read, of whose dimensions these count.
+fn with_read(
+    host: &Option<HostLoop>,
+    lasts: &Lasts,
+    first: bool,
+    second: bool,
+    spread: Spread,
+    read: &Asked,
+) -> Spread
+    requires spread { spec.IsSpread (spec.lasts_of host.now) spread }
+    requires first { IsFit lasts.now read.now.x }
+    requires second { IsFit lasts.now read.now.y }
+    ensures value { result ≡ spec.with_read host.now lasts.now first second spread read.now }
+    ensures fits { spec.IsSpread (spec.lasts_of host.now) result }
+{
+    let own = lasts_of(host);
+    let x = taken(host, lasts, &read.x);
+    let y = taken(host, lasts, &read.y);
+    Spread {
+        x: joined(&own, first, spread.x, x),
+        y: joined(&own, second, spread.y, y),
+    }
+}
+
+/// The ranges so far with all reads of a source among these, of whose dimensions these count.
+#[tactic(auto, unfolding(ranges::specs::Expressions::AreFitReads))]
+pub fn gathered(
+    host: &Option<HostLoop>,
+    lasts: &Lasts,
+    source: Source,
+    first: bool,
+    second: bool,
+    spread: Spread,
+    asked: &[Asked],
+) -> Spread
+    requires spread { spec.IsSpread (spec.lasts_of host.now) spread }
+    requires asked { AreFitReads lasts.now asked.now }
+    ensures value { result ≡ spec.gathered host.now lasts.now source first second spread asked.now }
+    ensures fits { spec.IsSpread (spec.lasts_of host.now) result }
+{
+    let mut found = spread;
+    let mut rest = asked;
+    'reads: while let [read, others @ ..] = rest {
+        if same_source(read.source, source) {
+            found = with_read(host, lasts, first, second, found, read);
+        }
+        rest = others;
+    }
+    found
+}
+
+/// No ranges so far.
+pub const NO_SPREAD: Spread = Spread { x: None, y: None };
+
+/// The box of what is read, if anything is.
+pub fn spread_box(host: &Option<HostLoop>, spread: Spread) -> Option<SourceBox>
+    requires { spec.IsSpread (spec.lasts_of host.now) spread }
+    ensures value { result ≡ spec.spread_box host.now spread }
+    ensures fits { spec.IsFitBox result }
+{
+    match (spread.x, spread.y) {
+        (Some(x), Some(y)) => Some(SourceBox {
+            x,
+            y,
+            lasts: lasts_of(host),
+        }),
+        _ => None,
+    }
+}

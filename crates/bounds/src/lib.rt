@@ -1,0 +1,14 @@
+//! Which points of each source an accepted schedule computes or reads.
+//!
+//! - [`boxes`]: the box of a source, as the hull of the ranges in which it is read (`specs/Boxes.antt`).
+//! - [`views`]: between which numbers a Func's arguments lie where it reads a source (`specs/Views.antt`).
+//! - [`asks`]: what a Func reads that is computed (`specs/Asks.antt`).
+//! - [`sources`]: sources told apart.
+#![tactic(auto)]
+
+pub mod asks;
+pub mod boxes;
+pub mod sources;
+pub mod views;
+
+pub use crate::boxes::SourceBox;
