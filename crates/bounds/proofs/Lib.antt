@@ -3,3 +3,4 @@ pub mod Gathering
 pub mod Settling
 pub mod Totals
 pub mod Variables
+pub mod NoReads

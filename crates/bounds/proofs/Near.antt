@@ -1,12 +1,12 @@
 -- Boxes that stay within -2^24 to 2^24 are short.
-use Rattle.std.proofs.Common.{◌≡◌, ℕ, ◌+◌, ◌-◌, ◌^◌, ◌≤◌, true, List, arith}
+use Rattle.std.proofs.Common.{◌≡◌, ℕ, ◌+◌, ◌-◌, ◌^◌, ◌≤◌, true, List, Option, Some, None, arith}
 use Rattle.std.specs.Prelude.{nat_le}
 use Rattle.std.proofs.lemmas.Bool.{and_parts, leb-true}
 use Rattle.ranges.specs.declared.ranges.Range.{Range}
 use Rattle.ranges.specs.Bases.{more_sum, less_sum}
 use Rattle.ranges.specs.Ranges.{origin, IsFit, widened}
 use Rattle.bounds.specs.declared.boxes.SourceBox.{SourceBox}
-use Rattle.bounds.specs.Boxes.{IsBox, are_near}
+use Rattle.bounds.specs.Boxes.{IsBox, IsBoxOrNone, IsFitBox, are_near, stays}
 
 short : (lasts : List ℕ) (range : Range) → IsFit lasts range → are_near (widened lasts range) ≡ true → range.high ≤ range.low + 2 ^ 25
 short lasts range fits near =
@@ -19,3 +19,7 @@ short_x own is = short own.lasts own.x is.x (and_parts (are_near (widened own.la
 
 pub short_y : (own : SourceBox) → IsBox own → own.y.high ≤ own.y.low + 2 ^ 25
 short_y own is = short own.lasts own.y is.y (and_parts (are_near (widened own.lasts own.x)) (are_near (widened own.lasts own.y)) is.near).1
+
+pub is_box : (own : Option SourceBox) → IsFitBox own → stays own ≡ true → IsBoxOrNone own
+is_box None fits near = tt
+is_box (Some own) fits near = record { x = fits.0; y = fits.1; near = near }

@@ -74,7 +74,7 @@ module _ (inputs : List Input) (funcs : List Func) (flags : List Bool) (place : 
   updates_asked (update ∷ others) = update_asked update ++ updates_asked others
 
   -- ---- all of the Func at this place
-  abbrev pub func_asked : Func → List Asked
+  unfoldable pub func_asked : Func → List Asked
   func_asked func = (walked view.lasts inputs flags funcs place (pure_variables view) func.pure).asked ++ updates_asked func.updates
 
 -- where what stands in place has no range of its own

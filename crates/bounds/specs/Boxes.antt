@@ -5,6 +5,7 @@
 -- greatest value of each of these. All other boxes have no base.
 -- This project's own.
 use Rattle.std.specs.Prelude.{◌≡◌, ℕ, ◌+◌, ◌-◌, ◌*◌, ◌^◌, ◌&&◌, nat_le, Bool, true, if◌then◌else◌, List, [], ◌∷◌, Option, Some, None}
+use Rattle.std.specs.List.{AllByRecursion}
 use Rattle.halide_pipeline.specs.declared.expressions.Source.{Source}
 use Rattle.ranges.specs.declared.expressions.Asked.{Asked}
 use Rattle.ranges.specs.declared.ranges.Ends.{Ends}
@@ -45,6 +46,18 @@ pub record IsBox (own : SourceBox) : Type 0 where
 abbrev pub IsBoxOrNone : Option SourceBox → Type 0
 IsBoxOrNone None = Unit {0}
 IsBoxOrNone (Some own) = IsBox own
+
+-- ---- boxes one in front of the other, each of which stays within -2^24 to 2^24
+
+abbrev pub stays : Option SourceBox → Bool
+stays None = true
+stays (Some own) = is_near own
+
+abbrev pub AreBoxes : List (Option SourceBox) → Type 0
+AreBoxes boxes = AllByRecursion IsBoxOrNone boxes
+
+abbrev pub in_front : Option SourceBox → List (Option SourceBox) → Option (List (Option SourceBox))
+in_front own behind = if stays own then Some (own ∷ behind) else None
 
 -- ---- A box is the hull of all ranges in which its source is read. Each dimension is alone. For a Func at a loop all ranges
 -- are widened first if any two of them differ in base; for all others each range is widened.

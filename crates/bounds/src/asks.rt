@@ -253,6 +253,7 @@ fn ask_updates(
 }
 
 /// Appends all that the Func at a place reads, whose arguments lie in this box.
+#[tactic(auto, unfolding(crate::specs::Asks::func_asked))]
 pub fn ask_func(
     inputs: &[Input],
     funcs: &[Func],

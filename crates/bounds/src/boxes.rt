@@ -97,7 +97,7 @@ pub fn is_near(own: &SourceBox) -> bool
 }
 
 /// The greatest values of the loops of the host.
-fn lasts_of(host: &Option<HostLoop>) -> Lasts
+pub fn lasts_of(host: &Option<HostLoop>) -> Lasts
     ensures { result ≡ spec.lasts_of host.now }
 {
     match host {

@@ -3,12 +3,18 @@
 //! - [`boxes`]: the box of a source, as the hull of the ranges in which it is read (`specs/Boxes.antt`).
 //! - [`views`]: between which numbers a Func's arguments lie where it reads a source (`specs/Views.antt`).
 //! - [`asks`]: what a Func reads that is computed (`specs/Asks.antt`).
+//! - [`readings`], [`inference`], [`source_boxes`]: the boxes of all sources, from the output back
+//!   (`specs/Inference.antt`).
 //! - [`sources`]: sources told apart.
 #![tactic(auto)]
 
 pub mod asks;
 pub mod boxes;
+pub mod inference;
+pub mod readings;
+pub mod source_boxes;
 pub mod sources;
 pub mod views;
 
 pub use crate::boxes::SourceBox;
+pub use crate::source_boxes::SourceBoxes;

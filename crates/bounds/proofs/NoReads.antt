@@ -1,0 +1,9 @@
+-- No reads.
+use Rattle.std.proofs.Common.{◌≡◌, ℕ, List, [], ◌∷◌}
+use Rattle.ranges.specs.declared.expressions.Asked.{Asked}
+use Rattle.ranges.specs.Expressions.{AreFitReads}
+
+pub none_fit : (lasts : List ℕ) (reads : List Asked) → reads ≡ [] → AreFitReads lasts reads
+unfolding AreFitReads
+none_fit lasts [] is = tt
+none_fit lasts (read ∷ others) is = absurd cc

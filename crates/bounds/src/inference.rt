@@ -1,0 +1,239 @@
+//! The boxes of all sources, from the output back.
+
+ghost use Rattle.std.specs.Prelude.{◌≡◌, ◌+◌, ◌<◌, ◌^◌, IfOk, length, slice_get};
+ghost use Rattle.bounds.specs.Boxes.{AreBoxes, IsFitBox, IsBoxOrNone, IsSpread, lasts_of};
+ghost use Rattle.bounds.specs.Inference as spec;
+ghost use Rattle.bounds.specs.Views.{AreSmall};
+ghost use Rattle.ranges.specs.Ranges.{IsFit};
+
+use crate::boxes::{HostLoop, NO_SPREAD, SourceBox, Spread, lasts_of, spread_box};
+use crate::readings::{own_updates, read_from};
+use crate::source_boxes::{SourceBoxes, in_front};
+use crate::views::host_loop;
+use halide_pipeline::{Func, Input, Pipeline, Source};
+use ranges::bases::no_base;
+use ranges::ranges::{Ends, Lasts, ORIGIN, Range, fit};
+use schedule::{LoopPlace, Place, Schedule};
+use std::alloc::{AllocError, Global};
+
+/// So many pixels from 0 on.
+fn pixels_range(lasts: &Lasts, count: u32) -> Range
+    ensures value { result ≡ spec.pixels_range lasts.now count }
+    ensures fits { IsFit lasts.now result }
+{
+    let ends = Ends {
+        low: ORIGIN,
+        high: ORIGIN + u64::from(count.saturating_sub(1)),
+    };
+    fit(lasts, no_base(), ends)
+}
+
+/// The output's picture is wanted, of other Funcs nothing yet.
+fn wanted(pipeline: &Pipeline, at: usize, host: &Option<HostLoop>) -> Spread
+    ensures value { result ≡ spec.wanted pipeline.now.output at host.now }
+    ensures fits { IsSpread (lasts_of host.now) result }
+{
+    let output = pipeline.output();
+    if at != output.func {
+        return NO_SPREAD;
+    }
+    let lasts = lasts_of(host);
+    Spread {
+        x: Some(pixels_range(&lasts, output.width)),
+        y: Some(pixels_range(&lasts, output.height)),
+    }
+}
+
+/// The box of the Func at a place, among those from one on.
+fn box_at(place: usize, at: usize, boxes: &[Option<SourceBox>]) -> Option<SourceBox>
+    requires few { at + length boxes.now < 2 ^ 63 }
+    requires boxes { AreBoxes boxes.now }
+    ensures value { result ≡ spec.box_at place at boxes.now }
+    ensures near { IsBoxOrNone result }
+{
+    match boxes {
+        [] => None,
+        [first, others @ ..] => {
+            if at == place {
+                *first
+            } else {
+                box_at(place, at + 1, others)
+            }
+        }
+    }
+}
+
+/// The loop at which a Func is computed, of one of the Funcs from a place on.
+fn host_of(
+    alloc: Global,
+    schedule: &Schedule,
+    at: usize,
+    behind: &[Option<SourceBox>],
+    place: LoopPlace,
+) -> Result<Option<HostLoop>, AllocError>
+    requires few { at + length behind.now < 2 ^ 63 }
+    requires small { AreSmall schedule.now }
+    requires boxes { AreBoxes behind.now }
+    ensures { IfOk result (λ host. host ≡ spec.host_of place (slice_get schedule.now.funcs place.func) (spec.box_at place.func at behind.now)) }
+{
+    let Some(plan) = schedule.funcs.get(place.func) else {
+        return Ok(None);
+    };
+    match box_at(place.func, at, behind) {
+        None => Ok(None),
+        Some(own) => Ok(Some(host_loop(alloc, plan, &own, place.inside)?)),
+    }
+}
+
+/// The box of a Func that is computed.
+fn computed_box(
+    alloc: Global,
+    pipeline: &Pipeline,
+    schedule: &Schedule,
+    flags: &[bool],
+    at: usize,
+    func: &Func,
+    behind: &[Option<SourceBox>],
+    host: &Option<HostLoop>,
+) -> Result<Option<SourceBox>, AllocError>
+    requires few { at + 1 + length behind.now < 2 ^ 63 }
+    requires small { AreSmall schedule.now }
+    requires boxes { AreBoxes behind.now }
+    ensures value { IfOk result (λ s. s ≡ spec.computed_box pipeline.now schedule.now flags.now at func.now behind.now host.now) }
+    ensures fits { IfOk result (λ own. IsFitBox own) }
+{
+    let updates = func.updates.as_slice();
+    let spread = wanted(pipeline, at, host);
+    let spread = own_updates(alloc, pipeline, flags, at, host, spread, updates)?;
+    let source = Source::Func(at);
+    let spread = read_from(
+        alloc,
+        pipeline,
+        schedule,
+        flags,
+        at + 1,
+        host,
+        source,
+        behind,
+        spread,
+    )?;
+    Ok(spread_box(host, spread))
+}
+
+/// The box of the Func at a place, if it is computed.
+fn func_box(
+    alloc: Global,
+    pipeline: &Pipeline,
+    schedule: &Schedule,
+    flags: &[bool],
+    at: usize,
+    func: &Func,
+    behind: &[Option<SourceBox>],
+) -> Result<Option<SourceBox>, AllocError>
+    requires few { at + 1 + length behind.now < 2 ^ 63 }
+    requires small { AreSmall schedule.now }
+    requires boxes { AreBoxes behind.now }
+    ensures value { IfOk result (λ s. s ≡ spec.func_box pipeline.now schedule.now flags.now at func.now behind.now (slice_get schedule.now.standings at)) }
+    ensures fits { IfOk result (λ own. IsFitBox own) }
+{
+    let Some(own) = schedule.standing(at) else {
+        return Ok(None);
+    };
+    if !own.is_reached {
+        return Ok(None);
+    }
+    let host = match own.place {
+        Place::Root => None,
+        Place::At(place) => host_of(alloc, schedule, at + 1, behind, place)?,
+        Place::Inlined | Place::Nowhere => return Ok(None),
+    };
+    let own = computed_box(alloc, pipeline, schedule, flags, at, func, behind, &host)?;
+    Ok(own)
+}
+
+/// The boxes of the Funcs from a place on; None where one leaves -2^24 to 2^24.
+pub fn boxes_from(
+    alloc: Global,
+    pipeline: &Pipeline,
+    schedule: &Schedule,
+    flags: &[bool],
+    at: usize,
+    funcs: &[Func],
+) -> Result<Option<SourceBoxes>, AllocError>
+    requires few { at + length funcs.now < 2 ^ 63 }
+    requires small { AreSmall schedule.now }
+    ensures value { IfOk result (λ s. s ≡ spec.boxes_from pipeline.now schedule.now flags.now at funcs.now) }
+    ensures count { IfOk result (λ s. spec.HasCount (length funcs.now) s) }
+{
+    match funcs {
+        [] => Ok(Some(SourceBoxes::new(alloc))),
+        [func, others @ ..] => {
+            let Some(behind) = boxes_from(alloc, pipeline, schedule, flags, at + 1, others)? else {
+                return Ok(None);
+            };
+            let own = func_box(
+                alloc,
+                pipeline,
+                schedule,
+                flags,
+                at,
+                func,
+                behind.as_slice(),
+            )?;
+            let boxes = in_front(own, behind)?;
+            Ok(boxes)
+        }
+    }
+}
+
+/// The box of the input at a place.
+fn input_box(
+    alloc: Global,
+    pipeline: &Pipeline,
+    schedule: &Schedule,
+    flags: &[bool],
+    boxes: &[Option<SourceBox>],
+    place: usize,
+) -> Result<Option<SourceBox>, AllocError>
+    requires few { length boxes.now < 2 ^ 63 }
+    requires small { AreSmall schedule.now }
+    requires boxes { AreBoxes boxes.now }
+    ensures value { IfOk result (λ s. s ≡ spec.input_box pipeline.now schedule.now flags.now boxes.now place) }
+    ensures fits { IfOk result (λ own. IsFitBox own) }
+{
+    let source = Source::Input(place);
+    let spread = read_from(
+        alloc, pipeline, schedule, flags, 0, &None, source, boxes, NO_SPREAD,
+    )?;
+    Ok(spread_box(&None, spread))
+}
+
+/// The boxes of the inputs from a place on; None where one leaves -2^24 to 2^24.
+pub fn inputs_from(
+    alloc: Global,
+    pipeline: &Pipeline,
+    schedule: &Schedule,
+    flags: &[bool],
+    boxes: &[Option<SourceBox>],
+    place: usize,
+    inputs: &[Input],
+) -> Result<Option<SourceBoxes>, AllocError>
+    requires few { length boxes.now < 2 ^ 63 }
+    requires places { place + length inputs.now < 2 ^ 63 }
+    requires small { AreSmall schedule.now }
+    requires boxes { AreBoxes boxes.now }
+    ensures value { IfOk result (λ s. s ≡ spec.inputs_from pipeline.now schedule.now flags.now boxes.now place inputs.now) }
+{
+    match inputs {
+        [] => Ok(Some(SourceBoxes::new(alloc))),
+        [_, others @ ..] => {
+            let behind = inputs_from(alloc, pipeline, schedule, flags, boxes, place + 1, others)?;
+            let Some(behind) = behind else {
+                return Ok(None);
+            };
+            let own = input_box(alloc, pipeline, schedule, flags, boxes, place)?;
+            let boxes = in_front(own, behind)?;
+            Ok(boxes)
+        }
+    }
+}
