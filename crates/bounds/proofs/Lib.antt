@@ -4,3 +4,4 @@ pub mod Settling
 pub mod Totals
 pub mod Variables
 pub mod NoReads
+pub mod Inputs

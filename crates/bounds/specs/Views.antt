@@ -4,6 +4,7 @@
 -- asked while the loops from that one outward stay: they go into the base, and those inside take all their values. Loops stand innermost first.
 -- This project's own.
 use Rattle.std.specs.Prelude.{◌≡◌, ◌≤◌, ℕ, suc, ◌+◌, ◌-◌, nat_lt, Bool, false, not, if◌then◌else◌, List, [], ◌∷◌, take, drop, length, slice_get, Option, Some, None}
+use Rattle.std.specs.List.{AllByRecursion}
 use Rattle.halide_pipeline.specs.declared.expressions.Variable.{Variable}
 use Rattle.halide_pipeline.specs.declared.expressions.Variable.TheVariants as variables
 use Rattle.halide_pipeline.specs.Expressions.{same_variable}
@@ -135,5 +136,9 @@ pub record IsSmall (stage : Stage) : Type 0 where
   pub splits : AreSplits stage.splits
   pub loops : length stage.loops ≤ 5
 
+abbrev pub IsSmallPlan : FuncPlan → Type 0
+IsSmallPlan plan = IsSmall plan.pure
+
 pub record AreSmall (schedule : Schedule) : Type 0 where
   pub stages : (at : ℕ) (plan : FuncPlan) → slice_get schedule.funcs at ≡ Some plan → IsSmall plan.pure
+  pub each : AllByRecursion IsSmallPlan schedule.funcs

@@ -1,6 +1,6 @@
 //! Boxes of sources.
 
-ghost use Rattle.std.specs.Prelude.{◌≡◌, ◌≤◌, ◌+◌, ◌^◌};
+ghost use Rattle.std.specs.Prelude.{◌≡◌, ◌≤◌, ◌+◌, ◌*◌, ◌^◌};
 ghost use Rattle.bounds.specs.Boxes as spec;
 ghost use Rattle.bounds.specs.Views as views;
 ghost use Rattle.ranges.specs.Expressions.{AreFitReads};
@@ -71,13 +71,24 @@ pub fn extents_of(own: &SourceBox) -> Extents
     }
 }
 
+/// A product of two short extents.
+fn product(a: u32, b: u32) -> u64
+    requires first { a ≤ 2 ^ 25 + 1 }
+    requires second { b ≤ 2 ^ 25 + 1 }
+    ensures is { result ≡ a * b }
+    ensures few { result ≤ 2 ^ 51 }
+{
+    u64::from(a) * u64::from(b)
+}
+
 /// How many points a box has, in one iteration.
 #[tactic(auto, using(crate::proofs::Near::short_x, crate::proofs::Near::short_y))]
 pub fn points(own: &SourceBox) -> u64
     requires { spec.IsBox own.now }
-    ensures { result ≡ spec.points own.now }
+    ensures is { result ≡ spec.points own.now }
+    ensures few { result ≤ 2 ^ 51 }
 {
-    u64::from(extent(&own.x)) * u64::from(extent(&own.y))
+    product(extent(&own.x), extent(&own.y))
 }
 
 /// Whether ends lie from -2^24 to 2^24.

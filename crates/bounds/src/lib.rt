@@ -10,11 +10,16 @@
 
 pub mod asks;
 pub mod boxes;
+pub mod faults;
 pub mod inference;
+pub mod judging;
+pub mod layout;
 pub mod readings;
 pub mod source_boxes;
 pub mod sources;
 pub mod views;
 
 pub use crate::boxes::SourceBox;
+pub use crate::faults::BoundsFault;
+pub use crate::layout::Layout;
 pub use crate::source_boxes::SourceBoxes;
