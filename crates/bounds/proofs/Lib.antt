@@ -5,3 +5,4 @@ pub mod Totals
 pub mod Variables
 pub mod NoReads
 pub mod Inputs
+pub mod Accepted

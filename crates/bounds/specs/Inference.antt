@@ -29,13 +29,6 @@ use Rattle.bounds.specs.Asks.{update_asked, func_asked, unplaced}
 use Rattle.bounds.specs.Boxes.{no_loops, lasts_of, gathered, no_spread, spread_box, in_front}
 use Rattle.bounds.specs.Views.{host_loop, view_of}
 
--- which Funcs are inlined
-abbrev pub is_inlined_standing : Standing → Bool
-is_inlined_standing own = is_inlined own.place
-
-abbrev pub inlined_flags : List Standing → List Bool
-inlined_flags standings = map is_inlined_standing standings
-
 -- ---- the output's picture is wanted: so many pixels from 0 on
 
 abbrev pub pixels_range : List ℕ → ℕ → Range

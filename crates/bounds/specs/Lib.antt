@@ -6,3 +6,4 @@ pub mod Inference
 pub mod Faults
 pub mod Judging
 pub mod Layout
+pub mod Verdict

@@ -17,9 +17,11 @@ pub mod layout;
 pub mod readings;
 pub mod source_boxes;
 pub mod sources;
+pub mod verdict;
 pub mod views;
 
 pub use crate::boxes::SourceBox;
 pub use crate::faults::BoundsFault;
 pub use crate::layout::Layout;
 pub use crate::source_boxes::SourceBoxes;
+pub use crate::verdict::{Boxes, infer};

@@ -10,19 +10,8 @@ use crate::asks::{ask_func, ask_update, unplaced};
 use crate::boxes::{HostLoop, NO_LOOPS, SourceBox, Spread, gathered};
 use crate::views::view;
 use halide_pipeline::{Func, Pipeline, Source, Update};
-use schedule::{Place, Schedule, Standing};
+use schedule::Schedule;
 use std::alloc::{AllocError, Global};
-
-/// Which Funcs are inlined.
-pub fn inlined_flags(alloc: Global, standings: &[Standing]) -> Result<Vec<bool>, AllocError>
-    ensures { IfOk result (λ flags. flags.items ≡ spec.inlined_flags standings.now) }
-{
-    let mut flags = Vec::new(alloc);
-    for own in standings {
-        flags.push(matches!(own.place, Place::Inlined))?;
-    }
-    Ok(flags)
-}
 
 /// The ranges so far with what a Func reads of a source, whose arguments lie in this box.
 #[tactic(auto, unfolding(crate::specs::Inference::read_in), using(crate::proofs::NoReads::none_fit))]
