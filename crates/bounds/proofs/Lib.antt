@@ -6,3 +6,7 @@ pub mod Variables
 pub mod NoReads
 pub mod Inputs
 pub mod Accepted
+pub mod Hulls
+pub mod Covering
+pub mod Readers
+pub mod Found

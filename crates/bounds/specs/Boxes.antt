@@ -11,7 +11,7 @@ use Rattle.ranges.specs.declared.expressions.Asked.{Asked}
 use Rattle.ranges.specs.declared.ranges.Ends.{Ends}
 use Rattle.ranges.specs.declared.ranges.Range.{Range}
 use Rattle.ranges.specs.Bases.{no_base}
-use Rattle.ranges.specs.Ranges.{origin, ends_of, fit, IsFit, widened, together, hull}
+use Rattle.ranges.specs.Ranges.{origin, every, ends_of, fit, IsFit, widened, together, hull}
 use Rattle.bounds.specs.declared.boxes.HostLoop.{HostLoop}
 use Rattle.bounds.specs.declared.boxes.SourceBox.{SourceBox}
 use Rattle.bounds.specs.declared.boxes.Spread.{Spread}
@@ -69,9 +69,13 @@ lasts_of (Some host) = host.lasts
 
 -- A range that is asked by a reader with these loops, as one over the loops of the source's host. All that read a Func at a loop
 -- have its host's loops, so nothing is lost.
+abbrev pub taken_over : Option HostLoop → List ℕ → Range → Range
+taken_over None lasts range = fit no_loops no_base (widened lasts range)
+taken_over (Some host) lasts range = fit host.lasts range.base (ends_of range)
+
+-- What has no two ends in order, as no range of an expression does, would count as every word.
 abbrev pub taken : Option HostLoop → List ℕ → Range → Range
-taken None lasts range = fit no_loops no_base (widened lasts range)
-taken (Some host) lasts range = fit host.lasts range.base (ends_of range)
+taken host lasts range = if nat_le range.low range.high then taken_over host lasts range else every
 
 abbrev pub with_range : List ℕ → Option Range → Range → Range
 with_range lasts None range = range

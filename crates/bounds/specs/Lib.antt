@@ -7,3 +7,4 @@ pub mod Faults
 pub mod Judging
 pub mod Layout
 pub mod Verdict
+pub mod Laws

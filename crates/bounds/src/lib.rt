@@ -13,6 +13,7 @@ pub mod boxes;
 pub mod faults;
 pub mod inference;
 pub mod judging;
+pub mod laws;
 pub mod layout;
 pub mod readings;
 pub mod source_boxes;
