@@ -7,3 +7,4 @@ pub mod Steps
 pub mod Capping
 pub mod Counting
 pub mod Needing
+pub mod Passing

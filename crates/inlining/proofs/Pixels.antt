@@ -81,7 +81,7 @@ module _ (reads : Reads) (is_inlined : ℕ → Bool) (inputs : List Input) (func
   arguments_are x y variables.SecondReduction = refl
 
   -- a Func without updates
-  pure_only : (place : ℕ) (func : Func) (x y updates : ℕ) → updates ≡ 0 → stage place func planes (pixels funcs planes place) updates x y ≡ value (found place) (at_point x y) func.pure
+  pub pure_only : (place : ℕ) (func : Func) (x y updates : ℕ) → updates ≡ 0 → stage place func planes (pixels funcs planes place) updates x y ≡ value (found place) (at_point x y) func.pure
   unfolding stage
   pure_only place func x y zero none = refl
   pure_only place func x y (suc updates) none = absurd (omega (arith, none))
@@ -96,7 +96,7 @@ module _ (reads : Reads) (is_inlined : ℕ → Bool) (inputs : List Input) (func
       ∙ sym (pure_only place func x (second_of 0 y) (length func.updates) (simple place func is flag))
 
   -- what answers for the Funcs before a place answers for fewer
-  fewer : (count place : ℕ) → place ≤ count → Agrees count (found count) → Agrees place (found place)
+  pub fewer : (count place : ℕ) → place ≤ count → Agrees count (found count) → Agrees place (found place)
   fewer count place few agrees (sources.Input at) n x y is read = agrees (sources.Input at) n x y is read
   fewer count place few agrees (sources.Func at) n x y is read =
       let k = and_parts (nat_lt at place) (is_func_of (slice_get funcs at) n) read in
@@ -142,7 +142,7 @@ module _ (reads : Reads) (is_inlined : ℕ → Bool) (inputs : List Input) (func
         let test : (place == own) ≡ false = grind (arith, nat_tests, no) in
         rw flag (rw test (answers_at own agrees place n (omega (arith, no, below)) ok flag a x y))
 
-    own_agrees : Agrees (suc own) standing
+    pub own_agrees : Agrees (suc own) standing
     own_agrees (sources.Input at) n x y is read = agrees (sources.Input at) n x y is read
     own_agrees (sources.Func at) n x y is read = elim (cases_eq at own) [
       | inl same ↦

@@ -4,7 +4,8 @@
 //!   and `specs/Weights.antt` have its instances: values, points read, nodes and need.
 //! - [`counts`], [`needs`]: an expression's nodes and need, in time that is linear in the texts of the Funcs.
 //! - [`funcs`]: which Funcs are inlined.
-//! - [`laws`]: what inlining keeps (`specs/Laws.antt`).
+//! - [`laws`]: what inlining keeps (`specs/Laws.antt`), and that what is read in the text is seen through inlined Funcs
+//!   (`specs/Passing.antt`).
 #![tactic(auto)]
 
 pub mod counts;
