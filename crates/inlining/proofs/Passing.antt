@@ -18,7 +18,8 @@ use Rattle.halide_pipeline.specs.WellFormed.{keeps, is_read, is_func_of, is_argu
 use Rattle.halide_pipeline.specs.Words as word
 use Rattle.halide_meaning.specs.declared.environments.Environment.{Environment}
 use Rattle.halide_meaning.specs.Pixel.{Plane, Planes, Reads, value, variable, reads_of, with_plane, at_point, pixels, func_plane}
-use Rattle.reads.specs.Points.{Point, Seen, Hold, seen, seen_at, points_read, traced, trace_of, untraced, stage_trace, func_trace}
+use Rattle.reads.specs.Points.{Point, Seen, Hold, seen, seen_at, points_read, untraced, stage_trace, func_trace}
+use Rattle.reads.proofs.Holding.{traced_alone}
 use Rattle.reads.proofs.Earlier.{pixels_before}
 use Rattle.reads.proofs.Seeing.{all_parts, all_both, values_are_seen}
 use Rattle.inlining.specs.Inlining.{none, second_of, arguments, answer, answered, through, through_at, inside, made_in, inlined, is_computed}
@@ -369,16 +370,6 @@ seen_points_pass_in_updates test reads is_inlined inputs funcs planes are simple
     pass_more test is_inlined funcs planes (suc own) more few (points_read (reads_of planes (with_plane own plane (pixels funcs planes own))) environment e)
     (points_below inputs funcs (suc own) (reads_of planes (with_plane own plane (pixels funcs planes own))) environment has e kept)
     ((within_update test reads is_inlined inputs funcs planes are simple own plane computed answers stands has environment e kept).1 held)
-
-none_traced : (test : Point → Bool) (s : Source) (x y : ℕ) → Hold test (trace_of untraced s x y)
-none_traced test (sources.Input place) x y = tt
-none_traced test (sources.Func place) x y = tt
-
--- points alone, where nothing is read in turn
-traced_alone : (test : Point → Bool) (points : List Point) → Hold test points → Hold test (traced untraced points)
-traced_alone test [] held = tt
-traced_alone test (point ∷ points) held =
-    (held.0, all_both (λ (p : Point). test p ≡ true) (trace_of untraced point.source point.x point.y) (traced untraced points) (none_traced test point.source point.x point.y) (traced_alone test points held.1))
 
 pub passing_is_closed : PassingIsClosed
 unfolding stage_trace

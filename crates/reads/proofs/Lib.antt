@@ -2,3 +2,4 @@ pub mod Folds
 pub mod Seeing
 pub mod Tracing
 pub mod Earlier
+pub mod Holding

@@ -4,7 +4,7 @@
 -- and what the left sides of its Func's updates read at every point of their reduction boxes, with the arguments in
 -- place as in the pixel's own point.
 -- This project's own.
-use Rattle.std.specs.Prelude.{◌≡◌, ℕ, zero, suc, ◌==◌, Bool, true, if◌then◌else◌, List, [], ◌∷◌, ◌++◌, length, slice_get, Option, Some, None}
+use Rattle.std.specs.Prelude.{◌≡◌, ℕ, zero, suc, ◌<◌, ◌==◌, Bool, true, if◌then◌else◌, List, [], ◌∷◌, ◌++◌, length, slice_get, Option, Some, None}
 use Rattle.std.specs.List.{AllByRecursion}
 use Rattle.halide_pipeline.specs.declared.expressions.Expr.{Expr, fold-Expr, map-Expr}
 use Rattle.halide_pipeline.specs.declared.expressions.Expr.TheOpen.{Expr-F}
@@ -175,3 +175,20 @@ IsClosed funcs inputs test = (place x y : ℕ) → test (record { source = sourc
 abbrev pub ClosedPointsHoldReads : Type 0
 ClosedPointsHoldReads = (funcs : List Func) (inputs : Planes) (test : Point → Bool) → IsClosed funcs inputs test → (count place x y : ℕ)
     → test (record { source = sources.Func place; x = x; y = y }) ≡ true → Hold test (pixel_trace funcs inputs count place x y)
+
+-- Each definition of the Func at this place reads points that pass, where the point passes that it is made for: the pure
+-- definition, the left sides of updates at each point of their reduction boxes, and their right sides where the left
+-- side is the point.
+pub record ReadsHold (test : Point → Bool) (place : ℕ) (func : Func) (inputs earlier : Planes) : Type 0 where
+  pub pure : (x y : ℕ) → test (record { source = sources.Func place; x = x; y = y }) ≡ true → Hold test (points_read (reads_of inputs earlier) (at_point x y) func.pure)
+  pub left : (at : ℕ) (update : Update) → slice_get func.updates at ≡ Some update → (number x y : ℕ) → number < points update
+      → test (record { source = sources.Func place; x = x; y = y }) ≡ true → Hold test (left_points (reads_of inputs earlier) (at_reduction update number x y) update)
+  pub right : (at : ℕ) (update : Update) → slice_get func.updates at ≡ Some update → (number x y : ℕ) → number < points update
+      → test (record { source = sources.Func place; x = x; y = y }) ≡ true → is_hit (reads_of inputs earlier) update (at_reduction update number x y) ≡ true
+      → Hold test (points_read (reads_of inputs (with_plane place (after place update inputs earlier (stage place func inputs earlier at) number) earlier)) (at_reduction update number x y) update.right)
+
+-- Then all that its pixels read themselves passes.
+abbrev pub DefinitionsHoldReads : Type 0
+DefinitionsHoldReads = (test : Point → Bool) (funcs : List Func) (inputs : Planes) (place : ℕ) (func : Func) → slice_get funcs place ≡ Some func
+    → ReadsHold test place func inputs (pixels funcs inputs place) → (x y : ℕ) → test (record { source = sources.Func place; x = x; y = y }) ≡ true
+    → Hold test (direct_trace funcs inputs place x y)

@@ -1,6 +1,6 @@
 //! Laws of what is read, each the contract of a function that does nothing.
 
-ghost use Rattle.reads.specs.Points.{SeesValues, ValuesDependOnReads, StagesDependOnReads, PixelsDependOnInputs, ClosedPointsHoldReads};
+ghost use Rattle.reads.specs.Points.{SeesValues, ValuesDependOnReads, StagesDependOnReads, PixelsDependOnInputs, ClosedPointsHoldReads, DefinitionsHoldReads};
 
 /// The value that is seen beside the points of an expression is the expression's.
 pub fn values_are_seen()
@@ -25,4 +25,10 @@ pub fn pixels_depend_on_inputs()
 /// Points among which is all that each pixel in them reads itself have all that is read in turn.
 pub fn closed_points_hold_reads()
     ensures { ClosedPointsHoldReads }
+{}
+
+/// Where each definition of a Func reads points that pass, at points that do, all that its pixels read themselves
+/// passes.
+pub fn definitions_hold_reads()
+    ensures { DefinitionsHoldReads }
 {}
