@@ -1,0 +1,28 @@
+-- What counters stand at.
+-- This project's own.
+use Rattle.std.specs.Prelude.{ℕ, ◌==◌, ◌&&◌, Bool, true, false, if◌then◌else◌, List, [], ◌∷◌}
+use Rattle.schedule_lines.specs.Loops.{same_id}
+use Rattle.loop_ir.specs.declared.expressions.Counter.{Counter}
+use Rattle.loop_ir.specs.declared.expressions.Counter.TheVariants as counters
+use Rattle.loop_ir.specs.declared.running.Standing.{Standing}
+
+abbrev pub same_counter : Counter → Counter → Bool
+same_counter counters.Task counters.Task = true
+same_counter (counters.Loop a first) (counters.Loop b second) = a == b && same_id first second
+same_counter _ _ = false
+
+abbrev pub Values : Type 0
+Values = Counter → ℕ
+
+-- before anything has a value
+abbrev pub no_values : Values
+no_values counter = 0
+
+-- one counter stands at a value, the others where they stood
+abbrev pub with : Counter → ℕ → Values → Values
+with own value values counter = if same_counter counter own then value else values counter
+
+-- the latest stands first
+abbrev pub values_of : List Standing → Values
+values_of [] = no_values
+values_of (latest ∷ others) = with latest.counter latest.value (values_of others)

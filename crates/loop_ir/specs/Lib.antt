@@ -1,0 +1,4 @@
+pub mod Buffers
+pub mod Counters
+pub mod Expressions
+pub mod Running

@@ -1,0 +1,12 @@
+//! Loop nests over buffers, and what they do.
+//!
+//! - [`expressions`]: expressions over the values of loops and what buffers hold (`specs/Expressions.antt`).
+//! - [`statements`]: stores, loops and tests; a phase is a statement that is run once for each of its tasks.
+//! - [`buffers`]: pixels of inputs and Funcs (`specs/Buffers.antt`).
+//! - [`running`]: **what a statement and a phase do to the buffers** (`specs/Running.antt`).
+#![tactic(auto)]
+
+pub mod buffers;
+pub mod expressions;
+pub mod running;
+pub mod statements;

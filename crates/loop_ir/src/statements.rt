@@ -1,0 +1,55 @@
+//! Statements.
+
+use crate::expressions::{Counter, Expr};
+use sqlite_items::{Boxed, Items};
+
+/// How the rounds of a loop are to be made. They do the same in each of these ways.
+#[derive(Clone, Copy, Debug, PartialEq, Eq)]
+pub enum LoopKind {
+    Serial,
+    Unrolled,
+    Vectorized,
+}
+
+/// Writes a value at x and y of a Func's buffer, counted from its corner.
+#[derive(Debug, Drop)]
+pub struct Store {
+    /// The Func's place in the pipeline.
+    pub func: usize,
+    pub x: Expr,
+    pub y: Expr,
+    pub value: Expr,
+}
+
+/// The value of a loop that is split, from those of its two loops: `outer * factor + inner`.
+#[derive(Clone, Copy, Debug, PartialEq, Eq)]
+pub struct Whole {
+    pub outer: Counter,
+    pub inner: Counter,
+    pub factor: u32,
+    /// Under a shift, where the last round of the outer loop begins: the product is at most this.
+    pub last: Option<u32>,
+}
+
+/// A statement. No loop's count and no test hangs on what buffers hold.
+#[derive(Debug, Drop)]
+pub enum Stmt {
+    Store(Store),
+    /// The first, and then the second.
+    Sequence(Boxed<Stmt>, Boxed<Stmt>),
+    /// The body with the counter at 0, then at 1, and so on below the count.
+    For(Counter, u32, LoopKind, Boxed<Stmt>),
+    /// The body with the counter at the value of a split loop, where that is below the extent.
+    Bind(Counter, Whole, u32, Boxed<Stmt>),
+}
+
+/// A statement that is run once for each of so many tasks.
+#[derive(Debug, Drop)]
+pub struct Phase {
+    pub tasks: u32,
+    pub body: Stmt,
+    /// Funcs whose buffers each hart has for itself: before a task they hold anything, and what they hold after it doesn't count.
+    pub private: Items<usize>,
+    /// Inputs whose pixels are bytes.
+    pub bytes: Items<usize>,
+}
