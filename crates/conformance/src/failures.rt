@@ -1,6 +1,7 @@
 //! Why a case has no answer but a refusal.
 
 use assembler::AsmFault;
+use bounds::BoundsFault;
 use engines::Fault;
 use halide_syntax::ParseFault;
 use line_text::{LocatedError, ReadError};
@@ -9,6 +10,7 @@ use picture::PictureFault;
 use schedule_lines::ScheduleFault;
 use std::alloc::{AllocError, AllocFailed};
 use std::fmt;
+use weights::WeightError;
 
 /// What stands in place of an answer.
 #[derive(Debug, Drop)]
@@ -38,11 +40,7 @@ impl Failure {
     fn numbered(what: &'static str, number: Option<u8>) -> Failure {
         match number {
             None => Failure::Memory,
-            Some(number) => Failure::Refused(Refusal {
-                what,
-                number: u32::from(number),
-                line: None,
-            }),
+            Some(number) => refused(what, u32::from(number)),
         }
     }
 
@@ -54,6 +52,15 @@ impl Failure {
             line: Some(line),
         })
     }
+}
+
+/// A refusal without a line.
+pub fn refused(what: &'static str, number: u32) -> Failure {
+    Failure::Refused(Refusal {
+        what,
+        number,
+        line: None,
+    })
 }
 
 impl fmt::Display for Failure {
@@ -131,6 +138,18 @@ impl From<ReadError<PictureFault>> for Failure {
 impl From<LoadFault> for Failure {
     fn from(fault: LoadFault) -> Failure {
         Failure::numbered("load", fault.number())
+    }
+}
+
+impl From<WeightError> for Failure {
+    fn from(error: WeightError) -> Failure {
+        Failure::numbered("lower", error.number())
+    }
+}
+
+impl From<BoundsFault> for Failure {
+    fn from(fault: BoundsFault) -> Failure {
+        Failure::numbered("bounds", fault.number())
     }
 }
 

@@ -14,6 +14,7 @@
 //! | `draw` | `algorithm`, any number of `picture` | the picture that is drawn |
 //! | `read` | `picture` | the picture's text |
 //! | `schedule` | `algorithm`, `schedule` | each Func's standing, loops and splits |
+//! | `boxes` | `algorithm`, `schedule` | the data of the compiled image: their size, the phases, each address and box |
 //! | `assemble` | `text` | the object |
 //! | `list` | `words`: a word in hexadecimal each line | the line of each |
 //! | `turn` | `before`: an assembly text; `instructions`: one each line | each line, and what it changes behind the text before |
@@ -32,7 +33,7 @@
 //! last line feed there. A case that isn't one of these is answered `malformed: ` and why.
 //!
 //! - [`cases`]: the cases of a file.
-//! - [`algorithms`], [`schedules`], [`assemblies`], [`turns`], [`commands`], [`invocations`]: the answers, a module each for one family.
+//! - [`algorithms`], [`schedules`], [`boxes`], [`assemblies`], [`turns`], [`commands`], [`invocations`]: the answers, a module each for one family.
 //! - [`devices`]: files in memory.
 //! - [`harts`]: what a hart holds, as lines.
 //! - [`failures`]: what stands in place of an answer.
@@ -40,6 +41,7 @@
 
 mod algorithms;
 mod assemblies;
+mod boxes;
 mod cases;
 mod commands;
 mod devices;
@@ -51,6 +53,7 @@ mod turns;
 
 use crate::algorithms::{push_reading, push_verdict};
 use crate::assemblies::{push_listing, push_object};
+use crate::boxes::push_boxes;
 use crate::cases::{Case, read_cases};
 use crate::commands::{push_drawing, push_image, push_lines, push_renewal, push_replay, push_talk};
 use crate::failures::Failure;
@@ -116,6 +119,7 @@ fn push_answer(
         "draw" => push_drawing(rt, alloc, parts, out),
         "read" => push_reading(alloc, parts, out),
         "schedule" => push_schedule(alloc, parts, out),
+        "boxes" => push_boxes(alloc, parts, out),
         "assemble" => push_object(alloc, parts, out),
         "list" => push_listing(alloc, parts, out),
         "turn" => push_changes(alloc, parts, out),

@@ -1,0 +1,163 @@
+//! Boxes: which points of each input and Func a schedule computes or reads, and where they lie in a compiled image's data.
+
+ghost use Rattle.schedule.specs.Accepted.{IsAccepted};
+
+use crate::cases::Part;
+use crate::failures::{Failure, refused};
+use bounds::{Boxes, SourceBox, infer};
+use halide_parser::parse;
+use halide_pipeline::Pipeline;
+use ranges::bases::Multiple;
+use ranges::ranges::{ORIGIN, Range};
+use schedule::{Place, Schedule, read};
+use std::alloc::{AllocError, Global};
+use weights::{needs, weigh};
+
+/// The data of an algorithm under a schedule, or the first refusal.
+pub fn push_boxes(alloc: Global, parts: &[Part], out: &mut String) -> Result<(), Failure> {
+    let [algorithm, schedule] = parts else {
+        return Err(Failure::Malformed("not two parts"));
+    };
+    let pipeline = parse(algorithm.named("algorithm")?, alloc)?;
+    let schedule = read(schedule.named("schedule")?, &pipeline, alloc)?;
+    push_judged(alloc, &pipeline, &schedule, out)
+}
+
+/// The data, unless the schedule is too heavy, has no boxes or needs too many registers.
+fn push_judged(
+    alloc: Global,
+    pipeline: &Pipeline,
+    schedule: &Schedule,
+    out: &mut String,
+) -> Result<(), Failure>
+    requires { IsAccepted pipeline.now schedule.now }
+{
+    weigh(pipeline, schedule, alloc)?;
+    let boxes = infer(pipeline, schedule, alloc)?;
+    if needs(pipeline, schedule, alloc)?.is_too_deep() {
+        return Err(refused("code", 1));
+    }
+    push_data(pipeline, schedule, &boxes, out)?;
+    Ok(())
+}
+
+/// The data's size, the number of phases, and each place in the data with its box.
+fn push_data(
+    pipeline: &Pipeline,
+    schedule: &Schedule,
+    boxes: &Boxes,
+    out: &mut String,
+) -> Result<(), AllocError> {
+    let Boxes { layout, .. } = boxes;
+    let (size, phases) = (layout.size, layout.phases);
+    writeln!(out, "data {size}")?;
+    writeln!(out, "phases {phases}")?;
+    push_inputs(pipeline, boxes, out)?;
+    push_funcs(pipeline, schedule, boxes, out)?;
+    let frames = layout.frames;
+    if layout.has_frames {
+        writeln!(out, "frames 0x{frames:08x}")?;
+    }
+    Ok(())
+}
+
+/// Each input's address and box.
+fn push_inputs(pipeline: &Pipeline, boxes: &Boxes, out: &mut String) -> Result<(), AllocError> {
+    let addresses = boxes.layout.inputs.as_slice();
+    for (number, own) in boxes.inputs.as_slice().iter().enumerate() {
+        let address = number_at(addresses, number);
+        write!(out, "input {number} 0x{address:08x} box")?;
+        let has_rows = match pipeline.input(number) {
+            Some(input) => input.dimensions == 2,
+            None => false,
+        };
+        push_box(own, has_rows, out)?;
+    }
+    Ok(())
+}
+
+/// Each computed Func's address and box.
+fn push_funcs(
+    pipeline: &Pipeline,
+    schedule: &Schedule,
+    boxes: &Boxes,
+    out: &mut String,
+) -> Result<(), AllocError> {
+    for (number, own) in boxes.funcs.as_slice().iter().enumerate() {
+        if own.is_some() {
+            let address = func_address(schedule, boxes, number);
+            write!(out, "func {number} 0x{address:08x} box")?;
+            let has_rows = match pipeline.func(number) {
+                Some(func) => func.dimensions() == 2,
+                None => false,
+            };
+            push_box(own, has_rows, out)?;
+        }
+    }
+    Ok(())
+}
+
+/// Where a Func's box lies, or the first hart's where each has one.
+fn func_address(schedule: &Schedule, boxes: &Boxes, number: usize) -> u64 {
+    let layout = &boxes.layout;
+    match schedule.standing(number) {
+        Some(standing) if standing.place == Place::Root => {
+            number_at(layout.roots.as_slice(), number)
+        }
+        _ => number_at(layout.privates.as_slice(), number),
+    }
+}
+
+/// The number at a place, 0 where there is none.
+fn number_at(numbers: &[u64], place: usize) -> u64 {
+    match numbers.get(place) {
+        Some(number) => *number,
+        None => 0,
+    }
+}
+
+/// A box's ranges, or a hyphen where there is no box.
+fn push_box(own: &Option<SourceBox>, has_rows: bool, out: &mut String) -> Result<(), AllocError> {
+    match own {
+        None => out.push_str(" -")?,
+        Some(own) => {
+            push_range(&own.x, out)?;
+            if has_rows {
+                push_range(&own.y, out)?;
+            }
+        }
+    }
+    out.push_str("\n")
+}
+
+/// A range: what each loop of the host adds, innermost first, and the least and the greatest number.
+fn push_range(range: &Range, out: &mut String) -> Result<(), AllocError> {
+    out.push_str(" ")?;
+    for (place, multiple) in range.base.as_slice().iter().enumerate() {
+        push_multiple(*multiple, place, out)?;
+    }
+    push_difference(range.low, ORIGIN, out)?;
+    out.push_str("..")?;
+    push_difference(range.high, ORIGIN, out)
+}
+
+/// What the loop with so many inside it adds, if it adds anything.
+fn push_multiple(multiple: Multiple, place: usize, out: &mut String) -> Result<(), AllocError> {
+    let Multiple { more, less } = multiple;
+    if more != less {
+        push_difference(more, less, out)?;
+        write!(out, "*loop {place}+")?;
+    }
+    Ok(())
+}
+
+/// A number less another, with its sign.
+fn push_difference(number: u64, other: u64, out: &mut String) -> Result<(), AllocError> {
+    if number < other {
+        let less = other - number;
+        write!(out, "-{less}")
+    } else {
+        let more = number - other;
+        write!(out, "{more}")
+    }
+}
