@@ -81,7 +81,7 @@ in_front_by false own behind found e = absurd cc
 pub in_front_is : (own : Option SourceBox) (behind found : List (Option SourceBox)) → in_front own behind ≡ Some found → own ∷ behind ≡ found
 in_front_is own behind found e = in_front_by (stays own) own behind found e
 
-got : {A : Type 0} (x y : A) → Some x ≡ Some y → x ≡ y
+pub got : {A : Type 0} (x y : A) → Some x ≡ Some y → x ≡ y
 got x y e = cc
 
 -- ---- inputs
@@ -114,7 +114,7 @@ module _ (pipeline : Pipeline) (schedule : Schedule) (flags : List Bool) (boxes 
 
 -- ---- a point in what is gathered lies in the box
 
-boxed_by : (lasts values : List ℕ) (a b : Option Range) (x y : ℕ) → IsIn lasts values a x → IsIn lasts values b y → IsBoxed values (Some (box_of lasts a b)) x y
+pub boxed_by : (lasts values : List ℕ) (a b : Option Range) (x y : ℕ) → IsIn lasts values a x → IsIn lasts values b y → IsBoxed values (Some (box_of lasts a b)) x y
 boxed_by lasts values None b x y first second = absurd first
 boxed_by lasts values (Some a) None x y first second = absurd second
 boxed_by lasts values (Some a) (Some b) x y first second = record { first = first; second = second }
@@ -127,7 +127,7 @@ boxed values source spread (point ∷ points) all own is = (
   boxed values source spread points all.1 own is,
 )
 
-none_boxed : (values : List ℕ) (source : Source) (points : List Point) → AreBoxed values source None points
+pub none_boxed : (values : List ℕ) (source : Source) (points : List Point) → AreBoxed values source None points
 none_boxed values source [] = tt
 none_boxed values source (point ∷ points) = (λ e. tt, none_boxed values source points)
 

@@ -10,3 +10,4 @@ pub mod Hulls
 pub mod Covering
 pub mod Readers
 pub mod Found
+pub mod FoundFuncs

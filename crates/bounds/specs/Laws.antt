@@ -1,6 +1,6 @@
 -- Boxes hold what is read.
 -- This project's own.
-use Rattle.std.specs.Prelude.{◌≡◌, ℕ, true, List, Option, Some, None, slice_get, Ok}
+use Rattle.std.specs.Prelude.{◌≡◌, ◌<◌, ℕ, true, List, Option, Some, None, slice_get, Ok}
 use Rattle.std.specs.List.{AllByRecursion}
 use Rattle.halide_pipeline.specs.declared.definitions.Func.{Func}
 use Rattle.halide_pipeline.specs.declared.expressions.Source.{Source}
@@ -10,6 +10,9 @@ use Rattle.halide_pipeline.specs.WellFormed.{IsWellFormed}
 use Rattle.halide_meaning.specs.Pixel.{Reads, at_point}
 use Rattle.reads.specs.Points.{Point}
 use Rattle.schedule.specs.declared.schedules.Schedule.{Schedule}
+use Rattle.schedule.specs.declared.standings.Place.{Place}
+use Rattle.schedule.specs.declared.standings.Place.TheVariants as places
+use Rattle.schedule.specs.declared.standings.Standing.{Standing}
 use Rattle.inlining.specs.Inlining.{inlined, flagged}
 use Rattle.inlining.specs.Laws.{seen_variable}
 use Rattle.inlining.specs.Values.{seeing}
@@ -18,9 +21,11 @@ use Rattle.weights.specs.Weight.{flags_of}
 use Rattle.bounds.specs.declared.boxes.HostLoop.{HostLoop}
 use Rattle.bounds.specs.declared.boxes.SourceBox.{SourceBox}
 use Rattle.bounds.specs.declared.verdict.Boxes.{Boxes}
-use Rattle.bounds.specs.Boxes.{no_loops}
+use Rattle.bounds.specs.Boxes.{no_loops, lasts_of}
+use Rattle.bounds.specs.Inference.{host_of}
 use Rattle.bounds.specs.Sources.{same_source}
 use Rattle.bounds.specs.Verdict.{inferred}
+use Rattle.bounds.specs.Views.{view_of}
 
 -- While loops have these values, the point lies in the box.
 pub record LiesIn (values : List ℕ) (own : SourceBox) (x y : ℕ) : Type 0 where
@@ -54,3 +59,33 @@ PureReadsOfInputsLie = (pipeline : Pipeline) (schedule : Schedule) (boxes : Boxe
     → (reads : Reads) → AnswerWords pipeline.inputs reads
     → (values : List ℕ) → Below values own.lasts → (x y : ℕ) → LiesIn values own x y
     → (place : ℕ) → AreBoxed no_loops (sources.Input place) (slice_get boxes.inputs place) (pure_points pipeline schedule reads reader func x y)
+
+-- ---- Funcs
+
+abbrev pub box_in : Option (Option SourceBox) → Option SourceBox
+box_in None = None
+box_in (Some own) = own
+
+-- the loop at which a Func with this place is computed
+abbrev pub host_in : Schedule → List (Option SourceBox) → Place → Option HostLoop
+host_in schedule boxes (places.At at) = host_of at (slice_get schedule.funcs at.func) (box_in (slice_get boxes at.func))
+host_in schedule boxes _ = None
+
+-- A Func is computed at root, or at a loop of a Func behind it.
+abbrev pub IsComputed : ℕ → Place → Type 0
+IsComputed func places.Root = Unit {0}
+IsComputed func (places.At at) = func < at.func
+IsComputed func places.Inlined = ⊥
+IsComputed func places.Nowhere = ⊥
+
+-- Wherever loops take the arguments of a Func, all that its pure definition reads there of another Func that is computed lies in the box of
+-- that one, while the loops of the host have these values.
+abbrev pub PureReadsOfFuncsLie : Type 0
+PureReadsOfFuncsLie = (pipeline : Pipeline) (schedule : Schedule) (boxes : Boxes) → IsWellFormed pipeline → inferred pipeline schedule ≡ Ok boxes
+    → (reader : ℕ) (func : Func) (own : SourceBox) → slice_get pipeline.funcs reader ≡ Some func → slice_get boxes.funcs reader ≡ Some (Some own)
+    → (place : ℕ) (sought : Standing) → place < reader → slice_get schedule.standings place ≡ Some sought → sought.is_reached ≡ true → IsComputed place sought.place
+    → (host : Option HostLoop) → host_in schedule boxes.funcs sought.place ≡ host
+    → (view : SourceBox) → view_of (slice_get schedule.funcs reader) (slice_get schedule.standings reader) own host ≡ view
+    → (reads : Reads) → AnswerWords pipeline.inputs reads
+    → (values : List ℕ) → Below values view.lasts → Below (values_for host values) (lasts_of host) → (x y : ℕ) → LiesIn values view x y
+    → AreBoxed (values_for host values) (sources.Func place) (slice_get boxes.funcs place) (pure_points pipeline schedule reads reader func x y)

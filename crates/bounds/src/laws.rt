@@ -1,9 +1,16 @@
 //! Laws of boxes, each the contract of a function that does nothing.
 
-ghost use Rattle.bounds.specs.Laws.{PureReadsOfInputsLie};
+ghost use Rattle.bounds.specs.Laws.{PureReadsOfInputsLie, PureReadsOfFuncsLie};
 
 /// Wherever loops take a point of a Func's box, all that its pure definition reads there of inputs, also through inlined
 /// Funcs, lies in their boxes.
 pub fn pure_reads_of_inputs_lie()
     ensures { PureReadsOfInputsLie }
+{}
+
+/// Wherever loops take the arguments of a Func, all that its pure definition reads there of another Func that is
+/// computed, also through inlined Funcs, lies in the box of that one: of a Func computed at a loop, in its box while
+/// the loops of the host have the same values.
+pub fn pure_reads_of_funcs_lie()
+    ensures { PureReadsOfFuncsLie }
 {}
