@@ -87,7 +87,6 @@ holds_more lasts values source spread other keeps [] all = tt
 holds_more lasts values source spread other keeps (point ∷ points) all = (λ e. keeps point.x point.y (all.0 e), holds_more lasts values source spread other keeps points all.1)
 
 module _ (host : Option HostLoop) (lasts values : List ℕ) (below : Below (values_for host values) (lasts_of host)) where
-
   next_keeps : (first second test : Bool) (spread : Spread) (read : Asked) (x y : ℕ) → InSpread (lasts_of host) (values_for host values) spread x y
       → InSpread (lasts_of host) (values_for host values) (if test then with_read host lasts first second spread read else spread) x y
   next_keeps first second true spread read x y lies = record {
@@ -139,10 +138,10 @@ gathered_takes host lasts values own below source spread [] (point ∷ points) f
 gathered_takes host lasts values own below source spread (read ∷ others) [] fits all = absurd all
 gathered_takes host lasts values own below source spread (read ∷ others) (point ∷ points) fits all = (
   λ e.
-  gathered_keeps host lasts values below source true true (if same_source read.source source then with_read host lasts true true spread read else spread) others point.x point.y
-  (subst (λ (test : Bool). InSpread (lasts_of host) (values_for host values) (if test then with_read host lasts true true spread read else spread) point.x point.y)
-  (sym e ∙ ap (λ (s : Source). same_source s source) all.0.source)
-  (read_takes host lasts values own below spread read point fits all.0)),
+      gathered_keeps host lasts values below source true true (if same_source read.source source then with_read host lasts true true spread read else spread) others point.x point.y
+      (subst (λ (test : Bool). InSpread (lasts_of host) (values_for host values) (if test then with_read host lasts true true spread read else spread) point.x point.y)
+      (sym e ∙ ap (λ (s : Source). same_source s source) all.0.source)
+      (read_takes host lasts values own below spread read point fits all.0)),
   gathered_takes host lasts values own below source (if same_source read.source source then with_read host lasts true true spread read else spread) others points
-  (next_fits host lasts true true (same_source read.source source) spread read fits) all.1,
+      (next_fits host lasts true true (same_source read.source source) spread read fits) all.1,
 )

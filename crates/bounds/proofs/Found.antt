@@ -18,13 +18,13 @@ use Rattle.bounds.specs.declared.faults.BoundsFault.{BoundsFault}
 use Rattle.bounds.specs.declared.faults.BoundsFault.TheVariants as faults
 use Rattle.bounds.specs.declared.verdict.Boxes.{Boxes}
 use Rattle.bounds.specs.Boxes.{no_loops, no_spread, box_of, spread_box, stays, in_front, IsSpread}
-use Rattle.bounds.specs.Inference.{read_from, boxes_from, input_box, with_input, inputs_from}
+use Rattle.bounds.specs.Inference.{read_in, read_from, boxes_from, input_box, with_input, inputs_from}
 use Rattle.bounds.specs.Judging.{inputs_hold, shifts_hold, have_few_points}
 use Rattle.bounds.specs.Laws.{LiesIn, IsBoxed, AreBoxed, PureReadsOfInputsLie}
 use Rattle.bounds.specs.Sources.{same_source}
 use Rattle.bounds.specs.Verdict.{most_data, sized, boxes_of, judged, with_inputs, with_funcs, inferred}
 use Rattle.bounds.proofs.Covering.{IsIn, InSpread, HoldsAll}
-use Rattle.bounds.proofs.Readers.{points_of, from_takes}
+use Rattle.bounds.proofs.Readers.{points_of, in_takes, from_takes}
 
 -- ---- an answer comes from its parts
 
@@ -40,7 +40,6 @@ passed true wrong next boxes e = e
 passed false wrong next boxes e = absurd cc
 
 module _ (pipeline : Pipeline) (schedule : Schedule) where
-
   judged_is : (funcs inputs : List (Option SourceBox)) (boxes : Boxes) → judged pipeline schedule funcs inputs ≡ Ok boxes → boxes_of pipeline schedule funcs inputs ≡ boxes
   judged_is funcs inputs boxes e =
       let held = passed (inputs_hold pipeline.inputs inputs) faults.InputExtents (cond (not (shifts_hold schedule.funcs funcs)) (Err faults.ShortShift) (sized (boxes_of pipeline schedule funcs inputs))) boxes e in
@@ -87,7 +86,6 @@ got x y e = cc
 -- ---- inputs
 
 module _ (pipeline : Pipeline) (schedule : Schedule) (flags : List Bool) (boxes : List (Option SourceBox)) where
-
   abbrev Is : ℕ → List (Option SourceBox) → Type 0
   Is place found = (before : ℕ) (own : Option SourceBox) → slice_get found before ≡ Some own → own ≡ input_box pipeline schedule flags boxes (place + before)
 
@@ -131,20 +129,30 @@ pub none_boxed : (values : List ℕ) (source : Source) (points : List Point) →
 none_boxed values source [] = tt
 none_boxed values source (point ∷ points) = (λ e. tt, none_boxed values source points)
 
-no_below : Below no_loops no_loops
+pub no_below : Below no_loops no_loops
 no_below = (omega arith, (omega arith, (omega arith, (omega arith, (omega arith, tt)))))
 
-pub pure_reads_of_inputs_lie : PureReadsOfInputsLie
-pure_reads_of_inputs_lie pipeline schedule boxes rules is reader func own func_is own_is reads words values below x y lies place =
-    by_found (slice_get boxes.inputs place) refl
+-- whatever what is read of an input holds lies in its box
+pub inputs_lie : (pipeline : Pipeline) (schedule : Schedule) (boxes : Boxes) → inferred pipeline schedule ≡ Ok boxes
+    → (reader : ℕ) (func : Func) (own : SourceBox) → slice_get pipeline.funcs reader ≡ Some func → slice_get boxes.funcs reader ≡ Some (Some own) → (values : List ℕ) (place : ℕ) (points : List Point)
+    → ((spread : Spread) → IsSpread no_loops spread → HoldsAll no_loops no_loops (sources.Input place) (read_in pipeline (flags_of schedule.standings) reader own None (sources.Input place) spread func) points)
+    → AreBoxed no_loops (sources.Input place) (slice_get boxes.inputs place) points
+inputs_lie pipeline schedule boxes is reader func own func_is own_is values place points takes = by_found (slice_get boxes.inputs place) refl
   where
     found : AreFound pipeline schedule boxes
     found = are_found pipeline schedule boxes is
+
     flags : List Bool
     flags = flags_of schedule.standings
-    by_found : (answer : Option (Option SourceBox)) → slice_get boxes.inputs place ≡ answer → AreBoxed no_loops (sources.Input place) answer (points_of pipeline flags reads reader func x y)
-    by_found None e = none_boxed no_loops (sources.Input place) (points_of pipeline flags reads reader func x y)
+
+    by_found : (answer : Option (Option SourceBox)) → slice_get boxes.inputs place ≡ answer → AreBoxed no_loops (sources.Input place) answer points
+    by_found None e = none_boxed no_loops (sources.Input place) points
     by_found (Some other) e =
-        boxed no_loops (sources.Input place) (read_from pipeline schedule flags 0 None (sources.Input place) boxes.funcs no_spread) (points_of pipeline flags reads reader func x y)
-        (from_takes pipeline schedule flags None (sources.Input place) values no_below rules reads words reader func func_is own own refl below x y lies 0 reader (omega arith) boxes.funcs own_is no_spread (record { x = tt; y = tt }))
+        boxed no_loops (sources.Input place) (read_from pipeline schedule flags 0 None (sources.Input place) boxes.funcs no_spread) points
+        (from_takes pipeline schedule flags None (sources.Input place) values no_below reader func func_is own own refl points takes 0 reader (omega arith) boxes.funcs own_is no_spread (record { x = tt; y = tt }))
         other (inputs_at pipeline schedule flags boxes.funcs 0 pipeline.inputs boxes.inputs found.inputs place other e ∙ ap (λ (n : ℕ). input_box pipeline schedule flags boxes.funcs n) (omega arith))
+
+pub pure_reads_of_inputs_lie : PureReadsOfInputsLie
+pure_reads_of_inputs_lie pipeline schedule boxes rules is reader func own func_is own_is reads words values below x y lies place =
+    inputs_lie pipeline schedule boxes is reader func own func_is own_is values place (points_of pipeline (flags_of schedule.standings) reads reader func x y)
+    (in_takes pipeline schedule (flags_of schedule.standings) None (sources.Input place) values no_below rules reads words reader func func_is own below x y lies)

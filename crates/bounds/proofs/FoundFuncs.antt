@@ -1,6 +1,6 @@
 -- The boxes of Funcs are those of what is gathered of the Funcs behind them.
 use Rattle.std.proofs.Common.{◌≡◌, ℕ, zero, suc, ◌+◌, ◌-◌, ◌<◌, ◌≤◌, Bool, true, false, cond, List, [], ◌∷◌, Option, Some, None, refl, sym, ap, ◌∙◌, subst, arith}
-use Rattle.std.specs.Prelude.{◌==◌, not, slice_get}
+use Rattle.std.specs.Prelude.{◌==◌, not, slice_get, Ok}
 use Rattle.std.specs.List.{AllByRecursion}
 use Rattle.std.proofs.lemmas.Bool.{ne_eqb, eq-eqb}
 use Rattle.halide_pipeline.specs.declared.definitions.Func.{Func}
@@ -17,6 +17,7 @@ use Rattle.schedule.specs.declared.standings.Place.TheVariants as places
 use Rattle.schedule.specs.declared.standings.Standing.{Standing}
 use Rattle.ranges.specs.declared.ranges.Range.{Range}
 use Rattle.ranges.specs.Bases.{no_base}
+use Rattle.ranges.specs.Laws.{Below}
 use Rattle.ranges.specs.Ranges.{origin, IsFit}
 use Rattle.weights.specs.Weight.{flags_of}
 use Rattle.bounds.specs.declared.boxes.HostLoop.{HostLoop}
@@ -25,14 +26,15 @@ use Rattle.bounds.specs.declared.boxes.Spread.{Spread}
 use Rattle.bounds.specs.declared.verdict.Boxes.{Boxes}
 use Rattle.bounds.specs.Asks.{update_asked, unplaced}
 use Rattle.bounds.specs.Boxes.{no_loops, lasts_of, no_spread, box_of, spread_box, in_front, IsSpread}
-use Rattle.bounds.specs.Inference.{pixels_range, wanted, box_at, host_of, own_update, own_updates, read_from, computed_box, placed_box, func_box, with_func, boxes_from}
-use Rattle.bounds.specs.Laws.{IsBoxed, AreBoxed, values_for, box_in, host_in, IsComputed, PureReadsOfFuncsLie}
+use Rattle.bounds.specs.Inference.{pixels_range, wanted, box_at, host_of, own_update, own_updates, read_in, read_from, computed_box, placed_box, func_box, with_func, boxes_from}
+use Rattle.bounds.specs.Laws.{LiesIn, IsBoxed, AreBoxed, values_for, box_in, host_in, IsComputed, PureReadsOfFuncsLie}
 use Rattle.bounds.specs.Sources.{same_source}
+use Rattle.bounds.specs.Verdict.{inferred}
 use Rattle.bounds.specs.Views.{view_of}
 use Rattle.bounds.proofs.Covering.{InSpread, HoldsAll, gathered_fits}
 use Rattle.bounds.proofs.Found.{AreFound, are_found, in_front_is, boxed_by, none_boxed, got}
 use Rattle.bounds.proofs.Hulls.{fit_fits}
-use Rattle.bounds.proofs.Readers.{points_of, from_takes}
+use Rattle.bounds.proofs.Readers.{points_of, in_takes, from_takes}
 
 -- ---- what is wanted, and what is read of a Func itself, keeps to the words
 
@@ -58,7 +60,6 @@ updates_fit pipeline flags at host spread (update ∷ others) fits =
 -- ---- the box at a place is that of the Funcs behind it
 
 module _ (pipeline : Pipeline) (schedule : Schedule) (flags : List Bool) where
-
   pub record IsAt (at before : ℕ) (funcs : List Func) (found : List (Option SourceBox)) (own : Option SourceBox) : Type 0 where
     pub func : Func
     pub behind : List (Option SourceBox)
@@ -74,7 +75,7 @@ module _ (pipeline : Pipeline) (schedule : Schedule) (flags : List Bool) where
     func = func;
     behind = behind;
     own_is = sym (got (func_box pipeline schedule flags at func behind (slice_get schedule.standings at)) own e)
-    ∙ ap (λ (n : ℕ). func_box pipeline schedule flags n func behind (slice_get schedule.standings n)) (omega arith);
+        ∙ ap (λ (n : ℕ). func_box pipeline schedule flags n func behind (slice_get schedule.standings n)) (omega arith);
     later = λ n. ap (λ (m : ℕ). slice_get (func_box pipeline schedule flags at func behind (slice_get schedule.standings at) ∷ behind) m) (suc_is n);
   }
     where
@@ -135,7 +136,6 @@ boxed_for host values source spread (point ∷ points) all own is = (
 -- ---- the Func that is sought
 
 module _ (pipeline : Pipeline) (schedule : Schedule) (flags : List Bool) (boxes : List (Option SourceBox)) where
-
   placed_is : (place : ℕ) (func : Func) (behind : List (Option SourceBox)) → ((n : ℕ) → slice_get behind n ≡ slice_get boxes (place + 1 + n)) → (where_ : Place) → IsComputed place where_
       → placed_box pipeline schedule flags place func behind where_ ≡ computed_box pipeline schedule flags place func behind (host_in schedule boxes where_)
   placed_is place func behind later places.Root computed = refl
@@ -154,21 +154,29 @@ module _ (pipeline : Pipeline) (schedule : Schedule) (flags : List Bool) (boxes 
       ∙ ap (λ (test : Bool). cond test (placed_box pipeline schedule flags place func behind sought.place) None) reached
       ∙ placed_is place func behind later sought.place computed
 
-pub pure_reads_of_funcs_lie : PureReadsOfFuncsLie
-pure_reads_of_funcs_lie pipeline schedule boxes rules is reader func own func_is own_is place sought before there reached computed host host_is view view_is reads words values below inside x y lies =
+-- whatever what is read of a Func holds lies in its box
+pub funcs_lie : (pipeline : Pipeline) (schedule : Schedule) (boxes : Boxes) → inferred pipeline schedule ≡ Ok boxes
+    → (reader : ℕ) (func : Func) (own : SourceBox) → slice_get pipeline.funcs reader ≡ Some func → slice_get boxes.funcs reader ≡ Some (Some own)
+    → (place : ℕ) (sought : Standing) → place < reader → slice_get schedule.standings place ≡ Some sought → sought.is_reached ≡ true → IsComputed place sought.place
+    → (host : Option HostLoop) → host_in schedule boxes.funcs sought.place ≡ host
+    → (view : SourceBox) → view_of (slice_get schedule.funcs reader) (slice_get schedule.standings reader) own host ≡ view
+    → (values : List ℕ) → Below (values_for host values) (lasts_of host) → (points : List Point)
+    → ((spread : Spread) → IsSpread (lasts_of host) spread → HoldsAll (lasts_of host) (values_for host values) (sources.Func place) (read_in pipeline (flags_of schedule.standings) reader view host (sources.Func place) spread func) points)
+    → AreBoxed (values_for host values) (sources.Func place) (slice_get boxes.funcs place) points
+funcs_lie pipeline schedule boxes is reader func own func_is own_is place sought before there reached computed host host_is view view_is values inside points takes =
     by_found (slice_get boxes.funcs place) refl
   where
     flags : List Bool
     flags = flags_of schedule.standings
+
     found : AreFound pipeline schedule boxes
     found = are_found pipeline schedule boxes is
-    points : List Point
-    points = points_of pipeline flags reads reader func x y
+
     by_at : (other : Option SourceBox) → IsAt pipeline schedule flags 0 place pipeline.funcs boxes.funcs other → AreBoxed (values_for host values) (sources.Func place) (Some other) points
     by_at other at =
         let begun = own_updates pipeline flags place host (wanted pipeline.output place host) at.func.updates in
         boxed_for host (values_for host values) (sources.Func place) (read_from pipeline schedule flags (place + 1) host (sources.Func place) at.behind begun) points
-        (from_takes pipeline schedule flags host (sources.Func place) values inside rules reads words reader func func_is own view view_is below x y lies (place + 1) (reader - (place + 1)) (omega (arith, before)) at.behind
+        (from_takes pipeline schedule flags host (sources.Func place) values inside reader func func_is own view view_is points takes (place + 1) (reader - (place + 1)) (omega (arith, before)) at.behind
         (at.later (reader - (place + 1)) ∙ ap (λ (n : ℕ). slice_get boxes.funcs n) (omega (arith, before)) ∙ own_is)
         begun (updates_fit pipeline flags place host (wanted pipeline.output place host) at.func.updates (wanted_fits pipeline.output place host)))
         other
@@ -176,6 +184,12 @@ pure_reads_of_funcs_lie pipeline schedule boxes rules is reader func own func_is
         ∙ ap (λ (n : ℕ). func_box pipeline schedule flags n at.func at.behind (slice_get schedule.standings n)) (omega arith)
         ∙ sought_is pipeline schedule flags boxes.funcs place at.func at.behind at.later sought there reached computed
         ∙ ap (λ (h : Option HostLoop). computed_box pipeline schedule flags place at.func at.behind h) host_is)
+
     by_found : (answer : Option (Option SourceBox)) → slice_get boxes.funcs place ≡ answer → AreBoxed (values_for host values) (sources.Func place) answer points
     by_found None e = none_boxed (values_for host values) (sources.Func place) points
     by_found (Some other) e = by_at other (boxes_at pipeline schedule flags 0 pipeline.funcs boxes.funcs found.funcs place other e)
+
+pub pure_reads_of_funcs_lie : PureReadsOfFuncsLie
+pure_reads_of_funcs_lie pipeline schedule boxes rules is reader func own func_is own_is place sought before there reached computed host host_is view view_is reads words values below inside x y lies =
+    funcs_lie pipeline schedule boxes is reader func own func_is own_is place sought before there reached computed host host_is view view_is values inside (points_of pipeline (flags_of schedule.standings) reads reader func x y)
+    (in_takes pipeline schedule (flags_of schedule.standings) host (sources.Func place) values inside rules reads words reader func func_is view below x y lies)

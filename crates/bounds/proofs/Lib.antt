@@ -11,3 +11,5 @@ pub mod Covering
 pub mod Readers
 pub mod Found
 pub mod FoundFuncs
+pub mod UpdateReads
+pub mod Updates

@@ -48,7 +48,6 @@ pure_lies pipeline flags rules reads words reader func is view values below x y 
     by_variable variables.SecondReduction has = absurd cc
 
 module _ (pipeline : Pipeline) (schedule : Schedule) (flags : List Bool) (host : Option HostLoop) (source : Source) where
-
   -- ---- what is gathered of a Func, of some Funcs, keeps to the words and holds what was there
 
   of_fits : (at : ℕ) (view : SourceBox) (spread : Spread) (func : Option Func) → IsSpread (lasts_of host) spread → IsSpread (lasts_of host) (read_of pipeline flags at view host source spread func)
@@ -65,7 +64,6 @@ module _ (pipeline : Pipeline) (schedule : Schedule) (flags : List Bool) (host :
   from_fits at (own ∷ boxes) spread fits = from_fits (at + 1) boxes (read_by_box pipeline schedule flags at own host source spread) (box_fits at own spread fits)
 
   module _ (values : List ℕ) (below : Below (values_for host values) (lasts_of host)) where
-
     abbrev Holds : Spread → ℕ → ℕ → Type 0
     Holds spread x y = InSpread (lasts_of host) (values_for host values) spread x y
 
@@ -85,7 +83,7 @@ module _ (pipeline : Pipeline) (schedule : Schedule) (flags : List Bool) (host :
 
     -- ---- and what a pure definition reads
 
-    in_takes : IsWellFormed pipeline → (reads : Reads) → AnswerWords pipeline.inputs reads → (reader : ℕ) (func : Func) → slice_get pipeline.funcs reader ≡ Some func
+    pub in_takes : IsWellFormed pipeline → (reads : Reads) → AnswerWords pipeline.inputs reads → (reader : ℕ) (func : Func) → slice_get pipeline.funcs reader ≡ Some func
         → (view : SourceBox) → Below values view.lasts → (x y : ℕ) → LiesIn values view x y → (spread : Spread) → IsSpread (lasts_of host) spread
         → HoldsAll (lasts_of host) (values_for host values) source (read_in pipeline flags reader view host source spread func) (points_of pipeline flags reads reader func x y)
     unfolding read_in func_asked
@@ -98,24 +96,27 @@ module _ (pipeline : Pipeline) (schedule : Schedule) (flags : List Bool) (host :
         (points_of pipeline flags reads reader func x y)
         (gathered_takes host view.lasts values own below source spread pure (points_of pipeline flags reads reader func x y) fits (pure_lies pipeline flags rules reads words reader func is view values own x y lies))
 
-    pub from_takes : IsWellFormed pipeline → (reads : Reads) → AnswerWords pipeline.inputs reads → (reader : ℕ) (func : Func) → slice_get pipeline.funcs reader ≡ Some func → (own : SourceBox)
-        → (view : SourceBox) → view_of (slice_get schedule.funcs reader) (slice_get schedule.standings reader) own host ≡ view → Below values view.lasts → (x y : ℕ) → LiesIn values view x y
+    -- ---- whatever is held of what a reader reads is held of what all do
+
+    pub from_takes : (reader : ℕ) (func : Func) → slice_get pipeline.funcs reader ≡ Some func → (own : SourceBox)
+        → (view : SourceBox) → view_of (slice_get schedule.funcs reader) (slice_get schedule.standings reader) own host ≡ view → (points : List Point)
+        → ((spread : Spread) → IsSpread (lasts_of host) spread → HoldsAll (lasts_of host) (values_for host values) source (read_in pipeline flags reader view host source spread func) points)
         → (at before : ℕ) → at + before ≡ reader → (boxes : List (Option SourceBox)) → slice_get boxes before ≡ Some (Some own) → (spread : Spread) → IsSpread (lasts_of host) spread
-        → HoldsAll (lasts_of host) (values_for host values) source (read_from pipeline schedule flags at host source boxes spread) (points_of pipeline flags reads reader func x y)
-    from_takes rules reads words reader func is own view seen inside x y lies at zero place [] found spread fits = absurd cc
-    from_takes rules reads words reader func is own view seen inside x y lies at (suc before) place [] found spread fits = absurd cc
-    from_takes rules reads words reader func is own view seen inside x y lies at zero place (first ∷ boxes) found spread fits =
+        → HoldsAll (lasts_of host) (values_for host values) source (read_from pipeline schedule flags at host source boxes spread) points
+    from_takes reader func is own view seen points takes at zero place [] found spread fits = absurd cc
+    from_takes reader func is own view seen points takes at (suc before) place [] found spread fits = absurd cc
+    from_takes reader func is own view seen points takes at zero place (first ∷ boxes) found spread fits =
         holds_more (lasts_of host) (values_for host values) source (read_by_box pipeline schedule flags at first host source spread) (read_from pipeline schedule flags (at + 1) host source boxes (read_by_box pipeline schedule flags at first host source spread))
         (from_keeps (at + 1) boxes (read_by_box pipeline schedule flags at first host source spread))
-        (points_of pipeline flags reads reader func x y)
-        (subst (λ (s : Spread). HoldsAll (lasts_of host) (values_for host values) source s (points_of pipeline flags reads reader func x y))
-        (sym (first_is first found))
-        (in_takes rules reads words reader func is view inside x y lies spread fits))
+        points
+        (subst (λ (s : Spread). HoldsAll (lasts_of host) (values_for host values) source s points) (sym (first_is first found)) (takes spread fits))
       where
         some_is : (a b : Option SourceBox) → Some a ≡ Some b → a ≡ b
         some_is a b e = cc
+
         at_is : at ≡ reader
         at_is = omega (arith, place)
+
         first_is : (other : Option SourceBox) → Some other ≡ Some (Some own) → read_by_box pipeline schedule flags at other host source spread ≡ read_in pipeline flags reader view host source spread func
         first_is None e = absurd cc
         first_is (Some other) e =
@@ -123,5 +124,5 @@ module _ (pipeline : Pipeline) (schedule : Schedule) (flags : List Bool) (host :
             ∙ ap (λ (n : ℕ). read_by pipeline schedule flags n own host source spread) at_is
             ∙ ap (λ (f : Option Func). read_of pipeline flags reader (view_of (slice_get schedule.funcs reader) (slice_get schedule.standings reader) own host) host source spread f) is
             ∙ ap (λ (v : SourceBox). read_in pipeline flags reader v host source spread func) seen
-    from_takes rules reads words reader func is own view seen inside x y lies at (suc before) place (first ∷ boxes) found spread fits =
-        from_takes rules reads words reader func is own view seen inside x y lies (at + 1) before (omega (arith, place)) boxes found (read_by_box pipeline schedule flags at first host source spread) (box_fits at first spread fits)
+    from_takes reader func is own view seen points takes at (suc before) place (first ∷ boxes) found spread fits =
+        from_takes reader func is own view seen points takes (at + 1) before (omega (arith, place)) boxes found (read_by_box pipeline schedule flags at first host source spread) (box_fits at first spread fits)

@@ -1,14 +1,17 @@
 -- Boxes hold what is read.
 -- This project's own.
-use Rattle.std.specs.Prelude.{◌≡◌, ◌<◌, ℕ, true, List, Option, Some, None, slice_get, Ok}
+use Rattle.std.specs.Prelude.{◌≡◌, ◌<◌, ◌≤◌, ℕ, suc, ◌+◌, ◌-◌, ◌^◌, true, List, [], ◌∷◌, ◌++◌, Option, Some, None, slice_get, Ok}
 use Rattle.std.specs.List.{AllByRecursion}
 use Rattle.halide_pipeline.specs.declared.definitions.Func.{Func}
+use Rattle.halide_pipeline.specs.declared.definitions.Update.{Update}
+use Rattle.halide_pipeline.specs.declared.expressions.Expr.{Expr}
 use Rattle.halide_pipeline.specs.declared.expressions.Source.{Source}
 use Rattle.halide_pipeline.specs.declared.expressions.Source.TheVariants as sources
 use Rattle.halide_pipeline.specs.Pipelines.{Pipeline}
 use Rattle.halide_pipeline.specs.WellFormed.{IsWellFormed}
-use Rattle.halide_meaning.specs.Pixel.{Reads, at_point}
-use Rattle.reads.specs.Points.{Point}
+use Rattle.halide_meaning.specs.declared.environments.Environment.{Environment}
+use Rattle.halide_meaning.specs.Pixel.{Reads, at_point, at_reduction, points}
+use Rattle.reads.specs.Points.{Point, Seen}
 use Rattle.schedule.specs.declared.schedules.Schedule.{Schedule}
 use Rattle.schedule.specs.declared.standings.Place.{Place}
 use Rattle.schedule.specs.declared.standings.Place.TheVariants as places
@@ -17,6 +20,7 @@ use Rattle.inlining.specs.Inlining.{inlined, flagged}
 use Rattle.inlining.specs.Laws.{seen_variable}
 use Rattle.inlining.specs.Values.{seeing}
 use Rattle.ranges.specs.Laws.{Below, Lies, AnswerWords}
+use Rattle.ranges.specs.Ranges.{origin, spot}
 use Rattle.weights.specs.Weight.{flags_of}
 use Rattle.bounds.specs.declared.boxes.HostLoop.{HostLoop}
 use Rattle.bounds.specs.declared.boxes.SourceBox.{SourceBox}
@@ -89,3 +93,55 @@ PureReadsOfFuncsLie = (pipeline : Pipeline) (schedule : Schedule) (boxes : Boxes
     → (reads : Reads) → AnswerWords pipeline.inputs reads
     → (values : List ℕ) → Below values view.lasts → Below (values_for host values) (lasts_of host) → (x y : ℕ) → LiesIn values view x y
     → AreBoxed (values_for host values) (sources.Func place) (slice_get boxes.funcs place) (pure_points pipeline schedule reads reader func x y)
+
+-- ---- updates
+
+abbrev pub seen_in : Pipeline → Schedule → Reads → ℕ → Environment → Expr → Seen
+seen_in pipeline schedule reads count environment e =
+    inlined (seeing reads) (flagged (flags_of schedule.standings)) pipeline.funcs count (seen_variable environment) e
+
+abbrev pub second_seen : Pipeline → Schedule → Reads → ℕ → Environment → Option Expr → Seen
+second_seen pipeline schedule reads count environment None = record { value = 0; points = [] }
+second_seen pipeline schedule reads count environment (Some e) = seen_in pipeline schedule reads count environment e
+
+-- What an update reads through its inlined Funcs at a point of its reduction box, while its arguments are these: what its left indexes read,
+-- the point that these name, of its own Func, and what its right side reads.
+abbrev pub points_at : Pipeline → Schedule → Reads → ℕ → Update → Environment → List Point
+points_at pipeline schedule reads reader update environment =
+    (seen_in pipeline schedule reads reader environment update.left_x).points
+    ++ ((second_seen pipeline schedule reads reader environment update.left_y).points
+    ++ (record {
+      source = sources.Func reader;
+      x = (seen_in pipeline schedule reads reader environment update.left_x).value;
+      y = (second_seen pipeline schedule reads reader environment update.left_y).value;
+    } ∷ (seen_in pipeline schedule reads (suc reader) environment update.right).points))
+
+abbrev pub update_points : Pipeline → Schedule → Reads → ℕ → Update → ℕ → ℕ → ℕ → List Point
+update_points pipeline schedule reads reader update number x y = points_at pipeline schedule reads reader update (at_reduction update number x y)
+
+-- as a signed number, from -2^24 to 2^24
+pub record IsNear (x : ℕ) : Type 0 where
+  pub low : origin - 2 ^ 24 ≤ spot x
+  pub high : spot x ≤ origin + 2 ^ 24
+
+-- Wherever loops take a point of a Func's box, all that its updates read there of inputs lies in their boxes.
+abbrev pub UpdateReadsOfInputsLie : Type 0
+UpdateReadsOfInputsLie = (pipeline : Pipeline) (schedule : Schedule) (boxes : Boxes) → IsWellFormed pipeline → inferred pipeline schedule ≡ Ok boxes
+    → (reader : ℕ) (func : Func) (own : SourceBox) → slice_get pipeline.funcs reader ≡ Some func → slice_get boxes.funcs reader ≡ Some (Some own)
+    → (at : ℕ) (update : Update) → slice_get func.updates at ≡ Some update
+    → (reads : Reads) → AnswerWords pipeline.inputs reads
+    → (values : List ℕ) → Below values own.lasts → (x y : ℕ) → LiesIn values own x y → IsNear x → IsNear y → (number : ℕ) → number < points update
+    → (place : ℕ) → AreBoxed no_loops (sources.Input place) (slice_get boxes.inputs place) (update_points pipeline schedule reads reader update number x y)
+
+-- And all that they read there of another Func that is computed lies in the box of that one.
+abbrev pub UpdateReadsOfFuncsLie : Type 0
+UpdateReadsOfFuncsLie = (pipeline : Pipeline) (schedule : Schedule) (boxes : Boxes) → IsWellFormed pipeline → inferred pipeline schedule ≡ Ok boxes
+    → (reader : ℕ) (func : Func) (own : SourceBox) → slice_get pipeline.funcs reader ≡ Some func → slice_get boxes.funcs reader ≡ Some (Some own)
+    → (at : ℕ) (update : Update) → slice_get func.updates at ≡ Some update
+    → (place : ℕ) (sought : Standing) → place < reader → slice_get schedule.standings place ≡ Some sought → sought.is_reached ≡ true → IsComputed place sought.place
+    → (host : Option HostLoop) → host_in schedule boxes.funcs sought.place ≡ host
+    → (view : SourceBox) → view_of (slice_get schedule.funcs reader) (slice_get schedule.standings reader) own host ≡ view
+    → (reads : Reads) → AnswerWords pipeline.inputs reads
+    → (values : List ℕ) → Below values view.lasts → Below (values_for host values) (lasts_of host) → (x y : ℕ) → LiesIn values view x y → IsNear x → IsNear y
+    → (number : ℕ) → number < points update
+    → AreBoxed (values_for host values) (sources.Func place) (slice_get boxes.funcs place) (update_points pipeline schedule reads reader update number x y)

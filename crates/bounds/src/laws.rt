@@ -1,6 +1,11 @@
 //! Laws of boxes, each the contract of a function that does nothing.
 
-ghost use Rattle.bounds.specs.Laws.{PureReadsOfInputsLie, PureReadsOfFuncsLie};
+ghost use Rattle.bounds.specs.Laws.{
+  PureReadsOfInputsLie,
+  PureReadsOfFuncsLie,
+  UpdateReadsOfInputsLie,
+  UpdateReadsOfFuncsLie,
+};
 
 /// Wherever loops take a point of a Func's box, all that its pure definition reads there of inputs, also through inlined
 /// Funcs, lies in their boxes.
@@ -13,4 +18,14 @@ pub fn pure_reads_of_inputs_lie()
 /// the loops of the host have the same values.
 pub fn pure_reads_of_funcs_lie()
     ensures { PureReadsOfFuncsLie }
+{}
+
+/// Wherever loops take a point of a Func's box, all that its updates read there of inputs lies in their boxes.
+pub fn update_reads_of_inputs_lie()
+    ensures { UpdateReadsOfInputsLie }
+{}
+
+/// And all that they read there of another Func that is computed lies in the box of that one.
+pub fn update_reads_of_funcs_lie()
+    ensures { UpdateReadsOfFuncsLie }
 {}
