@@ -9,6 +9,7 @@
 //! - [`texts`]: a small text that is assembled, stored and listed.
 //! - [`algorithms`]: a small algorithm and its picture.
 //! - [`schedules`]: a small schedule, and its stages.
+//! - [`weighing`]: what small schedules weigh and need.
 //! - [`faults`]: the lines of the commands' faults.
 #![tactic(auto)]
 
@@ -30,3 +31,5 @@ mod sessions;
 mod texts;
 #[cfg(test)]
 mod vectors;
+#[cfg(test)]
+mod weighing;
