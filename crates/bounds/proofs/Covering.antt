@@ -46,7 +46,7 @@ read_fits host lasts first second spread read fits = record {
   y = joined_fits (lasts_of host) second spread.y (taken host lasts read.y) fits.y (taken_fits host lasts read.y);
 }
 
-next_fits : (host : Option HostLoop) (lasts : List ℕ) (first second test : Bool) (spread : Spread) (read : Asked) → IsSpread (lasts_of host) spread
+pub next_fits : (host : Option HostLoop) (lasts : List ℕ) (first second test : Bool) (spread : Spread) (read : Asked) → IsSpread (lasts_of host) spread
     → IsSpread (lasts_of host) (if test then with_read host lasts first second spread read else spread)
 next_fits host lasts first second true spread read fits = read_fits host lasts first second spread read fits
 next_fits host lasts first second false spread read fits = fits
@@ -68,12 +68,12 @@ pub record InSpread (lasts values : List ℕ) (spread : Spread) (x y : ℕ) : Ty
   pub first : IsIn lasts values spread.x x
   pub second : IsIn lasts values spread.y y
 
-joined_keeps : (lasts values : List ℕ) → Below values lasts → (counts : Bool) (own : Option Range) (range : Range) (x : ℕ) → IsIn lasts values own x → IsIn lasts values (joined lasts counts own range) x
+pub joined_keeps : (lasts values : List ℕ) → Below values lasts → (counts : Bool) (own : Option Range) (range : Range) (x : ℕ) → IsIn lasts values own x → IsIn lasts values (joined lasts counts own range) x
 joined_keeps lasts values below false own range x lies = lies
 joined_keeps lasts values below true None range x lies = absurd lies
 joined_keeps lasts values below true (Some own) range x lies = hull_first lasts values below own range x lies
 
-joined_takes : (lasts values : List ℕ) → Below values lasts → (own : Option Range) (range : Range) (x : ℕ) → IsFitOrNone lasts own → Lies lasts values range x → IsIn lasts values (joined lasts true own range) x
+pub joined_takes : (lasts values : List ℕ) → Below values lasts → (own : Option Range) (range : Range) (x : ℕ) → IsFitOrNone lasts own → Lies lasts values range x → IsIn lasts values (joined lasts true own range) x
 joined_takes lasts values below None range x fits lies = lies
 joined_takes lasts values below (Some own) range x fits lies = hull_second lasts values below own range x fits lies
 
@@ -117,7 +117,7 @@ lies_over None lasts values own below range x lies =
     plain_lies no_loops no_loops below (widened lasts range) x lies.word (λ l h. (stands.low, stands.high))
 lies_over (Some host) lasts values own below range x lies = fit_lies host.lasts values below range.base (ends_of range) x lies.word (λ l h. (lies.low, lies.high))
 
-taken_lies : (host : Option HostLoop) (lasts values : List ℕ) → Below values lasts → Below (values_for host values) (lasts_of host) → (range : Range) (x : ℕ) → Lies lasts values range x
+pub taken_lies : (host : Option HostLoop) (lasts values : List ℕ) → Below values lasts → Below (values_for host values) (lasts_of host) → (range : Range) (x : ℕ) → Lies lasts values range x
     → Lies (lasts_of host) (values_for host values) (taken host lasts range) x
 taken_lies host lasts values own below range x lies =
     subst (λ (test : Bool). Lies (lasts_of host) (values_for host values) (if test then taken_over host lasts range else every) x)

@@ -46,10 +46,10 @@ wanted_by : (output : Output) (host : Option HostLoop) (test : Bool)
 wanted_by output host true = record { x = pixels_fit (lasts_of host) output.width; y = pixels_fit (lasts_of host) output.height }
 wanted_by output host false = record { x = tt; y = tt }
 
-wanted_fits : (output : Output) (at : ℕ) (host : Option HostLoop) → IsSpread (lasts_of host) (wanted output at host)
+pub wanted_fits : (output : Output) (at : ℕ) (host : Option HostLoop) → IsSpread (lasts_of host) (wanted output at host)
 wanted_fits output at host = wanted_by output host (at == output.func)
 
-updates_fit : (pipeline : Pipeline) (flags : List Bool) (at : ℕ) (host : Option HostLoop) (spread : Spread) (updates : List Update) → IsSpread (lasts_of host) spread
+pub updates_fit : (pipeline : Pipeline) (flags : List Bool) (at : ℕ) (host : Option HostLoop) (spread : Spread) (updates : List Update) → IsSpread (lasts_of host) spread
     → IsSpread (lasts_of host) (own_updates pipeline flags at host spread updates)
 unfolding own_update
 updates_fit pipeline flags at host spread [] fits = fits
@@ -62,6 +62,7 @@ updates_fit pipeline flags at host spread (update ∷ others) fits =
 module _ (pipeline : Pipeline) (schedule : Schedule) (flags : List Bool) where
   pub record IsAt (at before : ℕ) (funcs : List Func) (found : List (Option SourceBox)) (own : Option SourceBox) : Type 0 where
     pub func : Func
+    pub func_is : slice_get funcs before ≡ Some func
     pub behind : List (Option SourceBox)
     pub own_is : own ≡ func_box pipeline schedule flags (at + before) func behind (slice_get schedule.standings (at + before))
     pub later : (n : ℕ) → slice_get behind n ≡ slice_get found (before + 1 + n)
@@ -73,6 +74,7 @@ module _ (pipeline : Pipeline) (schedule : Schedule) (flags : List Bool) where
       → AreAt at (func ∷ others) (func_box pipeline schedule flags at func behind (slice_get schedule.standings at) ∷ behind)
   front at func others behind next zero own e = record {
     func = func;
+    func_is = refl;
     behind = behind;
     own_is = sym (got (func_box pipeline schedule flags at func behind (slice_get schedule.standings at)) own e)
         ∙ ap (λ (n : ℕ). func_box pipeline schedule flags n func behind (slice_get schedule.standings n)) (omega arith);
@@ -85,6 +87,7 @@ module _ (pipeline : Pipeline) (schedule : Schedule) (flags : List Bool) where
       let there = next before own e in
       record {
         func = there.func;
+        func_is = there.func_is;
         behind = there.behind;
         own_is = there.own_is ∙ ap (λ (n : ℕ). func_box pipeline schedule flags n there.func there.behind (slice_get schedule.standings n)) (omega arith);
         later = λ n. there.later n ∙ ap (λ (m : ℕ). slice_get (func_box pipeline schedule flags at func behind (slice_get schedule.standings at) ∷ behind) m) (suc_is n);
@@ -146,7 +149,7 @@ module _ (pipeline : Pipeline) (schedule : Schedule) (flags : List Bool) (boxes 
       (box_at_is (at.func - (place + 1)) (place + 1) at.func behind (omega (arith, computed))
       ∙ ap box_in (later (at.func - (place + 1)) ∙ ap (λ (n : ℕ). slice_get boxes n) (omega (arith, computed))))
 
-  sought_is : (place : ℕ) (func : Func) (behind : List (Option SourceBox)) → ((n : ℕ) → slice_get behind n ≡ slice_get boxes (place + 1 + n))
+  pub sought_is : (place : ℕ) (func : Func) (behind : List (Option SourceBox)) → ((n : ℕ) → slice_get behind n ≡ slice_get boxes (place + 1 + n))
       → (sought : Standing) → slice_get schedule.standings place ≡ Some sought → sought.is_reached ≡ true → IsComputed place sought.place
       → func_box pipeline schedule flags place func behind (slice_get schedule.standings place) ≡ computed_box pipeline schedule flags place func behind (host_in schedule boxes sought.place)
   sought_is place func behind later sought there reached computed =

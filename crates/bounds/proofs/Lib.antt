@@ -13,3 +13,5 @@ pub mod Found
 pub mod FoundFuncs
 pub mod UpdateReads
 pub mod Updates
+pub mod Parts
+pub mod OwnReads

@@ -1,6 +1,6 @@
 -- What a Func reads that is computed, inlined Funcs put in place: each read with the ranges in which its point lies.
 -- This project's own.
-use Rattle.std.specs.Prelude.{ℕ, suc, ◌+◌, ◌-◌, Bool, true, false, List, [], ◌∷◌, ◌++◌, Option, Some, None}
+use Rattle.std.specs.Prelude.{ℕ, suc, ◌+◌, ◌-◌, ◌^◌, Bool, true, false, List, [], ◌∷◌, ◌++◌, Option, Some, None}
 use Rattle.halide_pipeline.specs.declared.definitions.Func.{Func}
 use Rattle.halide_pipeline.specs.declared.definitions.Input.{Input}
 use Rattle.halide_pipeline.specs.declared.definitions.Reduction.{Reduction}
@@ -13,7 +13,7 @@ use Rattle.ranges.specs.declared.expressions.OwnCalls.{OwnCalls}
 use Rattle.ranges.specs.declared.expressions.Variables.{Variables}
 use Rattle.ranges.specs.declared.ranges.Range.{Range}
 use Rattle.ranges.specs.Bases.{no_base}
-use Rattle.ranges.specs.Ranges.{spot, fit, literal}
+use Rattle.ranges.specs.Ranges.{origin, spot, fit, literal}
 use Rattle.ranges.specs.Expressions.{Ranged, walked, walked_update}
 use Rattle.bounds.specs.declared.boxes.SourceBox.{SourceBox}
 use Rattle.bounds.specs.Boxes.{no_loops}
@@ -77,6 +77,10 @@ module _ (inputs : List Input) (funcs : List Func) (flags : List Bool) (place : 
   unfoldable pub func_asked : Func → List Asked
   func_asked func = (walked view.lasts inputs flags funcs place (pure_variables view) func.pure).asked ++ updates_asked func.updates
 
--- where what stands in place has no range of its own
+-- ---- what a Func reads of itself out of place doesn't hang on its box: its arguments may be anywhere
+
+abbrev pub anywhere : Range
+anywhere = fit no_loops no_base (record { low = origin - 2 ^ 24; high = origin + 2 ^ 24 })
+
 abbrev pub unplaced : SourceBox
-unplaced = record { x = literal no_loops 0; y = literal no_loops 0; lasts = no_loops }
+unplaced = record { x = anywhere; y = anywhere; lasts = no_loops }

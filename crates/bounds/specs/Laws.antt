@@ -1,12 +1,13 @@
 -- Boxes hold what is read.
 -- This project's own.
-use Rattle.std.specs.Prelude.{◌≡◌, ◌<◌, ◌≤◌, ℕ, suc, ◌+◌, ◌-◌, ◌^◌, true, List, [], ◌∷◌, ◌++◌, Option, Some, None, slice_get, Ok}
+use Rattle.std.specs.Prelude.{◌≡◌, ◌<◌, ◌≤◌, ℕ, suc, ◌+◌, ◌-◌, ◌^◌, Bool, true, not, List, [], ◌∷◌, ◌++◌, Option, Some, None, slice_get, Ok}
 use Rattle.std.specs.List.{AllByRecursion}
 use Rattle.halide_pipeline.specs.declared.definitions.Func.{Func}
 use Rattle.halide_pipeline.specs.declared.definitions.Update.{Update}
 use Rattle.halide_pipeline.specs.declared.expressions.Expr.{Expr}
 use Rattle.halide_pipeline.specs.declared.expressions.Source.{Source}
 use Rattle.halide_pipeline.specs.declared.expressions.Source.TheVariants as sources
+use Rattle.halide_pipeline.specs.Definitions.{is_first_in_place, is_second_in_place}
 use Rattle.halide_pipeline.specs.Pipelines.{Pipeline}
 use Rattle.halide_pipeline.specs.WellFormed.{IsWellFormed}
 use Rattle.halide_meaning.specs.declared.environments.Environment.{Environment}
@@ -145,3 +146,35 @@ UpdateReadsOfFuncsLie = (pipeline : Pipeline) (schedule : Schedule) (boxes : Box
     → (values : List ℕ) → Below values view.lasts → Below (values_for host values) (lasts_of host) → (x y : ℕ) → LiesIn values view x y → IsNear x → IsNear y
     → (number : ℕ) → number < points update
     → AreBoxed (values_for host values) (sources.Func place) (slice_get boxes.funcs place) (update_points pipeline schedule reads reader update number x y)
+
+-- ---- a Func's own box
+
+-- The output's picture lies in its Func's box.
+abbrev pub OutputLies : Type 0
+OutputLies = (pipeline : Pipeline) (schedule : Schedule) (boxes : Boxes) → IsWellFormed pipeline → inferred pipeline schedule ≡ Ok boxes
+    → (sought : Standing) → slice_get schedule.standings pipeline.output.func ≡ Some sought → sought.is_reached ≡ true → sought.place ≡ places.Root
+    → (x y : ℕ) → x < pipeline.output.width → y < pipeline.output.height → IsBoxed no_loops (slice_get boxes.funcs pipeline.output.func) x y
+
+-- Where dimensions count, the point lies in the box in these.
+pub record LiesPartly (values : List ℕ) (own : SourceBox) (counts_first counts_second : Bool) (x y : ℕ) : Type 0 where
+  pub first : counts_first ≡ true → Lies own.lasts values own.x x
+  pub second : counts_second ≡ true → Lies own.lasts values own.y y
+
+abbrev pub IsPartlyBoxed : List ℕ → Option (Option SourceBox) → Bool → Bool → ℕ → ℕ → Type 0
+IsPartlyBoxed values None first second x y = Unit {0}
+IsPartlyBoxed values (Some None) first second x y = Unit {0}
+IsPartlyBoxed values (Some (Some own)) first second x y = LiesPartly values own first second x y
+
+-- What an update of a Func at root reads of its own Func, the point that its left side names among it, lies in the Func's box in each
+-- dimension that isn't in place.
+abbrev pub OwnReadsLie : Type 0
+OwnReadsLie = (pipeline : Pipeline) (schedule : Schedule) (boxes : Boxes) → IsWellFormed pipeline → inferred pipeline schedule ≡ Ok boxes
+    → (reader : ℕ) (func : Func) (sought : Standing) → slice_get pipeline.funcs reader ≡ Some func
+    → slice_get schedule.standings reader ≡ Some sought → sought.is_reached ≡ true → sought.place ≡ places.Root
+    → (at : ℕ) (update : Update) → slice_get func.updates at ≡ Some update
+    → (reads : Reads) → AnswerWords pipeline.inputs reads
+    → (x y : ℕ) → x < 2 ^ 32 → y < 2 ^ 32 → IsNear x → IsNear y → (number : ℕ) → number < points update
+    → AllByRecursion
+    (λ point. same_source point.source (sources.Func reader) ≡ true
+    → IsPartlyBoxed no_loops (slice_get boxes.funcs reader) (not (is_first_in_place update)) (not (is_second_in_place update)) point.x point.y)
+    (update_points pipeline schedule reads reader update number x y)

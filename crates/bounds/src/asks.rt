@@ -10,7 +10,7 @@ use crate::boxes::{NO_LOOPS, SourceBox};
 use halide_pipeline::{Expr, Func, Input, Reduction, Source, Update};
 use ranges::bases::no_base;
 use ranges::expressions::{Asked, OwnCalls, Variables, ranged, ranged_update};
-use ranges::ranges::{Ends, LEAST, Lasts, Range, fit, literal};
+use ranges::ranges::{Ends, LEAST, Lasts, ORIGIN, Range, fit, literal};
 use std::alloc::AllocError;
 
 /// The end that stands for a word, as a signed number.
@@ -293,16 +293,20 @@ pub fn ask_func(
     Ok(())
 }
 
-/// Where what stands in place has no range of its own.
+/// Arguments that may be anywhere from -2^24 to 2^24.
 pub fn unplaced() -> SourceBox
     ensures value { result ≡ spec.unplaced }
     ensures x { IsFit result.lasts result.x }
     ensures y { IsFit result.lasts result.y }
 {
-    let zero = literal(&NO_LOOPS, 0);
+    let ends = Ends {
+        low: ORIGIN - (1 << 24),
+        high: ORIGIN + (1 << 24),
+    };
+    let anywhere = fit(&NO_LOOPS, no_base(), ends);
     SourceBox {
-        x: zero,
-        y: zero,
+        x: anywhere,
+        y: anywhere,
         lasts: NO_LOOPS,
     }
 }

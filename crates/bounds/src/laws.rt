@@ -5,6 +5,8 @@ ghost use Rattle.bounds.specs.Laws.{
   PureReadsOfFuncsLie,
   UpdateReadsOfInputsLie,
   UpdateReadsOfFuncsLie,
+  OutputLies,
+  OwnReadsLie,
 };
 
 /// Wherever loops take a point of a Func's box, all that its pure definition reads there of inputs, also through inlined
@@ -28,4 +30,15 @@ pub fn update_reads_of_inputs_lie()
 /// And all that they read there of another Func that is computed lies in the box of that one.
 pub fn update_reads_of_funcs_lie()
     ensures { UpdateReadsOfFuncsLie }
+{}
+
+/// The output's picture lies in its Func's box.
+pub fn output_lies()
+    ensures { OutputLies }
+{}
+
+/// What an update reads of its own Func, the point that its left side names among it, lies in the Func's box in each
+/// dimension that isn't in place.
+pub fn own_reads_lie()
+    ensures { OwnReadsLie }
 {}
