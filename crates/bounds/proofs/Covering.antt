@@ -1,5 +1,5 @@
 -- What is gathered holds what was there, and all that lies in what is asked.
-use Rattle.std.proofs.Common.{◌≡◌, ℕ, ◌+◌, ◌≤◌, Bool, true, false, List, [], ◌∷◌, ◌++◌, Option, Some, None, refl, sym, ap, ◌∙◌, subst, arith}
+use Rattle.std.proofs.Common.{◌≡◌, ℕ, ◌≤◌, Bool, true, false, List, [], ◌∷◌, ◌++◌, Option, Some, None, refl, sym, ap, ◌∙◌, subst, arith}
 use Rattle.std.specs.Prelude.{nat_le, if◌then◌else◌}
 use Rattle.std.specs.List.{AllByRecursion}
 use Rattle.std.proofs.lemmas.Bool.{leb-true, le-leb}
@@ -9,11 +9,11 @@ use Rattle.ranges.specs.declared.expressions.Asked.{Asked}
 use Rattle.ranges.specs.declared.ranges.Range.{Range}
 use Rattle.ranges.specs.Bases.{no_base}
 use Rattle.ranges.specs.Laws.{Below, Lies, LiesAt, AllLie}
-use Rattle.ranges.specs.Ranges.{every, ends_of, fit, IsFit, widened}
+use Rattle.ranges.specs.Ranges.{every, ends_of, IsFit, widened}
 use Rattle.ranges.proofs.Lying.{widened_stands, fit_lies, plain_lies}
 use Rattle.bounds.specs.declared.boxes.HostLoop.{HostLoop}
 use Rattle.bounds.specs.declared.boxes.Spread.{Spread}
-use Rattle.bounds.specs.Boxes.{no_loops, lasts_of, taken_over, taken, with_range, joined, with_read, gathered, IsFitOrNone, IsSpread}
+use Rattle.bounds.specs.Boxes.{no_loops, lasts_of, taken_over, taken, joined, with_read, gathered, IsFitOrNone, IsSpread}
 use Rattle.bounds.specs.Laws.{values_for}
 use Rattle.bounds.specs.Sources.{same_source}
 use Rattle.bounds.proofs.Hulls.{every_fits, fit_fits, hull_fits, hull_first, hull_second}

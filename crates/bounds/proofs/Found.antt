@@ -1,7 +1,6 @@
 -- The boxes that are answered are those of what is gathered.
 use Rattle.std.proofs.Common.{◌≡◌, ℕ, zero, suc, ◌+◌, Bool, true, false, cond, List, [], ◌∷◌, Option, Some, None, refl, sym, ap, ◌∙◌, subst, arith}
 use Rattle.std.specs.Prelude.{◌&&◌, nat_le, not, slice_get, Result, Ok, Err}
-use Rattle.std.specs.List.{AllByRecursion}
 use Rattle.halide_pipeline.specs.declared.definitions.Func.{Func}
 use Rattle.halide_pipeline.specs.declared.definitions.Input.{Input}
 use Rattle.halide_pipeline.specs.declared.expressions.Source.{Source}
@@ -20,10 +19,9 @@ use Rattle.bounds.specs.declared.verdict.Boxes.{Boxes}
 use Rattle.bounds.specs.Boxes.{no_loops, no_spread, box_of, spread_box, stays, in_front, IsSpread}
 use Rattle.bounds.specs.Inference.{read_in, read_from, boxes_from, input_box, with_input, inputs_from}
 use Rattle.bounds.specs.Judging.{inputs_hold, shifts_hold, have_few_points}
-use Rattle.bounds.specs.Laws.{LiesIn, IsBoxed, AreBoxed, PureReadsOfInputsLie}
-use Rattle.bounds.specs.Sources.{same_source}
+use Rattle.bounds.specs.Laws.{IsBoxed, AreBoxed, PureReadsOfInputsLie}
 use Rattle.bounds.specs.Verdict.{most_data, sized, boxes_of, judged, with_inputs, with_funcs, inferred}
-use Rattle.bounds.proofs.Covering.{IsIn, InSpread, HoldsAll}
+use Rattle.bounds.proofs.Covering.{IsIn, HoldsAll}
 use Rattle.bounds.proofs.Readers.{points_of, in_takes, from_takes}
 
 -- ---- an answer comes from its parts

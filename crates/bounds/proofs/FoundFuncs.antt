@@ -1,7 +1,6 @@
 -- The boxes of Funcs are those of what is gathered of the Funcs behind them.
-use Rattle.std.proofs.Common.{◌≡◌, ℕ, zero, suc, ◌+◌, ◌-◌, ◌<◌, ◌≤◌, Bool, true, false, cond, List, [], ◌∷◌, Option, Some, None, refl, sym, ap, ◌∙◌, subst, arith}
+use Rattle.std.proofs.Common.{◌≡◌, ℕ, zero, suc, ◌+◌, ◌-◌, ◌<◌, Bool, true, false, cond, List, [], ◌∷◌, Option, Some, None, refl, sym, ap, ◌∙◌, subst, arith}
 use Rattle.std.specs.Prelude.{◌==◌, not, slice_get, Ok}
-use Rattle.std.specs.List.{AllByRecursion}
 use Rattle.std.proofs.lemmas.Bool.{ne_eqb, eq-eqb}
 use Rattle.halide_pipeline.specs.declared.definitions.Func.{Func}
 use Rattle.halide_pipeline.specs.declared.definitions.Output.{Output}
@@ -15,7 +14,6 @@ use Rattle.schedule.specs.declared.schedules.Schedule.{Schedule}
 use Rattle.schedule.specs.declared.standings.Place.{Place}
 use Rattle.schedule.specs.declared.standings.Place.TheVariants as places
 use Rattle.schedule.specs.declared.standings.Standing.{Standing}
-use Rattle.ranges.specs.declared.ranges.Range.{Range}
 use Rattle.ranges.specs.Bases.{no_base}
 use Rattle.ranges.specs.Laws.{Below}
 use Rattle.ranges.specs.Ranges.{origin, IsFit}
@@ -25,13 +23,12 @@ use Rattle.bounds.specs.declared.boxes.SourceBox.{SourceBox}
 use Rattle.bounds.specs.declared.boxes.Spread.{Spread}
 use Rattle.bounds.specs.declared.verdict.Boxes.{Boxes}
 use Rattle.bounds.specs.Asks.{update_asked, unplaced}
-use Rattle.bounds.specs.Boxes.{no_loops, lasts_of, no_spread, box_of, spread_box, in_front, IsSpread}
+use Rattle.bounds.specs.Boxes.{no_loops, lasts_of, no_spread, spread_box, IsSpread}
 use Rattle.bounds.specs.Inference.{pixels_range, wanted, box_at, host_of, own_update, own_updates, read_in, read_from, computed_box, placed_box, func_box, with_func, boxes_from}
-use Rattle.bounds.specs.Laws.{LiesIn, IsBoxed, AreBoxed, values_for, box_in, host_in, IsComputed, PureReadsOfFuncsLie}
-use Rattle.bounds.specs.Sources.{same_source}
+use Rattle.bounds.specs.Laws.{IsBoxed, AreBoxed, values_for, box_in, host_in, IsComputed, PureReadsOfFuncsLie}
 use Rattle.bounds.specs.Verdict.{inferred}
 use Rattle.bounds.specs.Views.{view_of}
-use Rattle.bounds.proofs.Covering.{InSpread, HoldsAll, gathered_fits}
+use Rattle.bounds.proofs.Covering.{HoldsAll, gathered_fits}
 use Rattle.bounds.proofs.Found.{AreFound, are_found, in_front_is, boxed_by, none_boxed, got}
 use Rattle.bounds.proofs.Hulls.{fit_fits}
 use Rattle.bounds.proofs.Readers.{points_of, in_takes, from_takes}

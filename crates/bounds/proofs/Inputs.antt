@@ -1,5 +1,5 @@
 -- Inputs have few pixels.
-use Rattle.std.proofs.Common.{◌≡◌, ℕ, ◌*◌, ◌^◌, ◌≤◌, true}
+use Rattle.std.proofs.Common.{◌*◌, ◌^◌, ◌≤◌}
 use Rattle.std.specs.Prelude.{◌&&◌, nat_le}
 use Rattle.std.proofs.lemmas.Bool.{and_parts, leb-true}
 use Rattle.halide_pipeline.specs.declared.definitions.Input.{Input}

@@ -10,16 +10,14 @@ use Rattle.halide_pipeline.specs.declared.expressions.Source.{Source}
 use Rattle.halide_pipeline.specs.declared.expressions.Source.TheVariants as sources
 use Rattle.halide_pipeline.specs.Definitions.{is_first_in_place, is_second_in_place}
 use Rattle.halide_pipeline.specs.Pipelines.{Pipeline}
-use Rattle.halide_pipeline.specs.WellFormed.{IsWellFormed, is_width, is_height, is_output, most_extent, most_points}
+use Rattle.halide_pipeline.specs.WellFormed.{is_width, is_height, most_extent, most_points}
 use Rattle.reads.specs.Points.{Point}
 use Rattle.schedule.specs.declared.schedules.Schedule.{Schedule}
 use Rattle.schedule.specs.declared.standings.Place.{Place}
-use Rattle.schedule.specs.declared.standings.Place.TheVariants as places
 use Rattle.schedule.specs.declared.standings.Standing.{Standing}
 use Rattle.ranges.specs.declared.ranges.Range.{Range}
-use Rattle.ranges.specs.Bases.{no_base}
 use Rattle.ranges.specs.Laws.{Below, Lies, AllLie}
-use Rattle.ranges.specs.Ranges.{origin, spot}
+use Rattle.ranges.specs.Ranges.{origin}
 use Rattle.ranges.proofs.Lying.{plain_lies}
 use Rattle.weights.specs.Weight.{flags_of}
 use Rattle.bounds.specs.declared.boxes.HostLoop.{HostLoop}
@@ -27,14 +25,14 @@ use Rattle.bounds.specs.declared.boxes.SourceBox.{SourceBox}
 use Rattle.bounds.specs.declared.boxes.Spread.{Spread}
 use Rattle.bounds.specs.declared.verdict.Boxes.{Boxes}
 use Rattle.bounds.specs.Asks.{update_asked, unplaced}
-use Rattle.bounds.specs.Boxes.{no_loops, lasts_of, no_spread, box_of, spread_box, gathered, IsSpread}
+use Rattle.bounds.specs.Boxes.{no_loops, lasts_of, no_spread, box_of, spread_box, IsSpread}
 use Rattle.bounds.specs.Inference.{pixels_range, wanted, own_update, own_updates, read_from, computed_box, func_box}
-use Rattle.bounds.specs.Laws.{LiesIn, IsBoxed, IsNear, values_for, host_in, IsComputed, update_points, LiesPartly, IsPartlyBoxed, OutputLies, OwnReadsLie}
+use Rattle.bounds.specs.Laws.{IsBoxed, IsNear, values_for, host_in, IsComputed, update_points, IsPartlyBoxed, OutputLies, OwnReadsLie}
 use Rattle.bounds.specs.Sources.{same_source}
 use Rattle.bounds.specs.Verdict.{inferred}
 use Rattle.bounds.proofs.Covering.{IsIn, gathered_fits}
-use Rattle.bounds.proofs.Found.{AreFound, are_found, boxed_by, no_below}
-use Rattle.bounds.proofs.FoundFuncs.{IsAt, boxes_at, sought_is, wanted_fits, updates_fit}
+use Rattle.bounds.proofs.Found.{are_found, boxed_by, no_below}
+use Rattle.bounds.proofs.FoundFuncs.{boxes_at, sought_is, wanted_fits}
 use Rattle.bounds.proofs.Parts.{InPart, HoldsPart, part_more, updates_keep, all_keep, gathered_part}
 use Rattle.bounds.proofs.UpdateReads.{update_lies}
 

@@ -1,5 +1,5 @@
 -- What lies in a spread in some dimensions lies there in these whatever else is gathered.
-use Rattle.std.proofs.Common.{◌≡◌, ℕ, zero, suc, ◌+◌, ◌^◌, ◌<◌, Bool, true, false, List, [], ◌∷◌, Option, Some, None, refl, sym, ap, ◌∙◌, subst, arith}
+use Rattle.std.proofs.Common.{◌≡◌, ℕ, ◌+◌, Bool, true, false, List, [], ◌∷◌, Option, Some, None, sym, ap, ◌∙◌, subst}
 use Rattle.std.specs.Prelude.{not, if◌then◌else◌, slice_get}
 use Rattle.std.specs.List.{AllByRecursion}
 use Rattle.halide_pipeline.specs.declared.definitions.Func.{Func}
@@ -22,7 +22,7 @@ use Rattle.bounds.specs.Inference.{own_update, own_updates, read_in, read_of, re
 use Rattle.bounds.specs.Laws.{values_for}
 use Rattle.bounds.specs.Sources.{same_source}
 use Rattle.bounds.specs.Views.{view_of}
-use Rattle.bounds.proofs.Covering.{IsIn, joined_keeps, joined_takes, taken_lies, next_fits, gathered_fits}
+use Rattle.bounds.proofs.Covering.{IsIn, joined_keeps, joined_takes, taken_lies, next_fits}
 
 pub record InPart (lasts values : List ℕ) (counts_first counts_second : Bool) (spread : Spread) (x y : ℕ) : Type 0 where
   pub first : counts_first ≡ true → IsIn lasts values spread.x x

@@ -1,21 +1,19 @@
 -- What a pure definition reads lies in what is gathered of all Funcs.
-use Rattle.std.proofs.Common.{◌≡◌, ℕ, zero, suc, ◌+◌, Bool, true, false, List, [], ◌∷◌, ◌++◌, Option, Some, None, refl, sym, ap, ◌∙◌, subst, arith}
+use Rattle.std.proofs.Common.{◌≡◌, ℕ, zero, suc, ◌+◌, Bool, true, List, [], ◌∷◌, ◌++◌, Option, Some, None, sym, ap, ◌∙◌, subst, arith}
 use Rattle.std.specs.Prelude.{slice_get}
-use Rattle.std.specs.List.{AllByRecursion}
 use Rattle.halide_pipeline.specs.declared.definitions.Func.{Func}
 use Rattle.halide_pipeline.specs.declared.expressions.Source.{Source}
 use Rattle.halide_pipeline.specs.declared.expressions.Variable.{Variable}
 use Rattle.halide_pipeline.specs.declared.expressions.Variable.TheVariants as variables
 use Rattle.halide_pipeline.specs.Definitions.{dimensions}
 use Rattle.halide_pipeline.specs.Pipelines.{Pipeline}
-use Rattle.halide_pipeline.specs.WellFormed.{IsWellFormed, IsFunc, is_argument, keeps, is_read}
+use Rattle.halide_pipeline.specs.WellFormed.{IsWellFormed, is_argument}
 use Rattle.halide_meaning.specs.Pixel.{Reads, at_point, variable}
-use Rattle.reads.specs.Points.{Point, Seen}
+use Rattle.reads.specs.Points.{Point}
 use Rattle.schedule.specs.declared.schedules.Schedule.{Schedule}
 use Rattle.inlining.specs.Inlining.{inlined, flagged}
 use Rattle.inlining.specs.Laws.{seen_variable}
 use Rattle.inlining.specs.Values.{seeing}
-use Rattle.ranges.specs.declared.expressions.Asked.{Asked}
 use Rattle.ranges.specs.Expressions.{walked, range_of}
 use Rattle.ranges.specs.Laws.{Below, Lies, AllLie, AnswerWords}
 use Rattle.ranges.proofs.Operations.{ranges_cover}

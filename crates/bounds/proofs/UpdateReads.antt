@@ -1,5 +1,5 @@
 -- What updates read lies in what is asked.
-use Rattle.std.proofs.Common.{◌≡◌, ℕ, zero, suc, ◌+◌, ◌-◌, ◌*◌, ◌/◌, ◌%◌, ◌^◌, ◌<◌, ◌≤◌, Bool, true, false, List, [], ◌∷◌, ◌++◌, Option, Some, None, refl, sym, subst, arith, inl, inr}
+use Rattle.std.proofs.Common.{◌≡◌, ℕ, suc, ◌+◌, ◌-◌, ◌*◌, ◌/◌, ◌%◌, ◌^◌, ◌<◌, ◌≤◌, Bool, true, false, List, [], ◌∷◌, ◌++◌, Option, Some, None, refl, arith, inl, inr}
 use Rattle.std.specs.Prelude.{◌&&◌, ◌==◌, nat_le, slice_get}
 use Rattle.std.proofs.lemmas.Bool.{and_parts, or_cases, leb-true}
 use Rattle.std.proofs.Math.Nat.{mod-lt, div-lt_iff_lt-mul}
@@ -7,7 +7,6 @@ use Rattle.halide_pipeline.specs.declared.definitions.Func.{Func}
 use Rattle.halide_pipeline.specs.declared.definitions.Reduction.{Reduction}
 use Rattle.halide_pipeline.specs.declared.definitions.Update.{Update}
 use Rattle.halide_pipeline.specs.declared.expressions.Expr.{Expr}
-use Rattle.halide_pipeline.specs.declared.expressions.Source.{Source}
 use Rattle.halide_pipeline.specs.declared.expressions.Source.TheVariants as sources
 use Rattle.halide_pipeline.specs.declared.expressions.Variable.{Variable}
 use Rattle.halide_pipeline.specs.declared.expressions.Variable.TheVariants as variables
@@ -18,14 +17,13 @@ use Rattle.halide_pipeline.specs.WellFormed as formed
 use Rattle.halide_pipeline.specs.Words.{add}
 use Rattle.halide_meaning.specs.declared.environments.Environment.{Environment}
 use Rattle.halide_meaning.specs.Pixel.{Reads, at_reduction, points, variable, second_extent, second_value}
-use Rattle.reads.specs.Points.{Point, Seen}
+use Rattle.reads.specs.Points.{Point}
 use Rattle.schedule.specs.declared.schedules.Schedule.{Schedule}
 use Rattle.inlining.specs.Inlining.{flagged}
 use Rattle.ranges.specs.declared.expressions.Asked.{Asked}
-use Rattle.ranges.specs.Bases.{no_base}
-use Rattle.ranges.specs.Expressions.{Ranged, range_of, ranges_where}
-use Rattle.ranges.specs.Laws.{Below, Lies, LiesAt, AllLie, Covers, AnswerWords}
-use Rattle.ranges.specs.Ranges.{origin, least, greatest, spot, literal}
+use Rattle.ranges.specs.Expressions.{range_of, ranges_where}
+use Rattle.ranges.specs.Laws.{Below, Lies, AllLie, Covers, AnswerWords}
+use Rattle.ranges.specs.Ranges.{origin, spot, literal}
 use Rattle.ranges.proofs.Division.{literal_lies}
 use Rattle.ranges.proofs.Lying.{plain_lies}
 use Rattle.ranges.proofs.Operations.{update_ranges_cover}

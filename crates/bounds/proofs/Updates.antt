@@ -15,7 +15,7 @@ use Rattle.bounds.specs.declared.boxes.HostLoop.{HostLoop}
 use Rattle.bounds.specs.declared.boxes.SourceBox.{SourceBox}
 use Rattle.bounds.specs.declared.boxes.Spread.{Spread}
 use Rattle.bounds.specs.Asks.{pure_variables, update_asked, updates_asked, func_asked}
-use Rattle.bounds.specs.Boxes.{no_loops, lasts_of, gathered, IsSpread}
+use Rattle.bounds.specs.Boxes.{lasts_of, gathered, IsSpread}
 use Rattle.bounds.specs.Inference.{read_in}
 use Rattle.bounds.specs.Laws.{values_for, update_points, UpdateReadsOfInputsLie, UpdateReadsOfFuncsLie}
 use Rattle.bounds.proofs.Covering.{InSpread, HoldsAll, holds_more, gathered_fits, gathered_keeps, gathered_both, gathered_takes}

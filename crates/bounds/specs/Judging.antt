@@ -1,6 +1,6 @@
 -- Whether boxes can be compiled.
 -- This project's own.
-use Rattle.std.specs.Prelude.{ℕ, ◌+◌, ◌*◌, ◌&&◌, nat_le, nat_lt, Bool, true, List, [], ◌∷◌, Option, Some, None}
+use Rattle.std.specs.Prelude.{ℕ, ◌+◌, ◌&&◌, nat_le, nat_lt, Bool, true, List, [], ◌∷◌, Option, Some, None}
 use Rattle.halide_pipeline.specs.declared.definitions.Input.{Input}
 use Rattle.halide_pipeline.specs.WellFormed.{most_points}
 use Rattle.schedule.specs.declared.plans.FuncPlan.{FuncPlan}
