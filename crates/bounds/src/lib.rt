@@ -1,11 +1,15 @@
-//! Which points of each source an accepted schedule computes or reads.
+//! Which points of each source an accepted schedule computes or reads, and where they lie in the data of a compiled image.
 //!
+//! - [`verdict`]: **the boxes of a pipeline under a schedule, or the first fault** (`specs/Verdict.antt`); [`judging`] has
+//!   what is judged of boxes, [`faults`] why there are none.
 //! - [`boxes`]: the box of a source, as the hull of the ranges in which it is read (`specs/Boxes.antt`).
 //! - [`views`]: between which numbers a Func's arguments lie where it reads a source (`specs/Views.antt`).
 //! - [`asks`]: what a Func reads that is computed (`specs/Asks.antt`).
 //! - [`readings`], [`inference`], [`source_boxes`]: the boxes of all sources, from the output back
 //!   (`specs/Inference.antt`).
+//! - [`layout`]: where inputs, boxes and frames lie (`specs/Layout.antt`).
 //! - [`sources`]: sources told apart.
+//! - [`laws`]: what is read lies in its box (`specs/Laws.antt`).
 #![tactic(auto)]
 
 pub mod asks;
