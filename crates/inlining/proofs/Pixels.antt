@@ -64,7 +64,7 @@ module _ (reads : Reads) (is_inlined : ℕ → Bool) (inputs : List Input) (func
       levels (layer.Call2 s a b) kept =
           source_is s 2 kept (reads s a.left b.left) a.left (Some b.left) (λ is. agrees s 2 a.left b.left is kept) ∙ ap (λ (x : ℕ). other s x b.left) a.is ∙ ap (λ (x : ℕ). other s a.right x) b.is
 
-      fits : (e : Expr) → keeps (is_read inputs funcs count) has e ≡ true → inlined (values reads) is_inlined funcs count vars e ≡ value other environment e
+      pub fits : (e : Expr) → keeps (is_read inputs funcs count) has e ≡ true → inlined (values reads) is_inlined funcs count vars e ≡ value other environment e
       unfolding through value
       fits e kept =
           kept_folds_related Same (is_read inputs funcs count) has (through_at (values reads) (inside (values reads) is_inlined funcs count) vars) (value_at other environment) levels e kept

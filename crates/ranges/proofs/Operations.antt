@@ -165,14 +165,14 @@ module _ (lasts values : List ℕ) (below : Below values lasts) where
     byte_lies true x word byte = let b = byte refl in between_lies lasts values below origin (origin + 255) x word (omega arith) (omega (arith, b)) (omega (arith, b)) (omega arith)
     byte_lies false x word byte = every_lies lasts values below x word
 
-    pixel_lies : (place x y : ℕ) (own : Option Input) → slice_get inputs place ≡ own → Lies lasts values (pixels_of own) (reads (sources.Input place) x y)
-    pixel_lies place x y None is = every_lies lasts values below (reads (sources.Input place) x y) (words.words (sources.Input place) x y)
-    pixel_lies place x y (Some input) is =
-        byte_lies input.is_bytes (reads (sources.Input place) x y) (words.words (sources.Input place) x y) (λ held. words.bytes place input is held x y)
+    pixel_lies : (place x y : ℕ) (own : Option Input) → x < 2 ^ 32 → y < 2 ^ 32 → slice_get inputs place ≡ own → Lies lasts values (pixels_of own) (reads (sources.Input place) x y)
+    pixel_lies place x y None wx wy is = every_lies lasts values below (reads (sources.Input place) x y) (words.words (sources.Input place) x y wx wy)
+    pixel_lies place x y (Some input) wx wy is =
+        byte_lies input.is_bytes (reads (sources.Input place) x y) (words.words (sources.Input place) x y wx wy) (λ held. words.bytes place input is held x y)
 
-    called_lies : (s : Source) (x y : ℕ) → Lies lasts values (called inputs s) (reads s x y)
-    called_lies (sources.Input place) x y = pixel_lies place x y (slice_get inputs place) refl
-    called_lies (sources.Func place) x y = every_lies lasts values below (reads (sources.Func place) x y) (words.words (sources.Func place) x y)
+    called_lies : (s : Source) (x y : ℕ) → x < 2 ^ 32 → y < 2 ^ 32 → Lies lasts values (called inputs s) (reads s x y)
+    called_lies (sources.Input place) x y wx wy = pixel_lies place x y (slice_get inputs place) wx wy refl
+    called_lies (sources.Func place) x y wx wy = every_lies lasts values below (reads (sources.Func place) x y) (words.words (sources.Func place) x y wx wy)
 
     abbrev R : Ranged → Seen → Type 0
     R = Covers lasts values
@@ -205,11 +205,11 @@ module _ (lasts values : List ℕ) (below : Below values lasts) where
           (all_lie_both a.left.asked b.left.asked a.right.points b.right.points a.is.points b.is.points);
     }
     levels (layer.Call1 s a) kept = record {
-      value = called_lies s a.right.value 0;
+      value = called_lies s a.right.value 0 a.is.value.word (omega arith);
       points = one_more s a.left.asked a.right.points a.left.range (literal lasts 0) a.right.value 0 a.is.points a.is.value (literal_lies lasts values below 0 (omega arith));
     }
     levels (layer.Call2 s a b) kept = record {
-      value = called_lies s a.right.value b.right.value;
+      value = called_lies s a.right.value b.right.value a.is.value.word b.is.value.word;
       points = one_more s (a.left.asked ++ b.left.asked) (a.right.points ++ b.right.points) a.left.range b.left.range a.right.value b.right.value
           (all_lie_both a.left.asked b.left.asked a.right.points b.right.points a.is.points b.is.points) a.is.value b.is.value;
     }

@@ -3,13 +3,14 @@
 use Rattle.std.specs.Prelude.{◌≡◌, ℕ, ◌+◌, ◌^◌, ◌<◌, ◌≤◌, Bool, true, List, [], ◌∷◌, slice_get, Some}
 use Rattle.halide_pipeline.specs.declared.definitions.Func.{Func}
 use Rattle.halide_pipeline.specs.declared.definitions.Input.{Input}
+use Rattle.halide_pipeline.specs.declared.definitions.Update.{Update}
 use Rattle.halide_pipeline.specs.declared.expressions.Expr.{Expr}
 use Rattle.halide_pipeline.specs.declared.expressions.Source.{Source}
 use Rattle.halide_pipeline.specs.declared.expressions.Source.TheVariants as sources
 use Rattle.halide_pipeline.specs.declared.expressions.Variable.{Variable}
 use Rattle.halide_pipeline.specs.WellFormed.{keeps, is_read}
 use Rattle.halide_meaning.specs.declared.environments.Environment.{Environment}
-use Rattle.halide_meaning.specs.Pixel.{Reads, variable}
+use Rattle.halide_meaning.specs.Pixel.{Planes, Reads, variable, reads_of, pixels, stage, after}
 use Rattle.reads.specs.Points.{Point, Seen}
 use Rattle.inlining.specs.Inlining.{inlined}
 use Rattle.inlining.specs.Values.{seeing}
@@ -55,9 +56,9 @@ pub record Covers (lasts values : List ℕ) (r : Ranged) (s : Seen) : Type 0 whe
   pub value : Lies lasts values r.range s.value
   pub points : AllLie lasts values r.asked s.points
 
--- Each pixel is a word, and each of an input of bytes is a byte.
+-- The pixel at each point, whose coordinates are words, is a word, and each of an input of bytes is a byte.
 pub record AnswerWords (inputs : List Input) (reads : Reads) : Type 0 where
-  pub words : (s : Source) (x y : ℕ) → reads s x y < 2 ^ 32
+  pub words : (s : Source) (x y : ℕ) → x < 2 ^ 32 → y < 2 ^ 32 → reads s x y < 2 ^ 32
   pub bytes : (place : ℕ) (input : Input) → slice_get inputs place ≡ Some input → input.is_bytes ≡ true → (x y : ℕ) → reads (sources.Input place) x y < 256
 
 -- Through inlined Funcs the value of an expression of a pipeline lies in its range, and each point that it reads lies
@@ -79,3 +80,17 @@ UpdateRangesCover = (lasts values : List ℕ) → Below values lasts → (reads 
     → ((around : Bool) (v : Variable) → has v ≡ true → Lies lasts values (ranges_where lasts ranges around v) (variable environment v))
     → (e : Expr) → keeps (is_read inputs funcs count) has e ≡ true → (around : Bool)
     → Covers lasts values (ranged_update lasts inputs is_inlined funcs count own ranges e around) (inlined (seeing reads) is_inlined funcs count (seen_variable environment) e)
+
+-- ---- pixels
+
+-- Where the inputs answer words, so do all pixels.
+abbrev pub PixelsAreWords : Type 0
+PixelsAreWords = (inputs : List Input) (funcs : List Func) (planes : Planes) → AreFuncs inputs funcs → AnswerWords inputs (reads_of planes (pixels funcs planes 0))
+    → (count : ℕ) → AnswerWords inputs (reads_of planes (pixels funcs planes count))
+
+-- And what stands after some points of an update are words.
+abbrev pub StagesAreWords : Type 0
+StagesAreWords = (inputs : List Input) (funcs : List Func) (planes : Planes) → AreFuncs inputs funcs
+    → (own : ℕ) (func : Func) → slice_get funcs own ≡ Some func → AnswerWords inputs (reads_of planes (pixels funcs planes own))
+    → (at : ℕ) (update : Update) → slice_get func.updates at ≡ Some update → (number x y : ℕ) → x < 2 ^ 32 → y < 2 ^ 32
+    → after own update planes (pixels funcs planes own) (stage own func planes (pixels funcs planes own) at) number x y < 2 ^ 32
