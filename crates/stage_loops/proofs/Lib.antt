@@ -21,5 +21,6 @@ pub mod Stepping
 pub mod Tables
 pub mod Tasks
 pub mod Turns
+pub mod TurnsFound
 pub mod Wholes
 pub mod Written

@@ -124,3 +124,16 @@ abbrev pub VisitsAreOfWholes : Type 0
 VisitsAreOfWholes = (extents : Extents) (splits : List Split) (inside : List Loop) (turns : Values)
     → nest (counts extents splits) inside (over_loops extents splits (λ whole. visit_of extents whole ∷ [])) turns
     ≡ map (visit_of extents) (wholes extents splits inside turns)
+
+-- A visit is one that the loops inside make while those outside are in some turns.
+pub record IsMadeIn (extents : Extents) (stage : Stage) (inside outside : List Loop) (visit : Visit) : Type 0 where
+  pub turns : Values
+  pub are : AreTurns (counts extents stage.splits) outside turns
+  pub whole : Values
+  pub visited : Contains (wholes extents stage.splits inside turns) whole
+  pub visit_is : visit_of extents whole ≡ visit
+
+-- Each visit of a stage is, wherever its loops are parted into those inside and those outside.
+abbrev pub VisitsAreMade : Type 0
+VisitsAreMade = (extents : Extents) (stage : Stage) (inside outside : List Loop) → stage.loops ≡ inside ++ outside
+    → (visit : Visit) → Contains (visits extents stage) visit → IsMadeIn extents stage inside outside visit

@@ -75,6 +75,11 @@ pub fn visits_are_of_wholes()
     ensures { law.VisitsAreOfWholes }
 {}
 
+/// Each visit is one that the loops inside make while those outside are in some turns.
+pub fn visits_are_made()
+    ensures { law.VisitsAreMade }
+{}
+
 /// Worked rows: 5 values split by 4 under guard, 8 by 3 under shift, and an update with its argument inside.
 #[tactic(auto, unfolding(crate::specs::Visits::upto))]
 pub fn worked_rows()
