@@ -297,6 +297,60 @@ known_all pipeline plans at own found =
     subst (λ (n : ℕ). StandingAt pipeline plans all n own) (here at)
     (standing_at pipeline plans all 0 plans (λ k. ap (λ (n : ℕ). slice_get all n) (here k)) (λ k. ap (λ (n : ℕ). slice_get plans n) (here k)) at own found)
 
+-- ---- what a Func calls that is reached
+
+-- a Func that the output reaches
+pub record IsThereReached (all : List Standing) (at : ℕ) : Type 0 where
+  pub own : Standing
+  pub there : IsReached all at own
+
+record IsSome {A : Type 0} (found : Option A) : Type 0 where
+  value : A
+  is : found ≡ Some value
+
+some_before : {A : Type 0} (xs : List A) (later at : ℕ) (x : A) → slice_get xs later ≡ Some x → at < later → IsSome (slice_get xs at)
+some_before [] later at x found before = absurd cc
+some_before (first ∷ others) zero at x found before = absurd (omega (arith, before))
+some_before (first ∷ others) (suc later) zero x found before = record { value = first; is = refl }
+some_before (first ∷ others) (suc later) (suc at) x found before = some_before others later at x found (omega (arith, before))
+
+read_first : (a b c : Bool) → a ≡ true → b ≡ true → ((a && b) || c) ≡ true
+read_first a b c e f = rw (e, f) refl
+
+read_next : (a b : Bool) → b ≡ true → (a || b) ≡ true
+read_next true b e = refl
+read_next false b e = e
+
+read_there : (pipeline : Pipeline) (func at : ℕ) (rest : List Standing) (k : ℕ) (its : Standing) → slice_get rest k ≡ Some its → its.is_reached ≡ true → place_calls pipeline (at + k) func ≡ true
+    → is_read pipeline func at rest ≡ true
+read_there pipeline func at [] k its found reached called = absurd cc
+read_there pipeline func at (first ∷ others) zero its found reached called =
+    let first_is : first ≡ its = cc in
+    let here : at + 0 ≡ at = omega arith in
+    read_first first.is_reached (place_calls pipeline at func) (is_read pipeline func (at + 1) others) (ap (λ (s : Standing). s.is_reached) first_is ∙ reached) (subst (λ (n : ℕ). place_calls pipeline n func ≡ true) here called)
+read_there pipeline func at (first ∷ others) (suc k) its found reached called =
+    let next : at + suc k ≡ at + 1 + k = omega arith in
+    read_next (first.is_reached && place_calls pipeline at func) (is_read pipeline func (at + 1) others)
+    (read_there pipeline func (at + 1) others k its found reached (subst (λ (n : ℕ). place_calls pipeline n func ≡ true) next called))
+
+pub called_is_reached : (pipeline : Pipeline) (plans : List FuncPlan) (reader : ℕ) (its : Standing) → IsReached (standings_from pipeline plans 0 plans) reader its
+    → (func : ℕ) → func < reader → place_calls pipeline reader func ≡ true → IsThereReached (standings_from pipeline plans 0 plans) func
+called_is_reached pipeline plans reader its there func before called =
+    let all = standings_from pipeline plans 0 plans in
+    let some = some_before all reader func its there.standing before in
+    let is = known_all pipeline plans func some.value some.is in
+    let k : ℕ = reader - (func + 1) in
+    let at_reader : func + 1 + k ≡ reader = omega (arith, before) in
+    let found : slice_get is.behind k ≡ Some its = sym (is.from k) ∙ ap (λ (n : ℕ). slice_get all n) at_reader ∙ there.standing in
+    let read = read_there pipeline func (func + 1) is.behind k its found there.reached (subst (λ (n : ℕ). place_calls pipeline n func ≡ true) (sym at_reader) called) in
+    record {
+      own = some.value;
+      there = record {
+        standing = some.is;
+        reached = ap (λ (s : Standing). s.is_reached) is.own_is ∙ read_next (func == pipeline.output.func) (is_read pipeline func (func + 1) is.behind) read;
+      };
+    }
+
 pub uses_lie_within : (pipeline : Pipeline) (plans : List FuncPlan) → Numbered (HasUsesWithin pipeline plans (standings_from pipeline plans 0 plans)) 0 (standings_from pipeline plans 0 plans)
 uses_lie_within pipeline plans =
     let all = standings_from pipeline plans 0 plans in
