@@ -15,3 +15,5 @@ pub mod UpdateReads
 pub mod Updates
 pub mod Parts
 pub mod OwnReads
+pub mod Callers
+pub mod StandingWithin

@@ -8,3 +8,4 @@ pub mod Judging
 pub mod Layout
 pub mod Verdict
 pub mod Laws
+pub mod Callers

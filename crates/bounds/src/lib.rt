@@ -9,11 +9,13 @@
 //!   (`specs/Inference.antt`).
 //! - [`layout`]: where inputs, boxes and frames lie (`specs/Layout.antt`).
 //! - [`sources`]: sources told apart.
+//! - [`caller_laws`]: which Funcs another reads, and where the readers stand (`specs/Callers.antt`).
 //! - [`laws`]: what is read lies in its box (`specs/Laws.antt`).
 #![tactic(auto)]
 
 pub mod asks;
 pub mod boxes;
+pub mod caller_laws;
 pub mod faults;
 pub mod inference;
 pub mod judging;
