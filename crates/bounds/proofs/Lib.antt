@@ -17,3 +17,7 @@ pub mod Parts
 pub mod OwnReads
 pub mod Callers
 pub mod StandingWithin
+pub mod HostArguments
+pub mod Settled
+pub mod PlainRanges
+pub mod HostedOwnReads

@@ -116,7 +116,7 @@ output_lies pipeline schedule boxes rules is sought there reached root x y insid
 -- ---- what updates read of their own Func
 
 module _ (pipeline : Pipeline) (flags : List Bool) (place : ℕ) (host : Option HostLoop) (values : List ℕ) (below : Below (values_for host values) (lasts_of host)) (points : List Point) where
-  own_takes : (first second : Bool) (updates : List Update) (at : ℕ) (update : Update) → slice_get updates at ≡ Some update
+  pub own_takes : (first second : Bool) (updates : List Update) (at : ℕ) (update : Update) → slice_get updates at ≡ Some update
       → first ≡ not (is_first_in_place update) → second ≡ not (is_second_in_place update)
       → ((spread : Spread) → IsSpread (lasts_of host) spread → HoldsPart (lasts_of host) (values_for host values) first second (sources.Func place) (own_update pipeline flags place host spread update) points)
       → (spread : Spread) → IsSpread (lasts_of host) spread
@@ -142,7 +142,7 @@ partly_by lasts values first second None b x y f s = tt
 partly_by lasts values first second (Some a) None x y f s = tt
 partly_by lasts values first second (Some a) (Some b) x y f s = record { first = f; second = s }
 
-partly_boxed : (host : Option HostLoop) (values : List ℕ) (first second : Bool) (source : Source) (spread : Spread) (other : Option SourceBox) → other ≡ spread_box host spread
+pub partly_boxed : (host : Option HostLoop) (values : List ℕ) (first second : Bool) (source : Source) (spread : Spread) (other : Option SourceBox) → other ≡ spread_box host spread
     → (points : List Point) → HoldsPart (lasts_of host) values first second source spread points
     → AllByRecursion (λ point. same_source point.source source ≡ true → IsPartlyBoxed values (Some other) first second point.x point.y) points
 partly_boxed host values first second source spread other is [] all = tt
@@ -153,7 +153,7 @@ partly_boxed host values first second source spread other is (point ∷ points) 
   partly_boxed host values first second source spread other is points all.1,
 )
 
-same_func : (a b : Func) → Some a ≡ Some b → a ≡ b
+pub same_func : (a b : Func) → Some a ≡ Some b → a ≡ b
 same_func a b e = cc
 
 update_takes : (pipeline : Pipeline) (flags : List Bool) (place : ℕ) (points : List Point) (update : Update)

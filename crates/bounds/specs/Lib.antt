@@ -9,3 +9,4 @@ pub mod Layout
 pub mod Verdict
 pub mod Laws
 pub mod Callers
+pub mod HostLaws

@@ -11,12 +11,15 @@
 //! - [`sources`]: sources told apart.
 //! - [`caller_laws`]: which Funcs another reads, and where the readers stand (`specs/Callers.antt`).
 //! - [`laws`]: what is read lies in its box (`specs/Laws.antt`).
+//! - [`laws`]: what is read lies in its box (`specs/Laws.antt`); [`host_laws`]: so do the arguments to which loops take a Func
+//!   (`specs/HostLaws.antt`).
 #![tactic(auto)]
 
 pub mod asks;
 pub mod boxes;
 pub mod caller_laws;
 pub mod faults;
+pub mod host_laws;
 pub mod inference;
 pub mod judging;
 pub mod laws;

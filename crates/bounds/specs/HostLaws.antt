@@ -1,0 +1,117 @@
+-- Where loops of a host take arguments.
+--
+-- The host of a Func that is computed at a loop is the Func whose loop it is. While this loop and those outside of it are in given
+-- turns, those inside take all their values.
+-- This project's own.
+use Rattle.std.specs.Prelude.{◌≡◌, ◌<◌, ℕ, zero, suc, ◌+◌, ◌^◌, nat_lt, true, not, if◌then◌else◌, List, [], ◌∷◌, ◌++◌, length, slice_get, Option, Some, None, Ok}
+use Rattle.std.specs.List.{AllByRecursion}
+use Rattle.halide_pipeline.specs.declared.definitions.Func.{Func}
+use Rattle.halide_pipeline.specs.declared.definitions.Update.{Update}
+use Rattle.halide_pipeline.specs.declared.expressions.Source.TheVariants as sources
+use Rattle.halide_pipeline.specs.declared.expressions.Variable.{Variable}
+use Rattle.halide_pipeline.specs.declared.expressions.Variable.TheVariants as variables
+use Rattle.halide_pipeline.specs.Definitions.{is_first_in_place, is_second_in_place}
+use Rattle.halide_pipeline.specs.Pipelines.{Pipeline}
+use Rattle.halide_pipeline.specs.WellFormed.{IsWellFormed}
+use Rattle.halide_meaning.specs.Pixel.{Reads, points}
+use Rattle.schedule_lines.specs.declared.stages.Loop.{Loop}
+use Rattle.schedule_lines.specs.declared.stages.LoopId.{LoopId}
+use Rattle.schedule_lines.specs.declared.stages.LoopId.TheVariants as ids
+use Rattle.schedule.specs.declared.plans.FuncPlan.{FuncPlan}
+use Rattle.schedule.specs.declared.schedules.Schedule.{Schedule}
+use Rattle.schedule.specs.declared.standings.Standing.{Standing}
+use Rattle.stage_loops.specs.Counts.{Values, counts}
+use Rattle.stage_loops.specs.Reach.{AreTurns, wholes}
+use Rattle.stage_loops.specs.Stages.{IsStageOf, first_loops, has_variable}
+use Rattle.ranges.specs.declared.ranges.Range.{Range}
+use Rattle.ranges.specs.Laws.{Below, Lies, AnswerWords}
+use Rattle.ranges.specs.Ranges.{spot}
+use Rattle.bounds.specs.declared.boxes.HostLoop.{HostLoop}
+use Rattle.bounds.specs.declared.boxes.SourceBox.{SourceBox}
+use Rattle.bounds.specs.declared.verdict.Boxes.{Boxes}
+use Rattle.bounds.specs.Boxes.{lasts_of}
+use Rattle.bounds.specs.Laws.{LiesIn, values_for, host_in, IsComputed, update_points, IsNear, IsPartlyBoxed}
+use Rattle.bounds.specs.Sources.{same_source}
+use Rattle.bounds.specs.Verdict.{inferred}
+use Rattle.bounds.specs.Views.{extents_of, inner_count, host_loop, host_view, settled, settled_box}
+
+-- ---- turns of the loops of a stage, innermost first
+
+-- of one loop; 0 where none is there
+abbrev pub turn_of : Values → Option Loop → ℕ
+turn_of turns None = 0
+turn_of turns (Some own) = turns own.id
+
+abbrev pub turn_at : ℕ → Values → List Loop → ℕ → ℕ
+turn_at inner turns loops at = if nat_lt at inner then 0 else turn_of turns (slice_get loops at)
+
+-- Those of the loop with so many inside it and of all outside of it; the loops inside, which have no turn yet, count as in their first.
+abbrev pub turns_from : ℕ → Values → List Loop → List ℕ
+turns_from inner turns loops =
+    turn_at inner turns loops 0 ∷ turn_at inner turns loops 1 ∷ turn_at inner turns loops 2 ∷ turn_at inner turns loops 3
+    ∷ turn_at inner turns loops 4 ∷ []
+
+-- ---- the host's arguments
+
+-- how far a value takes an argument from its least number; not at all, where the Func has no such argument
+abbrev pub gone : Func → Variable → Values → ℕ
+gone func variable whole = if has_variable variable (first_loops func None) then whole (ids.Whole variable) else 0
+
+-- The word is this far from the least number of a range.
+pub record IsGone (range : Range) (far x : ℕ) : Type 0 where
+  pub word : x < 2 ^ 32
+  pub is : spot x ≡ range.low + far
+
+-- These values of a Func's arguments take it to this point of its box.
+pub record IsTakenTo (func : Func) (own : SourceBox) (whole : Values) (x y : ℕ) : Type 0 where
+  pub first : IsGone own.x (gone func variables.FirstArgument whole) x
+  pub second : IsGone own.y (gone func variables.SecondArgument whole) y
+
+-- While a loop of a pure definition and those outside of it are in given turns, each point to which those inside take the arguments lies in
+-- the view of them that is asked with, under these turns.
+abbrev pub HostArgumentsLie : Type 0
+HostArgumentsLie = (func : Func) (plan : FuncPlan) (own : SourceBox) (id : LoopId) (inside outside : List Loop) (turns : Values)
+    → IsStageOf func None plan.pure → plan.pure.loops ≡ inside ++ outside → length inside ≡ inner_count id plan.pure.loops
+    → AreTurns (counts (extents_of own) plan.pure.splits) outside turns
+    → Below (turns_from (length inside) turns plan.pure.loops) (host_loop plan own id).lasts
+    × AllByRecursion
+    (λ whole. (x y : ℕ) → IsTakenTo func own whole x y → LiesIn (turns_from (length inside) turns plan.pure.loops) (host_view plan.pure own (host_loop plan own id)) x y)
+    (wholes (extents_of own) plan.pure.splits inside turns)
+
+-- ---- points of a box at a loop
+
+-- Values of loops agree from the loop with so many inside it outward.
+abbrev pub AgreeFrom : ℕ → List ℕ → List ℕ → Type 0
+AgreeFrom inner [] [] = Unit {0}
+AgreeFrom inner [] (w ∷ others) = ⊥
+AgreeFrom inner (v ∷ values) [] = ⊥
+AgreeFrom zero (v ∷ values) (w ∷ others) = (v ≡ w) × AgreeFrom zero values others
+AgreeFrom (suc inner) (v ∷ values) (w ∷ others) = AgreeFrom inner values others
+
+-- What lies in a range lies in the one where loops inside take all their values, whatever values these have.
+abbrev pub SettledRangesHold : Type 0
+SettledRangesHold = (inner : ℕ) (lasts values others : List ℕ) → Below values lasts → AgreeFrom inner values others
+    → (range : Range) (x : ℕ) → Lies lasts values range x → Lies lasts others (settled inner lasts range) x
+
+-- So do points of a box.
+abbrev pub SettledBoxesHold : Type 0
+SettledBoxesHold = (inner : ℕ) (own : SourceBox) (values others : List ℕ) → Below values own.lasts → AgreeFrom inner values others
+    → (x y : ℕ) → LiesIn values own x y → LiesIn others (settled_box inner own) x y
+
+-- ---- what updates read of their own Func
+
+-- Whatever values the loops of its host have, what an update of a Func that is computed reads of its own Func, the point that its left side
+-- names among it, lies in the Func's box in each dimension that isn't in place.
+abbrev pub HostedOwnReadsLie : Type 0
+HostedOwnReadsLie = (pipeline : Pipeline) (schedule : Schedule) (boxes : Boxes) → IsWellFormed pipeline → inferred pipeline schedule ≡ Ok boxes
+    → (reader : ℕ) (func : Func) (sought : Standing) → slice_get pipeline.funcs reader ≡ Some func
+    → slice_get schedule.standings reader ≡ Some sought → sought.is_reached ≡ true → IsComputed reader sought.place
+    → (host : Option HostLoop) → host_in schedule boxes.funcs sought.place ≡ host
+    → (values : List ℕ) → Below (values_for host values) (lasts_of host)
+    → (at : ℕ) (update : Update) → slice_get func.updates at ≡ Some update
+    → (reads : Reads) → AnswerWords pipeline.inputs reads
+    → (x y : ℕ) → x < 2 ^ 32 → y < 2 ^ 32 → IsNear x → IsNear y → (number : ℕ) → number < points update
+    → AllByRecursion
+    (λ point. same_source point.source (sources.Func reader) ≡ true
+    → IsPartlyBoxed (values_for host values) (slice_get boxes.funcs reader) (not (is_first_in_place update)) (not (is_second_in_place update)) point.x point.y)
+    (update_points pipeline schedule reads reader update number x y)
