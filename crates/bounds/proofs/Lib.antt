@@ -21,3 +21,5 @@ pub mod HostArguments
 pub mod Settled
 pub mod PlainRanges
 pub mod HostedOwnReads
+pub mod StayingReads
+pub mod OwnPoints

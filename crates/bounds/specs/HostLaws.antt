@@ -14,6 +14,7 @@ use Rattle.halide_pipeline.specs.Definitions.{is_first_in_place, is_second_in_pl
 use Rattle.halide_pipeline.specs.Pipelines.{Pipeline}
 use Rattle.halide_pipeline.specs.WellFormed.{IsWellFormed}
 use Rattle.halide_meaning.specs.Pixel.{Reads, points}
+use Rattle.reads.specs.Points.{Point}
 use Rattle.schedule_lines.specs.declared.stages.Loop.{Loop}
 use Rattle.schedule_lines.specs.declared.stages.LoopId.{LoopId}
 use Rattle.schedule_lines.specs.declared.stages.LoopId.TheVariants as ids
@@ -30,7 +31,7 @@ use Rattle.bounds.specs.declared.boxes.HostLoop.{HostLoop}
 use Rattle.bounds.specs.declared.boxes.SourceBox.{SourceBox}
 use Rattle.bounds.specs.declared.verdict.Boxes.{Boxes}
 use Rattle.bounds.specs.Boxes.{lasts_of}
-use Rattle.bounds.specs.Laws.{LiesIn, values_for, host_in, IsComputed, update_points, IsNear, IsPartlyBoxed}
+use Rattle.bounds.specs.Laws.{LiesIn, AreBoxed, LiesPartly, values_for, host_in, IsComputed, update_points, IsNear, IsPartlyBoxed}
 use Rattle.bounds.specs.Sources.{same_source}
 use Rattle.bounds.specs.Verdict.{inferred}
 use Rattle.bounds.specs.Views.{extents_of, inner_count, host_loop, host_view, settled, settled_box}
@@ -115,3 +116,30 @@ HostedOwnReadsLie = (pipeline : Pipeline) (schedule : Schedule) (boxes : Boxes) 
     (λ point. same_source point.source (sources.Func reader) ≡ true
     → IsPartlyBoxed (values_for host values) (slice_get boxes.funcs reader) (not (is_first_in_place update)) (not (is_second_in_place update)) point.x point.y)
     (update_points pipeline schedule reads reader update number x y)
+
+-- The point has the arguments that stand in place for its coordinates.
+pub record IsInPlace (update : Update) (x y : ℕ) (point : Point) : Type 0 where
+  pub first : is_first_in_place update ≡ true → point.x ≡ x
+  pub second : is_second_in_place update ≡ true → point.y ≡ y
+
+-- In each dimension in place an update reads its own Func at the argument itself, and its left side names the argument itself.
+abbrev pub OwnReadsStay : Type 0
+OwnReadsStay = (pipeline : Pipeline) (schedule : Schedule) → IsWellFormed pipeline
+    → (reader : ℕ) (func : Func) → slice_get pipeline.funcs reader ≡ Some func → (at : ℕ) (update : Update) → slice_get func.updates at ≡ Some update
+    → (reads : Reads) (number x y : ℕ)
+    → AllByRecursion (λ point. same_source point.source (sources.Func reader) ≡ true → IsInPlace update x y point)
+    (update_points pipeline schedule reads reader update number x y)
+
+-- So all that an update reads of its own Func lies in the Func's box, and the point that its left side names, where the arguments in place do.
+abbrev pub OwnPointsLie : Type 0
+OwnPointsLie = (pipeline : Pipeline) (schedule : Schedule) (boxes : Boxes) → IsWellFormed pipeline → inferred pipeline schedule ≡ Ok boxes
+    → (reader : ℕ) (func : Func) (sought : Standing) → slice_get pipeline.funcs reader ≡ Some func
+    → slice_get schedule.standings reader ≡ Some sought → sought.is_reached ≡ true → IsComputed reader sought.place
+    → (host : Option HostLoop) → host_in schedule boxes.funcs sought.place ≡ host
+    → (values : List ℕ) → Below (values_for host values) (lasts_of host)
+    → (own : SourceBox) → slice_get boxes.funcs reader ≡ Some (Some own)
+    → (at : ℕ) (update : Update) → slice_get func.updates at ≡ Some update
+    → (reads : Reads) → AnswerWords pipeline.inputs reads
+    → (x y : ℕ) → x < 2 ^ 32 → y < 2 ^ 32 → IsNear x → IsNear y → (number : ℕ) → number < points update
+    → LiesPartly (values_for host values) own (is_first_in_place update) (is_second_in_place update) x y
+    → AreBoxed (values_for host values) (sources.Func reader) (Some (Some own)) (update_points pipeline schedule reads reader update number x y)
