@@ -1,9 +1,10 @@
 -- What is read is of Funcs that the reader calls, also through inlined ones.
 use Rattle.std.proofs.Common.{◌≡◌, ℕ, zero, suc, ◌<◌, ◌≤◌, Bool, true, false, List, [], ◌∷◌, ◌++◌, Option, None, Some, ◌⊎◌, refl, sym, ap, subst, ◌∙◌, arith, inl, inr, true≢false}
-use Rattle.std.specs.Prelude.{◌==◌, ◌||◌, cond, nat_lt, slice_get}
+use Rattle.std.specs.Prelude.{◌==◌, ◌||◌, cond, nat_lt, slice_get, is_some}
 use Rattle.std.specs.List.{AllByRecursion}
 use Rattle.std.proofs.lemmas.Bool.{and_parts, ltb-true, cases_eq, cases_lt, eq-eqb}
 use Rattle.halide_pipeline.specs.declared.definitions.Func.{Func}
+use Rattle.halide_pipeline.specs.declared.definitions.Input.{Input}
 use Rattle.halide_pipeline.specs.declared.definitions.Update.{Update}
 use Rattle.halide_pipeline.specs.declared.expressions.Expr.{Expr, fold-Expr, map-Expr}
 use Rattle.halide_pipeline.specs.declared.expressions.Expr.TheOpen.{Expr-F}
@@ -14,7 +15,7 @@ use Rattle.halide_pipeline.specs.declared.expressions.Variable.{Variable}
 use Rattle.halide_pipeline.specs.declared.expressions.Variable.TheVariants as variables
 use Rattle.halide_pipeline.specs.Definitions.{dimensions}
 use Rattle.halide_pipeline.specs.Pipelines.{Pipeline}
-use Rattle.halide_pipeline.specs.WellFormed.{keeps, keeps_index, is_read, is_func_of, is_argument, is_update_variable, IsWellFormed, IsUpdate}
+use Rattle.halide_pipeline.specs.WellFormed.{keeps, keeps_index, is_read, is_input_of, is_func_of, is_argument, is_update_variable, IsWellFormed, IsUpdate}
 use Rattle.halide_meaning.specs.declared.environments.Environment.{Environment}
 use Rattle.halide_meaning.specs.Pixel.{Reads, at_point, at_reduction}
 use Rattle.reads.specs.Points.{Point, Seen}
@@ -32,20 +33,20 @@ use Rattle.weights.specs.Weight.{flags_of}
 use Rattle.bounds.specs.Callers.{ReadsThrough, Calls, Through, IsReadThrough, AreReadThrough, PurePointsAreReadThrough, UpdatePointsAreReadThrough}
 use Rattle.bounds.specs.Laws.{pure_points, update_points, seen_in, second_seen}
 
-or_left : (a b : Bool) → a ≡ true → (a || b) ≡ true
+pub or_left : (a b : Bool) → a ≡ true → (a || b) ≡ true
 or_left true b e = refl
 or_left false b e = cc
 
-or_right : (a b : Bool) → b ≡ true → (a || b) ≡ true
+pub or_right : (a b : Bool) → b ≡ true → (a || b) ≡ true
 or_right true b e = refl
 or_right false b e = e
 
 -- ---- calls of all Funcs at once
 
-abbrev callers_at : Expr-F (ℕ → Bool) → ℕ → Bool
+abbrev pub callers_at : Expr-F (ℕ → Bool) → ℕ → Bool
 callers_at level func = calls_at func (map-Expr (ℕ → Bool) Bool (λ f. f func) level)
 
-abbrev callers : Expr → ℕ → Bool
+abbrev pub callers : Expr → ℕ → Bool
 callers e = fold-Expr (ℕ → Bool) callers_at e
 
 module _ (reads : Source → ℕ → Bool) (has : Variable → Bool) (func : ℕ) where
@@ -65,7 +66,7 @@ module _ (reads : Source → ℕ → Bool) (has : Variable → Bool) (func : ℕ
   same_levels (layer.Call1 s a) kept = ap (λ (t : Bool). is_func func s || t) a.is
   same_levels (layer.Call2 s a b) kept = either (is_func func s || a.left func) (b.left func) (is_func func s || a.right) b.right (ap (λ (t : Bool). is_func func s || t) a.is) b.is
 
-  callers_are : (e : Expr) → keeps reads has e ≡ true → callers e func ≡ calls func e
+  pub callers_are : (e : Expr) → keeps reads has e ≡ true → callers e func ≡ calls func e
   unfolding calls
   callers_are e kept = kept_folds_related Same reads has callers_at (calls_at func) same_levels e kept
 
@@ -75,49 +76,62 @@ module _ (pipeline : Pipeline) (standings : List Standing) (rules : IsWellFormed
   abbrev is_inlined : ℕ → Bool
   is_inlined = flagged (flags_of standings)
 
-  abbrev Good : ℕ → Point → Type 0
-  Good reader point = IsReadThrough pipeline standings reader point.source
+  abbrev Good : ℕ → ℕ → Point → Type 0
+  Good reader count point = IsReadThrough pipeline standings reader count point.source
 
-  abbrev AllGood : ℕ → List Point → Type 0
-  AllGood reader points = AllByRecursion (Good reader) points
+  abbrev AllGood : ℕ → ℕ → List Point → Type 0
+  AllGood reader count points = AllByRecursion (Good reader count) points
 
-  both_good : (reader : ℕ) (a b : List Point) → AllGood reader a → AllGood reader b → AllGood reader (a ++ b)
-  both_good reader a b f g = all_both (Good reader) a b f g
+  both_good : (reader count : ℕ) (a b : List Point) → AllGood reader count a → AllGood reader count b → AllGood reader count (a ++ b)
+  both_good reader count a b f g = all_both (Good reader count) a b f g
 
   -- what an inlined Func reads that the reader calls, the reader reads
-  lifted : (reader place : ℕ) → place < reader → is_inlined place ≡ true → place_calls pipeline reader place ≡ true → (s : Source) → IsReadThrough pipeline standings place s → IsReadThrough pipeline standings reader s
-  lifted reader place before flag called (sources.Input other) good = tt
-  lifted reader place before flag called (sources.Func other) (plain, inl e) =
-      (plain, inr (Calls reader other (subst (λ (n : ℕ). n < reader) (sym e) before) (subst (λ (n : ℕ). place_calls pipeline reader n ≡ true) (sym e) called)))
-  lifted reader place before flag called (sources.Func other) (plain, inr r) = (plain, inr (Through reader place other before flag called r))
+  lifted : (reader count place : ℕ) → place < count → place < reader → is_inlined place ≡ true → place_calls pipeline reader place ≡ true → (s : Source) → IsReadThrough pipeline standings place place s
+      → IsReadThrough pipeline standings reader count s
+  lifted reader count place few before flag called (sources.Input other) good = good
+  lifted reader count place few before flag called (sources.Func other) (plain, (below, inl e)) = absurd (omega (arith, e, below))
+  lifted reader count place few before flag called (sources.Func other) (plain, (below, inr r)) = (plain, (omega (arith, few, below), inr (Through reader place other before flag called r)))
 
-  all_lifted : (reader place : ℕ) → place < reader → is_inlined place ≡ true → place_calls pipeline reader place ≡ true → (points : List Point) → AllGood place points → AllGood reader points
-  all_lifted reader place before flag called [] good = tt
-  all_lifted reader place before flag called (point ∷ points) good = (lifted reader place before flag called point.source good.0, all_lifted reader place before flag called points good.1)
+  all_lifted : (reader count place : ℕ) → place < count → place < reader → is_inlined place ≡ true → place_calls pipeline reader place ≡ true → (points : List Point) → AllGood place place points → AllGood reader count points
+  all_lifted reader count place few before flag called [] good = tt
+  all_lifted reader count place few before flag called (point ∷ points) good =
+      (lifted reader count place few before flag called point.source good.0, all_lifted reader count place few before flag called points good.1)
+
+  more_good : (reader : ℕ) (points : List Point) → AllGood reader reader points → AllGood reader (suc reader) points
+  more_good reader [] good = tt
+  more_good reader (point ∷ points) good = (by_source point.source good.0, more_good reader points good.1)
+    where
+      by_source : (s : Source) → IsReadThrough pipeline standings reader reader s → IsReadThrough pipeline standings reader (suc reader) s
+      by_source (sources.Input place) read = read
+      by_source (sources.Func place) read = (read.0, (omega (arith, read.1.0), read.1.1))
+
+  input_some : (own : Option Input) (n : ℕ) → is_input_of own n ≡ true → is_some own ≡ true
+  input_some None n e = absurd cc
+  input_some (Some own) n e = refl
 
   abbrev Claim : ℕ → ℕ → Type 0
   Claim reader count =
-      (vars : Variable → Seen) → ((v : Variable) → AllGood reader (vars v).points) → (has : Variable → Bool) (e : Expr) → keeps (is_read pipeline.inputs pipeline.funcs count) has e ≡ true
+      (vars : Variable → Seen) → ((v : Variable) → AllGood reader count (vars v).points) → (has : Variable → Bool) (e : Expr) → keeps (is_read pipeline.inputs pipeline.funcs count) has e ≡ true
       → ((func : ℕ) → calls func e ≡ true → place_calls pipeline reader func ≡ true)
-      → AllGood reader (through (seeing reads) (inside (seeing reads) is_inlined pipeline.funcs count) vars e).points
+      → AllGood reader count (through (seeing reads) (inside (seeing reads) is_inlined pipeline.funcs count) vars e).points
 
   -- no inlined Func among the first so many is the reader
   abbrev Precede : ℕ → ℕ → Type 0
   Precede count reader = (place : ℕ) → place < count → is_inlined place ≡ true → place < reader
 
-  made_good : (reader place : ℕ) → place < reader → is_inlined place ≡ true → place_calls pipeline reader place ≡ true → Claim place place
-      → (found : Option Func) → slice_get pipeline.funcs place ≡ found → (n : ℕ) → is_func_of found n ≡ true → (a x : Seen) (y : Option Seen) → AllGood reader x.points → AllGood reader (second_points y)
-      → AllGood reader (answered a x y (made_in (seeing reads) (inside (seeing reads) is_inlined pipeline.funcs place) found)).points
+  made_good : (reader count place : ℕ) → place < count → place < reader → is_inlined place ≡ true → place_calls pipeline reader place ≡ true → Claim place place
+      → (found : Option Func) → slice_get pipeline.funcs place ≡ found → (n : ℕ) → is_func_of found n ≡ true → (a x : Seen) (y : Option Seen) → AllGood reader count x.points → AllGood reader count (second_points y)
+      → AllGood reader count (answered a x y (made_in (seeing reads) (inside (seeing reads) is_inlined pipeline.funcs place) found)).points
   unfolding seeing place_calls func_calls
-  made_good reader place before flag called claim None is n some a x y gx gy = absurd cc
-  made_good reader place before flag called claim (Some func) is n some a x y gx gy =
+  made_good reader count place few before flag called claim None is n some a x y gx gy = absurd cc
+  made_good reader count place few before flag called claim (Some func) is n some a x y gx gy =
       let vars = arguments (none (seeing reads)) (unread x) (unread (second_of (none (seeing reads)) y)) in
       let v = through (seeing reads) (inside (seeing reads) is_inlined pipeline.funcs place) vars func.pure in
-      both_good reader x.points (second_points y ++ v.points) gx
-      (both_good reader (second_points y) v.points gy
-      (all_lifted reader place before flag called v.points (claim vars nothing (is_argument (dimensions func)) func.pure (rules.funcs place func is).pure calling)))
+      both_good reader count x.points (second_points y ++ v.points) gx
+      (both_good reader count (second_points y) v.points gy
+      (all_lifted reader count place few before flag called v.points (claim vars nothing (is_argument (dimensions func)) func.pure (rules.funcs place func is).pure calling)))
     where
-      nothing : (v : Variable) → AllGood place (arguments (none (seeing reads)) (unread x) (unread (second_of (none (seeing reads)) y)) v).points
+      nothing : (v : Variable) → AllGood place place (arguments (none (seeing reads)) (unread x) (unread (second_of (none (seeing reads)) y)) v).points
       nothing variables.FirstArgument = tt
       nothing variables.SecondArgument = tt
       nothing variables.FirstReduction = tt
@@ -128,9 +142,9 @@ module _ (pipeline : Pipeline) (standings : List Standing) (rules : IsWellFormed
 
   module _ (reader count : ℕ) (few : count ≤ suc reader) (precede : Precede count reader) (claims : (place : ℕ) → place < count → is_inlined place ≡ true → Claim place place) where
     answered_good : (s : Source) (n : ℕ) → is_read pipeline.inputs pipeline.funcs count s n ≡ true → ((func : ℕ) → is_func func s ≡ true → place_calls pipeline reader func ≡ true)
-        → (a x : Seen) (y : Option Seen) → (IsReadThrough pipeline standings reader s → AllGood reader a.points) → AllGood reader x.points → AllGood reader (second_points y)
-        → AllGood reader (answered a x y (answer (inside (seeing reads) is_inlined pipeline.funcs count) s)).points
-    answered_good (sources.Input place) n read called a x y ga gx gy = ga tt
+        → (a x : Seen) (y : Option Seen) → (IsReadThrough pipeline standings reader count s → AllGood reader count a.points) → AllGood reader count x.points → AllGood reader count (second_points y)
+        → AllGood reader count (answered a x y (answer (inside (seeing reads) is_inlined pipeline.funcs count) s)).points
+    answered_good (sources.Input place) n read called a x y ga gx gy = ga (input_some (slice_get pipeline.inputs place) n read)
     answered_good (sources.Func place) n read called a x y ga gx gy = by_flag (is_inlined place) refl
       where
         parts : (nat_lt place count ≡ true) × (is_func_of (slice_get pipeline.funcs place) n ≡ true)
@@ -148,41 +162,41 @@ module _ (pipeline : Pipeline) (standings : List Standing) (rules : IsWellFormed
           | inr l ↦ inl (omega (arith, l, before, few))
         ]
 
-        own_read : is_inlined place ≡ false → IsReadThrough pipeline standings reader (sources.Func place)
-        own_read flag = (flag, by_place)
+        own_read : is_inlined place ≡ false → IsReadThrough pipeline standings reader count (sources.Func place)
+        own_read flag = (flag, (before, by_place))
 
-        by_flag : (flag : Bool) → is_inlined place ≡ flag → AllGood reader (answered a x y (inside (seeing reads) is_inlined pipeline.funcs count place)).points
+        by_flag : (flag : Bool) → is_inlined place ≡ flag → AllGood reader count (answered a x y (inside (seeing reads) is_inlined pipeline.funcs count place)).points
         by_flag false f = rw (inside_computed (seeing reads) is_inlined pipeline.funcs count place f) (ga (own_read f))
         by_flag true f =
             rw (inside_before (seeing reads) is_inlined pipeline.funcs count place before f)
-            (made_good reader place (precede place before f) f own_call (claims place before f) (slice_get pipeline.funcs place) refl n parts.1 a x y gx gy)
+            (made_good reader count place before (precede place before f) f own_call (claims place before f) (slice_get pipeline.funcs place) refl n parts.1 a x y gx gy)
 
     abbrev Reach : (ℕ → Bool) → Seen → Type 0
-    Reach f s = ((func : ℕ) → f func ≡ true → place_calls pipeline reader func ≡ true) → AllGood reader s.points
+    Reach f s = ((func : ℕ) → f func ≡ true → place_calls pipeline reader func ≡ true) → AllGood reader count s.points
 
-    module _ (vars : Variable → Seen) (quiet : (v : Variable) → AllGood reader (vars v).points) (has : Variable → Bool) where
+    module _ (vars : Variable → Seen) (quiet : (v : Variable) → AllGood reader count (vars v).points) (has : Variable → Bool) where
       levels : KeptLevels Reach (is_read pipeline.inputs pipeline.funcs count) has callers_at (through_at (seeing reads) (inside (seeing reads) is_inlined pipeline.funcs count) vars)
       unfolding seeing
       levels (layer.Number n) kept = λ called. tt
       levels (layer.Variable v) kept = λ called. quiet v
       levels (layer.Binary op a b) kept = λ called.
-          both_good reader a.right.points b.right.points (a.is (λ f e. called f (or_left (a.left f) (b.left f) e))) (b.is (λ f e. called f (or_right (a.left f) (b.left f) e)))
+          both_good reader count a.right.points b.right.points (a.is (λ f e. called f (or_left (a.left f) (b.left f) e))) (b.is (λ f e. called f (or_right (a.left f) (b.left f) e)))
       levels (layer.Divide a n) kept = λ called. a.is called
       levels (layer.Remainder a n) kept = λ called. a.is called
       levels (layer.Select c a b) kept = λ called.
-          both_good reader c.right.points (a.right.points ++ b.right.points) (c.is (λ f e. called f (or_left (c.left f || a.left f) (b.left f) (or_left (c.left f) (a.left f) e))))
-          (both_good reader a.right.points b.right.points (a.is (λ f e. called f (or_left (c.left f || a.left f) (b.left f) (or_right (c.left f) (a.left f) e)))) (b.is (λ f e. called f (or_right (c.left f || a.left f) (b.left f) e))))
+          both_good reader count c.right.points (a.right.points ++ b.right.points) (c.is (λ f e. called f (or_left (c.left f || a.left f) (b.left f) (or_left (c.left f) (a.left f) e))))
+          (both_good reader count a.right.points b.right.points (a.is (λ f e. called f (or_left (c.left f || a.left f) (b.left f) (or_right (c.left f) (a.left f) e)))) (b.is (λ f e. called f (or_right (c.left f || a.left f) (b.left f) e))))
       levels (layer.Call1 s a) kept = λ called.
           let ga = a.is (λ f e. called f (or_right (is_func f s) (a.left f) e)) in
-          answered_good s 1 kept (λ f e. called f (or_left (is_func f s) (a.left f) e)) _ a.right None (λ own. both_good reader a.right.points _ ga (own, tt)) ga tt
+          answered_good s 1 kept (λ f e. called f (or_left (is_func f s) (a.left f) e)) _ a.right None (λ own. both_good reader count a.right.points _ ga (own, tt)) ga tt
       levels (layer.Call2 s a b) kept = λ called.
           let ga = a.is (λ f e. called f (or_left (is_func f s || a.left f) (b.left f) (or_right (is_func f s) (a.left f) e))) in
           let gb = b.is (λ f e. called f (or_right (is_func f s || a.left f) (b.left f) e)) in
           answered_good s 2 kept (λ f e. called f (or_left (is_func f s || a.left f) (b.left f) (or_left (is_func f s) (a.left f) e))) _ a.right (Some b.right)
-          (λ own. both_good reader (a.right.points ++ b.right.points) _ (both_good reader a.right.points b.right.points ga gb) (own, tt)) ga gb
+          (λ own. both_good reader count (a.right.points ++ b.right.points) _ (both_good reader count a.right.points b.right.points ga gb) (own, tt)) ga gb
 
       claimed : (e : Expr) → keeps (is_read pipeline.inputs pipeline.funcs count) has e ≡ true → ((func : ℕ) → calls func e ≡ true → place_calls pipeline reader func ≡ true)
-          → AllGood reader (through (seeing reads) (inside (seeing reads) is_inlined pipeline.funcs count) vars e).points
+          → AllGood reader count (through (seeing reads) (inside (seeing reads) is_inlined pipeline.funcs count) vars e).points
       unfolding through
       claimed e kept called =
           kept_folds_related Reach (is_read pipeline.inputs pipeline.funcs count) has callers_at (through_at (seeing reads) (inside (seeing reads) is_inlined pipeline.funcs count) vars) levels e kept
@@ -196,7 +210,7 @@ module _ (pipeline : Pipeline) (standings : List Standing) (rules : IsWellFormed
 
   pub expression_good : (reader count : ℕ) → count ≤ suc reader → Precede count reader → (environment : Environment) (has : Variable → Bool) (e : Expr) → keeps (is_read pipeline.inputs pipeline.funcs count) has e ≡ true
       → ((func : ℕ) → calls func e ≡ true → place_calls pipeline reader func ≡ true)
-      → AllGood reader (inlined (seeing reads) is_inlined pipeline.funcs count (seen_variable environment) e).points
+      → AllGood reader count (inlined (seeing reads) is_inlined pipeline.funcs count (seen_variable environment) e).points
   expression_good reader count few precede environment has e kept called =
       claimed reader count few precede (λ place before flag. claims_below (suc place) place (omega arith)) (seen_variable environment) (λ v. tt) has e kept called
 
@@ -210,7 +224,7 @@ pure_points_are_read_through pipeline schedule rules reader func func_is reads x
 
 -- ---- updates
 
-updates_one : (func : ℕ) (updates : List Update) (at : ℕ) (update : Update) → slice_get updates at ≡ Some update → update_calls func update ≡ true → updates_call func updates ≡ true
+pub updates_one : (func : ℕ) (updates : List Update) (at : ℕ) (update : Update) → slice_get updates at ≡ Some update → update_calls func update ≡ true → updates_call func updates ≡ true
 updates_one func [] at update is e = absurd cc
 updates_one func (first ∷ others) zero update is e =
     or_left (update_calls func first) (updates_call func others) (ap (update_calls func) (first_is first update is) ∙ e)
@@ -222,9 +236,9 @@ updates_one func (first ∷ others) (suc at) update is e = or_right (update_call
 pub update_points_are_read_through : UpdatePointsAreReadThrough
 unfolding place_calls func_calls
 update_points_are_read_through pipeline schedule rules reader func func_is plain at update update_is reads number x y =
-    both_good pipeline schedule.standings rules reads reader (seen_in pipeline schedule reads reader point update.left_x).points _ left_x
-    (both_good pipeline schedule.standings rules reads reader (second_seen pipeline schedule reads reader point update.left_y).points _ (second update.left_y refl formed.left_y)
-    ((plain, inl refl), right))
+    both_good pipeline schedule.standings rules reads reader (suc reader) (seen_in pipeline schedule reads reader point update.left_x).points _ (more_good pipeline schedule.standings rules reads reader (seen_in pipeline schedule reads reader point update.left_x).points left_x)
+    (both_good pipeline schedule.standings rules reads reader (suc reader) (second_seen pipeline schedule reads reader point update.left_y).points _ (more_good pipeline schedule.standings rules reads reader (second_seen pipeline schedule reads reader point update.left_y).points (second update.left_y refl formed.left_y))
+    ((plain, (omega arith, inl refl)), right))
   where
     point : Environment
     point = at_reduction update number x y
@@ -238,12 +252,12 @@ update_points_are_read_through pipeline schedule rules reader func func_is plain
     calling : (other : ℕ) → update_calls other update ≡ true → place_calls pipeline reader other ≡ true
     calling other e = ap (place_calls_of other) func_is ∙ or_right (calls other func.pure) (updates_call other func.updates) (updates_one other func.updates at update update_is e)
 
-    left_x : AreReadThrough pipeline schedule.standings reader (seen_in pipeline schedule reads reader point update.left_x).points
+    left_x : AreReadThrough pipeline schedule.standings reader reader (seen_in pipeline schedule reads reader point update.left_x).points
     left_x =
         expression_good pipeline schedule.standings rules reads reader reader (omega arith) (λ place before flag. before) point has update.left_x formed.left_x
         (λ other e. calling other (or_left (calls other update.left_x || second_calls other update.left_y) (calls other update.right) (or_left (calls other update.left_x) (second_calls other update.left_y) e)))
 
-    second : (index : Option Expr) → index ≡ update.left_y → keeps_index (is_read pipeline.inputs pipeline.funcs reader) has (dimensions func) index ≡ true → AreReadThrough pipeline schedule.standings reader (second_seen pipeline schedule reads reader point index).points
+    second : (index : Option Expr) → index ≡ update.left_y → keeps_index (is_read pipeline.inputs pipeline.funcs reader) has (dimensions func) index ≡ true → AreReadThrough pipeline schedule.standings reader reader (second_seen pipeline schedule reads reader point index).points
     second None is kept = tt
     second (Some index) is kept =
         expression_good pipeline schedule.standings rules reads reader reader (omega arith) (λ place before flag. before) point has index
@@ -257,7 +271,7 @@ update_points_are_read_through pipeline schedule rules reader func func_is plain
       | inr d ↦ omega (arith, d, below)
     ]
 
-    right : AreReadThrough pipeline schedule.standings reader (seen_in pipeline schedule reads (suc reader) point update.right).points
+    right : AreReadThrough pipeline schedule.standings reader (suc reader) (seen_in pipeline schedule reads (suc reader) point update.right).points
     right =
         expression_good pipeline schedule.standings rules reads reader (suc reader) (omega arith) precede point has update.right formed.right
         (λ other e. calling other (or_right (calls other update.left_x || second_calls other update.left_y) (calls other update.right) e))

@@ -103,7 +103,7 @@ module _ (pipeline : Pipeline) (schedule : Schedule) (flags : List Bool) (boxes 
   nothing [] e (suc before) own there = cc
   nothing (other ∷ found) e before own there = cc
 
-  inputs_at : (place : ℕ) (inputs : List Input) (found : List (Option SourceBox)) → inputs_from pipeline schedule flags boxes place inputs ≡ Some found → Is place found
+  pub inputs_at : (place : ℕ) (inputs : List Input) (found : List (Option SourceBox)) → inputs_from pipeline schedule flags boxes place inputs ≡ Some found → Is place found
   inputs_at place [] found e before own there = absurd (nothing found (got [] found e) before own there)
   inputs_at place (input ∷ others) found e before own there =
       step place (inputs_from pipeline schedule flags boxes (place + 1) others) found (λ behind is. inputs_at (place + 1) others behind is) e before own there

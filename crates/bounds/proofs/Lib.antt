@@ -23,3 +23,9 @@ pub mod PlainRanges
 pub mod HostedOwnReads
 pub mod StayingReads
 pub mod OwnPoints
+pub mod SomeValues
+pub mod BoxFacts
+pub mod Flat
+pub mod Sees
+pub mod PutIn
+pub mod Closure

@@ -1,6 +1,6 @@
 -- Which Funcs another reads, also through those that are inlined, and where they stand.
 -- This project's own.
-use Rattle.std.specs.Prelude.{◌≡◌, ◌<◌, ℕ, suc, true, false, List, ◌⊎◌, slice_get, Some}
+use Rattle.std.specs.Prelude.{◌≡◌, ◌<◌, ℕ, suc, true, false, List, ◌⊎◌, slice_get, Some, is_some}
 use Rattle.std.specs.List.{AllByRecursion}
 use Rattle.halide_pipeline.specs.declared.definitions.Func.{Func}
 use Rattle.halide_pipeline.specs.declared.definitions.Update.{Update}
@@ -28,27 +28,28 @@ pub data ReadsThrough (pipeline : Pipeline) (standings : List Standing) : ℕ �
   Through : (reader between func : ℕ) → between < reader → flagged (flags_of standings) between ≡ true → place_calls pipeline reader between ≡ true
       → ReadsThrough pipeline standings between func → ReadsThrough pipeline standings reader func
 
--- A point of a Func is of the reader itself, or of one that it reads, and not of an inlined one.
-abbrev pub IsReadThrough : Pipeline → List Standing → ℕ → Source → Type 0
-IsReadThrough pipeline standings reader (sources.Input place) = Unit {0}
-IsReadThrough pipeline standings reader (sources.Func func) =
-    (flagged (flags_of standings) func ≡ false) × ((func ≡ reader) ⊎ ReadsThrough pipeline standings reader func)
+-- A point is of an input that is there, or of one of the first so many Funcs: of the reader itself, or of one that it reads, and not of an
+-- inlined one.
+abbrev pub IsReadThrough : Pipeline → List Standing → ℕ → ℕ → Source → Type 0
+IsReadThrough pipeline standings reader count (sources.Input place) = is_some (slice_get pipeline.inputs place) ≡ true
+IsReadThrough pipeline standings reader count (sources.Func func) =
+    (flagged (flags_of standings) func ≡ false) × ((func < count) × ((func ≡ reader) ⊎ ReadsThrough pipeline standings reader func))
 
-abbrev pub AreReadThrough : Pipeline → List Standing → ℕ → List Point → Type 0
-AreReadThrough pipeline standings reader points = AllByRecursion (λ (point : Point). IsReadThrough pipeline standings reader point.source) points
+abbrev pub AreReadThrough : Pipeline → List Standing → ℕ → ℕ → List Point → Type 0
+AreReadThrough pipeline standings reader count points = AllByRecursion (λ (point : Point). IsReadThrough pipeline standings reader count point.source) points
 
 -- Each point that a pure definition reads, its inlined Funcs put in place, is of a source that it reads so.
 abbrev pub PurePointsAreReadThrough : Type 0
 PurePointsAreReadThrough = (pipeline : Pipeline) (schedule : Schedule) → IsWellFormed pipeline
     → (reader : ℕ) (func : Func) → slice_get pipeline.funcs reader ≡ Some func → (reads : Reads) (x y : ℕ)
-    → AreReadThrough pipeline schedule.standings reader (pure_points pipeline schedule reads reader func x y)
+    → AreReadThrough pipeline schedule.standings reader reader (pure_points pipeline schedule reads reader func x y)
 
 -- So is each that an update reads of a Func that isn't inlined.
 abbrev pub UpdatePointsAreReadThrough : Type 0
 UpdatePointsAreReadThrough = (pipeline : Pipeline) (schedule : Schedule) → IsWellFormed pipeline
     → (reader : ℕ) (func : Func) → slice_get pipeline.funcs reader ≡ Some func → flagged (flags_of schedule.standings) reader ≡ false
     → (at : ℕ) (update : Update) → slice_get func.updates at ≡ Some update → (reads : Reads) (number x y : ℕ)
-    → AreReadThrough pipeline schedule.standings reader (update_points pipeline schedule reads reader update number x y)
+    → AreReadThrough pipeline schedule.standings reader (suc reader) (update_points pipeline schedule reads reader update number x y)
 
 -- It is the Func that has the loop, or it is computed at that loop or at one inside it.
 pub data StandsAt (schedule : Schedule) (host : LoopPlace) (reader : ℕ) : Type 0 where

@@ -10,3 +10,4 @@ pub mod Verdict
 pub mod Laws
 pub mod Callers
 pub mod HostLaws
+pub mod Closure

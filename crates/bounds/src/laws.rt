@@ -1,5 +1,6 @@
 //! Laws of boxes, each the contract of a function that does nothing.
 
+ghost use Rattle.bounds.specs.Closure.{AllReadsAreHeld, OneRowBoxes};
 ghost use Rattle.bounds.specs.Laws.{
   PureReadsOfInputsLie,
   PureReadsOfFuncsLie,
@@ -41,4 +42,15 @@ pub fn output_lies()
 /// dimension that isn't in place.
 pub fn own_reads_lie()
     ensures { OwnReadsLie }
+{}
+
+/// Boxes hold all that the pixels of the output's picture read, with all that these read in turn: what is read of an
+/// input lies within its extents, and what is read of a Func that is computed lies in its box.
+pub fn all_reads_are_held()
+    ensures { AllReadsAreHeld }
+{}
+
+/// The box of a Func of one dimension has one row.
+pub fn one_row_boxes()
+    ensures { OneRowBoxes }
 {}

@@ -10,7 +10,6 @@
 //! - [`layout`]: where inputs, boxes and frames lie (`specs/Layout.antt`).
 //! - [`sources`]: sources told apart.
 //! - [`caller_laws`]: which Funcs another reads, and where the readers stand (`specs/Callers.antt`).
-//! - [`laws`]: what is read lies in its box (`specs/Laws.antt`).
 //! - [`laws`]: what is read lies in its box (`specs/Laws.antt`); [`host_laws`]: so do the arguments to which loops take a Func
 //!   (`specs/HostLaws.antt`).
 #![tactic(auto)]

@@ -66,7 +66,7 @@ module _ (inputs : List Input) (funcs : List Func) (are : AreFuncs inputs funcs)
   one_of true a b la lb = la
   one_of false a b la lb = lb
 
-  with_words : (own : ℕ) (plane : Plane) (earlier : Planes) → Words plane → AnswerWords inputs (reads_of planes earlier) → AnswerWords inputs (reads_of planes (with_plane own plane earlier))
+  pub with_words : (own : ℕ) (plane : Plane) (earlier : Planes) → Words plane → AnswerWords inputs (reads_of planes earlier) → AnswerWords inputs (reads_of planes (with_plane own plane earlier))
   with_words own plane earlier are_words words = record { words = each; bytes = words.bytes }
     where
       each : (s : Source) (x y : ℕ) → x < 2 ^ 32 → y < 2 ^ 32 → reads_of planes (with_plane own plane earlier) s x y < 2 ^ 32

@@ -1,7 +1,7 @@
 -- The reads of a Func that is computed at a loop stand within it, and the host of a Func that is reached is reached and at root.
 use Rattle.std.proofs.Common.{◌≡◌, ℕ, zero, suc, ◌+◌, ◌-◌, ◌<◌, ◌≤◌, Bool, true, false, not, cond, List, [], ◌∷◌, length, Option, Some, None, refl, sym, ap, ◌∙◌, subst, arith}
 use Rattle.std.specs.Prelude.{◌&&◌, ◌||◌, ◌==◌, slice_get}
-use Rattle.std.proofs.lemmas.Bool.{and_parts, or_parts, eqb-true}
+use Rattle.std.proofs.lemmas.Bool.{and_parts, or_parts, eqb-true, eq-eqb}
 use Rattle.std.proofs.lemmas.Option.{slice_get_past}
 use Rattle.halide_pipeline.specs.Pipelines.{Pipeline}
 use Rattle.schedule_lines.specs.declared.lines.Computed.{Computed}
@@ -304,11 +304,11 @@ pub record IsThereReached (all : List Standing) (at : ℕ) : Type 0 where
   pub own : Standing
   pub there : IsReached all at own
 
-record IsSome {A : Type 0} (found : Option A) : Type 0 where
-  value : A
-  is : found ≡ Some value
+pub record IsSome {A : Type 0} (found : Option A) : Type 0 where
+  pub value : A
+  pub is : found ≡ Some value
 
-some_before : {A : Type 0} (xs : List A) (later at : ℕ) (x : A) → slice_get xs later ≡ Some x → at < later → IsSome (slice_get xs at)
+pub some_before : {A : Type 0} (xs : List A) (later at : ℕ) (x : A) → slice_get xs later ≡ Some x → at < later → IsSome (slice_get xs at)
 some_before [] later at x found before = absurd cc
 some_before (first ∷ others) zero at x found before = absurd (omega (arith, before))
 some_before (first ∷ others) (suc later) zero x found before = record { value = first; is = refl }
@@ -350,6 +350,22 @@ called_is_reached pipeline plans reader its there func before called =
         reached = ap (λ (s : Standing). s.is_reached) is.own_is ∙ read_next (func == pipeline.output.func) (is_read pipeline func (func + 1) is.behind) read;
       };
     }
+
+-- the output is reached, and computed at root
+pub output_standing : (pipeline : Pipeline) (plans : List FuncPlan) (own : Standing) → slice_get (standings_from pipeline plans 0 plans) pipeline.output.func ≡ Some own
+    → (own.is_reached ≡ true) × (own.place ≡ places.Root)
+output_standing pipeline plans own found =
+    let is = known_all pipeline plans pipeline.output.func own found in
+    let same : (pipeline.output.func == pipeline.output.func) ≡ true = eq-eqb pipeline.output.func pipeline.output.func refl in (
+      ap (λ (s : Standing). s.is_reached) is.own_is ∙ rw same refl,
+      ap (λ (s : Standing). s.place) is.own_is ∙ rw same refl,
+    )
+
+-- each Func has a standing
+pub standing_some : (pipeline : Pipeline) (plans : List FuncPlan) (at : ℕ) (rest : List FuncPlan) (k : ℕ) (plan : FuncPlan) → slice_get rest k ≡ Some plan → IsSome (slice_get (standings_from pipeline plans at rest) k)
+standing_some pipeline plans at [] k plan found = absurd cc
+standing_some pipeline plans at (first ∷ others) zero plan found = record { value = standing pipeline plans at first (standings_from pipeline plans (at + 1) others); is = refl }
+standing_some pipeline plans at (first ∷ others) (suc k) plan found = standing_some pipeline plans (at + 1) others k plan found
 
 pub uses_lie_within : (pipeline : Pipeline) (plans : List FuncPlan) → Numbered (HasUsesWithin pipeline plans (standings_from pipeline plans 0 plans)) 0 (standings_from pipeline plans 0 plans)
 uses_lie_within pipeline plans =

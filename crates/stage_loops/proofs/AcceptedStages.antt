@@ -14,7 +14,7 @@ use Rattle.stage_loops.specs.Stages.{IsStageOf, KeepsRules}
 some_is : {A : Type 0} (x y : A) → Some x ≡ Some y → x ≡ y
 some_is x y e = cc
 
-pair_at : {A B : Type 0} (P : A → B → Type 0) (xs : List A) (ys : List B) (at : ℕ) (x : A) (y : B) → Pairwise P xs ys → slice_get xs at ≡ Some x → slice_get ys at ≡ Some y → P x y
+pub pair_at : {A B : Type 0} (P : A → B → Type 0) (xs : List A) (ys : List B) (at : ℕ) (x : A) (y : B) → Pairwise P xs ys → slice_get xs at ≡ Some x → slice_get ys at ≡ Some y → P x y
 pair_at P [] ys zero x y all ex ey = cc
 pair_at P [] ys (suc at) x y all ex ey = cc
 pair_at P (a ∷ xs) [] at x y all ex ey = absurd all
