@@ -29,3 +29,4 @@ pub mod Flat
 pub mod Sees
 pub mod PutIn
 pub mod Closure
+pub mod UpdatePlans

@@ -11,3 +11,4 @@ pub mod Laws
 pub mod Callers
 pub mod HostLaws
 pub mod Closure
+pub mod Tasks

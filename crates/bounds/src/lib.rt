@@ -8,6 +8,7 @@
 //! - [`readings`], [`inference`], [`source_boxes`]: the boxes of all sources, from the output back
 //!   (`specs/Inference.antt`).
 //! - [`layout`]: where inputs, boxes and frames lie (`specs/Layout.antt`).
+//! - [`tasks`]: how many tasks each phase has (`specs/Tasks.antt`).
 //! - [`sources`]: sources told apart.
 //! - [`caller_laws`]: which Funcs another reads, and where the readers stand (`specs/Callers.antt`).
 //! - [`laws`]: what is read lies in its box (`specs/Laws.antt`); [`host_laws`]: so do the arguments to which loops take a Func
@@ -26,6 +27,7 @@ pub mod layout;
 pub mod readings;
 pub mod source_boxes;
 pub mod sources;
+pub mod tasks;
 pub mod verdict;
 pub mod views;
 

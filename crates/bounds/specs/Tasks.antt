@@ -1,0 +1,46 @@
+-- How many tasks the phases of a compiled image have. Each stage of a Func that is computed at root is a phase: it has one task for each
+-- iteration of its stage's parallel loop, or one where none is parallel.
+-- This project's own.
+use Rattle.std.specs.Prelude.{ℕ, List, Option, Some, None, slice_get}
+use Rattle.halide_pipeline.specs.declared.definitions.Func.{Func}
+use Rattle.halide_pipeline.specs.declared.definitions.Update.{Update}
+use Rattle.halide_pipeline.specs.Pipelines.{Pipeline}
+use Rattle.halide_meaning.specs.Pixel.{second_extent}
+use Rattle.schedule_lines.specs.declared.stages.Stage.{Stage}
+use Rattle.schedule_lines.specs.declared.stages.StageName.{StageName}
+use Rattle.schedule.specs.declared.plans.FuncPlan.{FuncPlan}
+use Rattle.schedule.specs.declared.schedules.Schedule.{Schedule}
+use Rattle.stage_loops.specs.declared.extents.Extents.{Extents}
+use Rattle.stage_loops.specs.Iterations.{iteration_count}
+use Rattle.bounds.specs.declared.boxes.SourceBox.{SourceBox}
+use Rattle.bounds.specs.Boxes.{extent}
+use Rattle.bounds.specs.Laws.{box_in}
+use Rattle.bounds.specs.Views.{extents_of}
+
+-- how many values each variable of an update takes, over a box
+abbrev pub update_extents : SourceBox → Update → Extents
+update_extents own update = record {
+  first_argument = extent own.x;
+  second_argument = extent own.y;
+  first_reduction = update.first.extent;
+  second_reduction = second_extent update.second;
+}
+
+abbrev pub update_tasks : SourceBox → Option Update → Option Stage → Option ℕ
+update_tasks own None stage = None
+update_tasks own (Some update) None = None
+update_tasks own (Some update) (Some stage) = Some (iteration_count (update_extents own update) stage)
+
+abbrev pub stage_tasks : SourceBox → Func → FuncPlan → Option ℕ → Option ℕ
+stage_tasks own func plan None = Some (iteration_count (extents_of own) plan.pure)
+stage_tasks own func plan (Some at) = update_tasks own (slice_get func.updates at) (slice_get plan.updates at)
+
+abbrev pub func_tasks : Option SourceBox → Option Func → Option FuncPlan → Option ℕ → Option ℕ
+func_tasks None func plan update = None
+func_tasks (Some own) None plan update = None
+func_tasks (Some own) (Some func) None update = None
+func_tasks (Some own) (Some func) (Some plan) update = stage_tasks own func plan update
+
+-- of a stage of a Func that has a box
+unfoldable pub tasks : Pipeline → Schedule → List (Option SourceBox) → StageName → Option ℕ
+tasks pipeline schedule boxes name = func_tasks (box_in (slice_get boxes name.func)) (slice_get pipeline.funcs name.func) (slice_get schedule.funcs name.func) name.update
