@@ -30,3 +30,5 @@ pub mod Sees
 pub mod PutIn
 pub mod Closure
 pub mod UpdatePlans
+pub mod BoxesHosted
+pub mod InViews

@@ -1,6 +1,6 @@
 //! Laws of where loops of a host take arguments, each the contract of a function that does nothing.
 
-ghost use Rattle.bounds.specs.HostLaws.{HostArgumentsLie, SettledRangesHold, SettledBoxesHold, HostedOwnReadsLie, OwnReadsStay, OwnPointsLie};
+ghost use Rattle.bounds.specs.HostLaws.{HostArgumentsLie, SettledRangesHold, SettledBoxesHold, HostedOwnReadsLie, OwnReadsStay, OwnPointsLie, BoxesAreHosted, PointsAreNear, VisitsLie, ArgumentsLieInViews};
 
 /// While a loop of a pure definition and those outside of it are in given turns, each point to which the loops inside take
 /// the arguments lies in the view of them with which Funcs computed at that loop are asked.
@@ -35,4 +35,27 @@ pub fn own_reads_stay()
 /// arguments in place do.
 pub fn own_points_lie()
     ensures { OwnPointsLie }
+{}
+
+/// The box of a Func that is computed has two ends in each dimension, stays within -2^24 to 2^24, and is over the loops of
+/// the Func's host.
+pub fn boxes_are_hosted()
+    ensures { BoxesAreHosted }
+{}
+
+/// A point of a box is near.
+pub fn points_are_near()
+    ensures { PointsAreNear }
+{}
+
+/// In whatever iteration, what a stage of a Func visits of the Func's box, from the box's corner on, lies in the box.
+pub fn visits_lie()
+    ensures { VisitsLie }
+{}
+
+/// Wherever loops take the arguments of a Func that makes its reads within the loop at which another one is computed, they
+/// lie in the view of them with which that other one is asked, while the loops of the host from that one outward have the
+/// same turns.
+pub fn arguments_lie_in_views()
+    ensures { ArgumentsLieInViews }
 {}
