@@ -36,7 +36,7 @@ use Rattle.bounds.proofs.Settled.{settled_boxes_hold}
 
 -- ---- lists
 
-same : {A : Type 0} (a b : A) → Some a ≡ Some b → a ≡ b
+pub same : {A : Type 0} (a b : A) → Some a ≡ Some b → a ≡ b
 same a b e = cc
 
 all_contain : {A : Type 0} (P : A → Type 0) (xs : List A) → AllByRecursion P xs → (x : A) (k : ℕ) → k < length xs → slice_index_or xs k x ≡ x → P x
@@ -120,7 +120,7 @@ stands pipeline plans standings host _ (Inlined reader own reached placed calls)
 
 -- ---- views
 
-host_is : (schedule : Schedule) (boxes : List (Option SourceBox)) (place : Place) (at : LoopPlace) (func : ℕ) (plan : FuncPlan) (hosting : SourceBox) → place ≡ places.At at → at.func ≡ func
+pub host_is : (schedule : Schedule) (boxes : List (Option SourceBox)) (place : Place) (at : LoopPlace) (func : ℕ) (plan : FuncPlan) (hosting : SourceBox) → place ≡ places.At at → at.func ≡ func
     → slice_get schedule.funcs func ≡ Some plan → slice_get boxes func ≡ Some (Some hosting) → host_in schedule boxes place ≡ Some (host_loop plan hosting at.inside)
 host_is schedule boxes place at func plan hosting is same_func plan_is box_is =
     ap (λ (p : Place). host_in schedule boxes p) is

@@ -32,3 +32,4 @@ pub mod Closure
 pub mod UpdatePlans
 pub mod BoxesHosted
 pub mod InViews
+pub mod LoopReads

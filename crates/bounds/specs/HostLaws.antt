@@ -39,7 +39,7 @@ use Rattle.bounds.specs.declared.boxes.HostLoop.{HostLoop}
 use Rattle.bounds.specs.declared.boxes.SourceBox.{SourceBox}
 use Rattle.bounds.specs.declared.verdict.Boxes.{Boxes}
 use Rattle.bounds.specs.Boxes.{lasts_of, extent, IsBox}
-use Rattle.bounds.specs.Laws.{LiesIn, AreBoxed, LiesPartly, values_for, host_in, IsComputed, update_points, IsNear, IsPartlyBoxed}
+use Rattle.bounds.specs.Laws.{LiesIn, AreBoxed, LiesPartly, values_for, host_in, IsComputed, pure_points, update_points, IsNear, IsPartlyBoxed}
 use Rattle.bounds.specs.Sources.{same_source}
 use Rattle.bounds.specs.Verdict.{inferred}
 use Rattle.bounds.specs.Views.{extents_of, inner_count, host_loop, host_view, settled, settled_box, view_of}
@@ -223,3 +223,29 @@ ArgumentsLieInViews = (pipeline : Pipeline) (schedule : Schedule) (boxes : Boxes
     → (turns : Values) (x y : ℕ) → MayBeArguments func plan hosting at.inside turns its.place own x y
     → IsSeenIn (values_in plan at.inside turns) (host_in schedule boxes.funcs sought.place)
     (view_of (slice_get schedule.funcs reader) (slice_get schedule.standings reader) own (host_in schedule boxes.funcs sought.place)) x y
+
+-- So all that its pure definition reads there of that other one lies in the box of that one.
+abbrev pub PureReadsInLoopsLie : Type 0
+PureReadsInLoopsLie = (pipeline : Pipeline) (schedule : Schedule) (boxes : Boxes) → IsWellFormed pipeline → IsAccepted pipeline schedule → inferred pipeline schedule ≡ Ok boxes
+    → (place : ℕ) (sought : Standing) (at : LoopPlace) → slice_get schedule.standings place ≡ Some sought → sought.is_reached ≡ true → sought.place ≡ places.At at
+    → (func : Func) (plan : FuncPlan) (hosting : SourceBox)
+    → slice_get pipeline.funcs at.func ≡ Some func → slice_get schedule.funcs at.func ≡ Some plan → slice_get boxes.funcs at.func ≡ Some (Some hosting)
+    → (reader : ℕ) (reading : Func) (its : Standing) (own : SourceBox) → place < reader
+    → slice_get pipeline.funcs reader ≡ Some reading → slice_get schedule.standings reader ≡ Some its → its.is_reached ≡ true → slice_get boxes.funcs reader ≡ Some (Some own)
+    → (reads : Reads) → AnswerWords pipeline.inputs reads
+    → (turns : Values) (x y : ℕ) → MayBeArguments func plan hosting at.inside turns its.place own x y
+    → AreBoxed (values_in plan at.inside turns) (sources.Func place) (slice_get boxes.funcs place) (pure_points pipeline schedule reads reader reading x y)
+
+-- And all that its updates read of it.
+abbrev pub UpdateReadsInLoopsLie : Type 0
+UpdateReadsInLoopsLie = (pipeline : Pipeline) (schedule : Schedule) (boxes : Boxes) → IsWellFormed pipeline → IsAccepted pipeline schedule → inferred pipeline schedule ≡ Ok boxes
+    → (place : ℕ) (sought : Standing) (at : LoopPlace) → slice_get schedule.standings place ≡ Some sought → sought.is_reached ≡ true → sought.place ≡ places.At at
+    → (func : Func) (plan : FuncPlan) (hosting : SourceBox)
+    → slice_get pipeline.funcs at.func ≡ Some func → slice_get schedule.funcs at.func ≡ Some plan → slice_get boxes.funcs at.func ≡ Some (Some hosting)
+    → (reader : ℕ) (reading : Func) (its : Standing) (own : SourceBox) → place < reader
+    → slice_get pipeline.funcs reader ≡ Some reading → slice_get schedule.standings reader ≡ Some its → its.is_reached ≡ true → slice_get boxes.funcs reader ≡ Some (Some own)
+    → (number_at : ℕ) (update : Update) → slice_get reading.updates number_at ≡ Some update
+    → (reads : Reads) → AnswerWords pipeline.inputs reads
+    → (turns : Values) (x y : ℕ) → MayBeArguments func plan hosting at.inside turns its.place own x y → IsNear x → IsNear y
+    → (number : ℕ) → number < points update
+    → AreBoxed (values_in plan at.inside turns) (sources.Func place) (slice_get boxes.funcs place) (update_points pipeline schedule reads reader update number x y)

@@ -1,6 +1,19 @@
 //! Laws of where loops of a host take arguments, each the contract of a function that does nothing.
 
-ghost use Rattle.bounds.specs.HostLaws.{HostArgumentsLie, SettledRangesHold, SettledBoxesHold, HostedOwnReadsLie, OwnReadsStay, OwnPointsLie, BoxesAreHosted, PointsAreNear, VisitsLie, ArgumentsLieInViews};
+ghost use Rattle.bounds.specs.HostLaws.{
+  HostArgumentsLie,
+  SettledRangesHold,
+  SettledBoxesHold,
+  HostedOwnReadsLie,
+  OwnReadsStay,
+  OwnPointsLie,
+  BoxesAreHosted,
+  PointsAreNear,
+  VisitsLie,
+  ArgumentsLieInViews,
+  PureReadsInLoopsLie,
+  UpdateReadsInLoopsLie,
+};
 
 /// While a loop of a pure definition and those outside of it are in given turns, each point to which the loops inside take
 /// the arguments lies in the view of them with which Funcs computed at that loop are asked.
@@ -58,4 +71,14 @@ pub fn visits_lie()
 /// same turns.
 pub fn arguments_lie_in_views()
     ensures { ArgumentsLieInViews }
+{}
+
+/// So all that its pure definition reads there of that other one, also through inlined Funcs, lies in the box of that one.
+pub fn pure_reads_in_loops_lie()
+    ensures { PureReadsInLoopsLie }
+{}
+
+/// And all that its updates read of it.
+pub fn update_reads_in_loops_lie()
+    ensures { UpdateReadsInLoopsLie }
 {}
