@@ -127,3 +127,9 @@ IsFitBox (Some own) = IsFit own.lasts own.x × IsFit own.lasts own.y
 pub record IsSpread (lasts : List ℕ) (spread : Spread) : Type 0 where
   pub x : IsFitOrNone lasts spread.x
   pub y : IsFitOrNone lasts spread.y
+
+-- ---- of the sources of a list
+
+abbrev pub box_in : Option (Option SourceBox) → Option SourceBox
+box_in None = None
+box_in (Some own) = own

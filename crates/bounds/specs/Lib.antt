@@ -7,8 +7,4 @@ pub mod Faults
 pub mod Judging
 pub mod Layout
 pub mod Verdict
-pub mod Laws
-pub mod Callers
-pub mod HostLaws
-pub mod Closure
 pub mod Tasks

@@ -13,8 +13,7 @@ use Rattle.schedule.specs.declared.schedules.Schedule.{Schedule}
 use Rattle.stage_loops.specs.declared.extents.Extents.{Extents}
 use Rattle.stage_loops.specs.Iterations.{iteration_count}
 use Rattle.bounds.specs.declared.boxes.SourceBox.{SourceBox}
-use Rattle.bounds.specs.Boxes.{extent}
-use Rattle.bounds.specs.Laws.{box_in}
+use Rattle.bounds.specs.Boxes.{box_in, extent}
 use Rattle.bounds.specs.Views.{extents_of}
 
 -- how many values each variable of an update takes, over a box

@@ -10,19 +10,15 @@
 //! - [`layout`]: where inputs, boxes and frames lie (`specs/Layout.antt`).
 //! - [`tasks`]: how many tasks each phase has (`specs/Tasks.antt`).
 //! - [`sources`]: sources told apart.
-//! - [`caller_laws`]: which Funcs another reads, and where the readers stand (`specs/Callers.antt`).
-//! - [`laws`]: what is read lies in its box (`specs/Laws.antt`); [`host_laws`]: so do the arguments to which loops take a Func
-//!   (`specs/HostLaws.antt`).
+//!
+//! That what is read lies in its box is proved in the crate `box_laws`.
 #![tactic(auto)]
 
 pub mod asks;
 pub mod boxes;
-pub mod caller_laws;
 pub mod faults;
-pub mod host_laws;
 pub mod inference;
 pub mod judging;
-pub mod laws;
 pub mod layout;
 pub mod readings;
 pub mod source_boxes;

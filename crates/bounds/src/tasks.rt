@@ -6,8 +6,7 @@ ghost use Rattle.halide_meaning.specs.Pixel as meaning;
 ghost use Rattle.schedule.specs.Accepted.{IsAccepted, IsPlan};
 ghost use Rattle.stage_loops.specs.Counts.{AreSplits};
 ghost use Rattle.stage_loops.specs.Iterations.{iteration_count};
-ghost use Rattle.bounds.specs.Boxes.{AreBoxes, IsBox};
-ghost use Rattle.bounds.specs.Laws.{box_in};
+ghost use Rattle.bounds.specs.Boxes.{AreBoxes, IsBox, box_in};
 ghost use Rattle.bounds.specs.Tasks as spec;
 ghost use Rattle.bounds.specs.Views as views;
 

@@ -1,5 +1,0 @@
-use Rattle.bounds.proofs.Callers.{update_points_are_read_through}
-use Rattle.bounds.proofs.caller_laws.update_points_are_read_through.Goals as goal
-
-pub returns : goal.returns
-returns c = update_points_are_read_through

@@ -1,5 +1,0 @@
-use Rattle.bounds.proofs.BoxesHosted.{boxes_are_hosted}
-use Rattle.bounds.proofs.host_laws.boxes_are_hosted.Goals as goal
-
-pub returns : goal.returns
-returns c = boxes_are_hosted

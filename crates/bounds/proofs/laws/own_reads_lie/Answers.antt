@@ -1,5 +1,0 @@
-use Rattle.bounds.proofs.OwnReads.{own_reads_lie}
-use Rattle.bounds.proofs.laws.own_reads_lie.Goals as goal
-
-pub returns : goal.returns
-returns c = own_reads_lie

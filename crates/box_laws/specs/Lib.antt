@@ -1,0 +1,4 @@
+pub mod Laws
+pub mod Callers
+pub mod HostLaws
+pub mod Closure
