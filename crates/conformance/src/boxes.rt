@@ -4,12 +4,14 @@ ghost use Rattle.schedule.specs.Accepted.{IsAccepted};
 
 use crate::cases::Part;
 use crate::failures::{Failure, refused};
+use bounds::tasks::tasks;
 use bounds::{Boxes, SourceBox, infer};
 use halide_parser::parse;
 use halide_pipeline::Pipeline;
 use ranges::bases::Multiple;
 use ranges::ranges::{ORIGIN, Range};
 use schedule::{Place, Schedule, read};
+use schedule_lines::stages::StageName;
 use std::alloc::{AllocError, Global};
 use weights::{needs, weigh};
 
@@ -37,21 +39,25 @@ fn push_judged(
     if needs(pipeline, schedule, alloc)?.is_too_deep() {
         return Err(refused("code", 1));
     }
-    push_data(pipeline, schedule, &boxes, out)?;
+    push_data(alloc, pipeline, schedule, &boxes, out)?;
     Ok(())
 }
 
-/// The data's size, the number of phases, and each place in the data with its box.
+/// The data's size, where the output lies, the phases, and each place in the data with its box.
 fn push_data(
+    alloc: Global,
     pipeline: &Pipeline,
     schedule: &Schedule,
     boxes: &Boxes,
     out: &mut String,
-) -> Result<(), AllocError> {
+) -> Result<(), AllocError>
+    requires { IsAccepted pipeline.now schedule.now }
+{
     let Boxes { layout, .. } = boxes;
-    let (size, phases) = (layout.size, layout.phases);
+    let size = layout.size;
     writeln!(out, "data {size}")?;
-    writeln!(out, "phases {phases}")?;
+    push_output(pipeline, boxes, out)?;
+    push_phases(alloc, pipeline, schedule, boxes, out)?;
     push_inputs(pipeline, boxes, out)?;
     push_funcs(pipeline, schedule, boxes, out)?;
     let frames = layout.frames;
@@ -59,6 +65,69 @@ fn push_data(
         writeln!(out, "frames 0x{frames:08x}")?;
     }
     Ok(())
+}
+
+/// The address of the output's point 0, the output's size, and how many bytes a row of its Func's box has.
+fn push_output(pipeline: &Pipeline, boxes: &Boxes, out: &mut String) -> Result<(), AllocError> {
+    let output = pipeline.output();
+    let (width, height) = (output.width, output.height);
+    match boxes.funcs.as_slice().get(output.func) {
+        Some(Some(own)) => {
+            let extent = own.x.high.wrapping_sub(own.x.low).wrapping_add(1);
+            let stride = extent.wrapping_mul(4);
+            let above = ORIGIN.wrapping_sub(own.y.low).wrapping_mul(stride);
+            let before = ORIGIN.wrapping_sub(own.x.low).wrapping_mul(4);
+            let start = number_at(boxes.layout.roots.as_slice(), output.func);
+            let address = start.wrapping_add(above).wrapping_add(before);
+            writeln!(out, "output 0x{address:08x} {width} {height} {stride}")
+        }
+        _ => Ok(()),
+    }
+}
+
+/// How many tasks each phase has: a phase for each stage of each Func that is computed at root.
+fn push_phases(
+    alloc: Global,
+    pipeline: &Pipeline,
+    schedule: &Schedule,
+    boxes: &Boxes,
+    out: &mut String,
+) -> Result<(), AllocError>
+    requires { IsAccepted pipeline.now schedule.now }
+{
+    let mut phase: u64 = 0;
+    for (number, func) in pipeline.funcs().iter().enumerate() {
+        if is_at_root(schedule, number) {
+            for stage in 0..=func.updates.len() {
+                let name = StageName {
+                    func: number,
+                    update: stage.checked_sub(1),
+                };
+                let count = tasks(alloc, pipeline, schedule, &boxes.funcs, name)?;
+                push_phase(phase, name, count.unwrap_or(0), out)?;
+                phase = phase.wrapping_add(1);
+            }
+        }
+    }
+    Ok(())
+}
+
+/// Whether the output reaches a Func, which is computed at root.
+fn is_at_root(schedule: &Schedule, number: usize) -> bool {
+    match schedule.standing(number) {
+        Some(standing) => standing.is_reached && standing.place == Place::Root,
+        None => false,
+    }
+}
+
+/// A phase, its stage, and how many tasks it has.
+fn push_phase(phase: u64, name: StageName, count: u32, out: &mut String) -> Result<(), AllocError> {
+    let func = name.func;
+    write!(out, "phase {phase} func {func}")?;
+    if let Some(update) = name.update {
+        write!(out, " update {update}")?;
+    }
+    writeln!(out, " tasks {count}")
 }
 
 /// Each input's address and box.

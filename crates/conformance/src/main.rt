@@ -14,7 +14,7 @@
 //! | `draw` | `algorithm`, any number of `picture` | the picture that is drawn |
 //! | `read` | `picture` | the picture's text |
 //! | `schedule` | `algorithm`, `schedule` | each Func's standing, loops and splits |
-//! | `boxes` | `algorithm`, `schedule` | the data of the compiled image: their size, the phases, each address and box |
+//! | `boxes` | `algorithm`, `schedule` | the data of the compiled image: their size, the output, the phases with their tasks, each address and box |
 //! | `assemble` | `text` | the object |
 //! | `list` | `words`: a word in hexadecimal each line | the line of each |
 //! | `turn` | `before`: an assembly text; `instructions`: one each line | each line, and what it changes behind the text before |
