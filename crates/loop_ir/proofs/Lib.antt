@@ -1,3 +1,7 @@
+pub mod Folds
+pub mod Loads
 pub mod Points
+pub mod Sound
+pub mod Sums
 pub mod Trees
 pub mod Turns

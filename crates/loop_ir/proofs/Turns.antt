@@ -8,7 +8,8 @@ use Rattle.loop_ir.specs.Buffers.{Points}
 use Rattle.loop_ir.specs.Counters.{values_of, with}
 use Rattle.loop_ir.specs.declared.statements.LoopKind.{LoopKind}
 use Rattle.loop_ir.specs.declared.statements.Stmt.TheVariants as s
-use Rattle.loop_ir.specs.Running.{run, turns}
+use Rattle.loop_ir.specs.declared.statements.Phase.{Phase}
+use Rattle.loop_ir.specs.Running.{run, run_task, turns}
 use Rattle.loop_ir.proofs.Trees.{run_sequence, run_for}
 
 pub turns_none : (one : ℕ → Planes → Planes) (start : Planes) → start ≡ turns 0 one start
@@ -50,3 +51,11 @@ loop_left statement body counter count kind points inputs before n start end is 
     made ∙ ap (λ k. turns k (λ turn. run points inputs body (with counter turn (values_of before))) start) all
     ∙ sym (run_for points inputs counter count kind body (values_of before) start)
     ∙ ap (λ own. run points inputs own (values_of before) start) (sym is)
+
+pub task_made : (points now : Points) (inputs : Planes) (phase : Phase) (n : ℕ) (start old new : Planes)
+    → now ≡ points → old ≡ turns n (run_task points inputs phase) start → new ≡ run_task now inputs phase n old
+    → new ≡ turns (n + 1) (run_task points inputs phase) start
+task_made points now inputs phase n start old new same so_far made =
+    made ∙ ap (λ p. run_task p inputs phase n old) same
+    ∙ ap (run_task points inputs phase n) so_far
+    ∙ sym (turns_more n (run_task points inputs phase) start)

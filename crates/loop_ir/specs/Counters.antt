@@ -1,15 +1,12 @@
 -- What counters stand at.
 -- This project's own.
-use Rattle.std.specs.Prelude.{ℕ, ◌==◌, ◌&&◌, Bool, true, false, if◌then◌else◌, List, [], ◌∷◌}
+use Rattle.std.specs.Prelude.{ℕ, ◌==◌, ◌&&◌, Bool, if◌then◌else◌, List, [], ◌∷◌}
 use Rattle.schedule_lines.specs.Loops.{same_id}
 use Rattle.loop_ir.specs.declared.expressions.Counter.{Counter}
-use Rattle.loop_ir.specs.declared.expressions.Counter.TheVariants as counters
 use Rattle.loop_ir.specs.declared.running.Standing.{Standing}
 
 abbrev pub same_counter : Counter → Counter → Bool
-same_counter counters.Task counters.Task = true
-same_counter (counters.Loop a first) (counters.Loop b second) = a == b && same_id first second
-same_counter _ _ = false
+same_counter a b = a.func == b.func && same_id a.id b.id
 
 abbrev pub Values : Type 0
 Values = Counter → ℕ

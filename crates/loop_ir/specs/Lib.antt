@@ -2,3 +2,4 @@ pub mod Buffers
 pub mod Counters
 pub mod Expressions
 pub mod Running
+pub mod Soundness

@@ -3,7 +3,7 @@
 use Rattle.std.specs.Prelude.{ℕ, zero, suc, min, nat_lt, if◌then◌else◌, Option, Some, None}
 use Rattle.halide_pipeline.specs.Words as word
 use Rattle.halide_meaning.specs.Pixel.{Planes, Reads, reads_of}
-use Rattle.loop_ir.specs.declared.expressions.Counter.TheVariants as counters
+use Rattle.loop_ir.specs.declared.expressions.Counter.{Counter}
 use Rattle.loop_ir.specs.declared.statements.Phase.{Phase}
 use Rattle.loop_ir.specs.declared.statements.Store.{Store}
 use Rattle.loop_ir.specs.declared.statements.Stmt.{Stmt, fold-Stmt}
@@ -43,9 +43,14 @@ run_at points inputs (layer.Bind counter whole extent body) values funcs =
 unfoldable pub run : Points → Planes → Stmt → Values → Planes → Planes
 run points inputs statement = fold-Stmt (Values → Planes → Planes) (run_at points inputs) statement
 
+-- what counters stand at before a task: the phase's counter, if it has one, at the task's number
+abbrev pub task_values : Option Counter → ℕ → Values
+task_values None task = no_values
+task_values (Some counter) task = with counter task no_values
+
 -- one task of a phase
 abbrev pub run_task : Points → Planes → Phase → ℕ → Planes → Planes
-run_task points inputs phase task funcs = run points inputs phase.body (with counters.Task task no_values) funcs
+run_task points inputs phase task funcs = run points inputs phase.body (task_values phase.counter task) funcs
 
 -- all its tasks, in rising order
 abbrev pub run_phase : Points → Planes → Phase → Planes → Planes

@@ -5,33 +5,42 @@ ghost use Rattle.loop_ir.specs.Counters as spec;
 
 use halide_pipeline::{Operation, Source};
 use schedule_lines::stages::{LoopId, same_id};
-use sqlite_items::Boxed;
+use sqlite_items::{Boxed, Items};
 
-/// What has a value while a statement runs.
+/// What has a value while a statement runs: a loop of a stage of the Func at a place in the pipeline.
 #[derive(Clone, Copy, Debug, PartialEq, Eq)]
-pub enum Counter {
-    /// The number of the task, from 0.
-    Task,
-    /// A loop of a stage of the Func at this place in the pipeline.
-    Loop(usize, LoopId),
+pub struct Counter {
+    /// The Func's place.
+    pub func: usize,
+    pub id: LoopId,
 }
 
 /// Whether two counters are the same.
 pub fn same_counter(a: Counter, b: Counter) -> bool
     ensures { result ≡ spec.same_counter a b }
 {
-    match (a, b) {
-        (Counter::Task, Counter::Task) => true,
-        (Counter::Loop(a, first), Counter::Loop(b, second)) => a == b && same_id(first, second),
-        _ => false,
-    }
+    a.func == b.func && same_id(a.id, b.id)
+}
+
+/// A counter times a stride.
+#[derive(Clone, Copy, Debug, PartialEq, Eq)]
+pub struct Term {
+    pub counter: Counter,
+    pub stride: u32,
+}
+
+/// A number and the terms that are added to it, modulo 2^32. Coordinates are made of it.
+#[derive(Debug, Drop)]
+pub struct Linear {
+    pub number: u32,
+    pub terms: Items<Term>,
 }
 
 /// An expression. Its words are those of the algorithm's expressions.
 #[derive(Debug, Drop)]
 pub enum Expr {
     Number(u32),
-    Counter(Counter),
+    Linear(Linear),
     Binary(Operation, Boxed<Expr>, Boxed<Expr>),
     /// The quotient by a literal, 1 to 2147483647, rounded to minus infinity.
     Divide(Boxed<Expr>, u32),

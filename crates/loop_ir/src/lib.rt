@@ -4,9 +4,14 @@
 //! - [`statements`]: stores, loops and tests; a phase is a statement that is run once for each of its tasks.
 //! - [`buffers`]: pixels of inputs and Funcs (`specs/Buffers.antt`).
 //! - [`running`]: **what a statement and a phase do to the buffers** (`specs/Running.antt`).
+//! - [`linear`]: sums of counters times strides, and what is made of them.
+//! - [`laws`]: what an expression loads decides its value, and sound statements only write points that are there
+//!   (`specs/Soundness.antt`).
 #![tactic(auto)]
 
 pub mod buffers;
 pub mod expressions;
+pub mod laws;
+pub mod linear;
 pub mod running;
 pub mod statements;

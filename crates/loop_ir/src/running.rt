@@ -1,14 +1,14 @@
 //! What statements do.
 
-ghost use Rattle.std.specs.Prelude.{◌≡◌, ◌∷◌, OnOk, drop};
+ghost use Rattle.std.specs.Prelude.{◌≡◌, ◌%◌, ◌^◌, ◌∷◌, IfOk, OnOk, drop};
 ghost use Rattle.halide_meaning.specs.Pixel.{reads_of};
 ghost use Rattle.loop_ir.specs.Buffers.{planes, points_of, put};
 ghost use Rattle.loop_ir.specs.Counters.{values_of};
-ghost use Rattle.loop_ir.specs.Expressions.{value};
+ghost use Rattle.loop_ir.specs.Expressions as expression;
 ghost use Rattle.loop_ir.specs.Running as spec;
 
 use crate::buffers::Buffer;
-use crate::expressions::{Counter, Expr, same_counter};
+use crate::expressions::{Counter, Expr, Linear, Term, same_counter};
 use crate::statements::{Phase, Stmt, Store, Whole};
 use halide_pipeline::{Source, words};
 use std::alloc::{AllocError, Global};
@@ -46,14 +46,35 @@ fn pixel_of(buffers: &[Buffer], place: usize, x: u32, y: u32) -> u32
     }
 }
 
+/// The sum of terms, modulo 2^32.
+fn sum_of(terms: &[Term], standings: &[Standing]) -> u32
+    ensures { result ≡ expression.sum_of (values_of standings.now) terms.now % 2 ^ 32 }
+{
+    match terms {
+        [] => 0,
+        [first, others @ ..] => {
+            let product = words::multiply(standing_of(standings, first.counter), first.stride);
+            words::add(product, sum_of(others, standings))
+        }
+    }
+}
+
+/// The value of a linear expression.
+#[tactic(auto, unfolding(crate::specs::Expressions::linear_value))]
+fn linear_value(own: &Linear, standings: &[Standing]) -> u32
+    ensures { result ≡ expression.linear_value (values_of standings.now) own.now }
+{
+    words::add(own.number, sum_of(own.terms.as_slice(), standings))
+}
+
 /// The value of an expression.
 #[tactic(auto, unfolding(crate::specs::Expressions::value))]
 fn evaluate(expr: &Expr, inputs: &[Buffer], funcs: &[Buffer], standings: &[Standing]) -> u32
-    ensures { result ≡ value (reads_of (planes inputs.now) (planes funcs.now)) (values_of standings.now) expr.now }
+    ensures { result ≡ expression.value (reads_of (planes inputs.now) (planes funcs.now)) (values_of standings.now) expr.now }
 {
     match expr {
         Expr::Number(number) => *number,
-        Expr::Counter(counter) => standing_of(standings, *counter),
+        Expr::Linear(own) => linear_value(own, standings),
         Expr::Binary(operation, a, b) => {
             let a = evaluate(a.get(), inputs, funcs, standings);
             operation.apply(a, evaluate(b.get(), inputs, funcs, standings))
@@ -176,6 +197,37 @@ fn execute(
     }
 }
 
+/// What counters stand at before a task.
+fn task_standings(
+    alloc: Global,
+    counter: Option<Counter>,
+    task: u32,
+) -> Result<Vec<Standing>, AllocError>
+    ensures { IfOk result (λ made. values_of made.items ≡ spec.task_values counter task) }
+{
+    let mut standings = Vec::new(alloc);
+    if let Some(own) = counter {
+        enter(&mut standings, own, task)?;
+    }
+    Ok(standings)
+}
+
+/// Runs a task of a phase.
+fn run_task(
+    alloc: Global,
+    phase: &Phase,
+    task: u32,
+    inputs: &[Buffer],
+    funcs: &mut [Buffer],
+) -> Result<(), AllocError>
+    ensures points { points_of funcs.new ≡ points_of funcs.old }
+    ensures after { OnOk result (planes funcs.new ≡ spec.run_task (points_of funcs.old) (planes inputs.now) phase.now task (planes funcs.old)) }
+{
+    let mut standings = task_standings(alloc, phase.counter, task)?;
+    execute(&phase.body, inputs, &mut standings, funcs)?;
+    Ok(())
+}
+
 /// Runs all tasks of a phase, in rising order. Where memory runs out, some of them were run.
 pub fn run_phase(
     alloc: Global,
@@ -186,11 +238,11 @@ pub fn run_phase(
     ensures points { points_of funcs.new ≡ points_of funcs.old }
     ensures after { OnOk result (planes funcs.new ≡ spec.run_phase (points_of funcs.old) (planes inputs.now) phase.now (planes funcs.old)) }
 {
-    let mut standings = Vec::new(alloc);
     for task in 0..phase.tasks {
-        enter(&mut standings, Counter::Task, task)?;
-        execute(&phase.body, inputs, &mut standings, funcs)?;
-        leave(&mut standings);
+        run_task(alloc, phase, task, inputs, funcs)?;
     }
     Ok(())
 }
+
+#[cfg(test)]
+mod tests;

@@ -47,6 +47,8 @@ pub enum Stmt {
 #[derive(Debug, Drop)]
 pub struct Phase {
     pub tasks: u32,
+    /// What stands at the task's number, from 0, where anything does.
+    pub counter: Option<Counter>,
     pub body: Stmt,
     /// Funcs whose buffers each hart has for itself: before a task they hold anything, and what they hold after it doesn't count.
     pub private: Items<usize>,
