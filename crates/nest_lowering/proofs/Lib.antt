@@ -1,0 +1,4 @@
+pub mod Repeating
+pub mod Few
+pub mod Wholes
+pub mod Nesting

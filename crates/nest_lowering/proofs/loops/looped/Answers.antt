@@ -1,0 +1,18 @@
+use Rattle.std.proofs.Common.{ap, ◌∙◌}
+use Rattle.loop_ir.specs.declared.statements.Stmt.{Stmt}
+use Rattle.loop_ir.specs.Counters.{with}
+use Rattle.loop_ir.specs.Running.{run, turns}
+use Rattle.loop_ir.specs.Soundness.{every, is_sound}
+use Rattle.loop_ir.proofs.Sound.{sound_for}
+use Rattle.loop_ir.proofs.Trees.{run_for}
+use Rattle.nest_lowering.proofs.loops.looped.Goals as goal
+
+pub returns-clause-runs : goal.returns-clause-runs
+returns-clause-runs c = λ points inputs values funcs.
+    run_for points inputs c.args.counter c.args.count c.args.kind c.in_ok-body.body values funcs
+    ∙ ap (λ (own : Stmt). turns c.args.count (λ turn. run points inputs own (with c.args.counter turn values)) funcs) c.in_ok-body.ensures
+
+pub returns-clause-sound : goal.returns-clause-sound
+returns-clause-sound c = λ reads written loaded values.
+    sound_for reads written loaded c.args.counter c.args.count c.args.kind c.in_ok-body.body values
+    ∙ ap (λ (own : Stmt). every c.args.count (λ turn. is_sound reads written loaded own (with c.args.counter turn values))) c.in_ok-body.ensures

@@ -1,0 +1,12 @@
+//! Statements with the loops of a stage around them, whose contracts say what the loops do and not what they look like.
+//!
+//! - [`nests`]: **a body under each of the values that a stage's loops visit, in order** (`specs/Nests.antt`).
+//! - [`splits`]: the values of loops that are split.
+//! - [`loops`]: loops around a body.
+//! - [`laws`]: a statement repeats itself.
+#![tactic(auto)]
+
+pub mod laws;
+pub mod loops;
+pub mod nests;
+pub mod splits;

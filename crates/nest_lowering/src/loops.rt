@@ -1,0 +1,97 @@
+//! Loops around a body.
+
+ghost use Rattle.std.specs.Prelude.{◌≡◌, Bool, List, IfOk};
+ghost use Rattle.halide_meaning.specs.Pixel.{Planes, Reads};
+ghost use Rattle.reads.specs.Points.{Point};
+ghost use Rattle.loop_ir.specs.Buffers.{Points};
+ghost use Rattle.loop_ir.specs.Counters.{Values, with};
+ghost use Rattle.loop_ir.specs.Running.{run, turns};
+ghost use Rattle.loop_ir.specs.Soundness.{every, is_sound};
+ghost use Rattle.loop_ir.specs.declared.statements.Stmt.{Stmt};
+ghost use Rattle.nest_lowering.specs.Nests.{AreFew, Repeats};
+ghost use Rattle.stage_loops.specs.Counts as counts;
+ghost use Rattle.stage_loops.specs.Visits.{nest, upto};
+
+use crate::splits::extent_of;
+use loop_ir::expressions::Counter;
+use loop_ir::statements::{LoopKind, Stmt};
+use schedule_lines::{Loop, Mark};
+use sqlite_items::Boxed;
+use stage_loops::LoopSizes;
+use std::alloc::{AllocError, Global};
+
+/// How the rounds of a loop are to be made. Those of the parallel loop are tasks of their own where it is not among
+/// the loops of a nest.
+fn kind_of(own: &Loop) -> LoopKind {
+    match own.marked {
+        Some(marked) => match marked.mark {
+            Mark::Unrolled => LoopKind::Unrolled,
+            Mark::Vectorized => LoopKind::Vectorized,
+            Mark::Parallel => LoopKind::Serial,
+        },
+        None => LoopKind::Serial,
+    }
+}
+
+/// A body in so many turns of a counter.
+fn looped(
+    alloc: Global,
+    counter: Counter,
+    count: u32,
+    kind: LoopKind,
+    body: Stmt,
+) -> Result<Stmt, AllocError>
+    ensures runs { IfOk result (λ made. (points : Points) (inputs : Planes) (values : Values) (funcs : Planes)
+        → run points inputs made values funcs ≡ turns count (λ turn. run points inputs body (with counter turn values)) funcs) }
+    ensures sound { IfOk result (λ made. (reads : Reads) (written : Points) (loaded : Point → Bool) (values : Values)
+        → is_sound reads written loaded made values ≡ every count (λ turn. is_sound reads written loaded body (with counter turn values))) }
+{
+    let body = Boxed::new(alloc, body)?;
+    Ok(Stmt::For(counter, count, kind, body))
+}
+
+/// A loop of the Func at a place around a body.
+fn loop_once(
+    alloc: Global,
+    func: usize,
+    sizes: &LoopSizes,
+    own: &Loop,
+    body: Stmt,
+) -> Result<Stmt, AllocError>
+    requires splits { counts.AreSplits sizes.now.splits }
+    requires few { AreFew sizes.now.extents }
+    ensures { IfOk result (λ made. (leaf : Stmt) (list : counts.Values → List counts.Values) → Repeats func body leaf list
+        → Repeats func made leaf (λ outer. upto (counts.counts sizes.now.extents sizes.now.splits own.now.id) (λ turn. list (counts.with own.now.id turn outer)))) }
+{
+    let counter = Counter { func, id: own.id };
+    let count = extent_of(sizes, own.id);
+    let made = looped(alloc, counter, count, kind_of(own), body)?;
+    Ok(made)
+}
+
+/// Loops of the Func at a place around a body, the innermost first, in as many turns as their sizes say.
+///
+/// # Errors
+///
+/// Memory ran out.
+pub fn with_loops(
+    alloc: Global,
+    func: usize,
+    sizes: &LoopSizes,
+    loops: &[Loop],
+    body: Stmt,
+) -> Result<Stmt, AllocError>
+    requires splits { counts.AreSplits sizes.now.splits }
+    requires few { AreFew sizes.now.extents }
+    ensures { IfOk result (λ made. (leaf : Stmt) (list : counts.Values → List counts.Values) → Repeats func body leaf list
+        → Repeats func made leaf (nest (counts.counts sizes.now.extents sizes.now.splits) loops.now list)) }
+{
+    match loops {
+        [] => Ok(body),
+        [own, outside @ ..] => {
+            let inner = loop_once(alloc, func, sizes, own, body)?;
+            let made = with_loops(alloc, func, sizes, outside, inner)?;
+            Ok(made)
+        }
+    }
+}

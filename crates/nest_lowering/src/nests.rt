@@ -1,0 +1,37 @@
+//! Bodies under the loops of a stage.
+
+ghost use Rattle.std.specs.Prelude.{◌≡◌, IfOk};
+ghost use Rattle.nest_lowering.specs.Nests.{AreFew, Repeats};
+ghost use Rattle.stage_loops.specs.Counts as counts;
+ghost use Rattle.stage_loops.specs.Reach.{wholes};
+
+use crate::loops::with_loops;
+use crate::splits::with_splits;
+use loop_ir::statements::Stmt;
+use schedule_lines::{Loop, Split};
+use stage_loops::{Extents, LoopSizes};
+use std::alloc::{AllocError, Global};
+
+/// A body under loops of a stage of the Func at a place, the innermost first: it is run under each of the values of
+/// whole variables that the loops visit, in order, while loops outside of them stand where they stand.
+///
+/// # Errors
+///
+/// Memory ran out.
+pub fn with_nest(
+    alloc: Global,
+    func: usize,
+    extents: Extents,
+    splits: &[Split],
+    loops: &[Loop],
+    body: Stmt,
+) -> Result<Stmt, AllocError>
+    requires splits { counts.AreSplits splits.now }
+    requires few { AreFew extents }
+    ensures { IfOk result (λ made. Repeats func made body (wholes extents splits.now loops.now)) }
+{
+    let sizes = LoopSizes::new(alloc, extents, splits)?;
+    let inner = with_splits(alloc, func, extents, splits, body)?;
+    let made = with_loops(alloc, func, &sizes, loops, inner)?;
+    Ok(made)
+}
