@@ -1,0 +1,138 @@
+-- Expressions of loops follow what is seen of a definition.
+use Rattle.std.proofs.Common.{◌≡◌, ℕ, Bool, true, List, [], ◌∷◌, ◌++◌, Option, None, Some, refl, sym, ap, subst, ◌∙◌}
+use Rattle.std.specs.Prelude.{cond, ◌==◌, slice_get}
+use Rattle.std.proofs.lemmas.List.{append-nil}
+use mathlib.Core.Path.{fun_ext}
+use Rattle.halide_pipeline.specs.declared.definitions.Func.{Func}
+use Rattle.halide_pipeline.specs.declared.expressions.Operation.{Operation}
+use Rattle.halide_pipeline.specs.declared.expressions.Operation.TheVariants as operations
+use Rattle.halide_pipeline.specs.declared.expressions.Source.{Source}
+use Rattle.halide_pipeline.specs.declared.expressions.Source.TheVariants as sources
+use Rattle.halide_pipeline.specs.declared.expressions.Expr.TheOpen as layer
+use Rattle.halide_pipeline.specs.Words as word
+use Rattle.halide_meaning.specs.Pixel.{Reads}
+use Rattle.reads.specs.Points.{Point, Seen, Hold}
+use Rattle.reads.proofs.Seeing.{all_parts, all_both}
+use Rattle.inlining.specs.Inlining.{answer, answered, func_in, inside, made_in}
+use Rattle.inlining.specs.Values.{seeing}
+use Rattle.inlining.proofs.Steps.{inside_is}
+use Rattle.loop_ir.specs.declared.expressions.Expr.{Expr}
+use Rattle.loop_ir.specs.declared.expressions.Expr.TheVariants as e
+use Rattle.loop_ir.specs.declared.expressions.Linear.{Linear}
+use Rattle.loop_ir.specs.Counters.{Values}
+use Rattle.loop_ir.specs.Expressions.{value, value_at, linear_value, seen, seen_at, loads}
+use Rattle.loop_ir.proofs.Loads.{values_are_seen}
+use Rattle.loop_ir.proofs.Folds.{at_number, at_linear, at_binary, at_divide, at_remainder, at_select, at_load}
+use Rattle.expression_lowering.specs.declared.calls.Corner.{Corner}
+use Rattle.expression_lowering.specs.Lowering.{place, placed, from_corner, corner_of, answered_at}
+use Rattle.expression_lowering.specs.inner.Following.{Follows, algebra}
+
+abbrev points_of : Seen → List Point
+points_of own = own.points
+
+module _ (corners : List Corner) (values : Values) (reads : Reads) (given : List Point) where
+  abbrev F : Expr → Seen → Type 0
+  F = Follows corners values reads given
+
+  abbrev Passes : (Point → Bool) → Point → Type 0
+  Passes test point = test (place corners values point) ≡ true
+
+  pub number_follows : (n : ℕ) → F (e.Number n) ((algebra corners values reads).level (layer.Number n))
+  unfolding seeing value seen
+  number_follows n = record {
+    same = at_number ℕ (value_at reads values) n;
+    holds = λ test g h. subst (Hold test) (sym (ap points_of (at_number Seen (seen_at reads values) n))) tt;
+  }
+
+  pub binary_follows : (op : Operation) (a b : Expr) (left right : Seen) → F a left → F b right → F (e.Binary op a b) ((algebra corners values reads).level (layer.Binary op left right))
+  unfolding seeing value seen
+  binary_follows op a b left right fa fb = record {
+    same = at_binary ℕ (value_at reads values) op a b
+        ∙ ap (λ (n : ℕ). word.applied op n (value reads values b)) fa.same ∙ ap (λ (n : ℕ). word.applied op left.value n) fb.same;
+    holds = λ test g h.
+        let k = all_parts (Passes test) left.points right.points h in
+        subst (Hold test) (sym (ap points_of (at_binary Seen (seen_at reads values) op a b)))
+        (all_both (λ (p : Point). test p ≡ true) (loads reads values a) (loads reads values b) (fa.holds test g k.0) (fb.holds test g k.1));
+  }
+
+  pub divide_follows : (a : Expr) (n : ℕ) (own : Seen) → F a own → F (e.Divide a n) ((algebra corners values reads).level (layer.Divide own n))
+  unfolding seeing value seen
+  divide_follows a n own fa = record {
+    same = at_divide ℕ (value_at reads values) a n ∙ ap (λ (m : ℕ). word.divide m n) fa.same;
+    holds = λ test g h. subst (Hold test) (sym (ap points_of (at_divide Seen (seen_at reads values) a n))) (fa.holds test g h);
+  }
+
+  pub remainder_follows : (a : Expr) (n : ℕ) (own : Seen) → F a own → F (e.Remainder a n) ((algebra corners values reads).level (layer.Remainder own n))
+  unfolding seeing value seen
+  remainder_follows a n own fa = record {
+    same = at_remainder ℕ (value_at reads values) a n ∙ ap (λ (m : ℕ). word.remainder m n) fa.same;
+    holds = λ test g h. subst (Hold test) (sym (ap points_of (at_remainder Seen (seen_at reads values) a n))) (fa.holds test g h);
+  }
+
+  pub select_follows : (c a b : Expr) (condition left right : Seen) → F c condition → F a left → F b right
+      → F (e.Select c a b) ((algebra corners values reads).level (layer.Select condition left right))
+  unfolding seeing value seen
+  select_follows c a b condition left right fc fa fb = record {
+    same = at_select ℕ (value_at reads values) c a b
+        ∙ ap (λ (n : ℕ). cond (n == 0) (value reads values b) (value reads values a)) fc.same
+        ∙ ap (λ (n : ℕ). cond (condition.value == 0) (value reads values b) n) fa.same
+        ∙ ap (λ (n : ℕ). cond (condition.value == 0) n left.value) fb.same;
+    holds = λ test g h.
+        let k = all_parts (Passes test) condition.points (left.points ++ right.points) h in
+        let m = all_parts (Passes test) left.points right.points k.1 in
+        subst (Hold test) (sym (ap points_of (at_select Seen (seen_at reads values) c a b)))
+        (all_both (λ (p : Point). test p ≡ true) (loads reads values c) (loads reads values a ++ loads reads values b) (fc.holds test g k.0)
+        (all_both (λ (p : Point). test p ≡ true) (loads reads values a) (loads reads values b) (fa.holds test g m.0) (fb.holds test g m.1)));
+  }
+
+  -- ---- loads
+
+  same_source : (corner : Option Corner) (x y : ℕ) (s : Source) → (from_corner values corner x y s).source ≡ s
+  same_source None x y s = refl
+  same_source (Some corner) x y s = refl
+
+  -- at a point that is counted from a corner
+  pub load_follows : (s : Source) (corner : Option Corner) → corner ≡ corner_of corners s → (x y : Expr) (left right : Seen)
+      → value reads values x ≡ (from_corner values corner left.value right.value s).x → value reads values y ≡ (from_corner values corner left.value right.value s).y
+      → ((test : Point → Bool) → Hold test given → Hold (λ p. test (place corners values p)) left.points → Hold test (loads reads values x))
+      → ((test : Point → Bool) → Hold test given → Hold (λ p. test (place corners values p)) right.points → Hold test (loads reads values y))
+      → F (e.Load s x y) ((algebra corners values reads).level (layer.Call2 s left right))
+  unfolding seeing value seen placed
+  load_follows s corner is x y left right vx vy hx hy =
+      let at : Option Corner → Point = λ own. from_corner values own left.value right.value s in
+      let own : Point = record { source = s; x = value reads values x; y = value reads values y } in
+      let there : own ≡ at (corner_of corners s) =
+      ap (λ (n : ℕ). record { source = s; x = n; y = value reads values y }) vx
+      ∙ ap (λ (n : ℕ). record { source = s; x = (at corner).x; y = n }) vy
+      ∙ ap (λ (f : Source). record { source = f; x = (at corner).x; y = (at corner).y }) (sym (same_source corner left.value right.value s))
+      ∙ ap at is in
+      let loaded : Point = record { source = s; x = (seen reads values x).value; y = (seen reads values y).value } in
+      let seen_there : loaded ≡ own =
+      ap (λ (n : ℕ). record { source = s; x = n; y = (seen reads values y).value }) (values_are_seen reads values x)
+      ∙ ap (λ (n : ℕ). record { source = s; x = value reads values x; y = n }) (values_are_seen reads values y) in
+      record {
+        same = at_load ℕ (value_at reads values) s x y ∙ ap (answered_at reads) there;
+        holds = λ test g h.
+            let k = all_parts (Passes test) (left.points ++ right.points) (record { source = s; x = left.value; y = right.value } ∷ []) h in
+            let m = all_parts (Passes test) left.points right.points k.0 in
+            subst (Hold test) (sym (ap points_of (at_load Seen (seen_at reads values) s x y)))
+            (all_both (λ (p : Point). test p ≡ true) (loads reads values x ++ loads reads values y) (loaded ∷ [])
+            (all_both (λ (p : Point). test p ≡ true) (loads reads values x) (loads reads values y) (hx test g m.0) (hy test g m.1))
+            (ap test (seen_there ∙ there) ∙ k.1.0, tt));
+      }
+
+-- a coordinate, counted from a corner
+module _ (reads : Reads) (values : Values) (made coordinate : Expr) (begin corner : Linear) (is : made ≡ e.Binary operations.Subtract coordinate (e.Linear begin)) (same : begin ≡ corner) where
+  pub counted_value : value reads values made ≡ word.subtract (value reads values coordinate) (linear_value values corner)
+  unfolding value
+  counted_value =
+      ap (value reads values) is ∙ at_binary ℕ (value_at reads values) operations.Subtract coordinate (e.Linear begin)
+      ∙ ap (word.subtract (value reads values coordinate)) (at_linear ℕ (value_at reads values) begin)
+      ∙ ap (λ (own : Linear). word.subtract (value reads values coordinate) (linear_value values own)) same
+
+  pub counted_loads : (test : Point → Bool) → Hold test (loads reads values coordinate) → Hold test (loads reads values made)
+  unfolding seen
+  counted_loads test h =
+      subst (Hold test) (sym (ap (loads reads values) is ∙ ap points_of (at_binary Seen (seen_at reads values) operations.Subtract coordinate (e.Linear begin))
+      ∙ ap (λ (own : Seen). loads reads values coordinate ++ own.points) (at_linear Seen (seen_at reads values) begin)
+      ∙ append-nil (loads reads values coordinate))) h

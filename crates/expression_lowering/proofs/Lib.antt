@@ -1,0 +1,4 @@
+pub mod Following
+pub mod Calling
+pub mod Walking
+pub mod Public

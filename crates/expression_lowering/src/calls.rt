@@ -1,0 +1,72 @@
+//! Loads of buffers.
+
+ghost use Rattle.std.specs.Prelude.{◌≡◌, Bool, List, IfOk};
+ghost use Rattle.std.specs.Option.{option_copied};
+ghost use Rattle.halide_pipeline.specs.Words as word;
+ghost use Rattle.halide_pipeline.specs.declared.expressions.Expr.TheOpen as layer;
+ghost use Rattle.halide_meaning.specs.Pixel.{Reads};
+ghost use Rattle.reads.specs.Points.{Point, Seen, Hold};
+ghost use Rattle.loop_ir.specs.Counters.{Values};
+ghost use Rattle.loop_ir.specs.Expressions.{value, loads, linear_value};
+ghost use Rattle.expression_lowering.specs.Lowering as spec;
+ghost use Rattle.expression_lowering.specs.inner.Following.{Follows, algebra};
+
+use crate::parts::{copy_linear, new_binary, new_load};
+use halide_pipeline::{Operation, Source};
+use loop_ir::expressions::{Expr, Linear};
+use std::alloc::{AllocError, Global};
+
+/// The point of a Func that stands first in its buffer.
+#[derive(Debug, Drop)]
+pub struct Corner {
+    pub x: Linear,
+    pub y: Linear,
+}
+
+/// The corner of a source's buffer; None for inputs, whose buffers begin at 0, 0.
+fn corner_of<'a>(corners: &'a [Corner], source: Source) -> Option<&'a Corner>
+    ensures { option_copied result ≡ spec.corner_of corners.now source }
+{
+    match source {
+        Source::Input(_) => None,
+        Source::Func(place) => corners.get(place),
+    }
+}
+
+/// A coordinate, counted from a corner.
+fn counted_from(alloc: Global, coordinate: Expr, corner: &Linear) -> Result<Expr, AllocError>
+    ensures value { IfOk result (λ made. (reads : Reads) (values : Values)
+        → value reads values made ≡ word.subtract (value reads values coordinate) (linear_value values corner.now)) }
+    ensures loads { IfOk result (λ made. (reads : Reads) (values : Values) (test : Point → Bool)
+        → Hold test (loads reads values coordinate) → Hold test (loads reads values made)) }
+{
+    let begin = copy_linear(alloc, corner)?;
+    let made = new_binary(alloc, Operation::Subtract, coordinate, Expr::Linear(begin))?;
+    Ok(made)
+}
+
+/// What the buffer of a source holds at a point of it.
+pub(crate) fn load(
+    alloc: Global,
+    corners: &[Corner],
+    source: Source,
+    x: Expr,
+    y: Expr,
+) -> Result<Expr, AllocError>
+    ensures { IfOk result (λ made. (values : Values) (reads : Reads) (given : List Point) (left right : Seen)
+        → Follows corners.now values reads given x left → Follows corners.now values reads given y right
+        → Follows corners.now values reads given made ((algebra corners.now values reads).level (layer.Call2 source left right))) }
+{
+    match corner_of(corners, source) {
+        None => {
+            let made = new_load(alloc, source, x, y)?;
+            Ok(made)
+        }
+        Some(corner) => {
+            let x = counted_from(alloc, x, &corner.x)?;
+            let y = counted_from(alloc, y, &corner.y)?;
+            let made = new_load(alloc, source, x, y)?;
+            Ok(made)
+        }
+    }
+}

@@ -1,0 +1,13 @@
+//! Definitions as expressions of loops, with their inlined Funcs put in place and their reads as loads of buffers.
+//!
+//! - [`lowering`]: **what a definition comes to, where buffers answer its reads** (`specs/Lowering.antt`).
+//! - [`calls`]: loads of buffers, each counted from its corner.
+//! - [`parts`]: expressions from their parts.
+#![tactic(auto)]
+
+pub mod calls;
+pub mod lowering;
+pub mod parts;
+
+pub use crate::calls::Corner;
+pub use crate::lowering::{Arguments, lowered};

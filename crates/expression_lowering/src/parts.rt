@@ -1,0 +1,149 @@
+//! Expressions from their parts: each follows what is seen of a definition if its parts do.
+
+ghost use Rattle.std.specs.Prelude.{◌≡◌, List, IfOk};
+ghost use Rattle.halide_pipeline.specs.declared.expressions.Expr.TheOpen as layer;
+ghost use Rattle.halide_meaning.specs.Pixel.{Reads};
+ghost use Rattle.reads.specs.Points.{Point, Seen};
+ghost use Rattle.loop_ir.specs.Counters.{Values};
+ghost use Rattle.expression_lowering.specs.declared.calls.Corner.{Corner};
+ghost use Rattle.expression_lowering.specs.inner.Following.{Follows, algebra};
+
+use halide_pipeline::{Operation, Source};
+use loop_ir::expressions::{Expr, Linear};
+use sqlite_items::{Boxed, Items};
+use std::alloc::{AllocError, Global};
+
+/// The same sum once more.
+pub(crate) fn copy_linear(alloc: Global, own: &Linear) -> Result<Linear, AllocError>
+    ensures { IfOk result (λ made. made ≡ own.now) }
+{
+    let terms = Items::from_slice(alloc, own.terms.as_slice())?;
+    Ok(Linear {
+        number: own.number,
+        terms,
+    })
+}
+
+/// The same expression once more.
+pub(crate) fn copy(alloc: Global, own: &Expr) -> Result<Expr, AllocError>
+    ensures { IfOk result (λ made. made ≡ own.now) }
+{
+    match own {
+        Expr::Number(number) => Ok(Expr::Number(*number)),
+        Expr::Linear(linear) => {
+            let made = copy_linear(alloc, linear)?;
+            Ok(Expr::Linear(made))
+        }
+        Expr::Binary(operation, a, b) => {
+            let a = copy(alloc, a.get())?;
+            let b = copy(alloc, b.get())?;
+            let made = new_binary(alloc, *operation, a, b)?;
+            Ok(made)
+        }
+        Expr::Divide(a, divisor) => {
+            let a = copy(alloc, a.get())?;
+            Ok(Expr::Divide(Boxed::new(alloc, a)?, *divisor))
+        }
+        Expr::Remainder(a, divisor) => {
+            let a = copy(alloc, a.get())?;
+            Ok(Expr::Remainder(Boxed::new(alloc, a)?, *divisor))
+        }
+        Expr::Select(c, a, b) => {
+            let c = copy(alloc, c.get())?;
+            let a = copy(alloc, a.get())?;
+            let b = copy(alloc, b.get())?;
+            let made = new_select(alloc, c, a, b)?;
+            Ok(made)
+        }
+        Expr::Load(source, x, y) => {
+            let x = copy(alloc, x.get())?;
+            let y = copy(alloc, y.get())?;
+            let made = new_load(alloc, *source, x, y)?;
+            Ok(made)
+        }
+    }
+}
+
+/// An operation on two, as a tree.
+pub(crate) fn new_binary(
+    alloc: Global,
+    operation: Operation,
+    a: Expr,
+    b: Expr,
+) -> Result<Expr, AllocError>
+    ensures { IfOk result (λ made. made ≡ Expr.Binary operation a b) }
+{
+    let left = Boxed::new(alloc, a)?;
+    let right = Boxed::new(alloc, b)?;
+    Ok(Expr::Binary(operation, left, right))
+}
+
+/// A choice, as a tree.
+fn new_select(alloc: Global, c: Expr, a: Expr, b: Expr) -> Result<Expr, AllocError>
+    ensures { IfOk result (λ made. made ≡ Expr.Select c a b) }
+{
+    let condition = Boxed::new(alloc, c)?;
+    let left = Boxed::new(alloc, a)?;
+    let right = Boxed::new(alloc, b)?;
+    Ok(Expr::Select(condition, left, right))
+}
+
+/// What the buffer of a source holds at x and y.
+pub(crate) fn new_load(alloc: Global, source: Source, x: Expr, y: Expr) -> Result<Expr, AllocError>
+    ensures { IfOk result (λ made. made ≡ Expr.Load source x y) }
+{
+    let column = Boxed::new(alloc, x)?;
+    let row = Boxed::new(alloc, y)?;
+    Ok(Expr::Load(source, column, row))
+}
+
+/// A number.
+pub(crate) fn number(number: u32) -> Expr
+    ensures { (corners : List Corner) (values : Values) (reads : Reads) (given : List Point)
+        → Follows corners values reads given result ((algebra corners values reads).level (layer.Number number)) }
+{
+    Expr::Number(number)
+}
+
+/// An operation on two.
+pub(crate) fn binary(
+    alloc: Global,
+    operation: Operation,
+    a: Expr,
+    b: Expr,
+) -> Result<Expr, AllocError>
+    ensures { IfOk result (λ made. (corners : List Corner) (values : Values) (reads : Reads) (given : List Point) (left right : Seen)
+        → Follows corners values reads given a left → Follows corners values reads given b right
+        → Follows corners values reads given made ((algebra corners values reads).level (layer.Binary operation left right))) }
+{
+    let made = new_binary(alloc, operation, a, b)?;
+    Ok(made)
+}
+
+/// A quotient.
+pub(crate) fn divide(alloc: Global, a: Expr, divisor: u32) -> Result<Expr, AllocError>
+    ensures { IfOk result (λ made. (corners : List Corner) (values : Values) (reads : Reads) (given : List Point) (own : Seen)
+        → Follows corners values reads given a own → Follows corners values reads given made ((algebra corners values reads).level (layer.Divide own divisor))) }
+{
+    let own = Boxed::new(alloc, a)?;
+    Ok(Expr::Divide(own, divisor))
+}
+
+/// A remainder.
+pub(crate) fn remainder(alloc: Global, a: Expr, divisor: u32) -> Result<Expr, AllocError>
+    ensures { IfOk result (λ made. (corners : List Corner) (values : Values) (reads : Reads) (given : List Point) (own : Seen)
+        → Follows corners values reads given a own → Follows corners values reads given made ((algebra corners values reads).level (layer.Remainder own divisor))) }
+{
+    let own = Boxed::new(alloc, a)?;
+    Ok(Expr::Remainder(own, divisor))
+}
+
+/// A choice.
+pub(crate) fn select(alloc: Global, c: Expr, a: Expr, b: Expr) -> Result<Expr, AllocError>
+    ensures { IfOk result (λ made. (corners : List Corner) (values : Values) (reads : Reads) (given : List Point) (test left right : Seen)
+        → Follows corners values reads given c test → Follows corners values reads given a left → Follows corners values reads given b right
+        → Follows corners values reads given made ((algebra corners values reads).level (layer.Select test left right))) }
+{
+    let made = new_select(alloc, c, a, b)?;
+    Ok(made)
+}
