@@ -1,5 +1,6 @@
 -- Expressions of loops follow what is seen of a definition.
-use Rattle.std.proofs.Common.{◌≡◌, ℕ, Bool, true, List, [], ◌∷◌, ◌++◌, Option, None, Some, refl, sym, ap, subst, ◌∙◌}
+use Rattle.std.proofs.Math.Nat.{add-mod-mod}
+use Rattle.std.proofs.Common.{◌+◌, ◌-◌, ◌%◌, ◌^◌, arith, ◌≡◌, ℕ, Bool, true, List, [], ◌∷◌, ◌++◌, Option, None, Some, refl, sym, ap, subst, ◌∙◌}
 use Rattle.std.specs.Prelude.{cond, ◌==◌, slice_get}
 use Rattle.std.proofs.lemmas.List.{append-nil}
 use mathlib.Core.Path.{fun_ext}
@@ -53,6 +54,17 @@ module _ (corners : List Corner) (values : Values) (reads : Reads) (given : List
         let k = all_parts (Passes test) left.points right.points h in
         subst (Hold test) (sym (ap points_of (at_binary Seen (seen_at reads values) op a b)))
         (all_both (λ (p : Point). test p ≡ true) (loads reads values a) (loads reads values b) (fa.holds test g k.0) (fb.holds test g k.1));
+  }
+
+  -- a left side to which a number is added
+  pub shifted_follows : (op : Operation) (a b made : Expr) (left right : Seen) (n : ℕ) → ((x : ℕ) → word.applied op x (value reads values b) ≡ word.add x n)
+      → value reads values made ≡ word.add (value reads values a) n → ((test : Point → Bool) → Hold test (loads reads values a) → Hold test (loads reads values made))
+      → F a left → F b right → F made ((algebra corners values reads).level (layer.Binary op left right))
+  unfolding seeing
+  shifted_follows op a b made left right n shift is all fa fb = record {
+    same = is ∙ sym (shift (value reads values a))
+        ∙ ap (λ (k : ℕ). word.applied op k (value reads values b)) fa.same ∙ ap (λ (k : ℕ). word.applied op left.value k) fb.same;
+    holds = λ test g h. let k = all_parts (Passes test) left.points right.points h in all test (fa.holds test g k.0);
   }
 
   pub divide_follows : (a : Expr) (n : ℕ) (own : Seen) → F a own → F (e.Divide a n) ((algebra corners values reads).level (layer.Divide own n))
@@ -121,18 +133,44 @@ module _ (corners : List Corner) (values : Values) (reads : Reads) (given : List
             (ap test (seen_there ∙ there) ∙ k.1.0, tt));
       }
 
--- a coordinate, counted from a corner
-module _ (reads : Reads) (values : Values) (made coordinate : Expr) (begin corner : Linear) (is : made ≡ e.Binary operations.Subtract coordinate (e.Linear begin)) (same : begin ≡ corner) where
-  pub counted_value : value reads values made ≡ word.subtract (value reads values coordinate) (linear_value values corner)
-  unfolding value
-  counted_value =
-      ap (value reads values) is ∙ at_binary ℕ (value_at reads values) operations.Subtract coordinate (e.Linear begin)
-      ∙ ap (word.subtract (value reads values coordinate)) (at_linear ℕ (value_at reads values) begin)
-      ∙ ap (λ (own : Linear). word.subtract (value reads values coordinate) (linear_value values own)) same
+-- ---- sums
 
-  pub counted_loads : (test : Point → Bool) → Hold test (loads reads values coordinate) → Hold test (loads reads values made)
+module _ (reads : Reads) (values : Values) where
+  pub number_value : (n : ℕ) → value reads values (e.Number n) ≡ n
+  unfolding value
+  number_value n = at_number ℕ (value_at reads values) n
+
+  pub linear_is : (own : Linear) → value reads values (e.Linear own) ≡ linear_value values own
+  unfolding value
+  linear_is own = at_linear ℕ (value_at reads values) own
+
+  pub binary_value : (op : Operation) (a b : Expr) → value reads values (e.Binary op a b) ≡ word.applied op (value reads values a) (value reads values b)
+  unfolding value
+  binary_value op a b = at_binary ℕ (value_at reads values) op a b
+
+  pub number_loads : (n : ℕ) → loads reads values (e.Number n) ≡ []
   unfolding seen
-  counted_loads test h =
-      subst (Hold test) (sym (ap (loads reads values) is ∙ ap points_of (at_binary Seen (seen_at reads values) operations.Subtract coordinate (e.Linear begin))
-      ∙ ap (λ (own : Seen). loads reads values coordinate ++ own.points) (at_linear Seen (seen_at reads values) begin)
-      ∙ append-nil (loads reads values coordinate))) h
+  number_loads n = ap points_of (at_number Seen (seen_at reads values) n)
+
+  pub linear_loads : (own : Linear) → loads reads values (e.Linear own) ≡ []
+  unfolding seen
+  linear_loads own = ap points_of (at_linear Seen (seen_at reads values) own)
+
+  pub binary_loads : (op : Operation) (a b : Expr) → loads reads values (e.Binary op a b) ≡ loads reads values a ++ loads reads values b
+  unfolding seen
+  binary_loads op a b = ap points_of (at_binary Seen (seen_at reads values) op a b)
+
+  -- what loads nothing passes
+  pub linear_passes : (own : Linear) (test : Point → Bool) → Hold test (loads reads values (e.Linear own))
+  linear_passes own test = subst (Hold test) (sym (linear_loads own)) tt
+
+  -- an operation on an expression and one that loads nothing
+  pub left_passes : (op : Operation) (made a b : Expr) → made ≡ e.Binary op a b → loads reads values b ≡ [] → (test : Point → Bool) → Hold test (loads reads values a) → Hold test (loads reads values made)
+  left_passes op made a b is none test h =
+      subst (Hold test) (sym (ap (loads reads values) is ∙ binary_loads op a b ∙ ap (λ (ps : List Point). loads reads values a ++ ps) none ∙ append-nil (loads reads values a))) h
+
+pub subtract_is : (x n m : ℕ) → m ≡ word.subtract 0 n → word.subtract x n ≡ word.add x m
+unfolding word.subtract word.add
+subtract_is x n m is =
+    let z : 0 + (2 ^ 32 - n) ≡ 2 ^ 32 - n = omega arith in
+    sym (ap (λ (k : ℕ). (x + k) % 2 ^ 32) (is ∙ ap (λ (k : ℕ). k % 2 ^ 32) z) ∙ add-mod-mod x (2 ^ 32 - n) (2 ^ 32))

@@ -11,7 +11,7 @@ ghost use Rattle.loop_ir.specs.Expressions.{value, loads, linear_value};
 ghost use Rattle.expression_lowering.specs.Lowering as spec;
 ghost use Rattle.expression_lowering.specs.inner.Following.{Follows, algebra};
 
-use crate::parts::{copy_linear, new_binary, new_load};
+use crate::parts::{new_binary, new_load};
 use halide_pipeline::{Operation, Source};
 use loop_ir::expressions::{Expr, Linear};
 use std::alloc::{AllocError, Global};
@@ -40,9 +40,21 @@ fn counted_from(alloc: Global, coordinate: Expr, corner: &Linear) -> Result<Expr
     ensures loads { IfOk result (λ made. (reads : Reads) (values : Values) (test : Point → Bool)
         → Hold test (loads reads values coordinate) → Hold test (loads reads values made)) }
 {
-    let begin = copy_linear(alloc, corner)?;
-    let made = new_binary(alloc, Operation::Subtract, coordinate, Expr::Linear(begin))?;
-    Ok(made)
+    match coordinate {
+        Expr::Number(number) => {
+            let made = Linear::of_number(alloc, number).minus(corner)?;
+            Ok(Expr::Linear(made))
+        }
+        Expr::Linear(own) => {
+            let made = own.minus(corner)?;
+            Ok(Expr::Linear(made))
+        }
+        other => {
+            let begin = corner.copy(alloc)?;
+            let made = new_binary(alloc, Operation::Subtract, other, Expr::Linear(begin))?;
+            Ok(made)
+        }
+    }
 }
 
 /// What the buffer of a source holds at a point of it.

@@ -13,7 +13,7 @@ ghost use Rattle.expression_lowering.specs.Lowering.{environment, place, placed}
 ghost use Rattle.expression_lowering.specs.inner.Following.{Follows, algebra, variable_terms, term_loads};
 
 use crate::calls::{Corner, load};
-use crate::parts::{binary, copy, copy_linear, divide, number, remainder, select};
+use crate::parts::{binary, copy, divide, number, remainder, select};
 use halide_pipeline::{Expr, Func, Source, Variable};
 use inlining::inlined_func;
 use loop_ir::expressions as terms;
@@ -187,10 +187,10 @@ pub fn lowered(
         → Hold (λ point. test (place corners.now values point)) (inlined (seeing (placed corners.now values reads)) (flagged flags.now) funcs.now count (seen_variable (environment values variables.now)) expr.now).points
         → Hold test (loads reads values made)) }
 {
-    let first_argument = terms::Expr::Linear(copy_linear(alloc, &variables.first_argument)?);
-    let second_argument = terms::Expr::Linear(copy_linear(alloc, &variables.second_argument)?);
-    let first_reduction = terms::Expr::Linear(copy_linear(alloc, &variables.first_reduction)?);
-    let second_reduction = terms::Expr::Linear(copy_linear(alloc, &variables.second_reduction)?);
+    let first_argument = terms::Expr::Linear(variables.first_argument.copy(alloc)?);
+    let second_argument = terms::Expr::Linear(variables.second_argument.copy(alloc)?);
+    let first_reduction = terms::Expr::Linear(variables.first_reduction.copy(alloc)?);
+    let second_reduction = terms::Expr::Linear(variables.second_reduction.copy(alloc)?);
     let standing = Terms {
         first_argument: &first_argument,
         second_argument: &second_argument,

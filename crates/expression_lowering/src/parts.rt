@@ -1,28 +1,19 @@
 //! Expressions from their parts: each follows what is seen of a definition if its parts do.
 
-ghost use Rattle.std.specs.Prelude.{◌≡◌, List, IfOk};
+ghost use Rattle.std.specs.Prelude.{◌≡◌, ℕ, Bool, List, IfOk, IfSome};
+ghost use Rattle.halide_pipeline.specs.Words as word;
 ghost use Rattle.halide_pipeline.specs.declared.expressions.Expr.TheOpen as layer;
 ghost use Rattle.halide_meaning.specs.Pixel.{Reads};
-ghost use Rattle.reads.specs.Points.{Point, Seen};
+ghost use Rattle.reads.specs.Points.{Hold, Point, Seen};
 ghost use Rattle.loop_ir.specs.Counters.{Values};
+ghost use Rattle.loop_ir.specs.Expressions.{loads, value};
 ghost use Rattle.expression_lowering.specs.declared.calls.Corner.{Corner};
 ghost use Rattle.expression_lowering.specs.inner.Following.{Follows, algebra};
 
-use halide_pipeline::{Operation, Source};
-use loop_ir::expressions::{Expr, Linear};
-use sqlite_items::{Boxed, Items};
+use halide_pipeline::{Operation, Source, words};
+use loop_ir::expressions::Expr;
+use sqlite_items::Boxed;
 use std::alloc::{AllocError, Global};
-
-/// The same sum once more.
-pub(crate) fn copy_linear(alloc: Global, own: &Linear) -> Result<Linear, AllocError>
-    ensures { IfOk result (λ made. made ≡ own.now) }
-{
-    let terms = Items::from_slice(alloc, own.terms.as_slice())?;
-    Ok(Linear {
-        number: own.number,
-        terms,
-    })
-}
 
 /// The same expression once more.
 pub(crate) fn copy(alloc: Global, own: &Expr) -> Result<Expr, AllocError>
@@ -31,7 +22,7 @@ pub(crate) fn copy(alloc: Global, own: &Expr) -> Result<Expr, AllocError>
     match own {
         Expr::Number(number) => Ok(Expr::Number(*number)),
         Expr::Linear(linear) => {
-            let made = copy_linear(alloc, linear)?;
+            let made = linear.copy(alloc)?;
             Ok(Expr::Linear(made))
         }
         Expr::Binary(operation, a, b) => {
@@ -116,8 +107,44 @@ pub(crate) fn binary(
         → Follows corners values reads given a left → Follows corners values reads given b right
         → Follows corners values reads given made ((algebra corners values reads).level (layer.Binary operation left right))) }
 {
-    let made = new_binary(alloc, operation, a, b)?;
-    Ok(made)
+    match shift_of(operation, &b) {
+        None => {
+            let made = new_binary(alloc, operation, a, b)?;
+            Ok(made)
+        }
+        Some(number) => {
+            let made = shifted(alloc, a, number)?;
+            Ok(made)
+        }
+    }
+}
+
+/// What is added to a left side, if the operation adds a number to it or takes one away.
+fn shift_of(operation: Operation, right: &Expr) -> Option<u32>
+    ensures { IfSome result (λ n. (reads : Reads) (values : Values) (x : ℕ) → word.applied operation x (value reads values right.now) ≡ word.add x n) }
+{
+    match right {
+        Expr::Number(number) => match operation {
+            Operation::Add => Some(*number),
+            Operation::Subtract => Some(words::subtract(0, *number)),
+            _ => None,
+        },
+        _ => None,
+    }
+}
+
+/// An expression and so much more.
+fn shifted(alloc: Global, own: Expr, number: u32) -> Result<Expr, AllocError>
+    ensures value { IfOk result (λ made. (reads : Reads) (values : Values) → value reads values made ≡ word.add (value reads values own) number) }
+    ensures loads { IfOk result (λ made. (reads : Reads) (values : Values) (test : Point → Bool) → Hold test (loads reads values own) → Hold test (loads reads values made)) }
+{
+    match own {
+        Expr::Linear(linear) => Ok(Expr::Linear(linear.plus_number(number))),
+        other => {
+            let made = new_binary(alloc, Operation::Add, other, Expr::Number(number))?;
+            Ok(made)
+        }
+    }
 }
 
 /// A quotient.

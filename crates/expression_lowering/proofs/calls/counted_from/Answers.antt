@@ -1,8 +1,37 @@
-use Rattle.expression_lowering.proofs.Following.{counted_value, counted_loads}
+use Rattle.std.proofs.Common.{ℕ, ap, sym, subst, ◌∙◌}
+use Rattle.halide_pipeline.specs.declared.expressions.Operation.TheVariants as operations
+use Rattle.halide_pipeline.specs.Words as word
+use Rattle.reads.specs.Points.{Hold}
+use Rattle.loop_ir.specs.declared.expressions.Expr.{Expr}
+use Rattle.loop_ir.specs.declared.expressions.Expr.TheVariants as e
+use Rattle.loop_ir.specs.Expressions.{value, linear_value, loads}
+use Rattle.expression_lowering.proofs.Following.{number_value, linear_is, linear_loads, binary_value, linear_passes, left_passes}
 use Rattle.expression_lowering.proofs.calls.counted_from.Goals as goal
 
-pub returns-clause-value : goal.returns-clause-value
-returns-clause-value c = λ reads values. counted_value reads values c.in_ok-made.made c.args.coordinate c.in_ok-begin.begin c.args.corner.now c.in_ok-made.ensures c.in_ok-begin.ensures
+pub returns-in_ok-made-in-Number-clause-value : goal.returns-in_ok-made-in-Number-clause-value
+returns-in_ok-made-in-Number-clause-value c = λ reads values.
+    linear_is reads values c.in_ok-made-in-Number.made ∙ c.in_ok-made-in-Number.ensures values
+    ∙ ap (λ (n : ℕ). word.subtract n (linear_value values c.args.corner.now))
+    (c.of_number.ensures values ∙ sym (number_value reads values c.in-Number.number) ∙ sym (ap (value reads values) c.in-Number.is))
 
-pub returns-clause-loads : goal.returns-clause-loads
-returns-clause-loads c = λ reads values. counted_loads reads values c.in_ok-made.made c.args.coordinate c.in_ok-begin.begin c.args.corner.now c.in_ok-made.ensures c.in_ok-begin.ensures
+pub returns-in_ok-made-in-Number-clause-loads : goal.returns-in_ok-made-in-Number-clause-loads
+returns-in_ok-made-in-Number-clause-loads c = λ reads values test h. linear_passes reads values c.in_ok-made-in-Number.made test
+
+pub returns-in_ok-made-in-Linear-clause-value : goal.returns-in_ok-made-in-Linear-clause-value
+returns-in_ok-made-in-Linear-clause-value c = λ reads values.
+    linear_is reads values c.in_ok-made-in-Linear.made ∙ c.in_ok-made-in-Linear.ensures values
+    ∙ ap (λ (n : ℕ). word.subtract n (linear_value values c.args.corner.now)) (sym (linear_is reads values c.in-Linear.own) ∙ sym (ap (value reads values) c.in-Linear.is))
+
+pub returns-in_ok-made-in-Linear-clause-loads : goal.returns-in_ok-made-in-Linear-clause-loads
+returns-in_ok-made-in-Linear-clause-loads c = λ reads values test h. linear_passes reads values c.in_ok-made-in-Linear.made test
+
+pub returns-in_ok-made-in_default : goal.returns-in_ok-made-in_default
+returns-in_ok-made-in_default c =
+    let begin = c.in_ok-begin-in_default.begin in
+    record {
+      value = λ reads values.
+          ap (value reads values) c.in_ok-made-in_default.ensures ∙ binary_value reads values operations.Subtract c.args.coordinate (e.Linear begin)
+          ∙ ap (word.subtract (value reads values c.args.coordinate)) (linear_is reads values begin ∙ ap (linear_value values) c.in_ok-begin-in_default.ensures);
+      loads = λ reads values test h.
+          left_passes reads values operations.Subtract c.in_ok-made-in_default.made c.args.coordinate (e.Linear begin) c.in_ok-made-in_default.ensures (linear_loads reads values begin) test h;
+    }

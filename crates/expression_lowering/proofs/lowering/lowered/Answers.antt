@@ -4,12 +4,12 @@ use Rattle.expression_lowering.proofs.lowering.lowered.Goals as goal
 
 pub returns-clause-value : goal.returns-clause-value
 returns-clause-value c = λ reads values.
-    lowered_value c.args.corners.now values reads c.args.variables.now c.in_ok-copy_linear.field-0 c.in_ok-copy_linear-2.field-0 c.in_ok-copy_linear-3.field-0 c.in_ok-copy_linear-4.field-0
-    c.in_ok-copy_linear.ensures c.in_ok-copy_linear-2.ensures c.in_ok-copy_linear-3.ensures c.in_ok-copy_linear-4.ensures (flagged c.args.flags.now) c.args.funcs.now c.args.count c.args.expr.now c.in_ok-made.made
+    lowered_value c.args.corners.now values reads c.args.variables.now c.in_ok-copy.field-0 c.in_ok-copy-2.field-0 c.in_ok-copy-3.field-0 c.in_ok-copy-4.field-0
+    c.in_ok-copy.ensures c.in_ok-copy-2.ensures c.in_ok-copy-3.ensures c.in_ok-copy-4.ensures (flagged c.args.flags.now) c.args.funcs.now c.args.count c.args.expr.now c.in_ok-made.made
     (c.in_ok-made.ensures values reads)
 
 pub returns-clause-loads : goal.returns-clause-loads
 returns-clause-loads c = λ reads values.
-    lowered_loads c.args.corners.now values reads c.args.variables.now c.in_ok-copy_linear.field-0 c.in_ok-copy_linear-2.field-0 c.in_ok-copy_linear-3.field-0 c.in_ok-copy_linear-4.field-0
-    c.in_ok-copy_linear.ensures c.in_ok-copy_linear-2.ensures c.in_ok-copy_linear-3.ensures c.in_ok-copy_linear-4.ensures (flagged c.args.flags.now) c.args.funcs.now c.args.count c.args.expr.now c.in_ok-made.made
+    lowered_loads c.args.corners.now values reads c.args.variables.now c.in_ok-copy.field-0 c.in_ok-copy-2.field-0 c.in_ok-copy-3.field-0 c.in_ok-copy-4.field-0
+    c.in_ok-copy.ensures c.in_ok-copy-2.ensures c.in_ok-copy-3.ensures c.in_ok-copy-4.ensures (flagged c.args.flags.now) c.args.funcs.now c.args.count c.args.expr.now c.in_ok-made.made
     (c.in_ok-made.ensures values reads)

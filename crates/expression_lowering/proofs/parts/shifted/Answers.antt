@@ -1,0 +1,26 @@
+use Rattle.std.proofs.Common.{ℕ, ap, sym, subst, ◌∙◌}
+use Rattle.halide_pipeline.specs.declared.expressions.Operation.TheVariants as operations
+use Rattle.halide_pipeline.specs.Words as word
+use Rattle.reads.specs.Points.{Hold}
+use Rattle.loop_ir.specs.declared.expressions.Expr.{Expr}
+use Rattle.loop_ir.specs.declared.expressions.Expr.TheVariants as e
+use Rattle.loop_ir.specs.Expressions.{value, loads}
+use Rattle.expression_lowering.proofs.Following.{number_value, number_loads, linear_is, binary_value, linear_passes, left_passes}
+use Rattle.expression_lowering.proofs.parts.shifted.Goals as goal
+
+pub returns-in-Linear-clause-value : goal.returns-in-Linear-clause-value
+returns-in-Linear-clause-value c = λ reads values.
+    linear_is reads values c.plus_number.result ∙ c.plus_number.ensures values
+    ∙ ap (λ (n : ℕ). word.add n c.args.number) (sym (linear_is reads values c.in-Linear.linear) ∙ sym (ap (value reads values) c.in-Linear.is))
+
+pub returns-in-Linear-clause-loads : goal.returns-in-Linear-clause-loads
+returns-in-Linear-clause-loads c = λ reads values test h. linear_passes reads values c.plus_number.result test
+
+pub returns-in_ok-made-in_default : goal.returns-in_ok-made-in_default
+returns-in_ok-made-in_default c = record {
+  value = λ reads values.
+      ap (value reads values) c.in_ok-made-in_default.ensures ∙ binary_value reads values operations.Add c.args.own (e.Number c.args.number)
+      ∙ ap (word.add (value reads values c.args.own)) (number_value reads values c.args.number);
+  loads = λ reads values test h.
+      left_passes reads values operations.Add c.in_ok-made-in_default.made c.args.own (e.Number c.args.number) c.in_ok-made-in_default.ensures (number_loads reads values c.args.number) test h;
+}
