@@ -11,12 +11,12 @@ use Rattle.halide_pipeline.specs.declared.expressions.Expr.TheOpen as layer
 use Rattle.halide_meaning.specs.Pixel.{Reads}
 use Rattle.reads.specs.Points.{Point, Seen, Hold}
 use Rattle.reads.proofs.Seeing.{all_parts, all_both}
-use Rattle.inlining.specs.Inlining.{Algebra, Inside, answer, answered, arguments, func_in, inlined, inside, made_in, made_of, none, through}
+use Rattle.inlining.specs.Inlining.{Algebra, Inside, answer, answered, arguments, func_in, inside, made_in, made_of, none, through}
 use Rattle.inlining.specs.Values.{seeing, unread}
 use Rattle.inlining.proofs.Steps.{inside_is}
 use Rattle.loop_ir.specs.declared.expressions.Expr.{Expr}
 use Rattle.loop_ir.specs.Counters.{Values}
-use Rattle.loop_ir.specs.Expressions.{value, loads}
+use Rattle.loop_ir.specs.Expressions.{loads}
 use Rattle.expression_lowering.specs.declared.calls.Corner.{Corner}
 use Rattle.expression_lowering.specs.Lowering.{place}
 use Rattle.expression_lowering.specs.inner.Following.{Follows, algebra, stands, standing, loaded_by}

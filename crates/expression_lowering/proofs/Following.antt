@@ -1,22 +1,16 @@
 -- Expressions of loops follow what is seen of a definition.
 use Rattle.std.proofs.Math.Nat.{add-mod-mod}
 use Rattle.std.proofs.Common.{◌+◌, ◌-◌, ◌%◌, ◌^◌, arith, ◌≡◌, ℕ, Bool, true, List, [], ◌∷◌, ◌++◌, Option, None, Some, refl, sym, ap, subst, ◌∙◌}
-use Rattle.std.specs.Prelude.{cond, ◌==◌, slice_get}
+use Rattle.std.specs.Prelude.{cond, ◌==◌}
 use Rattle.std.proofs.lemmas.List.{append-nil}
-use mathlib.Core.Path.{fun_ext}
-use Rattle.halide_pipeline.specs.declared.definitions.Func.{Func}
 use Rattle.halide_pipeline.specs.declared.expressions.Operation.{Operation}
-use Rattle.halide_pipeline.specs.declared.expressions.Operation.TheVariants as operations
 use Rattle.halide_pipeline.specs.declared.expressions.Source.{Source}
-use Rattle.halide_pipeline.specs.declared.expressions.Source.TheVariants as sources
 use Rattle.halide_pipeline.specs.declared.expressions.Expr.TheOpen as layer
 use Rattle.halide_pipeline.specs.Words as word
 use Rattle.halide_meaning.specs.Pixel.{Reads}
 use Rattle.reads.specs.Points.{Point, Seen, Hold}
 use Rattle.reads.proofs.Seeing.{all_parts, all_both}
-use Rattle.inlining.specs.Inlining.{answer, answered, func_in, inside, made_in}
 use Rattle.inlining.specs.Values.{seeing}
-use Rattle.inlining.proofs.Steps.{inside_is}
 use Rattle.loop_ir.specs.declared.expressions.Expr.{Expr}
 use Rattle.loop_ir.specs.declared.expressions.Expr.TheVariants as e
 use Rattle.loop_ir.specs.declared.expressions.Linear.{Linear}

@@ -1,5 +1,5 @@
 -- What a definition comes to where sums stand for its variables.
-use Rattle.std.proofs.Common.{◌≡◌, ℕ, Bool, true, List, [], ◌∷◌, ◌++◌, refl, sym, ap, subst, ◌∙◌}
+use Rattle.std.proofs.Common.{◌≡◌, ℕ, Bool, true, List, [], ◌++◌, sym, ap, subst, ◌∙◌}
 use mathlib.Core.Path.{fun_ext}
 use Rattle.halide_pipeline.specs.declared.definitions.Func.{Func}
 use Rattle.halide_pipeline.specs.declared.expressions.Variable.{Variable}

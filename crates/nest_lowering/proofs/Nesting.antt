@@ -1,5 +1,5 @@
 -- Loops around loops.
-use Rattle.std.proofs.Common.{◌≡◌, ℕ, ◌+◌, ◌-◌, ◌≤◌, List, [], ◌∷◌, length, get_or, take, drop, refl, sym, ap, subst, ◌∙◌}
+use Rattle.std.proofs.Common.{◌≡◌, ℕ, ◌-◌, ◌≤◌, List, [], ◌∷◌, length, get_or, take, drop, sym, ap, subst, ◌∙◌}
 use Rattle.schedule_lines.specs.declared.stages.Loop.{Loop}
 use Rattle.schedule_lines.specs.declared.stages.Split.{Split}
 use Rattle.stage_loops.proofs.Lists.{first_of_rest}
@@ -10,7 +10,7 @@ use Rattle.stage_loops.specs.Visits.{upto, nest, split_body, over_loops}
 use Rattle.stage_loops.specs.declared.extents.Extents.{Extents}
 use Rattle.loop_ir.specs.declared.statements.Stmt.{Stmt}
 use Rattle.nest_lowering.specs.Nests.{Repeats}
-use Rattle.nest_lowering.proofs.Few.{others_are, over_last}
+use Rattle.nest_lowering.proofs.Few.{over_last}
 use Rattle.nest_lowering.proofs.Repeating.{repeats_itself}
 
 module _ (func : ℕ) (extents : Extents) where

@@ -6,8 +6,6 @@ use Rattle.halide_pipeline.specs.declared.expressions.Variable.{Variable}
 use Rattle.halide_meaning.specs.Pixel.{Planes, Reads}
 use Rattle.reads.specs.Points.{Point}
 use Rattle.schedule_lines.specs.declared.stages.LoopId.{LoopId}
-use Rattle.schedule_lines.specs.declared.stages.Mark.TheVariants as marks
-use Rattle.schedule_lines.specs.declared.stages.Marked.{Marked}
 use Rattle.stage_loops.specs.declared.extents.Extents.{Extents}
 use Rattle.stage_loops.specs.Counts.{extent_of}
 use Rattle.stage_loops.specs.Counts as loops

@@ -1,7 +1,6 @@
 -- What an expression of loops has of a part of a definition. Words of private functions.
 -- This project's own.
-use Rattle.std.specs.Prelude.{◌≡◌, ℕ, Bool, List, [], ◌++◌}
-use Rattle.halide_pipeline.specs.declared.expressions.Expr.TheOpen.{Expr-F}
+use Rattle.std.specs.Prelude.{◌≡◌, Bool, List, [], ◌++◌}
 use Rattle.halide_pipeline.specs.declared.expressions.Variable.{Variable}
 use Rattle.halide_pipeline.specs.declared.expressions.Variable.TheVariants as variables
 use Rattle.halide_meaning.specs.Pixel.{Reads}

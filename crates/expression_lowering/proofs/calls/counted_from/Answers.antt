@@ -1,10 +1,8 @@
-use Rattle.std.proofs.Common.{ℕ, ap, sym, subst, ◌∙◌}
+use Rattle.std.proofs.Common.{ℕ, ap, sym, ◌∙◌}
 use Rattle.halide_pipeline.specs.declared.expressions.Operation.TheVariants as operations
 use Rattle.halide_pipeline.specs.Words as word
-use Rattle.reads.specs.Points.{Hold}
-use Rattle.loop_ir.specs.declared.expressions.Expr.{Expr}
 use Rattle.loop_ir.specs.declared.expressions.Expr.TheVariants as e
-use Rattle.loop_ir.specs.Expressions.{value, linear_value, loads}
+use Rattle.loop_ir.specs.Expressions.{value, linear_value}
 use Rattle.expression_lowering.proofs.Following.{number_value, linear_is, linear_loads, binary_value, linear_passes, left_passes}
 use Rattle.expression_lowering.proofs.calls.counted_from.Goals as goal
 

@@ -1,4 +1,4 @@
-use Rattle.std.proofs.Common.{ℕ, List, subst}
+use Rattle.std.proofs.Common.{ℕ, subst}
 use Rattle.stage_loops.specs.Counts as loops
 use Rattle.stage_loops.specs.Visits.{upto}
 use Rattle.nest_lowering.specs.Nests.{Repeats}

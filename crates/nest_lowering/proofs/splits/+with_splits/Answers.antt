@@ -1,4 +1,3 @@
-use Rattle.nest_lowering.proofs.Few.{others_are, last_is}
 use Rattle.nest_lowering.proofs.Nesting.{last_repeats}
 use Rattle.nest_lowering.proofs.splits.+with_splits.Goals as goal
 
