@@ -1,5 +1,5 @@
 -- What is known of a Func that has a box, and of the box of an input.
-use Rattle.std.proofs.Common.{◌≡◌, ℕ, zero, suc, ◌+◌, ◌-◌, ◌%◌, ◌^◌, ◌<◌, ◌≤◌, Bool, true, false, cond, List, [], ◌∷◌, Option, Some, None, refl, sym, ap, ◌∙◌, subst, arith}
+use Rattle.std.proofs.Common.{◌≡◌, ℕ, zero, suc, ◌+◌, ◌-◌, ◌^◌, ◌<◌, Bool, true, false, cond, List, [], ◌∷◌, Option, Some, None, refl, sym, ap, ◌∙◌, subst, arith}
 use Rattle.std.specs.Prelude.{◌&&◌, nat_le, nat_lt, not, slice_get, Result, Ok, Err}
 use Rattle.std.proofs.lemmas.Bool.{and_parts, leb-true, ltb-true}
 use Rattle.halide_pipeline.specs.declared.definitions.Func.{Func}
@@ -8,7 +8,6 @@ use Rattle.halide_pipeline.specs.declared.expressions.Source.TheVariants as sour
 use Rattle.halide_pipeline.specs.Pipelines.{Pipeline}
 use Rattle.schedule.specs.declared.plans.FuncPlan.{FuncPlan}
 use Rattle.schedule.specs.declared.schedules.Schedule.{Schedule}
-use Rattle.schedule.specs.declared.standings.LoopPlace.{LoopPlace}
 use Rattle.schedule.specs.declared.standings.Place.{Place}
 use Rattle.schedule.specs.declared.standings.Place.TheVariants as places
 use Rattle.schedule.specs.declared.standings.Standing.{Standing}
@@ -18,22 +17,20 @@ use Rattle.schedule.proofs.Uses.{numbered_at}
 use Rattle.stage_loops.specs.Counts.{shifts_fit}
 use Rattle.ranges.specs.declared.ranges.Range.{Range}
 use Rattle.ranges.specs.Laws.{Below, Lies}
-use Rattle.ranges.specs.Ranges.{origin, spot, widened}
+use Rattle.ranges.specs.Ranges.{origin, widened}
 use Rattle.ranges.proofs.Lying.{widened_stands}
 use Rattle.weights.specs.Weight.{flags_of}
-use Rattle.bounds.specs.declared.boxes.HostLoop.{HostLoop}
 use Rattle.bounds.specs.declared.boxes.SourceBox.{SourceBox}
-use Rattle.bounds.specs.declared.boxes.Spread.{Spread}
 use Rattle.bounds.specs.declared.faults.BoundsFault.{BoundsFault}
 use Rattle.bounds.specs.declared.faults.BoundsFault.TheVariants as faults
 use Rattle.bounds.specs.declared.verdict.Boxes.{Boxes}
-use Rattle.bounds.specs.Boxes.{lasts_of, are_near, is_near, stays, in_front, box_of, spread_box}
-use Rattle.bounds.specs.Inference.{read_from, own_updates, wanted, host_of, computed_box, placed_box, func_box, with_func, boxes_from, inputs_from}
+use Rattle.bounds.specs.Boxes.{lasts_of, are_near, is_near, stays, box_of}
+use Rattle.bounds.specs.Inference.{read_from, own_updates, wanted, placed_box, func_box, with_func, boxes_from, inputs_from}
 use Rattle.bounds.specs.Judging.{inputs_hold, input_holds, is_within, shifts_hold, have_few_points}
 use Rattle.box_laws.specs.Laws.{LiesIn, IsNear, IsComputed, host_in}
 use Rattle.bounds.specs.Verdict.{sized, boxes_of, judged, with_inputs, with_funcs, inferred}
 use Rattle.bounds.specs.Views.{extents_of}
-use Rattle.box_laws.proofs.Found.{AreFound, are_found, in_front_is, got}
+use Rattle.box_laws.proofs.Found.{are_found, in_front_is, got}
 use Rattle.box_laws.proofs.FoundFuncs.{IsAt, boxes_at, sought_is}
 
 -- ---- near

@@ -1,6 +1,6 @@
 -- What is read is of Funcs that the reader calls, also through inlined ones.
 use Rattle.std.proofs.Common.{◌≡◌, ℕ, zero, suc, ◌<◌, ◌≤◌, Bool, true, false, List, [], ◌∷◌, ◌++◌, Option, None, Some, ◌⊎◌, refl, sym, ap, subst, ◌∙◌, arith, inl, inr, true≢false}
-use Rattle.std.specs.Prelude.{◌==◌, ◌||◌, cond, nat_lt, slice_get, is_some}
+use Rattle.std.specs.Prelude.{◌==◌, ◌||◌, nat_lt, slice_get, is_some}
 use Rattle.std.specs.List.{AllByRecursion}
 use Rattle.std.proofs.lemmas.Bool.{and_parts, ltb-true, cases_eq, cases_lt, eq-eqb}
 use Rattle.halide_pipeline.specs.declared.definitions.Func.{Func}
@@ -20,10 +20,9 @@ use Rattle.halide_meaning.specs.declared.environments.Environment.{Environment}
 use Rattle.halide_meaning.specs.Pixel.{Reads, at_point, at_reduction}
 use Rattle.reads.specs.Points.{Point, Seen}
 use Rattle.reads.proofs.Seeing.{all_both}
-use Rattle.schedule.specs.declared.schedules.Schedule.{Schedule}
 use Rattle.schedule.specs.declared.standings.Standing.{Standing}
 use Rattle.schedule.specs.Calls.{is_func, calls, calls_at, second_calls, update_calls, updates_call, func_calls, place_calls, place_calls_of}
-use Rattle.inlining.specs.Inlining.{none, second_of, arguments, answer, answered, through, through_at, inside, made_in, made_of, inlined, flagged}
+use Rattle.inlining.specs.Inlining.{none, second_of, arguments, answer, answered, through, through_at, inside, made_in, inlined, flagged}
 use Rattle.inlining.specs.Laws.{seen_variable}
 use Rattle.inlining.specs.Values.{seeing, unread, second_points}
 use Rattle.inlining.proofs.Kept.{inside_computed}
@@ -31,7 +30,7 @@ use Rattle.inlining.proofs.KeptFolds.{KeptLevels, kept_folds_related}
 use Rattle.inlining.proofs.Steps.{inside_before}
 use Rattle.weights.specs.Weight.{flags_of}
 use Rattle.box_laws.specs.Callers.{ReadsThrough, Calls, Through, IsReadThrough, AreReadThrough, PurePointsAreReadThrough, UpdatePointsAreReadThrough}
-use Rattle.box_laws.specs.Laws.{pure_points, update_points, seen_in, second_seen}
+use Rattle.box_laws.specs.Laws.{seen_in, second_seen}
 
 pub or_left : (a b : Bool) → a ≡ true → (a || b) ≡ true
 or_left true b e = refl

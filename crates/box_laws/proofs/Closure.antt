@@ -1,7 +1,6 @@
 -- Boxes hold all that the output's pixels read, with all that these read in turn.
-use Rattle.std.proofs.Common.{◌≡◌, ℕ, zero, suc, ◌+◌, ◌^◌, ◌<◌, ◌≤◌, Bool, true, false, cond, not, List, [], ◌∷◌, ◌++◌, length, Option, None, Some, refl, sym, ap, subst, ◌∙◌, arith, inl, inr, true≢false}
+use Rattle.std.proofs.Common.{◌≡◌, ℕ, zero, suc, ◌+◌, ◌^◌, ◌<◌, Bool, true, false, cond, not, List, [], ◌∷◌, length, Option, None, Some, refl, sym, ap, subst, ◌∙◌, arith, inl, inr, true≢false}
 use Rattle.std.specs.Prelude.{◌==◌, ◌&&◌, ◌||◌, nat_lt, slice_get, is_some, Ok}
-use Rattle.std.specs.List.{AllByRecursion}
 use Rattle.std.proofs.lemmas.Bool.{and_parts, and_from, lt-ltb, ltb-true, eq-eqb, ne_eqb, cases_lt}
 use Rattle.std.proofs.lemmas.Option.{slice_get_past}
 use Rattle.halide_pipeline.specs.declared.definitions.Func.{Func}
@@ -15,7 +14,7 @@ use Rattle.halide_pipeline.specs.Definitions.{dimensions, is_first_in_place, is_
 use Rattle.halide_pipeline.specs.Pipelines.{Pipeline}
 use Rattle.halide_pipeline.specs.WellFormed.{keeps, keeps_index, is_read, is_func_of, is_argument, is_update_variable, IsWellFormed, IsUpdate}
 use Rattle.halide_meaning.specs.declared.environments.Environment.{Environment}
-use Rattle.halide_meaning.specs.Pixel.{Planes, Reads, reads_of, with_plane, pixels, stage, after, at_point, at_reduction, points, is_hit}
+use Rattle.halide_meaning.specs.Pixel.{Planes, Reads, reads_of, with_plane, pixels, stage, after, at_point, at_reduction, points}
 use Rattle.reads.specs.Points.{Point, Hold, points_read, index_points, left_points, direct_trace, ReadsHold, pixel_trace}
 use Rattle.reads.proofs.Holding.{definitions_hold_reads}
 use Rattle.reads.proofs.Tracing.{closed_points_hold_reads}
@@ -32,27 +31,27 @@ use Rattle.schedule.specs.Standing.{standings_from}
 use Rattle.schedule.specs.Uses.{IsReached}
 use Rattle.schedule.proofs.Uses.{IsSome, some_before, output_standing, standing_some, numbered_at}
 use Rattle.stage_loops.proofs.AcceptedStages.{pair_at}
-use Rattle.inlining.specs.Inlining.{inlined, flagged, is_computed}
+use Rattle.inlining.specs.Inlining.{inlined, is_computed}
 use Rattle.inlining.specs.Laws.{seen_variable}
 use Rattle.inlining.specs.Passing.{passes}
 use Rattle.inlining.specs.Values.{seeing}
 use Rattle.inlining.proofs.Passing.{passes_tested, seen_points_pass, seen_points_pass_in_updates, passing_is_closed}
-use Rattle.ranges.specs.Laws.{Below, Lies, AnswerWords}
+use Rattle.ranges.specs.Laws.{Below, AnswerWords}
 use Rattle.ranges.proofs.PixelWords.{pixels_are_words, stages_are_words, with_words}
 use Rattle.weights.specs.Weight.{flags_of}
 use Rattle.bounds.specs.declared.boxes.HostLoop.{HostLoop}
 use Rattle.bounds.specs.declared.boxes.SourceBox.{SourceBox}
 use Rattle.bounds.specs.declared.verdict.Boxes.{Boxes}
-use Rattle.bounds.specs.Boxes.{no_loops, lasts_of, box_of, no_spread, spread_box}
-use Rattle.box_laws.specs.Callers.{ReadsThrough, IsReadThrough, AreReadThrough, IsReadWithin}
+use Rattle.bounds.specs.Boxes.{no_loops, lasts_of, no_spread, spread_box}
+use Rattle.box_laws.specs.Callers.{ReadsThrough, IsReadThrough, AreReadThrough}
 use Rattle.box_laws.specs.Closure.{is_put_in, is_boxed, is_within, held_at, is_held, AllReadsAreHeld, lies_in}
 use Rattle.bounds.specs.Inference.{input_box, with_input, with_func, boxes_from, func_box, inputs_from, read_from}
-use Rattle.box_laws.specs.Laws.{LiesIn, LiesPartly, IsBoxed, AreBoxed, IsNear, values_for, host_in, IsComputed, pure_points, update_points, points_at, seen_in, second_seen}
+use Rattle.box_laws.specs.Laws.{LiesIn, LiesPartly, IsBoxed, AreBoxed, IsNear, values_for, host_in, IsComputed, pure_points, update_points, seen_in, second_seen}
 use Rattle.bounds.specs.Sources.{same_source}
 use Rattle.bounds.specs.Verdict.{inferred}
 use Rattle.box_laws.proofs.BoxFacts.{HasBox, has_box, near_points, is_judged, input_at, points_within, lasts_by}
 use Rattle.box_laws.proofs.Callers.{pure_points_are_read_through, update_points_are_read_through, or_left, or_right, updates_one}
-use Rattle.box_laws.proofs.Found.{AreFound, are_found, in_front_is, got, no_below, inputs_at, pure_reads_of_inputs_lie}
+use Rattle.box_laws.proofs.Found.{AreFound, are_found, in_front_is, no_below, inputs_at, pure_reads_of_inputs_lie}
 use Rattle.box_laws.proofs.FoundFuncs.{pure_reads_of_funcs_lie}
 use Rattle.box_laws.proofs.OwnPoints.{own_points_lie}
 use Rattle.box_laws.proofs.OwnReads.{output_lies}

@@ -1,11 +1,10 @@
 -- The box of a Func of one dimension has one row.
-use Rattle.std.proofs.Common.{◌≡◌, ℕ, zero, suc, ◌+◌, ◌-◌, ◌*◌, ◌<◌, ◌≤◌, Bool, true, false, cond, List, [], ◌∷◌, ◌++◌, Option, None, Some, refl, sym, ap, subst, ◌∙◌, arith, inl, inr}
-use Rattle.std.specs.Prelude.{◌==◌, ◌&&◌, not, nat_lt, nat_le, slice_get, Ok}
+use Rattle.std.proofs.Common.{◌≡◌, ℕ, zero, suc, ◌+◌, ◌-◌, ◌<◌, Bool, true, false, cond, List, [], ◌∷◌, ◌++◌, Option, None, Some, refl, sym, ap, ◌∙◌, arith, inl, inr}
+use Rattle.std.specs.Prelude.{◌==◌, ◌&&◌, not, nat_lt, nat_le, slice_get}
 use Rattle.std.specs.List.{AllByRecursion}
 use Rattle.std.proofs.lemmas.Bool.{and_parts, ltb-true, eqb-true, or_cases}
 use Rattle.halide_pipeline.specs.declared.definitions.Func.{Func}
 use Rattle.halide_pipeline.specs.declared.definitions.Input.{Input}
-use Rattle.halide_pipeline.specs.declared.definitions.Output.{Output}
 use Rattle.halide_pipeline.specs.declared.definitions.Update.{Update}
 use Rattle.halide_pipeline.specs.declared.expressions.Expr.{Expr}
 use Rattle.halide_pipeline.specs.declared.expressions.Expr.TheOpen.{Expr-F}
@@ -19,7 +18,7 @@ use Rattle.halide_pipeline.specs.Pipelines.{Pipeline}
 use Rattle.halide_pipeline.specs.WellFormed.{keeps, keeps_index, is_read, is_input_of, is_func_of, is_argument, is_update_variable, are_dimensions, IsWellFormed, IsUpdate}
 use Rattle.reads.proofs.Seeing.{all_both}
 use Rattle.schedule.specs.declared.schedules.Schedule.{Schedule}
-use Rattle.inlining.specs.Inlining.{none, second_of, arguments, answer, answered, through, through_at, inside, made_in, inlined, flagged}
+use Rattle.inlining.specs.Inlining.{none, second_of, arguments, answer, answered, through, through_at, inside, made_in, flagged}
 use Rattle.inlining.proofs.Kept.{inside_computed}
 use Rattle.inlining.proofs.KeptFolds.{KeptLevels, kept_folds_related}
 use Rattle.inlining.proofs.Steps.{inside_before}
@@ -27,7 +26,7 @@ use Rattle.ranges.specs.declared.expressions.Asked.{Asked}
 use Rattle.ranges.specs.declared.expressions.OwnCalls.{OwnCalls}
 use Rattle.ranges.specs.declared.ranges.Range.{Range}
 use Rattle.ranges.specs.Bases.{no_base, more_sum, less_sum}
-use Rattle.ranges.specs.Expressions.{Ranged, ranging, second_asked, unasked, unasked_variable, ranges_where, is_anywhere, chosen, ranged_update, range_of, walked, walked_update}
+use Rattle.ranges.specs.Expressions.{Ranged, ranging, second_asked, unasked, unasked_variable, ranges_where, is_anywhere, chosen, ranged_update, range_of, walked}
 use Rattle.ranges.specs.Ranges.{origin, least, greatest, every, fit, literal, together, hull}
 use Rattle.ranges.proofs.Sums.{no_more, no_less}
 use Rattle.reads.specs.Levels.{Both}
@@ -35,13 +34,11 @@ use Rattle.weights.specs.Weight.{flags_of}
 use Rattle.bounds.specs.declared.boxes.HostLoop.{HostLoop}
 use Rattle.bounds.specs.declared.boxes.SourceBox.{SourceBox}
 use Rattle.bounds.specs.declared.boxes.Spread.{Spread}
-use Rattle.bounds.specs.declared.verdict.Boxes.{Boxes}
 use Rattle.bounds.specs.Asks.{pure_variables, update_variables, own_calls, left, second_left, right, left_read, update_asked, updates_asked, func_asked, unplaced}
-use Rattle.bounds.specs.Boxes.{no_loops, lasts_of, taken_over, taken, with_range, joined, with_read, gathered, no_spread, box_of, spread_box}
+use Rattle.bounds.specs.Boxes.{no_loops, lasts_of, taken, with_range, joined, with_read, gathered, box_of}
 use Rattle.box_laws.specs.Closure.{flat, OneRowBoxes}
 use Rattle.bounds.specs.Inference.{pixels_range, wanted, own_update, own_updates, read_in, read_of, read_by_box, read_from, computed_box}
 use Rattle.bounds.specs.Sources.{same_source}
-use Rattle.bounds.specs.Verdict.{inferred}
 use Rattle.bounds.specs.Views.{view_of}
 use Rattle.box_laws.specs.Laws.{host_in}
 use Rattle.box_laws.proofs.BoxFacts.{has_box}

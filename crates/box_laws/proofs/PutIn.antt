@@ -1,7 +1,7 @@
 -- Reached Funcs are read through reached ones alone: so of inlined Funcs those count that the output reaches.
-use Rattle.std.proofs.Common.{◌≡◌, ℕ, zero, suc, ◌<◌, ◌≤◌, Bool, true, false, List, [], ◌∷◌, length, Option, None, Some, refl, sym, ap, subst, ◌∙◌, arith, inl, inr}
-use Rattle.std.specs.Prelude.{◌==◌, ◌&&◌, ◌||◌, nat_lt, slice_get}
-use Rattle.std.proofs.lemmas.Bool.{and_parts, and_from, ltb-true, cases_eq, eq-eqb}
+use Rattle.std.proofs.Common.{◌≡◌, ℕ, zero, suc, ◌<◌, Bool, true, false, List, [], ◌∷◌, length, Option, None, Some, refl, sym, ap, ◌∙◌, arith}
+use Rattle.std.specs.Prelude.{◌&&◌, ◌||◌, nat_lt, slice_get}
+use Rattle.std.proofs.lemmas.Bool.{and_parts, and_from, ltb-true, eq-eqb}
 use Rattle.halide_pipeline.specs.declared.definitions.Func.{Func}
 use Rattle.halide_pipeline.specs.declared.expressions.Expr.{Expr}
 use Rattle.halide_pipeline.specs.declared.expressions.Expr.TheOpen.{Expr-F}
@@ -15,7 +15,6 @@ use Rattle.halide_pipeline.specs.WellFormed.{keeps, keeps_at, is_read, is_func_o
 use Rattle.halide_meaning.specs.declared.environments.Environment.{Environment}
 use Rattle.halide_meaning.specs.Pixel.{Reads}
 use Rattle.reads.specs.Points.{Seen}
-use Rattle.schedule.specs.declared.plans.FuncPlan.{FuncPlan}
 use Rattle.schedule.specs.declared.schedules.Schedule.{Schedule}
 use Rattle.schedule.specs.declared.standings.Standing.{Standing}
 use Rattle.schedule.specs.Accepted.{IsAccepted, Pairwise, IsPlan, IsLegal}
@@ -32,7 +31,7 @@ use Rattle.inlining.proofs.KeptFolds.{KeptLevels, kept_folds_related}
 use Rattle.inlining.proofs.Steps.{inside_before}
 use Rattle.weights.specs.Weight.{flags_of}
 use Rattle.box_laws.specs.Closure.{is_put_in}
-use Rattle.box_laws.proofs.Callers.{callers_at, callers, callers_are, or_left, or_right}
+use Rattle.box_laws.proofs.Callers.{callers_at, callers_are, or_left, or_right}
 use Rattle.box_laws.proofs.StandingWithin.{flag_is, called_reached}
 
 -- ---- lists in pairs

@@ -1,9 +1,8 @@
 -- Wherever a reader's arguments are in its box, loops take them to the view with which a source is asked.
-use Rattle.std.proofs.Common.{◌≡◌, ℕ, zero, suc, ◌+◌, ◌-◌, ◌*◌, ◌%◌, ◌^◌, ◌<◌, ◌≤◌, Bool, true, false, cond, List, [], ◌∷◌, ◌++◌, length, take, drop, Option, None, Some, refl, sym, ap, subst, ◌∙◌, arith, inl, inr, true≢false}
-use Rattle.std.specs.Prelude.{◌==◌, ◌&&◌, nat_lt, slice_get, Contains, Ok}
+use Rattle.std.proofs.Common.{◌≡◌, ℕ, zero, suc, ◌+◌, ◌-◌, ◌^◌, ◌<◌, ◌≤◌, Bool, true, false, cond, List, [], ◌∷◌, ◌++◌, length, take, drop, Option, None, Some, refl, sym, ap, subst, ◌∙◌, arith, true≢false}
+use Rattle.std.specs.Prelude.{◌==◌, nat_lt, slice_get, Ok}
 use Rattle.std.proofs.lemmas.Bool.{and_parts, and_from, lt-ltb, eqb-true}
 use Rattle.halide_pipeline.specs.declared.definitions.Func.{Func}
-use Rattle.halide_pipeline.specs.declared.expressions.Variable.{Variable}
 use Rattle.halide_pipeline.specs.declared.expressions.Variable.TheVariants as variables
 use Rattle.halide_pipeline.specs.Definitions.{dimensions}
 use Rattle.halide_pipeline.specs.Pipelines.{Pipeline}
@@ -20,15 +19,15 @@ use Rattle.schedule.specs.declared.standings.Place.{Place}
 use Rattle.schedule.specs.declared.standings.Place.TheVariants as places
 use Rattle.schedule.specs.declared.standings.Standing.{Standing}
 use Rattle.schedule.specs.Accepted.{IsAccepted, IsPlan, IsLegal, IsHosted}
-use Rattle.schedule.specs.Standing.{comes_first, is_within, pure_loops_of}
-use Rattle.schedule.specs.Uses.{IsReached, IsRootReached, HasHostAtRoot}
+use Rattle.schedule.specs.Standing.{comes_first, pure_loops_of}
+use Rattle.schedule.specs.Uses.{IsRootReached, HasHostAtRoot}
 use Rattle.schedule.proofs.Uses.{numbered_at}
 use Rattle.stage_loops.specs.declared.extents.Extents.{Extents}
-use Rattle.stage_loops.specs.Counts.{Values, shifts_fit, extent_of}
+use Rattle.stage_loops.specs.Counts.{Values, shifts_fit}
 use Rattle.stage_loops.specs.Laws.{IsMadeIn}
 use Rattle.stage_loops.specs.Reach.{wholes}
 use Rattle.stage_loops.specs.Stages.{IsStageOf, first_loops, has_variable, extent_in, is_slice_of}
-use Rattle.stage_loops.specs.Visits.{Visit, visit_of, visits}
+use Rattle.stage_loops.specs.Visits.{Visit}
 use Rattle.stage_loops.proofs.AcceptedStages.{accepted as accepted_stages, pair_at}
 use Rattle.stage_loops.proofs.Covering.{visited}
 use Rattle.stage_loops.proofs.TurnsFound.{of_all, visits_are_made}
@@ -42,15 +41,14 @@ use Rattle.bounds.specs.declared.boxes.SourceBox.{SourceBox}
 use Rattle.bounds.specs.declared.verdict.Boxes.{Boxes}
 use Rattle.bounds.specs.Boxes.{box_in, no_loops, lasts_of, extent}
 use Rattle.box_laws.specs.Callers.{IsReadWithin, StandsAt, HasLoop, IsWithin}
-use Rattle.box_laws.specs.Closure.{flat}
 use Rattle.box_laws.specs.HostLaws.{turns_from, gone, IsGone, IsTakenTo, AgreeFrom}
 use Rattle.bounds.specs.Inference.{host_of}
 use Rattle.box_laws.specs.Laws.{LiesIn, values_for, host_in, IsComputed}
 use Rattle.bounds.specs.Verdict.{inferred}
-use Rattle.bounds.specs.Views.{extents_of, inner_count, host_loop_in, host_loop, host_view_in, host_view, settled_box, is_root_at, view_at_root, view_of}
+use Rattle.bounds.specs.Views.{extents_of, inner_count, host_loop_in, host_loop, host_view_in, host_view, settled_box, view_of}
 use Rattle.box_laws.proofs.BoxFacts.{HasBox, has_box, is_judged, shifts_at}
 use Rattle.box_laws.proofs.Flat.{one_row_boxes}
-use Rattle.box_laws.proofs.Found.{got, no_below}
+use Rattle.box_laws.proofs.Found.{no_below}
 use Rattle.box_laws.proofs.HostArguments.{host_arguments_lie}
 use Rattle.box_laws.proofs.Settled.{settled_boxes_hold}
 use Rattle.box_laws.proofs.StandingWithin.{one_standing}

@@ -1,5 +1,5 @@
 -- A reader of a Func that is computed at a loop stands at that loop.
-use Rattle.std.proofs.Common.{◌≡◌, ℕ, zero, suc, ◌+◌, ◌<◌, Bool, true, false, List, [], ◌∷◌, Option, None, Some, refl, sym, ap, subst, ◌∙◌, arith}
+use Rattle.std.proofs.Common.{◌≡◌, ℕ, zero, suc, ◌+◌, ◌<◌, true, List, [], ◌∷◌, Some, refl, sym, ap, subst, ◌∙◌, arith}
 use Rattle.std.specs.Prelude.{slice_get}
 use Rattle.halide_pipeline.specs.Pipelines.{Pipeline}
 use Rattle.schedule.specs.declared.schedules.Schedule.{Schedule}
@@ -16,7 +16,7 @@ use Rattle.schedule.specs.Uses.{IsReached, StandsWithin, Host, Computed, Inlined
 use Rattle.schedule.proofs.Uses.{IsThereReached, called_is_reached, numbered_at}
 use Rattle.inlining.specs.Inlining.{flagged}
 use Rattle.weights.specs.Weight.{flags_of}
-use Rattle.box_laws.specs.Callers.{ReadsThrough, Calls, Through, StandsAt, HasLoop, IsWithin, IsReadWithin, ReadersStandWithin}
+use Rattle.box_laws.specs.Callers.{ReadsThrough, Calls, Through, StandsAt, HasLoop, IsWithin, ReadersStandWithin}
 use Rattle.box_laws.specs.Laws.{IsComputed}
 
 -- a flag that is set is that of an inlined Func
