@@ -1,5 +1,5 @@
 -- The pixels of a pipeline are words where its inputs' are.
-use Rattle.std.proofs.Common.{◌≡◌, ℕ, zero, suc, ◌+◌, ◌/◌, ◌%◌, ◌^◌, ◌<◌, Bool, true, false, cond, List, [], Option, Some, None, refl, sym, ap, ◌∙◌, subst, arith}
+use Rattle.std.proofs.Common.{◌≡◌, ℕ, zero, suc, ◌+◌, ◌/◌, ◌%◌, ◌^◌, ◌<◌, Bool, true, false, cond, List, [], Option, Some, None, refl, ◌∙◌, subst, arith}
 use Rattle.std.specs.Prelude.{◌==◌, slice_get, length}
 use Rattle.std.proofs.Math.Nat.{mod-lt}
 use Rattle.halide_pipeline.specs.declared.definitions.Func.{Func}
@@ -12,17 +12,13 @@ use Rattle.halide_pipeline.specs.declared.expressions.Source.TheVariants as sour
 use Rattle.halide_pipeline.specs.declared.expressions.Variable.{Variable}
 use Rattle.halide_pipeline.specs.declared.expressions.Variable.TheVariants as variables
 use Rattle.halide_pipeline.specs.Definitions.{dimensions}
-use Rattle.halide_pipeline.specs.WellFormed.{keeps, is_read, is_argument, is_update_variable, IsFunc, IsUpdate}
+use Rattle.halide_pipeline.specs.WellFormed.{keeps, is_read, is_argument, is_update_variable}
 use Rattle.halide_pipeline.specs.Words.{add}
 use Rattle.halide_meaning.specs.declared.environments.Environment.{Environment}
 use Rattle.halide_meaning.specs.Pixel.{Plane, Planes, Reads, value, variable, reads_of, with_plane, at_point, at_reduction, second_value, is_hit, after, after_all, stage, func_plane, pixels, points}
 use Rattle.inlining.specs.Laws.{AreFuncs}
-use Rattle.inlining.specs.Inlining.{inlined}
-use Rattle.inlining.specs.Values.{values, seeing}
-use Rattle.inlining.specs.Laws.{seen_variable}
 use Rattle.inlining.proofs.Pixels.{fits}
 use Rattle.inlining.proofs.Seeing.{sees_inlined_values}
-use Rattle.ranges.specs.declared.ranges.Range.{Range}
 use Rattle.ranges.specs.Ranges.{every}
 use Rattle.ranges.specs.Laws.{AnswerWords, PixelsAreWords, StagesAreWords}
 use Rattle.ranges.proofs.Lying.{every_lies}

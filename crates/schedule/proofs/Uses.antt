@@ -15,7 +15,7 @@ use Rattle.schedule.specs.declared.standings.Standing.{Standing}
 use Rattle.schedule.specs.Accepted.{Numbered, IsHost}
 use Rattle.schedule.specs.Calls.{place_calls}
 use Rattle.schedule.specs.Standing.{is_read, is_called, is_root_computed, is_root_line, is_root, is_within, is_away, is_outside, outside, host, place_at, place_computed, place_of, place, standing, standings_from}
-use Rattle.schedule.specs.Uses.{IsReached, StandsWithin, Host, Computed as ComputedThere, Inlined, HasUsesWithin, IsRootReached, HasHostAtRoot}
+use Rattle.schedule.specs.Uses.{IsReached, StandsWithin, Host, Computed as ComputedThere, Inlined, HasUsesWithin, HasHostAtRoot}
 
 -- ---- small facts
 

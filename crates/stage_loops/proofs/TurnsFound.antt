@@ -1,18 +1,14 @@
 -- The turns in which loops outside are while those inside make a visit.
-use Rattle.std.proofs.Common.{◌≡◌, ℕ, zero, suc, ◌+◌, ◌<◌, ◌≤◌, List, [], ◌∷◌, ◌++◌, map, length, refl, sym, ap, ◌∙◌, subst, arith, inl, inr}
+use Rattle.std.proofs.Common.{◌≡◌, ℕ, zero, suc, ◌<◌, List, [], ◌∷◌, map, length, refl, ap, ◌∙◌, subst, arith, inl, inr}
 use Rattle.std.specs.Prelude.{Contains, slice_index_or}
 use Rattle.std.specs.List.{AllByRecursion}
 use Rattle.std.proofs.lemmas.List.Elements.{Contains-append_cases}
 use Rattle.schedule_lines.specs.declared.stages.Loop.{Loop}
-use Rattle.schedule_lines.specs.declared.stages.LoopId.{LoopId}
-use Rattle.schedule_lines.specs.declared.stages.Stage.{Stage}
-use Rattle.schedule_lines.specs.Making.{total}
-use Rattle.stage_loops.specs.declared.extents.Extents.{Extents}
 use Rattle.stage_loops.specs.Counts.{Values, with, counts}
-use Rattle.stage_loops.specs.Laws.{IsMadeIn, VisitsAreMade}
+use Rattle.stage_loops.specs.Laws.{VisitsAreMade}
 use Rattle.stage_loops.specs.Reach.{AreTurns, wholes}
-use Rattle.stage_loops.specs.Visits.{Visit, upto, nest, over_loops, zeros, visit_of, visits}
-use Rattle.stage_loops.proofs.Nesting.{has_id, has_same, InRange, in_range_more, nest-append}
+use Rattle.stage_loops.specs.Visits.{upto, nest, over_loops, zeros, visit_of}
+use Rattle.stage_loops.proofs.Nesting.{has_same, InRange, in_range_more, nest-append}
 use Rattle.stage_loops.proofs.Wholes.{visits_of_wholes}
 
 -- ---- elements
