@@ -1,6 +1,6 @@
 //! A vector state that is set and read.
 
-use rv_insn::{ArithmeticVvOp, ElementWidth, Reg, Trap, VReg, VectorInsn};
+use rv_insn::{Addressing, ArithmeticVvOp, ElementWidth, Reg, Trap, VReg, VectorInsn};
 use std::process::Abort;
 use std::test::Fail;
 use vector_unit::{Asked, VectorState};
@@ -28,10 +28,11 @@ fn sets_and_executes(rt: HostRuntime) -> Result<(), Fail> {
     assert_eq!(rt; state.execute(&sum, 0), Ok(None));
     let wanted = [4, 4, 4, 4, 4, 4, 4, 4, 9, 9, 9, 9, 9, 9, 9, 9];
     assert_eq!(rt; state.register(v(&rt, 3)), wanted);
-    let load = VectorInsn::LoadUnit {
+    let load = VectorInsn::LoadElements {
         width: ElementWidth::Bits32,
         vd: v(&rt, 3),
         rs1: Reg::new(5).expect(&rt, "an integer register"),
+        addressing: Addressing::UnitStride,
         vm: true,
     };
     assert_eq!(rt; state.execute(&load, 0), Err(Trap::IllegalInstruction));

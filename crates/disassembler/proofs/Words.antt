@@ -7,8 +7,6 @@ use Rattle.mnemonics.specs.Forms.{form_of, mnemonic}
 use Rattle.mnemonics.specs.Named.{a_forms, b_forms, l_forms, s_forms, other_forms, vv_forms, vx_forms, vi_forms, v_forms, other_vector_forms, forms, form_among, form_named}
 use Rattle.mnemonics.specs.Slots.{shape, vector_shape, blank, FitsSlots}
 use Rattle.mnemonics.specs.declared.forms.Form.{Form}
-use Rattle.mnemonics.specs.declared.forms.Form.TheVariants as f
-use Rattle.mnemonics.specs.declared.forms.VectorForm.TheVariants as v
 use Rattle.assembly_syntax.specs.declared.tokens.Token.TheVariants as t
 use Rattle.assembly_syntax.specs.declared.statements.Operand.TheVariants as o
 use Rattle.disassembler.specs.Listing.{hexadecimal_text, operands_text, instruction_text, word_text}
@@ -44,49 +42,7 @@ mnemonic_word form found = found_passes _ (λ form. is_word (mnemonic form)) for
 
 form_first : (form : Form) → first_is_written (shape form) ≡ true
 unfolding shape vector_shape
-form_first f.Lui = refl
-form_first f.Auipc = refl
-form_first f.Jal = refl
-form_first f.Jalr = refl
-form_first (f.Branch op) = refl
-form_first (f.Load op) = refl
-form_first (f.Store op) = refl
-form_first (f.AluImm op) = refl
-form_first (f.Shift op) = refl
-form_first (f.Alu op) = refl
-form_first (f.AmoaddW aq rl) = refl
-form_first f.Fence = refl
-form_first f.Ecall = refl
-form_first f.Ebreak = refl
-form_first (f.Vector (v.ArithmeticVv op)) = refl
-form_first (f.Vector (v.ArithmeticVx op)) = refl
-form_first (f.Vector (v.ArithmeticVi op)) = refl
-form_first (f.Vector (v.ShiftVi op)) = refl
-form_first (f.Vector (v.CompareVv op)) = refl
-form_first (f.Vector (v.CompareVx op)) = refl
-form_first (f.Vector (v.CompareVi op)) = refl
-form_first (f.Vector (v.MultiplyVv op)) = refl
-form_first (f.Vector (v.MultiplyVx op)) = refl
-form_first (f.Vector (v.Reduce op)) = refl
-form_first (f.Vector v.MergeVv) = refl
-form_first (f.Vector v.MergeVx) = refl
-form_first (f.Vector v.MergeVi) = refl
-form_first (f.Vector v.MoveVv) = refl
-form_first (f.Vector v.MoveVx) = refl
-form_first (f.Vector v.MoveVi) = refl
-form_first (f.Vector v.MoveToScalar) = refl
-form_first (f.Vector v.MoveFromScalar) = refl
-form_first (f.Vector v.ElementNumbers) = refl
-form_first (f.Vector v.ExtendBytes) = refl
-form_first (f.Vector v.Vsetvli) = refl
-form_first (f.Vector v.Vsetivli) = refl
-form_first (f.Vector v.Vsetvl) = refl
-form_first (f.Vector (v.LoadUnit op)) = refl
-form_first (f.Vector (v.LoadStrided op)) = refl
-form_first (f.Vector (v.LoadIndexed op)) = refl
-form_first (f.Vector (v.StoreUnit op)) = refl
-form_first (f.Vector (v.StoreStrided op)) = refl
-form_first (f.Vector (v.StoreIndexed op)) = refl
+form_first form = grind arith
 
 -- ---- lines
 

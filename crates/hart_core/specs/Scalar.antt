@@ -32,58 +32,27 @@ abbrev pub one_access : Size → ℕ → List Access
 one_access size address = access_at size address ∷ []
 
 abbrev pub kind_of : Insn → Kind
-kind_of (Lui rd imm) = NoAccess
-kind_of (Auipc rd imm) = NoAccess
-kind_of (Jal rd offset) = NoAccess
-kind_of (Jalr rd rs1 imm) = NoAccess
-kind_of (Branch op rs1 rs2 offset) = NoAccess
 kind_of (Load op rd rs1 imm) = Reads
 kind_of (Store op rs1 rs2 imm) = Writes
-kind_of (AluImm op rd rs1 imm) = NoAccess
-kind_of (Shift op rd rs1 amount) = NoAccess
-kind_of (Alu op rd rs1 rs2) = NoAccess
 kind_of (AmoaddW rd rs1 rs2 aq rl) = Updates
-kind_of Fence = NoAccess
-kind_of Ecall = NoAccess
-kind_of Ebreak = NoAccess
 kind_of (Vector insn) = vector_kind insn
+kind_of insn = NoAccess
 
 -- the numbers in memory that an instruction touches, in order
 abbrev pub accesses : Insn → HartState → List Access
-accesses (Lui rd imm) hart = []
-accesses (Auipc rd imm) hart = []
-accesses (Jal rd offset) hart = []
-accesses (Jalr rd rs1 imm) hart = []
-accesses (Branch op rs1 rs2 offset) hart = []
 accesses (Load op rd rs1 imm) hart = one_access (load_size op) (plus (register hart rs1) imm)
 accesses (Store op rs1 rs2 imm) hart = one_access (store_size op) (plus (register hart rs1) imm)
-accesses (AluImm op rd rs1 imm) hart = []
-accesses (Shift op rd rs1 amount) hart = []
-accesses (Alu op rd rs1 rs2) hart = []
 accesses (AmoaddW rd rs1 rs2 aq rl) hart = one_access Word (register hart rs1)
-accesses Fence hart = []
-accesses Ecall hart = []
-accesses Ebreak hart = []
 accesses (Vector insn) hart = vector_accesses insn hart
+accesses insn hart = []
 
 -- where an instruction goes on, if not at the next one: a branch that is not taken goes nowhere
 abbrev pub jump_of : Insn → HartState → Option ℕ
-jump_of (Lui rd imm) hart = None
-jump_of (Auipc rd imm) hart = None
 jump_of (Jal rd offset) hart = Some (offset_from hart.pc offset)
 jump_of (Jalr rd rs1 imm) hart = Some (even_sum (register hart rs1) imm)
 jump_of (Branch op rs1 rs2 offset) hart =
     if is_taken op (register hart rs1) (register hart rs2) then Some (offset_from hart.pc offset) else None
-jump_of (Load op rd rs1 imm) hart = None
-jump_of (Store op rs1 rs2 imm) hart = None
-jump_of (AluImm op rd rs1 imm) hart = None
-jump_of (Shift op rd rs1 amount) hart = None
-jump_of (Alu op rd rs1 rs2) hart = None
-jump_of (AmoaddW rd rs1 rs2 aq rl) hart = None
-jump_of Fence hart = None
-jump_of Ecall hart = None
-jump_of Ebreak hart = None
-jump_of (Vector insn) hart = None
+jump_of insn hart = None
 
 -- a target that is no multiple of 4 is a trap
 abbrev pub jump_fault : Option ℕ → Option Trap
@@ -92,39 +61,13 @@ jump_fault (Some target) = if target % 4 == 0 then None else Some MisalignedTarg
 
 -- the trap of an instruction that is illegal in the hart's state
 abbrev pub illegal_fault : Insn → HartState → Option Trap
-illegal_fault (Lui rd imm) hart = None
-illegal_fault (Auipc rd imm) hart = None
-illegal_fault (Jal rd offset) hart = None
-illegal_fault (Jalr rd rs1 imm) hart = None
-illegal_fault (Branch op rs1 rs2 offset) hart = None
-illegal_fault (Load op rd rs1 imm) hart = None
-illegal_fault (Store op rs1 rs2 imm) hart = None
-illegal_fault (AluImm op rd rs1 imm) hart = None
-illegal_fault (Shift op rd rs1 amount) hart = None
-illegal_fault (Alu op rd rs1 rs2) hart = None
-illegal_fault (AmoaddW rd rs1 rs2 aq rl) hart = None
-illegal_fault Fence hart = None
-illegal_fault Ecall hart = None
-illegal_fault Ebreak hart = None
 illegal_fault (Vector insn) hart = if is_illegal insn (register hart) (vectors_of hart) then Some IllegalInstruction else None
+illegal_fault insn hart = None
 
 -- the trap that an instruction makes whatever the state
 abbrev pub own_fault : Insn → Option Trap
-own_fault (Lui rd imm) = None
-own_fault (Auipc rd imm) = None
-own_fault (Jal rd offset) = None
-own_fault (Jalr rd rs1 imm) = None
-own_fault (Branch op rs1 rs2 offset) = None
-own_fault (Load op rd rs1 imm) = None
-own_fault (Store op rs1 rs2 imm) = None
-own_fault (AluImm op rd rs1 imm) = None
-own_fault (Shift op rd rs1 amount) = None
-own_fault (Alu op rd rs1 rs2) = None
-own_fault (AmoaddW rd rs1 rs2 aq rl) = None
-own_fault Fence = None
-own_fault Ecall = None
 own_fault Ebreak = Some Breakpoint
-own_fault (Vector insn) = None
+own_fault insn = None
 
 abbrev pub jumped : HartState → Option ℕ → HartState
 jumped hart None = advanced hart
@@ -155,36 +98,12 @@ after (Vector insn) hart read = vector_after_turn insn hart read
 
 -- the numbers that are written, one for each access that writes
 abbrev pub stored : Insn → HartState → List ℕ → List ℕ
-stored (Lui rd imm) hart read = []
-stored (Auipc rd imm) hart read = []
-stored (Jal rd offset) hart read = []
-stored (Jalr rd rs1 imm) hart read = []
-stored (Branch op rs1 rs2 offset) hart read = []
-stored (Load op rd rs1 imm) hart read = []
 stored (Store op rs1 rs2 imm) hart read = kept op (register hart rs2) ∷ []
-stored (AluImm op rd rs1 imm) hart read = []
-stored (Shift op rd rs1 amount) hart read = []
-stored (Alu op rd rs1 rs2) hart read = []
 stored (AmoaddW rd rs1 rs2 aq rl) hart read = word.add 32 (slice_index read 0) (register hart rs2) ∷ []
-stored Fence hart read = []
-stored Ecall hart read = []
-stored Ebreak hart read = []
 stored (Vector insn) hart read = stored_numbers insn (vectors_of hart)
+stored insn hart read = []
 
 -- what a turn that makes no trap comes to; EBREAK makes one
 abbrev pub outcome_of : Insn → Outcome
-outcome_of (Lui rd imm) = Stepped
-outcome_of (Auipc rd imm) = Stepped
-outcome_of (Jal rd offset) = Stepped
-outcome_of (Jalr rd rs1 imm) = Stepped
-outcome_of (Branch op rs1 rs2 offset) = Stepped
-outcome_of (Load op rd rs1 imm) = Stepped
-outcome_of (Store op rs1 rs2 imm) = Stepped
-outcome_of (AluImm op rd rs1 imm) = Stepped
-outcome_of (Shift op rd rs1 amount) = Stepped
-outcome_of (Alu op rd rs1 rs2) = Stepped
-outcome_of (AmoaddW rd rs1 rs2 aq rl) = Stepped
-outcome_of Fence = Stepped
 outcome_of Ecall = Finished
-outcome_of Ebreak = Stepped
-outcome_of (Vector insn) = Stepped
+outcome_of insn = Stepped

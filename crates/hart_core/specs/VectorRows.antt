@@ -17,35 +17,9 @@ use Rattle.vector_unit.specs.Accesses.{addresses, loaded_by, width_in}
 use Rattle.hart_core.specs.HartState.{HartState, vectors_of, with_vectors, register, with_register, advanced, given}
 
 abbrev pub vector_kind : VectorInsn → Kind
-vector_kind (v.ArithmeticVv o vd vs2 vs1 vm) = NoAccess
-vector_kind (v.ArithmeticVx o vd vs2 rs1 vm) = NoAccess
-vector_kind (v.ArithmeticVi o vd vs2 imm vm) = NoAccess
-vector_kind (v.ShiftVi o vd vs2 amount vm) = NoAccess
-vector_kind (v.CompareVv o vd vs2 vs1 vm) = NoAccess
-vector_kind (v.CompareVx o vd vs2 rs1 vm) = NoAccess
-vector_kind (v.CompareVi o vd vs2 imm vm) = NoAccess
-vector_kind (v.MultiplyVv o vd vs2 vs1 vm) = NoAccess
-vector_kind (v.MultiplyVx o vd vs2 rs1 vm) = NoAccess
-vector_kind (v.Reduce o vd vs2 vs1 vm) = NoAccess
-vector_kind (v.MergeVv vd vs2 vs1) = NoAccess
-vector_kind (v.MergeVx vd vs2 rs1) = NoAccess
-vector_kind (v.MergeVi vd vs2 imm) = NoAccess
-vector_kind (v.MoveVv vd vs1) = NoAccess
-vector_kind (v.MoveVx vd rs1) = NoAccess
-vector_kind (v.MoveVi vd imm) = NoAccess
-vector_kind (v.MoveToScalar rd vs2) = NoAccess
-vector_kind (v.MoveFromScalar vd rs1) = NoAccess
-vector_kind (v.ElementNumbers vd vm) = NoAccess
-vector_kind (v.ExtendBytes vd vs2 vm) = NoAccess
-vector_kind (v.Vsetvli rd rs1 vtype) = NoAccess
-vector_kind (v.Vsetivli rd length vtype) = NoAccess
-vector_kind (v.Vsetvl rd rs1 rs2) = NoAccess
-vector_kind (v.LoadUnit w vd rs1 vm) = Reads
-vector_kind (v.LoadStrided w vd rs1 rs2 vm) = Reads
-vector_kind (v.LoadIndexed w vd rs1 vs2 vm) = Reads
-vector_kind (v.StoreUnit w vs3 rs1 vm) = Writes
-vector_kind (v.StoreStrided w vs3 rs1 rs2 vm) = Writes
-vector_kind (v.StoreIndexed w vs3 rs1 vs2 vm) = Writes
+vector_kind (v.LoadElements w vd rs1 addressing vm) = Reads
+vector_kind (v.StoreElements w vs3 rs1 addressing vm) = Writes
+vector_kind insn = NoAccess
 
 -- the size of an element
 abbrev pub size_of : ElementWidth → Size
@@ -86,32 +60,9 @@ loaded_with insn hart read = advanced (with_vectors hart (loaded_by insn (vector
 
 -- the hart afterwards, from the numbers that were read: one for each access that reads
 abbrev pub vector_after_turn : VectorInsn → HartState → List ℕ → HartState
-vector_after_turn (v.ArithmeticVv o vd vs2 vs1 vm) hart read = computed_by (v.ArithmeticVv o vd vs2 vs1 vm) hart
-vector_after_turn (v.ArithmeticVx o vd vs2 rs1 vm) hart read = computed_by (v.ArithmeticVx o vd vs2 rs1 vm) hart
-vector_after_turn (v.ArithmeticVi o vd vs2 imm vm) hart read = computed_by (v.ArithmeticVi o vd vs2 imm vm) hart
-vector_after_turn (v.ShiftVi o vd vs2 amount vm) hart read = computed_by (v.ShiftVi o vd vs2 amount vm) hart
-vector_after_turn (v.CompareVv o vd vs2 vs1 vm) hart read = computed_by (v.CompareVv o vd vs2 vs1 vm) hart
-vector_after_turn (v.CompareVx o vd vs2 rs1 vm) hart read = computed_by (v.CompareVx o vd vs2 rs1 vm) hart
-vector_after_turn (v.CompareVi o vd vs2 imm vm) hart read = computed_by (v.CompareVi o vd vs2 imm vm) hart
-vector_after_turn (v.MultiplyVv o vd vs2 vs1 vm) hart read = computed_by (v.MultiplyVv o vd vs2 vs1 vm) hart
-vector_after_turn (v.MultiplyVx o vd vs2 rs1 vm) hart read = computed_by (v.MultiplyVx o vd vs2 rs1 vm) hart
-vector_after_turn (v.Reduce o vd vs2 vs1 vm) hart read = computed_by (v.Reduce o vd vs2 vs1 vm) hart
-vector_after_turn (v.MergeVv vd vs2 vs1) hart read = computed_by (v.MergeVv vd vs2 vs1) hart
-vector_after_turn (v.MergeVx vd vs2 rs1) hart read = computed_by (v.MergeVx vd vs2 rs1) hart
-vector_after_turn (v.MergeVi vd vs2 imm) hart read = computed_by (v.MergeVi vd vs2 imm) hart
-vector_after_turn (v.MoveVv vd vs1) hart read = computed_by (v.MoveVv vd vs1) hart
-vector_after_turn (v.MoveVx vd rs1) hart read = computed_by (v.MoveVx vd rs1) hart
-vector_after_turn (v.MoveVi vd imm) hart read = computed_by (v.MoveVi vd imm) hart
-vector_after_turn (v.MoveToScalar rd vs2) hart read = computed_by (v.MoveToScalar rd vs2) hart
-vector_after_turn (v.MoveFromScalar vd rs1) hart read = computed_by (v.MoveFromScalar vd rs1) hart
-vector_after_turn (v.ElementNumbers vd vm) hart read = computed_by (v.ElementNumbers vd vm) hart
-vector_after_turn (v.ExtendBytes vd vs2 vm) hart read = computed_by (v.ExtendBytes vd vs2 vm) hart
 vector_after_turn (v.Vsetvli rd rs1 vtype) hart read = configured_by hart rd vtype (asked_by rd rs1 (register hart rs1))
 vector_after_turn (v.Vsetivli rd length vtype) hart read = configured_by hart rd vtype (AtMost length)
 vector_after_turn (v.Vsetvl rd rs1 rs2) hart read = configured_by hart rd (register hart rs2) (asked_by rd rs1 (register hart rs1))
-vector_after_turn (v.LoadUnit w vd rs1 vm) hart read = loaded_with (v.LoadUnit w vd rs1 vm) hart read
-vector_after_turn (v.LoadStrided w vd rs1 rs2 vm) hart read = loaded_with (v.LoadStrided w vd rs1 rs2 vm) hart read
-vector_after_turn (v.LoadIndexed w vd rs1 vs2 vm) hart read = loaded_with (v.LoadIndexed w vd rs1 vs2 vm) hart read
-vector_after_turn (v.StoreUnit w vs3 rs1 vm) hart read = advanced hart
-vector_after_turn (v.StoreStrided w vs3 rs1 rs2 vm) hart read = advanced hart
-vector_after_turn (v.StoreIndexed w vs3 rs1 vs2 vm) hart read = advanced hart
+vector_after_turn (v.LoadElements w vd rs1 addressing vm) hart read = loaded_with (v.LoadElements w vd rs1 addressing vm) hart read
+vector_after_turn (v.StoreElements w vs3 rs1 addressing vm) hart read = advanced hart
+vector_after_turn insn hart read = computed_by insn hart

@@ -6,7 +6,7 @@ ghost use Rattle.memory.specs.Addresses.{put};
 ghost use Rattle.memory.specs.Access.{first_fault, number_at, Reads, Writes, spread, touched};
 ghost use Rattle.vector_unit.specs.VectorState.{has_vill, is_illegal_configuration};
 ghost use Rattle.vector_unit.specs.Vector.{asked_of, is_own, is_refused, vector_after};
-ghost use Rattle.vector_unit.specs.Accesses.{active_numbers, addresses_by, loaded};
+ghost use Rattle.vector_unit.specs.Accesses.{active_numbers, addresses_by, loaded, spacing_of};
 ghost use Rattle.hart_core.specs.VectorRows.{accesses_at, computed_by, configured_by};
 ghost use Rattle.hart_core.specs.HartState.{register, advanced, vectors_of, with_vectors};
 ghost use Rattle.hart_core.specs.Turn.{fault, IsDone};
@@ -14,7 +14,7 @@ ghost use Rattle.hart_core.specs.Turn.{fault, IsDone};
 use crate::element_accesses::{check_stores, read_numbers, write_numbers};
 use crate::harts::Hart;
 use memory::Bytes;
-use rv_insn::{ElementWidth, Outcome, Reg, Trap, VReg, VectorInsn};
+use rv_insn::{Addressing, ElementWidth, Outcome, Reg, Trap, VReg, VectorInsn};
 use vector_unit::{Asked, Numbers, Spacing};
 
 impl Hart {
@@ -62,49 +62,26 @@ impl Hart {
     {
         self.check_legal(insn)?;
         match *insn {
-            VectorInsn::LoadUnit { width, vd, rs1, vm } => {
-                self.load_vector(memory, width, vd, vm, rs1, Spacing::UnitStride(width))
-            }
-            VectorInsn::LoadStrided {
+            VectorInsn::LoadElements {
                 width,
                 vd,
                 rs1,
-                rs2,
+                addressing,
                 vm,
             } => {
-                let spacing = Spacing::Strided(self.register(rs2));
+                let spacing = self.spacing(width, addressing);
                 self.load_vector(memory, width, vd, vm, rs1, spacing)
             }
-            VectorInsn::LoadIndexed {
-                width,
-                vd,
-                rs1,
-                vs2,
-                vm,
-            } => self.load_vector(memory, width, vd, vm, rs1, Spacing::Indexed(vs2)),
-            VectorInsn::StoreUnit {
+            VectorInsn::StoreElements {
                 width,
                 vs3,
                 rs1,
-                vm,
-            } => self.store_vector(memory, width, vs3, vm, rs1, Spacing::UnitStride(width)),
-            VectorInsn::StoreStrided {
-                width,
-                vs3,
-                rs1,
-                rs2,
+                addressing,
                 vm,
             } => {
-                let spacing = Spacing::Strided(self.register(rs2));
+                let spacing = self.spacing(width, addressing);
                 self.store_vector(memory, width, vs3, vm, rs1, spacing)
             }
-            VectorInsn::StoreIndexed {
-                width,
-                vs3,
-                rs1,
-                vs2,
-                vm,
-            } => self.store_vector(memory, width, vs3, vm, rs1, Spacing::Indexed(vs2)),
             _ => self.execute_on_registers(insn),
         }
     }
@@ -165,6 +142,17 @@ impl Hart {
             self.set_register(rd, number);
         }
         Ok(self.advance())
+    }
+
+    /// How the elements of a load or store lie.
+    fn spacing(&self, width: ElementWidth, addressing: Addressing) -> Spacing
+        ensures { result ≡ spacing_of width addressing (register self.now) }
+    {
+        match addressing {
+            Addressing::UnitStride => Spacing::UnitStride(width),
+            Addressing::Strided { rs2 } => Spacing::Strided(self.register(rs2)),
+            Addressing::Indexed { vs2 } => Spacing::Indexed(vs2),
+        }
     }
 
     /// The addresses of the active elements of an access from the address in `rs1` on.

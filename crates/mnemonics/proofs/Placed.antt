@@ -10,8 +10,6 @@ use Rattle.mnemonics.specs.declared.slots.Slot.{Slot}
 use Rattle.mnemonics.specs.declared.slots.Slot.TheVariants.{Integer, Vector, MaskRegister, Number, Upper, Based, Address, Target, Configuration, Mask}
 use Rattle.mnemonics.specs.declared.forms.Form.{Form}
 use Rattle.mnemonics.specs.declared.forms.Form.TheVariants as f
-use Rattle.mnemonics.specs.declared.forms.VectorForm.{VectorForm}
-use Rattle.mnemonics.specs.declared.forms.VectorForm.TheVariants as v
 use Rattle.mnemonics.specs.Slots.{shape, vector_shape, blank, vector_blank, field_at, IsWithin, FitsSlot, FitsSlots, Keeps}
 use Rattle.mnemonics.specs.Placing.{placed, GivesOne, Gives, AllGive}
 use Rattle.mnemonics.proofs.Named.{both_true}
@@ -239,55 +237,9 @@ all_fit (slot ∷ slots) fields pairs h e m d =
 fillable : List ℤ → List Slot → Bool
 fillable fields slots = list_all (in_place (length fields)) slots && (list_all (ready fields) slots && distinct slots)
 
-vector_fillable : (form : VectorForm) → fillable (vector_blank form) (vector_shape form) ≡ true
-unfolding fillable in_place ready is_one distinct free own_fields apart_from mask_apart vector_blank vector_shape
-vector_fillable (v.ArithmeticVv op) = refl
-vector_fillable (v.ArithmeticVx op) = refl
-vector_fillable (v.ArithmeticVi op) = refl
-vector_fillable (v.ShiftVi op) = refl
-vector_fillable (v.CompareVv op) = refl
-vector_fillable (v.CompareVx op) = refl
-vector_fillable (v.CompareVi op) = refl
-vector_fillable (v.MultiplyVv op) = refl
-vector_fillable (v.MultiplyVx op) = refl
-vector_fillable (v.Reduce op) = refl
-vector_fillable (v.LoadUnit op) = refl
-vector_fillable (v.LoadStrided op) = refl
-vector_fillable (v.LoadIndexed op) = refl
-vector_fillable (v.StoreUnit op) = refl
-vector_fillable (v.StoreStrided op) = refl
-vector_fillable (v.StoreIndexed op) = refl
-vector_fillable v.MergeVv = refl
-vector_fillable v.MergeVx = refl
-vector_fillable v.MergeVi = refl
-vector_fillable v.MoveVv = refl
-vector_fillable v.MoveVx = refl
-vector_fillable v.MoveVi = refl
-vector_fillable v.MoveToScalar = refl
-vector_fillable v.MoveFromScalar = refl
-vector_fillable v.ElementNumbers = refl
-vector_fillable v.ExtendBytes = refl
-vector_fillable v.Vsetvli = refl
-vector_fillable v.Vsetivli = refl
-vector_fillable v.Vsetvl = refl
-
 form_fillable : (form : Form) → fillable (blank form) (shape form) ≡ true
-unfolding fillable in_place ready is_one distinct free own_fields apart_from mask_apart blank shape
-form_fillable f.Lui = refl
-form_fillable f.Auipc = refl
-form_fillable f.Jal = refl
-form_fillable f.Jalr = refl
-form_fillable f.Fence = refl
-form_fillable f.Ecall = refl
-form_fillable f.Ebreak = refl
-form_fillable (f.Branch op) = refl
-form_fillable (f.Load op) = refl
-form_fillable (f.Store op) = refl
-form_fillable (f.AluImm op) = refl
-form_fillable (f.Shift op) = refl
-form_fillable (f.Alu op) = refl
-form_fillable (f.AmoaddW aq rl) = refl
-form_fillable (f.Vector form) = vector_fillable form
+unfolding fillable in_place ready is_one distinct free own_fields apart_from mask_apart blank vector_blank shape vector_shape
+form_fillable form = grind arith
 
 pub filled_fits : (form : Form) (pairs : List (ℕ × ℤ)) → AllGive (shape form) pairs → FitsSlots (placed (blank form) pairs) (shape form)
 unfolding fillable

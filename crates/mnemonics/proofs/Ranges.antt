@@ -15,15 +15,12 @@ use Rattle.rv_insn.specs.Encoding.Field.{Unsigned, Signed}
 use Rattle.rv_insn.specs.Table.{table, scalar_table, r_type, i_type, s_type, b_type, u_type, j_type, amo_type, whole_word}
 use Rattle.rv_insn.specs.VectorTable.{vector_table}
 use Rattle.rv_insn.specs.Meaning.{fields_of, Means}
-use Rattle.rv_insn.specs.VectorMeaning.{vector_fields_of}
 use Rattle.rv_insn.specs.declared.instructions.Insn.{Insn}
 use Rattle.rv_insn.specs.declared.instructions.Insn.TheVariants.{Lui, Auipc, Jal, Jalr, Branch, Load, Store, AluImm, Shift, Alu, AmoaddW, Fence, Ecall, Ebreak, Vector}
-use Rattle.rv_insn.specs.declared.vector_instructions.VectorInsn.{VectorInsn}
-use Rattle.rv_insn.specs.declared.vector_instructions.VectorInsn.TheVariants as i
 use Rattle.mnemonics.specs.declared.slots.Slot.{Slot}
 use Rattle.mnemonics.specs.declared.slots.Slot.TheVariants as s
 use Rattle.mnemonics.specs.declared.forms.Form.{Form}
-use Rattle.mnemonics.specs.Forms.{form_of, vector_form_of, row_name, mnemonic}
+use Rattle.mnemonics.specs.Forms.{form_of, row_name, mnemonic}
 use Rattle.mnemonics.specs.Named.{a_forms, b_forms, l_forms, s_forms, other_forms, vv_forms, vx_forms, vi_forms, v_forms, other_vector_forms, forms, form_among}
 use Rattle.mnemonics.specs.Slots.{shape, vector_shape, blank, vector_blank, field_at, IsWithin, FitsSlot, FitsSlots, Keeps}
 use Rattle.mnemonics.proofs.Named.{both_true, some_same}
@@ -226,55 +223,9 @@ meant_fits word insn h =
 
 -- ---- counts, and the fields that no operand gives
 
-vector_count : (insn : VectorInsn) → length (vector_fields_of insn) ≡ length (vector_blank (vector_form_of insn))
-unfolding vector_blank
-vector_count (i.ArithmeticVv op vd vs2 vs1 vm) = refl
-vector_count (i.ArithmeticVx op vd vs2 rs1 vm) = refl
-vector_count (i.ArithmeticVi op vd vs2 imm vm) = refl
-vector_count (i.ShiftVi op vd vs2 amount vm) = refl
-vector_count (i.CompareVv op vd vs2 vs1 vm) = refl
-vector_count (i.CompareVx op vd vs2 rs1 vm) = refl
-vector_count (i.CompareVi op vd vs2 imm vm) = refl
-vector_count (i.MultiplyVv op vd vs2 vs1 vm) = refl
-vector_count (i.MultiplyVx op vd vs2 rs1 vm) = refl
-vector_count (i.Reduce op vd vs2 vs1 vm) = refl
-vector_count (i.MergeVv vd vs2 vs1) = refl
-vector_count (i.MergeVx vd vs2 rs1) = refl
-vector_count (i.MergeVi vd vs2 imm) = refl
-vector_count (i.MoveVv vd vs1) = refl
-vector_count (i.MoveVx vd rs1) = refl
-vector_count (i.MoveVi vd imm) = refl
-vector_count (i.MoveToScalar rd vs2) = refl
-vector_count (i.MoveFromScalar vd rs1) = refl
-vector_count (i.ElementNumbers vd vm) = refl
-vector_count (i.ExtendBytes vd vs2 vm) = refl
-vector_count (i.Vsetvli rd rs1 vtype) = refl
-vector_count (i.Vsetivli rd length vtype) = refl
-vector_count (i.Vsetvl rd rs1 rs2) = refl
-vector_count (i.LoadUnit width vd rs1 vm) = refl
-vector_count (i.LoadStrided width vd rs1 rs2 vm) = refl
-vector_count (i.LoadIndexed width vd rs1 vs2 vm) = refl
-vector_count (i.StoreUnit width vs3 rs1 vm) = refl
-vector_count (i.StoreStrided width vs3 rs1 rs2 vm) = refl
-vector_count (i.StoreIndexed width vs3 rs1 vs2 vm) = refl
-
 pub fields_count : (insn : Insn) → length (fields_of insn) ≡ length (blank (form_of insn))
-unfolding blank
-fields_count (Lui rd imm) = refl
-fields_count (Auipc rd imm) = refl
-fields_count (Jal rd offset) = refl
-fields_count (Jalr rd rs1 imm) = refl
-fields_count (Branch op rs1 rs2 offset) = refl
-fields_count (Load op rd rs1 imm) = refl
-fields_count (Store op rs1 rs2 imm) = refl
-fields_count (AluImm op rd rs1 imm) = refl
-fields_count (Shift op rd rs1 amount) = refl
-fields_count (Alu op rd rs1 rs2) = refl
-fields_count (AmoaddW rd rs1 rs2 aq rl) = refl
-fields_count Fence = refl
-fields_count Ecall = refl
-fields_count Ebreak = refl
-fields_count (Vector insn) = vector_count insn
+unfolding blank vector_blank
+fields_count insn = grind arith
 
 pub fields_kept : (insn : Insn) → Keeps (form_of insn) (fields_of insn)
 fields_kept (Lui rd imm) = tt

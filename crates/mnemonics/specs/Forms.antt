@@ -6,11 +6,12 @@ use Rattle.std.specs.List.{Contains}
 use Rattle.rv_insn.specs.Encoding.{Holds, Row, field_of}
 use Rattle.rv_insn.specs.Table.{table}
 use Rattle.rv_insn.specs.Meaning.{branch_name, load_name, store_name, alu_imm_name, shift_name, alu_name}
-use Rattle.rv_insn.specs.VectorMeaning.{arithmetic_vv_name, arithmetic_vx_name, arithmetic_vi_name, shift_vi_name, compare_vv_name, compare_vx_name, compare_vi_name, multiply_vv_name, multiply_vx_name, reduction_name, unit_load_name, strided_load_name, indexed_load_name, unit_store_name, strided_store_name, indexed_store_name}
+use Rattle.rv_insn.specs.Addressing.{mode_of}
+use Rattle.rv_insn.specs.VectorMeaning.{arithmetic_vv_name, arithmetic_vx_name, arithmetic_vi_name, shift_vi_name, compare_vv_name, compare_vx_name, compare_vi_name, multiply_vv_name, multiply_vx_name, reduction_name, load_elements_name, store_elements_name}
 use Rattle.rv_insn.specs.declared.instructions.Insn.{Insn}
 use Rattle.rv_insn.specs.declared.instructions.Insn.TheVariants.{Lui, Auipc, Jal, Jalr, Branch, Load, Store, AluImm, Shift, Alu, AmoaddW, Fence, Ecall, Ebreak, Vector}
 use Rattle.rv_insn.specs.declared.vector_instructions.VectorInsn.{VectorInsn}
-use Rattle.rv_insn.specs.declared.vector_instructions.VectorInsn.TheVariants.{ArithmeticVv, ArithmeticVx, ArithmeticVi, ShiftVi, CompareVv, CompareVx, CompareVi, MultiplyVv, MultiplyVx, Reduce, MergeVv, MergeVx, MergeVi, MoveVv, MoveVx, MoveVi, MoveToScalar, MoveFromScalar, ElementNumbers, ExtendBytes, Vsetvli, Vsetivli, Vsetvl, LoadUnit, LoadStrided, LoadIndexed, StoreUnit, StoreStrided, StoreIndexed}
+use Rattle.rv_insn.specs.declared.vector_instructions.VectorInsn.TheVariants.{ArithmeticVv, ArithmeticVx, ArithmeticVi, ShiftVi, CompareVv, CompareVx, CompareVi, MultiplyVv, MultiplyVx, Reduce, MergeVv, MergeVx, MergeVi, MoveVv, MoveVx, MoveVi, MoveToScalar, MoveFromScalar, ElementNumbers, ExtendBytes, Vsetvli, Vsetivli, Vsetvl, LoadElements, StoreElements}
 use Rattle.mnemonics.specs.declared.forms.Form.{Form}
 use Rattle.mnemonics.specs.declared.forms.Form.TheVariants as f
 use Rattle.mnemonics.specs.declared.forms.VectorForm.{VectorForm}
@@ -42,12 +43,8 @@ vector_form_of (ExtendBytes vd vs2 vm) = v.ExtendBytes
 vector_form_of (Vsetvli rd rs1 vtype) = v.Vsetvli
 vector_form_of (Vsetivli rd length vtype) = v.Vsetivli
 vector_form_of (Vsetvl rd rs1 rs2) = v.Vsetvl
-vector_form_of (LoadUnit width vd rs1 vm) = v.LoadUnit width
-vector_form_of (LoadStrided width vd rs1 rs2 vm) = v.LoadStrided width
-vector_form_of (LoadIndexed width vd rs1 vs2 vm) = v.LoadIndexed width
-vector_form_of (StoreUnit width vs3 rs1 vm) = v.StoreUnit width
-vector_form_of (StoreStrided width vs3 rs1 rs2 vm) = v.StoreStrided width
-vector_form_of (StoreIndexed width vs3 rs1 vs2 vm) = v.StoreIndexed width
+vector_form_of (LoadElements width vd rs1 addressing vm) = v.LoadElements (mode_of addressing) width
+vector_form_of (StoreElements width vs3 rs1 addressing vm) = v.StoreElements (mode_of addressing) width
 
 abbrev pub form_of : Insn → Form
 form_of (Lui rd imm) = f.Lui
@@ -92,12 +89,8 @@ vector_row_name v.ExtendBytes = codes "vzext.vf4"
 vector_row_name v.Vsetvli = codes "vsetvli"
 vector_row_name v.Vsetivli = codes "vsetivli"
 vector_row_name v.Vsetvl = codes "vsetvl"
-vector_row_name (v.LoadUnit width) = unit_load_name width
-vector_row_name (v.LoadStrided width) = strided_load_name width
-vector_row_name (v.LoadIndexed width) = indexed_load_name width
-vector_row_name (v.StoreUnit width) = unit_store_name width
-vector_row_name (v.StoreStrided width) = strided_store_name width
-vector_row_name (v.StoreIndexed width) = indexed_store_name width
+vector_row_name (v.LoadElements mode width) = load_elements_name mode width
+vector_row_name (v.StoreElements mode width) = store_elements_name mode width
 
 abbrev pub row_name : Form → List ℕ
 row_name f.Lui = codes "lui"

@@ -17,6 +17,7 @@ use Rattle.rv_insn.specs.declared.vector_operations.CompareViOp.TheVariants as c
 use Rattle.rv_insn.specs.declared.vector_operations.MultiplyOp.TheVariants as multiplies
 use Rattle.rv_insn.specs.declared.vector_operations.ReductionOp.TheVariants as reductions
 use Rattle.rv_insn.specs.declared.vector_operations.ElementWidth.TheVariants as widths
+use Rattle.rv_insn.specs.declared.vector_operations.AddressMode.TheVariants as modes
 use Rattle.mnemonics.specs.declared.forms.Form.{Form}
 use Rattle.mnemonics.specs.declared.forms.Form.TheVariants as f
 use Rattle.mnemonics.specs.declared.forms.VectorForm.TheVariants as v
@@ -92,12 +93,12 @@ vi_forms =
 -- with `v`, and end with `.v`
 unfoldable pub v_forms : List Form
 v_forms =
-    f.Vector (v.LoadUnit widths.Bits8) ∷ f.Vector (v.LoadUnit widths.Bits16) ∷ f.Vector (v.LoadUnit widths.Bits32) ∷
-    f.Vector (v.LoadStrided widths.Bits8) ∷ f.Vector (v.LoadStrided widths.Bits16) ∷ f.Vector (v.LoadStrided widths.Bits32) ∷
-    f.Vector (v.LoadIndexed widths.Bits8) ∷ f.Vector (v.LoadIndexed widths.Bits16) ∷ f.Vector (v.LoadIndexed widths.Bits32) ∷
-    f.Vector (v.StoreUnit widths.Bits8) ∷ f.Vector (v.StoreUnit widths.Bits16) ∷ f.Vector (v.StoreUnit widths.Bits32) ∷
-    f.Vector (v.StoreStrided widths.Bits8) ∷ f.Vector (v.StoreStrided widths.Bits16) ∷ f.Vector (v.StoreStrided widths.Bits32) ∷
-    f.Vector (v.StoreIndexed widths.Bits8) ∷ f.Vector (v.StoreIndexed widths.Bits16) ∷ f.Vector (v.StoreIndexed widths.Bits32) ∷
+    f.Vector (v.LoadElements modes.UnitStride widths.Bits8) ∷ f.Vector (v.LoadElements modes.UnitStride widths.Bits16) ∷ f.Vector (v.LoadElements modes.UnitStride widths.Bits32) ∷
+    f.Vector (v.LoadElements modes.Strided widths.Bits8) ∷ f.Vector (v.LoadElements modes.Strided widths.Bits16) ∷ f.Vector (v.LoadElements modes.Strided widths.Bits32) ∷
+    f.Vector (v.LoadElements modes.Indexed widths.Bits8) ∷ f.Vector (v.LoadElements modes.Indexed widths.Bits16) ∷ f.Vector (v.LoadElements modes.Indexed widths.Bits32) ∷
+    f.Vector (v.StoreElements modes.UnitStride widths.Bits8) ∷ f.Vector (v.StoreElements modes.UnitStride widths.Bits16) ∷ f.Vector (v.StoreElements modes.UnitStride widths.Bits32) ∷
+    f.Vector (v.StoreElements modes.Strided widths.Bits8) ∷ f.Vector (v.StoreElements modes.Strided widths.Bits16) ∷ f.Vector (v.StoreElements modes.Strided widths.Bits32) ∷
+    f.Vector (v.StoreElements modes.Indexed widths.Bits8) ∷ f.Vector (v.StoreElements modes.Indexed widths.Bits16) ∷ f.Vector (v.StoreElements modes.Indexed widths.Bits32) ∷
     f.Vector v.MoveVv ∷ f.Vector v.ElementNumbers ∷
     []
 

@@ -3,6 +3,8 @@
 -- Vector Extension 1.0, sections 5.3, 6, 7 and 10.
 use Rattle.std.specs.Prelude.{ℕ, ℤ, pos, negsuc, ◌≡◌, ◌≤ℤ◌, ◌-ℤ◌, List, [], ◌∷◌, slice_index_or}
 use Rattle.rv_insn.specs.Encoding.{bit_of}
+use Rattle.rv_insn.specs.declared.vector_operations.AddressMode.{AddressMode}
+use Rattle.rv_insn.specs.declared.vector_operations.AddressMode.TheVariants as modes
 use Rattle.mnemonics.specs.declared.slots.Slot.{Slot}
 use Rattle.mnemonics.specs.declared.slots.Slot.TheVariants.{Integer, Vector, MaskRegister, Number, Upper, Based, Address, Target, Configuration, Mask}
 use Rattle.mnemonics.specs.declared.forms.Form.{Form}
@@ -30,6 +32,12 @@ vector_operands other = Vector 0 ∷ Vector 1 ∷ other ∷ Mask 3 ∷ []
 abbrev pub merge_operands : Slot → List Slot
 merge_operands other = Vector 0 ∷ Vector 1 ∷ other ∷ MaskRegister ∷ []
 
+-- loads and stores: what is loaded or stored, the address, the register with the stride or the offsets, a mask
+abbrev pub access_operands : AddressMode → List Slot
+access_operands modes.UnitStride = Vector 0 ∷ Address 1 ∷ Mask 2 ∷ []
+access_operands modes.Strided = Vector 0 ∷ Address 1 ∷ Integer 2 ∷ Mask 3 ∷ []
+access_operands modes.Indexed = Vector 0 ∷ Address 1 ∷ Vector 2 ∷ Mask 3 ∷ []
+
 unfoldable pub vector_shape : VectorForm → List Slot
 vector_shape (v.ArithmeticVv op) = vector_operands (Vector 2)
 vector_shape (v.ArithmeticVx op) = vector_operands (Integer 2)
@@ -54,12 +62,8 @@ vector_shape v.ExtendBytes = Vector 0 ∷ Vector 1 ∷ Mask 2 ∷ []
 vector_shape v.Vsetvli = Integer 0 ∷ Integer 1 ∷ Configuration 2 (pos 2047) ∷ []
 vector_shape v.Vsetivli = Integer 0 ∷ amount 1 ∷ Configuration 2 (pos 1023) ∷ []
 vector_shape v.Vsetvl = Integer 0 ∷ Integer 1 ∷ Integer 2 ∷ []
-vector_shape (v.LoadUnit width) = Vector 0 ∷ Address 1 ∷ Mask 2 ∷ []
-vector_shape (v.LoadStrided width) = Vector 0 ∷ Address 1 ∷ Integer 2 ∷ Mask 3 ∷ []
-vector_shape (v.LoadIndexed width) = Vector 0 ∷ Address 1 ∷ Vector 2 ∷ Mask 3 ∷ []
-vector_shape (v.StoreUnit width) = Vector 0 ∷ Address 1 ∷ Mask 2 ∷ []
-vector_shape (v.StoreStrided width) = Vector 0 ∷ Address 1 ∷ Integer 2 ∷ Mask 3 ∷ []
-vector_shape (v.StoreIndexed width) = Vector 0 ∷ Address 1 ∷ Vector 2 ∷ Mask 3 ∷ []
+vector_shape (v.LoadElements mode width) = access_operands mode
+vector_shape (v.StoreElements mode width) = access_operands mode
 
 unfoldable pub shape : Form → List Slot
 shape f.Lui = Integer 0 ∷ Upper 1 ∷ []
@@ -80,17 +84,11 @@ shape (f.Vector form) = vector_shape form
 
 -- ---- the fields of a form before any operand: a mask that isn't written is 1
 
+abbrev pub access_blank : AddressMode → List ℤ
+access_blank modes.UnitStride = pos 0 ∷ pos 0 ∷ pos 1 ∷ []
+access_blank mode = pos 0 ∷ pos 0 ∷ pos 0 ∷ pos 1 ∷ []
+
 unfoldable pub vector_blank : VectorForm → List ℤ
-vector_blank (v.ArithmeticVv op) = pos 0 ∷ pos 0 ∷ pos 0 ∷ pos 1 ∷ []
-vector_blank (v.ArithmeticVx op) = pos 0 ∷ pos 0 ∷ pos 0 ∷ pos 1 ∷ []
-vector_blank (v.ArithmeticVi op) = pos 0 ∷ pos 0 ∷ pos 0 ∷ pos 1 ∷ []
-vector_blank (v.ShiftVi op) = pos 0 ∷ pos 0 ∷ pos 0 ∷ pos 1 ∷ []
-vector_blank (v.CompareVv op) = pos 0 ∷ pos 0 ∷ pos 0 ∷ pos 1 ∷ []
-vector_blank (v.CompareVx op) = pos 0 ∷ pos 0 ∷ pos 0 ∷ pos 1 ∷ []
-vector_blank (v.CompareVi op) = pos 0 ∷ pos 0 ∷ pos 0 ∷ pos 1 ∷ []
-vector_blank (v.MultiplyVv op) = pos 0 ∷ pos 0 ∷ pos 0 ∷ pos 1 ∷ []
-vector_blank (v.MultiplyVx op) = pos 0 ∷ pos 0 ∷ pos 0 ∷ pos 1 ∷ []
-vector_blank (v.Reduce op) = pos 0 ∷ pos 0 ∷ pos 0 ∷ pos 1 ∷ []
 vector_blank v.MergeVv = pos 0 ∷ pos 0 ∷ pos 0 ∷ []
 vector_blank v.MergeVx = pos 0 ∷ pos 0 ∷ pos 0 ∷ []
 vector_blank v.MergeVi = pos 0 ∷ pos 0 ∷ pos 0 ∷ []
@@ -104,29 +102,20 @@ vector_blank v.ExtendBytes = pos 0 ∷ pos 0 ∷ pos 1 ∷ []
 vector_blank v.Vsetvli = pos 0 ∷ pos 0 ∷ pos 0 ∷ []
 vector_blank v.Vsetivli = pos 0 ∷ pos 0 ∷ pos 0 ∷ []
 vector_blank v.Vsetvl = pos 0 ∷ pos 0 ∷ pos 0 ∷ []
-vector_blank (v.LoadUnit width) = pos 0 ∷ pos 0 ∷ pos 1 ∷ []
-vector_blank (v.LoadStrided width) = pos 0 ∷ pos 0 ∷ pos 0 ∷ pos 1 ∷ []
-vector_blank (v.LoadIndexed width) = pos 0 ∷ pos 0 ∷ pos 0 ∷ pos 1 ∷ []
-vector_blank (v.StoreUnit width) = pos 0 ∷ pos 0 ∷ pos 1 ∷ []
-vector_blank (v.StoreStrided width) = pos 0 ∷ pos 0 ∷ pos 0 ∷ pos 1 ∷ []
-vector_blank (v.StoreIndexed width) = pos 0 ∷ pos 0 ∷ pos 0 ∷ pos 1 ∷ []
+vector_blank (v.LoadElements mode width) = access_blank mode
+vector_blank (v.StoreElements mode width) = access_blank mode
+vector_blank form = pos 0 ∷ pos 0 ∷ pos 0 ∷ pos 1 ∷ []
 
 unfoldable pub blank : Form → List ℤ
 blank f.Lui = pos 0 ∷ pos 0 ∷ []
 blank f.Auipc = pos 0 ∷ pos 0 ∷ []
 blank f.Jal = pos 0 ∷ pos 0 ∷ []
-blank f.Jalr = pos 0 ∷ pos 0 ∷ pos 0 ∷ []
-blank (f.Branch op) = pos 0 ∷ pos 0 ∷ pos 0 ∷ []
-blank (f.Load op) = pos 0 ∷ pos 0 ∷ pos 0 ∷ []
-blank (f.Store op) = pos 0 ∷ pos 0 ∷ pos 0 ∷ []
-blank (f.AluImm op) = pos 0 ∷ pos 0 ∷ pos 0 ∷ []
-blank (f.Shift op) = pos 0 ∷ pos 0 ∷ pos 0 ∷ []
-blank (f.Alu op) = pos 0 ∷ pos 0 ∷ pos 0 ∷ []
 blank (f.AmoaddW aq rl) = pos 0 ∷ pos 0 ∷ pos 0 ∷ pos (bit_of aq) ∷ pos (bit_of rl) ∷ []
 blank f.Fence = []
 blank f.Ecall = []
 blank f.Ebreak = []
 blank (f.Vector form) = vector_blank form
+blank form = pos 0 ∷ pos 0 ∷ pos 0 ∷ []
 
 -- ---- what an operand may give
 

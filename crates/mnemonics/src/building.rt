@@ -1,17 +1,18 @@
 //! Instructions from forms and the numbers in their fields.
 
-ghost use Rattle.std.specs.Prelude.{◌≡◌, ◌<◌, pos, negsuc, length};
+ghost use Rattle.std.specs.Prelude.{◌≡◌, ◌<◌, pos, negsuc, length, [], ◌∷◌, ◌++◌};
 ghost use Rattle.rv_insn.specs.Encoding.{bit_of};
+ghost use Rattle.rv_insn.specs.Addressing.{mode_of, offset_fields};
 ghost use Rattle.rv_insn.specs.Meaning.{fields_of};
 ghost use Rattle.rv_insn.specs.VectorMeaning.{vector_fields_of};
 ghost use Rattle.mnemonics.specs.Forms.{form_of, vector_form_of};
-ghost use Rattle.mnemonics.specs.Slots.{blank, vector_blank, shape, vector_shape, field_at, IsWithin, FitsSlots, Keeps};
+ghost use Rattle.mnemonics.specs.Slots.{blank, vector_blank, shape, vector_shape, access_blank, access_operands, field_at, IsWithin, FitsSlots, Keeps};
 
 use crate::fields::Fields;
 use crate::forms::{Form, VectorForm};
 use rv_insn::{
-    BranchOffset, Imm5, Imm12, Imm20, Insn, JumpOffset, Length5, Reg, ShiftAmount, VReg,
-    VectorInsn, Vtype10, Vtype11,
+    AddressMode, Addressing, BranchOffset, Imm5, Imm12, Imm20, Insn, JumpOffset, Length5, Reg,
+    ShiftAmount, VReg, VectorInsn, Vtype10, Vtype11,
 };
 
 impl Form {
@@ -236,47 +237,79 @@ impl VectorForm {
                 rs1: integer_at(fields, 1),
                 rs2: integer_at(fields, 2),
             },
-            VectorForm::LoadUnit(width) => VectorInsn::LoadUnit {
-                width,
-                vd: vector_at(fields, 0),
-                rs1: integer_at(fields, 1),
-                vm: flag_at(fields, 2),
-            },
-            VectorForm::LoadStrided(width) => VectorInsn::LoadStrided {
-                width,
-                vd: vector_at(fields, 0),
-                rs1: integer_at(fields, 1),
-                rs2: integer_at(fields, 2),
-                vm: flag_at(fields, 3),
-            },
-            VectorForm::LoadIndexed(width) => VectorInsn::LoadIndexed {
-                width,
-                vd: vector_at(fields, 0),
-                rs1: integer_at(fields, 1),
-                vs2: vector_at(fields, 2),
-                vm: flag_at(fields, 3),
-            },
-            VectorForm::StoreUnit(width) => VectorInsn::StoreUnit {
-                width,
-                vs3: vector_at(fields, 0),
-                rs1: integer_at(fields, 1),
-                vm: flag_at(fields, 2),
-            },
-            VectorForm::StoreStrided(width) => VectorInsn::StoreStrided {
-                width,
-                vs3: vector_at(fields, 0),
-                rs1: integer_at(fields, 1),
-                rs2: integer_at(fields, 2),
-                vm: flag_at(fields, 3),
-            },
-            VectorForm::StoreIndexed(width) => VectorInsn::StoreIndexed {
-                width,
-                vs3: vector_at(fields, 0),
-                rs1: integer_at(fields, 1),
-                vs2: vector_at(fields, 2),
-                vm: flag_at(fields, 3),
-            },
+            VectorForm::LoadElements(mode, width) => {
+                let Access {
+                    v,
+                    rs1,
+                    addressing,
+                    vm,
+                } = access_in(mode, fields);
+                VectorInsn::LoadElements {
+                    width,
+                    vd: v,
+                    rs1,
+                    addressing,
+                    vm,
+                }
+            }
+            VectorForm::StoreElements(mode, width) => {
+                let Access {
+                    v,
+                    rs1,
+                    addressing,
+                    vm,
+                } = access_in(mode, fields);
+                VectorInsn::StoreElements {
+                    width,
+                    vs3: v,
+                    rs1,
+                    addressing,
+                    vm,
+                }
+            }
         }
+    }
+}
+
+// What a load or store of elements has beside its width.
+struct Access {
+    v: VReg,
+    rs1: Reg,
+    addressing: Addressing,
+    vm: bool,
+}
+
+// The load or store of a mode with these numbers in its fields.
+#[tactic(auto, using(crate::proofs::Fronts::three_fields, crate::proofs::Fronts::four_fields))]
+fn access_in(mode: AddressMode, fields: &Fields) -> Access
+    requires count { length fields.now ≡ length (access_blank mode) }
+    requires fits { FitsSlots fields.now (access_operands mode) }
+    ensures mode { mode_of result.addressing ≡ mode }
+    ensures fields { pos result.v ∷ pos result.rs1 ∷ (offset_fields result.addressing ++ (pos (bit_of result.vm) ∷ [])) ≡ fields.now }
+{
+    match mode {
+        AddressMode::UnitStride => Access {
+            v: vector_at(fields, 0),
+            rs1: integer_at(fields, 1),
+            addressing: Addressing::UnitStride,
+            vm: flag_at(fields, 2),
+        },
+        AddressMode::Strided => Access {
+            v: vector_at(fields, 0),
+            rs1: integer_at(fields, 1),
+            addressing: Addressing::Strided {
+                rs2: integer_at(fields, 2),
+            },
+            vm: flag_at(fields, 3),
+        },
+        AddressMode::Indexed => Access {
+            v: vector_at(fields, 0),
+            rs1: integer_at(fields, 1),
+            addressing: Addressing::Indexed {
+                vs2: vector_at(fields, 2),
+            },
+            vm: flag_at(fields, 3),
+        },
     }
 }
 

@@ -1,13 +1,14 @@
 //! The numbers in an instruction's fields.
 
-ghost use Rattle.std.specs.Prelude.{◌≡◌, ◌<◌, ◌≤◌, pos, length, slice_set, [], ◌∷◌};
+ghost use Rattle.std.specs.Prelude.{◌≡◌, ◌<◌, ◌≤◌, pos, length, slice_set, [], ◌∷◌, ◌++◌};
 ghost use Rattle.rv_insn.specs.Encoding.{bit_of};
+ghost use Rattle.rv_insn.specs.Addressing.{offset_fields};
 ghost use Rattle.rv_insn.specs.Meaning.{fields_of};
 ghost use Rattle.rv_insn.specs.VectorMeaning.{vector_fields_of};
 ghost use Rattle.mnemonics.specs.Slots as spec;
 
 use crate::forms::{Form, VectorForm};
-use rv_insn::{Insn, Reg, VReg, VectorInsn};
+use rv_insn::{AddressMode, Addressing, Insn, Reg, VReg, VectorInsn};
 use std::marker::Model;
 
 /// The numbers in the fields of a row of the instruction table, in the row's order: at most 5. A
@@ -249,40 +250,35 @@ impl Fields {
             VectorInsn::Vsetvl { rd, rs1, rs2 } => {
                 Fields::three(integer(rd), integer(rs1), integer(rs2))
             }
-            VectorInsn::LoadUnit { vd, rs1, vm, .. } => {
-                Fields::three(vector(vd), integer(rs1), bit(vm))
+            VectorInsn::LoadElements {
+                vd: v,
+                rs1,
+                addressing,
+                vm,
+                ..
             }
-            VectorInsn::StoreUnit { vs3, rs1, vm, .. } => {
-                Fields::three(vector(vs3), integer(rs1), bit(vm))
-            }
-            VectorInsn::LoadStrided {
-                vd,
+            | VectorInsn::StoreElements {
+                vs3: v,
                 rs1,
-                rs2,
+                addressing,
                 vm,
                 ..
-            } => Fields::four(vector(vd), integer(rs1), integer(rs2), bit(vm)),
-            VectorInsn::StoreStrided {
-                vs3,
-                rs1,
-                rs2,
-                vm,
-                ..
-            } => Fields::four(vector(vs3), integer(rs1), integer(rs2), bit(vm)),
-            VectorInsn::LoadIndexed {
-                vd,
-                rs1,
-                vs2,
-                vm,
-                ..
-            } => Fields::four(vector(vd), integer(rs1), vector(vs2), bit(vm)),
-            VectorInsn::StoreIndexed {
-                vs3,
-                rs1,
-                vs2,
-                vm,
-                ..
-            } => Fields::four(vector(vs3), integer(rs1), vector(vs2), bit(vm)),
+            } => access_fields(v, rs1, addressing, vm),
+        }
+    }
+}
+
+// The numbers in the fields of a load or store of elements.
+fn access_fields(v: VReg, rs1: Reg, addressing: Addressing, vm: bool) -> Fields
+    ensures { result ≡ pos v ∷ pos rs1 ∷ (offset_fields addressing ++ (pos (bit_of vm) ∷ [])) }
+{
+    match addressing {
+        Addressing::UnitStride => Fields::three(vector(v), integer(rs1), bit(vm)),
+        Addressing::Strided { rs2 } => {
+            Fields::four(vector(v), integer(rs1), integer(rs2), bit(vm))
+        }
+        Addressing::Indexed { vs2 } => {
+            Fields::four(vector(v), integer(rs1), vector(vs2), bit(vm))
         }
     }
 }
@@ -345,10 +341,21 @@ impl VectorForm {
             VectorForm::Vsetvli | VectorForm::Vsetivli | VectorForm::Vsetvl => {
                 Fields::three(0, 0, 0)
             }
-            VectorForm::ExtendBytes | VectorForm::LoadUnit(_) | VectorForm::StoreUnit(_) => {
-                Fields::three(0, 0, 1)
+            VectorForm::ExtendBytes => Fields::three(0, 0, 1),
+            VectorForm::LoadElements(mode, _) | VectorForm::StoreElements(mode, _) => {
+                access_blank(mode)
             }
             _ => Fields::four(0, 0, 0, 1),
         }
+    }
+}
+
+// The fields of a load or store of elements before any operand is read.
+fn access_blank(mode: AddressMode) -> Fields
+    ensures { result ≡ spec.access_blank mode }
+{
+    match mode {
+        AddressMode::UnitStride => Fields::three(0, 0, 1),
+        _ => Fields::four(0, 0, 0, 1),
     }
 }

@@ -8,14 +8,13 @@ use crate::names::{
 };
 use crate::vector_names::{
     arithmetic_vi_mnemonic, arithmetic_vv_mnemonic, arithmetic_vx_mnemonic, compare_vi_mnemonic,
-    compare_vv_mnemonic, compare_vx_mnemonic, indexed_load_mnemonic, indexed_store_mnemonic,
-    multiply_vv_mnemonic, multiply_vx_mnemonic, reduction_mnemonic, shift_vi_mnemonic,
-    strided_load_mnemonic, strided_store_mnemonic, unit_load_mnemonic, unit_store_mnemonic,
+    compare_vv_mnemonic, compare_vx_mnemonic, load_elements_mnemonic, multiply_vv_mnemonic,
+    multiply_vx_mnemonic, reduction_mnemonic, shift_vi_mnemonic, store_elements_mnemonic,
 };
 use rv_insn::{
-    AluImmOp, AluOp, ArithmeticViOp, ArithmeticVvOp, ArithmeticVxOp, BranchOp, CompareViOp,
-    CompareVvOp, CompareVxOp, ElementWidth, Insn, LoadOp, MultiplyOp, ReductionOp, ShiftOp,
-    ShiftViOp, StoreOp, VectorInsn,
+    AddressMode, AluImmOp, AluOp, ArithmeticViOp, ArithmeticVvOp, ArithmeticVxOp, BranchOp,
+    CompareViOp, CompareVvOp, CompareVxOp, ElementWidth, Insn, LoadOp, MultiplyOp, ReductionOp,
+    ShiftOp, ShiftViOp, StoreOp, VectorInsn,
 };
 
 /// An instruction without its operands: what a mnemonic names. Each is a row of the instruction table,
@@ -65,12 +64,8 @@ pub enum VectorForm {
     Vsetvli,
     Vsetivli,
     Vsetvl,
-    LoadUnit(ElementWidth),
-    LoadStrided(ElementWidth),
-    LoadIndexed(ElementWidth),
-    StoreUnit(ElementWidth),
-    StoreStrided(ElementWidth),
-    StoreIndexed(ElementWidth),
+    LoadElements(AddressMode, ElementWidth),
+    StoreElements(AddressMode, ElementWidth),
 }
 
 impl Form {
@@ -162,12 +157,16 @@ impl VectorForm {
             VectorInsn::Vsetvli { .. } => VectorForm::Vsetvli,
             VectorInsn::Vsetivli { .. } => VectorForm::Vsetivli,
             VectorInsn::Vsetvl { .. } => VectorForm::Vsetvl,
-            VectorInsn::LoadUnit { width, .. } => VectorForm::LoadUnit(width),
-            VectorInsn::LoadStrided { width, .. } => VectorForm::LoadStrided(width),
-            VectorInsn::LoadIndexed { width, .. } => VectorForm::LoadIndexed(width),
-            VectorInsn::StoreUnit { width, .. } => VectorForm::StoreUnit(width),
-            VectorInsn::StoreStrided { width, .. } => VectorForm::StoreStrided(width),
-            VectorInsn::StoreIndexed { width, .. } => VectorForm::StoreIndexed(width),
+            VectorInsn::LoadElements {
+                width,
+                addressing,
+                ..
+            } => VectorForm::LoadElements(addressing.mode(), width),
+            VectorInsn::StoreElements {
+                width,
+                addressing,
+                ..
+            } => VectorForm::StoreElements(addressing.mode(), width),
         }
     }
 
@@ -199,12 +198,8 @@ impl VectorForm {
             VectorForm::Vsetvli => "vsetvli",
             VectorForm::Vsetivli => "vsetivli",
             VectorForm::Vsetvl => "vsetvl",
-            VectorForm::LoadUnit(width) => unit_load_mnemonic(width),
-            VectorForm::LoadStrided(width) => strided_load_mnemonic(width),
-            VectorForm::LoadIndexed(width) => indexed_load_mnemonic(width),
-            VectorForm::StoreUnit(width) => unit_store_mnemonic(width),
-            VectorForm::StoreStrided(width) => strided_store_mnemonic(width),
-            VectorForm::StoreIndexed(width) => indexed_store_mnemonic(width),
+            VectorForm::LoadElements(mode, width) => load_elements_mnemonic(mode, width),
+            VectorForm::StoreElements(mode, width) => store_elements_mnemonic(mode, width),
         }
     }
 }

@@ -5,9 +5,9 @@ ghost use Rattle.mnemonics.specs.Named as spec;
 
 use crate::forms::{Form, VectorForm};
 use rv_insn::{
-    AluImmOp, AluOp, ArithmeticViOp, ArithmeticVvOp, ArithmeticVxOp, BranchOp, CompareViOp,
-    CompareVvOp, CompareVxOp, ElementWidth, LoadOp, MultiplyOp, ReductionOp, ShiftOp, ShiftViOp,
-    StoreOp,
+    AddressMode, AluImmOp, AluOp, ArithmeticViOp, ArithmeticVvOp, ArithmeticVxOp, BranchOp,
+    CompareViOp, CompareVvOp, CompareVxOp, ElementWidth, LoadOp, MultiplyOp, ReductionOp, ShiftOp,
+    ShiftViOp, StoreOp,
 };
 
 // Where the forms are to be looked for: groups by the mnemonic's first letter, and those that begin
@@ -190,24 +190,24 @@ const VI_FORMS: [Form; 14] = [
 
 // Mnemonics that begin with `v`, and end with `.v`.
 const V_FORMS: [Form; 20] = [
-    Form::Vector(VectorForm::LoadUnit(ElementWidth::Bits8)),
-    Form::Vector(VectorForm::LoadUnit(ElementWidth::Bits16)),
-    Form::Vector(VectorForm::LoadUnit(ElementWidth::Bits32)),
-    Form::Vector(VectorForm::LoadStrided(ElementWidth::Bits8)),
-    Form::Vector(VectorForm::LoadStrided(ElementWidth::Bits16)),
-    Form::Vector(VectorForm::LoadStrided(ElementWidth::Bits32)),
-    Form::Vector(VectorForm::LoadIndexed(ElementWidth::Bits8)),
-    Form::Vector(VectorForm::LoadIndexed(ElementWidth::Bits16)),
-    Form::Vector(VectorForm::LoadIndexed(ElementWidth::Bits32)),
-    Form::Vector(VectorForm::StoreUnit(ElementWidth::Bits8)),
-    Form::Vector(VectorForm::StoreUnit(ElementWidth::Bits16)),
-    Form::Vector(VectorForm::StoreUnit(ElementWidth::Bits32)),
-    Form::Vector(VectorForm::StoreStrided(ElementWidth::Bits8)),
-    Form::Vector(VectorForm::StoreStrided(ElementWidth::Bits16)),
-    Form::Vector(VectorForm::StoreStrided(ElementWidth::Bits32)),
-    Form::Vector(VectorForm::StoreIndexed(ElementWidth::Bits8)),
-    Form::Vector(VectorForm::StoreIndexed(ElementWidth::Bits16)),
-    Form::Vector(VectorForm::StoreIndexed(ElementWidth::Bits32)),
+    Form::Vector(VectorForm::LoadElements(AddressMode::UnitStride, ElementWidth::Bits8)),
+    Form::Vector(VectorForm::LoadElements(AddressMode::UnitStride, ElementWidth::Bits16)),
+    Form::Vector(VectorForm::LoadElements(AddressMode::UnitStride, ElementWidth::Bits32)),
+    Form::Vector(VectorForm::LoadElements(AddressMode::Strided, ElementWidth::Bits8)),
+    Form::Vector(VectorForm::LoadElements(AddressMode::Strided, ElementWidth::Bits16)),
+    Form::Vector(VectorForm::LoadElements(AddressMode::Strided, ElementWidth::Bits32)),
+    Form::Vector(VectorForm::LoadElements(AddressMode::Indexed, ElementWidth::Bits8)),
+    Form::Vector(VectorForm::LoadElements(AddressMode::Indexed, ElementWidth::Bits16)),
+    Form::Vector(VectorForm::LoadElements(AddressMode::Indexed, ElementWidth::Bits32)),
+    Form::Vector(VectorForm::StoreElements(AddressMode::UnitStride, ElementWidth::Bits8)),
+    Form::Vector(VectorForm::StoreElements(AddressMode::UnitStride, ElementWidth::Bits16)),
+    Form::Vector(VectorForm::StoreElements(AddressMode::UnitStride, ElementWidth::Bits32)),
+    Form::Vector(VectorForm::StoreElements(AddressMode::Strided, ElementWidth::Bits8)),
+    Form::Vector(VectorForm::StoreElements(AddressMode::Strided, ElementWidth::Bits16)),
+    Form::Vector(VectorForm::StoreElements(AddressMode::Strided, ElementWidth::Bits32)),
+    Form::Vector(VectorForm::StoreElements(AddressMode::Indexed, ElementWidth::Bits8)),
+    Form::Vector(VectorForm::StoreElements(AddressMode::Indexed, ElementWidth::Bits16)),
+    Form::Vector(VectorForm::StoreElements(AddressMode::Indexed, ElementWidth::Bits32)),
     Form::Vector(VectorForm::MoveVv),
     Form::Vector(VectorForm::ElementNumbers),
 ];

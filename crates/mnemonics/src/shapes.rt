@@ -5,6 +5,7 @@ ghost use Rattle.mnemonics.specs.Slots as spec;
 
 use crate::forms::{Form, VectorForm};
 use crate::slots::Slot;
+use rv_insn::AddressMode;
 
 // A signed immediate of 5 bits, and a shift's amount.
 const IMMEDIATE: Slot = Slot::Number {
@@ -190,9 +191,20 @@ impl VectorForm {
             VectorForm::Vsetvli => &VSETVLI,
             VectorForm::Vsetivli => &VSETIVLI,
             VectorForm::Vsetvl => &VSETVL,
-            VectorForm::LoadUnit(_) | VectorForm::StoreUnit(_) => &UNIT,
-            VectorForm::LoadStrided(_) | VectorForm::StoreStrided(_) => &STRIDED,
-            VectorForm::LoadIndexed(_) | VectorForm::StoreIndexed(_) => &INDEXED,
+            VectorForm::LoadElements(mode, _) | VectorForm::StoreElements(mode, _) => {
+                access_shape(mode)
+            }
         }
+    }
+}
+
+// How the operands of a load or store are written.
+fn access_shape(mode: AddressMode) -> &'static [Slot]
+    ensures { result.now ≡ spec.access_operands mode }
+{
+    match mode {
+        AddressMode::UnitStride => &UNIT,
+        AddressMode::Strided => &STRIDED,
+        AddressMode::Indexed => &INDEXED,
     }
 }

@@ -1,11 +1,11 @@
 //! The mnemonics of each group of vector operations.
 
 ghost use Rattle.std.specs.Prelude.{◌≡◌};
-ghost use Rattle.rv_insn.specs.VectorMeaning.{arithmetic_vv_name, arithmetic_vx_name, arithmetic_vi_name, shift_vi_name, compare_vv_name, compare_vx_name, compare_vi_name, multiply_vv_name, multiply_vx_name, reduction_name, unit_load_name, strided_load_name, indexed_load_name, unit_store_name, strided_store_name, indexed_store_name};
+ghost use Rattle.rv_insn.specs.VectorMeaning.{arithmetic_vv_name, arithmetic_vx_name, arithmetic_vi_name, shift_vi_name, compare_vv_name, compare_vx_name, compare_vi_name, multiply_vv_name, multiply_vx_name, reduction_name, load_elements_name, store_elements_name};
 
 use rv_insn::{
-    ArithmeticViOp, ArithmeticVvOp, ArithmeticVxOp, CompareViOp, CompareVvOp, CompareVxOp,
-    ElementWidth, MultiplyOp, ReductionOp, ShiftViOp,
+    AddressMode, ArithmeticViOp, ArithmeticVvOp, ArithmeticVxOp, CompareViOp, CompareVvOp,
+    CompareVxOp, ElementWidth, MultiplyOp, ReductionOp, ShiftViOp,
 };
 
 /// The mnemonic of an operation on two vector registers.
@@ -162,68 +162,36 @@ pub fn reduction_mnemonic(op: ReductionOp) -> &'static str
     }
 }
 
-/// The mnemonic of a load of neighbouring elements.
-pub fn unit_load_mnemonic(width: ElementWidth) -> &'static str
-    ensures { result.now ≡ unit_load_name width }
+/// The mnemonic of a load of elements.
+pub fn load_elements_mnemonic(mode: AddressMode, width: ElementWidth) -> &'static str
+    ensures { result.now ≡ load_elements_name mode width }
 {
-    match width {
-        ElementWidth::Bits8 => "vle8.v",
-        ElementWidth::Bits16 => "vle16.v",
-        ElementWidth::Bits32 => "vle32.v",
+    match (mode, width) {
+        (AddressMode::UnitStride, ElementWidth::Bits8) => "vle8.v",
+        (AddressMode::UnitStride, ElementWidth::Bits16) => "vle16.v",
+        (AddressMode::UnitStride, ElementWidth::Bits32) => "vle32.v",
+        (AddressMode::Strided, ElementWidth::Bits8) => "vlse8.v",
+        (AddressMode::Strided, ElementWidth::Bits16) => "vlse16.v",
+        (AddressMode::Strided, ElementWidth::Bits32) => "vlse32.v",
+        (AddressMode::Indexed, ElementWidth::Bits8) => "vluxei8.v",
+        (AddressMode::Indexed, ElementWidth::Bits16) => "vluxei16.v",
+        (AddressMode::Indexed, ElementWidth::Bits32) => "vluxei32.v",
     }
 }
 
-/// The mnemonic of a load of elements at a distance.
-pub fn strided_load_mnemonic(width: ElementWidth) -> &'static str
-    ensures { result.now ≡ strided_load_name width }
+/// The mnemonic of a store of elements.
+pub fn store_elements_mnemonic(mode: AddressMode, width: ElementWidth) -> &'static str
+    ensures { result.now ≡ store_elements_name mode width }
 {
-    match width {
-        ElementWidth::Bits8 => "vlse8.v",
-        ElementWidth::Bits16 => "vlse16.v",
-        ElementWidth::Bits32 => "vlse32.v",
-    }
-}
-
-/// The mnemonic of a load of elements at offsets.
-pub fn indexed_load_mnemonic(width: ElementWidth) -> &'static str
-    ensures { result.now ≡ indexed_load_name width }
-{
-    match width {
-        ElementWidth::Bits8 => "vluxei8.v",
-        ElementWidth::Bits16 => "vluxei16.v",
-        ElementWidth::Bits32 => "vluxei32.v",
-    }
-}
-
-/// The mnemonic of a store of neighbouring elements.
-pub fn unit_store_mnemonic(width: ElementWidth) -> &'static str
-    ensures { result.now ≡ unit_store_name width }
-{
-    match width {
-        ElementWidth::Bits8 => "vse8.v",
-        ElementWidth::Bits16 => "vse16.v",
-        ElementWidth::Bits32 => "vse32.v",
-    }
-}
-
-/// The mnemonic of a store of elements at a distance.
-pub fn strided_store_mnemonic(width: ElementWidth) -> &'static str
-    ensures { result.now ≡ strided_store_name width }
-{
-    match width {
-        ElementWidth::Bits8 => "vsse8.v",
-        ElementWidth::Bits16 => "vsse16.v",
-        ElementWidth::Bits32 => "vsse32.v",
-    }
-}
-
-/// The mnemonic of a store of elements at offsets.
-pub fn indexed_store_mnemonic(width: ElementWidth) -> &'static str
-    ensures { result.now ≡ indexed_store_name width }
-{
-    match width {
-        ElementWidth::Bits8 => "vsuxei8.v",
-        ElementWidth::Bits16 => "vsuxei16.v",
-        ElementWidth::Bits32 => "vsuxei32.v",
+    match (mode, width) {
+        (AddressMode::UnitStride, ElementWidth::Bits8) => "vse8.v",
+        (AddressMode::UnitStride, ElementWidth::Bits16) => "vse16.v",
+        (AddressMode::UnitStride, ElementWidth::Bits32) => "vse32.v",
+        (AddressMode::Strided, ElementWidth::Bits8) => "vsse8.v",
+        (AddressMode::Strided, ElementWidth::Bits16) => "vsse16.v",
+        (AddressMode::Strided, ElementWidth::Bits32) => "vsse32.v",
+        (AddressMode::Indexed, ElementWidth::Bits8) => "vsuxei8.v",
+        (AddressMode::Indexed, ElementWidth::Bits16) => "vsuxei16.v",
+        (AddressMode::Indexed, ElementWidth::Bits32) => "vsuxei32.v",
     }
 }

@@ -1,14 +1,13 @@
 -- A hart that isn't running rests: its turns change nothing, however many.
-use Rattle.std.proofs.Common.{◌≡◌, ℕ, zero, suc, ◌+◌, ◌-◌, ◌<◌, ◌≤◌, List, [], ◌∷◌, ◌++◌, length, get_or, set, replicate, Some, refl, ap, sym, subst, ◌∙◌, arith}
+use Rattle.std.proofs.Common.{◌≡◌, ℕ, zero, suc, ◌+◌, ◌-◌, ◌<◌, ◌≤◌, List, [], ◌∷◌, ◌++◌, length, replicate, Some, refl, ap, sym, ◌∙◌, arith}
 use Rattle.std.specs.Prelude.{◌≢◌, slice_get}
 use Rattle.std.proofs.lemmas.List.{set-get_or, replicate-append-replicate, replicate_more}
 use Rattle.std.proofs.lemmas.Option.{slice_get-get_or}
-use Rattle.rv_insn.specs.declared.outcomes.Outcome.{Outcome}
 use Rattle.rv_insn.specs.declared.outcomes.Outcome.TheVariants.{Idle}
 use Rattle.hart_core.specs.declared.harts.Status.{Status}
 use Rattle.hart_core.specs.declared.harts.Status.TheVariants.{Running, Finished, Trapped}
 use Rattle.hart_core.specs.HartState.{HartState, opening_hart}
-use Rattle.hart_core.specs.Turn.{Next, Rests, if_running, next_of, made, effect, applied, step}
+use Rattle.hart_core.specs.Turn.{Next, Rests, if_running, made, applied, step}
 use Rattle.multi_hart.proofs.TurnByTurn.{run-push}
 use Rattle.multi_hart.specs.Run.{State, turn, turned, told, put_back, outcome, run, hart_at}
 

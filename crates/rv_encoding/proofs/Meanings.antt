@@ -1,34 +1,14 @@
 -- What a word means, both ways: the literal table against the rows by cases, and those against `decoded`.
-use Rattle.std.proofs.Common.{◌≡◌, ℕ, ◌^◌, ◌<◌, List, refl, sym, ◌∙◌, ap, arith, lit<, subst, Option, Some, None, true, false, cond, nat_eq}
+use Rattle.std.proofs.Common.{◌≡◌, ℕ, ◌^◌, ◌<◌, List, refl, sym, ◌∙◌, ap, arith, lit<, subst, Option, Some, None}
 use Rattle.std.specs.Prelude.{Contains, IfSome, IfNone, map, find}
 use Rattle.std.specs.Str.{bytes_eq}
-use Rattle.std.proofs.lemmas.Bool.{eqb-true}
 use Rattle.rv_insn.specs.Encoding.{Holds, field_of, Row}
 use Rattle.rv_insn.specs.Table.{table, scalar_table, r_type, i_type, s_type, b_type, u_type, j_type, amo_type, whole_word}
 use Rattle.rv_insn.specs.Meaning.{name_of, fields_of, Means}
 use Rattle.rv_insn.specs.declared.instructions.Insn.{Insn}
 use Rattle.rv_insn.specs.declared.instructions.Insn.TheVariants.{Lui, Auipc, Jal, Jalr, Branch, Load, Store, AluImm, Shift, Alu, AmoaddW, Fence, Ecall, Ebreak, Vector}
-use Rattle.rv_insn.specs.declared.operations.BranchOp.TheVariants as branches
-use Rattle.rv_insn.specs.declared.operations.LoadOp.TheVariants as loads
-use Rattle.rv_insn.specs.declared.operations.StoreOp.TheVariants as stores
-use Rattle.rv_insn.specs.declared.operations.AluImmOp.TheVariants as alu_imms
 use Rattle.rv_insn.specs.declared.operations.ShiftOp.{ShiftOp}
-use Rattle.rv_insn.specs.declared.operations.ShiftOp.TheVariants as shifts
-use Rattle.rv_insn.specs.declared.operations.AluOp.TheVariants as alus
-use Rattle.rv_insn.specs.declared.vector_operations.ArithmeticVvOp.TheVariants as arithmetic_vvs
-use Rattle.rv_insn.specs.declared.vector_operations.ArithmeticVxOp.TheVariants as arithmetic_vxs
-use Rattle.rv_insn.specs.declared.vector_operations.ArithmeticViOp.TheVariants as arithmetic_vis
-use Rattle.rv_insn.specs.declared.vector_operations.ShiftViOp.TheVariants as shift_vis
-use Rattle.rv_insn.specs.declared.vector_operations.CompareVvOp.TheVariants as compare_vvs
-use Rattle.rv_insn.specs.declared.vector_operations.CompareVxOp.TheVariants as compare_vxs
-use Rattle.rv_insn.specs.declared.vector_operations.CompareViOp.TheVariants as compare_vis
-use Rattle.rv_insn.specs.declared.vector_operations.MultiplyOp.TheVariants as multiplies
-use Rattle.rv_insn.specs.declared.vector_operations.ReductionOp.TheVariants as reductions
-use Rattle.rv_insn.specs.declared.vector_operations.ElementWidth.TheVariants as widths
-use Rattle.rv_insn.specs.declared.vector_instructions.VectorInsn.{VectorInsn}
-use Rattle.rv_insn.specs.declared.vector_instructions.VectorInsn.TheVariants as v
 use Rattle.rv_insn.specs.VectorTable.{vector_table}
-use Rattle.rv_insn.specs.VectorMeaning.{vector_name_of}
 use Rattle.rv_encoding.specs.Operations.{branch_funct3, branch_of, load_funct3, load_of, store_funct3, store_of, alu_imm_funct3, alu_imm_of, shift_funct3, shift_funct7, shift_of, alu_funct3, alu_funct7, alu_of}
 use Rattle.rv_encoding.specs.Formats.{Stands, shape_of, StandsFor}
 use Rattle.rv_encoding.specs.Decoding.{part, rd_of, rs1_of, rs2_of, i_immediate_of, s_immediate_of, b_offset_of, with_op, op_imm_from, op_imm_in, decoded}
@@ -49,160 +29,7 @@ row_of insn = record (shape_of insn) { name = name_of insn }
 
 pub row_named-name_of : (insn : Insn) → row_named (name_of insn) ≡ Some (row_of insn)
 unfolding table scalar_table vector_table r_type i_type s_type b_type u_type j_type amo_type whole_word
-row_named-name_of (Lui rd imm) = refl
-row_named-name_of (Auipc rd imm) = refl
-row_named-name_of (Jal rd offset) = refl
-row_named-name_of (Jalr rd rs1 imm) = refl
-row_named-name_of (Branch branches.Beq rs1 rs2 offset) = refl
-row_named-name_of (Branch branches.Bne rs1 rs2 offset) = refl
-row_named-name_of (Branch branches.Blt rs1 rs2 offset) = refl
-row_named-name_of (Branch branches.Bge rs1 rs2 offset) = refl
-row_named-name_of (Branch branches.Bltu rs1 rs2 offset) = refl
-row_named-name_of (Branch branches.Bgeu rs1 rs2 offset) = refl
-row_named-name_of (Load loads.Lb rd rs1 imm) = refl
-row_named-name_of (Load loads.Lh rd rs1 imm) = refl
-row_named-name_of (Load loads.Lw rd rs1 imm) = refl
-row_named-name_of (Load loads.Lbu rd rs1 imm) = refl
-row_named-name_of (Load loads.Lhu rd rs1 imm) = refl
-row_named-name_of (Store stores.Sb rs1 rs2 imm) = refl
-row_named-name_of (Store stores.Sh rs1 rs2 imm) = refl
-row_named-name_of (Store stores.Sw rs1 rs2 imm) = refl
-row_named-name_of (AluImm alu_imms.Addi rd rs1 imm) = refl
-row_named-name_of (AluImm alu_imms.Slti rd rs1 imm) = refl
-row_named-name_of (AluImm alu_imms.Sltiu rd rs1 imm) = refl
-row_named-name_of (AluImm alu_imms.Xori rd rs1 imm) = refl
-row_named-name_of (AluImm alu_imms.Ori rd rs1 imm) = refl
-row_named-name_of (AluImm alu_imms.Andi rd rs1 imm) = refl
-row_named-name_of (Shift shifts.Slli rd rs1 amount) = refl
-row_named-name_of (Shift shifts.Srli rd rs1 amount) = refl
-row_named-name_of (Shift shifts.Srai rd rs1 amount) = refl
-row_named-name_of (Alu alus.Add rd rs1 rs2) = refl
-row_named-name_of (Alu alus.Sub rd rs1 rs2) = refl
-row_named-name_of (Alu alus.Sll rd rs1 rs2) = refl
-row_named-name_of (Alu alus.Slt rd rs1 rs2) = refl
-row_named-name_of (Alu alus.Sltu rd rs1 rs2) = refl
-row_named-name_of (Alu alus.Xor rd rs1 rs2) = refl
-row_named-name_of (Alu alus.Srl rd rs1 rs2) = refl
-row_named-name_of (Alu alus.Sra rd rs1 rs2) = refl
-row_named-name_of (Alu alus.Or rd rs1 rs2) = refl
-row_named-name_of (Alu alus.And rd rs1 rs2) = refl
-row_named-name_of (Alu alus.Mul rd rs1 rs2) = refl
-row_named-name_of (Alu alus.Mulh rd rs1 rs2) = refl
-row_named-name_of (Alu alus.Mulhsu rd rs1 rs2) = refl
-row_named-name_of (Alu alus.Mulhu rd rs1 rs2) = refl
-row_named-name_of (Alu alus.Div rd rs1 rs2) = refl
-row_named-name_of (Alu alus.Divu rd rs1 rs2) = refl
-row_named-name_of (Alu alus.Rem rd rs1 rs2) = refl
-row_named-name_of (Alu alus.Remu rd rs1 rs2) = refl
-row_named-name_of (AmoaddW rd rs1 rs2 aq rl) = refl
-row_named-name_of Fence = refl
-row_named-name_of Ecall = refl
-row_named-name_of Ebreak = refl
-row_named-name_of (Vector (v.ArithmeticVv arithmetic_vvs.Vadd vd vs2 vs1 vm)) = refl
-row_named-name_of (Vector (v.ArithmeticVv arithmetic_vvs.Vsub vd vs2 vs1 vm)) = refl
-row_named-name_of (Vector (v.ArithmeticVv arithmetic_vvs.Vminu vd vs2 vs1 vm)) = refl
-row_named-name_of (Vector (v.ArithmeticVv arithmetic_vvs.Vmin vd vs2 vs1 vm)) = refl
-row_named-name_of (Vector (v.ArithmeticVv arithmetic_vvs.Vmaxu vd vs2 vs1 vm)) = refl
-row_named-name_of (Vector (v.ArithmeticVv arithmetic_vvs.Vmax vd vs2 vs1 vm)) = refl
-row_named-name_of (Vector (v.ArithmeticVv arithmetic_vvs.Vand vd vs2 vs1 vm)) = refl
-row_named-name_of (Vector (v.ArithmeticVv arithmetic_vvs.Vor vd vs2 vs1 vm)) = refl
-row_named-name_of (Vector (v.ArithmeticVv arithmetic_vvs.Vxor vd vs2 vs1 vm)) = refl
-row_named-name_of (Vector (v.ArithmeticVv arithmetic_vvs.Vsll vd vs2 vs1 vm)) = refl
-row_named-name_of (Vector (v.ArithmeticVv arithmetic_vvs.Vsrl vd vs2 vs1 vm)) = refl
-row_named-name_of (Vector (v.ArithmeticVv arithmetic_vvs.Vsra vd vs2 vs1 vm)) = refl
-row_named-name_of (Vector (v.ArithmeticVx arithmetic_vxs.Vadd vd vs2 rs1 vm)) = refl
-row_named-name_of (Vector (v.ArithmeticVx arithmetic_vxs.Vsub vd vs2 rs1 vm)) = refl
-row_named-name_of (Vector (v.ArithmeticVx arithmetic_vxs.Vrsub vd vs2 rs1 vm)) = refl
-row_named-name_of (Vector (v.ArithmeticVx arithmetic_vxs.Vminu vd vs2 rs1 vm)) = refl
-row_named-name_of (Vector (v.ArithmeticVx arithmetic_vxs.Vmin vd vs2 rs1 vm)) = refl
-row_named-name_of (Vector (v.ArithmeticVx arithmetic_vxs.Vmaxu vd vs2 rs1 vm)) = refl
-row_named-name_of (Vector (v.ArithmeticVx arithmetic_vxs.Vmax vd vs2 rs1 vm)) = refl
-row_named-name_of (Vector (v.ArithmeticVx arithmetic_vxs.Vand vd vs2 rs1 vm)) = refl
-row_named-name_of (Vector (v.ArithmeticVx arithmetic_vxs.Vor vd vs2 rs1 vm)) = refl
-row_named-name_of (Vector (v.ArithmeticVx arithmetic_vxs.Vxor vd vs2 rs1 vm)) = refl
-row_named-name_of (Vector (v.ArithmeticVx arithmetic_vxs.Vsll vd vs2 rs1 vm)) = refl
-row_named-name_of (Vector (v.ArithmeticVx arithmetic_vxs.Vsrl vd vs2 rs1 vm)) = refl
-row_named-name_of (Vector (v.ArithmeticVx arithmetic_vxs.Vsra vd vs2 rs1 vm)) = refl
-row_named-name_of (Vector (v.ArithmeticVi arithmetic_vis.Vadd vd vs2 imm vm)) = refl
-row_named-name_of (Vector (v.ArithmeticVi arithmetic_vis.Vrsub vd vs2 imm vm)) = refl
-row_named-name_of (Vector (v.ArithmeticVi arithmetic_vis.Vand vd vs2 imm vm)) = refl
-row_named-name_of (Vector (v.ArithmeticVi arithmetic_vis.Vor vd vs2 imm vm)) = refl
-row_named-name_of (Vector (v.ArithmeticVi arithmetic_vis.Vxor vd vs2 imm vm)) = refl
-row_named-name_of (Vector (v.ShiftVi shift_vis.Vsll vd vs2 amount vm)) = refl
-row_named-name_of (Vector (v.ShiftVi shift_vis.Vsrl vd vs2 amount vm)) = refl
-row_named-name_of (Vector (v.ShiftVi shift_vis.Vsra vd vs2 amount vm)) = refl
-row_named-name_of (Vector (v.CompareVv compare_vvs.Vmseq vd vs2 vs1 vm)) = refl
-row_named-name_of (Vector (v.CompareVv compare_vvs.Vmsne vd vs2 vs1 vm)) = refl
-row_named-name_of (Vector (v.CompareVv compare_vvs.Vmsltu vd vs2 vs1 vm)) = refl
-row_named-name_of (Vector (v.CompareVv compare_vvs.Vmslt vd vs2 vs1 vm)) = refl
-row_named-name_of (Vector (v.CompareVv compare_vvs.Vmsleu vd vs2 vs1 vm)) = refl
-row_named-name_of (Vector (v.CompareVv compare_vvs.Vmsle vd vs2 vs1 vm)) = refl
-row_named-name_of (Vector (v.CompareVx compare_vxs.Vmseq vd vs2 rs1 vm)) = refl
-row_named-name_of (Vector (v.CompareVx compare_vxs.Vmsne vd vs2 rs1 vm)) = refl
-row_named-name_of (Vector (v.CompareVx compare_vxs.Vmsltu vd vs2 rs1 vm)) = refl
-row_named-name_of (Vector (v.CompareVx compare_vxs.Vmslt vd vs2 rs1 vm)) = refl
-row_named-name_of (Vector (v.CompareVx compare_vxs.Vmsleu vd vs2 rs1 vm)) = refl
-row_named-name_of (Vector (v.CompareVx compare_vxs.Vmsle vd vs2 rs1 vm)) = refl
-row_named-name_of (Vector (v.CompareVx compare_vxs.Vmsgtu vd vs2 rs1 vm)) = refl
-row_named-name_of (Vector (v.CompareVx compare_vxs.Vmsgt vd vs2 rs1 vm)) = refl
-row_named-name_of (Vector (v.CompareVi compare_vis.Vmseq vd vs2 imm vm)) = refl
-row_named-name_of (Vector (v.CompareVi compare_vis.Vmsne vd vs2 imm vm)) = refl
-row_named-name_of (Vector (v.CompareVi compare_vis.Vmsleu vd vs2 imm vm)) = refl
-row_named-name_of (Vector (v.CompareVi compare_vis.Vmsle vd vs2 imm vm)) = refl
-row_named-name_of (Vector (v.CompareVi compare_vis.Vmsgtu vd vs2 imm vm)) = refl
-row_named-name_of (Vector (v.CompareVi compare_vis.Vmsgt vd vs2 imm vm)) = refl
-row_named-name_of (Vector (v.MultiplyVv multiplies.Vdivu vd vs2 vs1 vm)) = refl
-row_named-name_of (Vector (v.MultiplyVv multiplies.Vdiv vd vs2 vs1 vm)) = refl
-row_named-name_of (Vector (v.MultiplyVv multiplies.Vremu vd vs2 vs1 vm)) = refl
-row_named-name_of (Vector (v.MultiplyVv multiplies.Vrem vd vs2 vs1 vm)) = refl
-row_named-name_of (Vector (v.MultiplyVv multiplies.Vmulhu vd vs2 vs1 vm)) = refl
-row_named-name_of (Vector (v.MultiplyVv multiplies.Vmul vd vs2 vs1 vm)) = refl
-row_named-name_of (Vector (v.MultiplyVv multiplies.Vmulhsu vd vs2 vs1 vm)) = refl
-row_named-name_of (Vector (v.MultiplyVv multiplies.Vmulh vd vs2 vs1 vm)) = refl
-row_named-name_of (Vector (v.MultiplyVx multiplies.Vdivu vd vs2 rs1 vm)) = refl
-row_named-name_of (Vector (v.MultiplyVx multiplies.Vdiv vd vs2 rs1 vm)) = refl
-row_named-name_of (Vector (v.MultiplyVx multiplies.Vremu vd vs2 rs1 vm)) = refl
-row_named-name_of (Vector (v.MultiplyVx multiplies.Vrem vd vs2 rs1 vm)) = refl
-row_named-name_of (Vector (v.MultiplyVx multiplies.Vmulhu vd vs2 rs1 vm)) = refl
-row_named-name_of (Vector (v.MultiplyVx multiplies.Vmul vd vs2 rs1 vm)) = refl
-row_named-name_of (Vector (v.MultiplyVx multiplies.Vmulhsu vd vs2 rs1 vm)) = refl
-row_named-name_of (Vector (v.MultiplyVx multiplies.Vmulh vd vs2 rs1 vm)) = refl
-row_named-name_of (Vector (v.Reduce reductions.Vredsum vd vs2 vs1 vm)) = refl
-row_named-name_of (Vector (v.Reduce reductions.Vredminu vd vs2 vs1 vm)) = refl
-row_named-name_of (Vector (v.Reduce reductions.Vredmin vd vs2 vs1 vm)) = refl
-row_named-name_of (Vector (v.Reduce reductions.Vredmaxu vd vs2 vs1 vm)) = refl
-row_named-name_of (Vector (v.Reduce reductions.Vredmax vd vs2 vs1 vm)) = refl
-row_named-name_of (Vector (v.MergeVv vd vs2 vs1)) = refl
-row_named-name_of (Vector (v.MergeVx vd vs2 rs1)) = refl
-row_named-name_of (Vector (v.MergeVi vd vs2 imm)) = refl
-row_named-name_of (Vector (v.MoveVv vd vs1)) = refl
-row_named-name_of (Vector (v.MoveVx vd rs1)) = refl
-row_named-name_of (Vector (v.MoveVi vd imm)) = refl
-row_named-name_of (Vector (v.MoveToScalar rd vs2)) = refl
-row_named-name_of (Vector (v.MoveFromScalar vd rs1)) = refl
-row_named-name_of (Vector (v.ElementNumbers vd vm)) = refl
-row_named-name_of (Vector (v.ExtendBytes vd vs2 vm)) = refl
-row_named-name_of (Vector (v.Vsetvli rd rs1 vtype)) = refl
-row_named-name_of (Vector (v.Vsetivli rd length vtype)) = refl
-row_named-name_of (Vector (v.Vsetvl rd rs1 rs2)) = refl
-row_named-name_of (Vector (v.LoadUnit widths.Bits8 vd rs1 vm)) = refl
-row_named-name_of (Vector (v.LoadUnit widths.Bits16 vd rs1 vm)) = refl
-row_named-name_of (Vector (v.LoadUnit widths.Bits32 vd rs1 vm)) = refl
-row_named-name_of (Vector (v.LoadStrided widths.Bits8 vd rs1 rs2 vm)) = refl
-row_named-name_of (Vector (v.LoadStrided widths.Bits16 vd rs1 rs2 vm)) = refl
-row_named-name_of (Vector (v.LoadStrided widths.Bits32 vd rs1 rs2 vm)) = refl
-row_named-name_of (Vector (v.LoadIndexed widths.Bits8 vd rs1 vs2 vm)) = refl
-row_named-name_of (Vector (v.LoadIndexed widths.Bits16 vd rs1 vs2 vm)) = refl
-row_named-name_of (Vector (v.LoadIndexed widths.Bits32 vd rs1 vs2 vm)) = refl
-row_named-name_of (Vector (v.StoreUnit widths.Bits8 vs3 rs1 vm)) = refl
-row_named-name_of (Vector (v.StoreUnit widths.Bits16 vs3 rs1 vm)) = refl
-row_named-name_of (Vector (v.StoreUnit widths.Bits32 vs3 rs1 vm)) = refl
-row_named-name_of (Vector (v.StoreStrided widths.Bits8 vs3 rs1 rs2 vm)) = refl
-row_named-name_of (Vector (v.StoreStrided widths.Bits16 vs3 rs1 rs2 vm)) = refl
-row_named-name_of (Vector (v.StoreStrided widths.Bits32 vs3 rs1 rs2 vm)) = refl
-row_named-name_of (Vector (v.StoreIndexed widths.Bits8 vs3 rs1 vs2 vm)) = refl
-row_named-name_of (Vector (v.StoreIndexed widths.Bits16 vs3 rs1 vs2 vm)) = refl
-row_named-name_of (Vector (v.StoreIndexed widths.Bits32 vs3 rs1 vs2 vm)) = refl
+row_named-name_of insn = grind arith
 
 Contains-row_of : (insn : Insn) → Contains table (row_of insn)
 Contains-row_of insn = Contains-find _ table (row_of insn) (row_named-name_of insn)

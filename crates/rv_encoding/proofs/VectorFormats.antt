@@ -1,6 +1,6 @@
 -- Each format of vector instructions both ways: a word with the right parts stands for a row, and the fields of a row that a
 -- word stands for are the word's.
-use Rattle.std.proofs.Common.{◌≡◌, ℕ, ◌+◌, ◌/◌, ◌%◌, ◌^◌, ◌<◌, List, [], ◌∷◌, sym, ◌∙◌, ap, arith, ℤ, pos, Bool}
+use Rattle.std.proofs.Common.{◌≡◌, ℕ, ◌+◌, ◌^◌, ◌<◌, List, [], ◌∷◌, sym, ◌∙◌, ap, arith, ℤ, pos, Bool}
 use Rattle.std.specs.Prelude.{map}
 use Rattle.rv_insn.specs.Encoding.{signed, Field, field_of, bit_of, span}
 use Rattle.rv_insn.specs.VectorTable as table

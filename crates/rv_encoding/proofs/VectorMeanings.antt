@@ -1,5 +1,5 @@
 -- What a word means among the vector instructions, both ways: the rows by cases against `decoded`.
-use Rattle.std.proofs.Common.{◌≡◌, ℕ, ◌/◌, ◌%◌, ◌^◌, ◌<◌, List, [], ◌∷◌, refl, sym, ◌∙◌, ap, arith, lit<, Option, Some, None, Bool, true, false, cond, nat_eq}
+use Rattle.std.proofs.Common.{◌≡◌, ℕ, [], ◌∷◌, refl, sym, arith, lit<, Option, Some, None, true, false, cond, nat_eq}
 use Rattle.std.specs.Prelude.{IfSome}
 use Rattle.std.proofs.lemmas.Bool.{eqb-true}
 use Rattle.rv_insn.specs.VectorMeaning.{vector_fields_of}
@@ -7,11 +7,13 @@ use Rattle.rv_insn.specs.declared.instructions.Insn.{Insn}
 use Rattle.rv_insn.specs.declared.instructions.Insn.TheVariants.{Vector}
 use Rattle.rv_insn.specs.declared.vector_instructions.VectorInsn.{VectorInsn}
 use Rattle.rv_insn.specs.declared.vector_instructions.VectorInsn.TheVariants as v
+use Rattle.rv_insn.specs.declared.vector_instructions.Addressing.{Addressing}
+use Rattle.rv_insn.specs.declared.vector_instructions.Addressing.TheVariants as addressings
 use Rattle.rv_insn.specs.declared.vector_operations.ElementWidth.{ElementWidth}
 use Rattle.rv_encoding.specs.Formats.{Stands, StandsFor, vector_shape_of}
-use Rattle.rv_encoding.specs.Decoding.{part, rd_of, rs1_of, rs2_of, vector_immediate_of, vtype10_of, vtype11_of, vm_of, with_op, op_or, merge_in, opivv_in, opivx_in, opivi_in, opmvv_in, opmvx_in, to_scalar_in, from_scalar_in, numbers_in, extended_in, config_in, vector_in, vector_load_in, load_unit_in, load_strided_in, load_indexed_in, vector_store_in, store_unit_in, store_strided_in, store_indexed_in, vector_by_opcode, by_keys, decoded}
+use Rattle.rv_encoding.specs.Decoding.{part, rd_of, rs1_of, rs2_of, vector_immediate_of, vtype10_of, vtype11_of, vm_of, with_op, op_or, merge_in, opivv_in, opivx_in, opivi_in, opmvv_in, opmvx_in, config_in, vector_in, addressing_in, with_both, vector_load_in, vector_store_in, decoded}
 use Rattle.rv_encoding.specs.VectorOperations.{arithmetic_vv_funct6, arithmetic_vv_of, arithmetic_vx_funct6, arithmetic_vx_of, arithmetic_vi_funct6, arithmetic_vi_of, shift_vi_funct6, shift_vi_of, compare_vv_funct6, compare_vv_of, compare_vx_funct6, compare_vx_of, compare_vi_funct6, compare_vi_of, multiply_funct6, multiply_of, reduction_funct6, reduction_of, width_funct3, width_of}
-use Rattle.rv_encoding.proofs.Bits.{PartsAre, parts_read}
+use Rattle.rv_encoding.proofs.Bits.{parts_read}
 use Rattle.rv_encoding.proofs.Formats.{bit_of-flag}
 use Rattle.rv_encoding.proofs.VectorFormats.{registers_made, immediate_made, merge_made, merge_immediate_made, move_made, move_immediate_made, to_scalar_made, from_scalar_made, numbers_made, extended_made, vsetvl_made, unit_made, offset_made, vsetvli_stands, vsetivli_stands, registers_read, immediate_read_back, merge_read, merge_immediate_read, move_read, move_immediate_read, to_scalar_read, numbers_read, extended_read, vsetvli_read, vsetivli_read, vsetvl_read, unit_read, offset_read}
 use Rattle.rv_encoding.proofs.VectorOperations.{arithmetic_vv_funct6-lt, arithmetic_vv_of-funct6, arithmetic_vv_found, arithmetic_vv_is_not_merge, arithmetic_vx_funct6-lt, arithmetic_vx_of-funct6, arithmetic_vx_found, arithmetic_vx_is_not_merge, arithmetic_vi_funct6-lt, arithmetic_vi_of-funct6, arithmetic_vi_found, arithmetic_vi_is_not_merge, shift_vi_funct6-lt, shift_vi_of-funct6, shift_vi_found, shift_vi_is_not_merge, compare_vv_funct6-lt, compare_vv_of-funct6, compare_vv_found, compare_vv_is_not_merge, compare_vx_funct6-lt, compare_vx_of-funct6, compare_vx_found, compare_vx_is_not_merge, compare_vi_funct6-lt, compare_vi_of-funct6, compare_vi_found, compare_vi_is_not_merge, multiply_funct6-lt, multiply_of-funct6, multiply_found, multiply_is_not_scalar_move, multiply_is_not_numbers, multiply_is_not_extended, reduction_funct6-lt, reduction_of-funct6, reduction_found, reduction_is_not_scalar_move, reduction_is_not_numbers, reduction_is_not_extended, compare_vv_is_no_arithmetic_vv, compare_vx_is_no_arithmetic_vx, shift_vi_is_no_arithmetic_vi, compare_vi_is_no_arithmetic_vi, compare_vi_is_no_shift_vi, multiply_is_no_reduction, width_funct3-lt, width_of-funct3, width_found}
@@ -138,41 +140,41 @@ vector_decoded word (v.Vsetvl rd rs1 rs2) h =
     let two : part word 30 2 ≡ 2 = omega (arith, p.1.1.0) in
     let same : Some (Vector (v.Vsetvl (rd_of word) (rs1_of word) (rs2_of word))) ≡ Some (Vector (v.Vsetvl rd rs1 rs2)) = cc in
     rw (p.0, p.1.0, top, two, p.1.1.0) same
-vector_decoded word (v.LoadUnit width vd rs1 vm) h =
+vector_decoded word (v.LoadElements width vd rs1 addressings.UnitStride vm) h =
     let p = parts_read word ((0, 7, 0b0000111) ∷ (12, 3, width_funct3 width) ∷ (28, 4, 0b0000) ∷ (26, 2, 0b00) ∷ (20, 5, 0) ∷ []) (lit< tt, (width_funct3-lt width, (lit< tt, (lit< tt, (lit< tt, tt))))) h.0 in
     let e = unit_read word vd rs1 vm h.1 in
-    let same : Some (Vector (v.LoadUnit width (rd_of word) (rs1_of word) (vm_of word))) ≡ Some (Vector (v.LoadUnit width vd rs1 vm)) = cc in
+    let same : Some (Vector (v.LoadElements width (rd_of word) (rs1_of word) addressings.UnitStride (vm_of word))) ≡ Some (Vector (v.LoadElements width vd rs1 addressings.UnitStride vm)) = cc in
     rw (p.0, p.1.0, p.1.1.0, p.1.1.1.0, p.1.1.1.1.0, width_of-funct3 width) same
-vector_decoded word (v.LoadStrided width vd rs1 rs2 vm) h =
+vector_decoded word (v.LoadElements width vd rs1 (addressings.Strided rs2) vm) h =
     let p = parts_read word ((0, 7, 0b0000111) ∷ (12, 3, width_funct3 width) ∷ (28, 4, 0b0000) ∷ (26, 2, 0b10) ∷ []) (lit< tt, (width_funct3-lt width, (lit< tt, (lit< tt, tt)))) h.0 in
     let e = offset_read word vd rs1 rs2 vm h.1 in
-    let same : Some (Vector (v.LoadStrided width (rd_of word) (rs1_of word) (rs2_of word) (vm_of word))) ≡ Some (Vector (v.LoadStrided width vd rs1 rs2 vm)) = cc in
+    let same : Some (Vector (v.LoadElements width (rd_of word) (rs1_of word) (addressings.Strided (rs2_of word)) (vm_of word))) ≡ Some (Vector (v.LoadElements width vd rs1 (addressings.Strided rs2) vm)) = cc in
     rw (p.0, p.1.0, p.1.1.0, p.1.1.1.0, width_of-funct3 width) same
-vector_decoded word (v.LoadIndexed width vd rs1 vs2 vm) h =
+vector_decoded word (v.LoadElements width vd rs1 (addressings.Indexed vs2) vm) h =
     let p = parts_read word ((0, 7, 0b0000111) ∷ (12, 3, width_funct3 width) ∷ (28, 4, 0b0000) ∷ (26, 2, 0b01) ∷ []) (lit< tt, (width_funct3-lt width, (lit< tt, (lit< tt, tt)))) h.0 in
     let e = offset_read word vd rs1 vs2 vm h.1 in
-    let same : Some (Vector (v.LoadIndexed width (rd_of word) (rs1_of word) (rs2_of word) (vm_of word))) ≡ Some (Vector (v.LoadIndexed width vd rs1 vs2 vm)) = cc in
+    let same : Some (Vector (v.LoadElements width (rd_of word) (rs1_of word) (addressings.Indexed (rs2_of word)) (vm_of word))) ≡ Some (Vector (v.LoadElements width vd rs1 (addressings.Indexed vs2) vm)) = cc in
     rw (p.0, p.1.0, p.1.1.0, p.1.1.1.0, width_of-funct3 width) same
-vector_decoded word (v.StoreUnit width vs3 rs1 vm) h =
+vector_decoded word (v.StoreElements width vs3 rs1 addressings.UnitStride vm) h =
     let p = parts_read word ((0, 7, 0b0100111) ∷ (12, 3, width_funct3 width) ∷ (28, 4, 0b0000) ∷ (26, 2, 0b00) ∷ (20, 5, 0) ∷ []) (lit< tt, (width_funct3-lt width, (lit< tt, (lit< tt, (lit< tt, tt))))) h.0 in
     let e = unit_read word vs3 rs1 vm h.1 in
-    let same : Some (Vector (v.StoreUnit width (rd_of word) (rs1_of word) (vm_of word))) ≡ Some (Vector (v.StoreUnit width vs3 rs1 vm)) = cc in
+    let same : Some (Vector (v.StoreElements width (rd_of word) (rs1_of word) addressings.UnitStride (vm_of word))) ≡ Some (Vector (v.StoreElements width vs3 rs1 addressings.UnitStride vm)) = cc in
     rw (p.0, p.1.0, p.1.1.0, p.1.1.1.0, p.1.1.1.1.0, width_of-funct3 width) same
-vector_decoded word (v.StoreStrided width vs3 rs1 rs2 vm) h =
+vector_decoded word (v.StoreElements width vs3 rs1 (addressings.Strided rs2) vm) h =
     let p = parts_read word ((0, 7, 0b0100111) ∷ (12, 3, width_funct3 width) ∷ (28, 4, 0b0000) ∷ (26, 2, 0b10) ∷ []) (lit< tt, (width_funct3-lt width, (lit< tt, (lit< tt, tt)))) h.0 in
     let e = offset_read word vs3 rs1 rs2 vm h.1 in
-    let same : Some (Vector (v.StoreStrided width (rd_of word) (rs1_of word) (rs2_of word) (vm_of word))) ≡ Some (Vector (v.StoreStrided width vs3 rs1 rs2 vm)) = cc in
+    let same : Some (Vector (v.StoreElements width (rd_of word) (rs1_of word) (addressings.Strided (rs2_of word)) (vm_of word))) ≡ Some (Vector (v.StoreElements width vs3 rs1 (addressings.Strided rs2) vm)) = cc in
     rw (p.0, p.1.0, p.1.1.0, p.1.1.1.0, width_of-funct3 width) same
-vector_decoded word (v.StoreIndexed width vs3 rs1 vs2 vm) h =
+vector_decoded word (v.StoreElements width vs3 rs1 (addressings.Indexed vs2) vm) h =
     let p = parts_read word ((0, 7, 0b0100111) ∷ (12, 3, width_funct3 width) ∷ (28, 4, 0b0000) ∷ (26, 2, 0b01) ∷ []) (lit< tt, (width_funct3-lt width, (lit< tt, (lit< tt, tt)))) h.0 in
     let e = offset_read word vs3 rs1 vs2 vm h.1 in
-    let same : Some (Vector (v.StoreIndexed width (rd_of word) (rs1_of word) (rs2_of word) (vm_of word))) ≡ Some (Vector (v.StoreIndexed width vs3 rs1 vs2 vm)) = cc in
+    let same : Some (Vector (v.StoreElements width (rd_of word) (rs1_of word) (addressings.Indexed (rs2_of word)) (vm_of word))) ≡ Some (Vector (v.StoreElements width vs3 rs1 (addressings.Indexed vs2) vm)) = cc in
     rw (p.0, p.1.0, p.1.1.0, p.1.1.1.0, width_of-funct3 width) same
 
 -- ---- and what is decoded stands for its instruction
 
 -- a group that is tried first, and what is tried after it
-pub tried : (a b : ℕ) (group rest : Option Insn) (P : Insn → Type 0) → (a ≡ b → IfSome group P) → IfSome rest P → IfSome (cond (nat_eq a b) group rest) P
+pub tried : {A : Type 0} (a b : ℕ) (group rest : Option A) (P : A → Type 0) → (a ≡ b → IfSome group P) → IfSome rest P → IfSome (cond (nat_eq a b) group rest) P
 tried a b group rest P h k = elim (nat_eq a b) as (λ t. (nat_eq a b ≡ t) → IfSome (cond t group rest) P) [ true ↦ λ e. h (eqb-true a b e) | false ↦ λ e. k ] refl
 
 pub with_found : {Op : Type 0} (make : Op → Insn) (o : Option Op) (P : Insn → Type 0) → ((op : Op) → o ≡ Some op → P (make op)) → IfSome (with_op make o) P
@@ -243,22 +245,28 @@ op_v_stands word o =
     tried (part word 12 3) 0b110 _ _ (StandsFor word) (opmvx_stands word o) (
     tried (part word 12 3) 0b111 _ _ (StandsFor word) (config_stands word o) tt)))))
 
+both_found : (make : ElementWidth → Addressing → Insn) (o : Option ElementWidth) (addressing : Option Addressing) (P : Insn → Type 0) → IfSome addressing (λ a. (width : ElementWidth) → o ≡ Some width → P (make width a)) → IfSome (with_both make o addressing) P
+both_found make None addressing P h = tt
+both_found make (Some width) None P h = tt
+both_found make (Some width) (Some addressing) P h = h width refl
+
+-- the addressings, one after the other
+addressed : (word : ℕ) (P : Addressing → Type 0) → (part word 26 2 ≡ 0b00 → part word 20 5 ≡ 0 → P addressings.UnitStride) → (part word 26 2 ≡ 0b10 → P (addressings.Strided (rs2_of word))) → (part word 26 2 ≡ 0b01 → P (addressings.Indexed (rs2_of word))) → IfSome (addressing_in (part word 26 2) (part word 20 5) word) P
+addressed word P unit strided indexed =
+    tried (part word 26 2) 0b00 _ _ P (λ mode. tried (part word 20 5) 0 _ _ P (λ last. unit mode last) tt)
+    (tried (part word 26 2) 0b10 _ _ P strided
+    (tried (part word 26 2) 0b01 _ _ P indexed tt))
+
 pub load_stands : (word : ℕ) → part word 0 7 ≡ 0b0000111 → IfSome (vector_load_in (part word 12 3) (part word 28 4) (part word 26 2) (part word 20 5) word) (StandsFor word)
 load_stands word o =
-    tried (part word 28 4) 0 _ _ (StandsFor word) (λ high.
-    tried (part word 26 2) 0b00 _ _ (StandsFor word) (λ mode. tried (part word 20 5) 0 _ _ (StandsFor word) (λ last. with_found _ (width_of (part word 12 3)) (StandsFor word)
-    (λ width e. unit_made word 0b0000111 (width_funct3 width) _ _ _ o (sym (width_found _ width e)) high mode last refl refl (bit_of-flag (part word 25 1) (omega arith)))) tt) (
-    tried (part word 26 2) 0b10 _ _ (StandsFor word) (λ mode. with_found _ (width_of (part word 12 3)) (StandsFor word)
-    (λ width e. offset_made word 0b0000111 (width_funct3 width) 0b10 _ _ _ _ o (sym (width_found _ width e)) high mode refl refl refl (bit_of-flag (part word 25 1) (omega arith)))) (
-    tried (part word 26 2) 0b01 _ _ (StandsFor word) (λ mode. with_found _ (width_of (part word 12 3)) (StandsFor word)
-    (λ width e. offset_made word 0b0000111 (width_funct3 width) 0b01 _ _ _ _ o (sym (width_found _ width e)) high mode refl refl refl (bit_of-flag (part word 25 1) (omega arith)))) tt))) tt
+    tried (part word 28 4) 0 _ _ (StandsFor word) (λ high. both_found _ (width_of (part word 12 3)) (addressing_in (part word 26 2) (part word 20 5) word) (StandsFor word) (addressed word _
+    (λ mode last width e. unit_made word 0b0000111 (width_funct3 width) _ _ _ o (sym (width_found _ width e)) high mode last refl refl (bit_of-flag (part word 25 1) (omega arith)))
+    (λ mode width e. offset_made word 0b0000111 (width_funct3 width) 0b10 _ _ _ _ o (sym (width_found _ width e)) high mode refl refl refl (bit_of-flag (part word 25 1) (omega arith)))
+    (λ mode width e. offset_made word 0b0000111 (width_funct3 width) 0b01 _ _ _ _ o (sym (width_found _ width e)) high mode refl refl refl (bit_of-flag (part word 25 1) (omega arith))))) tt
 
 pub store_stands : (word : ℕ) → part word 0 7 ≡ 0b0100111 → IfSome (vector_store_in (part word 12 3) (part word 28 4) (part word 26 2) (part word 20 5) word) (StandsFor word)
 store_stands word o =
-    tried (part word 28 4) 0 _ _ (StandsFor word) (λ high.
-    tried (part word 26 2) 0b00 _ _ (StandsFor word) (λ mode. tried (part word 20 5) 0 _ _ (StandsFor word) (λ last. with_found _ (width_of (part word 12 3)) (StandsFor word)
-    (λ width e. unit_made word 0b0100111 (width_funct3 width) _ _ _ o (sym (width_found _ width e)) high mode last refl refl (bit_of-flag (part word 25 1) (omega arith)))) tt) (
-    tried (part word 26 2) 0b10 _ _ (StandsFor word) (λ mode. with_found _ (width_of (part word 12 3)) (StandsFor word)
-    (λ width e. offset_made word 0b0100111 (width_funct3 width) 0b10 _ _ _ _ o (sym (width_found _ width e)) high mode refl refl refl (bit_of-flag (part word 25 1) (omega arith)))) (
-    tried (part word 26 2) 0b01 _ _ (StandsFor word) (λ mode. with_found _ (width_of (part word 12 3)) (StandsFor word)
-    (λ width e. offset_made word 0b0100111 (width_funct3 width) 0b01 _ _ _ _ o (sym (width_found _ width e)) high mode refl refl refl (bit_of-flag (part word 25 1) (omega arith)))) tt))) tt
+    tried (part word 28 4) 0 _ _ (StandsFor word) (λ high. both_found _ (width_of (part word 12 3)) (addressing_in (part word 26 2) (part word 20 5) word) (StandsFor word) (addressed word _
+    (λ mode last width e. unit_made word 0b0100111 (width_funct3 width) _ _ _ o (sym (width_found _ width e)) high mode last refl refl (bit_of-flag (part word 25 1) (omega arith)))
+    (λ mode width e. offset_made word 0b0100111 (width_funct3 width) 0b10 _ _ _ _ o (sym (width_found _ width e)) high mode refl refl refl (bit_of-flag (part word 25 1) (omega arith)))
+    (λ mode width e. offset_made word 0b0100111 (width_funct3 width) 0b01 _ _ _ _ o (sym (width_found _ width e)) high mode refl refl refl (bit_of-flag (part word 25 1) (omega arith))))) tt

@@ -6,6 +6,9 @@ use Rattle.rv_insn.specs.declared.instructions.Insn.{Insn}
 use Rattle.rv_insn.specs.declared.instructions.Insn.TheVariants.{Lui, Auipc, Jal, Jalr, Branch, Load, Store, AluImm, Shift, Alu, AmoaddW, Fence, Ecall, Ebreak, Vector}
 use Rattle.rv_insn.specs.declared.vector_instructions.VectorInsn.{VectorInsn}
 use Rattle.rv_insn.specs.declared.vector_instructions.VectorInsn.TheVariants as v
+use Rattle.rv_insn.specs.declared.vector_instructions.Addressing.{Addressing}
+use Rattle.rv_insn.specs.declared.vector_instructions.Addressing.TheVariants as addressings
+use Rattle.rv_insn.specs.declared.vector_operations.ElementWidth.{ElementWidth}
 use Rattle.rv_encoding.specs.VectorOperations.{arithmetic_vv_of, arithmetic_vx_of, arithmetic_vi_of, shift_vi_of, compare_vv_of, compare_vx_of, compare_vi_of, multiply_of, reduction_of, width_of}
 use Rattle.rv_insn.specs.declared.operations.AluImmOp.{AluImmOp}
 use Rattle.rv_encoding.specs.Operations.{branch_of, load_of, store_of, alu_imm_of, shift_of, alu_of}
@@ -174,39 +177,30 @@ vector_in funct3 word =
     if funct3 == 0b110 then opmvx_in (part word 26 6) (part word 25 1) (part word 20 5) word else
     if funct3 == 0b111 then config_in (part word 31 1) (part word 30 2) (part word 25 7) word else None
 
--- loads and stores, from the width, bits 31 to 28, the addressing mode in bits 27 to 26 and bits 24 to 20
-abbrev pub load_unit_in : ℕ → ℕ → ℕ → Option Insn
-load_unit_in width last word = if last == 0 then with_op (λ width. Vector (v.LoadUnit width (rd_of word) (rs1_of word) (vm_of word))) (width_of width) else None
+-- how a load or store is addressed, from the mode in bits 27 to 26 and from bits 24 to 20
+abbrev pub addressing_in : ℕ → ℕ → ℕ → Option Addressing
+addressing_in mode last word =
+    if mode == 0b00 then (if last == 0 then Some addressings.UnitStride else None) else
+    if mode == 0b10 then Some (addressings.Strided (rs2_of word)) else
+    if mode == 0b01 then Some (addressings.Indexed (rs2_of word)) else None
 
-abbrev pub load_strided_in : ℕ → ℕ → Option Insn
-load_strided_in width word = with_op (λ width. Vector (v.LoadStrided width (rd_of word) (rs1_of word) (rs2_of word) (vm_of word))) (width_of width)
+-- a load or store, where there are a width and an addressing
+abbrev pub with_both : (ElementWidth → Addressing → Insn) → Option ElementWidth → Option Addressing → Option Insn
+with_both make None addressing = None
+with_both make (Some width) None = None
+with_both make (Some width) (Some addressing) = Some (make width addressing)
 
-abbrev pub load_indexed_in : ℕ → ℕ → Option Insn
-load_indexed_in width word = with_op (λ width. Vector (v.LoadIndexed width (rd_of word) (rs1_of word) (rs2_of word) (vm_of word))) (width_of width)
-
+-- from the width, bits 31 to 28, the mode and bits 24 to 20
 abbrev pub vector_load_in : ℕ → ℕ → ℕ → ℕ → ℕ → Option Insn
 vector_load_in width high mode last word =
-    if high == 0 then
-    (if mode == 0b00 then load_unit_in width last word else
-    if mode == 0b10 then load_strided_in width word else
-    if mode == 0b01 then load_indexed_in width word else None)
+    if high == 0
+    then with_both (λ width addressing. Vector (v.LoadElements width (rd_of word) (rs1_of word) addressing (vm_of word))) (width_of width) (addressing_in mode last word)
     else None
-
-abbrev pub store_unit_in : ℕ → ℕ → ℕ → Option Insn
-store_unit_in width last word = if last == 0 then with_op (λ width. Vector (v.StoreUnit width (rd_of word) (rs1_of word) (vm_of word))) (width_of width) else None
-
-abbrev pub store_strided_in : ℕ → ℕ → Option Insn
-store_strided_in width word = with_op (λ width. Vector (v.StoreStrided width (rd_of word) (rs1_of word) (rs2_of word) (vm_of word))) (width_of width)
-
-abbrev pub store_indexed_in : ℕ → ℕ → Option Insn
-store_indexed_in width word = with_op (λ width. Vector (v.StoreIndexed width (rd_of word) (rs1_of word) (rs2_of word) (vm_of word))) (width_of width)
 
 abbrev pub vector_store_in : ℕ → ℕ → ℕ → ℕ → ℕ → Option Insn
 vector_store_in width high mode last word =
-    if high == 0 then
-    (if mode == 0b00 then store_unit_in width last word else
-    if mode == 0b10 then store_strided_in width word else
-    if mode == 0b01 then store_indexed_in width word else None)
+    if high == 0
+    then with_both (λ width addressing. Vector (v.StoreElements width (rd_of word) (rs1_of word) addressing (vm_of word))) (width_of width) (addressing_in mode last word)
     else None
 
 abbrev pub vector_by_opcode : ℕ → ℕ → ℕ → Option Insn

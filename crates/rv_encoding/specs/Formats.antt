@@ -8,6 +8,9 @@ use Rattle.rv_insn.specs.declared.instructions.Insn.{Insn}
 use Rattle.rv_insn.specs.declared.instructions.Insn.TheVariants.{Lui, Auipc, Jal, Jalr, Branch, Load, Store, AluImm, Shift, Alu, AmoaddW, Fence, Ecall, Ebreak, Vector}
 use Rattle.rv_insn.specs.declared.vector_instructions.VectorInsn.{VectorInsn}
 use Rattle.rv_insn.specs.declared.vector_instructions.VectorInsn.TheVariants as v
+use Rattle.rv_insn.specs.declared.vector_instructions.Addressing.{Addressing}
+use Rattle.rv_insn.specs.declared.vector_instructions.Addressing.TheVariants as addressings
+use Rattle.rv_insn.specs.declared.vector_operations.ElementWidth.{ElementWidth}
 use Rattle.rv_insn.specs.VectorTable as fields
 use Rattle.rv_insn.specs.VectorTable.{v_row, opivv_type, opmvv_type, opivi_type, opivi_shift_type, opivx_type, opmvx_type, merge_vv_type, merge_vi_type, merge_vx_type, move_vv_type, move_vi_type, move_vx_type, to_scalar_type, from_scalar_type, numbers_type, extend_type, vsetvli_type, vsetivli_type, vsetvl_type, unit_type, strided_type, indexed_type}
 use Rattle.rv_encoding.specs.VectorOperations.{arithmetic_vv_funct6, arithmetic_vx_funct6, arithmetic_vi_funct6, shift_vi_funct6, compare_vv_funct6, compare_vx_funct6, compare_vi_funct6, multiply_funct6, reduction_funct6, width_funct3}
@@ -16,6 +19,12 @@ use Rattle.rv_encoding.specs.Operations.{branch_funct3, load_funct3, store_funct
 -- the row's fixed bits hold in the word, and these are the numbers at its fields' places
 unfoldable pub Stands : ℕ → Row → List ℤ → Type 0
 Stands word row fields = Holds word row.pairs × (fields ≡ map (field_of word) row.fields)
+
+-- the row of a vector load or store, by its opcode
+abbrev pub access_shape : ℕ → ElementWidth → Addressing → Row
+access_shape opcode width addressings.UnitStride = unit_type [] opcode (width_funct3 width)
+access_shape opcode width (addressings.Strided rs2) = strided_type [] opcode (width_funct3 width)
+access_shape opcode width (addressings.Indexed vs2) = indexed_type [] opcode (width_funct3 width)
 
 -- the same of a vector instruction
 abbrev pub vector_shape_of : VectorInsn → Row
@@ -42,12 +51,8 @@ vector_shape_of (v.ExtendBytes vd vs2 vm) = extend_type []
 vector_shape_of (v.Vsetvli rd rs1 vtype) = vsetvli_type []
 vector_shape_of (v.Vsetivli rd length vtype) = vsetivli_type []
 vector_shape_of (v.Vsetvl rd rs1 rs2) = vsetvl_type []
-vector_shape_of (v.LoadUnit width vd rs1 vm) = unit_type [] 0b0000111 (width_funct3 width)
-vector_shape_of (v.LoadStrided width vd rs1 rs2 vm) = strided_type [] 0b0000111 (width_funct3 width)
-vector_shape_of (v.LoadIndexed width vd rs1 vs2 vm) = indexed_type [] 0b0000111 (width_funct3 width)
-vector_shape_of (v.StoreUnit width vs3 rs1 vm) = unit_type [] 0b0100111 (width_funct3 width)
-vector_shape_of (v.StoreStrided width vs3 rs1 rs2 vm) = strided_type [] 0b0100111 (width_funct3 width)
-vector_shape_of (v.StoreIndexed width vs3 rs1 vs2 vm) = indexed_type [] 0b0100111 (width_funct3 width)
+vector_shape_of (v.LoadElements width vd rs1 addressing vm) = access_shape 0b0000111 width addressing
+vector_shape_of (v.StoreElements width vs3 rs1 addressing vm) = access_shape 0b0100111 width addressing
 
 -- the row of operations on three registers, by funct3 and funct6
 abbrev pub registers_shape : ℕ → ℕ → Row

@@ -1,7 +1,7 @@
 //! Decoding of the vector instructions.
 
 ghost use Rattle.std.specs.Prelude.{◌≡◌, ◌==◌};
-ghost use Rattle.rv_encoding.specs.Decoding.{part, merge_in, opivv_in, opivx_in, opivi_in, opmvv_in, opmvx_in, config_in, vector_in, vector_by_opcode, to_scalar_in, from_scalar_in, numbers_in, extended_in, vector_load_in, load_unit_in, load_strided_in, load_indexed_in, vector_store_in, store_unit_in, store_strided_in, store_indexed_in};
+ghost use Rattle.rv_encoding.specs.Decoding.{part, merge_in, opivv_in, opivx_in, opivi_in, opmvv_in, opmvx_in, config_in, vector_in, vector_by_opcode, to_scalar_in, from_scalar_in, numbers_in, extended_in, addressing_in, vector_load_in, vector_store_in};
 
 use crate::fields::{
     bits, flag, funct3, funct6, length, opcode, rd, rs1, rs2, vd, vector_amount, vector_immediate,
@@ -12,7 +12,7 @@ use crate::vector_keys::{
     arithmetic_vi_op, arithmetic_vv_op, arithmetic_vx_op, compare_vi_op, compare_vv_op,
     compare_vx_op, multiply_op, reduction_op, shift_vi_op, width_of,
 };
-use rv_insn::{Insn, VectorInsn};
+use rv_insn::{Addressing, Insn, VectorInsn};
 
 /// The field funct6 of merges and of moves to whole registers.
 const MERGE: u32 = 0b01_0111;
@@ -302,6 +302,18 @@ fn op_v(word: u32) -> Option<Insn>
     }
 }
 
+/// How a vector load or store is addressed.
+fn addressing(word: u32) -> Option<Addressing>
+    ensures { result ≡ addressing_in (part word 26 2) (part word 20 5) word }
+{
+    match bits(word, 26, 2) {
+        0b00 if bits(word, 20, 5) == 0 => Some(Addressing::UnitStride),
+        0b10 => Some(Addressing::Strided { rs2: rs2(word) }),
+        0b01 => Some(Addressing::Indexed { vs2: vs2(word) }),
+        _ => None,
+    }
+}
+
 /// The vector load that a word means.
 fn vector_load(word: u32) -> Option<Insn>
     ensures { result ≡ vector_load_in (part word 12 3) (part word 28 4) (part word 26 2) (part word 20 5) word }
@@ -309,51 +321,13 @@ fn vector_load(word: u32) -> Option<Insn>
     if bits(word, 28, 4) != 0 {
         return None;
     }
-    match bits(word, 26, 2) {
-        0b00 => load_unit(word),
-        0b10 => load_strided(word),
-        0b01 => load_indexed(word),
-        _ => None,
-    }
-}
-
-fn load_unit(word: u32) -> Option<Insn>
-    ensures { result ≡ load_unit_in (part word 12 3) (part word 20 5) word }
-{
-    if bits(word, 20, 5) != 0 {
-        return None;
-    }
     let width = width_of(funct3(word))?;
-    Some(Insn::Vector(VectorInsn::LoadUnit {
+    let addressing = addressing(word)?;
+    Some(Insn::Vector(VectorInsn::LoadElements {
         width,
         vd: vd(word),
         rs1: rs1(word),
-        vm: flag(word, 25),
-    }))
-}
-
-fn load_strided(word: u32) -> Option<Insn>
-    ensures { result ≡ load_strided_in (part word 12 3) word }
-{
-    let width = width_of(funct3(word))?;
-    Some(Insn::Vector(VectorInsn::LoadStrided {
-        width,
-        vd: vd(word),
-        rs1: rs1(word),
-        rs2: rs2(word),
-        vm: flag(word, 25),
-    }))
-}
-
-fn load_indexed(word: u32) -> Option<Insn>
-    ensures { result ≡ load_indexed_in (part word 12 3) word }
-{
-    let width = width_of(funct3(word))?;
-    Some(Insn::Vector(VectorInsn::LoadIndexed {
-        width,
-        vd: vd(word),
-        rs1: rs1(word),
-        vs2: vs2(word),
+        addressing,
         vm: flag(word, 25),
     }))
 }
@@ -365,51 +339,13 @@ fn vector_store(word: u32) -> Option<Insn>
     if bits(word, 28, 4) != 0 {
         return None;
     }
-    match bits(word, 26, 2) {
-        0b00 => store_unit(word),
-        0b10 => store_strided(word),
-        0b01 => store_indexed(word),
-        _ => None,
-    }
-}
-
-fn store_unit(word: u32) -> Option<Insn>
-    ensures { result ≡ store_unit_in (part word 12 3) (part word 20 5) word }
-{
-    if bits(word, 20, 5) != 0 {
-        return None;
-    }
     let width = width_of(funct3(word))?;
-    Some(Insn::Vector(VectorInsn::StoreUnit {
+    let addressing = addressing(word)?;
+    Some(Insn::Vector(VectorInsn::StoreElements {
         width,
         vs3: vd(word),
         rs1: rs1(word),
-        vm: flag(word, 25),
-    }))
-}
-
-fn store_strided(word: u32) -> Option<Insn>
-    ensures { result ≡ store_strided_in (part word 12 3) word }
-{
-    let width = width_of(funct3(word))?;
-    Some(Insn::Vector(VectorInsn::StoreStrided {
-        width,
-        vs3: vd(word),
-        rs1: rs1(word),
-        rs2: rs2(word),
-        vm: flag(word, 25),
-    }))
-}
-
-fn store_indexed(word: u32) -> Option<Insn>
-    ensures { result ≡ store_indexed_in (part word 12 3) word }
-{
-    let width = width_of(funct3(word))?;
-    Some(Insn::Vector(VectorInsn::StoreIndexed {
-        width,
-        vs3: vd(word),
-        rs1: rs1(word),
-        vs2: vs2(word),
+        addressing,
         vm: flag(word, 25),
     }))
 }

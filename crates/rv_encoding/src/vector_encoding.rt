@@ -1,10 +1,11 @@
 //! Encoding of the vector instructions.
 
-ghost use Rattle.std.specs.Prelude.{◌≡◌, ◌<◌, ◌^◌, ℕ, pos, [], ◌∷◌};
+ghost use Rattle.std.specs.Prelude.{◌≡◌, ◌<◌, ◌^◌, ℕ, pos, [], ◌∷◌, ◌++◌};
 ghost use Rattle.rv_insn.specs.Encoding.{bit_of};
+ghost use Rattle.rv_insn.specs.Addressing.{offset_fields};
 ghost use Rattle.rv_insn.specs.VectorMeaning.{vector_fields_of};
 ghost use Rattle.rv_insn.specs.VectorTable.{opivi_type, merge_vi_type, move_vi_type, to_scalar_type, from_scalar_type, numbers_type, extend_type, vsetvli_type, vsetivli_type, vsetvl_type, unit_type};
-ghost use Rattle.rv_encoding.specs.Formats.{Stands, vector_shape_of, registers_shape, merge_shape, move_shape, offset_shape};
+ghost use Rattle.rv_encoding.specs.Formats.{Stands, vector_shape_of, registers_shape, merge_shape, move_shape, offset_shape, access_shape};
 
 use crate::opcodes;
 use crate::packing::{digits_5, pack_i, pack_r, pack_v};
@@ -13,7 +14,7 @@ use crate::vector_keys::{
     compare_vv_funct6, compare_vx_funct6, multiply_funct6, reduction_funct6, shift_vi_funct6,
     width_funct3,
 };
-use rv_insn::{ElementWidth, Imm5, Length5, Reg, VReg, VectorInsn, Vtype10, Vtype11};
+use rv_insn::{Addressing, ElementWidth, Imm5, Length5, Reg, VReg, VectorInsn, Vtype10, Vtype11};
 
 /// The field funct3 of each form.
 const OPIVV: u32 = 0b000;
@@ -279,6 +280,30 @@ fn offset_word(opcode: u32, width: u32, mode: u32, vd: VReg, rs1: Reg, offset: u
     )
 }
 
+// The word of a vector load or store.
+fn access_word(
+    opcode: u32,
+    width: ElementWidth,
+    v: VReg,
+    rs1: Reg,
+    addressing: Addressing,
+    vm: bool,
+) -> u32
+    requires { opcode < 2 ^ 7 }
+    ensures { Stands result (access_shape opcode width addressing) (pos v ∷ pos rs1 ∷ (offset_fields addressing ++ (pos (bit_of vm) ∷ []))) }
+{
+    let width = width_funct3(width);
+    match addressing {
+        Addressing::UnitStride => unit_word(opcode, width, v, rs1, vm),
+        Addressing::Strided { rs2 } => {
+            offset_word(opcode, width, STRIDED, v, rs1, rs2.number() as u32, vm)
+        }
+        Addressing::Indexed { vs2 } => {
+            offset_word(opcode, width, INDEXED, v, rs1, vs2.number() as u32, vm)
+        }
+    }
+}
+
 /// The word of a vector instruction.
 pub fn vector_word(insn: VectorInsn) -> u32
     ensures { Stands result (vector_shape_of insn) (vector_fields_of insn) }
@@ -409,78 +434,19 @@ pub fn vector_word(insn: VectorInsn) -> u32
         VectorInsn::Vsetvli { rd, rs1, vtype } => vsetvli_word(rd, rs1, vtype),
         VectorInsn::Vsetivli { rd, length, vtype } => vsetivli_word(rd, length, vtype),
         VectorInsn::Vsetvl { rd, rs1, rs2 } => vsetvl_word(rd, rs1, rs2),
-        VectorInsn::LoadUnit { width, vd, rs1, vm } => unit_word(
-            opcodes::LOAD_VECTOR,
-            width_funct3(width),
-            vd,
-            rs1,
-            vm,
-        ),
-        VectorInsn::LoadStrided {
+        VectorInsn::LoadElements {
             width,
             vd,
             rs1,
-            rs2,
+            addressing,
             vm,
-        } => offset_word(
-            opcodes::LOAD_VECTOR,
-            width_funct3(width),
-            STRIDED,
-            vd,
-            rs1,
-            rs2.number() as u32,
-            vm,
-        ),
-        VectorInsn::LoadIndexed {
-            width,
-            vd,
-            rs1,
-            vs2,
-            vm,
-        } => offset_word(
-            opcodes::LOAD_VECTOR,
-            width_funct3(width),
-            INDEXED,
-            vd,
-            rs1,
-            vs2.number() as u32,
-            vm,
-        ),
-        VectorInsn::StoreUnit {
+        } => access_word(opcodes::LOAD_VECTOR, width, vd, rs1, addressing, vm),
+        VectorInsn::StoreElements {
             width,
             vs3,
             rs1,
+            addressing,
             vm,
-        } => unit_word(opcodes::STORE_VECTOR, width_funct3(width), vs3, rs1, vm),
-        VectorInsn::StoreStrided {
-            width,
-            vs3,
-            rs1,
-            rs2,
-            vm,
-        } => offset_word(
-            opcodes::STORE_VECTOR,
-            width_funct3(width),
-            STRIDED,
-            vs3,
-            rs1,
-            rs2.number() as u32,
-            vm,
-        ),
-        VectorInsn::StoreIndexed {
-            width,
-            vs3,
-            rs1,
-            vs2,
-            vm,
-        } => offset_word(
-            opcodes::STORE_VECTOR,
-            width_funct3(width),
-            INDEXED,
-            vs3,
-            rs1,
-            vs2.number() as u32,
-            vm,
-        ),
+        } => access_word(opcodes::STORE_VECTOR, width, vs3, rs1, addressing, vm),
     }
 }

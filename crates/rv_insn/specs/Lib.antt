@@ -1,3 +1,4 @@
+pub mod Addressing
 pub mod Encoding
 pub mod Meaning
 pub mod Table

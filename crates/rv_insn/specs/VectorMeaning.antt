@@ -1,9 +1,10 @@
 -- A vector instruction's name in the table, and the numbers in its fields.
 -- RISC-V Vector Extension 1.0, chapters 6, 7, 11, 14, 15 and 16.
-use Rattle.std.specs.Prelude.{ℕ, ℤ, pos, List, [], ◌∷◌, codes}
+use Rattle.std.specs.Prelude.{ℕ, ℤ, pos, List, [], ◌∷◌, ◌++◌, codes}
 use Rattle.rv_insn.specs.Encoding.{bit_of}
+use Rattle.rv_insn.specs.Addressing.{mode_of, offset_fields}
 use Rattle.rv_insn.specs.declared.vector_instructions.VectorInsn.{VectorInsn}
-use Rattle.rv_insn.specs.declared.vector_instructions.VectorInsn.TheVariants.{ArithmeticVv, ArithmeticVx, ArithmeticVi, ShiftVi, CompareVv, CompareVx, CompareVi, MultiplyVv, MultiplyVx, Reduce, MergeVv, MergeVx, MergeVi, MoveVv, MoveVx, MoveVi, MoveToScalar, MoveFromScalar, ElementNumbers, ExtendBytes, Vsetvli, Vsetivli, Vsetvl, LoadUnit, LoadStrided, LoadIndexed, StoreUnit, StoreStrided, StoreIndexed}
+use Rattle.rv_insn.specs.declared.vector_instructions.VectorInsn.TheVariants.{ArithmeticVv, ArithmeticVx, ArithmeticVi, ShiftVi, CompareVv, CompareVx, CompareVi, MultiplyVv, MultiplyVx, Reduce, MergeVv, MergeVx, MergeVi, MoveVv, MoveVx, MoveVi, MoveToScalar, MoveFromScalar, ElementNumbers, ExtendBytes, Vsetvli, Vsetivli, Vsetvl, LoadElements, StoreElements}
 use Rattle.rv_insn.specs.declared.vector_operations.ArithmeticVvOp.{ArithmeticVvOp}
 use Rattle.rv_insn.specs.declared.vector_operations.ArithmeticVvOp.TheVariants as arithmetic_vvs
 use Rattle.rv_insn.specs.declared.vector_operations.ArithmeticVxOp.{ArithmeticVxOp}
@@ -24,6 +25,8 @@ use Rattle.rv_insn.specs.declared.vector_operations.ReductionOp.{ReductionOp}
 use Rattle.rv_insn.specs.declared.vector_operations.ReductionOp.TheVariants as reductions
 use Rattle.rv_insn.specs.declared.vector_operations.ElementWidth.{ElementWidth}
 use Rattle.rv_insn.specs.declared.vector_operations.ElementWidth.TheVariants as widths
+use Rattle.rv_insn.specs.declared.vector_operations.AddressMode.{AddressMode}
+use Rattle.rv_insn.specs.declared.vector_operations.AddressMode.TheVariants as modes
 
 -- ---- names
 
@@ -121,35 +124,27 @@ reduction_name reductions.Vredmin = codes "vredmin.vs"
 reduction_name reductions.Vredmaxu = codes "vredmaxu.vs"
 reduction_name reductions.Vredmax = codes "vredmax.vs"
 
-abbrev pub unit_load_name : ElementWidth → List ℕ
-unit_load_name widths.Bits8 = codes "vle8.v"
-unit_load_name widths.Bits16 = codes "vle16.v"
-unit_load_name widths.Bits32 = codes "vle32.v"
+abbrev pub load_elements_name : AddressMode → ElementWidth → List ℕ
+load_elements_name modes.UnitStride widths.Bits8 = codes "vle8.v"
+load_elements_name modes.UnitStride widths.Bits16 = codes "vle16.v"
+load_elements_name modes.UnitStride widths.Bits32 = codes "vle32.v"
+load_elements_name modes.Strided widths.Bits8 = codes "vlse8.v"
+load_elements_name modes.Strided widths.Bits16 = codes "vlse16.v"
+load_elements_name modes.Strided widths.Bits32 = codes "vlse32.v"
+load_elements_name modes.Indexed widths.Bits8 = codes "vluxei8.v"
+load_elements_name modes.Indexed widths.Bits16 = codes "vluxei16.v"
+load_elements_name modes.Indexed widths.Bits32 = codes "vluxei32.v"
 
-abbrev pub strided_load_name : ElementWidth → List ℕ
-strided_load_name widths.Bits8 = codes "vlse8.v"
-strided_load_name widths.Bits16 = codes "vlse16.v"
-strided_load_name widths.Bits32 = codes "vlse32.v"
-
-abbrev pub indexed_load_name : ElementWidth → List ℕ
-indexed_load_name widths.Bits8 = codes "vluxei8.v"
-indexed_load_name widths.Bits16 = codes "vluxei16.v"
-indexed_load_name widths.Bits32 = codes "vluxei32.v"
-
-abbrev pub unit_store_name : ElementWidth → List ℕ
-unit_store_name widths.Bits8 = codes "vse8.v"
-unit_store_name widths.Bits16 = codes "vse16.v"
-unit_store_name widths.Bits32 = codes "vse32.v"
-
-abbrev pub strided_store_name : ElementWidth → List ℕ
-strided_store_name widths.Bits8 = codes "vsse8.v"
-strided_store_name widths.Bits16 = codes "vsse16.v"
-strided_store_name widths.Bits32 = codes "vsse32.v"
-
-abbrev pub indexed_store_name : ElementWidth → List ℕ
-indexed_store_name widths.Bits8 = codes "vsuxei8.v"
-indexed_store_name widths.Bits16 = codes "vsuxei16.v"
-indexed_store_name widths.Bits32 = codes "vsuxei32.v"
+abbrev pub store_elements_name : AddressMode → ElementWidth → List ℕ
+store_elements_name modes.UnitStride widths.Bits8 = codes "vse8.v"
+store_elements_name modes.UnitStride widths.Bits16 = codes "vse16.v"
+store_elements_name modes.UnitStride widths.Bits32 = codes "vse32.v"
+store_elements_name modes.Strided widths.Bits8 = codes "vsse8.v"
+store_elements_name modes.Strided widths.Bits16 = codes "vsse16.v"
+store_elements_name modes.Strided widths.Bits32 = codes "vsse32.v"
+store_elements_name modes.Indexed widths.Bits8 = codes "vsuxei8.v"
+store_elements_name modes.Indexed widths.Bits16 = codes "vsuxei16.v"
+store_elements_name modes.Indexed widths.Bits32 = codes "vsuxei32.v"
 
 abbrev pub vector_name_of : VectorInsn → List ℕ
 vector_name_of (ArithmeticVv op vd vs2 vs1 vm) = arithmetic_vv_name op
@@ -175,12 +170,8 @@ vector_name_of (ExtendBytes vd vs2 vm) = codes "vzext.vf4"
 vector_name_of (Vsetvli rd rs1 vtype) = codes "vsetvli"
 vector_name_of (Vsetivli rd length vtype) = codes "vsetivli"
 vector_name_of (Vsetvl rd rs1 rs2) = codes "vsetvl"
-vector_name_of (LoadUnit width vd rs1 vm) = unit_load_name width
-vector_name_of (LoadStrided width vd rs1 rs2 vm) = strided_load_name width
-vector_name_of (LoadIndexed width vd rs1 vs2 vm) = indexed_load_name width
-vector_name_of (StoreUnit width vs3 rs1 vm) = unit_store_name width
-vector_name_of (StoreStrided width vs3 rs1 rs2 vm) = strided_store_name width
-vector_name_of (StoreIndexed width vs3 rs1 vs2 vm) = indexed_store_name width
+vector_name_of (LoadElements width vd rs1 addressing vm) = load_elements_name (mode_of addressing) width
+vector_name_of (StoreElements width vs3 rs1 addressing vm) = store_elements_name (mode_of addressing) width
 
 -- ---- the numbers in its fields, in the order of its row
 
@@ -208,9 +199,5 @@ vector_fields_of (ExtendBytes vd vs2 vm) = pos vd ∷ pos vs2 ∷ pos (bit_of vm
 vector_fields_of (Vsetvli rd rs1 vtype) = pos rd ∷ pos rs1 ∷ pos vtype ∷ []
 vector_fields_of (Vsetivli rd length vtype) = pos rd ∷ pos length ∷ pos vtype ∷ []
 vector_fields_of (Vsetvl rd rs1 rs2) = pos rd ∷ pos rs1 ∷ pos rs2 ∷ []
-vector_fields_of (LoadUnit width vd rs1 vm) = pos vd ∷ pos rs1 ∷ pos (bit_of vm) ∷ []
-vector_fields_of (LoadStrided width vd rs1 rs2 vm) = pos vd ∷ pos rs1 ∷ pos rs2 ∷ pos (bit_of vm) ∷ []
-vector_fields_of (LoadIndexed width vd rs1 vs2 vm) = pos vd ∷ pos rs1 ∷ pos vs2 ∷ pos (bit_of vm) ∷ []
-vector_fields_of (StoreUnit width vs3 rs1 vm) = pos vs3 ∷ pos rs1 ∷ pos (bit_of vm) ∷ []
-vector_fields_of (StoreStrided width vs3 rs1 rs2 vm) = pos vs3 ∷ pos rs1 ∷ pos rs2 ∷ pos (bit_of vm) ∷ []
-vector_fields_of (StoreIndexed width vs3 rs1 vs2 vm) = pos vs3 ∷ pos rs1 ∷ pos vs2 ∷ pos (bit_of vm) ∷ []
+vector_fields_of (LoadElements width vd rs1 addressing vm) = pos vd ∷ pos rs1 ∷ (offset_fields addressing ++ (pos (bit_of vm) ∷ []))
+vector_fields_of (StoreElements width vs3 rs1 addressing vm) = pos vs3 ∷ pos rs1 ∷ (offset_fields addressing ++ (pos (bit_of vm) ∷ []))

@@ -23,8 +23,8 @@ pub use crate::instructions::Insn;
 pub use crate::operations::{AluImmOp, AluOp, BranchOp, LoadOp, ShiftOp, StoreOp};
 pub use crate::outcomes::{Outcome, Trap};
 pub use crate::registers::{Reg, VReg};
-pub use crate::vector_instructions::VectorInsn;
+pub use crate::vector_instructions::{Addressing, VectorInsn};
 pub use crate::vector_operations::{
-    ArithmeticViOp, ArithmeticVvOp, ArithmeticVxOp, CompareViOp, CompareVvOp, CompareVxOp,
-    ElementWidth, MultiplyOp, ReductionOp, ShiftViOp,
+    AddressMode, ArithmeticViOp, ArithmeticVvOp, ArithmeticVxOp, CompareViOp, CompareVvOp,
+    CompareVxOp, ElementWidth, MultiplyOp, ReductionOp, ShiftViOp,
 };

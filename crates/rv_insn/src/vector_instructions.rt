@@ -1,10 +1,13 @@
 //! Vector instructions as values.
 
+ghost use Rattle.std.specs.Prelude.{◌≡◌};
+ghost use Rattle.rv_insn.specs.Addressing.{mode_of};
+
 use crate::immediates::{Imm5, Length5, ShiftAmount, Vtype10, Vtype11};
 use crate::registers::{Reg, VReg};
 use crate::vector_operations::{
-    ArithmeticViOp, ArithmeticVvOp, ArithmeticVxOp, CompareViOp, CompareVvOp, CompareVxOp,
-    ElementWidth, MultiplyOp, ReductionOp, ShiftViOp,
+    AddressMode, ArithmeticViOp, ArithmeticVvOp, ArithmeticVxOp, CompareViOp, CompareVvOp,
+    CompareVxOp, ElementWidth, MultiplyOp, ReductionOp, ShiftViOp,
 };
 
 /// A vector instruction with all the fields of its row of the instruction table. Where `vm` is false,
@@ -163,50 +166,44 @@ pub enum VectorInsn {
         rs1: Reg,
         rs2: Reg,
     },
-    /// A load of elements that lie one behind the other from `rs1` on.
-    LoadUnit {
+    /// A load of elements from `rs1` on.
+    LoadElements {
         width: ElementWidth,
         vd: VReg,
         rs1: Reg,
+        addressing: Addressing,
         vm: bool,
     },
-    /// A load of elements that lie `rs2` bytes apart from `rs1` on.
-    LoadStrided {
-        width: ElementWidth,
-        vd: VReg,
-        rs1: Reg,
-        rs2: Reg,
-        vm: bool,
-    },
-    /// A load of elements that lie at the offsets in `vs2` from `rs1`.
-    LoadIndexed {
-        width: ElementWidth,
-        vd: VReg,
-        rs1: Reg,
-        vs2: VReg,
-        vm: bool,
-    },
-    /// A store of the elements of `vs3`, one behind the other from `rs1` on.
-    StoreUnit {
+    /// A store of the elements of `vs3` from `rs1` on.
+    StoreElements {
         width: ElementWidth,
         vs3: VReg,
         rs1: Reg,
+        addressing: Addressing,
         vm: bool,
     },
-    /// A store of the elements of `vs3`, `rs2` bytes apart from `rs1` on.
-    StoreStrided {
-        width: ElementWidth,
-        vs3: VReg,
-        rs1: Reg,
-        rs2: Reg,
-        vm: bool,
-    },
-    /// A store of the elements of `vs3` at the offsets in `vs2` from `rs1`.
-    StoreIndexed {
-        width: ElementWidth,
-        vs3: VReg,
-        rs1: Reg,
-        vs2: VReg,
-        vm: bool,
-    },
+}
+
+/// Where the elements of a vector load or store lie from `rs1` on.
+#[derive(Clone, Copy)]
+pub enum Addressing {
+    /// One behind the other.
+    UnitStride,
+    /// `rs2` bytes apart.
+    Strided { rs2: Reg },
+    /// At the offsets in `vs2`.
+    Indexed { vs2: VReg },
+}
+
+impl Addressing {
+    /// The mode, without its register.
+    pub fn mode(self) -> AddressMode
+        ensures { result ≡ mode_of self }
+    {
+        match self {
+            Addressing::UnitStride => AddressMode::UnitStride,
+            Addressing::Strided { .. } => AddressMode::Strided,
+            Addressing::Indexed { .. } => AddressMode::Indexed,
+        }
+    }
 }

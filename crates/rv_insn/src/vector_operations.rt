@@ -188,3 +188,14 @@ pub enum ElementWidth {
     /// Four bytes.
     Bits32,
 }
+
+/// How a vector load or store is addressed.
+#[derive(Clone, Copy, Debug, PartialEq, Eq)]
+pub enum AddressMode {
+    /// The elements lie one behind the other.
+    UnitStride,
+    /// They lie as many bytes apart as an integer register says.
+    Strided,
+    /// They lie at the offsets in a vector register.
+    Indexed,
+}

@@ -11,12 +11,20 @@ use Rattle.lanes.specs.Elementwise.{chosen_of}
 use Rattle.rv_insn.specs.declared.vector_instructions.VectorInsn.{VectorInsn}
 use Rattle.rv_insn.specs.declared.vector_operations.ElementWidth.{ElementWidth}
 use Rattle.rv_insn.specs.declared.vector_instructions.VectorInsn.TheVariants as v
+use Rattle.rv_insn.specs.declared.vector_instructions.Addressing.{Addressing}
+use Rattle.rv_insn.specs.declared.vector_instructions.Addressing.TheVariants as addressings
 use Rattle.vector_unit.specs.VectorState.{Vectors, register, with_register}
 use Rattle.vector_unit.specs.Vector.{bits_of, width, count, element_from, active_in}
 use Rattle.vector_unit.specs.declared.accesses.Spacing.{Spacing}
 use Rattle.vector_unit.specs.declared.accesses.Spacing.TheVariants.{UnitStride, Strided, Indexed}
 
 -- ---- where elements lie
+
+-- the spacing of elements of a width, where x gives the integer registers
+abbrev pub spacing_of : ElementWidth → Addressing → (ℕ → ℕ) → Spacing
+spacing_of w addressings.UnitStride x = UnitStride w
+spacing_of w (addressings.Strided rs2) x = Strided (x rs2)
+spacing_of w (addressings.Indexed vs2) x = Indexed vs2
 
 -- how many bytes from the base element i lies, modulo 2^32
 abbrev pub offset : Vectors → Spacing → ℕ → ℕ
@@ -57,128 +65,22 @@ loaded state w vd vm numbers = filled_from 0 state (bits_of w) vd (active_in sta
 -- ---- the rows, where x gives the integer registers
 
 abbrev pub addresses : VectorInsn → (ℕ → ℕ) → Vectors → List ℕ
-addresses (v.ArithmeticVv o vd vs2 vs1 vm) x state = []
-addresses (v.ArithmeticVx o vd vs2 rs1 vm) x state = []
-addresses (v.ArithmeticVi o vd vs2 imm vm) x state = []
-addresses (v.ShiftVi o vd vs2 amount vm) x state = []
-addresses (v.CompareVv o vd vs2 vs1 vm) x state = []
-addresses (v.CompareVx o vd vs2 rs1 vm) x state = []
-addresses (v.CompareVi o vd vs2 imm vm) x state = []
-addresses (v.MultiplyVv o vd vs2 vs1 vm) x state = []
-addresses (v.MultiplyVx o vd vs2 rs1 vm) x state = []
-addresses (v.Reduce o vd vs2 vs1 vm) x state = []
-addresses (v.MergeVv vd vs2 vs1) x state = []
-addresses (v.MergeVx vd vs2 rs1) x state = []
-addresses (v.MergeVi vd vs2 imm) x state = []
-addresses (v.MoveVv vd vs1) x state = []
-addresses (v.MoveVx vd rs1) x state = []
-addresses (v.MoveVi vd imm) x state = []
-addresses (v.MoveToScalar rd vs2) x state = []
-addresses (v.MoveFromScalar vd rs1) x state = []
-addresses (v.ElementNumbers vd vm) x state = []
-addresses (v.ExtendBytes vd vs2 vm) x state = []
-addresses (v.Vsetvli rd rs1 vtype) x state = []
-addresses (v.Vsetivli rd length vtype) x state = []
-addresses (v.Vsetvl rd rs1 rs2) x state = []
-addresses (v.LoadUnit w vd rs1 vm) x state = addresses_by state (UnitStride w) vm (x rs1)
-addresses (v.LoadStrided w vd rs1 rs2 vm) x state = addresses_by state (Strided (x rs2)) vm (x rs1)
-addresses (v.LoadIndexed w vd rs1 vs2 vm) x state = addresses_by state (Indexed vs2) vm (x rs1)
-addresses (v.StoreUnit w vs3 rs1 vm) x state = addresses_by state (UnitStride w) vm (x rs1)
-addresses (v.StoreStrided w vs3 rs1 rs2 vm) x state = addresses_by state (Strided (x rs2)) vm (x rs1)
-addresses (v.StoreIndexed w vs3 rs1 vs2 vm) x state = addresses_by state (Indexed vs2) vm (x rs1)
+addresses (v.LoadElements w vd rs1 addressing vm) x state = addresses_by state (spacing_of w addressing x) vm (x rs1)
+addresses (v.StoreElements w vs3 rs1 addressing vm) x state = addresses_by state (spacing_of w addressing x) vm (x rs1)
+addresses insn x state = []
 
 -- the numbers that a store writes, one for each address
 abbrev pub stored_numbers : VectorInsn → Vectors → List ℕ
-stored_numbers (v.ArithmeticVv o vd vs2 vs1 vm) state = []
-stored_numbers (v.ArithmeticVx o vd vs2 rs1 vm) state = []
-stored_numbers (v.ArithmeticVi o vd vs2 imm vm) state = []
-stored_numbers (v.ShiftVi o vd vs2 amount vm) state = []
-stored_numbers (v.CompareVv o vd vs2 vs1 vm) state = []
-stored_numbers (v.CompareVx o vd vs2 rs1 vm) state = []
-stored_numbers (v.CompareVi o vd vs2 imm vm) state = []
-stored_numbers (v.MultiplyVv o vd vs2 vs1 vm) state = []
-stored_numbers (v.MultiplyVx o vd vs2 rs1 vm) state = []
-stored_numbers (v.Reduce o vd vs2 vs1 vm) state = []
-stored_numbers (v.MergeVv vd vs2 vs1) state = []
-stored_numbers (v.MergeVx vd vs2 rs1) state = []
-stored_numbers (v.MergeVi vd vs2 imm) state = []
-stored_numbers (v.MoveVv vd vs1) state = []
-stored_numbers (v.MoveVx vd rs1) state = []
-stored_numbers (v.MoveVi vd imm) state = []
-stored_numbers (v.MoveToScalar rd vs2) state = []
-stored_numbers (v.MoveFromScalar vd rs1) state = []
-stored_numbers (v.ElementNumbers vd vm) state = []
-stored_numbers (v.ExtendBytes vd vs2 vm) state = []
-stored_numbers (v.Vsetvli rd rs1 vtype) state = []
-stored_numbers (v.Vsetivli rd length vtype) state = []
-stored_numbers (v.Vsetvl rd rs1 rs2) state = []
-stored_numbers (v.LoadUnit w vd rs1 vm) state = []
-stored_numbers (v.LoadStrided w vd rs1 rs2 vm) state = []
-stored_numbers (v.LoadIndexed w vd rs1 vs2 vm) state = []
-stored_numbers (v.StoreUnit w vs3 rs1 vm) state = active_numbers state w vs3 vm
-stored_numbers (v.StoreStrided w vs3 rs1 rs2 vm) state = active_numbers state w vs3 vm
-stored_numbers (v.StoreIndexed w vs3 rs1 vs2 vm) state = active_numbers state w vs3 vm
+stored_numbers (v.StoreElements w vs3 rs1 addressing vm) state = active_numbers state w vs3 vm
+stored_numbers insn state = []
 
 -- the vector state after a load whose active elements read these numbers
 abbrev pub loaded_by : VectorInsn → Vectors → List ℕ → Vectors
-loaded_by (v.ArithmeticVv o vd vs2 vs1 vm) state numbers = state
-loaded_by (v.ArithmeticVx o vd vs2 rs1 vm) state numbers = state
-loaded_by (v.ArithmeticVi o vd vs2 imm vm) state numbers = state
-loaded_by (v.ShiftVi o vd vs2 amount vm) state numbers = state
-loaded_by (v.CompareVv o vd vs2 vs1 vm) state numbers = state
-loaded_by (v.CompareVx o vd vs2 rs1 vm) state numbers = state
-loaded_by (v.CompareVi o vd vs2 imm vm) state numbers = state
-loaded_by (v.MultiplyVv o vd vs2 vs1 vm) state numbers = state
-loaded_by (v.MultiplyVx o vd vs2 rs1 vm) state numbers = state
-loaded_by (v.Reduce o vd vs2 vs1 vm) state numbers = state
-loaded_by (v.MergeVv vd vs2 vs1) state numbers = state
-loaded_by (v.MergeVx vd vs2 rs1) state numbers = state
-loaded_by (v.MergeVi vd vs2 imm) state numbers = state
-loaded_by (v.MoveVv vd vs1) state numbers = state
-loaded_by (v.MoveVx vd rs1) state numbers = state
-loaded_by (v.MoveVi vd imm) state numbers = state
-loaded_by (v.MoveToScalar rd vs2) state numbers = state
-loaded_by (v.MoveFromScalar vd rs1) state numbers = state
-loaded_by (v.ElementNumbers vd vm) state numbers = state
-loaded_by (v.ExtendBytes vd vs2 vm) state numbers = state
-loaded_by (v.Vsetvli rd rs1 vtype) state numbers = state
-loaded_by (v.Vsetivli rd length vtype) state numbers = state
-loaded_by (v.Vsetvl rd rs1 rs2) state numbers = state
-loaded_by (v.LoadUnit w vd rs1 vm) state numbers = loaded state w vd vm numbers
-loaded_by (v.LoadStrided w vd rs1 rs2 vm) state numbers = loaded state w vd vm numbers
-loaded_by (v.LoadIndexed w vd rs1 vs2 vm) state numbers = loaded state w vd vm numbers
-loaded_by (v.StoreUnit w vs3 rs1 vm) state numbers = state
-loaded_by (v.StoreStrided w vs3 rs1 rs2 vm) state numbers = state
-loaded_by (v.StoreIndexed w vs3 rs1 vs2 vm) state numbers = state
+loaded_by (v.LoadElements w vd rs1 addressing vm) state numbers = loaded state w vd vm numbers
+loaded_by insn state numbers = state
 
 -- the width of a load's or store's elements
 abbrev pub width_in : VectorInsn → Option ElementWidth
-width_in (v.ArithmeticVv o vd vs2 vs1 vm) = None
-width_in (v.ArithmeticVx o vd vs2 rs1 vm) = None
-width_in (v.ArithmeticVi o vd vs2 imm vm) = None
-width_in (v.ShiftVi o vd vs2 amount vm) = None
-width_in (v.CompareVv o vd vs2 vs1 vm) = None
-width_in (v.CompareVx o vd vs2 rs1 vm) = None
-width_in (v.CompareVi o vd vs2 imm vm) = None
-width_in (v.MultiplyVv o vd vs2 vs1 vm) = None
-width_in (v.MultiplyVx o vd vs2 rs1 vm) = None
-width_in (v.Reduce o vd vs2 vs1 vm) = None
-width_in (v.MergeVv vd vs2 vs1) = None
-width_in (v.MergeVx vd vs2 rs1) = None
-width_in (v.MergeVi vd vs2 imm) = None
-width_in (v.MoveVv vd vs1) = None
-width_in (v.MoveVx vd rs1) = None
-width_in (v.MoveVi vd imm) = None
-width_in (v.MoveToScalar rd vs2) = None
-width_in (v.MoveFromScalar vd rs1) = None
-width_in (v.ElementNumbers vd vm) = None
-width_in (v.ExtendBytes vd vs2 vm) = None
-width_in (v.Vsetvli rd rs1 vtype) = None
-width_in (v.Vsetivli rd length vtype) = None
-width_in (v.Vsetvl rd rs1 rs2) = None
-width_in (v.LoadUnit w vd rs1 vm) = Some w
-width_in (v.LoadStrided w vd rs1 rs2 vm) = Some w
-width_in (v.LoadIndexed w vd rs1 vs2 vm) = Some w
-width_in (v.StoreUnit w vs3 rs1 vm) = Some w
-width_in (v.StoreStrided w vs3 rs1 rs2 vm) = Some w
-width_in (v.StoreIndexed w vs3 rs1 vs2 vm) = Some w
+width_in (v.LoadElements w vd rs1 addressing vm) = Some w
+width_in (v.StoreElements w vs3 rs1 addressing vm) = Some w
+width_in insn = None

@@ -26,23 +26,4 @@ pair_of (v.CompareVx o vd vs2 rs1 vm) number = Some (record { vd = vd; vs2 = vs2
 pair_of (v.CompareVi o vd vs2 imm vm) number = Some (record { vd = vd; vs2 = vs2; other = Immediate imm; vm = vm })
 pair_of (v.MultiplyVv o vd vs2 vs1 vm) number = Some (record { vd = vd; vs2 = vs2; other = Register vs1; vm = vm })
 pair_of (v.MultiplyVx o vd vs2 rs1 vm) number = Some (record { vd = vd; vs2 = vs2; other = Number number; vm = vm })
-pair_of (v.Reduce o vd vs2 vs1 vm) number = None
-pair_of (v.MergeVv vd vs2 vs1) number = None
-pair_of (v.MergeVx vd vs2 rs1) number = None
-pair_of (v.MergeVi vd vs2 imm) number = None
-pair_of (v.MoveVv vd vs1) number = None
-pair_of (v.MoveVx vd rs1) number = None
-pair_of (v.MoveVi vd imm) number = None
-pair_of (v.MoveToScalar rd vs2) number = None
-pair_of (v.MoveFromScalar vd rs1) number = None
-pair_of (v.ElementNumbers vd vm) number = None
-pair_of (v.ExtendBytes vd vs2 vm) number = None
-pair_of (v.Vsetvli rd rs1 vtype) number = None
-pair_of (v.Vsetivli rd length vtype) number = None
-pair_of (v.Vsetvl rd rs1 rs2) number = None
-pair_of (v.LoadUnit w vd rs1 vm) number = None
-pair_of (v.LoadStrided w vd rs1 rs2 vm) number = None
-pair_of (v.LoadIndexed w vd rs1 vs2 vm) number = None
-pair_of (v.StoreUnit w vs3 rs1 vm) number = None
-pair_of (v.StoreStrided w vs3 rs1 rs2 vm) number = None
-pair_of (v.StoreIndexed w vs3 rs1 vs2 vm) number = None
+pair_of insn number = None

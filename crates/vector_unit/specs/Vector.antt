@@ -16,6 +16,8 @@ use Rattle.lanes.specs.Masks.{active, mask_bits, with_mask_bits_from}
 use Rattle.lanes.specs.Elementwise.{zip_with, merged, reduced}
 use Rattle.rv_insn.specs.declared.vector_instructions.VectorInsn.{VectorInsn}
 use Rattle.rv_insn.specs.declared.vector_instructions.VectorInsn.TheVariants as v
+use Rattle.rv_insn.specs.declared.vector_instructions.Addressing.{Addressing}
+use Rattle.rv_insn.specs.declared.vector_instructions.Addressing.TheVariants as addressings
 use Rattle.rv_insn.specs.declared.vector_operations.ElementWidth.{ElementWidth}
 use Rattle.rv_insn.specs.declared.vector_operations.ElementWidth.TheVariants as widths
 use Rattle.vector_unit.specs.VectorState.{Vectors, register, with_register, has_vill, width_of, most_elements, group_of, asked_by, is_illegal_configuration}
@@ -86,37 +88,12 @@ merged_by_mask state other of_vs2 = merged (mask_bits 0 (count state) (register 
 
 -- the vtype and the elements that are asked for, where x gives the integer registers
 abbrev pub asked_of : VectorInsn → (ℕ → ℕ) → Option (ℕ × Asked)
-asked_of (v.ArithmeticVv o vd vs2 vs1 vm) x = None
-asked_of (v.ArithmeticVx o vd vs2 rs1 vm) x = None
-asked_of (v.ArithmeticVi o vd vs2 imm vm) x = None
-asked_of (v.ShiftVi o vd vs2 amount vm) x = None
-asked_of (v.CompareVv o vd vs2 vs1 vm) x = None
-asked_of (v.CompareVx o vd vs2 rs1 vm) x = None
-asked_of (v.CompareVi o vd vs2 imm vm) x = None
-asked_of (v.MultiplyVv o vd vs2 vs1 vm) x = None
-asked_of (v.MultiplyVx o vd vs2 rs1 vm) x = None
-asked_of (v.Reduce o vd vs2 vs1 vm) x = None
-asked_of (v.MergeVv vd vs2 vs1) x = None
-asked_of (v.MergeVx vd vs2 rs1) x = None
-asked_of (v.MergeVi vd vs2 imm) x = None
-asked_of (v.MoveVv vd vs1) x = None
-asked_of (v.MoveVx vd rs1) x = None
-asked_of (v.MoveVi vd imm) x = None
-asked_of (v.MoveToScalar rd vs2) x = None
-asked_of (v.MoveFromScalar vd rs1) x = None
-asked_of (v.ElementNumbers vd vm) x = None
-asked_of (v.ExtendBytes vd vs2 vm) x = None
 asked_of (v.Vsetvli rd rs1 vtype) x = Some (vtype, asked_by rd rs1 (x rs1))
 asked_of (v.Vsetivli rd length vtype) x = Some (vtype, AtMost length)
 asked_of (v.Vsetvl rd rs1 rs2) x = Some (x rs2, asked_by rd rs1 (x rs1))
-asked_of (v.LoadUnit w vd rs1 vm) x = None
-asked_of (v.LoadStrided w vd rs1 rs2 vm) x = None
-asked_of (v.LoadIndexed w vd rs1 vs2 vm) x = None
-asked_of (v.StoreUnit w vs3 rs1 vm) x = None
-asked_of (v.StoreStrided w vs3 rs1 rs2 vm) x = None
-asked_of (v.StoreIndexed w vs3 rs1 vs2 vm) x = None
+asked_of insn x = None
 
--- ---- the vector state afterwards; configuration and memory are elsewhere
+-- ---- the vector state afterwards; what configurations, loads and stores leave is elsewhere
 
 abbrev pub vector_after : VectorInsn → (ℕ → ℕ) → Vectors → Vectors
 vector_after (v.ArithmeticVv o vd vs2 vs1 vm) x state = with_elements state vd vm (zip_with (op.arithmetic_vv o (width state)) (of_group state vs2) (of_group state vs1))
@@ -136,51 +113,15 @@ vector_after (v.MergeVi vd vs2 imm) x state = with_elements state vd true (merge
 vector_after (v.MoveVv vd vs1) x state = with_elements state vd true (of_group state vs1)
 vector_after (v.MoveVx vd rs1) x state = with_elements state vd true (of_scalar state (x rs1))
 vector_after (v.MoveVi vd imm) x state = with_elements state vd true (of_immediate state imm)
-vector_after (v.MoveToScalar rd vs2) x state = state
 vector_after (v.MoveFromScalar vd rs1) x state = with_first state vd (x rs1 % 2 ^ width state)
 vector_after (v.ElementNumbers vd vm) x state = with_elements state vd vm (range_with_len 0 (count state))
 vector_after (v.ExtendBytes vd vs2 vm) x state = with_elements state vd vm (bytes_of_register state vs2)
-vector_after (v.Vsetvli rd rs1 vtype) x state = state
-vector_after (v.Vsetivli rd length vtype) x state = state
-vector_after (v.Vsetvl rd rs1 rs2) x state = state
-vector_after (v.LoadUnit w vd rs1 vm) x state = state
-vector_after (v.LoadStrided w vd rs1 rs2 vm) x state = state
-vector_after (v.LoadIndexed w vd rs1 vs2 vm) x state = state
-vector_after (v.StoreUnit w vs3 rs1 vm) x state = state
-vector_after (v.StoreStrided w vs3 rs1 rs2 vm) x state = state
-vector_after (v.StoreIndexed w vs3 rs1 vs2 vm) x state = state
+vector_after insn x state = state
 
 -- the number that an integer register gets, also with vl 0
 abbrev pub scalar_given : VectorInsn → Vectors → Option (ℕ × ℕ)
-scalar_given (v.ArithmeticVv o vd vs2 vs1 vm) state = None
-scalar_given (v.ArithmeticVx o vd vs2 rs1 vm) state = None
-scalar_given (v.ArithmeticVi o vd vs2 imm vm) state = None
-scalar_given (v.ShiftVi o vd vs2 amount vm) state = None
-scalar_given (v.CompareVv o vd vs2 vs1 vm) state = None
-scalar_given (v.CompareVx o vd vs2 rs1 vm) state = None
-scalar_given (v.CompareVi o vd vs2 imm vm) state = None
-scalar_given (v.MultiplyVv o vd vs2 vs1 vm) state = None
-scalar_given (v.MultiplyVx o vd vs2 rs1 vm) state = None
-scalar_given (v.Reduce o vd vs2 vs1 vm) state = None
-scalar_given (v.MergeVv vd vs2 vs1) state = None
-scalar_given (v.MergeVx vd vs2 rs1) state = None
-scalar_given (v.MergeVi vd vs2 imm) state = None
-scalar_given (v.MoveVv vd vs1) state = None
-scalar_given (v.MoveVx vd rs1) state = None
-scalar_given (v.MoveVi vd imm) state = None
 scalar_given (v.MoveToScalar rd vs2) state = Some (rd, word.wrapped 32 (word.signed (width state) (element (width state) (register state vs2) 0)))
-scalar_given (v.MoveFromScalar vd rs1) state = None
-scalar_given (v.ElementNumbers vd vm) state = None
-scalar_given (v.ExtendBytes vd vs2 vm) state = None
-scalar_given (v.Vsetvli rd rs1 vtype) state = None
-scalar_given (v.Vsetivli rd length vtype) state = None
-scalar_given (v.Vsetvl rd rs1 rs2) state = None
-scalar_given (v.LoadUnit w vd rs1 vm) state = None
-scalar_given (v.LoadStrided w vd rs1 rs2 vm) state = None
-scalar_given (v.LoadIndexed w vd rs1 vs2 vm) state = None
-scalar_given (v.StoreUnit w vs3 rs1 vm) state = None
-scalar_given (v.StoreStrided w vs3 rs1 rs2 vm) state = None
-scalar_given (v.StoreIndexed w vs3 rs1 vs2 vm) state = None
+scalar_given insn state = None
 
 -- the number alone
 abbrev pub number_of : Option (ℕ × ℕ) → Option ℕ
@@ -194,73 +135,42 @@ bits_of widths.Bits8 = 8
 bits_of widths.Bits16 = 16
 bits_of widths.Bits32 = 32
 
--- a masked row whose destination is the mask
+-- a masked row whose destination is the mask: comparisons and reductions may write it, and stores have no destination
 abbrev pub overwrites_mask : VectorInsn → Bool
 overwrites_mask (v.ArithmeticVv o vd vs2 vs1 vm) = not vm && vd == 0
 overwrites_mask (v.ArithmeticVx o vd vs2 rs1 vm) = not vm && vd == 0
 overwrites_mask (v.ArithmeticVi o vd vs2 imm vm) = not vm && vd == 0
 overwrites_mask (v.ShiftVi o vd vs2 amount vm) = not vm && vd == 0
-overwrites_mask (v.CompareVv o vd vs2 vs1 vm) = false
-overwrites_mask (v.CompareVx o vd vs2 rs1 vm) = false
-overwrites_mask (v.CompareVi o vd vs2 imm vm) = false
 overwrites_mask (v.MultiplyVv o vd vs2 vs1 vm) = not vm && vd == 0
 overwrites_mask (v.MultiplyVx o vd vs2 rs1 vm) = not vm && vd == 0
-overwrites_mask (v.Reduce o vd vs2 vs1 vm) = false
 overwrites_mask (v.MergeVv vd vs2 vs1) = vd == 0
 overwrites_mask (v.MergeVx vd vs2 rs1) = vd == 0
 overwrites_mask (v.MergeVi vd vs2 imm) = vd == 0
-overwrites_mask (v.MoveVv vd vs1) = false
-overwrites_mask (v.MoveVx vd rs1) = false
-overwrites_mask (v.MoveVi vd imm) = false
-overwrites_mask (v.MoveToScalar rd vs2) = false
-overwrites_mask (v.MoveFromScalar vd rs1) = false
 overwrites_mask (v.ElementNumbers vd vm) = not vm && vd == 0
 overwrites_mask (v.ExtendBytes vd vs2 vm) = not vm && vd == 0
-overwrites_mask (v.Vsetvli rd rs1 vtype) = false
-overwrites_mask (v.Vsetivli rd length vtype) = false
-overwrites_mask (v.Vsetvl rd rs1 rs2) = false
-overwrites_mask (v.LoadUnit w vd rs1 vm) = not vm && vd == 0
-overwrites_mask (v.LoadStrided w vd rs1 rs2 vm) = not vm && vd == 0
-overwrites_mask (v.LoadIndexed w vd rs1 vs2 vm) = not vm && vd == 0
-overwrites_mask (v.StoreUnit w vs3 rs1 vm) = false
-overwrites_mask (v.StoreStrided w vs3 rs1 rs2 vm) = false
-overwrites_mask (v.StoreIndexed w vs3 rs1 vs2 vm) = false
+overwrites_mask (v.LoadElements w vd rs1 addressing vm) = not vm && vd == 0
+overwrites_mask insn = false
+
+-- of a load or store the width that has to be the configured one: that of offsets
+abbrev pub offset_width : Addressing → ElementWidth → Option ElementWidth
+offset_width (addressings.Indexed vs2) w = Some w
+offset_width addressing w = None
 
 -- the width that has to be the configured one: that of accesses at offsets, and that of extended bytes
 abbrev pub fixed_width : VectorInsn → Option ElementWidth
-fixed_width (v.ArithmeticVv o vd vs2 vs1 vm) = None
-fixed_width (v.ArithmeticVx o vd vs2 rs1 vm) = None
-fixed_width (v.ArithmeticVi o vd vs2 imm vm) = None
-fixed_width (v.ShiftVi o vd vs2 amount vm) = None
-fixed_width (v.CompareVv o vd vs2 vs1 vm) = None
-fixed_width (v.CompareVx o vd vs2 rs1 vm) = None
-fixed_width (v.CompareVi o vd vs2 imm vm) = None
-fixed_width (v.MultiplyVv o vd vs2 vs1 vm) = None
-fixed_width (v.MultiplyVx o vd vs2 rs1 vm) = None
-fixed_width (v.Reduce o vd vs2 vs1 vm) = None
-fixed_width (v.MergeVv vd vs2 vs1) = None
-fixed_width (v.MergeVx vd vs2 rs1) = None
-fixed_width (v.MergeVi vd vs2 imm) = None
-fixed_width (v.MoveVv vd vs1) = None
-fixed_width (v.MoveVx vd rs1) = None
-fixed_width (v.MoveVi vd imm) = None
-fixed_width (v.MoveToScalar rd vs2) = None
-fixed_width (v.MoveFromScalar vd rs1) = None
-fixed_width (v.ElementNumbers vd vm) = None
 fixed_width (v.ExtendBytes vd vs2 vm) = Some widths.Bits32
-fixed_width (v.Vsetvli rd rs1 vtype) = None
-fixed_width (v.Vsetivli rd length vtype) = None
-fixed_width (v.Vsetvl rd rs1 rs2) = None
-fixed_width (v.LoadUnit w vd rs1 vm) = None
-fixed_width (v.LoadStrided w vd rs1 rs2 vm) = None
-fixed_width (v.LoadIndexed w vd rs1 vs2 vm) = Some w
-fixed_width (v.StoreUnit w vs3 rs1 vm) = None
-fixed_width (v.StoreStrided w vs3 rs1 rs2 vm) = None
-fixed_width (v.StoreIndexed w vs3 rs1 vs2 vm) = Some w
+fixed_width (v.LoadElements w vd rs1 addressing vm) = offset_width addressing w
+fixed_width (v.StoreElements w vs3 rs1 addressing vm) = offset_width addressing w
+fixed_width insn = None
 
 abbrev pub is_other_width : Vectors → Option ElementWidth → Bool
 is_other_width state None = false
 is_other_width state (Some w) = not (bits_of w == width state)
+
+-- of a load or store of this register the groups of the configured size
+abbrev pub offset_groups : Addressing → ℕ → List ℕ
+offset_groups (addressings.Indexed vs2) v = v ∷ vs2 ∷ []
+offset_groups addressing v = []
 
 -- the registers that are groups; the others of a row stand alone: a mask, a comparison's vd, a reduction's vd and vs1, the
 -- bytes that are extended, and what is moved between an integer register and element 0
@@ -281,55 +191,26 @@ groups_in (v.MergeVi vd vs2 imm) = vd ∷ vs2 ∷ []
 groups_in (v.MoveVv vd vs1) = vd ∷ vs1 ∷ []
 groups_in (v.MoveVx vd rs1) = vd ∷ []
 groups_in (v.MoveVi vd imm) = vd ∷ []
-groups_in (v.MoveToScalar rd vs2) = []
-groups_in (v.MoveFromScalar vd rs1) = []
 groups_in (v.ElementNumbers vd vm) = vd ∷ []
 groups_in (v.ExtendBytes vd vs2 vm) = vd ∷ []
-groups_in (v.Vsetvli rd rs1 vtype) = []
-groups_in (v.Vsetivli rd length vtype) = []
-groups_in (v.Vsetvl rd rs1 rs2) = []
-groups_in (v.LoadUnit w vd rs1 vm) = []
-groups_in (v.LoadStrided w vd rs1 rs2 vm) = []
-groups_in (v.LoadIndexed w vd rs1 vs2 vm) = vd ∷ vs2 ∷ []
-groups_in (v.StoreUnit w vs3 rs1 vm) = []
-groups_in (v.StoreStrided w vs3 rs1 rs2 vm) = []
-groups_in (v.StoreIndexed w vs3 rs1 vs2 vm) = vs3 ∷ vs2 ∷ []
+groups_in (v.LoadElements w vd rs1 addressing vm) = offset_groups addressing vd
+groups_in (v.StoreElements w vs3 rs1 addressing vm) = offset_groups addressing vs3
+groups_in insn = []
 
 -- a group begins at a multiple of its size
 abbrev pub is_misplaced : Vectors → List ℕ → Bool
 is_misplaced state groups = list_any (λ v. not (v % group state == 0)) groups
 
--- the width and the register of a row whose width may differ from the configured one
+-- of a load or store the width and the register, where the width may differ from the configured one
+abbrev pub moved_by : Addressing → ElementWidth → ℕ → Option (ElementWidth × ℕ)
+moved_by (addressings.Indexed vs2) w v = None
+moved_by addressing w v = Some (w, v)
+
+-- the same of all rows
 abbrev pub moved_in : VectorInsn → Option (ElementWidth × ℕ)
-moved_in (v.ArithmeticVv o vd vs2 vs1 vm) = None
-moved_in (v.ArithmeticVx o vd vs2 rs1 vm) = None
-moved_in (v.ArithmeticVi o vd vs2 imm vm) = None
-moved_in (v.ShiftVi o vd vs2 amount vm) = None
-moved_in (v.CompareVv o vd vs2 vs1 vm) = None
-moved_in (v.CompareVx o vd vs2 rs1 vm) = None
-moved_in (v.CompareVi o vd vs2 imm vm) = None
-moved_in (v.MultiplyVv o vd vs2 vs1 vm) = None
-moved_in (v.MultiplyVx o vd vs2 rs1 vm) = None
-moved_in (v.Reduce o vd vs2 vs1 vm) = None
-moved_in (v.MergeVv vd vs2 vs1) = None
-moved_in (v.MergeVx vd vs2 rs1) = None
-moved_in (v.MergeVi vd vs2 imm) = None
-moved_in (v.MoveVv vd vs1) = None
-moved_in (v.MoveVx vd rs1) = None
-moved_in (v.MoveVi vd imm) = None
-moved_in (v.MoveToScalar rd vs2) = None
-moved_in (v.MoveFromScalar vd rs1) = None
-moved_in (v.ElementNumbers vd vm) = None
-moved_in (v.ExtendBytes vd vs2 vm) = None
-moved_in (v.Vsetvli rd rs1 vtype) = None
-moved_in (v.Vsetivli rd length vtype) = None
-moved_in (v.Vsetvl rd rs1 rs2) = None
-moved_in (v.LoadUnit w vd rs1 vm) = Some (w, vd)
-moved_in (v.LoadStrided w vd rs1 rs2 vm) = Some (w, vd)
-moved_in (v.LoadIndexed w vd rs1 vs2 vm) = None
-moved_in (v.StoreUnit w vs3 rs1 vm) = Some (w, vs3)
-moved_in (v.StoreStrided w vs3 rs1 rs2 vm) = Some (w, vs3)
-moved_in (v.StoreIndexed w vs3 rs1 vs2 vm) = None
+moved_in (v.LoadElements w vd rs1 addressing vm) = moved_by addressing w vd
+moved_in (v.StoreElements w vs3 rs1 addressing vm) = moved_by addressing w vs3
+moved_in insn = None
 
 -- how many registers elements of a width take, where as many as are configured: EMUL, rounded down
 abbrev pub group_at : Vectors → ElementWidth → ℕ
@@ -344,35 +225,12 @@ is_unfit state (Some moved) =
 
 -- whether the vector unit alone executes a row: one that neither configures it nor touches memory
 abbrev pub is_own : VectorInsn → Bool
-is_own (v.ArithmeticVv o vd vs2 vs1 vm) = true
-is_own (v.ArithmeticVx o vd vs2 rs1 vm) = true
-is_own (v.ArithmeticVi o vd vs2 imm vm) = true
-is_own (v.ShiftVi o vd vs2 amount vm) = true
-is_own (v.CompareVv o vd vs2 vs1 vm) = true
-is_own (v.CompareVx o vd vs2 rs1 vm) = true
-is_own (v.CompareVi o vd vs2 imm vm) = true
-is_own (v.MultiplyVv o vd vs2 vs1 vm) = true
-is_own (v.MultiplyVx o vd vs2 rs1 vm) = true
-is_own (v.Reduce o vd vs2 vs1 vm) = true
-is_own (v.MergeVv vd vs2 vs1) = true
-is_own (v.MergeVx vd vs2 rs1) = true
-is_own (v.MergeVi vd vs2 imm) = true
-is_own (v.MoveVv vd vs1) = true
-is_own (v.MoveVx vd rs1) = true
-is_own (v.MoveVi vd imm) = true
-is_own (v.MoveToScalar rd vs2) = true
-is_own (v.MoveFromScalar vd rs1) = true
-is_own (v.ElementNumbers vd vm) = true
-is_own (v.ExtendBytes vd vs2 vm) = true
 is_own (v.Vsetvli rd rs1 vtype) = false
 is_own (v.Vsetivli rd length vtype) = false
 is_own (v.Vsetvl rd rs1 rs2) = false
-is_own (v.LoadUnit w vd rs1 vm) = false
-is_own (v.LoadStrided w vd rs1 rs2 vm) = false
-is_own (v.LoadIndexed w vd rs1 vs2 vm) = false
-is_own (v.StoreUnit w vs3 rs1 vm) = false
-is_own (v.StoreStrided w vs3 rs1 rs2 vm) = false
-is_own (v.StoreIndexed w vs3 rs1 vs2 vm) = false
+is_own (v.LoadElements w vd rs1 addressing vm) = false
+is_own (v.StoreElements w vs3 rs1 addressing vm) = false
+is_own insn = true
 
 -- whether a row that is no configuration is illegal
 abbrev pub is_refused : VectorInsn → Vectors → Bool

@@ -12,7 +12,7 @@ use crate::elements::NewElements;
 use crate::operands::{Operand, Pair};
 use crate::states::VectorState;
 use crate::{comparisons, operations};
-use rv_insn::{ArithmeticVxOp, ElementWidth, MultiplyOp, Trap, VReg, VectorInsn};
+use rv_insn::{Addressing, ArithmeticVxOp, ElementWidth, MultiplyOp, Trap, VReg, VectorInsn};
 
 impl VectorState {
     /// Executes an instruction that neither configures the unit nor touches memory; `scalar` is the number in
@@ -77,12 +77,16 @@ impl VectorState {
             | VectorInsn::MultiplyVx { vd, vs2, .. }
             | VectorInsn::MergeVx { vd, vs2, .. }
             | VectorInsn::MergeVi { vd, vs2, .. }
-            | VectorInsn::LoadIndexed { vd, vs2, .. } => {
-                self.is_inside(vd) || self.is_inside(vs2)
-            }
-            VectorInsn::StoreIndexed { vs3, vs2, .. } => {
-                self.is_inside(vs3) || self.is_inside(vs2)
-            }
+            | VectorInsn::LoadElements {
+                vd,
+                addressing: Addressing::Indexed { vs2 },
+                ..
+            } => self.is_inside(vd) || self.is_inside(vs2),
+            VectorInsn::StoreElements {
+                vs3,
+                addressing: Addressing::Indexed { vs2 },
+                ..
+            } => self.is_inside(vs3) || self.is_inside(vs2),
             VectorInsn::CompareVv { vs2, vs1, .. } => self.is_inside(vs2) || self.is_inside(vs1),
             VectorInsn::CompareVx { vs2, .. }
             | VectorInsn::CompareVi { vs2, .. }
@@ -102,14 +106,24 @@ impl VectorState {
         requires { has_vill self.now ≡ false }
         ensures { result ≡ is_unfit self.now (moved_in insn.now) }
     {
-        let (width, v) = match *insn {
-            VectorInsn::LoadUnit { width, vd, .. } | VectorInsn::LoadStrided { width, vd, .. } => {
-                (width, vd)
-            }
-            VectorInsn::StoreUnit { width, vs3, .. }
-            | VectorInsn::StoreStrided { width, vs3, .. } => (width, vs3),
+        let (width, v, addressing) = match *insn {
+            VectorInsn::LoadElements {
+                width,
+                vd,
+                addressing,
+                ..
+            } => (width, vd, addressing),
+            VectorInsn::StoreElements {
+                width,
+                vs3,
+                addressing,
+                ..
+            } => (width, vs3, addressing),
             _ => return false,
         };
+        if let Addressing::Indexed { .. } = addressing {
+            return false;
+        }
         let registers = self.group_at(width);
         registers > 4 || (registers > 1 && v.number() as usize % registers != 0)
     }
@@ -239,9 +253,7 @@ fn overwrites_mask(insn: &VectorInsn) -> bool
         | VectorInsn::MultiplyVx { vd, vm, .. }
         | VectorInsn::ElementNumbers { vd, vm }
         | VectorInsn::ExtendBytes { vd, vm, .. }
-        | VectorInsn::LoadUnit { vd, vm, .. }
-        | VectorInsn::LoadStrided { vd, vm, .. }
-        | VectorInsn::LoadIndexed { vd, vm, .. } => !vm && vd.number() == 0,
+        | VectorInsn::LoadElements { vd, vm, .. } => !vm && vd.number() == 0,
         VectorInsn::MergeVv { vd, .. }
         | VectorInsn::MergeVx { vd, .. }
         | VectorInsn::MergeVi { vd, .. } => vd.number() == 0,
@@ -254,9 +266,16 @@ fn fixed_width(insn: &VectorInsn) -> Option<ElementWidth>
     ensures { result ≡ fixed_width insn.now }
 {
     match *insn {
-        VectorInsn::LoadIndexed { width, .. } | VectorInsn::StoreIndexed { width, .. } => {
-            Some(width)
+        VectorInsn::LoadElements {
+            width,
+            addressing: Addressing::Indexed { .. },
+            ..
         }
+        | VectorInsn::StoreElements {
+            width,
+            addressing: Addressing::Indexed { .. },
+            ..
+        } => Some(width),
         VectorInsn::ExtendBytes { .. } => Some(ElementWidth::Bits32),
         _ => None,
     }

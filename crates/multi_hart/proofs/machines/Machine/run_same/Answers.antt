@@ -1,4 +1,4 @@
-use Rattle.std.proofs.Common.{◌≡◌, ℕ, ◌+◌, ◌-◌, ◌<◌, length, replicate, ap, sym, subst, ◌∙◌, arith}
+use Rattle.std.proofs.Common.{◌≡◌, ◌+◌, ◌-◌, ◌<◌, length, replicate, ap, sym, subst, ◌∙◌, arith}
 use Rattle.std.specs.Prelude.{◌≢◌}
 use Rattle.hart_core.specs.declared.harts.Status.TheVariants.{Running}
 use Rattle.multi_hart.specs.Run.{turn, outcome, run, KeepsShape, hart_at}
