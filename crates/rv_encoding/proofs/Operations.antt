@@ -7,15 +7,21 @@ use Rattle.rv_insn.specs.declared.operations.StoreOp.{StoreOp}
 use Rattle.rv_insn.specs.declared.operations.AluImmOp.{AluImmOp}
 use Rattle.rv_insn.specs.declared.operations.ShiftOp.{ShiftOp}
 use Rattle.rv_insn.specs.declared.operations.AluOp.{AluOp}
-use Rattle.rv_encoding.specs.Operations.{branch_funct3, all_branches, branch_of, load_funct3, all_loads, load_of, store_funct3, all_stores, store_of, alu_imm_funct3, all_alu_imms, alu_imm_of, shift_funct3, shift_funct7, all_shifts, shift_of, alu_funct3, alu_funct7, all_alus, alu_of}
+use Rattle.rv_insn.specs.Encoding.{fixed, span}
+use Rattle.rv_insn.specs.Table.{scalar_table, r_type, i_type, s_type, b_type, u_type, j_type, amo_type, whole_word}
+use Rattle.rv_encoding.specs.Keys.{key_in}
+use Rattle.rv_insn.specs.Meaning.{all_branches, all_loads, all_stores, all_alu_imms, all_shifts, all_alus}
+use Rattle.rv_encoding.specs.Operations.{branch_funct3, branch_of, load_funct3, load_of, store_funct3, store_of, alu_imm_funct3, alu_imm_of, shift_funct3, shift_funct7, shift_of, alu_funct3, alu_funct7, alu_of}
 use Rattle.rv_encoding.proofs.Lists.{both_true, find_passes}
 
 -- ---- branches
 
 pub branch_funct3-lt : (op : BranchOp) → branch_funct3 op < 2 ^ 3
+unfolding key_in scalar_table r_type i_type s_type b_type u_type j_type amo_type whole_word fixed span
 branch_funct3-lt op = grind arith
 
 pub branch_of-funct3 : (op : BranchOp) → branch_of (branch_funct3 op) ≡ Some op
+unfolding key_in scalar_table r_type i_type s_type b_type u_type j_type amo_type whole_word fixed span
 branch_of-funct3 op = grind arith
 
 pub branch_found : (funct3 : ℕ) (op : BranchOp) → branch_of funct3 ≡ Some op → branch_funct3 op ≡ funct3
@@ -24,9 +30,11 @@ branch_found funct3 op e = eqb-true _ funct3 (find_passes (λ op. branch_funct3 
 -- ---- loads
 
 pub load_funct3-lt : (op : LoadOp) → load_funct3 op < 2 ^ 3
+unfolding key_in scalar_table r_type i_type s_type b_type u_type j_type amo_type whole_word fixed span
 load_funct3-lt op = grind arith
 
 pub load_of-funct3 : (op : LoadOp) → load_of (load_funct3 op) ≡ Some op
+unfolding key_in scalar_table r_type i_type s_type b_type u_type j_type amo_type whole_word fixed span
 load_of-funct3 op = grind arith
 
 pub load_found : (funct3 : ℕ) (op : LoadOp) → load_of funct3 ≡ Some op → load_funct3 op ≡ funct3
@@ -35,9 +43,11 @@ load_found funct3 op e = eqb-true _ funct3 (find_passes (λ op. load_funct3 op =
 -- ---- stores
 
 pub store_funct3-lt : (op : StoreOp) → store_funct3 op < 2 ^ 3
+unfolding key_in scalar_table r_type i_type s_type b_type u_type j_type amo_type whole_word fixed span
 store_funct3-lt op = grind arith
 
 pub store_of-funct3 : (op : StoreOp) → store_of (store_funct3 op) ≡ Some op
+unfolding key_in scalar_table r_type i_type s_type b_type u_type j_type amo_type whole_word fixed span
 store_of-funct3 op = grind arith
 
 pub store_found : (funct3 : ℕ) (op : StoreOp) → store_of funct3 ≡ Some op → store_funct3 op ≡ funct3
@@ -46,9 +56,11 @@ store_found funct3 op e = eqb-true _ funct3 (find_passes (λ op. store_funct3 op
 -- ---- operations on a register and an immediate
 
 pub alu_imm_funct3-lt : (op : AluImmOp) → alu_imm_funct3 op < 2 ^ 3
+unfolding key_in scalar_table r_type i_type s_type b_type u_type j_type amo_type whole_word fixed span
 alu_imm_funct3-lt op = grind arith
 
 pub alu_imm_of-funct3 : (op : AluImmOp) → alu_imm_of (alu_imm_funct3 op) ≡ Some op
+unfolding key_in scalar_table r_type i_type s_type b_type u_type j_type amo_type whole_word fixed span
 alu_imm_of-funct3 op = grind arith
 
 pub alu_imm_found : (funct3 : ℕ) (op : AluImmOp) → alu_imm_of funct3 ≡ Some op → alu_imm_funct3 op ≡ funct3
@@ -57,12 +69,15 @@ alu_imm_found funct3 op e = eqb-true _ funct3 (find_passes (λ op. alu_imm_funct
 -- ---- shifts by an amount in the word
 
 pub shift_funct3-lt : (op : ShiftOp) → shift_funct3 op < 2 ^ 3
+unfolding key_in scalar_table r_type i_type s_type b_type u_type j_type amo_type whole_word fixed span
 shift_funct3-lt op = grind arith
 
 pub shift_funct7-lt : (op : ShiftOp) → shift_funct7 op < 2 ^ 7
+unfolding key_in scalar_table r_type i_type s_type b_type u_type j_type amo_type whole_word fixed span
 shift_funct7-lt op = grind arith
 
 pub shift_of-keys : (op : ShiftOp) → shift_of (shift_funct3 op) (shift_funct7 op) ≡ Some op
+unfolding key_in scalar_table r_type i_type s_type b_type u_type j_type amo_type whole_word fixed span
 shift_of-keys op = grind arith
 
 pub shift_found : (funct3 funct7 : ℕ) (op : ShiftOp) → shift_of funct3 funct7 ≡ Some op → (shift_funct3 op ≡ funct3) × (shift_funct7 op ≡ funct7)
@@ -72,17 +87,21 @@ shift_found funct3 funct7 op e =
 
 -- no shift has the funct3 of an operation with an immediate
 pub shift_is_no_alu_imm : (op : ShiftOp) → alu_imm_of (shift_funct3 op) ≡ None
+unfolding key_in scalar_table r_type i_type s_type b_type u_type j_type amo_type whole_word fixed span
 shift_is_no_alu_imm op = grind arith
 
 -- ---- operations on two registers
 
 pub alu_funct3-lt : (op : AluOp) → alu_funct3 op < 2 ^ 3
+unfolding key_in scalar_table r_type i_type s_type b_type u_type j_type amo_type whole_word fixed span
 alu_funct3-lt op = grind arith
 
 pub alu_funct7-lt : (op : AluOp) → alu_funct7 op < 2 ^ 7
+unfolding key_in scalar_table r_type i_type s_type b_type u_type j_type amo_type whole_word fixed span
 alu_funct7-lt op = grind arith
 
 pub alu_of-keys : (op : AluOp) → alu_of (alu_funct3 op) (alu_funct7 op) ≡ Some op
+unfolding key_in scalar_table r_type i_type s_type b_type u_type j_type amo_type whole_word fixed span
 alu_of-keys op = grind arith
 
 pub alu_found : (funct3 funct7 : ℕ) (op : AluOp) → alu_of funct3 funct7 ≡ Some op → (alu_funct3 op ≡ funct3) × (alu_funct7 op ≡ funct7)

@@ -1,4 +1,5 @@
 pub mod Decoding
 pub mod Formats
+pub mod Keys
 pub mod Operations
 pub mod VectorOperations

@@ -20,7 +20,7 @@ use Rattle.rv_insn.specs.declared.operations.ShiftOp.TheVariants as shifts
 use Rattle.rv_insn.specs.declared.operations.AluOp.{AluOp}
 use Rattle.rv_insn.specs.declared.operations.AluOp.TheVariants as alus
 
--- ---- an instruction's name in the table
+-- ---- the names of operations in the table
 
 abbrev pub branch_name : BranchOp → List ℕ
 branch_name branches.Beq = codes "beq"
@@ -74,6 +74,28 @@ alu_name alus.Div = codes "div"
 alu_name alus.Divu = codes "divu"
 alu_name alus.Rem = codes "rem"
 alu_name alus.Remu = codes "remu"
+
+-- ---- all operations of each group
+
+abbrev pub all_branches : List BranchOp
+all_branches = branches.Beq ∷ branches.Bne ∷ branches.Blt ∷ branches.Bge ∷ branches.Bltu ∷ branches.Bgeu ∷ []
+
+abbrev pub all_loads : List LoadOp
+all_loads = loads.Lb ∷ loads.Lh ∷ loads.Lw ∷ loads.Lbu ∷ loads.Lhu ∷ []
+
+abbrev pub all_stores : List StoreOp
+all_stores = stores.Sb ∷ stores.Sh ∷ stores.Sw ∷ []
+
+abbrev pub all_alu_imms : List AluImmOp
+all_alu_imms = alu_imms.Addi ∷ alu_imms.Slti ∷ alu_imms.Sltiu ∷ alu_imms.Xori ∷ alu_imms.Ori ∷ alu_imms.Andi ∷ []
+
+abbrev pub all_shifts : List ShiftOp
+all_shifts = shifts.Slli ∷ shifts.Srli ∷ shifts.Srai ∷ []
+
+abbrev pub all_alus : List AluOp
+all_alus = alus.Add ∷ alus.Sub ∷ alus.Sll ∷ alus.Slt ∷ alus.Sltu ∷ alus.Xor ∷ alus.Srl ∷ alus.Sra ∷ alus.Or ∷ alus.And ∷ alus.Mul ∷ alus.Mulh ∷ alus.Mulhsu ∷ alus.Mulhu ∷ alus.Div ∷ alus.Divu ∷ alus.Rem ∷ alus.Remu ∷ []
+
+-- ---- the name and the fields of an instruction
 
 abbrev pub name_of : Insn → List ℕ
 name_of (Lui rd imm) = codes "lui"
