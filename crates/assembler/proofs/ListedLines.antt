@@ -8,7 +8,7 @@ use Rattle.std.proofs.lemmas.Int.{ints}
 use Rattle.rv_insn.specs.Meaning.{fields_of}
 use Rattle.rv_insn.specs.declared.instructions.Insn.{Insn}
 use Rattle.mnemonics.specs.Forms.{form_of, mnemonic}
-use Rattle.mnemonics.specs.Named.{a_forms, b_forms, l_forms, s_forms, other_forms, vv_forms, vx_forms, vi_forms, v_forms, other_vector_forms, forms, form_among, form_named}
+use Rattle.mnemonics.specs.Named.{forms, vector_forms, form_among, form_named}
 use Rattle.mnemonics.specs.Slots.{shape, FitsSlots}
 use Rattle.mnemonics.specs.declared.forms.Form.{Form}
 use Rattle.assembly_syntax.specs.Tokens.{tokens_of}
@@ -39,7 +39,7 @@ other_names : List (List ℕ)
 other_names = codes "li" ∷ codes "la" ∷ codes ".text" ∷ codes ".data" ∷ codes ".word" ∷ codes ".space" ∷ codes ".entry" ∷ codes ".output" ∷ []
 
 all_apart : list_all (λ form. apart_from other_names (mnemonic form)) forms ≡ true
-unfolding apart_from other_names forms a_forms b_forms l_forms s_forms other_forms vv_forms vx_forms vi_forms v_forms other_vector_forms
+unfolding apart_from other_names forms vector_forms
 all_apart = refl
 
 found_passes : (wanted passes : Form → Bool) (some : List Form) (form : Form) → find wanted some ≡ Some form → list_all passes some ≡ true → passes form ≡ true

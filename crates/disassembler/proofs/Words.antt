@@ -4,7 +4,7 @@ use Rattle.std.specs.List.{list_all}
 use Rattle.rv_insn.specs.Meaning.{fields_of}
 use Rattle.rv_insn.specs.declared.instructions.Insn.{Insn}
 use Rattle.mnemonics.specs.Forms.{form_of, mnemonic}
-use Rattle.mnemonics.specs.Named.{a_forms, b_forms, l_forms, s_forms, other_forms, vv_forms, vx_forms, vi_forms, v_forms, other_vector_forms, forms, form_among, form_named}
+use Rattle.mnemonics.specs.Named.{forms, vector_forms, form_among, form_named}
 use Rattle.mnemonics.specs.Slots.{shape, vector_shape, blank, FitsSlots}
 use Rattle.mnemonics.specs.declared.forms.Form.{Form}
 use Rattle.assembly_syntax.specs.declared.tokens.Token.TheVariants as t
@@ -28,7 +28,7 @@ found_passes wanted passes (first ∷ others) form found all =
     ] found
 
 all_words : list_all (λ form. is_word (mnemonic form)) forms ≡ true
-unfolding forms a_forms b_forms l_forms s_forms other_forms vv_forms vx_forms vi_forms v_forms other_vector_forms
+unfolding forms vector_forms
 all_words = refl
 
 abbrev pub IsFound : Form → Type 0

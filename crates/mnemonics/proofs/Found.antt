@@ -4,12 +4,12 @@ use Rattle.std.specs.Str.{bytes_eq}
 use Rattle.std.proofs.lemmas.Slice.Eq.{bytes_eq-Decides}
 use Rattle.mnemonics.specs.declared.forms.Form.{Form}
 use Rattle.mnemonics.specs.Forms.{mnemonic}
-use Rattle.mnemonics.specs.Named.{a_forms, b_forms, l_forms, s_forms, other_forms, vv_forms, vx_forms, vi_forms, v_forms, other_vector_forms, forms, form_among, form_named}
+use Rattle.mnemonics.specs.Named.{forms, vector_forms, form_among, form_named}
 use Rattle.mnemonics.proofs.Named.{find_passes}
 
 -- a form is found by its mnemonic
 pub found : (form : Form) → form_named (mnemonic form) ≡ Some form
-unfolding form_among forms a_forms b_forms l_forms s_forms other_forms vv_forms vx_forms vi_forms v_forms other_vector_forms
+unfolding form_among forms vector_forms
 found form = grind arith
 
 -- what is found has the mnemonic

@@ -1,6 +1,6 @@
 -- The fields of an instruction that a word means fit the slots of its form.
-use Rattle.std.proofs.Common.{◌≡◌, ℕ, zero, suc, ◌-◌, ◌*◌, ◌^◌, ◌<◌, ◌≤◌, ℤ, pos, negsuc, ◌≤ℤ◌, ◌-ℤ◌, List, [], ◌∷◌, ◌++◌, length, map, slice_index_or, refl, sym, ◌∙◌, ap, subst, arith, lit<, pow-suc, Option, Some, None, Bool, true, false, cond, not, ◌&&◌, ◌||◌, nat_lt, nat_le}
-use Rattle.std.specs.Prelude.{slice_get, find}
+use Rattle.std.proofs.Common.{◌≡◌, ℕ, zero, suc, ◌-◌, ◌*◌, ◌^◌, ◌<◌, ◌≤◌, ℤ, pos, negsuc, ◌≤ℤ◌, ◌-ℤ◌, List, [], ◌∷◌, length, map, slice_index_or, refl, sym, ◌∙◌, ap, subst, arith, lit<, pow-suc, Option, Some, None, Bool, true, false, cond, not, ◌&&◌, ◌||◌, nat_lt, nat_le}
+use Rattle.std.specs.Prelude.{slice_get}
 use Rattle.std.specs.Option.{option_map}
 use Rattle.std.specs.Int.{bit_at}
 use Rattle.std.specs.List.{list_all}
@@ -20,11 +20,9 @@ use Rattle.rv_insn.specs.declared.instructions.Insn.TheVariants.{Lui, Auipc, Jal
 use Rattle.mnemonics.specs.declared.slots.Slot.{Slot}
 use Rattle.mnemonics.specs.declared.slots.Slot.TheVariants as s
 use Rattle.mnemonics.specs.declared.forms.Form.{Form}
-use Rattle.mnemonics.specs.Forms.{form_of, row_name, mnemonic}
-use Rattle.mnemonics.specs.Named.{a_forms, b_forms, l_forms, s_forms, other_forms, vv_forms, vx_forms, vi_forms, v_forms, other_vector_forms, forms, form_among}
+use Rattle.mnemonics.specs.Forms.{form_of, row_name}
 use Rattle.mnemonics.specs.Slots.{shape, vector_shape, blank, vector_blank, field_at, IsWithin, FitsSlot, FitsSlots, Keeps}
-use Rattle.mnemonics.proofs.Named.{both_true, some_same}
-use Rattle.mnemonics.proofs.Found.{found}
+use Rattle.mnemonics.proofs.Named.{both_true}
 use Rattle.mnemonics.proofs.Instructions.{names_agree}
 
 -- ---- the range of a field
@@ -141,64 +139,9 @@ fits form row = not (bytes_eq (row_name form) row.name) || list_all (fits_row ro
 fits_table : Form → Bool
 fits_table form = list_all (fits form) table
 
-a_forms_fit : list_all fits_table a_forms ≡ true
-unfolding fits_table fits fits_row covers at_most least_of greatest_of shape vector_shape table scalar_table vector_table r_type i_type s_type b_type u_type j_type amo_type whole_word span a_forms
-a_forms_fit = refl
-
-b_forms_fit : list_all fits_table b_forms ≡ true
-unfolding fits_table fits fits_row covers at_most least_of greatest_of shape vector_shape table scalar_table vector_table r_type i_type s_type b_type u_type j_type amo_type whole_word span b_forms
-b_forms_fit = refl
-
-l_forms_fit : list_all fits_table l_forms ≡ true
-unfolding fits_table fits fits_row covers at_most least_of greatest_of shape vector_shape table scalar_table vector_table r_type i_type s_type b_type u_type j_type amo_type whole_word span l_forms
-l_forms_fit = refl
-
-s_forms_fit : list_all fits_table s_forms ≡ true
-unfolding fits_table fits fits_row covers at_most least_of greatest_of shape vector_shape table scalar_table vector_table r_type i_type s_type b_type u_type j_type amo_type whole_word span s_forms
-s_forms_fit = refl
-
-other_forms_fit : list_all fits_table other_forms ≡ true
-unfolding fits_table fits fits_row covers at_most least_of greatest_of shape vector_shape table scalar_table vector_table r_type i_type s_type b_type u_type j_type amo_type whole_word span other_forms
-other_forms_fit = refl
-
-vv_forms_fit : list_all fits_table vv_forms ≡ true
-unfolding fits_table fits fits_row covers at_most least_of greatest_of shape vector_shape table scalar_table vector_table r_type i_type s_type b_type u_type j_type amo_type whole_word span vv_forms
-vv_forms_fit = refl
-
-vx_forms_fit : list_all fits_table vx_forms ≡ true
-unfolding fits_table fits fits_row covers at_most least_of greatest_of shape vector_shape table scalar_table vector_table r_type i_type s_type b_type u_type j_type amo_type whole_word span vx_forms
-vx_forms_fit = refl
-
-vi_forms_fit : list_all fits_table vi_forms ≡ true
-unfolding fits_table fits fits_row covers at_most least_of greatest_of shape vector_shape table scalar_table vector_table r_type i_type s_type b_type u_type j_type amo_type whole_word span vi_forms
-vi_forms_fit = refl
-
-v_forms_fit : list_all fits_table v_forms ≡ true
-unfolding fits_table fits fits_row covers at_most least_of greatest_of shape vector_shape table scalar_table vector_table r_type i_type s_type b_type u_type j_type amo_type whole_word span v_forms
-v_forms_fit = refl
-
-other_vector_forms_fit : list_all fits_table other_vector_forms ≡ true
-unfolding fits_table fits fits_row covers at_most least_of greatest_of shape vector_shape table scalar_table vector_table r_type i_type s_type b_type u_type j_type amo_type whole_word span other_vector_forms
-other_vector_forms_fit = refl
-
-all_append : {X : Type 0} (test : X → Bool) (xs ys : List X) → list_all test xs ≡ true → list_all test ys ≡ true → list_all test (xs ++ ys) ≡ true
-all_append test [] ys h k = k
-all_append test (x ∷ xs) ys h k =
-    let both = both_true _ _ h in
-    let first : test x ≡ true = both.0 in
-    rw first (all_append test xs ys both.1 k)
-
-all_forms_fit : list_all fits_table forms ≡ true
-unfolding forms
-all_forms_fit = all_append fits_table a_forms _ a_forms_fit (all_append fits_table b_forms _ b_forms_fit (all_append fits_table l_forms _ l_forms_fit (all_append fits_table s_forms _ s_forms_fit (all_append fits_table other_forms _ other_forms_fit (all_append fits_table vv_forms _ vv_forms_fit (all_append fits_table vx_forms _ vx_forms_fit (all_append fits_table vi_forms _ vi_forms_fit (all_append fits_table v_forms _ v_forms_fit (other_vector_forms_fit)))))))))
-
--- what is found among elements that pass a test passes it
-found_passes : {X : Type 0} (test looked : X → Bool) (xs : List X) (x : X) → list_all test xs ≡ true → find looked xs ≡ Some x → test x ≡ true
-found_passes test looked [] x h e = absurd cc
-found_passes test looked (y ∷ ys) x h e = elim (looked y) as (λ t. cond t (Some y) (find looked ys) ≡ Some x → test x ≡ true) [
-  | true ↦ λ same. subst (λ z. test z ≡ true) (some_same y x same) (both_true _ _ h).0
-  | false ↦ λ later. found_passes test looked ys x (both_true _ _ h).1 later
-] e
+form_fits : (form : Form) → fits_table form ≡ true
+unfolding fits_table fits fits_row covers at_most least_of greatest_of shape vector_shape table scalar_table vector_table r_type i_type s_type b_type u_type j_type amo_type whole_word span
+form_fits form = grind arith steps 60000000
 
 contained_passes : {X : Type 0} (test : X → Bool) (xs : List X) (x : X) (k : ℕ) → list_all test xs ≡ true → k < length xs → slice_index_or xs k x ≡ x → test x ≡ true
 contained_passes test [] x k h within e = absurd (omega arith)
@@ -210,9 +153,9 @@ passes_other true b h e = h
 passes_other false b h e = absurd cc
 
 row_fits : (form : Form) (row : Row) (k : ℕ) → k < length table → slice_index_or table k row ≡ row → row_name form ≡ row.name → list_all (fits_row row.fields) (shape form) ≡ true
-unfolding form_among fits_table fits
+unfolding fits_table fits
 row_fits form row k within here named =
-    let all = found_passes fits_table (λ other. bytes_eq (mnemonic other) (mnemonic form)) forms form all_forms_fit (found form) in
+    let all = form_fits form in
     let both = contained_passes (fits form) table row k all within here in
     passes_other _ _ both ((bytes_eq-Decides (row_name form) row.name).1 named)
 

@@ -356,6 +356,6 @@ fn access_blank(mode: AddressMode) -> Fields
 {
     match mode {
         AddressMode::UnitStride => Fields::three(0, 0, 1),
-        _ => Fields::four(0, 0, 0, 1),
+        AddressMode::Strided | AddressMode::Indexed => Fields::four(0, 0, 0, 1),
     }
 }

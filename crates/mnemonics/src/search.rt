@@ -287,7 +287,7 @@ fn group_by_ending(before: u8, last: u8) -> Group
 }
 
 impl Group {
-    #[tactic(auto, unfolding(crate::specs::Named::a_forms, crate::specs::Named::b_forms, crate::specs::Named::l_forms, crate::specs::Named::s_forms, crate::specs::Named::other_forms, crate::specs::Named::vv_forms, crate::specs::Named::vx_forms, crate::specs::Named::vi_forms, crate::specs::Named::v_forms, crate::specs::Named::other_vector_forms))]
+    #[tactic(auto, unfolding(crate::specs::Named::forms_in, crate::specs::Named::is_in, crate::specs::Named::forms, crate::specs::Named::vector_forms, crate::specs::Named::group_of, crate::specs::Named::group_by_ending))]
     fn forms(self) -> &'static [Form]
         ensures { result.now ≡ spec.forms_in self }
     {
