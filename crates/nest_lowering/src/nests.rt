@@ -35,3 +35,6 @@ pub fn with_nest(
     let made = with_loops(alloc, func, &sizes, loops, inner)?;
     Ok(made)
 }
+
+#[cfg(test)]
+mod tests;

@@ -1,4 +1,4 @@
-use Rattle.std.proofs.Common.{ℕ, List, ◌+◌, ◌*◌, ◌%◌, ◌^◌, ap, ◌∙◌, sym}
+use Rattle.std.proofs.Common.{ℕ, List, ◌%◌, ◌^◌, ap, ◌∙◌, sym}
 use Rattle.std.specs.Prelude.{slice_get, slice_set}
 use Rattle.loop_ir.specs.declared.expressions.Term.{Term}
 use Rattle.loop_ir.specs.Expressions.{sum_of}
