@@ -1,9 +1,16 @@
 //! Laws of the definitions, each the contract of a function that does nothing.
 
+ghost use Rattle.lowering.specs.Order.{PhasesInOrder};
 ghost use Rattle.lowering.specs.Phases.{TasksInAnyOrder};
 
 /// A phase whose tasks each leave the result at the points that they own leaves it at all points, in whatever order the
 /// tasks are done, and whatever private buffers hold before each.
 pub fn tasks_in_any_order()
     ensures { TasksInAnyOrder }
+{}
+
+/// Phases that each begin with what the one before leaves, done one after the other and the tasks of each in any order,
+/// leave the result of the last one.
+pub fn phases_in_order()
+    ensures { PhasesInOrder }
 {}

@@ -1,0 +1,32 @@
+-- Phases one after the other, the tasks of each in any order.
+-- This project's own.
+use Rattle.std.specs.Prelude.{◌≡◌, ◌<◌, ℕ, Bool, false, true, List, [], ◌∷◌}
+use Rattle.halide_meaning.specs.Pixel.{Planes}
+use Rattle.stage_loops.specs.Iterations.{IsOrder}
+use Rattle.loop_ir.specs.Buffers.{Points}
+use Rattle.lowering.specs.Phases.{DoesPhase, Done}
+
+-- A phase as its tasks: how many there are, and what each does to the Funcs' buffers.
+pub record Tasks : Type 0 where
+  pub count : ℕ
+  pub run : ℕ → Planes → Planes
+
+-- The phases of a list are done, each with all its tasks in some order of its own. Private buffers may come to hold anything before each task.
+pub data DoneInOrder (is_private : ℕ → Bool) : List Tasks → Planes → Planes → Type 0 where
+  Nothing : (funcs : Planes) → DoneInOrder is_private [] funcs funcs
+  Phase : (first : Tasks) (others : List Tasks) (order : List ℕ) (funcs between after : Planes) → IsOrder first.count order
+      → Done is_private first.run order funcs between → DoneInOrder is_private others between after → DoneInOrder is_private (first ∷ others) funcs after
+
+-- Each phase of a list does its part: it begins with what the one before it leaves.
+pub data DoPhases (points : Points) (is_private : ℕ → Bool) : List Tasks → Planes → Planes → Type 0 where
+  None_left : (start : Planes) → DoPhases points is_private [] start start
+  One_more : (first : Tasks) (others : List Tasks) (own : ℕ) (owns : ℕ → ℕ → ℕ → Bool) (start between result : Planes)
+      → DoesPhase points is_private own start between first.count owns first.run
+      → DoPhases points is_private others between result → DoPhases points is_private (first ∷ others) start result
+
+-- From buffers that hold the start of the first phase, the phases leave the result of the last one at each point that is there.
+abbrev pub PhasesInOrder : Type 0
+PhasesInOrder = (points : Points) (is_private : ℕ → Bool) (phases : List Tasks) (start result : Planes) → DoPhases points is_private phases start result
+    → (funcs after : Planes) → ((place x y : ℕ) → is_private place ≡ false → points place x y ≡ true → funcs place x y ≡ start place x y)
+    → DoneInOrder is_private phases funcs after
+    → (place x y : ℕ) → is_private place ≡ false → points place x y ≡ true → after place x y ≡ result place x y
