@@ -1,2 +1,9 @@
 pub mod AnyOrder
 pub mod InOrder
+pub mod Facts
+pub mod Lists
+pub mod Offsets
+pub mod Painting
+pub mod Storing
+pub mod Tasks
+pub mod Values

@@ -1,2 +1,4 @@
 pub mod Phases
 pub mod Order
+pub mod Planes
+pub mod PurePhases

@@ -1,0 +1,51 @@
+-- The store of a pure definition.
+use Rattle.std.proofs.Common.{◌≡◌, ℕ, Bool, List, sym, ap, ◌∙◌}
+use Rattle.halide_pipeline.specs.declared.definitions.Func.{Func}
+use Rattle.halide_pipeline.specs.declared.expressions.Expr.{Expr}
+use Rattle.halide_pipeline.specs.declared.expressions.Variable.TheVariants as variables
+use Rattle.halide_pipeline.specs.Words as word
+use Rattle.halide_meaning.specs.declared.environments.Environment.{Environment}
+use Rattle.halide_meaning.specs.Pixel.{Reads, variable, reads_of, at_point}
+use Rattle.inlining.specs.Inlining.{inlined}
+use Rattle.inlining.specs.Values.{values as valuing}
+use Rattle.loop_ir.specs.declared.expressions.Expr.{fold-roll-Expr}
+use Rattle.loop_ir.specs.declared.expressions.Expr as expressions
+use Rattle.loop_ir.specs.declared.expressions.Expr.TheOpen as layer
+use Rattle.loop_ir.specs.declared.expressions.Expr.TheVariants.{rolls-Linear}
+use Rattle.loop_ir.specs.declared.expressions.Expr.TheVariants as e
+use Rattle.loop_ir.specs.declared.expressions.Linear.{Linear}
+use Rattle.loop_ir.specs.declared.statements.Stmt.TheVariants as s
+use Rattle.loop_ir.specs.Buffers.{put}
+use Rattle.loop_ir.specs.Counters.{Values}
+use Rattle.loop_ir.specs.Expressions.{linear_value, value, value_at}
+use Rattle.loop_ir.proofs.Trees.{run_store}
+use Rattle.expression_lowering.specs.declared.calls.Corner.{Corner}
+use Rattle.expression_lowering.specs.declared.lowering.Arguments.{Arguments}
+use Rattle.expression_lowering.specs.Lowering.{environment, placed}
+use Rattle.lowering.specs.Planes.{BoxCorner}
+use Rattle.lowering.specs.PurePhases.{StoresPure, whole_at}
+
+value_linear : (reads : Reads) (values : Values) (own : Linear) → value reads values (e.Linear own) ≡ linear_value values own
+unfolding value
+value_linear reads values own =
+    ap (λ (t : expressions.Expr). value reads values t) (sym (rolls-Linear own)) ∙ fold-roll-Expr ℕ (value_at reads values) (layer.Linear own)
+
+pub stores_pure : (corners : List Corner) (flags : ℕ → Bool) (funcs : List Func) (place : ℕ) (corner : BoxCorner) (pure : Expr) (x y : Linear) (made : expressions.Expr) (arguments : Arguments)
+    → ((values : Values) → environment values arguments
+    ≡ at_point (word.add (whole_at values place variables.FirstArgument) corner.x) (word.add (whole_at values place variables.SecondArgument) corner.y))
+    → ((values : Values) → linear_value values x ≡ whole_at values place variables.FirstArgument)
+    → ((values : Values) → linear_value values y ≡ whole_at values place variables.SecondArgument)
+    → ((reads : Reads) (values : Values) → value reads values made ≡ inlined (valuing (placed corners values reads)) flags funcs place (variable (environment values arguments)) pure)
+    → StoresPure corners flags funcs place corner pure (s.Store (record { func = place; x = e.Linear x; y = e.Linear y; value = made }))
+stores_pure corners flags funcs place corner pure x y made arguments environment_is x_is y_is value_is points inputs values buffers =
+    let reads = reads_of inputs buffers in
+    let at_x = value_linear reads values x ∙ x_is values in
+    let at_y = value_linear reads values y ∙ y_is values in
+    let written : value reads values made
+    ≡ inlined (valuing (placed corners values reads)) flags funcs place
+    (variable (at_point (word.add (whole_at values place variables.FirstArgument) corner.x) (word.add (whole_at values place variables.SecondArgument) corner.y))) pure =
+    value_is reads values ∙ ap (λ (v : Environment). inlined (valuing (placed corners values reads)) flags funcs place (variable v) pure) (environment_is values) in
+    run_store points inputs (record { func = place; x = e.Linear x; y = e.Linear y; value = made }) values buffers
+    ∙ ap (λ (n : ℕ). put points place n (value reads values (e.Linear y)) (value reads values made) buffers) at_x
+    ∙ ap (λ (n : ℕ). put points place (whole_at values place variables.FirstArgument) n (value reads values made) buffers) at_y
+    ∙ ap (λ (n : ℕ). put points place (whole_at values place variables.FirstArgument) (whole_at values place variables.SecondArgument) n buffers) written

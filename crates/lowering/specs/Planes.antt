@@ -1,0 +1,60 @@
+-- Where points of Funcs lie in the buffers of their boxes, and which points each task of a stage owns.
+--
+-- The buffer of a Func has the points of the Func's box, counted from the box's corner: the corner itself is 0, 0.
+-- This project's own.
+use Rattle.std.specs.Prelude.{ℕ, ◌+◌, ◌-◌, ◌%◌, ◌^◌, ◌&&◌, Bool, false, nat_lt, List, Option, Some, None, slice_get}
+use Rattle.std.specs.List.{list_any}
+use Rattle.halide_pipeline.specs.declared.definitions.Func.{Func}
+use Rattle.halide_pipeline.specs.Words as word
+use Rattle.halide_meaning.specs.Pixel.{Plane, Planes, with_plane, pure_plane, pixels}
+use Rattle.schedule_lines.specs.declared.stages.Stage.{Stage}
+use Rattle.stage_loops.specs.declared.extents.Extents.{Extents}
+use Rattle.stage_loops.specs.Iterations.{iteration}
+use Rattle.stage_loops.specs.Visits.{is_slice}
+use Rattle.loop_ir.specs.Buffers.{Points}
+use Rattle.ranges.specs.Ranges.{least}
+use Rattle.bounds.specs.declared.boxes.SourceBox.{SourceBox}
+use Rattle.bounds.specs.Boxes.{box_in, extent}
+
+-- ---- corners
+
+-- the word that stands at an end of a range
+abbrev pub word_at : ℕ → ℕ
+word_at end = (end - least + 2 ^ 31) % 2 ^ 32
+
+-- the first point of a box with no base
+pub record BoxCorner : Type 0 where
+  pub x : ℕ
+  pub y : ℕ
+
+-- 0, 0 where there is no box
+abbrev pub corner_of : Option SourceBox → BoxCorner
+corner_of None = record { x = 0; y = 0 }
+corner_of (Some own) = record { x = word_at own.x.low; y = word_at own.y.low }
+
+-- ---- what buffers hold
+
+abbrev pub from_corner : BoxCorner → Plane → Plane
+from_corner corner plane x y = plane (word.add corner.x x) (word.add corner.y y)
+
+-- these pixels, each Func's counted from the corner of its box
+abbrev pub held : List (Option SourceBox) → Planes → Planes
+held boxes pixels place = from_corner (corner_of (box_in (slice_get boxes place))) (pixels place)
+
+abbrev pub has_point : Option SourceBox → ℕ → ℕ → Bool
+has_point None x y = false
+has_point (Some own) x y = nat_lt x (extent own.x) && nat_lt y (extent own.y)
+
+-- the points of the buffers, each of which has those of its Func's box
+abbrev pub box_points : List (Option SourceBox) → Points
+box_points boxes place = has_point (box_in (slice_get boxes place))
+
+-- the pixels of the Funcs before this one, with those of its own pure definition
+abbrev pub with_pure : List Func → Planes → ℕ → Func → Planes
+with_pure funcs inputs place func = with_plane place (pure_plane func.pure inputs (pixels funcs inputs place)) (pixels funcs inputs place)
+
+-- ---- owners
+
+-- The task with this number owns the point: its iteration visits it.
+abbrev pub owns : Extents → Stage → ℕ → ℕ → ℕ → Bool
+owns extents stage number x y = list_any (is_slice x y) (iteration extents stage number)

@@ -1,0 +1,115 @@
+-- The phase of a pure definition of a Func that is computed at root and at whose loops no other Func is computed.
+-- This project's own.
+use Rattle.std.specs.Prelude.{◌≡◌, ℕ, suc, ◌-◌, ◌%◌, ◌^◌, Bool, false, if◌then◌else◌, List, [], ◌∷◌, take, length, slice_get, Option, Some, None}
+use Rattle.halide_pipeline.specs.declared.definitions.Func.{Func}
+use Rattle.halide_pipeline.specs.declared.definitions.Input.{Input}
+use Rattle.halide_pipeline.specs.declared.expressions.Expr.{Expr}
+use Rattle.halide_pipeline.specs.declared.expressions.Variable.{Variable}
+use Rattle.halide_pipeline.specs.declared.expressions.Variable.TheVariants as variables
+use Rattle.halide_pipeline.specs.Pipelines.{Pipeline}
+use Rattle.halide_pipeline.specs.Words as word
+use Rattle.halide_meaning.specs.Pixel.{Planes, variable, reads_of, pixels, at_point}
+use Rattle.schedule_lines.specs.declared.stages.Loop.{Loop}
+use Rattle.schedule_lines.specs.declared.stages.LoopId.TheVariants as ids
+use Rattle.schedule.specs.declared.plans.FuncPlan.{FuncPlan}
+use Rattle.schedule.specs.declared.schedules.Schedule.{Schedule}
+use Rattle.schedule.specs.declared.standings.LoopPlace.{LoopPlace}
+use Rattle.schedule.specs.declared.standings.Place.TheVariants as places
+use Rattle.schedule.specs.declared.standings.Standing.{Standing}
+use Rattle.schedule.specs.Uses.{IsReached}
+use Rattle.inlining.specs.Inlining.{inlined, flagged}
+use Rattle.inlining.specs.Values.{values as valuing}
+use Rattle.ranges.specs.Laws.{AnswerWords}
+use Rattle.weights.specs.Weight.{flags_of}
+use Rattle.bounds.specs.declared.boxes.SourceBox.{SourceBox}
+use Rattle.bounds.specs.declared.verdict.Boxes.{Boxes}
+use Rattle.bounds.specs.Views.{extents_of}
+use Rattle.loop_ir.specs.declared.expressions.Counter.{Counter}
+use Rattle.loop_ir.specs.declared.statements.Phase.{Phase}
+use Rattle.loop_ir.specs.declared.statements.Stmt.{Stmt}
+use Rattle.loop_ir.specs.Buffers.{Points, put}
+use Rattle.loop_ir.specs.Counters.{Values}
+use Rattle.loop_ir.specs.Expressions.{linear_value}
+use Rattle.loop_ir.specs.Running.{run, run_task}
+use Rattle.expression_lowering.specs.declared.calls.Corner.{Corner}
+use Rattle.expression_lowering.specs.Lowering.{placed}
+use Rattle.lowering.specs.Phases.{DoesPhase}
+use Rattle.lowering.specs.Planes.{BoxCorner, corner_of, held, box_points, with_pure, owns}
+
+-- ---- which Func it is
+
+-- A Func that the output reaches, computed at root, with its loops and its box.
+pub record IsAtRoot (pipeline : Pipeline) (schedule : Schedule) (boxes : Boxes) (place : ℕ) (func : Func) (plan : FuncPlan) (own : SourceBox) : Type 0 where
+  pub func_is : slice_get pipeline.funcs place ≡ Some func
+  pub plan_is : slice_get schedule.funcs place ≡ Some plan
+  pub box_is : slice_get boxes.funcs place ≡ Some (Some own)
+  pub standing : Standing
+  pub there : IsReached schedule.standings place standing
+  pub root : standing.place ≡ places.Root
+
+-- No Func that the output reaches is computed at one of its loops.
+abbrev pub HostsNone : List Standing → ℕ → Type 0
+HostsNone standings place = (other : ℕ) (own : Standing) (at : LoopPlace) → IsReached standings other own → own.place ≡ places.At at → at.func ≡ place → ⊥
+
+-- Funcs that are computed at root aren't private.
+abbrev pub RootsAreShared : List Standing → (ℕ → Bool) → Type 0
+RootsAreShared standings is_private = (other : ℕ) (own : Standing) → IsReached standings other own → own.place ≡ places.Root → is_private other ≡ false
+
+-- ---- what its phase does
+
+-- From the pixels of the Funcs before it, it leaves those of its pure definition: each task at the points that its iteration visits.
+abbrev pub DoesPure : Pipeline → Schedule → Boxes → ℕ → Func → FuncPlan → SourceBox → Phase → Type 0
+DoesPure pipeline schedule boxes place func plan own phase =
+    HostsNone schedule.standings place
+    → (is_private : ℕ → Bool) → RootsAreShared schedule.standings is_private
+    → (inputs : Planes) → AnswerWords pipeline.inputs (reads_of inputs (pixels pipeline.funcs inputs 0))
+    → DoesPhase (box_points boxes.funcs) is_private place
+    (held boxes.funcs (pixels pipeline.funcs inputs place)) (held boxes.funcs (with_pure pipeline.funcs inputs place func))
+    phase.tasks (owns (extents_of own) plan.pure) (run_task (box_points boxes.funcs) inputs phase)
+
+-- ---- its parts
+
+-- where the loop over a whole variable stands
+abbrev pub whole_at : Values → ℕ → Variable → ℕ
+whole_at values place variable = values (record { func = place; id = ids.Whole variable }) % 2 ^ 32
+
+-- Each box has its corner.
+abbrev pub IsCorner : Option SourceBox → Corner → Type 0
+IsCorner own corner = (values : Values) → (linear_value values corner.x ≡ (corner_of own).x) × (linear_value values corner.y ≡ (corner_of own).y)
+
+abbrev pub AreCorners : List (Option SourceBox) → List Corner → Type 0
+AreCorners [] [] = Unit {0}
+AreCorners [] (corner ∷ corners) = ⊥
+AreCorners (own ∷ boxes) [] = ⊥
+AreCorners (own ∷ boxes) (corner ∷ corners) = IsCorner own corner × AreCorners boxes corners
+
+-- It writes the value of a pure definition at the point at which the loops over whole variables stand, counted from a corner.
+abbrev pub StoresPure : List Corner → (ℕ → Bool) → List Func → ℕ → BoxCorner → Expr → Stmt → Type 0
+StoresPure corners flags funcs place corner pure made =
+    (points : Points) (inputs : Planes) (values : Values) (buffers : Planes)
+    → run points inputs made values buffers
+    ≡ put points place (whole_at values place variables.FirstArgument) (whole_at values place variables.SecondArgument)
+    (inlined (valuing (placed corners values (reads_of inputs buffers))) flags funcs place
+    (variable (at_point (word.add (whole_at values place variables.FirstArgument) corner.x) (word.add (whole_at values place variables.SecondArgument) corner.y))) pure)
+    buffers
+
+-- It does so for the pure definition of a Func with this box, where inlined Funcs are put in place, and each buffer begins at its box's corner.
+pub record IsStoreOf (pipeline : Pipeline) (schedule : Schedule) (boxes : Boxes) (place : ℕ) (func : Func) (own : SourceBox) (made : Stmt) : Type 0 where
+  pub corners : List Corner
+  pub are_corners : AreCorners boxes.funcs corners
+  pub stores : StoresPure corners (flagged (flags_of schedule.standings)) pipeline.funcs place (corner_of (Some own)) func.pure made
+
+-- the loops inside the parallel one, which is the outermost, where there is one
+abbrev pub inside_of : Option Loop → List Loop → List Loop
+inside_of None loops = loops
+inside_of (Some own) loops = take (length loops - 1) loops
+
+-- what stands at the task's number
+abbrev pub counter_of : ℕ → Option Loop → Option Counter
+counter_of place None = None
+counter_of place (Some own) = Some (record { func = place; id = own.id })
+
+-- the places of inputs of bytes, of which the first has this place
+abbrev pub byte_places : ℕ → List Input → List ℕ
+byte_places at [] = []
+byte_places at (first ∷ others) = if first.is_bytes then at ∷ byte_places (suc at) others else byte_places (suc at) others

@@ -1,0 +1,81 @@
+//! Stores of definitions at the points where loops stand.
+
+ghost use Rattle.std.specs.Prelude.{◌≡◌, ◌%◌, ◌^◌, IfOk, List, Some};
+ghost use Rattle.halide_pipeline.specs.Words as word;
+ghost use Rattle.halide_meaning.specs.Pixel.{at_point};
+ghost use Rattle.inlining.specs.Inlining.{flagged};
+ghost use Rattle.loop_ir.specs.Counters.{Values};
+ghost use Rattle.loop_ir.specs.Expressions.{linear_value};
+ghost use Rattle.expression_lowering.specs.Lowering.{environment};
+ghost use Rattle.lowering.specs.Planes.{corner_of};
+ghost use Rattle.lowering.specs.PurePhases.{StoresPure, whole_at};
+
+use crate::corners::word_at;
+use bounds::SourceBox;
+use expression_lowering::{Arguments, Corner, lowered};
+use halide_pipeline::{Expr, Func, Variable};
+use loop_ir::expressions as terms;
+use loop_ir::expressions::{Counter, Linear};
+use loop_ir::statements::{Stmt, Store};
+use schedule_lines::LoopId;
+use std::alloc::{AllocError, Global};
+
+/// Where the loop over a whole variable of the Func at a place stands.
+fn whole_of(alloc: Global, place: usize, variable: Variable) -> Result<Linear, AllocError>
+    ensures { IfOk result (λ made. (values : Values) → linear_value values made ≡ whole_at values place variable) }
+{
+    let counter = Counter {
+        func: place,
+        id: LoopId::Whole(variable),
+    };
+    let made = Linear::of_counter(alloc, counter)?;
+    Ok(made)
+}
+
+/// What stands for the variables of the pure definition of the Func at a place: its points, counted from the corner of
+/// its box.
+fn arguments_of(alloc: Global, place: usize, own: &SourceBox) -> Result<Arguments, AllocError>
+    ensures { IfOk result (λ made. (values : Values) → environment values made
+        ≡ at_point (word.add (whole_at values place Variable.FirstArgument) (corner_of (Some own.now)).x) (word.add (whole_at values place Variable.SecondArgument) (corner_of (Some own.now)).y)) }
+{
+    let first_argument = whole_of(alloc, place, Variable::FirstArgument)?.plus_number(word_at(
+        own.x.low,
+    ));
+    let second_argument = whole_of(alloc, place, Variable::SecondArgument)?.plus_number(word_at(
+        own.y.low,
+    ));
+    Ok(Arguments {
+        first_argument,
+        second_argument,
+        first_reduction: Linear::of_number(alloc, 0),
+        second_reduction: Linear::of_number(alloc, 0),
+    })
+}
+
+/// The store of a pure definition of the Func at a place, where the loops over whole variables stand.
+///
+/// # Errors
+///
+/// Memory ran out.
+pub fn pure_store(
+    alloc: Global,
+    funcs: &[Func],
+    flags: &[bool],
+    corners: &[Corner],
+    place: usize,
+    own: &SourceBox,
+    pure: &Expr,
+) -> Result<Stmt, AllocError>
+    ensures { IfOk result (λ made. StoresPure corners.now (flagged flags.now) funcs.now place (corner_of (Some own.now)) pure.now made) }
+{
+    let arguments = arguments_of(alloc, place, own)?;
+    let value = lowered(alloc, funcs, flags, place, corners, &arguments, pure)?;
+    let x = whole_of(alloc, place, Variable::FirstArgument)?;
+    let y = whole_of(alloc, place, Variable::SecondArgument)?;
+    Ok(Stmt::Store(Store {
+        func: place,
+        x: terms::Expr::Linear(x),
+        y: terms::Expr::Linear(y),
+        value,
+    }))
+}
