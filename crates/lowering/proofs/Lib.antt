@@ -4,6 +4,7 @@ pub mod Facts
 pub mod Lists
 pub mod Offsets
 pub mod Painting
+pub mod Parts
 pub mod Storing
 pub mod Tasks
 pub mod Values

@@ -1,6 +1,6 @@
 -- The phase of a pure definition of a Func that is computed at root and at whose loops no other Func is computed.
 -- This project's own.
-use Rattle.std.specs.Prelude.{◌≡◌, ℕ, suc, ◌-◌, ◌%◌, ◌^◌, Bool, false, if◌then◌else◌, List, [], ◌∷◌, take, length, slice_get, Option, Some, None}
+use Rattle.std.specs.Prelude.{◌≡◌, ℕ, suc, ◌-◌, ◌%◌, ◌^◌, ◌&&◌, Bool, false, if◌then◌else◌, List, [], ◌∷◌, take, length, slice_get, Option, Some, None}
 use Rattle.halide_pipeline.specs.declared.definitions.Func.{Func}
 use Rattle.halide_pipeline.specs.declared.definitions.Input.{Input}
 use Rattle.halide_pipeline.specs.declared.expressions.Expr.{Expr}
@@ -16,6 +16,7 @@ use Rattle.schedule.specs.declared.schedules.Schedule.{Schedule}
 use Rattle.schedule.specs.declared.standings.LoopPlace.{LoopPlace}
 use Rattle.schedule.specs.declared.standings.Place.TheVariants as places
 use Rattle.schedule.specs.declared.standings.Standing.{Standing}
+use Rattle.schedule.specs.Legal.{is_root}
 use Rattle.schedule.specs.Uses.{IsReached}
 use Rattle.inlining.specs.Inlining.{inlined, flagged}
 use Rattle.inlining.specs.Values.{values as valuing}
@@ -47,6 +48,9 @@ pub record IsAtRoot (pipeline : Pipeline) (schedule : Schedule) (boxes : Boxes) 
   pub there : IsReached schedule.standings place standing
   pub root : standing.place ≡ places.Root
 
+abbrev pub is_at_root : Standing → Bool
+is_at_root own = own.is_reached && is_root own.place
+
 -- No Func that the output reaches is computed at one of its loops.
 abbrev pub HostsNone : List Standing → ℕ → Type 0
 HostsNone standings place = (other : ℕ) (own : Standing) (at : LoopPlace) → IsReached standings other own → own.place ≡ places.At at → at.func ≡ place → ⊥
@@ -66,6 +70,19 @@ DoesPure pipeline schedule boxes place func plan own phase =
     → DoesPhase (box_points boxes.funcs) is_private place
     (held boxes.funcs (pixels pipeline.funcs inputs place)) (held boxes.funcs (with_pure pipeline.funcs inputs place func))
     phase.tasks (owns (extents_of own) plan.pure) (run_task (box_points boxes.funcs) inputs phase)
+
+-- It is the phase of the Func with these parts.
+pub record IsPurePhase (pipeline : Pipeline) (schedule : Schedule) (boxes : Boxes) (place : ℕ) (phase : Phase) : Type 0 where
+  pub func : Func
+  pub plan : FuncPlan
+  pub own : SourceBox
+  pub at : IsAtRoot pipeline schedule boxes place func plan own
+  pub does : DoesPure pipeline schedule boxes place func plan own phase
+
+-- There is one exactly where the output reaches the Func, and it is computed at root.
+abbrev pub IsPhaseOf : Pipeline → Schedule → Boxes → ℕ → Option Phase → Type 0
+IsPhaseOf pipeline schedule boxes place None = (func : Func) (plan : FuncPlan) (own : SourceBox) → IsAtRoot pipeline schedule boxes place func plan own → ⊥
+IsPhaseOf pipeline schedule boxes place (Some phase) = IsPurePhase pipeline schedule boxes place phase
 
 -- ---- its parts
 

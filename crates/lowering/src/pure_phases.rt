@@ -1,10 +1,12 @@
 //! Phases of pure definitions.
 
-ghost use Rattle.std.specs.Prelude.{◌≡◌, ◌+◌, ◌<◌, ◌^◌, ◌++◌, [], IfOk, Ok, OnOk, length};
+ghost use Rattle.std.specs.Prelude.{◌≡◌, ◌+◌, ◌<◌, ◌^◌, ◌++◌, [], IfOk, Ok, OnOk, length, slice_get};
+ghost use Rattle.std.specs.Option.{option_copied};
 ghost use Rattle.schedule.specs.Accepted.{IsAccepted};
 ghost use Rattle.stage_loops.specs.Counts.{AreSplits};
 ghost use Rattle.stage_loops.specs.Iterations as iterations;
 ghost use Rattle.stage_loops.specs.Reach.{wholes};
+ghost use Rattle.bounds.specs.Boxes.{box_in};
 ghost use Rattle.bounds.specs.Verdict.{inferred};
 ghost use Rattle.bounds.specs.Views as views;
 ghost use Rattle.nest_lowering.specs.Nests.{AreFew, Repeats};
@@ -18,7 +20,7 @@ use halide_pipeline::{Func, Input, Pipeline};
 use loop_ir::expressions::Counter;
 use loop_ir::statements::{Phase, Stmt};
 use nest_lowering::nests::with_nest;
-use schedule::{FuncPlan, Schedule};
+use schedule::{FuncPlan, Place, Schedule, Standing};
 use schedule_lines::{Loop, Stage};
 use sqlite_items::Items;
 use stage_loops::{Extents, LoopSizes};
@@ -176,4 +178,56 @@ pub fn pure_phase(
         private,
         bytes,
     })
+}
+
+/// Whether the output reaches a Func, and it is computed at root.
+fn is_at_root(own: &Standing) -> bool
+    ensures { result ≡ spec.is_at_root own.now }
+{
+    own.is_reached && matches!(own.place, Place::Root)
+}
+
+/// The box at a place, if there is one.
+fn box_at(boxes: &[Option<SourceBox>], place: usize) -> Option<&SourceBox>
+    ensures { option_copied result ≡ box_in (slice_get boxes.now place) }
+{
+    match boxes.get(place) {
+        Some(Some(own)) => Some(own),
+        _ => None,
+    }
+}
+
+/// The phase of the pure definition of the Func at a place, if the output reaches it and it is computed at root.
+///
+/// # Errors
+///
+/// Memory ran out.
+pub fn phase_at(
+    alloc: Global,
+    pipeline: &Pipeline,
+    schedule: &Schedule,
+    boxes: &Boxes,
+    place: usize,
+) -> Result<Option<Phase>, AllocError>
+    requires accepted { IsAccepted pipeline.now schedule.now }
+    requires boxes { inferred pipeline.now schedule.now ≡ Ok boxes.now }
+    ensures { IfOk result (spec.IsPhaseOf pipeline.now schedule.now boxes.now place) }
+{
+    let Some(standing) = schedule.standing(place) else {
+        return Ok(None);
+    };
+    if !is_at_root(standing) {
+        return Ok(None);
+    }
+    let Some(func) = pipeline.func(place) else {
+        return Ok(None);
+    };
+    let Some(plan) = schedule.funcs.get(place) else {
+        return Ok(None);
+    };
+    let Some(own) = box_at(boxes.funcs.as_slice(), place) else {
+        return Ok(None);
+    };
+    let phase = pure_phase(alloc, pipeline, schedule, boxes, place, func, plan, own)?;
+    Ok(Some(phase))
 }

@@ -38,12 +38,10 @@ fn arguments_of(alloc: Global, place: usize, own: &SourceBox) -> Result<Argument
     ensures { IfOk result (λ made. (values : Values) → environment values made
         ≡ at_point (word.add (whole_at values place Variable.FirstArgument) (corner_of (Some own.now)).x) (word.add (whole_at values place Variable.SecondArgument) (corner_of (Some own.now)).y)) }
 {
-    let first_argument = whole_of(alloc, place, Variable::FirstArgument)?.plus_number(word_at(
-        own.x.low,
-    ));
-    let second_argument = whole_of(alloc, place, Variable::SecondArgument)?.plus_number(word_at(
-        own.y.low,
-    ));
+    let left = word_at(own.x.low);
+    let top = word_at(own.y.low);
+    let first_argument = whole_of(alloc, place, Variable::FirstArgument)?.plus_number(left);
+    let second_argument = whole_of(alloc, place, Variable::SecondArgument)?.plus_number(top);
     Ok(Arguments {
         first_argument,
         second_argument,
