@@ -1,1 +1,3 @@
+pub mod StaysBytes
 pub mod Putting
+pub mod Words

@@ -5,7 +5,7 @@ use Rattle.std.proofs.lemmas.List.{set_comm}
 use Rattle.std.proofs.lemmas.Bool.{ltb-false, cond_both}
 use Rattle.memory.specs.Addresses.{data_start, byte_at, put, put_byte, NotIn}
 
-length-put_byte : (memory : List ℕ) (place byte : ℕ) → length (put_byte memory place byte) ≡ length memory
+pub length-put_byte : (memory : List ℕ) (place byte : ℕ) → length (put_byte memory place byte) ≡ length memory
 length-put_byte memory place byte = grind (arith, length-set {A = ℕ})
 
 pub length-put : (memory places bytes : List ℕ) → length (put memory places bytes) ≡ length memory
@@ -22,7 +22,7 @@ put-other memory place byte x low other =
     cond_both (nat_lt place data_start) memory (set memory (place - data_start) byte) (λ m. get_or m (x - data_start) 0 ≡ get_or memory (x - data_start) 0) (λ _. refl)
     (λ e. let above = ltb-false place data_start e in let apart : x - data_start ≢ place - data_start = (λ q. other (omega arith)) in get_or-set_other memory (place - data_start) (x - data_start) byte 0 apart)
 
-byte-put_byte : (text memory : List ℕ) (place byte x : ℕ) → x ≢ place → byte_at text (put_byte memory place byte) x ≡ byte_at text memory x
+pub byte-put_byte : (text memory : List ℕ) (place byte x : ℕ) → x ≢ place → byte_at text (put_byte memory place byte) x ≡ byte_at text memory x
 byte-put_byte text memory place byte x other = same-cond (nat_lt x data_start) _ _ _ (λ e. put-other memory place byte x (ltb-false x data_start e) other)
 
 pub byte-put : (text memory places bytes : List ℕ) (x : ℕ) → NotIn x places → byte_at text (put memory places bytes) x ≡ byte_at text memory x

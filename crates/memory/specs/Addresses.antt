@@ -1,7 +1,7 @@
 -- Text and data by their addresses: where they lie, what stands at an address, and what a write leaves.
 -- The addresses, the limits, and that a number lies with its lowest byte first (RISC-V Unprivileged ISA
 -- 20191213, section 2.6, leaves the choice) are this project's own.
-use Rattle.std.specs.Prelude.{◌≢◌, ℕ, ◌+◌, ◌-◌, ◌*◌, ◌/◌, ◌%◌, ◌^◌, ◌==◌, ◌&&◌, ◌||◌, Bool, nat_lt, nat_le, if◌then◌else◌, List, [], ◌∷◌, slice_index, slice_get, slice_set, Option, None}
+use Rattle.std.specs.Prelude.{◌≢◌, ◌<◌, ℕ, ◌+◌, ◌-◌, ◌*◌, ◌/◌, ◌%◌, ◌^◌, ◌==◌, ◌&&◌, ◌||◌, Bool, nat_lt, nat_le, if◌then◌else◌, List, [], ◌∷◌, slice_index, slice_get, slice_set, Option, None}
 
 -- 0x0001_0000
 abbrev pub text_start : ℕ
@@ -56,6 +56,10 @@ abbrev pub put : List ℕ → List ℕ → List ℕ → List ℕ
 put memory [] bytes = memory
 put memory (place ∷ places) [] = memory
 put memory (place ∷ places) (byte ∷ bytes) = put (put_byte memory place byte) places bytes
+
+-- every number of the list is one of a byte
+abbrev pub AreBytes : List ℕ → Type 0
+AreBytes bytes = (i : ℕ) → slice_index bytes i < 256
 
 -- the place is none of the others
 abbrev pub NotIn : ℕ → List ℕ → Type 0

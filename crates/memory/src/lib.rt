@@ -16,7 +16,9 @@ pub mod memories;
 pub mod numbers;
 
 pub use crate::bytes::{Bytes, DATA_START, MOST_BYTES, MOST_WORDS, TEXT_START};
-pub use crate::laws::writes_leave_other_bytes;
+pub use crate::laws::{
+    a_number_lies_at_its_places, writes_keep_bytes, writes_keep_the_size, writes_leave_other_bytes,
+};
 pub use crate::memories::Memory;
 pub use crate::numbers::{
     check_store, read_for_amo, read_u8, read_u16, read_u32, write_u8, write_u16, write_u32,

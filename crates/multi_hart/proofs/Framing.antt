@@ -1,5 +1,5 @@
 -- A turn depends on what it reads alone, and turns with no conflict commute.
-use Rattle.std.proofs.Common.{◌≡◌, ℕ, zero, suc, List, [], ◌∷◌, ◌++◌, length, set, Some, refl, ap, ◌∙◌, sym, subst}
+use Rattle.std.proofs.Common.{◌≡◌, ℕ, zero, suc, List, [], ◌∷◌, ◌++◌, length, set, true, Option, Some, None, refl, ap, ◌∙◌, sym, subst}
 use Rattle.std.specs.Prelude.{◌≢◌, map, slice_get}
 use Rattle.std.proofs.lemmas.List.{set_comm}
 use Rattle.memory.specs.Addresses.{byte_at, put, put_byte}
@@ -9,7 +9,7 @@ use Rattle.hart_core.specs.Scalar.{kind_of, accesses}
 use Rattle.hart_core.specs.Turn.{Next, Rests, Traps, Does, next_of, made, done, effect, applied, step}
 use Rattle.multi_hart.specs.Run.{State, turn, turned, put_back}
 use Rattle.memory.proofs.Putting.{length-put, byte-put, put-past}
-use Rattle.multi_hart.specs.Frame.{reads, writes, Agree, Apart, Frame, Commute}
+use Rattle.multi_hart.specs.Frame.{reads, writes, Agree, Within, Apart, Frame, FrameWithin, TurnIs, PlacesAre, OthersStay, Commute}
 
 -- ---- what is read
 
@@ -37,6 +37,17 @@ pub frame : Frame
 frame text memory memory' hart e same =
     made-frame text memory memory' hart (next_of text (length memory) hart) same ∙ ap (λ n. made text memory' hart (next_of text n hart)) e
 
+pub agree-within : (rule : ℕ → Type 0) (f g : ℕ → ℕ) (places : List ℕ) → ((place : ℕ) → rule place → f place ≡ g place) → Within rule places → Agree f g places
+agree-within rule f g [] same all = tt
+agree-within rule f g (place ∷ places) same all = (same place all.0, agree-within rule f g places same all.1)
+
+pub frame-by : (rule : ℕ → Type 0) (text memory memory' : List ℕ) (hart : HartState) → length memory ≡ length memory' → ((place : ℕ) → rule place → byte_at text memory place ≡ byte_at text memory' place) → Within rule (reads (next_of text (length memory) hart) hart) → effect text memory hart ≡ effect text memory' hart
+frame-by rule text memory memory' hart e same all =
+    frame text memory memory' hart e (agree-within rule _ _ _ same all)
+
+pub frame-within : FrameWithin
+frame-within rule = frame-by (λ place. rule place ≡ true)
+
 -- ---- what is written
 
 put-comm : (memory ps bs qs cs : List ℕ) → Apart ps qs → put (put memory ps bs) qs cs ≡ put (put memory qs cs) ps bs
@@ -49,25 +60,38 @@ agree-put : (text memory places bytes xs : List ℕ) → Apart xs places → Agr
 agree-put text memory places bytes [] h = tt
 agree-put text memory places bytes (x ∷ xs) h = (sym (byte-put text memory places bytes x h.0), agree-put text memory places bytes xs h.1)
 
-places-are : (text memory : List ℕ) (hart : HartState) (next : Next) → (made text memory hart next).places ≡ writes next hart
-places-are text memory hart Rests = refl
-places-are text memory hart (Traps trap) = refl
-places-are text memory hart (Does insn) = refl
+pub made-places : (text memory : List ℕ) (hart : HartState) (next : Next) → (made text memory hart next).places ≡ writes next hart
+made-places text memory hart Rests = refl
+made-places text memory hart (Traps trap) = refl
+made-places text memory hart (Does insn) = refl
+
+pub places-are : PlacesAre
+places-are text memory hart = made-places text memory hart (next_of text (length memory) hart)
 
 -- ---- two turns
 
-slice_get-set_other : {X : Type 0} (xs : List X) (i j : ℕ) (y : X) → i ≢ j → slice_get (set xs i y) j ≡ slice_get xs j
+pub slice_get-set_other : {X : Type 0} (xs : List X) (i j : ℕ) (y : X) → i ≢ j → slice_get (set xs i y) j ≡ slice_get xs j
 slice_get-set_other [] i j y other = refl
 slice_get-set_other (x ∷ xs) zero zero y other = absurd (other refl)
 slice_get-set_other (x ∷ xs) zero (suc j) y other = refl
 slice_get-set_other (x ∷ xs) (suc i) zero y other = refl
 slice_get-set_other (x ∷ xs) (suc i) (suc j) y other = slice_get-set_other xs i j y (λ e. other (ap suc e))
 
+pub turn-is : TurnIs
+turn-is state hart one e there same = ap (turned state hart) there ∙ ap (λ x. put_back state hart (applied state.memory x)) same
+
+pub others-stay : OthersStay
+others-stay state hart other apart = go (slice_get state.harts hart)
+  where
+    go : (one : Option HartState) → slice_get (turned state hart one).harts other ≡ slice_get state.harts other
+    go None = refl
+    go (Some one) = slice_get-set_other state.harts hart other _ apart
+
 -- the second of two turns finds the same bytes
 second : (state : State) (g h : HartState) → Apart (reads (next_of state.text (length state.memory) h) h) (writes (next_of state.text (length state.memory) g) g) → effect state.text (step state.text state.memory g).memory h ≡ effect state.text state.memory h
 second state g h free =
     let e = effect state.text state.memory g in
-    let free' = subst (λ ps. Apart (reads (next_of state.text (length state.memory) h) h) ps) (sym (places-are state.text state.memory g (next_of state.text (length state.memory) g))) free in
+    let free' = subst (λ ps. Apart (reads (next_of state.text (length state.memory) h) h) ps) (sym (places-are state.text state.memory g)) free in
     sym (frame state.text state.memory (put state.memory e.places e.bytes) h (sym (length-put state.memory e.places e.bytes)) (agree-put state.text state.memory e.places e.bytes _ free'))
 
 -- two turns, where both harts are there
@@ -83,7 +107,7 @@ commute state a b g h other ea eb free =
     let e = effect state.text state.memory g in
     let f = effect state.text state.memory h in
     let n = length state.memory in
-    let w : Apart e.places f.places = subst (λ ps. Apart ps f.places) (sym (places-are state.text state.memory g (next_of state.text n g))) (subst (λ qs. Apart (writes (next_of state.text n g) g) qs) (sym (places-are state.text state.memory h (next_of state.text n h))) free.both_write) in
+    let w : Apart e.places f.places = subst (λ ps. Apart ps f.places) (sym (places-are state.text state.memory g)) (subst (λ qs. Apart (writes (next_of state.text n g) g) qs) (sym (places-are state.text state.memory h)) free.both_write) in
     two state a b g h other ea eb free.second_reads
     ∙ ap (λ m. put_back (put_back state a (step state.text state.memory g)) b (record { hart = f.hart; memory = m; outcome = f.outcome })) (put-comm state.memory e.places e.bytes f.places f.bytes w)
     ∙ ap (λ hs. record { text = state.text; memory = put (put state.memory f.places f.bytes) e.places e.bytes; harts = hs }) (set_comm state.harts a b e.hart f.hart other)

@@ -1,12 +1,12 @@
 -- Which bytes a turn depends on and which it changes, and the two laws that follow: over one text and one size
 -- of data, a turn depends on its hart and on the bytes that it reads alone, and turns that do not conflict may be made in either order.
 -- This project's own.
-use Rattle.std.specs.Prelude.{◌≡◌, ◌≢◌, ℕ, List, [], ◌∷◌, length, slice_get, Some}
-use Rattle.memory.specs.Addresses.{byte_at, NotIn}
+use Rattle.std.specs.Prelude.{◌≡◌, ◌≢◌, ℕ, Bool, true, List, [], ◌∷◌, length, slice_get, slice_set, Some}
+use Rattle.memory.specs.Addresses.{byte_at, put, NotIn}
 use Rattle.memory.specs.Access.{touched, read_by, written_by}
 use Rattle.hart_core.specs.HartState.{HartState}
 use Rattle.hart_core.specs.Scalar.{kind_of, accesses}
-use Rattle.hart_core.specs.Turn.{Next, Rests, Traps, Does, next_of, effect}
+use Rattle.hart_core.specs.Turn.{Next, Rests, Traps, Does, next_of, Effect, effect}
 use Rattle.multi_hart.specs.Run.{State, turn}
 
 -- the addresses of the bytes that a hart's next turn reads, and of those that it writes
@@ -25,6 +25,11 @@ abbrev pub Agree : (ℕ → ℕ) → (ℕ → ℕ) → List ℕ → Type 0
 Agree f g [] = Unit {0}
 Agree f g (place ∷ places) = (f place ≡ g place) × Agree f g places
 
+-- every place of the list keeps a rule
+abbrev pub Within : (ℕ → Type 0) → List ℕ → Type 0
+Within rule [] = Unit {0}
+Within rule (place ∷ places) = rule place × Within rule places
+
 -- no place of the first list is in the second
 abbrev pub Apart : List ℕ → List ℕ → Type 0
 Apart [] others = Unit {0}
@@ -42,6 +47,31 @@ Frame =
     (text memory memory' : List ℕ) (hart : HartState) → length memory ≡ length memory'
     → Agree (byte_at text memory) (byte_at text memory') (reads (next_of text (length memory) hart) hart)
     → effect text memory hart ≡ effect text memory' hart
+
+-- The same where what is read keeps a rule, and the two data agree on every byte that keeps it.
+abbrev pub FrameWithin : Type 0
+FrameWithin =
+    (rule : ℕ → Bool) (text memory memory' : List ℕ) (hart : HartState) → length memory ≡ length memory'
+    → ((place : ℕ) → rule place ≡ true → byte_at text memory place ≡ byte_at text memory' place)
+    → Within (λ place. rule place ≡ true) (reads (next_of text (length memory) hart) hart)
+    → effect text memory hart ≡ effect text memory' hart
+
+-- A turn of a hart that is there puts its effect back: the bytes that it writes, and the hart.
+abbrev pub TurnIs : Type 0
+TurnIs =
+    (state : State) (hart : ℕ) (one : HartState) (e : Effect) → slice_get state.harts hart ≡ Some one
+    → effect state.text state.memory one ≡ e
+    → turn state hart ≡ record { text = state.text; memory = put state.memory e.places e.bytes; harts = slice_set state.harts hart e.hart }
+
+-- What a turn writes are the places that `writes` lists.
+abbrev pub PlacesAre : Type 0
+PlacesAre =
+    (text memory : List ℕ) (hart : HartState)
+    → (effect text memory hart).places ≡ writes (next_of text (length memory) hart) hart
+
+-- A turn leaves every other hart.
+abbrev pub OthersStay : Type 0
+OthersStay = (state : State) (hart other : ℕ) → hart ≢ other → slice_get (turn state hart).harts other ≡ slice_get state.harts other
 
 -- The turns of two harts with no conflict may be made in either order.
 abbrev pub Commute : Type 0

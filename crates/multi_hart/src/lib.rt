@@ -4,12 +4,12 @@
 //! run is the turns one after the other, as `specs/Run.antt` defines them over the instruction table.
 //!
 //! - [`machines`]: the machine, its turns and runs, and what can be read of it.
-//! - [`laws`]: a turn depends on what it reads alone, and turns that don't conflict commute
-//!   (`specs/Frame.antt`).
+//! - [`laws`]: a turn depends on what it reads alone, turns that don't conflict commute, and what a
+//!   turn leaves (`specs/Frame.antt`).
 #![tactic(auto)]
 
 pub mod laws;
 pub mod machines;
 
-pub use crate::laws::{commute, frame};
+pub use crate::laws::{commute, frame, frame_within, turns_put_back};
 pub use crate::machines::{Machine, UnknownHart};

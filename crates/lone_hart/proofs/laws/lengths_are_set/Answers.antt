@@ -1,0 +1,8 @@
+use Rattle.lone_hart.proofs.Configurations.{configure-at, configure-by}
+use Rattle.lone_hart.proofs.laws.lengths_are_set.Goals as goal
+
+pub returns-clause-at : goal.returns-clause-at
+returns-clause-at c = configure-at
+
+pub returns-clause-by : goal.returns-clause-by
+returns-clause-by c = configure-by

@@ -1,0 +1,4 @@
+pub mod Uses
+pub mod Alone
+pub mod Paths
+pub mod Groups

@@ -1,0 +1,78 @@
+//! Laws of a hart that runs alone, each the contract of a function that does nothing.
+
+ghost use Rattle.std.specs.Prelude.{◌≡◌, ◌<◌, ◌≤◌, ◌+◌, ◌*◌, ◌%◌, ◌^◌, ◌++◌, ◌∷◌, [], ℕ, suc, ℤ, List, Some, length, slice_get, min, true, false};
+ghost use Rattle.rv_insn.specs.declared.instructions.Insn.{Insn};
+ghost use Rattle.rv_insn.specs.declared.instructions.Insn.TheVariants.{Lui, AluImm, Shift, Alu, Load, Store, Jal, Branch, Vector};
+ghost use Rattle.rv_insn.specs.declared.vector_instructions.VectorInsn.TheVariants.{Vsetvli, Vsetivli};
+ghost use Rattle.vector_unit.specs.VectorState.{is_supported, most_elements};
+ghost use Rattle.rv_insn.specs.declared.operations.AluImmOp.{AluImmOp};
+ghost use Rattle.rv_insn.specs.declared.operations.ShiftOp.{ShiftOp};
+ghost use Rattle.rv_insn.specs.declared.operations.AluOp.{AluOp};
+ghost use Rattle.rv_insn.specs.declared.operations.BranchOp.{BranchOp};
+ghost use Rattle.rv_insn.specs.declared.operations.LoadOp.{LoadOp};
+ghost use Rattle.rv_insn.specs.declared.operations.StoreOp.{StoreOp};
+ghost use Rattle.rv_encoding.specs.Decoding.{decoded};
+ghost use Rattle.memory.specs.Addresses.{text_start};
+ghost use Rattle.memory.specs.Access.{touched, number_in};
+ghost use Rattle.hart_core.specs.Alu.{extended, plus, computed, computed_with_immediate, shifted, is_taken, load_size, loaded, store_size, kept};
+ghost use Rattle.hart_core.specs.Scalar.{one_access, offset_from};
+ghost use Rattle.lone_hart.specs.Groups.{GroupHolds, OthersStay, SizeStays, LanesGiven};
+ghost use Rattle.lone_hart.specs.Alone.{World, Says, is_in};
+ghost use Rattle.lone_hart.specs.Paths.{update, Path, Block, Line, Writes, Readable, Writable, stored_at, configure};
+
+/// A word of a text of any length stands at its address.
+pub fn words_stand()
+    ensures { (text : List ℕ) (i word : ℕ) (insn : Insn) → slice_get text i ≡ Some word → decoded word ≡ Some insn → Says text (text_start + 4 * i) insn }
+{}
+
+/// Paths, blocks and lines of code follow one another, a path that leads back to where it began goes
+/// round and round, and what is written on a part is written on the whole.
+pub fn paths_follow()
+    ensures paths { (w : World) (a b c n k : ℕ) (f g e : ℕ → ℕ) (m m1 m2 : List ℕ) → Path w a b n f m g m1 → Path w b c k g m1 e m2 → Path w a c (n + k) f m e m2 }
+    ensures blocks { (w : World) (is js : List Insn) (n k : ℕ) (f g e : ℕ → ℕ) (m m1 m2 : List ℕ) → Block w is n f m g m1 → Block w js k g m1 e m2 → Block w (is ++ js) (n + k) f m e m2 }
+    ensures lines { (w : World) (is js : List Insn) (f g e : ℕ → ℕ) (m m1 m2 : List ℕ) → Line w is f m g m1 → Line w js g m1 e m2 → Line w (is ++ js) f m e m2 }
+    ensures rounds { (w : World) (at c : ℕ) (F : ℕ → ℕ → ℕ) (M : ℕ → List ℕ) (n : ℕ) → ((i : ℕ) → i < n → Path w at at c (F i) (M i) (F (suc i)) (M (suc i))) → Path w at at (n * c) (F 0) (M 0) (F n) (M n) }
+    ensures first { (w : World) (at n k : ℕ) (f : ℕ → ℕ) (m : List ℕ) (a : ℕ) → Writes w at n f m a → Writes w at (n + k) f m a }
+    ensures later { (w : World) (at to n k : ℕ) (f g : ℕ → ℕ) (m m1 : List ℕ) (a : ℕ) → Path w at to n f m g m1 → Writes w to k g m1 a → Writes w at (n + k) f m a }
+{}
+
+/// Instructions that give a register a number and touch no memory.
+pub fn registers_are_given()
+    ensures alu { (w : World) (f : ℕ → ℕ) (m : List ℕ) → length m ≡ w.size → (op : AluOp) (r a b : ℕ) → 1 ≤ r → r < 32 → a < 32 → b < 32 → Line w (Alu op r a b ∷ []) f m (update f r (computed op (f a) (f b))) m }
+    ensures alu_imm { (w : World) (f : ℕ → ℕ) (m : List ℕ) → length m ≡ w.size → (op : AluImmOp) (r a : ℕ) (z : ℤ) → 1 ≤ r → r < 32 → a < 32 → Line w (AluImm op r a z ∷ []) f m (update f r (computed_with_immediate op (f a) (extended z))) m }
+    ensures shift { (w : World) (f : ℕ → ℕ) (m : List ℕ) → length m ≡ w.size → (op : ShiftOp) (r a n : ℕ) → 1 ≤ r → r < 32 → a < 32 → Line w (Shift op r a n ∷ []) f m (update f r (shifted op (f a) n)) m }
+    ensures lui { (w : World) (f : ℕ → ℕ) (m : List ℕ) → length m ≡ w.size → (r n : ℕ) → 1 ≤ r → r < 32 → Line w (Lui r n ∷ []) f m (update f r (n * 2 ^ 12)) m }
+{}
+
+/// Numbers of data, of any size, that are loaded and stored.
+pub fn numbers_are_moved()
+    ensures load { (w : World) (f : ℕ → ℕ) (m : List ℕ) → length m ≡ w.size → (op : LoadOp) (r b a : ℕ) (z : ℤ) → 1 ≤ r → r < 32 → b < 32 → plus (f b) z ≡ a → Readable w (load_size op) a → Line w (Load op r b z ∷ []) f m (update f r (loaded op (number_in w.text m (load_size op) a))) m }
+    ensures store { (w : World) (f : ℕ → ℕ) (m : List ℕ) → length m ≡ w.size → (op : StoreOp) (b v a : ℕ) (z : ℤ) → b < 32 → v < 32 → plus (f b) z ≡ a → Writable w (store_size op) a → Line w (Store op b v z ∷ []) f m f (stored_at m (store_size op) a (kept op (f v))) }
+    ensures writes { (w : World) (f : ℕ → ℕ) (m : List ℕ) → length m ≡ w.size → (op : StoreOp) (b v a : ℕ) (z : ℤ) (at c : ℕ) → b < 32 → plus (f b) z ≡ a → Writable w (store_size op) a → Says w.text at (Store op b v z) → is_in c (touched (one_access (store_size op) a)) ≡ true → Writes w at 1 f m c }
+{}
+
+/// Jumps that keep no link, and branches.
+pub fn jumps_lead_on()
+    ensures jump { (w : World) (f : ℕ → ℕ) (m : List ℕ) → length m ≡ w.size → (at to : ℕ) (z : ℤ) → Says w.text at (Jal 0 z) → offset_from at z ≡ to → to % 4 ≡ 0 → Path w at to 1 f m f m }
+    ensures taken { (w : World) (f : ℕ → ℕ) (m : List ℕ) → length m ≡ w.size → (op : BranchOp) (at to a b : ℕ) (z : ℤ) → a < 32 → b < 32 → is_taken op (f a) (f b) ≡ true → Says w.text at (Branch op a b z) → offset_from at z ≡ to → to % 4 ≡ 0 → Path w at to 1 f m f m }
+    ensures passed { (w : World) (f : ℕ → ℕ) (m : List ℕ) → length m ≡ w.size → (op : BranchOp) (at a b : ℕ) (z : ℤ) → a < 32 → b < 32 → is_taken op (f a) (f b) ≡ false → Says w.text at (Branch op a b z) → at + 4 < 2 ^ 32 → Path w at (at + 4) 1 f m f m }
+{}
+
+/// Configurations that keep no count in a register, of a vtype that is supported.
+pub fn lengths_are_set()
+    ensures at { (w : World) (f : ℕ → ℕ) (m : List ℕ) → length m ≡ w.size → (count vtype : ℕ) → is_supported vtype ≡ true → Line w (Vector (Vsetivli 0 count vtype) ∷ []) f m (configure f (min count (most_elements vtype)) vtype) m }
+    ensures by { (w : World) (f : ℕ → ℕ) (m : List ℕ) → length m ≡ w.size → (b vtype : ℕ) → 1 ≤ b → b < 32 → is_supported vtype ≡ true → Line w (Vector (Vsetvli 0 b vtype) ∷ []) f m (configure f (min (f b) (most_elements vtype)) vtype) m }
+{}
+
+/// A group of vector registers holds the numbers of 32 bits that were written to it; all others stay.
+pub fn groups_hold_lanes()
+    ensures lanes { GroupHolds }
+    ensures others { OthersStay }
+    ensures size { SizeStays }
+{}
+
+/// What a vector row that writes lanes of 32 bits, unmasked and in groups of up to four registers, leaves
+/// of the numbers that a hart holds.
+pub fn lanes_are_given()
+    ensures { LanesGiven }
+{}

@@ -1,0 +1,17 @@
+//! What one hart does that runs alone: which bytes each of its turns may touch, and what it has come to
+//! after so many turns.
+//!
+//! Bytes of memory are each for one purpose (`specs/Uses.antt`). A run alone is told forwards, from where it
+//! begins (`specs/Alone.antt`): after so many quiet turns, what is wanted holds. Code is told by paths
+//! (`specs/Paths.antt`): from one address, numbers and memory to others, whatever stands around.
+//!
+//! - [`laws`]: words that stand in a text, paths one after the other, and what each kind of scalar
+//!   instruction leaves.
+#![tactic(auto)]
+
+pub mod laws;
+
+pub use crate::laws::{
+    groups_hold_lanes, jumps_lead_on, lanes_are_given, lengths_are_set, numbers_are_moved,
+    paths_follow, registers_are_given, words_stand,
+};
