@@ -19,7 +19,7 @@ use stage_loops::LoopSizes;
 use std::alloc::{AllocError, Global};
 
 /// How many loops stand inside this one.
-fn inner_count(id: LoopId, loops: &[Loop]) -> usize
+pub fn inner_count(id: LoopId, loops: &[Loop]) -> usize
     ensures is { result ≡ spec.inner_count id loops.now }
     ensures few { result ≤ length loops.now }
 {

@@ -34,7 +34,11 @@ fn corner_of<'a>(corners: &'a [Corner], source: Source) -> Option<&'a Corner>
 }
 
 /// A coordinate, counted from a corner.
-fn counted_from(alloc: Global, coordinate: Expr, corner: &Linear) -> Result<Expr, AllocError>
+///
+/// # Errors
+///
+/// Memory ran out.
+pub fn counted_from(alloc: Global, coordinate: Expr, corner: &Linear) -> Result<Expr, AllocError>
     ensures value { IfOk result (λ made. (reads : Reads) (values : Values)
         → value reads values made ≡ word.subtract (value reads values coordinate) (linear_value values corner.now)) }
     ensures loads { IfOk result (λ made. (reads : Reads) (values : Values) (test : Point → Bool)

@@ -200,6 +200,3 @@ pub fn lowered(
     let made = lowered_in(alloc, funcs, flags, count, corners, &standing, expr)?;
     Ok(made)
 }
-
-#[cfg(test)]
-mod tests;

@@ -212,8 +212,8 @@ fn task_standings(
     Ok(standings)
 }
 
-/// Runs a task of a phase.
-fn run_task(
+/// Runs a task of a phase, which has a number below their count. Where memory runs out, a part of it was run.
+pub fn run_task(
     alloc: Global,
     phase: &Phase,
     task: u32,
@@ -243,6 +243,3 @@ pub fn run_phase(
     }
     Ok(())
 }
-
-#[cfg(test)]
-mod tests;

@@ -50,8 +50,12 @@ fn looped(
     Ok(Stmt::For(counter, count, kind, body))
 }
 
-/// A loop of the Func at a place around a body.
-fn loop_once(
+/// A loop of the Func at a place around a body, in as many turns as its sizes say.
+///
+/// # Errors
+///
+/// Memory ran out.
+pub fn loop_once(
     alloc: Global,
     func: usize,
     sizes: &LoopSizes,
@@ -60,7 +64,9 @@ fn loop_once(
 ) -> Result<Stmt, AllocError>
     requires splits { counts.AreSplits sizes.now.splits }
     requires few { AreFew sizes.now.extents }
-    ensures { IfOk result (λ made. (leaf : Stmt) (list : counts.Values → List counts.Values) → Repeats func body leaf list
+    ensures runs { IfOk result (λ made. (points : Points) (inputs : Planes) (values : Values) (funcs : Planes) → run points inputs made values funcs
+        ≡ turns (counts.counts sizes.now.extents sizes.now.splits own.now.id) (λ turn. run points inputs body (with (record { func = func; id = own.now.id }) turn values)) funcs) }
+    ensures repeats { IfOk result (λ made. (leaf : Stmt) (list : counts.Values → List counts.Values) → Repeats func body leaf list
         → Repeats func made leaf (λ outer. upto (counts.counts sizes.now.extents sizes.now.splits own.now.id) (λ turn. list (counts.with own.now.id turn outer)))) }
 {
     let counter = Counter { func, id: own.id };

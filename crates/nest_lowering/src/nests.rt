@@ -35,6 +35,3 @@ pub fn with_nest(
     let made = with_loops(alloc, func, &sizes, loops, inner)?;
     Ok(made)
 }
-
-#[cfg(test)]
-mod tests;
