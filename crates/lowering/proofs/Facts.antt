@@ -1,5 +1,5 @@
--- What is known of a Func that is computed at root.
-use Rattle.std.proofs.Common.{◌≡◌, ℕ, zero, suc, ◌*◌, ◌^◌, ◌≤◌, true, List, [], ◌∷◌, Option, Some, None, sym, ap, ◌∙◌, subst, arith}
+-- What is known of a Func that is computed.
+use Rattle.std.proofs.Common.{◌≡◌, ℕ, zero, suc, ◌*◌, ◌^◌, ◌<◌, ◌≤◌, true, List, [], ◌∷◌, Option, Some, None, sym, ap, ◌∙◌, subst, arith}
 use Rattle.std.specs.Prelude.{◌&&◌, nat_le, slice_get, Ok}
 use Rattle.std.proofs.lemmas.Bool.{and_parts, leb-true}
 use Rattle.std.proofs.Math.Nat.{mul-le-mul}
@@ -9,14 +9,19 @@ use Rattle.halide_pipeline.specs.Pipelines.{Pipeline}
 use Rattle.schedule.specs.declared.plans.FuncPlan.{FuncPlan}
 use Rattle.schedule.specs.declared.schedules.Schedule.{Schedule}
 use Rattle.schedule.specs.declared.standings.Place.{Place}
-use Rattle.schedule.specs.Accepted.{IsAccepted, IsPlan, IsLegal}
+use Rattle.schedule.specs.declared.standings.LoopPlace.{LoopPlace}
+use Rattle.schedule.specs.declared.standings.Place.TheVariants as places
+use Rattle.schedule.specs.declared.standings.Standing.{Standing}
+use Rattle.schedule.specs.Accepted.{IsAccepted, IsPlan, IsLegal, IsHosted as HasHost}
+use Rattle.schedule.specs.Uses.{IsReached}
+use Rattle.schedule.proofs.Uses.{numbered_at}
 use Rattle.stage_loops.specs.Counts.{AreSplits, shifts_fit}
 use Rattle.stage_loops.specs.Stages.{IsStageOf, KeepsRules}
 use Rattle.stage_loops.proofs.AcceptedStages.{accepted as accepted_stages, pair_at}
 use Rattle.stage_loops.proofs.Few.{few_splits}
 use Rattle.bounds.specs.declared.boxes.SourceBox.{SourceBox}
 use Rattle.bounds.specs.declared.verdict.Boxes.{Boxes}
-use Rattle.bounds.specs.Boxes.{IsBox, extent, points, no_loops, lasts_of}
+use Rattle.bounds.specs.Boxes.{IsBox, extent, points, lasts_of}
 use Rattle.bounds.specs.Judging.{have_few_points}
 use Rattle.bounds.specs.Verdict.{inferred}
 use Rattle.bounds.specs.Views.{extents_of}
@@ -25,11 +30,19 @@ use Rattle.box_laws.specs.Laws.{IsComputed, host_in}
 use Rattle.box_laws.proofs.BoxesHosted.{boxes_are_hosted}
 use Rattle.box_laws.proofs.BoxFacts.{is_judged, shifts_at}
 use Rattle.nest_lowering.specs.Nests.{AreFew}
-use Rattle.lowering.specs.PurePhases.{IsAtRoot}
+use Rattle.lowering.specs.PurePhases.{IsComputedAt}
+
+-- ---- where it is computed
+
+-- a Func at a loop stands before its host
+pub hosted_before : (pipeline : Pipeline) (schedule : Schedule) → IsAccepted pipeline schedule → (place : ℕ) (own : Standing) → IsReached schedule.standings place own
+    → (at : LoopPlace) → own.place ≡ places.At at → place < at.func
+hosted_before pipeline schedule accepted place own there at placed =
+    omega (arith, (numbered_at (HasHost pipeline schedule.funcs) 0 schedule.standings accepted.hosts place own there.standing at placed).later)
 
 -- ---- few points
 
-few_at : (boxes : List (Option SourceBox)) (place : ℕ) (own : SourceBox) → have_few_points boxes ≡ true → slice_get boxes place ≡ Some (Some own) → points own ≤ 2 ^ 20
+pub few_at : (boxes : List (Option SourceBox)) (place : ℕ) (own : SourceBox) → have_few_points boxes ≡ true → slice_get boxes place ≡ Some (Some own) → points own ≤ 2 ^ 20
 few_at [] place own few there = absurd cc
 few_at (None ∷ boxes) zero own few there = absurd cc
 few_at (None ∷ boxes) (suc place) own few there = few_at boxes place own few there
@@ -38,16 +51,16 @@ few_at (Some other ∷ boxes) zero own few there =
     leb-true (points own) (2 ^ 20) (subst (λ (b : SourceBox). nat_le (points b) (2 ^ 20) ≡ true) same (and_parts (nat_le (points other) (2 ^ 20)) (have_few_points boxes) few).0)
 few_at (Some other ∷ boxes) (suc place) own few there = few_at boxes place own (and_parts (nat_le (points other) (2 ^ 20)) (have_few_points boxes) few).1 there
 
-first_few : (a b most : ℕ) → 1 ≤ b → a * b ≤ most → a ≤ most
+pub first_few : (a b most : ℕ) → 1 ≤ b → a * b ≤ most → a ≤ most
 first_few a b most some few = let m : a * 1 ≤ a * b = mul-le-mul (omega arith) some in omega (arith, m, few)
 
-second_few : (a b most : ℕ) → 1 ≤ a → a * b ≤ most → b ≤ most
+pub second_few : (a b most : ℕ) → 1 ≤ a → a * b ≤ most → b ≤ most
 second_few a b most some few = let m : 1 * b ≤ a * b = mul-le-mul some (omega arith) in omega (arith, m, few)
 
 module _ (pipeline : Pipeline) (schedule : Schedule) (boxes : Boxes) (place : ℕ) (func : Func) (plan : FuncPlan) (own : SourceBox) (accepted : IsAccepted pipeline schedule) (is : inferred pipeline schedule ≡ Ok boxes)
-    (at : IsAtRoot pipeline schedule boxes place func plan own) where
+    (placed : Place) (here : IsComputed place placed) (at : IsComputedAt pipeline schedule boxes placed place func plan own) where
   computed : IsComputed place at.standing.place
-  computed = subst (λ (p : Place). IsComputed place p) (sym at.root) tt
+  computed = subst (λ (p : Place). IsComputed place p) (sym at.placed_is) here
 
   hosted : IsHosted (host_in schedule boxes.funcs at.standing.place) own
   hosted = boxes_are_hosted pipeline schedule boxes is place at.standing at.there.standing at.there.reached computed own at.box_is
@@ -55,8 +68,8 @@ module _ (pipeline : Pipeline) (schedule : Schedule) (boxes : Boxes) (place : �
   pub is_box : IsBox own
   is_box = hosted.box
 
-  pub no_lasts : own.lasts ≡ no_loops
-  no_lasts = hosted.lasts ∙ ap (λ (p : Place). lasts_of (host_in schedule boxes.funcs p)) at.root
+  pub lasts_are : own.lasts ≡ lasts_of (host_in schedule boxes.funcs placed)
+  lasts_are = hosted.lasts ∙ ap (λ (p : Place). lasts_of (host_in schedule boxes.funcs p)) at.placed_is
 
   plan_so : IsPlan func plan
   plan_so = pair_at IsPlan pipeline.funcs schedule.funcs place func plan accepted.plans at.func_is at.plan_is

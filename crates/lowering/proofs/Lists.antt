@@ -1,5 +1,5 @@
 -- Lists in which some pass a test.
-use Rattle.std.proofs.Common.{◌≡◌, ℕ, zero, suc, ◌-◌, ◌<◌, Bool, true, false, cond, List, [], ◌∷◌, ◌++◌, length, take, map, filter, refl, sym, ap, subst, ◌∙◌, arith, inl, inr, length-append}
+use Rattle.std.proofs.Common.{◌≡◌, ℕ, zero, suc, ◌-◌, ◌<◌, ◌≤◌, Bool, true, false, cond, List, [], ◌∷◌, ◌++◌, length, get_or, take, map, filter, refl, sym, ap, subst, ◌∙◌, arith, inl, inr, length-append, length-take-le}
 use Rattle.std.specs.Prelude.{◌||◌}
 use Rattle.std.specs.List.{AllByRecursion, list_any}
 use Rattle.std.proofs.lemmas.Bool.{cases_eq, or_parts}
@@ -63,3 +63,21 @@ pub before_last : {A : Type 0} (xs : List A) (y : A) → take (length (xs ++ y �
 before_last {A} xs y =
     let n : length (xs ++ y ∷ []) - 1 ≡ length xs = omega (arith, length-append xs (y ∷ [])) in
     ap (λ (k : ℕ). take k (xs ++ y ∷ [])) n ∙ all_taken xs y
+
+-- the last one, behind those before it
+last_by : {A : Type 0} (xs : List A) (x : A) (n : ℕ) → length xs ≡ suc n → x ≡ get_or xs n x → take n xs ++ x ∷ [] ≡ xs
+last_by [] x n e is = absurd (omega (arith, e))
+last_by {A} (y ∷ []) x zero e is = ap (λ (z : A). z ∷ []) is
+last_by (y ∷ []) x (suc n) e is = absurd (omega (arith, e))
+last_by (y ∷ z ∷ zs) x zero e is = absurd (omega (arith, e))
+last_by {A} (y ∷ z ∷ zs) x (suc n) e is = ap (λ (ws : List A). y ∷ ws) (last_by (z ∷ zs) x n (omega (arith, e)) is)
+
+pub last_of : {A : Type 0} (xs : List A) (x : A) → 1 ≤ length xs → x ≡ get_or xs (length xs - 1) x → take (length xs - 1) xs ++ x ∷ [] ≡ xs
+last_of xs x some is = last_by xs x (length xs - 1) (omega (arith, some)) is
+
+pub none_below : {A : Type 0} (xs : List A) → length xs < 1 → [] ≡ xs
+none_below [] few = refl
+none_below (x ∷ xs) few = absurd (omega (arith, few))
+
+pub fewer_taken : {A : Type 0} (xs : List A) → 1 ≤ length xs → length (take (length xs - 1) xs) < length xs
+fewer_taken xs some = omega (arith, some, length-take-le (length xs - 1) xs (omega (arith, some)))

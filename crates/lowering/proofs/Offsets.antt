@@ -4,15 +4,17 @@ use Rattle.halide_pipeline.specs.Words as word
 use Rattle.ranges.specs.declared.bases.Multiple.{Multiple}
 use Rattle.ranges.specs.declared.ranges.Range.{Range}
 use Rattle.ranges.specs.Bases.{more_sum, less_sum}
-use Rattle.ranges.specs.Laws.{Lies}
-use Rattle.ranges.specs.Ranges.{least, greatest, spot, IsFit}
+use Rattle.ranges.specs.Laws.{Below, Lies}
+use Rattle.ranges.proofs.Sums.{more_below, less_below}
+use Rattle.ranges.specs.Ranges.{least, greatest, IsFit}
 use Rattle.bounds.specs.Boxes.{no_loops, extent}
 use Rattle.box_laws.specs.HostLaws.{IsFrom}
+use Rattle.lowering.specs.Corners.{first_of}
 use Rattle.lowering.specs.Planes.{word_at}
 
 -- ---- a box with no loops
 
-more_none : (base : List Multiple) → more_sum base no_loops ≡ 0
+pub more_none : (base : List Multiple) → more_sum base no_loops ≡ 0
 more_none [] = refl
 more_none (a ∷ []) = omega arith
 more_none (a ∷ b ∷ []) = omega arith
@@ -21,7 +23,7 @@ more_none (a ∷ b ∷ c ∷ d ∷ []) = omega arith
 more_none (a ∷ b ∷ c ∷ d ∷ e ∷ []) = omega arith
 more_none (a ∷ b ∷ c ∷ d ∷ e ∷ f ∷ base) = omega arith
 
-less_none : (base : List Multiple) → less_sum base no_loops ≡ 0
+pub less_none : (base : List Multiple) → less_sum base no_loops ≡ 0
 less_none [] = refl
 less_none (a ∷ []) = omega arith
 less_none (a ∷ b ∷ []) = omega arith
@@ -35,19 +37,6 @@ less_none (a ∷ b ∷ c ∷ d ∷ e ∷ f ∷ base) = omega arith
 abbrev turned : ℕ → ℕ
 turned x = (x + 2 ^ 31) % 2 ^ 32
 
--- a word's offset from the word at an end
-offset : (x low : ℕ) → x < 2 ^ 32 → low < 2 ^ 32 → low ≤ turned x → word.subtract x ((low + 2 ^ 31) % 2 ^ 32) ≡ turned x - low
-unfolding word.subtract
-offset x low small few below = omega (arith, small, few, below)
-
-back : (x low : ℕ) → x < 2 ^ 32 → low < 2 ^ 32 → word.add ((low + 2 ^ 31) % 2 ^ 32) (word.subtract x ((low + 2 ^ 31) % 2 ^ 32)) ≡ x
-unfolding word.add word.subtract
-back x low small few = omega (arith, small, few)
-
-on : (far low : ℕ) → low + far < 2 ^ 32 → turned (word.add far ((low + 2 ^ 31) % 2 ^ 32)) ≡ low + far
-unfolding word.add
-on far low few = omega (arith, few)
-
 pub add_small : (a b : ℕ) → word.add a b < 2 ^ 32
 unfolding word.add
 add_small a b = omega arith
@@ -56,31 +45,54 @@ pub add_turned : (a b : ℕ) → word.add a b ≡ word.add b a
 unfolding word.add
 add_turned a b = omega arith
 
+-- ---- where ranges begin
+
+-- A range with no loops begins at the word at its low end.
+pub first_none : (range : Range) → first_of range no_loops ≡ word_at range.low
+unfolding word.add word.subtract
+first_none range = omega (arith, more_none range.base, less_none range.base)
+
+pub first_small : (range : Range) (values : List ℕ) → first_of range values < 2 ^ 32
+unfolding word.subtract
+first_small range values = omega arith
+
+-- how far a word is from where a range begins
+first_far : (x low more less : ℕ) → x < 2 ^ 32 → low < 2 ^ 32 → low + more ≤ turned x + less → turned x + less < low + more + 2 ^ 32
+    → word.subtract x (word.subtract (word.add ((low + 2 ^ 31) % 2 ^ 32) (more % 2 ^ 32)) (less % 2 ^ 32)) ≡ turned x + less - (low + more)
+unfolding word.subtract word.add
+first_far x low more less small few above below = omega (arith, small, few, above, below)
+
+first_back : (x first : ℕ) → x < 2 ^ 32 → first < 2 ^ 32 → word.add first (word.subtract x first) ≡ x
+unfolding word.add word.subtract
+first_back x first small few = omega (arith, small, few)
+
+first_on : (far low more less : ℕ) → less ≤ low → low + far + more < 2 ^ 32
+    → turned (word.add far (word.subtract (word.add ((low + 2 ^ 31) % 2 ^ 32) (more % 2 ^ 32)) (less % 2 ^ 32))) + less ≡ low + more + far
+unfolding word.add word.subtract
+first_on far low more less few most = omega (arith, few, most)
+
 -- ---- ranges
 
-module _ (range : Range) (x : ℕ) (lies : Lies no_loops no_loops range x) where
+module _ (lasts values : List ℕ) (range : Range) (x : ℕ) (lies : Lies lasts values range x) where
   low_is : least ≤ range.low
   low_is = omega (arith, lies.fits_low)
 
-  above : range.low ≤ spot x
-  above = omega (arith, lies.low, more_none range.base, less_none range.base)
-
-  below : spot x ≤ range.high
-  below = omega (arith, lies.high, more_none range.base, less_none range.base)
-
   high_is : range.high ≤ greatest
-  high_is = omega (arith, lies.fits_high, more_none range.base)
+  high_is = omega (arith, lies.fits_high)
 
-  pub offset_within : word.subtract x (word_at range.low) < extent range
-  offset_within =
-      let o = offset x (range.low - least) lies.word (omega (arith, low_is, above, below, high_is)) (omega (arith, low_is, above)) in
-      omega (arith, o, low_is, above, below)
+  -- it is one of the numbers of the range
+  pub offset_within : range.low ≤ range.high → word.subtract x (first_of range values) < extent range
+  offset_within ordered =
+      let f = first_far x (range.low - least) (more_sum range.base values) (less_sum range.base values) lies.word (omega (arith, low_is, ordered, high_is)) (omega (arith, low_is, lies.low)) (omega (arith, low_is, lies.high, high_is)) in
+      omega (arith, f, low_is, lies.low, lies.high)
 
-  pub offset_back : word.add (word_at range.low) (word.subtract x (word_at range.low)) ≡ x
-  offset_back = back x (range.low - least) lies.word (omega (arith, low_is, above, below, high_is))
+  pub offset_back : word.add (first_of range values) (word.subtract x (first_of range values)) ≡ x
+  offset_back = first_back x (first_of range values) lies.word (first_small range values)
 
--- a point of a range, from its corner on
-pub from_corner_on : (range : Range) (far : ℕ) → IsFit no_loops range → far < extent range → IsFrom no_loops range far (word.add far (word_at range.low))
-from_corner_on range far fits few =
-    let o = on far (range.low - least) (omega (arith, few, fits.low, fits.high, more_none range.base)) in
-    record { word = add_small far (word_at range.low); is = omega (arith, o, fits.low, more_none range.base, less_none range.base) }
+-- a point of a range, from where it begins on
+pub from_first_on : (lasts values : List ℕ) (range : Range) (far : ℕ) → IsFit lasts range → Below values lasts → far < extent range → IsFrom values range far (word.add far (first_of range values))
+from_first_on lasts values range far fits below few =
+    let more = more_below range.base values lasts below in
+    let less = less_below range.base values lasts below in
+    let o = first_on far (range.low - least) (more_sum range.base values) (less_sum range.base values) (omega (arith, fits.low, less)) (omega (arith, few, fits.low, fits.high, fits.ordered, more)) in
+    record { word = add_small far (first_of range values); is = omega (arith, o, fits.low) }

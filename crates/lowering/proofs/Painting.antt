@@ -3,9 +3,10 @@ use Rattle.std.proofs.Common.{◌≡◌, ℕ, Bool, true, false, cond, List, [],
 use Rattle.std.specs.Prelude.{◌==◌, ◌&&◌, ◌||◌}
 use Rattle.std.specs.List.{AllByRecursion, list_any}
 use Rattle.std.proofs.lemmas.Bool.{and_parts, and_from, eqb-true, eq-eqb, or_parts}
-use Rattle.halide_meaning.specs.Pixel.{Planes}
+use Rattle.halide_meaning.specs.Pixel.{Plane, Planes}
 use Rattle.loop_ir.specs.Buffers.{Points, put}
 use Rattle.nest_lowering.specs.Nests.{all}
+use Rattle.lowering.specs.Hosting.{Keeps}
 
 -- ---- one point written
 
@@ -28,41 +29,38 @@ put_other points own x y value funcs place i j free = by_test (points own x y &&
 
 -- ---- many
 
-module _ (points : Points) (is_private : ℕ → Bool) (own : ℕ) (start result : Planes) where
-  -- other Funcs are as at the start
-  abbrev pub Ready : Planes → Type 0
-  Ready funcs = (place x y : ℕ) → is_private place ≡ false → points place x y ≡ true → (place ≡ own → ⊥) → funcs place x y ≡ start place x y
-
+-- The steps want something of the buffers that holds of them as long as all but the own Func's is kept.
+module _ (points : Points) (own : ℕ) (plane : Plane) (Ready : Planes → Type 0) (stays : (funcs after : Planes) → Keeps own funcs after → Ready funcs → Ready after) where
   module _ {A : Type 0} (x_of y_of : A → ℕ) (step : A → Planes → Planes) where
-    -- a step writes the result at its point
+    -- a step writes the plane's value at its point
     pub record Writes (a : A) : Type 0 where
       pub there : points own (x_of a) (y_of a) ≡ true
-      pub does : (funcs : Planes) → Ready funcs → step a funcs ≡ put points own (x_of a) (y_of a) (result own (x_of a) (y_of a)) funcs
+      pub does : (funcs : Planes) → Ready funcs → step a funcs ≡ put points own (x_of a) (y_of a) (plane (x_of a) (y_of a)) funcs
 
     abbrev pub is_at : ℕ → ℕ → A → Bool
     is_at x y a = x_of a == x && y_of a == y
 
     pub record Paints (list : List A) (funcs after : Planes) : Type 0 where
-      pub there : (x y : ℕ) → list_any (is_at x y) list ≡ true → after own x y ≡ result own x y
+      pub there : (x y : ℕ) → list_any (is_at x y) list ≡ true → after own x y ≡ plane x y
       pub keeps : (place x y : ℕ) → (place ≡ own → list_any (is_at x y) list ≡ false) → after place x y ≡ funcs place x y
 
     module _ (a : A) (funcs : Planes) (writes : Writes a) (ready : Ready funcs) where
       step_keeps : (place x y : ℕ) → (place ≡ own → is_at x y a ≡ false) → step a funcs place x y ≡ funcs place x y
       step_keeps place x y free =
-          ap (λ (f : Planes). f place x y) (writes.does funcs ready) ∙ put_other points own (x_of a) (y_of a) (result own (x_of a) (y_of a)) funcs place x y free
+          ap (λ (f : Planes). f place x y) (writes.does funcs ready) ∙ put_other points own (x_of a) (y_of a) (plane (x_of a) (y_of a)) funcs place x y free
 
-      step_there : (x y : ℕ) → is_at x y a ≡ true → step a funcs own x y ≡ result own x y
+      step_there : (x y : ℕ) → is_at x y a ≡ true → step a funcs own x y ≡ plane x y
       step_there x y e =
           let p = and_parts (x_of a == x) (y_of a == y) e in
           let same_x : x_of a ≡ x = eqb-true (x_of a) x p.0 in
           let same_y : y_of a ≡ y = eqb-true (y_of a) y p.1 in
-          let here : step a funcs own (x_of a) (y_of a) ≡ result own (x_of a) (y_of a) =
-          ap (λ (f : Planes). f own (x_of a) (y_of a)) (writes.does funcs ready) ∙ put_there points own (x_of a) (y_of a) (result own (x_of a) (y_of a)) funcs writes.there in
+          let here : step a funcs own (x_of a) (y_of a) ≡ plane (x_of a) (y_of a) =
+          ap (λ (f : Planes). f own (x_of a) (y_of a)) (writes.does funcs ready) ∙ put_there points own (x_of a) (y_of a) (plane (x_of a) (y_of a)) funcs writes.there in
           ap (λ (n : ℕ). step a funcs own n y) (sym same_x) ∙ ap (λ (n : ℕ). step a funcs own (x_of a) n) (sym same_y) ∙ here
-          ∙ ap (λ (n : ℕ). result own n (y_of a)) same_x ∙ ap (λ (n : ℕ). result own x n) same_y
+          ∙ ap (λ (n : ℕ). plane n (y_of a)) same_x ∙ ap (λ (n : ℕ). plane x n) same_y
 
       step_ready : Ready (step a funcs)
-      step_ready place x y public_so at other = step_keeps place x y (λ e. absurd (other e)) ∙ ready place x y public_so at other
+      step_ready = stays funcs (step a funcs) (λ other x y d. step_keeps other x y (λ e. absurd (d e))) ready
 
     first_of : (b c : Bool) → c ≡ false → (b || c) ≡ true → b ≡ true
     first_of true c f e = refl
@@ -75,7 +73,7 @@ module _ (points : Points) (is_private : ℕ → Bool) (own : ℕ) (start result
         later : Paints others (step a funcs) (all step others (step a funcs))
         later = next (step_ready a funcs writes ready)
 
-        by_later : (x y : ℕ) (test : Bool) → list_any (is_at x y) others ≡ test → (is_at x y a || list_any (is_at x y) others) ≡ true → all step others (step a funcs) own x y ≡ result own x y
+        by_later : (x y : ℕ) (test : Bool) → list_any (is_at x y) others ≡ test → (is_at x y a || list_any (is_at x y) others) ≡ true → all step others (step a funcs) own x y ≡ plane x y
         by_later x y true found e = later.there x y found
         by_later x y false found e = later.keeps own x y (λ s. found) ∙ step_there a funcs writes ready x y (first_of (is_at x y a) (list_any (is_at x y) others) found e)
 

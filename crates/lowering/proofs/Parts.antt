@@ -37,5 +37,5 @@ module _ (pipeline : Pipeline) (schedule : Schedule) (boxes : Boxes) (place : â„
         box_is = box_is (slice_get boxes.funcs place) own own_is;
         standing = standing;
         there = record { standing = found; reached = parts.0 };
-        root = root_is standing.place parts.1;
+        placed_is = root_is standing.place parts.1;
       }

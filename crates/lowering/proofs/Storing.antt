@@ -22,7 +22,6 @@ use Rattle.loop_ir.proofs.Trees.{run_store}
 use Rattle.expression_lowering.specs.declared.calls.Corner.{Corner}
 use Rattle.expression_lowering.specs.declared.lowering.Arguments.{Arguments}
 use Rattle.expression_lowering.specs.Lowering.{environment, placed}
-use Rattle.lowering.specs.Planes.{BoxCorner}
 use Rattle.lowering.specs.PurePhases.{StoresPure, whole_at}
 
 value_linear : (reads : Reads) (values : Values) (own : Linear) → value reads values (e.Linear own) ≡ linear_value values own
@@ -30,9 +29,9 @@ unfolding value
 value_linear reads values own =
     ap (λ (t : expressions.Expr). value reads values t) (sym (rolls-Linear own)) ∙ fold-roll-Expr ℕ (value_at reads values) (layer.Linear own)
 
-pub stores_pure : (corners : List Corner) (flags : ℕ → Bool) (funcs : List Func) (place : ℕ) (corner : BoxCorner) (pure : Expr) (x y : Linear) (made : expressions.Expr) (arguments : Arguments)
+pub stores_pure : (corners : List Corner) (flags : ℕ → Bool) (funcs : List Func) (place : ℕ) (corner : Corner) (pure : Expr) (x y : Linear) (made : expressions.Expr) (arguments : Arguments)
     → ((values : Values) → environment values arguments
-    ≡ at_point (word.add (whole_at values place variables.FirstArgument) corner.x) (word.add (whole_at values place variables.SecondArgument) corner.y))
+    ≡ at_point (word.add (whole_at values place variables.FirstArgument) (linear_value values corner.x)) (word.add (whole_at values place variables.SecondArgument) (linear_value values corner.y)))
     → ((values : Values) → linear_value values x ≡ whole_at values place variables.FirstArgument)
     → ((values : Values) → linear_value values y ≡ whole_at values place variables.SecondArgument)
     → ((reads : Reads) (values : Values) → value reads values made ≡ inlined (valuing (placed corners values reads)) flags funcs place (variable (environment values arguments)) pure)
@@ -43,7 +42,7 @@ stores_pure corners flags funcs place corner pure x y made arguments environment
     let at_y = value_linear reads values y ∙ y_is values in
     let written : value reads values made
     ≡ inlined (valuing (placed corners values reads)) flags funcs place
-    (variable (at_point (word.add (whole_at values place variables.FirstArgument) corner.x) (word.add (whole_at values place variables.SecondArgument) corner.y))) pure =
+    (variable (at_point (word.add (whole_at values place variables.FirstArgument) (linear_value values corner.x)) (word.add (whole_at values place variables.SecondArgument) (linear_value values corner.y)))) pure =
     value_is reads values ∙ ap (λ (v : Environment). inlined (valuing (placed corners values reads)) flags funcs place (variable v) pure) (environment_is values) in
     run_store points inputs (record { func = place; x = e.Linear x; y = e.Linear y; value = made }) values buffers
     ∙ ap (λ (n : ℕ). put points place n (value reads values (e.Linear y)) (value reads values made) buffers) at_x

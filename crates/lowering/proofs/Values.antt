@@ -1,8 +1,10 @@
--- What the store of a pure definition writes.
+-- What the store of a pure definition reads, and what it writes.
 use Rattle.std.proofs.Common.{◌≡◌, ℕ, zero, suc, ◌<◌, Bool, true, false, List, [], ◌∷◌, Option, Some, None, refl, sym, ap, subst, ◌∙◌, arith, inl, inr, true≢false}
-use Rattle.std.specs.Prelude.{nat_lt, slice_get, Ok}
-use Rattle.std.proofs.lemmas.Bool.{and_from, lt-ltb, eq-eqb}
+use Rattle.std.specs.Prelude.{slice_get, Ok}
+use Rattle.std.specs.List.{AllByRecursion}
+use Rattle.std.proofs.lemmas.Bool.{eq-eqb}
 use Rattle.halide_pipeline.specs.declared.definitions.Func.{Func}
+use Rattle.halide_pipeline.specs.declared.definitions.Update.{Update}
 use Rattle.halide_pipeline.specs.declared.expressions.Source.{Source}
 use Rattle.halide_pipeline.specs.declared.expressions.Source.TheVariants as sources
 use Rattle.halide_pipeline.specs.Definitions.{dimensions}
@@ -10,7 +12,9 @@ use Rattle.halide_pipeline.specs.Pipelines.{Pipeline}
 use Rattle.halide_pipeline.specs.WellFormed.{is_argument, IsWellFormed}
 use Rattle.halide_pipeline.specs.Words as word
 use Rattle.halide_meaning.specs.Pixel.{Planes, Reads, reads_of, pixels, value, variable, at_point}
+use Rattle.halide_meaning.specs.Pixel as pixel
 use Rattle.reads.specs.Points.{Point, Seen, Agree}
+use Rattle.schedule_lines.specs.declared.stages.LoopId.{LoopId}
 use Rattle.schedule.specs.declared.plans.FuncPlan.{FuncPlan}
 use Rattle.schedule.specs.declared.schedules.Schedule.{Schedule}
 use Rattle.schedule.specs.declared.standings.LoopPlace.{LoopPlace}
@@ -23,169 +27,294 @@ use Rattle.schedule.specs.Legal.{is_inlined, is_nowhere}
 use Rattle.schedule.specs.Uses.{IsReached}
 use Rattle.schedule.proofs.Uses.{IsSome, some_before}
 use Rattle.stage_loops.proofs.AcceptedStages.{pair_at}
+use Rattle.stage_loops.specs.Counts as loops
 use Rattle.inlining.specs.Inlining.{inlined, flagged}
 use Rattle.inlining.specs.Values.{values as valuing}
 use Rattle.inlining.proofs.Pixels.{inlining_keeps_values}
 use Rattle.inlining.proofs.Seeing.{sees_inlined_values, inlined_values_depend_on_reads}
-use Rattle.ranges.specs.Laws.{Below, Lies, AnswerWords}
+use Rattle.ranges.specs.Laws.{Below, AnswerWords}
 use Rattle.ranges.proofs.PixelWords.{pixels_are_words}
 use Rattle.weights.specs.Weight.{flags_of}
 use Rattle.bounds.specs.declared.boxes.SourceBox.{SourceBox}
 use Rattle.bounds.specs.declared.verdict.Boxes.{Boxes}
-use Rattle.bounds.specs.Boxes.{no_loops, lasts_of, extent}
+use Rattle.bounds.specs.Boxes.{no_loops, IsBox}
 use Rattle.bounds.specs.Sources.{same_source}
 use Rattle.bounds.specs.Verdict.{inferred}
-use Rattle.box_laws.specs.Callers.{IsReadThrough, AreReadThrough, IsReadWithin, StandsAt, HasLoop, IsWithin}
-use Rattle.box_laws.specs.Laws.{LiesIn, IsBoxed, AreBoxed, IsComputed, host_in, pure_points}
-use Rattle.box_laws.proofs.BoxesHosted.{boxes_are_hosted}
-use Rattle.box_laws.proofs.Callers.{pure_points_are_read_through, or_left}
+use Rattle.box_laws.specs.Callers.{ReadsThrough, IsReadThrough, AreReadThrough, IsReadWithin}
+use Rattle.box_laws.specs.HostLaws.{values_in, MayBeArguments}
+use Rattle.box_laws.specs.Laws.{LiesIn, IsBoxed, AreBoxed, IsComputed, IsNear, host_in, pure_points, update_points}
+use Rattle.box_laws.proofs.BoxesHosted.{boxes_are_hosted, points_are_near}
+use Rattle.box_laws.proofs.Callers.{pure_points_are_read_through, update_points_are_read_through, or_left}
 use Rattle.box_laws.proofs.Found.{no_below}
 use Rattle.box_laws.proofs.FoundFuncs.{pure_reads_of_funcs_lie}
+use Rattle.box_laws.proofs.LoopReads.{pure_reads_in_loops_lie, update_reads_in_loops_lie}
 use Rattle.box_laws.proofs.PutIn.{put, flags, same_seen, put_simple, reaching, reached, pair_there}
-use Rattle.box_laws.proofs.StandingWithin.{flag_is, one_standing, readers_stand_within}
+use Rattle.box_laws.proofs.StandingWithin.{flag_is, readers_stand_within}
+use Rattle.box_laws.proofs.Updates.{update_reads_of_funcs_lie}
 use Rattle.loop_ir.specs.Counters.{Values}
+use Rattle.nest_lowering.specs.Nests.{loops_of}
 use Rattle.expression_lowering.specs.declared.calls.Corner.{Corner}
 use Rattle.expression_lowering.specs.Lowering.{placed}
-use Rattle.lowering.specs.Planes.{word_at, held, box_points}
-use Rattle.lowering.specs.PurePhases.{IsAtRoot, HostsNone, RootsAreShared, IsCorner, AreCorners}
-use Rattle.lowering.proofs.Facts.{no_lasts}
+use Rattle.lowering.specs.Corners.{first_of, turns_for, turns_at, IsCornerOf, AreCorners}
+use Rattle.lowering.specs.Hosting.{Holds, Keeps}
+use Rattle.lowering.specs.PurePhases.{IsComputedAt, IsAtRoot}
+use Rattle.lowering.proofs.Facts.{hosted_before}
 use Rattle.lowering.proofs.Offsets.{offset_within, offset_back}
-use Rattle.lowering.proofs.Painting.{Ready}
 
 -- ---- corners
 
-record HasCorner (corners : List Corner) (k : ℕ) (own : Option SourceBox) : Type 0 where
-  corner : Corner
-  there : slice_get corners k ≡ Some corner
-  is : IsCorner own corner
+pub record HasCorner (plans : List FuncPlan) (corners : List Corner) (k : ℕ) (place : Place) (own : Option SourceBox) : Type 0 where
+  pub corner : Corner
+  pub there : slice_get corners k ≡ Some corner
+  pub is : IsCornerOf plans place own corner
 
-corner_at : (boxes : List (Option SourceBox)) (corners : List Corner) (k : ℕ) (own : Option SourceBox) → AreCorners boxes corners → slice_get boxes k ≡ Some own → HasCorner corners k own
-corner_at [] corners k own are there = absurd cc
-corner_at (first ∷ boxes) [] k own are there = absurd are
-corner_at (first ∷ boxes) (corner ∷ corners) zero own are there = let same : first ≡ own = cc in record { corner = corner; there = refl; is = subst (λ (o : Option SourceBox). IsCorner o corner) same are.0 }
-corner_at (first ∷ boxes) (corner ∷ corners) (suc k) own are there = let h = corner_at boxes corners k own are.1 there in record { corner = h.corner; there = h.there; is = h.is }
+pub corner_at : (plans : List FuncPlan) (boxes : List (Option SourceBox)) (standings : List Standing) (corners : List Corner) (k : ℕ) (own : Option SourceBox) (standing : Standing)
+    → AreCorners plans boxes standings corners → slice_get boxes k ≡ Some own → slice_get standings k ≡ Some standing → HasCorner plans corners k standing.place own
+corner_at plans [] standings corners k own standing are there stands = absurd cc
+corner_at plans (first ∷ boxes) [] corners k own standing are there stands = absurd cc
+corner_at plans (first ∷ boxes) (other ∷ standings) [] k own standing are there stands = absurd are
+corner_at plans (first ∷ boxes) (other ∷ standings) (corner ∷ corners) zero own standing are there stands =
+    let same : first ≡ own = cc in
+    let same_standing : other ≡ standing = cc in
+    record { corner = corner; there = refl; is = subst (λ (o : Option SourceBox). IsCornerOf plans standing.place o corner) same (subst (λ (s : Standing). IsCornerOf plans s.place first corner) same_standing are.0) }
+corner_at plans (first ∷ boxes) (other ∷ standings) (corner ∷ corners) (suc k) own standing are there stands =
+    let h = corner_at plans boxes standings corners k own standing are.1 there stands in
+    record { corner = h.corner; there = h.there; is = h.is }
 
-same_self : (k : ℕ) → same_source (sources.Func k) (sources.Func k) ≡ true
+not_inlined : (k : ℕ) (p : Place) → IsComputed k p → is_inlined p ≡ false
+not_inlined k places.Root c = refl
+not_inlined k (places.At at) c = refl
+not_inlined k places.Inlined c = absurd c
+not_inlined k places.Nowhere c = refl
+
+pub same_self : (k : ℕ) → same_source (sources.Func k) (sources.Func k) ≡ true
 same_self k = eq-eqb k k refl
 
 module _ (pipeline : Pipeline) (schedule : Schedule) (boxes : Boxes) (rules : IsWellFormed pipeline) (accepted : IsAccepted pipeline schedule) (is : inferred pipeline schedule ≡ Ok boxes)
-    (place : ℕ) (func : Func) (plan : FuncPlan) (own : SourceBox) (at : IsAtRoot pipeline schedule boxes place func plan own) (hosts_none : HostsNone schedule.standings place)
-    (is_private : ℕ → Bool) (shared : RootsAreShared schedule.standings is_private)
-    (inputs : Planes) (begun : AnswerWords pipeline.inputs (reads_of inputs (pixels pipeline.funcs inputs 0))) where
-  abbrev points : ℕ → ℕ → ℕ → Bool
-  points = box_points boxes.funcs
-
-  abbrev start : Planes
-  start = held boxes.funcs (pixels pipeline.funcs inputs place)
-
+    (placed_at : Place) (reader : ℕ) (func : Func) (plan : FuncPlan) (own : SourceBox) (here : IsComputed reader placed_at) (at : IsComputedAt pipeline schedule boxes placed_at reader func plan own)
+    (inputs : Planes) where
   -- what reads are answered by
   abbrev wanted : Reads
-  wanted = reads_of inputs (pixels pipeline.funcs inputs place)
-
-  words : AnswerWords pipeline.inputs wanted
-  words = pixels_are_words pipeline.inputs pipeline.funcs inputs rules.funcs begun place
+  wanted = reads_of inputs (pixels pipeline.funcs inputs reader)
 
   -- ---- which Funcs are read
 
-  somewhere : (k : ℕ) → k < place → (standing : Standing) → IsReached schedule.standings k standing → is_nowhere standing.place ≡ false
+  reader_computed : IsComputed reader at.standing.place
+  reader_computed = subst (λ (p : Place). IsComputed reader p) (sym at.placed_is) here
+
+  somewhere : (k : ℕ) → k < reader → (standing : Standing) → IsReached schedule.standings k standing → is_nowhere standing.place ≡ false
   somewhere k before standing there =
-      let f = some_before pipeline.funcs place k func at.func_is before in
+      let f = some_before pipeline.funcs reader k func at.func_is before in
       let p = pair_there IsPlan pipeline.funcs schedule.funcs k f.value accepted.plans f.is in
       (pair_at IsLegal schedule.funcs schedule.standings k p.value standing accepted.legal p.is there.standing there.reached).somewhere
 
-  not_within : (k : ℕ) (w : IsReadWithin schedule place k) (host : LoopPlace) → w.own.place ≡ places.At host → StandsAt schedule host place → ⊥
-  not_within k w host e (HasLoop same) = hosts_none k w.own host w.there e (sym same)
-  not_within k w host e (IsWithin standing other there other_place inside) =
-      let same = one_standing schedule.standings place standing at.standing there.standing at.there.standing in
-      let wrong : places.At other ≡ places.Root = sym other_place ∙ ap (λ (s : Standing). s.place) same ∙ at.root in
-      cc
+  computed_by : (k : ℕ) (standing : Standing) → IsReached schedule.standings k standing → (p : Place) → standing.place ≡ p → is_inlined p ≡ false → is_nowhere p ≡ false → IsComputed k p
+  computed_by k standing there places.Root e plain some = tt
+  computed_by k standing there (places.At host) e plain some = hosted_before pipeline schedule accepted k standing there host e
+  computed_by k standing there places.Inlined e plain some = absurd (true≢false plain)
+  computed_by k standing there places.Nowhere e plain some = absurd (true≢false some)
 
-  root_read : (k : ℕ) (w : IsReadWithin schedule place k) → flagged (flags_of schedule.standings) k ≡ false → (p : Place) → w.own.place ≡ p → p ≡ places.Root
-  root_read k w plain places.Root e = refl
-  root_read k w plain (places.At host) e = absurd (not_within k w host e (w.within host e))
-  root_read k w plain places.Inlined e = absurd (true≢false (sym (flag_is schedule.standings k w.own w.there.standing ∙ ap is_inlined e) ∙ plain))
-  root_read k w plain places.Nowhere e = absurd (true≢false (sym (ap is_nowhere e) ∙ somewhere k w.before w.own w.there))
+  module _ (begun : AnswerWords pipeline.inputs (reads_of inputs (pixels pipeline.funcs inputs 0)))
+      (host : ℕ) (host_func : Func) (host_plan : FuncPlan) (hosting : SourceBox) (host_at : IsAtRoot pipeline schedule boxes host host_func host_plan hosting) (turned : loops.Values)
+      (funcs : Planes)
+      (roots_hold : (k : ℕ) (standing : Standing) → k < reader → IsReached schedule.standings k standing → standing.place ≡ places.Root
+      → (box : SourceBox) → slice_get boxes.funcs k ≡ Some (Some box) → Holds k box no_loops (pixels pipeline.funcs inputs reader k) funcs)
+      (of_host : (k : ℕ) (w : IsReadWithin schedule reader k) (loop : LoopPlace) → w.own.place ≡ places.At loop → loop.func ≡ host)
+      (loops_hold : (k : ℕ) (w : IsReadWithin schedule reader k) (loop : LoopPlace) → w.own.place ≡ places.At loop
+      → (box : SourceBox) → slice_get boxes.funcs k ≡ Some (Some box) → Holds k box (values_in host_plan loop.inside turned) (pixels pipeline.funcs inputs reader k) funcs)
+      (counters : Values) (counters_are : (id : LoopId) → values_in host_plan id (loops_of host counters) ≡ values_in host_plan id turned)
+      (corners : List Corner) (are : AreCorners schedule.funcs boxes.funcs schedule.standings corners) (now : Planes) (keeps : Keeps reader funcs now) where
+    words : AnswerWords pipeline.inputs wanted
+    words = pixels_are_words pipeline.inputs pipeline.funcs inputs rules.funcs begun reader
 
-  module _ (corners : List Corner) (are : AreCorners boxes.funcs corners) (values : Values) (buffers : Planes) (ready : Ready points is_private place start start buffers) where
     abbrev found : Reads
-    found = placed corners values (reads_of inputs buffers)
+    found = placed corners counters (reads_of inputs now)
 
     -- ---- a point that is read
 
-    found_in : (k a b : ℕ) (box : SourceBox) → slice_get boxes.funcs k ≡ Some (Some box) → LiesIn no_loops box a b → box.lasts ≡ no_loops → is_private k ≡ false → k < place
-        → found (sources.Func k) a b ≡ pixels pipeline.funcs inputs place k a b
+    ordered : (k : ℕ) (standing : Standing) → IsReached schedule.standings k standing → IsComputed k standing.place → (box : SourceBox) → slice_get boxes.funcs k ≡ Some (Some box) → IsBox box
+    ordered k standing there computed box box_is = (boxes_are_hosted pipeline schedule boxes is k standing there.standing there.reached computed box box_is).box
+
+    found_in : (k a b : ℕ) (box : SourceBox) (values : List ℕ) (standing : Standing) → IsReached schedule.standings k standing → IsComputed k standing.place → slice_get boxes.funcs k ≡ Some (Some box)
+        → turns_for schedule.funcs standing.place counters ≡ values → LiesIn values box a b → k < reader → Holds k box values (pixels pipeline.funcs inputs reader k) funcs
+        → found (sources.Func k) a b ≡ pixels pipeline.funcs inputs reader k a b
     unfolding placed
-    found_in k a b box box_is lies lasts public_so before =
-        let c = corner_at boxes.funcs corners k (Some box) are box_is in
-        let i = word.subtract a (word_at box.x.low) in
-        let j = word.subtract b (word_at box.y.low) in
-        let first = subst (λ (l : List ℕ). Lies l no_loops box.x a) lasts lies.first in
-        let second = subst (λ (l : List ℕ). Lies l no_loops box.y b) lasts lies.second in
-        let inside : points k i j ≡ true =
-        rw box_is (and_from (nat_lt i (extent box.x)) (nat_lt j (extent box.y)) (lt-ltb i (extent box.x) (offset_within box.x a first)) (lt-ltb j (extent box.y) (offset_within box.y b second))) in
-        let lies_at : found (sources.Func k) a b ≡ buffers k i j = rw (c.there, (c.is values).0, (c.is values).1) refl in
-        let held_so : start k i j ≡ pixels pipeline.funcs inputs place k (word.add (word_at box.x.low) i) (word.add (word_at box.y.low) j) = rw box_is refl in
-        lies_at ∙ ready k i j public_so inside (λ e. omega (arith, e, before)) ∙ held_so
-        ∙ ap (λ (n : ℕ). pixels pipeline.funcs inputs place k n (word.add (word_at box.y.low) j)) (offset_back box.x a first)
-        ∙ ap (λ (n : ℕ). pixels pipeline.funcs inputs place k a n) (offset_back box.y b second)
+    found_in k a b box values standing there computed box_is turns_are lies before holds =
+        let c = corner_at schedule.funcs boxes.funcs schedule.standings corners k (Some box) standing are box_is there.standing in
+        let i = word.subtract a (first_of box.x values) in
+        let j = word.subtract b (first_of box.y values) in
+        let o = ordered k standing there computed box box_is in
+        let x_is = (c.is counters).0 ∙ ap (first_of box.x) turns_are in
+        let y_is = (c.is counters).1 ∙ ap (first_of box.y) turns_are in
+        let lies_at : found (sources.Func k) a b ≡ now k i j = rw (c.there, x_is, y_is) refl in
+        lies_at ∙ keeps k i j (λ e. omega (arith, e, before))
+        ∙ holds i j (offset_within box.lasts values box.x a lies.first o.x.ordered) (offset_within box.lasts values box.y b lies.second o.y.ordered)
+        ∙ ap (λ (n : ℕ). pixels pipeline.funcs inputs reader k n (word.add (first_of box.y values) j)) (offset_back box.lasts values box.x a lies.first)
+        ∙ ap (λ (n : ℕ). pixels pipeline.funcs inputs reader k a n) (offset_back box.lasts values box.y b lies.second)
+
+    -- the turns of its host's loops that a Func at one of them is counted from
+    turns_are : (place : Place) (loop : LoopPlace) → place ≡ places.At loop → loop.func ≡ host → turns_for schedule.funcs place counters ≡ values_in host_plan loop.inside turned
+    turns_are place loop e same =
+        ap (λ (p : Place). turns_for schedule.funcs p counters) e
+        ∙ ap (λ (p : Option FuncPlan). turns_at loop p counters) (ap (λ (n : ℕ). slice_get schedule.funcs n) same ∙ host_at.plan_is)
+        ∙ ap (λ (n : ℕ). values_in host_plan loop.inside (loops_of n counters)) same
+        ∙ counters_are loop.inside
 
     -- ---- all points that are read
 
-    lasts_at : (k : ℕ) (sought : Standing) → IsReached schedule.standings k sought → sought.place ≡ places.Root → (box : SourceBox) → slice_get boxes.funcs k ≡ Some (Some box) → box.lasts ≡ no_loops
-    lasts_at k sought there root box box_is =
-        (boxes_are_hosted pipeline schedule boxes is k sought there.standing there.reached (subst (λ (p : Place). IsComputed k p) (sym root) tt) box box_is).lasts
-        ∙ ap (λ (p : Place). lasts_of (host_in schedule boxes.funcs p)) root
-
     record AreRead (list : List Point) : Type 0 where
-      funcs : (k : ℕ) (sought : Standing) → k < place → IsReached schedule.standings k sought → sought.place ≡ places.Root → AreBoxed no_loops (sources.Func k) (slice_get boxes.funcs k) list
-      through : AreReadThrough pipeline schedule.standings place place list
+      roots : (k : ℕ) (standing : Standing) → k < reader → IsReached schedule.standings k standing → standing.place ≡ places.Root → AreBoxed no_loops (sources.Func k) (slice_get boxes.funcs k) list
+      hosted : (k : ℕ) (w : IsReadWithin schedule reader k) (loop : LoopPlace) → w.own.place ≡ places.At loop → AreBoxed (values_in host_plan loop.inside turned) (sources.Func k) (slice_get boxes.funcs k) list
+      through : AreReadThrough pipeline schedule.standings reader reader list
 
-    one_agrees : (s : Source) (a b : ℕ) (list : List Point) → AreRead (record { source = s; x = a; y = b } ∷ list) → IsReadThrough pipeline schedule.standings place place s → found s a b ≡ wanted s a b
+    -- where a point of a Func lies that is read
+    record LiesThere (k a b : ℕ) : Type 0 where
+      roots : (standing : Standing) → k < reader → IsReached schedule.standings k standing → standing.place ≡ places.Root → IsBoxed no_loops (slice_get boxes.funcs k) a b
+      hosted : (w : IsReadWithin schedule reader k) (loop : LoopPlace) → w.own.place ≡ places.At loop → IsBoxed (values_in host_plan loop.inside turned) (slice_get boxes.funcs k) a b
+
+    of_list : (k a b : ℕ) (list : List Point) → AreRead (record { source = sources.Func k; x = a; y = b } ∷ list) → LiesThere k a b
+    of_list k a b list r = record {
+      roots = λ standing before there root. (r.roots k standing before there root).0 (same_self k);
+      hosted = λ w loop e. (r.hosted k w loop e).0 (same_self k);
+    }
+
+    one_through : (k a b : ℕ) → LiesThere k a b → flagged (flags_of schedule.standings) k ≡ false → ReadsThrough pipeline schedule.standings reader k → found (sources.Func k) a b ≡ pixels pipeline.funcs inputs reader k a b
+    one_through k a b r plain through =
+        let w = readers_stand_within pipeline schedule accepted reader at.standing at.there reader_computed k through in
+        by_place w w.own.place refl (sym (flag_is schedule.standings k w.own w.there.standing) ∙ plain) (somewhere k w.before w.own w.there)
+      where
+        by_box : (w : IsReadWithin schedule reader k) → IsComputed k w.own.place → (values : List ℕ) → turns_for schedule.funcs w.own.place counters ≡ values
+            → ((box : SourceBox) → slice_get boxes.funcs k ≡ Some (Some box) → Holds k box values (pixels pipeline.funcs inputs reader k) funcs)
+            → (answer : Option (Option SourceBox)) → slice_get boxes.funcs k ≡ answer → IsSome answer → IsBoxed values answer a b
+            → found (sources.Func k) a b ≡ pixels pipeline.funcs inputs reader k a b
+        by_box w computed values turns holds None e some lies = let wrong = some.is in absurd cc
+        by_box w computed values turns holds (Some None) e some lies = absurd lies
+        by_box w computed values turns holds (Some (Some box)) e some lies = found_in k a b box values w.own w.there computed e turns lies w.before (holds box e)
+
+        by_place : (w : IsReadWithin schedule reader k) (p : Place) → w.own.place ≡ p → is_inlined w.own.place ≡ false → is_nowhere w.own.place ≡ false → found (sources.Func k) a b ≡ pixels pipeline.funcs inputs reader k a b
+        by_place w places.Root e plain some =
+            by_box w (subst (λ (p : Place). IsComputed k p) (sym e) tt) no_loops (ap (λ (p : Place). turns_for schedule.funcs p counters) e) (roots_hold k w.own w.before w.there e)
+            (slice_get boxes.funcs k) refl (some_before boxes.funcs reader k (Some own) at.box_is w.before) (r.roots w.own w.before w.there e)
+        by_place w (places.At loop) e plain some =
+            by_box w (subst (λ (p : Place). IsComputed k p) (sym e) (hosted_before pipeline schedule accepted k w.own w.there loop e)) (values_in host_plan loop.inside turned)
+            (turns_are w.own.place loop e (of_host k w loop e)) (loops_hold k w loop e)
+            (slice_get boxes.funcs k) refl (some_before boxes.funcs reader k (Some own) at.box_is w.before) (r.hosted w loop e)
+        by_place w places.Inlined e plain some = absurd (true≢false (sym (ap is_inlined e) ∙ plain))
+        by_place w places.Nowhere e plain some = absurd (true≢false (sym (ap is_nowhere e) ∙ some))
+
+    one_agrees : (s : Source) (a b : ℕ) (list : List Point) → AreRead (record { source = s; x = a; y = b } ∷ list) → IsReadThrough pipeline schedule.standings reader reader s → found s a b ≡ wanted s a b
     unfolding placed
     one_agrees (sources.Input k) a b list r through = refl
     one_agrees (sources.Func k) a b list r (plain, (few, inl e)) = absurd (omega (arith, few, e))
-    one_agrees (sources.Func k) a b list r (plain, (few, inr through)) =
-        let w = readers_stand_within pipeline schedule accepted place at.standing at.there (subst (λ (p : Place). IsComputed place p) (sym at.root) tt) k through in
-        let root : w.own.place ≡ places.Root = root_read k w plain w.own.place refl in
-        by_box w root (slice_get boxes.funcs k) refl (some_before boxes.funcs place k (Some own) at.box_is w.before) ((r.funcs k w.own w.before w.there root).0 (same_self k))
-      where
-        by_box : (w : IsReadWithin schedule place k) → w.own.place ≡ places.Root → (answer : Option (Option SourceBox)) → slice_get boxes.funcs k ≡ answer → IsSome answer → IsBoxed no_loops answer a b
-            → found (sources.Func k) a b ≡ pixels pipeline.funcs inputs place k a b
-        by_box w root None e some lies = let wrong = some.is in absurd cc
-        by_box w root (Some None) e some lies = absurd lies
-        by_box w root (Some (Some box)) e some lies = found_in k a b box e lies (lasts_at k w.own w.there root box e) (shared k w.own w.there root) w.before
+    one_agrees (sources.Func k) a b list r (plain, (few, inr through)) = one_through k a b (of_list k a b list r) plain through
 
     all_agree : (list : List Point) → AreRead list → Agree wanted found list
     all_agree [] r = tt
-    all_agree (point ∷ list) r =
-        (one_agrees point.source point.x point.y list r r.through.0, all_agree list (record { funcs = λ k sought before there root. (r.funcs k sought before there root).1; through = r.through.1 }))
+    all_agree (point ∷ list) r = (
+      one_agrees point.source point.x point.y list r r.through.0,
+      all_agree list (record {
+        roots = λ k standing before there root. (r.roots k standing before there root).1;
+        hosted = λ k w loop e. (r.hosted k w loop e).1;
+        through = r.through.1;
+      }),
+    )
 
-    -- ---- the value
-
-    module _ (x y : ℕ) (lies : LiesIn no_loops own x y) where
-      are_read : AreRead (pure_points pipeline schedule wanted place func x y)
+    module _ (values : List ℕ) (below : Below values own.lasts) (x y : ℕ) (lies : LiesIn values own x y)
+        (may_be : (k : ℕ) (w : IsReadWithin schedule reader k) (loop : LoopPlace) → w.own.place ≡ places.At loop → MayBeArguments host_func host_plan hosting loop.inside turned placed_at own x y) where
+      are_read : AreRead (pure_points pipeline schedule wanted reader func x y)
       are_read = record {
-        funcs = λ k sought before there root.
-            pure_reads_of_funcs_lie pipeline schedule boxes rules is place func own at.func_is at.box_is k sought before there.standing there.reached (subst (λ (p : Place). IsComputed k p) (sym root) tt)
-            None (ap (λ (p : Place). host_in schedule boxes.funcs p) root) own refl wanted words no_loops
-            (subst (λ (l : List ℕ). Below no_loops l) (sym (no_lasts pipeline schedule boxes place func plan own accepted is at)) no_below) no_below x y lies;
-        through = pure_points_are_read_through pipeline schedule rules place func at.func_is wanted x y;
+        roots = λ k standing before there root.
+            pure_reads_of_funcs_lie pipeline schedule boxes rules is reader func own at.func_is at.box_is k standing before there.standing there.reached (subst (λ (p : Place). IsComputed k p) (sym root) tt)
+            None (ap (λ (p : Place). host_in schedule boxes.funcs p) root) own refl wanted words values below no_below x y lies;
+        hosted = λ k w loop e.
+            let same = of_host k w loop e in
+            pure_reads_in_loops_lie pipeline schedule boxes rules accepted is k w.own loop w.there.standing w.there.reached e host_func host_plan hosting
+            (ap (λ (n : ℕ). slice_get pipeline.funcs n) same ∙ host_at.func_is) (ap (λ (n : ℕ). slice_get schedule.funcs n) same ∙ host_at.plan_is) (ap (λ (n : ℕ). slice_get boxes.funcs n) same ∙ host_at.box_is)
+            reader func at.standing own w.before at.func_is at.there.standing at.there.reached at.box_is wanted words turned x y
+            (subst (λ (p : Place). MayBeArguments host_func host_plan hosting loop.inside turned p own x y) (sym at.placed_is) (may_be k w loop e));
+        through = pure_points_are_read_through pipeline schedule rules reader func at.func_is wanted x y;
       }
 
-      is_reached_here : reached pipeline schedule place ≡ true
-      is_reached_here = rw at.there.standing at.there.reached
+      pub answered : Agree wanted found (pure_points pipeline schedule wanted reader func x y)
+      answered = all_agree (pure_points pipeline schedule wanted reader func x y) are_read
 
-      calling : (other : ℕ) → calls other func.pure ≡ true → place_calls pipeline place other ≡ true
-      unfolding place_calls func_calls
-      calling other e = ap (place_calls_of other) at.func_is ∙ or_left (calls other func.pure) (updates_call other func.updates) e
+    -- ---- all points that an update reads of other Funcs
 
-      pub value_is : inlined (valuing found) (flagged (flags_of schedule.standings)) pipeline.funcs place (variable (at_point x y)) func.pure ≡ value wanted (at_point x y) func.pure
-      value_is =
-          inlined_values_depend_on_reads wanted found (flags pipeline schedule) pipeline.funcs place (at_point x y) func.pure (all_agree (pure_points pipeline schedule wanted place func x y) are_read)
-          ∙ sym (sees_inlined_values wanted (flags pipeline schedule) pipeline.funcs place (at_point x y) func.pure)
-          ∙ ap (λ (s : Seen). s.value)
-          (same_seen pipeline schedule rules accepted wanted place (at_point x y) (is_argument (dimensions func)) func.pure (rules.funcs place func at.func_is).pure
-          (reaching pipeline schedule rules accepted wanted place is_reached_here func.pure calling))
-          ∙ sees_inlined_values wanted (put pipeline schedule) pipeline.funcs place (at_point x y) func.pure
-          ∙ inlining_keeps_values wanted (put pipeline schedule) pipeline.inputs pipeline.funcs inputs rules.funcs (put_simple pipeline schedule accepted) place (λ s n a b computed_so read. refl)
-          (is_argument (dimensions func)) (at_point x y) func.pure (rules.funcs place func at.func_is).pure
+    record AreReadBeside (list : List Point) : Type 0 where
+      roots : (k : ℕ) (standing : Standing) → k < reader → IsReached schedule.standings k standing → standing.place ≡ places.Root → AreBoxed no_loops (sources.Func k) (slice_get boxes.funcs k) list
+      hosted : (k : ℕ) (w : IsReadWithin schedule reader k) (loop : LoopPlace) → w.own.place ≡ places.At loop → AreBoxed (values_in host_plan loop.inside turned) (sources.Func k) (slice_get boxes.funcs k) list
+      through : AreReadThrough pipeline schedule.standings reader (suc reader) list
+
+    one_beside : (s : Source) (a b : ℕ) (list : List Point) → AreReadBeside (record { source = s; x = a; y = b } ∷ list) → IsReadThrough pipeline schedule.standings reader (suc reader) s
+        → same_source s (sources.Func reader) ≡ false → found s a b ≡ wanted s a b
+    unfolding placed
+    one_beside (sources.Input k) a b list r through other = refl
+    one_beside (sources.Func k) a b list r (plain, (few, inl e)) other = absurd (true≢false (sym (eq-eqb k reader e) ∙ other))
+    one_beside (sources.Func k) a b list r (plain, (few, inr through)) other =
+        one_through k a b
+        (record {
+          roots = λ standing before there root. (r.roots k standing before there root).0 (same_self k);
+          hosted = λ w loop e. (r.hosted k w loop e).0 (same_self k);
+        })
+        plain through
+
+    all_beside : (list : List Point) → AreReadBeside list
+        → AllByRecursion (λ point. same_source point.source (sources.Func reader) ≡ false → found point.source point.x point.y ≡ wanted point.source point.x point.y) list
+    all_beside [] r = tt
+    all_beside (point ∷ list) r = (
+      one_beside point.source point.x point.y list r r.through.0,
+      all_beside list (record {
+        roots = λ k standing before there root. (r.roots k standing before there root).1;
+        hosted = λ k w loop e. (r.hosted k w loop e).1;
+        through = r.through.1;
+      }),
+    )
+
+    module _ (values : List ℕ) (below : Below values own.lasts) (x y : ℕ) (lies : LiesIn values own x y)
+        (may_be : (k : ℕ) (w : IsReadWithin schedule reader k) (loop : LoopPlace) → w.own.place ≡ places.At loop → MayBeArguments host_func host_plan hosting loop.inside turned placed_at own x y)
+        (number_at : ℕ) (update : Update) (update_is : slice_get func.updates number_at ≡ Some update) (number : ℕ) (few : number < pixel.points update)
+        (reads : Reads) (read_words : AnswerWords pipeline.inputs reads) where
+      near : IsNear x × IsNear y
+      near = points_are_near own (boxes_are_hosted pipeline schedule boxes is reader at.standing at.there.standing at.there.reached reader_computed own at.box_is).box values below x y lies
+
+      unflagged : flagged (flags_of schedule.standings) reader ≡ false
+      unflagged = flag_is schedule.standings reader at.standing at.there.standing ∙ (ap is_inlined at.placed_is ∙ not_inlined reader placed_at here)
+
+      update_read : AreReadBeside (update_points pipeline schedule reads reader update number x y)
+      update_read = record {
+        roots = λ k standing before there root.
+            update_reads_of_funcs_lie pipeline schedule boxes rules is reader func own at.func_is at.box_is number_at update update_is k standing before there.standing there.reached
+            (subst (λ (p : Place). IsComputed k p) (sym root) tt) None (ap (λ (p : Place). host_in schedule boxes.funcs p) root) own refl reads read_words values below no_below x y lies near.0 near.1 number few;
+        hosted = λ k w loop e.
+            let same = of_host k w loop e in
+            update_reads_in_loops_lie pipeline schedule boxes rules accepted is k w.own loop w.there.standing w.there.reached e host_func host_plan hosting
+            (ap (λ (n : ℕ). slice_get pipeline.funcs n) same ∙ host_at.func_is) (ap (λ (n : ℕ). slice_get schedule.funcs n) same ∙ host_at.plan_is) (ap (λ (n : ℕ). slice_get boxes.funcs n) same ∙ host_at.box_is)
+            reader func at.standing own w.before at.func_is at.there.standing at.there.reached at.box_is number_at update update_is reads read_words turned x y
+            (subst (λ (p : Place). MayBeArguments host_func host_plan hosting loop.inside turned p own x y) (sym at.placed_is) (may_be k w loop e)) near.0 near.1 number few;
+        through = update_points_are_read_through pipeline schedule rules reader func at.func_is unflagged number_at update update_is reads number x y;
+      }
+
+      pub answered_beside : AllByRecursion (λ point. same_source point.source (sources.Func reader) ≡ false → found point.source point.x point.y ≡ wanted point.source point.x point.y)
+          (update_points pipeline schedule reads reader update number x y)
+      answered_beside = all_beside (update_points pipeline schedule reads reader update number x y) update_read
+
+  -- ---- the value
+
+  is_reached_here : reached pipeline schedule reader ≡ true
+  is_reached_here = rw at.there.standing at.there.reached
+
+  calling : (other : ℕ) → calls other func.pure ≡ true → place_calls pipeline reader other ≡ true
+  unfolding place_calls func_calls
+  calling other e = ap (place_calls_of other) at.func_is ∙ or_left (calls other func.pure) (updates_call other func.updates) e
+
+  pub value_is : (found : Reads) (x y : ℕ) → Agree wanted found (pure_points pipeline schedule wanted reader func x y)
+      → inlined (valuing found) (flagged (flags_of schedule.standings)) pipeline.funcs reader (variable (at_point x y)) func.pure ≡ value wanted (at_point x y) func.pure
+  value_is found x y agree =
+      inlined_values_depend_on_reads wanted found (flags pipeline schedule) pipeline.funcs reader (at_point x y) func.pure agree
+      ∙ sym (sees_inlined_values wanted (flags pipeline schedule) pipeline.funcs reader (at_point x y) func.pure)
+      ∙ ap (λ (s : Seen). s.value)
+      (same_seen pipeline schedule rules accepted wanted reader (at_point x y) (is_argument (dimensions func)) func.pure (rules.funcs reader func at.func_is).pure
+      (reaching pipeline schedule rules accepted wanted reader is_reached_here func.pure calling))
+      ∙ sees_inlined_values wanted (put pipeline schedule) pipeline.funcs reader (at_point x y) func.pure
+      ∙ inlining_keeps_values wanted (put pipeline schedule) pipeline.inputs pipeline.funcs inputs rules.funcs (put_simple pipeline schedule accepted) reader (λ s n a b computed_so read. refl)
+      (is_argument (dimensions func)) (at_point x y) func.pure (rules.funcs reader func at.func_is).pure

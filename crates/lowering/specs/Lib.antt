@@ -1,4 +1,10 @@
 pub mod Phases
 pub mod Order
 pub mod Planes
+pub mod Corners
+pub mod Stages
+pub mod HostedFuncs
 pub mod PurePhases
+pub mod Hosting
+pub mod Updates
+pub mod Lowered

@@ -1,6 +1,6 @@
 -- Phases one after the other, the tasks of each in any order.
 -- This project's own.
-use Rattle.std.specs.Prelude.{◌≡◌, ◌<◌, ℕ, Bool, false, true, List, [], ◌∷◌}
+use Rattle.std.specs.Prelude.{◌≡◌, ℕ, Bool, false, true, List, [], ◌∷◌}
 use Rattle.halide_meaning.specs.Pixel.{Planes}
 use Rattle.stage_loops.specs.Iterations.{IsOrder}
 use Rattle.loop_ir.specs.Buffers.{Points}
@@ -17,9 +17,15 @@ pub data DoneInOrder (is_private : ℕ → Bool) : List Tasks → Planes → Pla
   Phase : (first : Tasks) (others : List Tasks) (order : List ℕ) (funcs between after : Planes) → IsOrder first.count order
       → Done is_private first.run order funcs between → DoneInOrder is_private others between after → DoneInOrder is_private (first ∷ others) funcs after
 
+-- Planes agree at the points that are there, private ones apart.
+abbrev pub AgreeThere : Points → (ℕ → Bool) → Planes → Planes → Type 0
+AgreeThere points is_private one other = (place x y : ℕ) → is_private place ≡ false → points place x y ≡ true → one place x y ≡ other place x y
+
 -- Each phase of a list does its part: it begins with what the one before it leaves.
 pub data DoPhases (points : Points) (is_private : ℕ → Bool) : List Tasks → Planes → Planes → Type 0 where
   None_left : (start : Planes) → DoPhases points is_private [] start start
+  Same : (phases : List Tasks) (one other result : Planes) → AgreeThere points is_private one other
+      → DoPhases points is_private phases other result → DoPhases points is_private phases one result
   One_more : (first : Tasks) (others : List Tasks) (own : ℕ) (owns : ℕ → ℕ → ℕ → Bool) (start between result : Planes)
       → DoesPhase points is_private own start between first.count owns first.run
       → DoPhases points is_private others between result → DoPhases points is_private (first ∷ others) start result
@@ -27,6 +33,4 @@ pub data DoPhases (points : Points) (is_private : ℕ → Bool) : List Tasks →
 -- From buffers that hold the start of the first phase, the phases leave the result of the last one at each point that is there.
 abbrev pub PhasesInOrder : Type 0
 PhasesInOrder = (points : Points) (is_private : ℕ → Bool) (phases : List Tasks) (start result : Planes) → DoPhases points is_private phases start result
-    → (funcs after : Planes) → ((place x y : ℕ) → is_private place ≡ false → points place x y ≡ true → funcs place x y ≡ start place x y)
-    → DoneInOrder is_private phases funcs after
-    → (place x y : ℕ) → is_private place ≡ false → points place x y ≡ true → after place x y ≡ result place x y
+    → (funcs after : Planes) → AgreeThere points is_private funcs start → DoneInOrder is_private phases funcs after → AgreeThere points is_private after result

@@ -18,11 +18,11 @@ use Rattle.bounds.specs.Boxes.{box_in, extent}
 
 -- ---- corners
 
--- the word that stands at an end of a range
+-- the word that stands at an end of a range: ends are numbers counted from the least one
 abbrev pub word_at : ℕ → ℕ
 word_at end = (end - least + 2 ^ 31) % 2 ^ 32
 
--- the first point of a box with no base
+-- the first point of a box
 pub record BoxCorner : Type 0 where
   pub x : ℕ
   pub y : ℕ
@@ -37,7 +37,8 @@ corner_of (Some own) = record { x = word_at own.x.low; y = word_at own.y.low }
 abbrev pub from_corner : BoxCorner → Plane → Plane
 from_corner corner plane x y = plane (word.add corner.x x) (word.add corner.y y)
 
--- these pixels, each Func's counted from the corner of its box
+-- These pixels, each Func's counted from the corner of its box. Of a Func at a loop, whose box begins elsewhere in each turn, this means
+-- nothing: its buffers are private.
 abbrev pub held : List (Option SourceBox) → Planes → Planes
 held boxes pixels place = from_corner (corner_of (box_in (slice_get boxes place))) (pixels place)
 

@@ -1,6 +1,6 @@
--- The phase of a pure definition of a Func that is computed at root and at whose loops no other Func is computed.
+-- The phase of a pure definition of a Func that is computed at root, with the Funcs computed at its loops in it.
 -- This project's own.
-use Rattle.std.specs.Prelude.{◌≡◌, ℕ, suc, ◌-◌, ◌%◌, ◌^◌, ◌&&◌, Bool, false, if◌then◌else◌, List, [], ◌∷◌, take, length, slice_get, Option, Some, None}
+use Rattle.std.specs.Prelude.{◌≡◌, ℕ, suc, ◌-◌, ◌%◌, ◌^◌, ◌&&◌, Bool, true, false, if◌then◌else◌, List, [], ◌∷◌, take, length, slice_get, Option, Some, None}
 use Rattle.halide_pipeline.specs.declared.definitions.Func.{Func}
 use Rattle.halide_pipeline.specs.declared.definitions.Input.{Input}
 use Rattle.halide_pipeline.specs.declared.expressions.Expr.{Expr}
@@ -14,6 +14,7 @@ use Rattle.schedule_lines.specs.declared.stages.LoopId.TheVariants as ids
 use Rattle.schedule.specs.declared.plans.FuncPlan.{FuncPlan}
 use Rattle.schedule.specs.declared.schedules.Schedule.{Schedule}
 use Rattle.schedule.specs.declared.standings.LoopPlace.{LoopPlace}
+use Rattle.schedule.specs.declared.standings.Place.{Place}
 use Rattle.schedule.specs.declared.standings.Place.TheVariants as places
 use Rattle.schedule.specs.declared.standings.Standing.{Standing}
 use Rattle.schedule.specs.Legal.{is_root}
@@ -35,54 +36,47 @@ use Rattle.loop_ir.specs.Running.{run, run_task}
 use Rattle.expression_lowering.specs.declared.calls.Corner.{Corner}
 use Rattle.expression_lowering.specs.Lowering.{placed}
 use Rattle.lowering.specs.Phases.{DoesPhase}
-use Rattle.lowering.specs.Planes.{BoxCorner, corner_of, held, box_points, with_pure, owns}
+use Rattle.lowering.specs.Corners.{IsCorner, AreCorners}
+use Rattle.lowering.specs.HostedFuncs.{hosted_from}
+use Rattle.lowering.specs.Planes.{held, box_points, with_pure, owns}
 
 -- ---- which Func it is
 
--- A Func that the output reaches, computed at root, with its loops and its box.
-pub record IsAtRoot (pipeline : Pipeline) (schedule : Schedule) (boxes : Boxes) (place : ℕ) (func : Func) (plan : FuncPlan) (own : SourceBox) : Type 0 where
+-- A Func that the output reaches and that is computed there, with its loops and its box.
+pub record IsComputedAt (pipeline : Pipeline) (schedule : Schedule) (boxes : Boxes) (placed : Place) (place : ℕ) (func : Func) (plan : FuncPlan) (own : SourceBox) : Type 0 where
   pub func_is : slice_get pipeline.funcs place ≡ Some func
   pub plan_is : slice_get schedule.funcs place ≡ Some plan
   pub box_is : slice_get boxes.funcs place ≡ Some (Some own)
   pub standing : Standing
   pub there : IsReached schedule.standings place standing
-  pub root : standing.place ≡ places.Root
+  pub placed_is : standing.place ≡ placed
+
+abbrev pub IsAtRoot : Pipeline → Schedule → Boxes → ℕ → Func → FuncPlan → SourceBox → Type 0
+IsAtRoot pipeline schedule boxes = IsComputedAt pipeline schedule boxes places.Root
 
 abbrev pub is_at_root : Standing → Bool
 is_at_root own = own.is_reached && is_root own.place
-
--- No Func that the output reaches is computed at one of its loops.
-abbrev pub HostsNone : List Standing → ℕ → Type 0
-HostsNone standings place = (other : ℕ) (own : Standing) (at : LoopPlace) → IsReached standings other own → own.place ≡ places.At at → at.func ≡ place → ⊥
 
 -- Funcs that are computed at root aren't private.
 abbrev pub RootsAreShared : List Standing → (ℕ → Bool) → Type 0
 RootsAreShared standings is_private = (other : ℕ) (own : Standing) → IsReached standings other own → own.place ≡ places.Root → is_private other ≡ false
 
+-- The buffers of Funcs that are computed at its loops are private.
+abbrev pub HostedArePrivate : List Standing → (ℕ → Bool) → ℕ → Type 0
+HostedArePrivate standings is_private host = (place : ℕ) (own : Standing) (at : LoopPlace)
+    → IsReached standings place own → own.place ≡ places.At at → at.func ≡ host → is_private place ≡ true
+
 -- ---- what its phase does
 
--- From the pixels of the Funcs before it, it leaves those of its pure definition: each task at the points that its iteration visits.
+-- From the pixels of the Funcs before it, it leaves those of its pure definition: each task at the points that its iteration visits. What
+-- is computed at its loops has buffers of its own.
 abbrev pub DoesPure : Pipeline → Schedule → Boxes → ℕ → Func → FuncPlan → SourceBox → Phase → Type 0
 DoesPure pipeline schedule boxes place func plan own phase =
-    HostsNone schedule.standings place
-    → (is_private : ℕ → Bool) → RootsAreShared schedule.standings is_private
+    (is_private : ℕ → Bool) → RootsAreShared schedule.standings is_private → HostedArePrivate schedule.standings is_private place
     → (inputs : Planes) → AnswerWords pipeline.inputs (reads_of inputs (pixels pipeline.funcs inputs 0))
     → DoesPhase (box_points boxes.funcs) is_private place
     (held boxes.funcs (pixels pipeline.funcs inputs place)) (held boxes.funcs (with_pure pipeline.funcs inputs place func))
     phase.tasks (owns (extents_of own) plan.pure) (run_task (box_points boxes.funcs) inputs phase)
-
--- It is the phase of the Func with these parts.
-pub record IsPurePhase (pipeline : Pipeline) (schedule : Schedule) (boxes : Boxes) (place : ℕ) (phase : Phase) : Type 0 where
-  pub func : Func
-  pub plan : FuncPlan
-  pub own : SourceBox
-  pub at : IsAtRoot pipeline schedule boxes place func plan own
-  pub does : DoesPure pipeline schedule boxes place func plan own phase
-
--- There is one exactly where the output reaches the Func, and it is computed at root.
-abbrev pub IsPhaseOf : Pipeline → Schedule → Boxes → ℕ → Option Phase → Type 0
-IsPhaseOf pipeline schedule boxes place None = (func : Func) (plan : FuncPlan) (own : SourceBox) → IsAtRoot pipeline schedule boxes place func plan own → ⊥
-IsPhaseOf pipeline schedule boxes place (Some phase) = IsPurePhase pipeline schedule boxes place phase
 
 -- ---- its parts
 
@@ -90,31 +84,24 @@ IsPhaseOf pipeline schedule boxes place (Some phase) = IsPurePhase pipeline sche
 abbrev pub whole_at : Values → ℕ → Variable → ℕ
 whole_at values place variable = values (record { func = place; id = ids.Whole variable }) % 2 ^ 32
 
--- Each box has its corner.
-abbrev pub IsCorner : Option SourceBox → Corner → Type 0
-IsCorner own corner = (values : Values) → (linear_value values corner.x ≡ (corner_of own).x) × (linear_value values corner.y ≡ (corner_of own).y)
-
-abbrev pub AreCorners : List (Option SourceBox) → List Corner → Type 0
-AreCorners [] [] = Unit {0}
-AreCorners [] (corner ∷ corners) = ⊥
-AreCorners (own ∷ boxes) [] = ⊥
-AreCorners (own ∷ boxes) (corner ∷ corners) = IsCorner own corner × AreCorners boxes corners
-
 -- It writes the value of a pure definition at the point at which the loops over whole variables stand, counted from a corner.
-abbrev pub StoresPure : List Corner → (ℕ → Bool) → List Func → ℕ → BoxCorner → Expr → Stmt → Type 0
+abbrev pub StoresPure : List Corner → (ℕ → Bool) → List Func → ℕ → Corner → Expr → Stmt → Type 0
 StoresPure corners flags funcs place corner pure made =
     (points : Points) (inputs : Planes) (values : Values) (buffers : Planes)
     → run points inputs made values buffers
     ≡ put points place (whole_at values place variables.FirstArgument) (whole_at values place variables.SecondArgument)
     (inlined (valuing (placed corners values (reads_of inputs buffers))) flags funcs place
-    (variable (at_point (word.add (whole_at values place variables.FirstArgument) corner.x) (word.add (whole_at values place variables.SecondArgument) corner.y))) pure)
+    (variable (at_point (word.add (whole_at values place variables.FirstArgument) (linear_value values corner.x)) (word.add (whole_at values place variables.SecondArgument) (linear_value values corner.y)))) pure)
     buffers
 
--- It does so for the pure definition of a Func with this box, where inlined Funcs are put in place, and each buffer begins at its box's corner.
-pub record IsStoreOf (pipeline : Pipeline) (schedule : Schedule) (boxes : Boxes) (place : ℕ) (func : Func) (own : SourceBox) (made : Stmt) : Type 0 where
+-- It does so for the pure definition of a Func with this box that is computed there, where inlined Funcs are put in place, and each buffer
+-- begins at its box's corner.
+pub record IsStoreOf (pipeline : Pipeline) (schedule : Schedule) (boxes : Boxes) (placed : Place) (place : ℕ) (func : Func) (own : SourceBox) (made : Stmt) : Type 0 where
   pub corners : List Corner
-  pub are_corners : AreCorners boxes.funcs corners
-  pub stores : StoresPure corners (flagged (flags_of schedule.standings)) pipeline.funcs place (corner_of (Some own)) func.pure made
+  pub are_corners : AreCorners schedule.funcs boxes.funcs schedule.standings corners
+  pub corner : Corner
+  pub is_corner : IsCorner schedule.funcs placed own corner
+  pub stores : StoresPure corners (flagged (flags_of schedule.standings)) pipeline.funcs place corner func.pure made
 
 -- the loops inside the parallel one, which is the outermost, where there is one
 abbrev pub inside_of : Option Loop → List Loop → List Loop

@@ -1,52 +1,222 @@
 //! Corners of boxes.
 
-ghost use Rattle.std.specs.Prelude.{◌≡◌, List, IfOk, Some};
+ghost use Rattle.std.specs.Prelude.{◌≡◌, ◌+◌, ◌*◌, ◌%◌, ◌^◌, List, IfOk, OnOk, slice_get};
+ghost use Rattle.std.specs.Option.{option_copied};
+ghost use Rattle.bounds.specs.Boxes as bounds_boxes;
+ghost use Rattle.box_laws.specs.HostLaws.{turn_at, values_in};
 ghost use Rattle.loop_ir.specs.Counters.{Values};
-ghost use Rattle.loop_ir.specs.Expressions.{linear_value};
-ghost use Rattle.lowering.specs.Planes as spec;
-ghost use Rattle.lowering.specs.PurePhases.{AreCorners, IsCorner};
+ghost use Rattle.loop_ir.specs.Expressions.{linear_value, sum_of};
+ghost use Rattle.lowering.specs.Corners as spec;
+ghost use Rattle.lowering.specs.Planes as planes;
+ghost use Rattle.nest_lowering.specs.Nests.{loops_of};
+ghost use Rattle.ranges.specs.Bases.{less_sum, more_sum};
 
 use bounds::SourceBox;
+use bounds::views::inner_count;
 use expression_lowering::Corner;
-use loop_ir::expressions::Linear;
-use ranges::ranges::LEAST;
+use halide_pipeline::words;
+use loop_ir::expressions::{Counter, Linear, Term};
+use ranges::bases::Multiple;
+use ranges::ranges::{LEAST, Range};
+use schedule::{FuncPlan, Place, Standing};
+use schedule_lines::{Loop, LoopId};
+use sqlite_items::Items;
 use std::alloc::{AllocError, Global};
 
 /// The word that stands at an end of a range.
 pub(crate) fn word_at(end: u64) -> u32
-    ensures { result ≡ spec.word_at end }
+    ensures { result ≡ planes.word_at end }
 {
     ((end.saturating_sub(LEAST) + (1 << 31)) % (1 << 32)) as u32
 }
 
-/// The corner of a box; 0, 0 where there is none.
-fn corner_of(alloc: Global, own: &Option<SourceBox>) -> Corner
-    ensures { IsCorner own.now result }
+/// What stands at the turn of the loop at a place, if it isn't among so many loops that stand inside.
+fn counter_at(func: usize, loops: &[Loop], inner: usize, at: usize) -> Option<Counter>
+    ensures { (values : Values) → spec.counted_at values result ≡ turn_at inner (loops_of func values) loops.now at }
 {
-    let (x, y) = match own {
-        None => (0, 0),
-        Some(own) => (word_at(own.x.low), word_at(own.y.low)),
-    };
-    Corner {
-        x: Linear::of_number(alloc, x),
-        y: Linear::of_number(alloc, y),
+    if at < inner {
+        return None;
+    }
+    match loops.get(at) {
+        None => None,
+        Some(own) => Some(Counter { func, id: own.id }),
     }
 }
 
-/// The corner of each box.
+/// What stands at the turns of a loop of the Func at a place and of those outside of it.
+fn counters_from(func: usize, plan: &FuncPlan, inside: LoopId) -> [Option<Counter>; 5]
+    ensures { (values : Values) → spec.counted values result ≡ values_in plan.now inside (loops_of func values) }
+{
+    let loops = plan.pure.loops.as_slice();
+    let inner = inner_count(inside, loops);
+    [
+        counter_at(func, loops, inner, 0),
+        counter_at(func, loops, inner, 1),
+        counter_at(func, loops, inner, 2),
+        counter_at(func, loops, inner, 3),
+        counter_at(func, loops, inner, 4),
+    ]
+}
+
+/// No counters, for a box that has no base.
+fn no_counters() -> [Option<Counter>; 5]
+    ensures { (values : Values) → spec.counted values result ≡ bounds_boxes.no_loops }
+{
+    [None, None, None, None, None]
+}
+
+/// What stands at the turns that the base of a Func's box counts.
+fn counters_of(plans: &[FuncPlan], place: Place) -> [Option<Counter>; 5]
+    ensures { (values : Values) → spec.counted values result ≡ spec.turns_for plans.now place values }
+{
+    match place {
+        Place::At(at) => match plans.get(at.func) {
+            None => no_counters(),
+            Some(plan) => counters_from(at.func, plan, at.inside),
+        },
+        Place::Root => no_counters(),
+        Place::Inlined => no_counters(),
+        Place::Nowhere => no_counters(),
+    }
+}
+
+/// The word that a multiple comes to.
+#[tactic(auto, using(crate::proofs::BaseWords::stride_is))]
+fn stride_of(own: Multiple) -> u32
+    ensures { (result + own.less) % 2 ^ 32 ≡ own.more % 2 ^ 32 }
+{
+    words::subtract((own.more % (1 << 32)) as u32, (own.less % (1 << 32)) as u32)
+}
+
+/// Adds a counter times a multiple, if there is a counter.
+#[tactic(auto, using(crate::proofs::BaseWords::term_more))]
+fn add_multiple(
+    own: Multiple,
+    counter: Option<Counter>,
+    terms: &mut Items<Term>,
+) -> Result<(), AllocError>
+    ensures { OnOk result ((values : Values)
+        → (sum_of values terms.new + own.less * spec.counted_at values counter) % 2 ^ 32 ≡ (sum_of values terms.old + own.more * spec.counted_at values counter) % 2 ^ 32) }
+{
+    match counter {
+        None => Ok(()),
+        Some(counter) => {
+            let stride = stride_of(own);
+            terms.push(Term { counter, stride })?;
+            Ok(())
+        }
+    }
+}
+
+/// Adds counters times the multiples of a base.
+#[tactic(auto, using(crate::proofs::BaseWords::sums_follow))]
+fn add_base(
+    base: &[Multiple],
+    counters: &[Option<Counter>],
+    terms: &mut Items<Term>,
+) -> Result<(), AllocError>
+    ensures { OnOk result ((values : Values)
+        → (sum_of values terms.new + less_sum base.now (spec.counted values counters.now)) % 2 ^ 32 ≡ (sum_of values terms.old + more_sum base.now (spec.counted values counters.now)) % 2 ^ 32) }
+{
+    match base {
+        [] => Ok(()),
+        [own, multiples @ ..] => match counters {
+            [] => Ok(()),
+            [counter, others @ ..] => {
+                add_multiple(*own, *counter, terms)?;
+                add_base(multiples, others, terms)?;
+                Ok(())
+            }
+        },
+    }
+}
+
+/// Where a range begins, while its base counts what these stand at.
+#[tactic(auto, using(crate::proofs::BaseWords::begins_at))]
+fn first_of(
+    alloc: Global,
+    range: &Range,
+    counters: &[Option<Counter>],
+) -> Result<Linear, AllocError>
+    ensures { IfOk result (λ made. (values : Values) → linear_value values made ≡ spec.first_of range.now (spec.counted values counters.now)) }
+{
+    let mut terms = Items::new(alloc);
+    add_base(&range.base, counters, &mut terms)?;
+    let number = word_at(range.low);
+    Ok(Linear { number, terms })
+}
+
+/// The corner of the box of a Func that is computed there.
 ///
 /// # Errors
 ///
 /// Memory ran out.
-pub fn corners_of(alloc: Global, boxes: &[Option<SourceBox>]) -> Result<Vec<Corner>, AllocError>
-    ensures { IfOk result (λ corners. AreCorners boxes.now corners.items) }
+pub fn corner_of(
+    alloc: Global,
+    plans: &[FuncPlan],
+    place: Place,
+    own: &SourceBox,
+) -> Result<Corner, AllocError>
+    ensures { IfOk result (λ corner. spec.IsCorner plans.now place own.now corner) }
+{
+    let counters = counters_of(plans, place);
+    let x = first_of(alloc, &own.x, &counters)?;
+    let y = first_of(alloc, &own.y, &counters)?;
+    Ok(Corner { x, y })
+}
+
+/// The corner of a box; 0, 0 where there is none.
+fn corner_or_none(
+    alloc: Global,
+    plans: &[FuncPlan],
+    place: Place,
+    own: &Option<SourceBox>,
+) -> Result<Corner, AllocError>
+    ensures { IfOk result (λ corner. spec.IsCornerOf plans.now place own.now corner) }
+{
+    match own {
+        None => {
+            let x = Linear::of_number(alloc, 0);
+            let y = Linear::of_number(alloc, 0);
+            Ok(Corner { x, y })
+        }
+        Some(own) => {
+            let corner = corner_of(alloc, plans, place, own)?;
+            Ok(corner)
+        }
+    }
+}
+
+/// The corner of each box, of Funcs of which this becomes.
+///
+/// # Errors
+///
+/// Memory ran out.
+pub fn corners_of(
+    alloc: Global,
+    plans: &[FuncPlan],
+    boxes: &[Option<SourceBox>],
+    standings: &[Standing],
+) -> Result<Vec<Corner>, AllocError>
+    ensures { IfOk result (λ corners. spec.AreCorners plans.now boxes.now standings.now corners.items) }
 {
     match boxes {
         [] => Ok(Vec::new(alloc)),
-        [own, others @ ..] => {
-            let mut corners = corners_of(alloc, others)?;
-            corners.insert(0, corner_of(alloc, own))?;
-            Ok(corners)
-        }
+        [own, others @ ..] => match standings {
+            [] => Ok(Vec::new(alloc)),
+            [standing, behind @ ..] => {
+                let mut corners = corners_of(alloc, plans, others, behind)?;
+                let corner = corner_or_none(alloc, plans, standing.place, own)?;
+                corners.insert(0, corner)?;
+                Ok(corners)
+            }
+        },
     }
+}
+
+/// The corner at a place, if there is one.
+pub(crate) fn corner_at(corners: &[Corner], place: usize) -> Option<&Corner>
+    ensures { option_copied result ≡ slice_get corners.now place }
+{
+    corners.get(place)
 }

@@ -1,5 +1,6 @@
 //! Laws of the definitions, each the contract of a function that does nothing.
 
+ghost use Rattle.lowering.specs.Lowered.{PhasesDoPixels, PhasesLeaveOutput};
 ghost use Rattle.lowering.specs.Order.{PhasesInOrder};
 ghost use Rattle.lowering.specs.Phases.{TasksInAnyOrder};
 
@@ -13,4 +14,15 @@ pub fn tasks_in_any_order()
 /// leave the result of the last one.
 pub fn phases_in_order()
     ensures { PhasesInOrder }
+{}
+
+/// The phases of a pipeline, each of which does its part, come from buffers of zeros to the pixels of all Funcs.
+pub fn phases_do_pixels()
+    ensures { PhasesDoPixels }
+{}
+
+/// So wherever they were done one after the other, the tasks of each in any order and whatever private buffers held
+/// before each, the output's buffer holds the output's pixels.
+pub fn phases_leave_output()
+    ensures { PhasesLeaveOutput }
 {}

@@ -1,17 +1,14 @@
 //! Stores of definitions at the points where loops stand.
 
-ghost use Rattle.std.specs.Prelude.{◌≡◌, ◌%◌, ◌^◌, IfOk, List, Some};
+ghost use Rattle.std.specs.Prelude.{◌≡◌, ◌%◌, ◌^◌, IfOk, List};
 ghost use Rattle.halide_pipeline.specs.Words as word;
 ghost use Rattle.halide_meaning.specs.Pixel.{at_point};
 ghost use Rattle.inlining.specs.Inlining.{flagged};
 ghost use Rattle.loop_ir.specs.Counters.{Values};
 ghost use Rattle.loop_ir.specs.Expressions.{linear_value};
 ghost use Rattle.expression_lowering.specs.Lowering.{environment};
-ghost use Rattle.lowering.specs.Planes.{corner_of};
 ghost use Rattle.lowering.specs.PurePhases.{StoresPure, whole_at};
 
-use crate::corners::word_at;
-use bounds::SourceBox;
 use expression_lowering::{Arguments, Corner, lowered};
 use halide_pipeline::{Expr, Func, Variable};
 use loop_ir::expressions as terms;
@@ -21,7 +18,11 @@ use schedule_lines::LoopId;
 use std::alloc::{AllocError, Global};
 
 /// Where the loop over a whole variable of the Func at a place stands.
-fn whole_of(alloc: Global, place: usize, variable: Variable) -> Result<Linear, AllocError>
+pub(crate) fn whole_of(
+    alloc: Global,
+    place: usize,
+    variable: Variable,
+) -> Result<Linear, AllocError>
     ensures { IfOk result (λ made. (values : Values) → linear_value values made ≡ whole_at values place variable) }
 {
     let counter = Counter {
@@ -32,16 +33,26 @@ fn whole_of(alloc: Global, place: usize, variable: Variable) -> Result<Linear, A
     Ok(made)
 }
 
+/// A sum.
+#[tactic(auto, using(crate::proofs::BaseWords::added_is))]
+fn added(alloc: Global, first: Linear, second: &Linear) -> Result<Linear, AllocError>
+    ensures { IfOk result (λ made. (values : Values) → linear_value values made ≡ word.add (linear_value values first) (linear_value values second.now)) }
+{
+    let opposite = Linear::of_number(alloc, 0).minus(second)?;
+    let made = first.minus(&opposite)?;
+    Ok(made)
+}
+
 /// What stands for the variables of the pure definition of the Func at a place: its points, counted from the corner of
 /// its box.
-fn arguments_of(alloc: Global, place: usize, own: &SourceBox) -> Result<Arguments, AllocError>
+fn arguments_of(alloc: Global, place: usize, corner: &Corner) -> Result<Arguments, AllocError>
     ensures { IfOk result (λ made. (values : Values) → environment values made
-        ≡ at_point (word.add (whole_at values place Variable.FirstArgument) (corner_of (Some own.now)).x) (word.add (whole_at values place Variable.SecondArgument) (corner_of (Some own.now)).y)) }
+        ≡ at_point (word.add (whole_at values place Variable.FirstArgument) (linear_value values corner.now.x)) (word.add (whole_at values place Variable.SecondArgument) (linear_value values corner.now.y))) }
 {
-    let left = word_at(own.x.low);
-    let top = word_at(own.y.low);
-    let first_argument = whole_of(alloc, place, Variable::FirstArgument)?.plus_number(left);
-    let second_argument = whole_of(alloc, place, Variable::SecondArgument)?.plus_number(top);
+    let x = whole_of(alloc, place, Variable::FirstArgument)?;
+    let y = whole_of(alloc, place, Variable::SecondArgument)?;
+    let first_argument = added(alloc, x, &corner.x)?;
+    let second_argument = added(alloc, y, &corner.y)?;
     Ok(Arguments {
         first_argument,
         second_argument,
@@ -50,7 +61,8 @@ fn arguments_of(alloc: Global, place: usize, own: &SourceBox) -> Result<Argument
     })
 }
 
-/// The store of a pure definition of the Func at a place, where the loops over whole variables stand.
+/// The store of a pure definition of the Func at a place, whose box has this corner, where the loops over whole
+/// variables stand.
 ///
 /// # Errors
 ///
@@ -61,12 +73,12 @@ pub fn pure_store(
     flags: &[bool],
     corners: &[Corner],
     place: usize,
-    own: &SourceBox,
+    corner: &Corner,
     pure: &Expr,
 ) -> Result<Stmt, AllocError>
-    ensures { IfOk result (λ made. StoresPure corners.now (flagged flags.now) funcs.now place (corner_of (Some own.now)) pure.now made) }
+    ensures { IfOk result (λ made. StoresPure corners.now (flagged flags.now) funcs.now place corner.now pure.now made) }
 {
-    let arguments = arguments_of(alloc, place, own)?;
+    let arguments = arguments_of(alloc, place, corner)?;
     let value = lowered(alloc, funcs, flags, place, corners, &arguments, pure)?;
     let x = whole_of(alloc, place, Variable::FirstArgument)?;
     let y = whole_of(alloc, place, Variable::SecondArgument)?;

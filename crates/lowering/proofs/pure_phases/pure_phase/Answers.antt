@@ -1,33 +1,34 @@
 use Rattle.std.proofs.Common.{sym, ap, subst, ◌∙◌}
+use Rattle.schedule.specs.declared.standings.Place.TheVariants as places
 use Rattle.stage_loops.specs.declared.extents.Extents.{Extents}
 use Rattle.stage_loops.specs.Iterations as iterations
-use Rattle.stage_loops.specs.Reach.{wholes}
-use Rattle.nest_lowering.specs.Nests.{AreFew, Repeats}
-use Rattle.lowering.specs.PurePhases as spec
+use Rattle.nest_lowering.specs.Nests.{AreFew}
+use Rattle.lowering.specs.Hosting.{IsBody}
 use Rattle.lowering.proofs.Facts.{is_box, splits, few}
+use Rattle.lowering.proofs.PureStage.{does_stage}
 use Rattle.lowering.proofs.Tasks.{does_phase}
 use Rattle.lowering.proofs.pure_phases.pure_phase.Goals as goal
 
 -- src/pure_phases.rt:159:9
 pub extents_of-extents-requires : goal.extents_of-extents-requires
 extents_of-extents-requires c =
-    is_box c.args.pipeline.now c.args.schedule.now c.args.boxes.now c.args.place c.args.func.now c.args.plan.now c.args.own.now c.requires.accepted c.requires.boxes c.requires.at
+    is_box c.args.pipeline.now c.args.schedule.now c.args.boxes.now c.args.place c.args.func.now c.args.plan.now c.args.own.now c.requires.accepted c.requires.boxes places.Root tt c.requires.at
 
 -- src/pure_phases.rt:161:16
 pub body_of-requires-clause-splits : goal.body_of-requires-clause-splits
 body_of-requires-clause-splits c =
-    splits c.args.pipeline.now c.args.schedule.now c.args.boxes.now c.args.place c.args.func.now c.args.plan.now c.args.own.now c.requires.accepted c.requires.boxes c.requires.at
+    splits c.args.pipeline.now c.args.schedule.now c.args.boxes.now c.args.place c.args.func.now c.args.plan.now c.args.own.now c.requires.accepted c.requires.boxes places.Root tt c.requires.at
 
 -- src/pure_phases.rt:161:16
 pub body_of-requires-clause-few : goal.body_of-requires-clause-few
 body_of-requires-clause-few c =
     subst AreFew (sym c.extents_of-extents.ensures)
-    (few c.args.pipeline.now c.args.schedule.now c.args.boxes.now c.args.place c.args.func.now c.args.plan.now c.args.own.now c.requires.accepted c.requires.boxes c.requires.at)
+    (few c.args.pipeline.now c.args.schedule.now c.args.boxes.now c.args.place c.args.func.now c.args.plan.now c.args.own.now c.requires.accepted c.requires.boxes places.Root tt c.requires.at)
 
 -- src/pure_phases.rt:162:17
 pub task_count-requires : goal.task_count-requires
 task_count-requires c =
-    splits c.args.pipeline.now c.args.schedule.now c.args.boxes.now c.args.place c.args.func.now c.args.plan.now c.args.own.now c.requires.accepted c.requires.boxes c.requires.at
+    splits c.args.pipeline.now c.args.schedule.now c.args.boxes.now c.args.place c.args.func.now c.args.plan.now c.args.own.now c.requires.accepted c.requires.boxes places.Root tt c.requires.at
 
 -- src/pure_phases.rt:139:1
 pub returns-clause-tasks : goal.returns-clause-tasks
@@ -35,11 +36,18 @@ returns-clause-tasks c = c.in_ok-tasks.ensures ∙ ap (λ (e : Extents). iterati
 
 -- src/pure_phases.rt:139:1
 pub returns-clause-does : goal.returns-clause-does
-returns-clause-does c = λ hosts_none is_private shared inputs begun.
+returns-clause-does c = λ is_private shared hosted_private inputs begun.
     does_phase c.args.pipeline.now c.args.schedule.now c.args.boxes.now c.inputs.ensures.rules c.requires.accepted c.requires.boxes c.args.place c.args.func.now c.args.plan.now c.args.own.now c.requires.at
-    c.in_ok-store.store c.in_ok-store.ensures
-    (record { tasks = c.in_ok-tasks.tasks; counter = c.task_counter-counter.result; body = c.in_ok-body.body; private = c.new-private.result; bytes = c.in_ok-bytes.bytes })
+    c.in_ok-store.store c.in_ok-store.ensures.stores
+    (record { tasks = c.in_ok-tasks.tasks; counter = c.task_counter-counter.result; body = c.in_ok-body.body; private = c.in_ok-private.private; bytes = c.in_ok-bytes.bytes })
     (c.in_ok-tasks.ensures ∙ ap (λ (e : Extents). iterations.iteration_count e c.args.plan.now.pure) c.extents_of-extents.ensures)
     c.task_counter-counter.ensures
-    (subst (λ (e : Extents). Repeats c.args.place c.in_ok-body.body c.in_ok-store.store (wholes e c.args.plan.now.pure.splits (spec.inside_of (iterations.parallel c.args.plan.now.pure) c.args.plan.now.pure.loops))) c.extents_of-extents.ensures c.in_ok-body.ensures)
-    hosts_none is_private shared inputs begun
+    (subst (λ (e : Extents). IsBody c.args.pipeline.now c.args.schedule.now c.args.boxes.now c.args.place c.args.plan.now.pure e c.in_ok-store.store c.in_ok-body.body) c.extents_of-extents.ensures c.in_ok-body.ensures)
+    is_private shared hosted_private inputs begun
+
+-- src/pure_phases.rt:139:1
+pub returns-clause-stage : goal.returns-clause-stage
+returns-clause-stage c =
+    does_stage c.args.pipeline.now c.args.schedule.now c.args.boxes.now c.args.place c.args.func.now c.args.plan.now c.args.own.now
+    (record { tasks = c.in_ok-tasks.tasks; counter = c.task_counter-counter.result; body = c.in_ok-body.body; private = c.in_ok-private.private; bytes = c.in_ok-bytes.bytes })
+    (returns-clause-does c)

@@ -1,0 +1,159 @@
+-- The nest of a pure definition of a Func that is computed at a loop fills its box of one iteration.
+use Rattle.std.proofs.Common.{◌≡◌, ℕ, ◌<◌, Bool, true, false, cond, List, map, Option, Some, None, refl, sym, ap, subst, ◌∙◌, arith, true≢false}
+use Rattle.std.specs.Prelude.{◌==◌, slice_get, Ok}
+use Rattle.std.specs.List.{AllByRecursion, list_any}
+use Rattle.std.proofs.lemmas.Bool.{and_from, eq-eqb, ne_eqb}
+use mathlib.Core.Path.{fun_ext}
+use Rattle.halide_pipeline.specs.declared.definitions.Func.{Func}
+use Rattle.halide_pipeline.specs.Pipelines.{Pipeline}
+use Rattle.halide_pipeline.specs.WellFormed.{IsWellFormed}
+use Rattle.halide_meaning.specs.Pixel.{Plane, Planes, pixels, stage}
+use Rattle.schedule.specs.declared.plans.FuncPlan.{FuncPlan}
+use Rattle.schedule.specs.declared.schedules.Schedule.{Schedule}
+use Rattle.schedule.specs.declared.standings.LoopPlace.{LoopPlace}
+use Rattle.schedule.specs.declared.standings.Place.TheVariants as places
+use Rattle.schedule.specs.Accepted.{IsAccepted}
+use Rattle.stage_loops.specs.declared.extents.Extents.{Extents}
+use Rattle.stage_loops.specs.Counts as loops
+use Rattle.stage_loops.specs.Reach.{wholes}
+use Rattle.stage_loops.specs.Stages.{IsStageOf, KeepsRules, IsVisitOf}
+use Rattle.stage_loops.specs.Visits.{Visit, zeros, visit_of, visits, is_slice}
+use Rattle.stage_loops.proofs.Covering.{visited}
+use Rattle.stage_loops.proofs.Slices.{visits_within}
+use Rattle.stage_loops.proofs.TurnsFound.{of_all}
+use Rattle.stage_loops.proofs.Wholes.{visits_of_wholes}
+use Rattle.ranges.specs.Laws.{Below}
+use Rattle.bounds.specs.declared.boxes.SourceBox.{SourceBox}
+use Rattle.bounds.specs.declared.verdict.Boxes.{Boxes}
+use Rattle.bounds.specs.Boxes.{extent}
+use Rattle.bounds.specs.Verdict.{inferred}
+use Rattle.bounds.specs.Views.{extents_of}
+use Rattle.box_laws.specs.HostLaws.{values_in}
+use Rattle.loop_ir.specs.declared.statements.Stmt.{Stmt}
+use Rattle.loop_ir.specs.Counters.{Values}
+use Rattle.loop_ir.specs.Running.{run}
+use Rattle.nest_lowering.specs.Nests.{loops_of, put_loops, all, AreSmall, Repeats}
+use Rattle.lowering.specs.Corners.{turns_for, turns_at}
+use Rattle.lowering.specs.Hosting.{hosting, Keeps, Leaves, IsAnswered, DoesNest}
+use Rattle.lowering.specs.Planes.{box_points}
+use Rattle.lowering.specs.PurePhases.{IsComputedAt, IsStoreOf}
+use Rattle.lowering.proofs.Covered.{point_there, slice_there}
+use Rattle.lowering.proofs.Facts.{staged, fits, hosted_before}
+use Rattle.lowering.proofs.Lists.{any_map, all_map, none_passes}
+use Rattle.lowering.proofs.Painting.{Writes, Paints, is_at, paints}
+use Rattle.lowering.proofs.Writing as writing
+
+-- ---- the loops of a host, and those of others
+
+pub loops_hosting : (host : ℕ) (turned : loops.Values) → loops_of host (hosting host turned) ≡ turned
+loops_hosting host turned = fun_ext (λ id. ap (λ (b : Bool). cond b (turned id) 0) (eq-eqb host host refl))
+
+pub no_other_loops : (host other : ℕ) (turned : loops.Values) → (other ≡ host → ⊥) → loops_of other (hosting host turned) ≡ zeros
+no_other_loops host other turned d = fun_ext (λ id. ap (λ (b : Bool). cond b (turned id) 0) (ne_eqb other host d))
+
+-- loops of one Func are put, and those of another stay
+pub loops_put_other : (own other : ℕ) (inner : loops.Values) (values : Values) → (other ≡ own → ⊥) → loops_of other (put_loops own inner values) ≡ loops_of other values
+loops_put_other own other inner values d = fun_ext (λ id. ap (λ (b : Bool). cond b (inner id) (values (record { func = other; id = id }))) (ne_eqb other own d))
+
+pub turns_by : (loop : LoopPlace) (plan : Option FuncPlan) (one other : Values) → loops_of loop.func one ≡ loops_of loop.func other → turns_at loop plan one ≡ turns_at loop plan other
+turns_by loop None one other e = refl
+turns_by loop (Some plan) one other e = ap (values_in plan loop.inside) e
+
+module _ (pipeline : Pipeline) (schedule : Schedule) (boxes : Boxes) (rules : IsWellFormed pipeline) (accepted : IsAccepted pipeline schedule) (is : inferred pipeline schedule ≡ Ok boxes)
+    (loop : LoopPlace) (place : ℕ) (func : Func) (plan : FuncPlan) (own : SourceBox) (at : IsComputedAt pipeline schedule boxes (places.At loop) place func plan own)
+    (store : Stmt) (store_of : IsStoreOf pipeline schedule boxes (places.At loop) place func own store)
+    (made : Stmt) (repeats : Repeats place made store (wholes (extents_of own) plan.pure.splits plan.pure.loops)) where
+  pub here : place < loop.func
+  here = hosted_before pipeline schedule accepted place at.standing at.there loop at.placed_is
+
+  abbrev extents : Extents
+  extents = extents_of own
+
+  abbrev points : ℕ → ℕ → ℕ → Bool
+  points = box_points boxes.funcs
+
+  stage_facts : IsStageOf func None plan.pure × KeepsRules plan.pure
+  stage_facts = staged pipeline schedule boxes place func plan own accepted is (places.At loop) here at
+
+  abbrev turns : List loops.Values
+  turns = wholes extents plan.pure.splits plan.pure.loops zeros
+
+  visits_are : visits extents plan.pure ≡ map (visit_of extents) turns
+  visits_are = visits_of_wholes extents plan.pure.splits plan.pure.loops zeros
+
+  module _ (inputs : Planes) (turned : loops.Values) where
+    abbrev counters : Values
+    counters = hosting loop.func turned
+
+    abbrev values : List ℕ
+    values = turns_for schedule.funcs (places.At loop) counters
+
+    turns_same : (inner : loops.Values) → turns_for schedule.funcs (places.At loop) (put_loops place inner counters) ≡ values
+    turns_same inner = turns_by loop (slice_get schedule.funcs loop.func) (put_loops place inner counters) counters (loops_put_other place loop.func inner counters (λ e. omega (arith, e, here)))
+
+    module _ (below : Below values own.lasts) (funcs : Planes) (answered : IsAnswered pipeline schedule boxes loop.func place func own values inputs turned funcs) where
+      abbrev plane : Plane
+      plane = writing.plane pipeline schedule boxes rules accepted is (places.At loop) place func plan own here at store store_of inputs values below counters turns_same
+
+      abbrev step : loops.Values → Planes → Planes
+      step = writing.step pipeline schedule boxes rules accepted is (places.At loop) place func plan own here at store store_of inputs values below counters turns_same
+
+      abbrev x_of : loops.Values → ℕ
+      x_of = writing.x_of pipeline schedule boxes rules accepted is (places.At loop) place func plan own here at store store_of inputs values below counters turns_same
+
+      abbrev y_of : loops.Values → ℕ
+      y_of = writing.y_of pipeline schedule boxes rules accepted is (places.At loop) place func plan own here at store store_of inputs values below counters turns_same
+
+      abbrev Ready : Planes → Type 0
+      Ready now = Keeps place funcs now
+
+      stays : (now after : Planes) → Keeps place now after → Ready now → Ready after
+      stays now later keeps ready other x y d = keeps other x y d ∙ ready other x y d
+
+      writes : (inner : loops.Values) → IsVisitOf func None extents (visit_of extents inner) → Writes points place plane Ready stays x_of y_of step inner
+      writes inner v =
+          writing.writes pipeline schedule boxes rules accepted is (places.At loop) place func plan own here at store store_of inputs values below counters turns_same inner v Ready stays
+          (λ now ready. answered store_of.corners store_of.are_corners (put_loops place inner counters)
+          (loops_put_other place loop.func inner counters (λ e. omega (arith, e, here)) ∙ loops_hosting loop.func turned) now ready
+          (writing.across pipeline schedule boxes rules accepted is (places.At loop) place func plan own here at store store_of inputs values below counters turns_same inner)
+          (writing.down pipeline schedule boxes rules accepted is (places.At loop) place func plan own here at store store_of inputs values below counters turns_same inner)
+          (writing.lies pipeline schedule boxes rules accepted is (places.At loop) place func plan own here at store store_of inputs values below counters turns_same inner v))
+
+      all_write : AllByRecursion (Writes points place plane Ready stays x_of y_of step) turns
+      all_write =
+          all_map (IsVisitOf func None extents) (Writes points place plane Ready stays x_of y_of step) (visit_of extents) writes turns
+          (subst (λ (l : List Visit). AllByRecursion (IsVisitOf func None extents) l) visits_are (visits_within func None extents plan.pure stage_facts.0))
+
+      painted : Paints points place plane Ready stays x_of y_of step turns funcs (all step turns funcs)
+      painted = paints points place plane Ready stays x_of y_of step turns funcs all_write (λ other x y d. refl)
+
+      no_turns : loops_of place counters ≡ zeros
+      no_turns = no_other_loops loop.func place turned (λ e. omega (arith, e, here))
+
+      small : AreSmall (loops_of place counters)
+      small = subst AreSmall (sym no_turns) (λ id. omega arith)
+
+      ran : run points inputs made counters funcs ≡ all step turns funcs
+      ran = repeats.runs points inputs counters funcs small ∙ ap (λ (t : loops.Values). all step (wholes extents plan.pure.splits plan.pure.loops t) funcs) no_turns
+
+      -- each point of the box is visited
+      reached_by : (x y : ℕ) → x < extent own.x → y < extent own.y → (test : Bool) → list_any (is_slice x y) (visits extents plan.pure) ≡ test → test ≡ true
+      reached_by x y lx ly true e = refl
+      reached_by x y lx ly false e =
+          let there = slice_there pipeline schedule boxes rules accepted is (places.At loop) place func plan own here at x y (point_there pipeline schedule boxes rules accepted is (places.At loop) place func plan own here at x y lx ly) in
+          let contains = visited func extents x y there plan.pure stage_facts.0 (fits pipeline schedule boxes place func plan own accepted is (places.At loop) here at) in
+          let not_here = of_all (λ (v : Visit). is_slice x y v ≡ false) (visits extents plan.pure) (none_passes (is_slice x y) (visits extents plan.pure) e) (record { x = x; y = y; number = 0 }) contains in
+          absurd (true≢false (sym (and_from (x == x) (y == y) (eq-eqb x x refl) (eq-eqb y y refl)) ∙ not_here))
+
+      is_reached : (x y : ℕ) → x < extent own.x → y < extent own.y → list_any (is_at points place plane Ready stays x_of y_of step x y) turns ≡ true
+      is_reached x y lx ly =
+          sym (ap (list_any (is_slice x y)) visits_are ∙ any_map (is_slice x y) (visit_of extents) turns) ∙ reached_by x y lx ly (list_any (is_slice x y) (visits extents plan.pure)) refl
+
+      leaves : Leaves place own values (stage place func inputs (pixels pipeline.funcs inputs place) 0) funcs (run points inputs made counters funcs)
+      leaves = record {
+        holds = λ x y lx ly. ap (λ (f : Planes). f place x y) ran ∙ painted.there x y (is_reached x y lx ly);
+        keeps = λ other x y d. ap (λ (f : Planes). f other x y) ran ∙ painted.keeps other x y (λ e. absurd (d e));
+      }
+
+  pub fills : DoesNest pipeline schedule boxes loop place func own 0 made
+  fills inputs turned below funcs answered = leaves inputs turned below funcs answered

@@ -1,0 +1,81 @@
+-- What is known of Funcs at root, whose boxes have no base.
+use Rattle.std.proofs.Common.{◌≡◌, ℕ, ◌<◌, ◌≤◌, List, Some, sym, ap, subst, ◌∙◌, arith}
+use Rattle.std.specs.Prelude.{slice_get, Ok}
+use Rattle.halide_pipeline.specs.declared.definitions.Func.{Func}
+use Rattle.halide_pipeline.specs.Pipelines.{Pipeline}
+use Rattle.halide_pipeline.specs.Words as word
+use Rattle.schedule.specs.declared.plans.FuncPlan.{FuncPlan}
+use Rattle.schedule.specs.declared.schedules.Schedule.{Schedule}
+use Rattle.schedule.specs.declared.standings.LoopPlace.{LoopPlace}
+use Rattle.schedule.specs.declared.standings.Place.{Place}
+use Rattle.schedule.specs.declared.standings.Place.TheVariants as places
+use Rattle.schedule.specs.declared.standings.Standing.{Standing}
+use Rattle.schedule.specs.Accepted.{IsAccepted}
+use Rattle.schedule.specs.Uses.{IsReached}
+use Rattle.ranges.specs.declared.ranges.Range.{Range}
+use Rattle.ranges.specs.Laws.{Below, Lies}
+use Rattle.ranges.specs.Ranges.{IsFit}
+use Rattle.bounds.specs.declared.boxes.SourceBox.{SourceBox}
+use Rattle.bounds.specs.declared.verdict.Boxes.{Boxes}
+use Rattle.bounds.specs.Boxes.{IsBox, no_loops, extent}
+use Rattle.bounds.specs.Verdict.{inferred}
+use Rattle.box_laws.specs.HostLaws.{IsFrom}
+use Rattle.box_laws.proofs.Found.{no_below}
+use Rattle.loop_ir.specs.Counters.{Values}
+use Rattle.loop_ir.specs.Expressions.{linear_value}
+use Rattle.expression_lowering.specs.declared.calls.Corner.{Corner}
+use Rattle.lowering.specs.Corners.{IsCornerOf, AreCorners}
+use Rattle.lowering.specs.Planes.{word_at}
+use Rattle.lowering.specs.PurePhases.{IsAtRoot}
+use Rattle.lowering.proofs.Facts as facts
+use Rattle.lowering.proofs.Offsets.{more_none, less_none, first_none, from_first_on}
+use Rattle.lowering.proofs.Offsets as offsets
+use Rattle.lowering.proofs.Values.{HasCorner, corner_at}
+
+-- No Func that the output reaches is computed at one of its loops.
+abbrev pub HostsNone : List Standing → ℕ → Type 0
+HostsNone standings place = (other : ℕ) (own : Standing) (at : LoopPlace) → IsReached standings other own → own.place ≡ places.At at → at.func ≡ place → ⊥
+
+-- ---- boxes
+
+module _ (pipeline : Pipeline) (schedule : Schedule) (boxes : Boxes) (place : ℕ) (func : Func) (plan : FuncPlan) (own : SourceBox) (accepted : IsAccepted pipeline schedule) (is : inferred pipeline schedule ≡ Ok boxes)
+    (at : IsAtRoot pipeline schedule boxes place func plan own) where
+  pub is_box : IsBox own
+  is_box = facts.is_box pipeline schedule boxes place func plan own accepted is places.Root tt at
+
+  pub no_lasts : own.lasts ≡ no_loops
+  no_lasts = facts.lasts_are pipeline schedule boxes place func plan own accepted is places.Root tt at
+
+-- ---- words of a range
+
+module _ (range : Range) (x : ℕ) (lies : Lies no_loops no_loops range x) where
+  ordered : range.low ≤ range.high
+  ordered = omega (arith, lies.low, lies.high, more_none range.base, less_none range.base)
+
+  pub offset_within : word.subtract x (word_at range.low) < extent range
+  offset_within = subst (λ (n : ℕ). word.subtract x n < extent range) (first_none range) (offsets.offset_within no_loops no_loops range x lies ordered)
+
+  pub offset_back : word.add (word_at range.low) (word.subtract x (word_at range.low)) ≡ x
+  offset_back = subst (λ (n : ℕ). word.add n (word.subtract x n) ≡ x) (first_none range) (offsets.offset_back no_loops no_loops range x lies)
+
+-- a point of a range, from its corner on
+pub from_corner_on : (range : Range) (far : ℕ) → IsFit no_loops range → far < extent range → IsFrom no_loops range far (word.add far (word_at range.low))
+from_corner_on range far fits few = subst (λ (n : ℕ). IsFrom no_loops range far (word.add far n)) (first_none range) (from_first_on no_loops no_loops range far fits no_below few)
+
+-- ---- corners
+
+pub record HasRootCorner (corners : List Corner) (k : ℕ) (own : SourceBox) : Type 0 where
+  pub corner : Corner
+  pub there : slice_get corners k ≡ Some corner
+  pub is : (values : Values) → (linear_value values corner.x ≡ word_at own.x.low) × (linear_value values corner.y ≡ word_at own.y.low)
+
+pub root_corner_at : (schedule : Schedule) (boxes : Boxes) (corners : List Corner) (k : ℕ) (own : SourceBox) (standing : Standing) → AreCorners schedule.funcs boxes.funcs schedule.standings corners
+    → slice_get boxes.funcs k ≡ Some (Some own) → slice_get schedule.standings k ≡ Some standing → standing.place ≡ places.Root → HasRootCorner corners k own
+root_corner_at schedule boxes corners k own standing are there stands root =
+    let c = corner_at schedule.funcs boxes.funcs schedule.standings corners k (Some own) standing are there stands in
+    let at_root : IsCornerOf schedule.funcs places.Root (Some own) c.corner = subst (λ (p : Place). IsCornerOf schedule.funcs p (Some own) c.corner) root c.is in
+    record {
+      corner = c.corner;
+      there = c.there;
+      is = λ values. ((at_root values).0 ∙ first_none own.x, (at_root values).1 ∙ first_none own.y);
+    }

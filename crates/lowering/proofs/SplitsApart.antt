@@ -1,0 +1,146 @@
+-- Loops that stand around splits keep their turns behind them.
+use Rattle.std.proofs.Common.{◌≡◌, ℕ, zero, suc, ◌<◌, ◌≤◌, Bool, true, false, cond, List, [], ◌∷◌, ◌++◌, length, Option, Some, None, refl, sym, ap, subst, ◌∙◌, arith, inl, inr, length-append}
+use Rattle.std.specs.Prelude.{nat_lt, slice_get, slice_index_or, Contains}
+use Rattle.std.specs.List.{AllByRecursion}
+use Rattle.std.proofs.lemmas.Bool.{eq-eqb}
+use mathlib.Core.Path.{fun_ext}
+use Rattle.halide_pipeline.specs.declared.definitions.Func.{Func}
+use Rattle.schedule_lines.specs.declared.lines.SplitLine.{SplitLine}
+use Rattle.schedule_lines.specs.declared.stages.Loop.{Loop}
+use Rattle.schedule_lines.specs.declared.stages.LoopId.{LoopId}
+use Rattle.schedule_lines.specs.declared.stages.LoopId.TheVariants as ids
+use Rattle.schedule_lines.specs.declared.stages.Split.{Split}
+use Rattle.schedule_lines.specs.declared.stages.Stage.{Stage}
+use Rattle.schedule_lines.specs.Directives.{parts}
+use Rattle.schedule_lines.specs.Loops.{same_id}
+use Rattle.schedule_lines.specs.Making.{total}
+use Rattle.stage_loops.specs.declared.extents.Extents.{Extents}
+use Rattle.stage_loops.specs.Counts.{Values, with, more_counts, whole_counts}
+use Rattle.stage_loops.specs.Reach.{wholes}
+use Rattle.stage_loops.specs.Stages.{IsStageOf, first_loops}
+use Rattle.stage_loops.specs.Visits.{whole_of, split_body, split_bodies}
+use Rattle.stage_loops.proofs.FirstLoops.{plain, sound}
+use Rattle.stage_loops.proofs.Ids.{cases_id, is_old, old_apart, inner_new, outer_new, older, turned_id, with_other}
+use Rattle.stage_loops.proofs.Making.{Sound, Stays, by_making, sound_stays, split_by, IsInner, IsOuter, IsNeither, part_of, total-append, total_parts, parts_neither, bare_total}
+use Rattle.stage_loops.proofs.Nesting.{has_id, has_same}
+use Rattle.stage_loops.proofs.Resting.{SplitsApart}
+use Rattle.box_laws.specs.HostLaws.{turn_of, turn_at, turns_from}
+use Rattle.nest_lowering.specs.Nests.{loops_of, put_loops}
+use Rattle.loop_ir.specs.Counters as counters
+
+-- ---- no loop that is left is one that was split
+
+abbrev AreOld : ℕ → List Split → Type 0
+AreOld place splits = AllByRecursion (λ (split : Split). is_old place split.of ≡ true) splits
+
+pub record IsApart (loops : List Loop) (splits : List Split) : Type 0 where
+  pub sound : Sound loops splits
+  pub apart : (id : LoopId) → 1 ≤ total (has_id id) loops → SplitsApart id splits
+  pub olds : AreOld (length splits) splits
+
+apart_more : (id : LoopId) (splits : List Split) (split : Split) → SplitsApart id splits → same_id id split.of ≡ false → SplitsApart id (splits ++ split ∷ [])
+apart_more id [] split apart d = (d, tt)
+apart_more id (first ∷ splits) split apart d = (apart.0, apart_more id splits split apart.1 d)
+
+old_more : (place : ℕ) (splits : List Split) (split : Split) → AreOld place splits → is_old place split.of ≡ true → AreOld (suc place) (splits ++ split ∷ [])
+old_more place [] split are own = (older place split.of own, tt)
+old_more place (first ∷ splits) split are own = (older place first.of are.0, old_more place splits split are.1 own)
+
+-- a loop of the latest split is none that was split before
+new_apart : (place : ℕ) (id : LoopId) → is_old place id ≡ false → (splits : List Split) → AreOld place splits → SplitsApart id splits
+new_apart place id new [] are = tt
+new_apart place id new (first ∷ splits) are = (turned_id first.of id (old_apart place first.of id are.0 new), new_apart place id new splits are.1)
+
+apart_parted : (before : List Loop) (own : Loop) (after : List Loop) (splits : List Split) (line : SplitLine) → Sound (before ++ (parts own (length splits) line ++ after)) (splits ++ split_by own line ∷ [])
+    → IsApart (before ++ own ∷ after) splits → IsApart (before ++ (parts own (length splits) line ++ after)) (splits ++ split_by own line ∷ [])
+apart_parted before own after splits line now is =
+    let own_old : is_old (length splits) own.id ≡ true = is.sound.old own.id (omega (arith, total-append (has_id own.id) before (own ∷ after), has_same own)) in
+    let more : length (splits ++ split_by own line ∷ []) ≡ suc (length splits) = omega (arith, length-append splits (split_by own line ∷ [])) in
+    record {
+      sound = now;
+      apart = λ id there. elim (part_of (length splits) id) [
+        | IsInner e ↦ subst (λ (i : LoopId). SplitsApart i (splits ++ split_by own line ∷ [])) (sym e)
+            (apart_more (ids.Inner (length splits)) splits (split_by own line) (new_apart (length splits) (ids.Inner (length splits)) (inner_new (length splits)) splits is.olds)
+            (turned_id own.id (ids.Inner (length splits)) (old_apart (length splits) own.id (ids.Inner (length splits)) own_old (inner_new (length splits)))))
+        | IsOuter e ↦ subst (λ (i : LoopId). SplitsApart i (splits ++ split_by own line ∷ [])) (sym e)
+            (apart_more (ids.Outer (length splits)) splits (split_by own line) (new_apart (length splits) (ids.Outer (length splits)) (outer_new (length splits)) splits is.olds)
+            (turned_id own.id (ids.Outer (length splits)) (old_apart (length splits) own.id (ids.Outer (length splits)) own_old (outer_new (length splits)))))
+        | IsNeither d f ↦
+            let sum = total_parts (has_id id) before own after (length splits) line in
+            let none = parts_neither own (length splits) line id d f in
+            apart_more id splits (split_by own line) (is.apart id (omega (arith, sum, none, there)))
+            (elim (cases_id id own.id) [
+              | inl s ↦
+                  let one : has_id id own ≡ 1 = ap (λ (i : LoopId). has_id i own) s ∙ has_same own in
+                  absurd (omega (arith, sum, none, there, one, is.sound.unique id))
+              | inr o ↦ o
+            ])
+      ];
+      olds = subst (λ (n : ℕ). AreOld n (splits ++ split_by own line ∷ [])) (sym more) (old_more (length splits) splits (split_by own line) is.olds own_old);
+    }
+
+apart_stays : (is_update : Bool) (start : List Loop) → Sound start [] → Stays is_update start IsApart
+apart_stays is_update start begun =
+    let stays = sound_stays is_update start begun in
+    record {
+      begun = record { sound = begun; apart = λ id there. tt; olds = tt };
+      parted = λ before own after splits line line_is is. apart_parted before own after splits line (stays.parted before own after splits line line_is is.sound) is;
+      marked = λ loops new splits same is. record {
+        sound = stays.marked loops new splits same is.sound;
+        apart = λ id there. is.apart id (omega (arith, bare_total (has_id id) (λ own. refl) new loops same, there));
+        olds = is.olds;
+      };
+      moved = λ loops new splits same order is. record {
+        sound = stays.moved loops new splits same order is.sound;
+        apart = λ id there. is.apart id (omega (arith, same (has_id id), there));
+        olds = is.olds;
+      };
+    }
+
+stage_apart : (func : Func) (stage : Stage) → IsStageOf func None stage → IsApart stage.loops stage.splits
+stage_apart func stage is = by_making IsApart (apart_stays false (first_loops func None) (sound (first_loops func None) (plain func None))) is.made
+
+-- ---- what is listed behind splits
+
+kept_by : (id : LoopId) (split : Split) (n : ℕ) (body : Values → List Values) → ((values inner : Values) → Contains (body values) inner → inner id ≡ values id) → same_id id split.of ≡ false
+    → (values inner : Values) (test : Bool) → Contains (cond test (body (with split.of n values)) []) inner → inner id ≡ values id
+kept_by id split n body kept d values inner true there = kept (with split.of n values) inner there ∙ with_other split.of n values id d
+kept_by id split n body kept d values inner false there = absurd (omega (arith, there.1))
+
+kept_behind : (id : LoopId) (splits : List Split) (counts : Values) (place : ℕ) (body : Values → List Values) → ((values inner : Values) → Contains (body values) inner → inner id ≡ values id)
+    → SplitsApart id splits → (values inner : Values) → Contains (split_bodies counts place splits body values) inner → inner id ≡ values id
+kept_behind id [] counts place body kept apart values inner there = kept values inner there
+kept_behind id (split ∷ others) counts place body kept apart values inner there =
+    kept_behind id others (more_counts counts place split) (suc place) (split_body counts place split body)
+    (λ v i c. kept_by id split (whole_of counts place split v) body kept apart.0 v i (nat_lt (whole_of counts place split v) (counts split.of)) c) apart.1 values inner there
+
+one_listed : (values inner : Values) → Contains (values ∷ []) inner → values ≡ inner
+one_listed values inner there = at there.0 there.1 there.2
+  where
+    at : (k : ℕ) → k < 1 → slice_index_or (values ∷ []) k inner ≡ inner → values ≡ inner
+    at zero l e = e
+    at (suc k) l e = absurd (omega (arith, l))
+
+among_at : (loops : List Loop) (at : ℕ) (l : Loop) → slice_get loops at ≡ Some l → 1 ≤ total (has_id l.id) loops
+among_at [] at l e = absurd cc
+among_at (first ∷ others) zero l e = let same : first ≡ l = cc in omega (arith, ap (λ (k : Loop). has_id l.id k) same, has_same l)
+among_at (first ∷ others) (suc at) l e = omega (arith, among_at others at l e)
+
+module _ (func : Func) (stage : Stage) (is : IsStageOf func None stage) (extents : Extents) (turns inner : Values) (listed : Contains (wholes extents stage.splits [] turns) inner) where
+  same_loop : (at : ℕ) (l : Loop) → slice_get stage.loops at ≡ Some l → inner l.id ≡ turns l.id
+  same_loop at l e =
+      kept_behind l.id stage.splits (whole_counts extents) 0 (λ whole. whole ∷ []) (λ values other there. ap (λ (v : Values). v l.id) (sym (one_listed values other there)))
+      ((stage_apart func stage is).apart l.id (among_at stage.loops at l e)) turns inner listed
+
+  turn_by : (at : ℕ) (test : Bool) (found : Option Loop) → slice_get stage.loops at ≡ found → cond test 0 (turn_of inner found) ≡ cond test 0 (turn_of turns found)
+  turn_by at true found e = refl
+  turn_by at false None e = refl
+  turn_by at false (Some l) e = same_loop at l e
+
+  pub turns_kept : (n : ℕ) → turns_from n inner stage.loops ≡ turns_from n turns stage.loops
+  turns_kept n =
+      let one : (at : ℕ) → turn_at n inner stage.loops at ≡ turn_at n turns stage.loops at = λ at. turn_by at (nat_lt at n) (slice_get stage.loops at) refl in
+      rw (one 0, one 1, one 2, one 3, one 4) refl
+
+pub loops_put : (own : ℕ) (inner : Values) (values : counters.Values) → loops_of own (put_loops own inner values) ≡ inner
+loops_put own inner values = fun_ext (λ id. ap (λ (b : Bool). cond b (inner id) (values (record { func = own; id = id }))) (eq-eqb own own refl))

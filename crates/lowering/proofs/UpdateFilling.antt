@@ -1,0 +1,175 @@
+-- The nests of the updates of a Func at a loop, behind that of its pure definition.
+use Rattle.std.proofs.Common.{◌≡◌, ℕ, zero, suc, ◌<◌, ◌≤◌, ◌^◌, length, Bool, true, false, List, [], ◌∷◌, Option, Some, None, refl, sym, ap, subst, ◌∙◌, arith, inl, inr}
+use Rattle.std.specs.Prelude.{◌&&◌, nat_lt, slice_get, Ok}
+use Rattle.std.specs.List.{AllByRecursion}
+use Rattle.std.proofs.lemmas.Bool.{and_parts, and_from, ltb-true, lt-ltb}
+use Rattle.halide_pipeline.specs.declared.definitions.Func.{Func}
+use Rattle.halide_pipeline.specs.declared.definitions.Update.{Update}
+use Rattle.halide_pipeline.specs.Pipelines.{Pipeline}
+use Rattle.halide_pipeline.specs.Words as word
+use Rattle.halide_meaning.specs.Pixel.{Plane, Planes, reads_of, stage, pixels}
+use Rattle.schedule_lines.specs.declared.stages.LoopId.{LoopId}
+use Rattle.schedule_lines.specs.declared.stages.Stage.{Stage}
+use Rattle.schedule.specs.declared.plans.FuncPlan.{FuncPlan}
+use Rattle.schedule.specs.declared.schedules.Schedule.{Schedule}
+use Rattle.schedule.specs.declared.standings.LoopPlace.{LoopPlace}
+use Rattle.schedule.specs.declared.standings.Place.{Place}
+use Rattle.schedule.specs.declared.standings.Place.TheVariants as places
+use Rattle.schedule.specs.declared.standings.Standing.{Standing}
+use Rattle.schedule.specs.Accepted.{IsAccepted, IsPlan, IsUpdateStage}
+use Rattle.schedule.proofs.Uses.{IsSome}
+use Rattle.stage_loops.specs.Counts as loops
+use Rattle.stage_loops.proofs.AcceptedStages.{pair_at}
+use Rattle.ranges.specs.declared.ranges.Range.{Range}
+use Rattle.ranges.specs.Laws.{Below, AnswerWords}
+use Rattle.bounds.specs.declared.boxes.HostLoop.{HostLoop}
+use Rattle.bounds.specs.declared.boxes.SourceBox.{SourceBox}
+use Rattle.bounds.specs.declared.verdict.Boxes.{Boxes}
+use Rattle.bounds.specs.Boxes.{IsBox, no_loops, lasts_of, extent}
+use Rattle.bounds.specs.Verdict.{inferred}
+use Rattle.box_laws.specs.HostLaws.{IsFrom}
+use Rattle.box_laws.specs.Laws.{IsComputed, values_for, host_in}
+use Rattle.box_laws.proofs.PutIn.{pair_there}
+use Rattle.loop_ir.specs.declared.statements.Stmt.{Stmt}
+use Rattle.loop_ir.specs.Counters.{Values}
+use Rattle.loop_ir.specs.Expressions.{linear_value}
+use Rattle.loop_ir.specs.Running.{run}
+use Rattle.nest_lowering.specs.Nests.{loops_of, put_loops}
+use Rattle.expression_lowering.specs.declared.calls.Corner.{Corner}
+use Rattle.lowering.specs.Corners.{first_of, turns_for, IsCorner, AreCorners}
+use Rattle.lowering.specs.Hosting.{hosting, Holds, Keeps, Leaves, DoesFirst, IsAnswered, AreUpdatesAnswered, DoesNest, DoesNests}
+use Rattle.lowering.specs.Planes.{BoxCorner, has_point, box_points}
+use Rattle.lowering.specs.PurePhases.{IsComputedAt}
+use Rattle.lowering.specs.Updates.{IsComputedIn, IsUpdateAt, IsCornerAt, IsBegin, ReadsPixels, DoesUpdate, hosted_turns, host_at}
+use Rattle.lowering.specs.Updates as updates
+use Rattle.lowering.proofs.Facts as facts
+use Rattle.lowering.proofs.Facts.{is_box, hosted_before}
+use Rattle.lowering.proofs.Filling.{loops_hosting, no_other_loops, loops_put_other, turns_by}
+use Rattle.lowering.proofs.Offsets.{first_small, from_first_on}
+use Rattle.lowering.proofs.Values.{corner_at}
+
+-- ---- values of loops of a host that may be missing
+
+no_values : (values : List ℕ) → Below values no_loops → values ≡ no_loops
+no_values [] below = absurd below
+no_values (a ∷ []) below = absurd below.1
+no_values (a ∷ b ∷ []) below = absurd below.1.1
+no_values (a ∷ b ∷ c ∷ []) below = absurd below.1.1.1
+no_values (a ∷ b ∷ c ∷ d ∷ []) below = absurd below.1.1.1.1
+no_values (a ∷ b ∷ c ∷ d ∷ e ∷ []) below =
+    let za : a ≡ 0 = omega (arith, below.0) in
+    let zb : b ≡ 0 = omega (arith, below.1.0) in
+    let zc : c ≡ 0 = omega (arith, below.1.1.0) in
+    let zd : d ≡ 0 = omega (arith, below.1.1.1.0) in
+    let ze : e ≡ 0 = omega (arith, below.1.1.1.1.0) in
+    cc
+no_values (a ∷ b ∷ c ∷ d ∷ e ∷ f ∷ more) below = absurd below.1.1.1.1.1
+
+values_are : (host : Option HostLoop) (values : List ℕ) → Below values (lasts_of host) → values_for host values ≡ values
+values_are None values below = sym (no_values values below)
+values_are (Some host) values below = refl
+
+add_none : (n : ℕ) → n < 2 ^ 32 → word.add 0 n ≡ n
+unfolding word.add
+add_none n few = omega (arith, few)
+
+module _ (pipeline : Pipeline) (schedule : Schedule) (boxes : Boxes) (accepted : IsAccepted pipeline schedule) (is : inferred pipeline schedule ≡ Ok boxes)
+    (loop : LoopPlace) (place : ℕ) (func : Func) (plan : FuncPlan) (own : SourceBox) (parts : IsComputedAt pipeline schedule boxes (places.At loop) place func plan own) where
+  here : place < loop.func
+  here = hosted_before pipeline schedule accepted place parts.standing parts.there loop parts.placed_is
+
+  box_facts : IsBox own
+  box_facts = is_box pipeline schedule boxes place func plan own accepted is (places.At loop) here parts
+
+  pub computed_in : IsComputedIn pipeline schedule boxes place func plan own
+  computed_in = record {
+    func_is = parts.func_is;
+    plan_is = parts.plan_is;
+    box_is = parts.box_is;
+    standing = parts.standing;
+    there = parts.there;
+    computed = subst (λ (p : Place). IsComputed place p) (sym parts.placed_is) here;
+  }
+
+  pub corner_there : (corners : List Corner) → AreCorners schedule.funcs boxes.funcs schedule.standings corners → IsSome (slice_get corners place)
+  corner_there corners are =
+      let c = corner_at schedule.funcs boxes.funcs schedule.standings corners place (Some own) parts.standing are parts.box_is parts.there.standing in
+      record { value = c.corner; is = c.there }
+
+  corner_so : (corners : List Corner) → AreCorners schedule.funcs boxes.funcs schedule.standings corners → (corner : Corner) → slice_get corners place ≡ Some corner → IsCorner schedule.funcs (places.At loop) own corner
+  corner_so corners are corner there =
+      let c = corner_at schedule.funcs boxes.funcs schedule.standings corners place (Some own) parts.standing are parts.box_is parts.there.standing in
+      let same : c.corner ≡ corner = let e = c.there in cc in
+      subst (λ (k : Corner). IsCorner schedule.funcs (places.At loop) own k) same (subst (λ (p : Place). IsCorner schedule.funcs p own c.corner) parts.placed_is c.is)
+
+  pub stage_there : (at : ℕ) (update : Update) → slice_get func.updates at ≡ Some update → IsSome (slice_get plan.updates at)
+  stage_there at update found =
+      pair_there (IsUpdateStage func) func.updates plan.updates at update (pair_at IsPlan pipeline.funcs schedule.funcs place func plan accepted.plans parts.func_is parts.plan_is).updates found
+
+  -- ---- one more stage
+
+  module _ (corners : List Corner) (are : AreCorners schedule.funcs boxes.funcs schedule.standings corners) (corner : Corner) (corner_is : slice_get corners place ≡ Some corner)
+      (at : ℕ) (update : Update) (update_is : slice_get func.updates at ≡ Some update) (first next made : Stmt)
+      (does : DoesNests pipeline schedule boxes loop place func own at first) (goes_on : DoesUpdate pipeline schedule boxes corners place func corner own at update next) (both : DoesFirst (Some first) next made) where
+    pub one_more_stage : DoesNests pipeline schedule boxes loop place func own (suc at) made
+    one_more_stage inputs begun turned below funcs answered all_answered =
+        let counters : Values = hosting loop.func turned in
+        let values : List ℕ = turns_for schedule.funcs (places.At loop) counters in
+        let points = box_points boxes.funcs in
+        let between = run points inputs first counters funcs in
+        let left : Leaves place own values (stage place func inputs (pixels pipeline.funcs inputs place) at) funcs between = does inputs begun turned below funcs answered all_answered in
+        let begin : BoxCorner = record { x = first_of own.x values; y = first_of own.y values } in
+        let host_below : Below values (lasts_of (host_at schedule boxes parts.standing)) =
+        subst (λ (l : List ℕ). Below values l) (lasts_here values) below in
+        let turns_so : hosted_turns schedule boxes parts.standing values ≡ values = values_are (host_at schedule boxes parts.standing) values host_below in
+        let begins : IsBegin values own begin = record {
+          x = subst (λ (n : ℕ). IsFrom values own.x 0 n) (add_none (first_of own.x values) (first_small own.x values)) (from_first_on own.lasts values own.x 0 box_facts.x below (omega (arith, box_facts.x.ordered)));
+          y = subst (λ (n : ℕ). IsFrom values own.y 0 n) (add_none (first_of own.y values) (first_small own.y values)) (from_first_on own.lasts values own.y 0 box_facts.y below (omega (arith, box_facts.y.ordered)));
+        } in
+        let turns_stay : (inner : loops.Values) → turns_for schedule.funcs (places.At loop) (put_loops place inner counters) ≡ values =
+        λ inner. turns_by loop (slice_get schedule.funcs loop.func) (put_loops place inner counters) counters (loops_put_other place loop.func inner counters (λ e. omega (arith, e, here))) in
+        let begins_at : IsCornerAt place counters corner begin = λ inner.
+        let c = corner_so corners are corner corner_is (put_loops place inner counters) in
+        (c.0 ∙ ap (first_of own.x) (turns_stay inner), c.1 ∙ ap (first_of own.y) (turns_stay inner)) in
+        let reads : ReadsPixels pipeline schedule corners place update values own inputs counters between = λ inner number x y few lies plane words.
+        all_answered corners are (put_loops place inner counters) (loops_put_other place loop.func inner counters (λ e. omega (arith, e, here)) ∙ loops_hosting loop.func turned) between left.keeps
+        at update update_is number x y few lies plane words in
+        let after : updates.Leaves place own (updates.stage_from pipeline inputs place func begin (suc at)) between (run points inputs next counters between) =
+        goes_on inputs begun parts.standing parts.there values (subst (λ (l : List ℕ). Below l (lasts_of (host_at schedule boxes parts.standing))) (sym turns_so) host_below) begin
+        (subst (λ (l : List ℕ). IsBegin l own begin) (sym turns_so) begins) counters begins_at
+        (λ id. ap (λ (t : loops.Values). t id) (no_other_loops loop.func place turned (λ e. omega (arith, e, here)))) between
+        (subst (λ (l : List ℕ). ReadsPixels pipeline schedule corners place update l own inputs counters between) (sym turns_so) reads)
+        (λ x y there.
+        let p = and_parts (nat_lt x (extent own.x)) (nat_lt y (extent own.y)) there in
+        left.holds x y (ltb-true x (extent own.x) p.0) (ltb-true y (extent own.y) p.1)) in
+        let ran : run points inputs made counters funcs ≡ run points inputs next counters between = both points inputs counters funcs in
+        record {
+          holds = λ x y lx ly.
+              ap (λ (f : Planes). f place x y) ran
+              ∙ after.does x y (and_from (nat_lt x (extent own.x)) (nat_lt y (extent own.y)) (lt-ltb x (extent own.x) lx) (lt-ltb y (extent own.y) ly));
+          keeps = λ other x y d. ap (λ (f : Planes). f other x y) ran ∙ (after.keeps other x y (λ e. absurd (d e)) ∙ left.keeps other x y d);
+        }
+      where
+        lasts_here : (values : List ℕ) → own.lasts ≡ lasts_of (host_at schedule boxes parts.standing)
+        lasts_here values =
+            facts.lasts_are pipeline schedule boxes place func plan own accepted is (places.At loop) here parts
+            ∙ ap (λ (p : Place). lasts_of (host_in schedule boxes.funcs p)) (sym parts.placed_is)
+
+  -- the pure definition alone
+  pub pure_stage : (made : Stmt) → DoesNest pipeline schedule boxes loop place func own 0 made → DoesNests pipeline schedule boxes loop place func own 0 made
+  pure_stage made does inputs begun turned below funcs answered all_answered = does inputs turned below funcs answered
+
+-- ---- for the code
+
+pub same_corners : (plans plans' : List FuncPlan) (own own' : List (Option SourceBox)) (standings standings' : List Standing) (corners : List Corner) → plans' ≡ plans → own' ≡ own → standings' ≡ standings
+    → AreCorners plans' own' standings' corners → AreCorners plans own standings corners
+same_corners plans plans' own own' standings standings' corners p o s are =
+    subst (λ (l : List FuncPlan). AreCorners l own standings corners) p (subst (λ (l : List (Option SourceBox)). AreCorners plans' l standings corners) o (subst (λ (l : List Standing). AreCorners plans' own' l corners) s are))
+
+pub nothing_there : {A : Type 0} (found : Option A) → IsSome found → None ≡ found → ⊥
+nothing_there found some e = let is = some.is in absurd cc
+
+pub some_within : {A : Type 0} (xs : List A) (k : ℕ) → k < length xs → IsSome (slice_get xs k)
+some_within [] k few = absurd (omega (arith, few))
+some_within (x ∷ xs) zero few = record { value = x; is = refl }
+some_within (x ∷ xs) (suc k) few = some_within xs k (omega (arith, few))

@@ -1,0 +1,122 @@
+-- All loops of an update around its store, where the Func is computed at a loop.
+use Rattle.std.proofs.Common.{◌≡◌, ℕ, suc, ◌<◌, Bool, true, false, List, [], map, Some, refl, sym, ap, subst, ◌∙◌, arith}
+use mathlib.Core.Path.{fun_ext}
+use Rattle.std.specs.Prelude.{slice_get, Ok}
+use Rattle.std.specs.List.{AllByRecursion, list_any}
+use Rattle.std.proofs.lemmas.List.{append-nil}
+use Rattle.halide_pipeline.specs.declared.definitions.Func.{Func}
+use Rattle.halide_pipeline.specs.declared.definitions.Update.{Update}
+use Rattle.halide_pipeline.specs.declared.expressions.Variable.TheVariants as variables
+use Rattle.halide_pipeline.specs.Definitions.{is_first_in_place, is_second_in_place}
+use Rattle.halide_pipeline.specs.Pipelines.{Pipeline}
+use Rattle.halide_pipeline.specs.WellFormed.{IsWellFormed}
+use Rattle.halide_meaning.specs.Pixel.{Planes, points}
+use Rattle.schedule_lines.specs.declared.stages.LoopId.TheVariants as ids
+use Rattle.schedule_lines.specs.declared.stages.Stage.{Stage}
+use Rattle.schedule.specs.declared.plans.FuncPlan.{FuncPlan}
+use Rattle.schedule.specs.declared.schedules.Schedule.{Schedule}
+use Rattle.schedule.specs.declared.standings.Standing.{Standing}
+use Rattle.schedule.specs.Accepted.{IsAccepted}
+use Rattle.stage_loops.specs.declared.extents.Extents.{Extents}
+use Rattle.stage_loops.specs.Counts as loops
+use Rattle.stage_loops.specs.Reach.{wholes}
+use Rattle.stage_loops.specs.Stages.{IsStageOf, KeepsRules, IsVisitOf}
+use Rattle.stage_loops.specs.Visits.{Visit, visit_of, slice, rising, zeros}
+use Rattle.stage_loops.proofs.Bounded.{within}
+use Rattle.bounds.specs.declared.boxes.SourceBox.{SourceBox}
+use Rattle.bounds.specs.declared.verdict.Boxes.{Boxes}
+use Rattle.bounds.specs.Verdict.{inferred}
+use Rattle.box_laws.specs.Laws.{IsComputed}
+use Rattle.box_laws.proofs.PutIn.{flags}
+use Rattle.box_laws.proofs.StandingWithin.{one_standing}
+use Rattle.loop_ir.specs.declared.statements.Stmt.{Stmt}
+use Rattle.loop_ir.specs.Counters.{Values}
+use Rattle.loop_ir.specs.Running.{run}
+use Rattle.nest_lowering.specs.Nests.{loops_of, put_loops, all, AreSmall, Repeats}
+use Rattle.expression_lowering.specs.declared.calls.Corner.{Corner}
+use Rattle.expression_lowering.specs.Lowering.{placed}
+use Rattle.lowering.specs.Planes.{BoxCorner, has_point, box_points}
+use Rattle.lowering.specs.Updates.{IsComputedIn, IsUpdateAt, StoresUpdate, DoesUpdate, update_extents, in_place, is_visited, IsCornerAt, stage_from}
+use Rattle.lowering.proofs.UpdateFacts.{has_reduction, points_are}
+use Rattle.lowering.proofs.UpdateRuns.{members, all_so, leaves, stays}
+use Rattle.lowering.proofs.UpdateSlices.{slice_there}
+use Rattle.lowering.proofs.UpdateStages.{staged}
+use Rattle.lowering.proofs.UpdateSteps.{ReadsOwn}
+use Rattle.lowering.proofs.UpdateVisits.{all_listed, all_in_order, all_within}
+
+module _ (pipeline : Pipeline) (schedule : Schedule) (boxes : Boxes) (rules : IsWellFormed pipeline) (accepted : IsAccepted pipeline schedule) (is : inferred pipeline schedule ≡ Ok boxes)
+    (corners : List Corner) (place : ℕ) (func : Func) (plan : FuncPlan) (own : SourceBox) (at_it : IsComputedIn pipeline schedule boxes place func plan own)
+    (at : ℕ) (update : Update) (stage : Stage) (it : IsUpdateAt schedule place func plan at update stage)
+    (corner : Corner) (corner_there : slice_get corners place ≡ Some corner)
+    (store : Stmt) (stores : StoresUpdate corners (flags pipeline schedule) pipeline.funcs place corner update store)
+    (made : Stmt) (repeats : Repeats place made store (wholes (update_extents own update) stage.splits stage.loops)) where
+  abbrev extents : Extents
+  extents = update_extents own update
+
+  stage_facts : IsStageOf func (Some update) stage × KeepsRules stage
+  stage_facts = staged pipeline schedule accepted place func plan at_it.standing at_it.func_is at_it.there at update stage it
+
+  abbrev list : List loops.Values
+  list = wholes extents stage.splits stage.loops zeros
+
+  abbrev in_all : ℕ → ℕ → Bool
+  in_all i j = has_point (Some own) i j
+
+  all_visits : AllByRecursion (IsVisitOf func (Some update) extents) (map (visit_of extents) list)
+  all_visits = subst (λ (l : List Visit). AllByRecursion (IsVisitOf func (Some update) extents) l) (all_listed func update extents stage stage_facts.0 place) (all_within func update extents stage stage_facts.0 place)
+
+  reduced : AllByRecursion (λ inner. inner (ids.Whole variables.FirstReduction) < update.first.extent) list
+  reduced = within func (Some update) extents stage stage.loops [] variables.FirstReduction zeros stage_facts.0 (sym (append-nil stage.loops)) (has_reduction func update) tt
+
+  closed : AllByRecursion (λ visit. (i j : ℕ) → has_point (Some own) i j ≡ true → is_visited update i j visit ≡ true → has_point (Some own) i j ≡ true) (map (visit_of extents) list)
+  closed =
+      all_so (λ visit. (test : Visit → Bool) → test visit ≡ true → list_any test (map (visit_of extents) list) ≡ true) (λ visit. (i j : ℕ) → has_point (Some own) i j ≡ true → is_visited update i j visit ≡ true → has_point (Some own) i j ≡ true)
+      (λ visit member i j boxed on. boxed) (map (visit_of extents) list) (members (map (visit_of extents) list))
+
+  in_order : (i j : ℕ) → has_point (Some own) i j ≡ true
+      → slice (in_place (is_first_in_place update) i) (in_place (is_second_in_place update) j) (map (visit_of extents) list) ≡ rising (in_place (is_first_in_place update) i) (in_place (is_second_in_place update) j) 0 (points update)
+  in_order i j e =
+      let c = in_place (is_first_in_place update) i in
+      let r = in_place (is_second_in_place update) j in
+      ap (slice c r) (sym (all_listed func update extents stage stage_facts.0 place))
+      ∙ all_in_order func update extents stage stage_facts.0 place c r
+      (slice_there func update own pipeline.inputs pipeline.funcs place ((rules.funcs place func at_it.func_is).updates at update it.update_is) i j e)
+      ∙ ap (rising c r 0) (points_are func update own)
+
+  own_read : (inputs : Planes) (begin : BoxCorner) (values : Values) → IsCornerAt place values corner begin → ReadsOwn corners place values inputs begin
+  unfolding placed
+  own_read inputs begin values corner_is inner buffers a b = rw (corner_there, (corner_is inner).0, (corner_is inner).1) refl
+
+  pub does_nest : DoesUpdate pipeline schedule boxes corners place func corner own at update made
+  does_nest inputs begun standing there turns below begin begins values corner_is not_begun funcs reads_others holds =
+      record {
+        does = λ i j e. ap (λ (f : Planes). f place i j) ran ∙ left i j e;
+        keeps = λ other i j free. ap (λ (f : Planes). f other i j) ran ∙ kept other i j free;
+      }
+    where
+      computed : IsComputed place standing.place
+      computed = subst (λ (s : Standing). IsComputed place s.place) (one_standing schedule.standings place at_it.standing standing at_it.there.standing there.standing) at_it.computed
+
+      begun_none : loops_of place values ≡ zeros
+      begun_none = fun_ext not_begun
+
+      small : AreSmall (loops_of place values)
+      small id = omega (arith, not_begun id)
+
+      ran : run (box_points boxes.funcs) inputs made values funcs ≡ all (λ inner. run (box_points boxes.funcs) inputs store (put_loops place inner values)) list funcs
+      ran =
+          repeats.runs (box_points boxes.funcs) inputs values funcs small
+          ∙ ap (λ (t : loops.Values). all (λ inner. run (box_points boxes.funcs) inputs store (put_loops place inner values)) (wholes extents stage.splits stage.loops t) funcs) begun_none
+
+      reads_own : ReadsOwn corners place values inputs begin
+      reads_own = own_read inputs begin values corner_is
+
+      left : (i j : ℕ) → has_point (Some own) i j ≡ true → all (λ inner. run (box_points boxes.funcs) inputs store (put_loops place inner values)) list funcs place i j ≡ stage_from pipeline inputs place func begin (suc at) i j
+      left i j e =
+          leaves pipeline schedule boxes rules accepted is place func own at_it.func_is at_it.box_is standing there computed at update it.update_is inputs begun turns below begin begins corners values corner corner_is reads_own
+          store stores funcs reads_others list all_visits reduced in_all (λ i j e. e) closed in_order holds i j e
+
+      kept : (other i j : ℕ) → (other ≡ place → has_point (Some own) i j ≡ false) → all (λ inner. run (box_points boxes.funcs) inputs store (put_loops place inner values)) list funcs other i j ≡ funcs other i j
+      kept other i j free =
+          stays pipeline schedule boxes rules accepted is place func own at_it.func_is at_it.box_is standing there computed at update it.update_is inputs begun turns below begin begins corners values corner corner_is reads_own
+          store stores funcs reads_others list all_visits reduced in_all (λ i j e. e) closed in_order holds other i j free

@@ -1,0 +1,136 @@
+-- Visits of an update, one after the other: they leave what stands after it in the slices that they go through.
+use Rattle.std.proofs.Common.{◌≡◌, ℕ, suc, ◌+◌, ◌<◌, Bool, true, false, List, [], ◌∷◌, map, Option, Some, refl, sym, ap, ◌∙◌, arith}
+use Rattle.std.specs.Prelude.{◌||◌, slice_get, Ok}
+use Rattle.std.specs.List.{AllByRecursion, list_any}
+use Rattle.halide_pipeline.specs.declared.definitions.Func.{Func}
+use Rattle.halide_pipeline.specs.declared.definitions.Update.{Update}
+use Rattle.halide_pipeline.specs.declared.expressions.Variable.TheVariants as variables
+use Rattle.halide_pipeline.specs.Pipelines.{Pipeline}
+use Rattle.halide_pipeline.specs.WellFormed.{IsWellFormed}
+use Rattle.halide_pipeline.specs.Words as word
+use Rattle.halide_meaning.specs.Pixel.{Plane, Planes, reads_of, pixels, stage, points, after, after_all}
+use Rattle.schedule_lines.specs.declared.stages.LoopId.TheVariants as ids
+use Rattle.schedule.specs.declared.schedules.Schedule.{Schedule}
+use Rattle.schedule.specs.declared.standings.Standing.{Standing}
+use Rattle.schedule.specs.Accepted.{IsAccepted}
+use Rattle.schedule.specs.Uses.{IsReached}
+use Rattle.stage_loops.specs.declared.extents.Extents.{Extents}
+use Rattle.stage_loops.specs.Counts as loops
+use Rattle.stage_loops.specs.Stages.{IsVisitOf}
+use Rattle.stage_loops.specs.Visits.{Visit, visit_of, slice, rising}
+use Rattle.ranges.specs.Laws.{Below, AnswerWords}
+use Rattle.bounds.specs.declared.boxes.SourceBox.{SourceBox}
+use Rattle.bounds.specs.declared.verdict.Boxes.{Boxes}
+use Rattle.bounds.specs.Boxes.{lasts_of}
+use Rattle.bounds.specs.Verdict.{inferred}
+use Rattle.box_laws.specs.Laws.{IsComputed}
+use Rattle.box_laws.proofs.Callers.{or_right}
+use Rattle.box_laws.proofs.PutIn.{flags}
+use Rattle.loop_ir.specs.declared.statements.Stmt.{Stmt}
+use Rattle.loop_ir.specs.Counters.{Values}
+use Rattle.nest_lowering.specs.Nests.{all}
+use Rattle.expression_lowering.specs.declared.calls.Corner.{Corner}
+use Rattle.lowering.specs.Planes.{BoxCorner, has_point}
+use Rattle.lowering.specs.Updates.{StoresUpdate, update_extents, is_visited, IsCornerAt, IsBegin, ReadsPixels, host_at, hosted_turns, stage_from}
+use Rattle.lowering.proofs.Lists.{all_map}
+use Rattle.lowering.proofs.Slices.{Goes, Gone, slices_go}
+use Rattle.lowering.proofs.UpdateSteps.{ReadsOwn, from_begin, column_in, row_in, step, goes}
+
+-- ---- lists
+
+all_and : {A : Type 0} (P Q : A → Type 0) (xs : List A) → AllByRecursion P xs → AllByRecursion Q xs → AllByRecursion (λ x. P x × Q x) xs
+all_and P Q [] p q = tt
+all_and P Q (x ∷ xs) p q = ((p.0, q.0), all_and P Q xs p.1 q.1)
+
+pub all_so : {A : Type 0} (P Q : A → Type 0) → ((x : A) → P x → Q x) → (xs : List A) → AllByRecursion P xs → AllByRecursion Q xs
+all_so P Q next [] p = tt
+all_so P Q next (x ∷ xs) p = (next x p.0, all_so P Q next xs p.1)
+
+-- whatever test a member passes, one of the list does
+abbrev IsIn : {A : Type 0} → List A → A → Type 0
+IsIn {A} xs x = (test : A → Bool) → test x ≡ true → list_any test xs ≡ true
+
+or_here : (a b : Bool) → a ≡ true → (a || b) ≡ true
+or_here true b e = refl
+or_here false b e = absurd cc
+
+pub members : {A : Type 0} (xs : List A) → AllByRecursion (IsIn xs) xs
+members [] = tt
+members {A} (x ∷ xs) = (
+  λ test e. or_here (test x) (list_any test xs) e,
+  all_so (IsIn xs) (IsIn (x ∷ xs)) (λ y is test e. or_right (test x) (list_any test xs) (is test e)) xs (members xs),
+)
+
+module _ (pipeline : Pipeline) (schedule : Schedule) (boxes : Boxes) (rules : IsWellFormed pipeline) (accepted : IsAccepted pipeline schedule) (is : inferred pipeline schedule ≡ Ok boxes)
+    (place : ℕ) (func : Func) (own : SourceBox) (func_is : slice_get pipeline.funcs place ≡ Some func) (box_is : slice_get boxes.funcs place ≡ Some (Some own))
+    (standing : Standing) (there : IsReached schedule.standings place standing) (computed : IsComputed place standing.place)
+    (at : ℕ) (update : Update) (update_is : slice_get func.updates at ≡ Some update)
+    (inputs : Planes) (begun : AnswerWords pipeline.inputs (reads_of inputs (pixels pipeline.funcs inputs 0)))
+    (turns : List ℕ) (below : Below (hosted_turns schedule boxes standing turns) (lasts_of (host_at schedule boxes standing)))
+    (begin : BoxCorner) (begins : IsBegin (hosted_turns schedule boxes standing turns) own begin)
+    (corners : List Corner) (before : Values) (corner : Corner) (corner_is : IsCornerAt place before corner begin) (reads_own : ReadsOwn corners place before inputs begin)
+    (store : Stmt) (stores : StoresUpdate corners (flags pipeline schedule) pipeline.funcs place corner update store)
+    (funcs : Planes) (reads_others : ReadsPixels pipeline schedule corners place update (hosted_turns schedule boxes standing turns) own inputs before funcs)
+    (list : List loops.Values)
+    (visits : AllByRecursion (IsVisitOf func (Some update) (update_extents own update)) (map (visit_of (update_extents own update)) list))
+    (reduced : AllByRecursion (λ inner. inner (ids.Whole variables.FirstReduction) < update.first.extent) list)
+    (inside : ℕ → ℕ → Bool) (in_box : (i j : ℕ) → inside i j ≡ true → has_point (Some own) i j ≡ true)
+    (closed : AllByRecursion (λ visit. (i j : ℕ) → has_point (Some own) i j ≡ true → is_visited update i j visit ≡ true → inside i j ≡ true) (map (visit_of (update_extents own update)) list)) where
+  abbrev extents : Extents
+  extents = update_extents own update
+
+  abbrev stands_at : ℕ → Plane
+  stands_at = from_begin pipeline schedule boxes rules accepted is place func own func_is box_is standing there computed at update update_is inputs begun turns below begin begins corners before corner corner_is reads_own store stores funcs reads_others inside
+
+  abbrev columns : ℕ → ℕ
+  columns = column_in pipeline schedule boxes rules accepted is place func own func_is box_is standing there computed at update update_is inputs begun turns below begin begins corners before corner corner_is reads_own store stores funcs reads_others inside
+
+  abbrev rows : ℕ → ℕ
+  rows = row_in pipeline schedule boxes rules accepted is place func own func_is box_is standing there computed at update update_is inputs begun turns below begin begins corners before corner corner_is reads_own store stores funcs reads_others inside
+
+  abbrev pub steps : loops.Values → Planes → Planes
+  steps = step pipeline schedule boxes rules accepted is place func own func_is box_is standing there computed at update update_is inputs begun turns below begin begins corners before corner corner_is reads_own store stores funcs reads_others inside
+
+  abbrev IsGone : loops.Values → Type 0
+  IsGone inner = Goes place funcs inside columns rows stands_at (visit_of extents inner) (steps inner)
+
+  abbrev Closed : Visit → Type 0
+  Closed visit = (i j : ℕ) → has_point (Some own) i j ≡ true → is_visited update i j visit ≡ true → inside i j ≡ true
+
+  all_go : AllByRecursion IsGone list
+  all_go =
+      all_so (λ inner. (IsVisitOf func (Some update) extents (visit_of extents inner) × Closed (visit_of extents inner)) × (inner (ids.Whole variables.FirstReduction) < update.first.extent)) IsGone
+      (λ inner p.
+      goes pipeline schedule boxes rules accepted is place func own func_is box_is standing there computed at update update_is inputs begun turns below begin begins corners before corner corner_is reads_own store stores funcs reads_others inside
+      inner p.0.0 p.1 p.0.1 in_box)
+      list
+      (all_and (λ inner. IsVisitOf func (Some update) extents (visit_of extents inner) × Closed (visit_of extents inner)) (λ inner. inner (ids.Whole variables.FirstReduction) < update.first.extent) list
+      (all_map (λ visit. IsVisitOf func (Some update) extents visit × Closed visit) (λ inner. IsVisitOf func (Some update) extents (visit_of extents inner) × Closed (visit_of extents inner)) (visit_of extents) (λ inner p. p) list
+      (all_and (IsVisitOf func (Some update) extents) Closed (map (visit_of extents) list) visits closed))
+      reduced)
+
+  -- before the first point
+  at_first : (i j : ℕ) → stage_from pipeline inputs place func begin at i j ≡ stands_at 0 i j
+  unfolding after
+  at_first i j = refl
+
+  -- behind the last one
+  at_last : (i j : ℕ) → stands_at (points update) i j ≡ stage_from pipeline inputs place func begin (suc at) i j
+  unfolding stage
+  at_last i j =
+      ap (λ (found : Option Update). after_all place found inputs (pixels pipeline.funcs inputs place) (stage place func inputs (pixels pipeline.funcs inputs place) at) (word.add begin.x i) (word.add begin.y j)) (sym update_is)
+
+  module _ (in_order : (i j : ℕ) → inside i j ≡ true → slice (columns i) (rows j) (map (visit_of extents) list) ≡ rising (columns i) (rows j) 0 (points update))
+      (holds : (i j : ℕ) → inside i j ≡ true → funcs place i j ≡ stage_from pipeline inputs place func begin at i j) where
+    gone : Gone place funcs inside columns rows stands_at (λ x y. 0) (λ x y. points update) funcs (all steps list funcs)
+    gone =
+        slices_go place funcs inside columns rows stands_at (visit_of extents) steps list (λ x y. 0) (λ x y. points update) funcs all_go in_order (λ k i j other. refl)
+        (λ i j e. holds i j e ∙ at_first i j)
+
+    pub leaves : (i j : ℕ) → inside i j ≡ true → all steps list funcs place i j ≡ stage_from pipeline inputs place func begin (suc at) i j
+    leaves i j e =
+        let none_before : 0 + points update ≡ points update = omega arith in
+        gone.does i j e ∙ ap (λ (n : ℕ). stands_at n i j) none_before ∙ at_last i j
+
+    pub stays : (other i j : ℕ) → (other ≡ place → inside i j ≡ false) → all steps list funcs other i j ≡ funcs other i j
+    stays = gone.keeps

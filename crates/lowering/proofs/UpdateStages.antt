@@ -1,0 +1,66 @@
+-- The stage of an update of a Func that is computed.
+use Rattle.std.proofs.Common.{◌≡◌, ℕ, ◌+◌, ◌^◌, ◌<◌, ◌≤◌, length, Some, arith, inl, inr}
+use Rattle.std.specs.Prelude.{◌&&◌, nat_le, slice_get, Ok}
+use Rattle.std.proofs.lemmas.Bool.{and_parts, cases_lt, leb-true}
+use Rattle.std.proofs.lemmas.Option.{slice_get_past}
+use Rattle.halide_pipeline.specs.declared.definitions.Func.{Func}
+use Rattle.halide_pipeline.specs.declared.definitions.Update.{Update}
+use Rattle.halide_pipeline.specs.declared.expressions.Variable.TheVariants as variables
+use Rattle.halide_pipeline.specs.Pipelines.{Pipeline}
+use Rattle.halide_pipeline.specs.WellFormed.{IsWellFormed}
+use Rattle.schedule_lines.specs.declared.stages.Stage.{Stage}
+use Rattle.schedule.specs.declared.plans.FuncPlan.{FuncPlan}
+use Rattle.schedule.specs.declared.schedules.Schedule.{Schedule}
+use Rattle.schedule.specs.declared.standings.Standing.{Standing}
+use Rattle.schedule.specs.Accepted.{IsAccepted, IsPlan, IsLegal}
+use Rattle.schedule.specs.Uses.{IsReached}
+use Rattle.stage_loops.specs.Counts.{AreSplits}
+use Rattle.stage_loops.specs.Stages.{IsStageOf, KeepsRules}
+use Rattle.stage_loops.proofs.AcceptedStages.{accepted as accepted_stages, pair_at}
+use Rattle.stage_loops.proofs.Few.{few_splits}
+use Rattle.bounds.specs.declared.boxes.SourceBox.{SourceBox}
+use Rattle.bounds.specs.declared.verdict.Boxes.{Boxes}
+use Rattle.bounds.specs.Boxes.{IsBox, extent, points}
+use Rattle.bounds.specs.Judging.{have_few_points}
+use Rattle.bounds.specs.Verdict.{inferred}
+use Rattle.box_laws.specs.Laws.{IsComputed}
+use Rattle.box_laws.proofs.BoxesHosted.{boxes_are_hosted}
+use Rattle.box_laws.proofs.BoxFacts.{is_judged}
+use Rattle.nest_lowering.specs.Nests.{AreFew}
+use Rattle.lowering.specs.Updates.{IsUpdateAt, update_extents}
+use Rattle.lowering.proofs.Facts.{few_at, first_few, second_few}
+use Rattle.lowering.proofs.UpdateFacts as facts
+
+module _ (pipeline : Pipeline) (schedule : Schedule) (accepted : IsAccepted pipeline schedule) (place : ℕ) (func : Func) (plan : FuncPlan) (standing : Standing)
+    (func_is : slice_get pipeline.funcs place ≡ Some func) (there : IsReached schedule.standings place standing) (at : ℕ) (update : Update) (stage : Stage) (it : IsUpdateAt schedule place func plan at update stage) where
+  pub staged : IsStageOf func (Some update) stage × KeepsRules stage
+  staged =
+      (accepted_stages func plan standing (pair_at IsPlan pipeline.funcs schedule.funcs place func plan accepted.plans func_is it.plan_is)
+      (pair_at IsLegal schedule.funcs schedule.standings place plan standing accepted.legal it.plan_is there.standing) there.reached).1 at update stage it.update_is it.stage_is
+
+  pub splits : AreSplits stage.splits
+  splits = few_splits func (Some update) stage staged.0
+
+-- there are few Funcs
+pub place_small : (pipeline : Pipeline) → IsWellFormed pipeline → (place : ℕ) (func : Func) → slice_get pipeline.funcs place ≡ Some func → place + 1 < 2 ^ 64
+place_small pipeline rules place func func_is = elim (cases_lt place (length pipeline.funcs)) [
+  | inl l ↦ omega (arith, l, leb-true (length pipeline.funcs) 12 rules.few_funcs)
+  | inr l ↦ let none = slice_get_past pipeline.funcs place l in absurd cc
+]
+
+module _ (pipeline : Pipeline) (schedule : Schedule) (boxes : Boxes) (rules : IsWellFormed pipeline) (accepted : IsAccepted pipeline schedule) (is : inferred pipeline schedule ≡ Ok boxes)
+    (place : ℕ) (func : Func) (own : SourceBox) (func_is : slice_get pipeline.funcs place ≡ Some func) (box_is : slice_get boxes.funcs place ≡ Some (Some own))
+    (at : ℕ) (update : Update) (update_is : slice_get func.updates at ≡ Some update) (standing : Standing) (there : IsReached schedule.standings place standing) (computed : IsComputed place standing.place) where
+  pub is_box : IsBox own
+  is_box = (boxes_are_hosted pipeline schedule boxes is place standing there.standing there.reached computed own box_is).box
+
+  few_points : points own ≤ 2 ^ 20
+  few_points =
+      let all = and_parts (have_few_points boxes.inputs) (have_few_points boxes.funcs && nat_le boxes.layout.size 33554432) (is_judged pipeline schedule boxes is).few in
+      few_at boxes.funcs place own (and_parts (have_few_points boxes.funcs) (nat_le boxes.layout.size 33554432) all.1).0 box_is
+
+  pub few : AreFew (update_extents own update)
+  few variables.FirstArgument = first_few (extent own.x) (extent own.y) (2 ^ 20) (omega (arith, is_box.y.ordered)) few_points
+  few variables.SecondArgument = second_few (extent own.x) (extent own.y) (2 ^ 20) (omega (arith, is_box.x.ordered)) few_points
+  few variables.FirstReduction = let l = facts.first_extent update ((rules.funcs place func func_is).updates at update update_is).box in omega (arith, l.1)
+  few variables.SecondReduction = let l = facts.second_few update ((rules.funcs place func func_is).updates at update update_is).box in omega (arith, l.1)

@@ -1,0 +1,71 @@
+-- The store of an update.
+use Rattle.std.proofs.Common.{◌≡◌, ℕ, suc, ◌^◌, ◌<◌, Bool, List, refl, ap, ◌∙◌, arith}
+use Rattle.halide_pipeline.specs.declared.definitions.Func.{Func}
+use Rattle.halide_pipeline.specs.declared.definitions.Update.{Update}
+use Rattle.halide_pipeline.specs.Words as word
+use Rattle.halide_meaning.specs.Pixel.{Planes, Reads, variable, reads_of}
+use Rattle.inlining.specs.Inlining.{inlined}
+use Rattle.inlining.specs.Values.{values as valuing}
+use Rattle.loop_ir.specs.declared.expressions.Expr as expressions
+use Rattle.loop_ir.specs.declared.statements.Stmt.TheVariants as s
+use Rattle.loop_ir.specs.Buffers.{Points, put}
+use Rattle.loop_ir.specs.Counters.{Values}
+use Rattle.loop_ir.specs.Expressions.{linear_value, value}
+use Rattle.loop_ir.specs.declared.expressions.Linear.{Linear}
+use Rattle.loop_ir.proofs.Trees.{run_store}
+use Rattle.expression_lowering.specs.declared.calls.Corner.{Corner}
+use Rattle.expression_lowering.specs.declared.lowering.Arguments.{Arguments}
+use Rattle.expression_lowering.specs.Lowering.{environment, placed}
+use Rattle.lowering.specs.Updates.{StoresUpdate, visited_point, index_of}
+
+-- ---- sums
+
+linear_small : (values : Values) (own : Linear) → linear_value values own < 2 ^ 32
+unfolding linear_value
+linear_small values own = omega arith
+
+add_from : (a b : ℕ) → b < 2 ^ 32 → word.subtract a (word.subtract 0 b) ≡ word.add a b
+unfolding word.subtract word.add
+add_from a b small = omega (arith, small)
+
+pub sum_is : (values : Values) (own other opposite made zero_of : Linear) → linear_value values zero_of ≡ 0 → linear_value values opposite ≡ word.subtract (linear_value values zero_of) (linear_value values other)
+    → linear_value values made ≡ word.subtract (linear_value values own) (linear_value values opposite) → linear_value values made ≡ word.add (linear_value values own) (linear_value values other)
+sum_is values own other opposite made zero_of zero_is opposite_is made_is =
+    made_is ∙ ap (word.subtract (linear_value values own)) (opposite_is ∙ ap (λ (n : ℕ). word.subtract n (linear_value values other)) zero_is)
+    ∙ add_from (linear_value values own) (linear_value values other) (linear_small values other)
+
+-- ---- the store
+
+pub put_as : (points : Points) (place : ℕ) (buffers : Planes) (a b v x y w : ℕ) → a ≡ x → b ≡ y → v ≡ w → put points place a b v buffers ≡ put points place x y w buffers
+put_as points place buffers a b v x y w ea eb ev = ap (λ (n : ℕ). put points place n b v buffers) ea ∙ ap (λ (n : ℕ). put points place x n v buffers) eb ∙ ap (λ (n : ℕ). put points place x y n buffers) ev
+
+module _ (corners : List Corner) (flags : ℕ → Bool) (funcs : List Func) (place : ℕ) (corner : Corner) (update : Update) where
+  pub stores_update : (column row x y made : expressions.Expr) (arguments : Arguments) (count : ℕ) → count ≡ suc place
+      → ((values : Values) → environment values arguments ≡ visited_point values place corner update)
+      → ((reads : Reads) (values : Values) → value reads values column ≡ inlined (valuing (placed corners values reads)) flags funcs place (variable (environment values arguments)) update.left_x)
+      → ((reads : Reads) (values : Values) → value reads values row ≡ index_of (inlined (valuing (placed corners values reads)) flags funcs place (variable (environment values arguments))) update.left_y)
+      → ((reads : Reads) (values : Values) → value reads values made ≡ inlined (valuing (placed corners values reads)) flags funcs count (variable (environment values arguments)) update.right)
+      → ((reads : Reads) (values : Values) → value reads values x ≡ word.subtract (value reads values column) (linear_value values corner.x))
+      → ((reads : Reads) (values : Values) → value reads values y ≡ word.subtract (value reads values row) (linear_value values corner.y))
+      → StoresUpdate corners flags funcs place corner update (s.Store (record { func = place; x = x; y = y; value = made }))
+  stores_update column row x y made arguments count count_is environment_is column_is row_is made_is x_is y_is points inputs values buffers =
+      let reads = reads_of inputs buffers in
+      let point = environment values arguments in
+      let by_point : put points place
+      (word.subtract (inlined (valuing (placed corners values reads)) flags funcs place (variable point) update.left_x) (linear_value values corner.x))
+      (word.subtract (index_of (inlined (valuing (placed corners values reads)) flags funcs place (variable point)) update.left_y) (linear_value values corner.y))
+      (inlined (valuing (placed corners values reads)) flags funcs count (variable point) update.right) buffers
+      ≡ put points place
+      (word.subtract (inlined (valuing (placed corners values reads)) flags funcs place (variable (visited_point values place corner update)) update.left_x) (linear_value values corner.x))
+      (word.subtract (index_of (inlined (valuing (placed corners values reads)) flags funcs place (variable (visited_point values place corner update))) update.left_y) (linear_value values corner.y))
+      (inlined (valuing (placed corners values reads)) flags funcs (suc place) (variable (visited_point values place corner update)) update.right) buffers =
+      rw (environment_is values, count_is) refl in
+      run_store points inputs (record { func = place; x = x; y = y; value = made }) values buffers
+      ∙ put_as points place buffers (value reads values x) (value reads values y) (value reads values made)
+      (word.subtract (inlined (valuing (placed corners values reads)) flags funcs place (variable point) update.left_x) (linear_value values corner.x))
+      (word.subtract (index_of (inlined (valuing (placed corners values reads)) flags funcs place (variable point)) update.left_y) (linear_value values corner.y))
+      (inlined (valuing (placed corners values reads)) flags funcs count (variable point) update.right)
+      (x_is reads values ∙ ap (λ (n : ℕ). word.subtract n (linear_value values corner.x)) (column_is reads values))
+      (y_is reads values ∙ ap (λ (n : ℕ). word.subtract n (linear_value values corner.y)) (row_is reads values))
+      (made_is reads values)
+      ∙ by_point

@@ -1,0 +1,282 @@
+-- Tasks of an update: each leaves what stands after it in the slices that its iteration visits.
+use Rattle.std.proofs.Common.{◌≡◌, ℕ, suc, ◌-◌, ◌*◌, ◌^◌, ◌<◌, ◌≤◌, Bool, true, false, cond, List, [], ◌∷◌, map, length, take, Option, Some, None, refl, sym, ap, subst, ◌∙◌, arith}
+use Rattle.std.specs.Prelude.{◌&&◌, ◌==◌, slice_get, Ok}
+use Rattle.std.specs.List.{AllByRecursion, list_any}
+use Rattle.std.proofs.lemmas.Bool.{and_parts, and_from, eq-eqb, ne_eqb}
+use Rattle.halide_pipeline.specs.declared.definitions.Func.{Func}
+use Rattle.halide_pipeline.specs.declared.definitions.Update.{Update}
+use Rattle.halide_pipeline.specs.declared.expressions.Variable.TheVariants as variables
+use Rattle.halide_pipeline.specs.Definitions.{is_first_in_place, is_second_in_place}
+use Rattle.halide_pipeline.specs.Pipelines.{Pipeline}
+use Rattle.halide_pipeline.specs.WellFormed.{IsWellFormed}
+use Rattle.halide_pipeline.specs.Words as word
+use Rattle.halide_meaning.specs.Pixel.{Plane, Planes, reads_of, with_plane, pixels, points, second_extent}
+use Rattle.halide_meaning.specs.Pixel as meaning
+use Rattle.schedule_lines.specs.declared.stages.Loop.{Loop}
+use Rattle.schedule_lines.specs.declared.stages.LoopId.TheVariants as ids
+use Rattle.schedule_lines.specs.declared.stages.Stage.{Stage}
+use Rattle.schedule.specs.declared.plans.FuncPlan.{FuncPlan}
+use Rattle.schedule.specs.declared.schedules.Schedule.{Schedule}
+use Rattle.schedule.specs.declared.standings.Place.{Place}
+use Rattle.schedule.specs.Accepted.{IsAccepted}
+use Rattle.stage_loops.specs.declared.extents.Extents.{Extents}
+use Rattle.stage_loops.specs.Counts.{counts}
+use Rattle.stage_loops.specs.Counts as loops
+use Rattle.stage_loops.specs.Iterations.{parallel, iteration, iteration_count, count_of}
+use Rattle.stage_loops.specs.Reach.{wholes}
+use Rattle.stage_loops.specs.Stages.{IsStageOf, KeepsRules, IsVisitOf, points_of}
+use Rattle.stage_loops.specs.Visits.{Visit, visit_of, slice, rising}
+use Rattle.std.proofs.Math.Nat.{mul-le-mul}
+use Rattle.std.proofs.lemmas.List.{append-nil}
+use Rattle.stage_loops.proofs.Bounded.{within}
+use Rattle.stage_loops.proofs.Ids.{same_id-self}
+use Rattle.stage_loops.proofs.Parallel.{outermost}
+use Rattle.ranges.specs.Laws.{Below, AnswerWords}
+use Rattle.ranges.specs.Ranges.{IsFit}
+use Rattle.bounds.specs.declared.boxes.SourceBox.{SourceBox}
+use Rattle.bounds.specs.declared.verdict.Boxes.{Boxes}
+use Rattle.bounds.specs.Boxes.{IsBox, box_in, no_loops, lasts_of}
+use Rattle.bounds.specs.Verdict.{inferred}
+use Rattle.box_laws.specs.HostLaws.{IsFrom}
+use Rattle.box_laws.specs.Laws.{IsComputed, host_in, values_for}
+use Rattle.box_laws.proofs.Found.{no_below}
+use Rattle.loop_ir.specs.declared.expressions.Counter.{Counter}
+use Rattle.loop_ir.specs.declared.statements.Phase.{Phase}
+use Rattle.loop_ir.specs.declared.statements.Stmt.{Stmt}
+use Rattle.loop_ir.specs.Counters.{Values}
+use Rattle.loop_ir.specs.Running.{run, task_values, run_task}
+use Rattle.nest_lowering.specs.Nests.{loops_of, put_loops, all, AreSmall, Repeats}
+use Rattle.nest_lowering.proofs.Few.{few_turns}
+use Rattle.schedule_lines.specs.Loops.{same_id}
+use Rattle.expression_lowering.specs.Lowering.{placed}
+use Rattle.lowering.specs.Phases.{Hold, DoesTask, DoesPhase}
+use Rattle.lowering.specs.Planes.{BoxCorner, word_at, corner_of, held, has_point, box_points}
+use Rattle.lowering.specs.PurePhases.{IsAtRoot, inside_of, counter_of}
+use Rattle.lowering.specs.Stages.{is_private, after_stages}
+use Rattle.lowering.specs.Updates.{IsUpdateAt, IsUpdateStoreOf, update_extents, in_place, is_visited, owns_update, IsBegin, IsCornerAt, ReadsPixels, host_at, hosted_turns, stage_from}
+use Rattle.lowering.proofs.Lists.{before_last}
+use Rattle.lowering.proofs.Offsets.{first_none}
+use Rattle.lowering.proofs.RootFacts.{is_box, no_lasts, from_corner_on, root_corner_at}
+use Rattle.lowering.proofs.UpdateFacts.{has_reduction, points_are, first_extent, second_few}
+use Rattle.lowering.proofs.UpdateReads.{roots_are_shared, reads_pixels}
+use Rattle.lowering.proofs.UpdateRuns.{members, all_so, leaves, stays}
+use Rattle.lowering.proofs.UpdateSteps.{ReadsOwn}
+use Rattle.lowering.proofs.UpdateSlices.{slice_there}
+use Rattle.lowering.proofs.UpdateStages.{staged, splits, few}
+use Rattle.lowering.proofs.UpdateVisits.{listed, task_within, task_in_order, one_task, some_task}
+
+none_added : (n : ℕ) → n < 2 ^ 32 → word.add 0 n ≡ n
+unfolding word.add
+none_added n small = omega (arith, small)
+
+word_small : (end : ℕ) → word_at end < 2 ^ 32
+word_small end = omega arith
+
+module _ (pipeline : Pipeline) (schedule : Schedule) (boxes : Boxes) (rules : IsWellFormed pipeline) (accepted : IsAccepted pipeline schedule) (is : inferred pipeline schedule ≡ Ok boxes)
+    (place : ℕ) (func : Func) (plan : FuncPlan) (own : SourceBox) (root : IsAtRoot pipeline schedule boxes place func plan own)
+    (at : ℕ) (update : Update) (stage : Stage) (it : IsUpdateAt schedule place func plan at update stage)
+    (store : Stmt) (store_of : IsUpdateStoreOf pipeline schedule boxes place own update store)
+    (phase : Phase) (tasks_are : phase.tasks ≡ iteration_count (update_extents own update) stage) (counter_is : phase.counter ≡ counter_of place (parallel stage))
+    (repeats : Repeats place phase.body store (wholes (update_extents own update) stage.splits (inside_of (parallel stage) stage.loops)))
+    (inputs : Planes) (begun : AnswerWords pipeline.inputs (reads_of inputs (pixels pipeline.funcs inputs 0))) where
+  abbrev extents : Extents
+  extents = update_extents own update
+
+  abbrev start : Planes
+  start = held boxes.funcs (after_stages pipeline.funcs inputs place func (suc at))
+
+  abbrev result : Planes
+  result = held boxes.funcs (after_stages pipeline.funcs inputs place func (suc (suc at)))
+
+  abbrev begin : BoxCorner
+  begin = corner_of (Some own)
+
+  computed : IsComputed place root.standing.place
+  computed = subst (λ (p : Place). IsComputed place p) (sym root.placed_is) tt
+
+  stage_facts : IsStageOf func (Some update) stage × KeepsRules stage
+  stage_facts = staged pipeline schedule accepted place func plan root.standing root.func_is root.there at update stage it
+
+  box_facts : IsBox own
+  box_facts = is_box pipeline schedule boxes place func plan own accepted is root
+
+  -- ---- no loops outside
+
+  turns_are : hosted_turns schedule boxes root.standing no_loops ≡ no_loops
+  turns_are = ap (λ (p : Place). values_for (host_in schedule boxes.funcs p) no_loops) root.placed_is
+
+  lasts_are : lasts_of (host_at schedule boxes root.standing) ≡ no_loops
+  lasts_are = ap (λ (p : Place). lasts_of (host_in schedule boxes.funcs p)) root.placed_is
+
+  below : Below (hosted_turns schedule boxes root.standing no_loops) (lasts_of (host_at schedule boxes root.standing))
+  below = subst (λ (l : List ℕ). Below l (lasts_of (host_at schedule boxes root.standing))) (sym turns_are) (subst (λ (l : List ℕ). Below no_loops l) (sym lasts_are) no_below)
+
+  none_of : own.lasts ≡ no_loops
+  none_of = no_lasts pipeline schedule boxes place func plan own accepted is root
+
+  begins : IsBegin (hosted_turns schedule boxes root.standing no_loops) own begin
+  begins =
+      subst (λ (l : List ℕ). IsBegin l own begin) (sym turns_are)
+      (record {
+        x = subst (λ (n : ℕ). IsFrom no_loops own.x 0 n) (none_added (word_at own.x.low) (word_small own.x.low))
+            (from_corner_on own.x 0 (subst (λ (l : List ℕ). IsFit l own.x) none_of box_facts.x) (omega (arith, box_facts.x.ordered)));
+        y = subst (λ (n : ℕ). IsFrom no_loops own.y 0 n) (none_added (word_at own.y.low) (word_small own.y.low))
+            (from_corner_on own.y 0 (subst (λ (l : List ℕ). IsFit l own.y) none_of box_facts.y) (omega (arith, box_facts.y.ordered)));
+      })
+
+  -- ---- planes
+
+  points_own : (x y : ℕ) → box_points boxes.funcs place x y ≡ has_point (Some own) x y
+  points_own x y = ap (λ (o : Option (Option SourceBox)). has_point (box_in o) x y) root.box_is
+
+  held_own : (updates x y : ℕ) → held boxes.funcs (after_stages pipeline.funcs inputs place func (suc updates)) place x y ≡ stage_from pipeline inputs place func begin updates x y
+  held_own updates x y = rw root.box_is (rw (eq-eqb place place refl) refl)
+
+  held_other : (updates other x y : ℕ) → (other ≡ place → ⊥) → held boxes.funcs (after_stages pipeline.funcs inputs place func (suc updates)) other x y ≡ held boxes.funcs (pixels pipeline.funcs inputs place) other x y
+  held_other updates other x y d =
+      let corner = corner_of (box_in (slice_get boxes.funcs other)) in
+      ap (λ (b : Bool). cond b (meaning.stage place func inputs (pixels pipeline.funcs inputs place) updates) (pixels pipeline.funcs inputs place other) (word.add corner.x x) (word.add corner.y y)) (ne_eqb other place d)
+
+  -- ---- slices
+
+  some_points : 1 ≤ points_of func (Some update) extents
+  some_points =
+      let box_rule = ((rules.funcs place func root.func_is).updates at update it.update_is).box in
+      let all : 1 * 1 ≤ update.first.extent * second_extent update.second = mul-le-mul (first_extent update box_rule).0 (second_few update box_rule).0 in
+      omega (arith, all, points_are func update own)
+
+  -- ---- a task
+
+  module _ (number : ℕ) (below_tasks : number < phase.tasks) where
+    abbrev before : Values
+    before = task_values (counter_of place (parallel stage)) number
+
+    abbrev list : List loops.Values
+    list = wholes extents stage.splits (inside_of (parallel stage) stage.loops) (loops_of place before)
+
+    below_count : number < iteration_count extents stage
+    below_count = subst (λ (n : ℕ). number < n) tasks_are below_tasks
+
+    abbrev owned : ℕ → ℕ → Bool
+    owned = owns_update own update stage number
+
+    visits_are : iteration extents stage number ≡ map (visit_of extents) list
+    visits_are = listed func update extents stage stage_facts.0 place stage_facts.1 (parallel stage) refl number below_count
+
+    all_visits : AllByRecursion (IsVisitOf func (Some update) extents) (map (visit_of extents) list)
+    all_visits = subst (λ (l : List Visit). AllByRecursion (IsVisitOf func (Some update) extents) l) visits_are (task_within func update extents stage stage_facts.0 place stage_facts.1 number below_count)
+
+    reduced_by : (found : Option Loop) → parallel stage ≡ found → number < count_of (counts extents stage.splits) found
+        → AllByRecursion (λ inner. inner (ids.Whole variables.FirstReduction) < update.first.extent) (wholes extents stage.splits (inside_of found stage.loops) (loops_of place (task_values (counter_of place found) number)))
+    reduced_by None e l =
+        within func (Some update) extents stage stage.loops [] variables.FirstReduction (loops_of place (task_values None number)) stage_facts.0 (sym (append-nil stage.loops)) (has_reduction func update) tt
+    reduced_by (Some loop) e l =
+        let o = outermost stage loop stage_facts.1 e in
+        let taken : inside_of (Some loop) stage.loops ≡ o.last.inside = ap (λ (ls : List Loop). take (length ls - 1) ls) o.last.loops_are ∙ before_last o.last.inside loop in
+        let turn : loops_of place (task_values (counter_of place (Some loop)) number) loop.id ≡ number =
+        ap (λ (b : Bool). cond b number 0) (and_from (place == place) (same_id loop.id loop.id) (eq-eqb place place refl) (same_id-self loop.id)) in
+        subst (λ (ls : List Loop). AllByRecursion (λ inner. inner (ids.Whole variables.FirstReduction) < update.first.extent) (wholes extents stage.splits ls (loops_of place (task_values (counter_of place (Some loop)) number)))) (sym taken)
+        (within func (Some update) extents stage o.last.inside (loop ∷ []) variables.FirstReduction (loops_of place (task_values (counter_of place (Some loop)) number)) stage_facts.0 o.last.loops_are (has_reduction func update)
+        (omega (arith, turn, l), tt))
+
+    reduced : AllByRecursion (λ inner. inner (ids.Whole variables.FirstReduction) < update.first.extent) list
+    reduced = reduced_by (parallel stage) refl below_count
+
+    small_by : (found : Option Loop) → number < count_of (counts extents stage.splits) found → AreSmall (loops_of place (task_values (counter_of place found) number))
+    small_by None l id = omega arith
+    small_by (Some loop) l id = by_test (place == place && same_id id loop.id)
+      where
+        by_test : (b : Bool) → cond b number 0 < 2 ^ 25
+        by_test true =
+            omega (arith, l, few_turns extents stage.splits (few pipeline schedule boxes rules accepted is place func own root.func_is root.box_is at update it.update_is root.standing root.there computed) (splits pipeline schedule accepted place func plan root.standing root.func_is root.there at update stage it) loop.id)
+        by_test false = omega arith
+
+    ran : (funcs : Planes) → run_task (box_points boxes.funcs) inputs phase number funcs ≡ all (λ inner. run (box_points boxes.funcs) inputs store (put_loops place inner before)) list funcs
+    ran funcs =
+        ap (λ (c : Option Counter). run (box_points boxes.funcs) inputs phase.body (task_values c number) funcs) counter_is ∙ repeats.runs (box_points boxes.funcs) inputs before funcs (small_by (parallel stage) below_count)
+
+    corner_is : IsCornerAt place before store_of.corner begin
+    corner_is inner =
+        let c = store_of.is_corner (put_loops place inner before) in
+        (c.0 ∙ first_none own.x, c.1 ∙ first_none own.y)
+
+    reads_own : ReadsOwn store_of.corners place before inputs begin
+    unfolding placed
+    reads_own inner buffers a b =
+        let now : Values = put_loops place inner before in
+        let c = root_corner_at schedule boxes store_of.corners place own root.standing store_of.are_corners root.box_is root.there.standing root.placed_is in
+        rw (c.there, (c.is now).0, (c.is now).1) refl
+
+    in_box : (i j : ℕ) → owned i j ≡ true → has_point (Some own) i j ≡ true
+    in_box i j e = (and_parts (has_point (Some own) i j) (list_any (is_visited update i j) (iteration extents stage number)) e).0
+
+    on_visited : (i j : ℕ) → owned i j ≡ true → list_any (is_visited update i j) (iteration extents stage number) ≡ true
+    on_visited i j e = (and_parts (has_point (Some own) i j) (list_any (is_visited update i j) (iteration extents stage number)) e).1
+
+    closed : AllByRecursion (λ visit. (i j : ℕ) → has_point (Some own) i j ≡ true → is_visited update i j visit ≡ true → owned i j ≡ true) (map (visit_of extents) list)
+    closed =
+        all_so (λ visit. (test : Visit → Bool) → test visit ≡ true → list_any test (map (visit_of extents) list) ≡ true) (λ visit. (i j : ℕ) → has_point (Some own) i j ≡ true → is_visited update i j visit ≡ true → owned i j ≡ true)
+        (λ visit member i j boxed on.
+        and_from (has_point (Some own) i j) (list_any (is_visited update i j) (iteration extents stage number)) boxed (ap (list_any (is_visited update i j)) visits_are ∙ member (is_visited update i j) on))
+        (map (visit_of extents) list) (members (map (visit_of extents) list))
+
+    in_order : (i j : ℕ) → owned i j ≡ true
+        → slice (in_place (is_first_in_place update) i) (in_place (is_second_in_place update) j) (map (visit_of extents) list) ≡ rising (in_place (is_first_in_place update) i) (in_place (is_second_in_place update) j) 0 (points update)
+    in_order i j e =
+        let c = in_place (is_first_in_place update) i in
+        let r = in_place (is_second_in_place update) j in
+        ap (slice c r) (sym visits_are)
+        ∙ task_in_order func update extents stage stage_facts.0 place stage_facts.1 number below_count c r (on_visited i j e)
+        ∙ ap (rising c r 0) (points_are func update own)
+
+    module _ (funcs : Planes) (hold : Hold (box_points boxes.funcs) (is_private schedule.standings) place owned start funcs) where
+      others : ReadsPixels pipeline schedule store_of.corners place update (hosted_turns schedule boxes root.standing no_loops) own inputs before funcs
+      others =
+          subst (λ (l : List ℕ). ReadsPixels pipeline schedule store_of.corners place update l own inputs before funcs) (sym turns_are)
+          (reads_pixels pipeline schedule boxes rules accepted is place func plan own root at update stage it inputs begun store_of.corners store_of.are_corners before funcs
+          (λ k x y d public_so boxed. hold k x y public_so boxed (λ e. absurd (d e)) ∙ held_other at k x y d))
+
+      holds : (i j : ℕ) → owned i j ≡ true → funcs place i j ≡ stage_from pipeline inputs place func begin at i j
+      holds i j e = hold place i j (roots_are_shared pipeline schedule accepted place root.standing root.there root.placed_is) (points_own i j ∙ in_box i j e) (λ s. e) ∙ held_own at i j
+
+      task_does : (x y : ℕ) → owned x y ≡ true → run_task (box_points boxes.funcs) inputs phase number funcs place x y ≡ result place x y
+      task_does x y e =
+          ap (λ (f : Planes). f place x y) (ran funcs)
+          ∙ leaves pipeline schedule boxes rules accepted is place func own root.func_is root.box_is root.standing root.there computed at update it.update_is inputs begun no_loops below begin begins store_of.corners before store_of.corner corner_is reads_own
+          store store_of.stores funcs others list all_visits reduced owned in_box closed in_order holds x y e
+          ∙ sym (held_own (suc at) x y)
+
+      task_keeps : (other x y : ℕ) → is_private schedule.standings other ≡ false → (other ≡ place → owned x y ≡ false) → run_task (box_points boxes.funcs) inputs phase number funcs other x y ≡ funcs other x y
+      task_keeps other x y public_so free =
+          ap (λ (f : Planes). f other x y) (ran funcs)
+          ∙ stays pipeline schedule boxes rules accepted is place func own root.func_is root.box_is root.standing root.there computed at update it.update_is inputs begun no_loops below begin begins store_of.corners before store_of.corner corner_is reads_own
+          store store_of.stores funcs others list all_visits reduced owned in_box closed in_order holds other x y free
+
+    task : DoesTask (box_points boxes.funcs) (is_private schedule.standings) place start result owned (run_task (box_points boxes.funcs) inputs phase number)
+    task = record { there = λ x y e. points_own x y ∙ in_box x y e; does = task_does; keeps = task_keeps }
+
+  -- ---- all tasks
+
+  in_count : (number : ℕ) → number < phase.tasks → number < iteration_count extents stage
+  in_count number l = subst (λ (n : ℕ). number < n) tasks_are l
+
+  visited_by : (number x y : ℕ) → owns_update own update stage number x y ≡ true → list_any (is_visited update x y) (iteration extents stage number) ≡ true
+  visited_by number x y e = (and_parts (has_point (Some own) x y) (list_any (is_visited update x y) (iteration extents stage number)) e).1
+
+  never_unowned : (x y : ℕ) → box_points boxes.funcs place x y ≡ true → ((number : ℕ) → number < phase.tasks → owns_update own update stage number x y ≡ false) → ⊥
+  never_unowned x y boxed none =
+      let here : has_point (Some own) x y ≡ true = sym (points_own x y) ∙ boxed in
+      some_task func update extents stage stage_facts.0 place stage_facts.1 (in_place (is_first_in_place update) x) (in_place (is_second_in_place update) y) (slice_there func update own pipeline.inputs pipeline.funcs place ((rules.funcs place func root.func_is).updates at update it.update_is) x y here) some_points
+      (λ number l.
+      ap (λ (b : Bool). b && list_any (is_visited update x y) (iteration extents stage number)) (sym here) ∙ none number (subst (λ (n : ℕ). number < n) (sym tasks_are) l))
+
+  pub does_update : DoesPhase (box_points boxes.funcs) (is_private schedule.standings) place start result phase.tasks (owns_update own update stage) (run_task (box_points boxes.funcs) inputs phase)
+  does_update = record {
+    not_private = roots_are_shared pipeline schedule accepted place root.standing root.there root.placed_is;
+    each = task;
+    one_owner = λ x y first second lf ls ef es.
+        one_task func update extents stage stage_facts.0 place stage_facts.1 (in_place (is_first_in_place update) x) (in_place (is_second_in_place update) y) first second (in_count first lf) (in_count second ls)
+        (visited_by first x y ef) (visited_by second x y es);
+    unowned = λ x y boxed none. absurd (never_unowned x y boxed none);
+    others = λ other x y d. held_other (suc at) other x y d ∙ sym (held_other at other x y d);
+  }

@@ -1,0 +1,151 @@
+-- What a store of a pure definition writes under values of the loops.
+use Rattle.std.proofs.Common.{◌≡◌, ℕ, ◌%◌, ◌^◌, ◌<◌, ◌≤◌, Bool, cond, List, None, refl, ap, ◌∙◌, arith}
+use Rattle.std.specs.Prelude.{Ok}
+use Rattle.std.proofs.lemmas.Bool.{eq-eqb}
+use Rattle.std.proofs.Math.Nat.{mod-eq_of_lt}
+use Rattle.halide_pipeline.specs.declared.definitions.Func.{Func}
+use Rattle.halide_pipeline.specs.declared.expressions.Variable.{Variable}
+use Rattle.halide_pipeline.specs.declared.expressions.Variable.TheVariants as variables
+use Rattle.halide_pipeline.specs.Pipelines.{Pipeline}
+use Rattle.halide_pipeline.specs.WellFormed.{IsWellFormed}
+use Rattle.halide_pipeline.specs.Words as word
+use Rattle.halide_meaning.specs.Pixel.{Plane, Planes, Reads, reads_of, pixels, stage, value, variable, at_point}
+use Rattle.reads.specs.Points.{Agree}
+use Rattle.schedule_lines.specs.declared.stages.LoopId.TheVariants as ids
+use Rattle.schedule.specs.declared.plans.FuncPlan.{FuncPlan}
+use Rattle.schedule.specs.declared.schedules.Schedule.{Schedule}
+use Rattle.schedule.specs.declared.standings.Place.{Place}
+use Rattle.schedule.specs.Accepted.{IsAccepted}
+use Rattle.stage_loops.specs.declared.extents.Extents.{Extents}
+use Rattle.stage_loops.specs.Counts as loops
+use Rattle.stage_loops.specs.Stages.{IsVisitOf}
+use Rattle.stage_loops.specs.Visits.{visit_of}
+use Rattle.inlining.specs.Inlining.{inlined, flagged}
+use Rattle.inlining.specs.Values.{values as valuing}
+use Rattle.ranges.specs.Laws.{Below}
+use Rattle.weights.specs.Weight.{flags_of}
+use Rattle.bounds.specs.declared.boxes.SourceBox.{SourceBox}
+use Rattle.bounds.specs.declared.verdict.Boxes.{Boxes}
+use Rattle.bounds.specs.Boxes.{IsBox, extent}
+use Rattle.bounds.specs.Verdict.{inferred}
+use Rattle.bounds.specs.Views.{extents_of}
+use Rattle.box_laws.specs.HostLaws.{IsFrom}
+use Rattle.box_laws.specs.Laws.{LiesIn, IsComputed, pure_points}
+use Rattle.box_laws.proofs.BoxesHosted.{visits_lie}
+use Rattle.loop_ir.specs.declared.statements.Stmt.{Stmt}
+use Rattle.loop_ir.specs.Buffers.{Points, put}
+use Rattle.loop_ir.specs.Counters.{Values}
+use Rattle.loop_ir.specs.Expressions.{linear_value}
+use Rattle.loop_ir.specs.Running.{run}
+use Rattle.nest_lowering.specs.Nests.{put_loops}
+use Rattle.expression_lowering.specs.Lowering.{placed}
+use Rattle.lowering.specs.Corners.{first_of, turns_for}
+use Rattle.lowering.specs.Hosting.{Keeps}
+use Rattle.lowering.specs.Planes.{box_points}
+use Rattle.lowering.specs.PurePhases.{IsComputedAt, IsStoreOf, whole_at}
+use Rattle.lowering.proofs.Covered.{parts_of, point_there}
+use Rattle.lowering.proofs.Facts.{is_box, few}
+use Rattle.lowering.proofs.Offsets.{from_first_on, add_turned}
+use Rattle.lowering.proofs.Painting.{Writes}
+use Rattle.lowering.proofs.Values.{value_is}
+
+put_same : (points : Points) (place : ℕ) (funcs : Planes) (f : ℕ → ℕ → ℕ) (a x b y : ℕ) → a ≡ x → b ≡ y → put points place a b (f a b) funcs ≡ put points place x y (f x y) funcs
+put_same points place funcs f a x b y e g = ap (λ (n : ℕ). put points place n b (f n b) funcs) e ∙ ap (λ (n : ℕ). put points place x n (f x n) funcs) g
+
+module _ (pipeline : Pipeline) (schedule : Schedule) (boxes : Boxes) (rules : IsWellFormed pipeline) (accepted : IsAccepted pipeline schedule) (is : inferred pipeline schedule ≡ Ok boxes)
+    (placed_at : Place) (place : ℕ) (func : Func) (plan : FuncPlan) (own : SourceBox) (here : IsComputed place placed_at) (at : IsComputedAt pipeline schedule boxes placed_at place func plan own)
+    (store : Stmt) (store_of : IsStoreOf pipeline schedule boxes placed_at place func own store) (inputs : Planes)
+    (values : List ℕ) (below : Below values own.lasts) (counters : Values)
+    (turns_same : (inner : loops.Values) → turns_for schedule.funcs placed_at (put_loops place inner counters) ≡ values) where
+  abbrev extents : Extents
+  extents = extents_of own
+
+  abbrev points : ℕ → ℕ → ℕ → Bool
+  points = box_points boxes.funcs
+
+  abbrev wanted : Reads
+  wanted = reads_of inputs (pixels pipeline.funcs inputs place)
+
+  -- the pixels of the pure definition, from where the box begins on
+  abbrev pub plane : Plane
+  plane x y = stage place func inputs (pixels pipeline.funcs inputs place) 0 (word.add (first_of own.x values) x) (word.add (first_of own.y values) y)
+
+  abbrev pub step : loops.Values → Planes → Planes
+  step inner = run points inputs store (put_loops place inner counters)
+
+  abbrev pub x_of : loops.Values → ℕ
+  x_of inner = inner (ids.Whole variables.FirstArgument)
+
+  abbrev pub y_of : loops.Values → ℕ
+  y_of inner = inner (ids.Whole variables.SecondArgument)
+
+  abbrev pub across : loops.Values → ℕ
+  across inner = word.add (x_of inner) (first_of own.x values)
+
+  abbrev pub down : loops.Values → ℕ
+  down inner = word.add (y_of inner) (first_of own.y values)
+
+  box_facts : IsBox own
+  box_facts = is_box pipeline schedule boxes place func plan own accepted is placed_at here at
+
+  stands_at : (inner : loops.Values) (v : Variable) (most : ℕ) → most ≤ 2 ^ 20 → inner (ids.Whole v) < most → whole_at (put_loops place inner counters) place v ≡ inner (ids.Whole v)
+  stands_at inner v most l e =
+      ap (λ (b : Bool). cond b (inner (ids.Whole v)) (counters (record { func = place; id = ids.Whole v })) % 2 ^ 32) (eq-eqb place place refl)
+      ∙ mod-eq_of_lt {n = inner (ids.Whole v)} {m = 2 ^ 32} (omega (arith, l, e))
+
+  module _ (inner : loops.Values) (v : IsVisitOf func None extents (visit_of extents inner)) where
+    parts : (x_of inner < extent own.x) × (y_of inner < extent own.y)
+    parts = parts_of pipeline schedule boxes rules accepted is placed_at place func plan own here at (visit_of extents inner) v
+
+    pub first_from : IsFrom values own.x (x_of inner) (across inner)
+    first_from = from_first_on own.lasts values own.x (x_of inner) box_facts.x below parts.0
+
+    pub second_from : IsFrom values own.y (y_of inner) (down inner)
+    second_from = from_first_on own.lasts values own.y (y_of inner) box_facts.y below parts.1
+
+    pub lies : LiesIn values own (across inner) (down inner)
+    lies = visits_lie func None own box_facts values below extents refl refl (visit_of extents inner) v (across inner) (down inner) first_from second_from
+
+    at_x : whole_at (put_loops place inner counters) place variables.FirstArgument ≡ x_of inner
+    at_x = stands_at inner variables.FirstArgument (extent own.x) (few pipeline schedule boxes place func plan own accepted is placed_at here at variables.FirstArgument) parts.0
+
+    at_y : whole_at (put_loops place inner counters) place variables.SecondArgument ≡ y_of inner
+    at_y = stands_at inner variables.SecondArgument (extent own.y) (few pipeline schedule boxes place func plan own accepted is placed_at here at variables.SecondArgument) parts.1
+
+    corner_x : linear_value (put_loops place inner counters) store_of.corner.x ≡ first_of own.x values
+    corner_x = (store_of.is_corner (put_loops place inner counters)).0 ∙ ap (first_of own.x) (turns_same inner)
+
+    corner_y : linear_value (put_loops place inner counters) store_of.corner.y ≡ first_of own.y values
+    corner_y = (store_of.is_corner (put_loops place inner counters)).1 ∙ ap (first_of own.y) (turns_same inner)
+
+    pure_is : value wanted (at_point (across inner) (down inner)) func.pure ≡ plane (x_of inner) (y_of inner)
+    unfolding stage
+    pure_is =
+        ap (λ (n : ℕ). value wanted (at_point n (down inner)) func.pure) (add_turned (x_of inner) (first_of own.x values))
+        ∙ ap (λ (n : ℕ). value wanted (at_point (word.add (first_of own.x values) (x_of inner)) n) func.pure) (add_turned (y_of inner) (first_of own.y values))
+
+    module _ (funcs : Planes)
+        (agree : Agree wanted (placed store_of.corners (put_loops place inner counters) (reads_of inputs funcs)) (pure_points pipeline schedule wanted place func (across inner) (down inner))) where
+      abbrev found : Reads
+      found = placed store_of.corners (put_loops place inner counters) (reads_of inputs funcs)
+
+      abbrev stored : ℕ → ℕ → ℕ
+      stored a b = inlined (valuing found) (flagged (flags_of schedule.standings)) pipeline.funcs place (variable (at_point a b)) func.pure
+
+      pub does : step inner funcs ≡ put points place (x_of inner) (y_of inner) (plane (x_of inner) (y_of inner)) funcs
+      does =
+          store_of.stores points inputs (put_loops place inner counters) funcs
+          ∙ put_same points place funcs (λ a b. stored (word.add a (linear_value (put_loops place inner counters) store_of.corner.x)) (word.add b (linear_value (put_loops place inner counters) store_of.corner.y)))
+          (whole_at (put_loops place inner counters) place variables.FirstArgument) (x_of inner) (whole_at (put_loops place inner counters) place variables.SecondArgument) (y_of inner) at_x at_y
+          ∙ ap (λ (n : ℕ). put points place (x_of inner) (y_of inner) (stored (word.add (x_of inner) n) (word.add (y_of inner) (linear_value (put_loops place inner counters) store_of.corner.y))) funcs) corner_x
+          ∙ ap (λ (n : ℕ). put points place (x_of inner) (y_of inner) (stored (across inner) (word.add (y_of inner) n)) funcs) corner_y
+          ∙ ap (λ (n : ℕ). put points place (x_of inner) (y_of inner) n funcs)
+          (value_is pipeline schedule boxes rules accepted is placed_at place func plan own here at inputs found (across inner) (down inner) agree ∙ pure_is)
+
+    module _ (Ready : Planes → Type 0) (stays : (funcs after : Planes) → Keeps place funcs after → Ready funcs → Ready after)
+        (agrees : (funcs : Planes) → Ready funcs → Agree wanted (placed store_of.corners (put_loops place inner counters) (reads_of inputs funcs)) (pure_points pipeline schedule wanted place func (across inner) (down inner))) where
+      pub writes : Writes points place plane Ready stays x_of y_of step inner
+      writes = record {
+        there = point_there pipeline schedule boxes rules accepted is placed_at place func plan own here at (x_of inner) (y_of inner) parts.0 parts.1;
+        does = λ funcs ready. does funcs (agrees funcs ready);
+      }

@@ -1,0 +1,12 @@
+use Rattle.std.proofs.Common.{ℕ, subst}
+use Rattle.lowering.specs.Hosting.{DoesNests}
+use Rattle.lowering.proofs.hosting.stage_nests.Goals as goal
+
+pub returns : goal.returns
+returns c = record {
+  func = c.args.func.now;
+  plan = c.args.plan.now;
+  own = c.args.own.now;
+  parts = c.requires.parts;
+  does = subst (λ (n : ℕ). DoesNests c.args.pipeline.now c.args.schedule.now c.args.boxes.now c.args.at c.args.place c.args.func.now c.args.own.now n c.in_ok-made.made) c.len-count.ensures c.in_ok-made.ensures;
+}

@@ -1,0 +1,41 @@
+use Rattle.std.proofs.Common.{List, subst, sym}
+use Rattle.schedule_lines.specs.declared.stages.Loop.{Loop}
+use Rattle.schedule_lines.specs.declared.stages.Split.{Split}
+use Rattle.stage_loops.specs.Counts.{AreSplits}
+use Rattle.bounds.specs.Views.{extents_of}
+use Rattle.schedule.specs.declared.standings.Place.TheVariants as places
+use Rattle.stage_loops.specs.declared.extents.Extents.{Extents}
+use Rattle.stage_loops.specs.Reach.{wholes}
+use Rattle.nest_lowering.specs.Nests.{AreFew, Repeats}
+use Rattle.lowering.proofs.Facts.{is_box, splits, few, hosted_before}
+use Rattle.lowering.proofs.Filling.{fills}
+use Rattle.lowering.proofs.nests.pure_nest.Goals as goal
+
+-- src/nests.rt:76:9
+pub extents_of-extents-requires : goal.extents_of-extents-requires
+extents_of-extents-requires c =
+    is_box c.args.pipeline.now c.args.schedule.now c.args.boxes.now c.args.place c.args.func.now c.args.plan.now c.args.own.now c.requires.accepted c.requires.boxes (places.At c.args.at)
+    (hosted_before c.args.pipeline.now c.args.schedule.now c.requires.accepted c.args.place c.requires.parts.standing c.requires.parts.there c.args.at c.requires.parts.placed_is) c.requires.parts
+
+-- src/nests.rt:78:16
+pub with_nest-requires-clause-splits : goal.with_nest-requires-clause-splits
+with_nest-requires-clause-splits c =
+    subst AreSplits (sym c.as_slice.ensures)
+    (splits c.args.pipeline.now c.args.schedule.now c.args.boxes.now c.args.place c.args.func.now c.args.plan.now c.args.own.now c.requires.accepted c.requires.boxes (places.At c.args.at)
+    (hosted_before c.args.pipeline.now c.args.schedule.now c.requires.accepted c.args.place c.requires.parts.standing c.requires.parts.there c.args.at c.requires.parts.placed_is) c.requires.parts)
+
+-- src/nests.rt:78:16
+pub with_nest-requires-clause-few : goal.with_nest-requires-clause-few
+with_nest-requires-clause-few c =
+    subst AreFew (sym c.extents_of-extents.ensures)
+    (few c.args.pipeline.now c.args.schedule.now c.args.boxes.now c.args.place c.args.func.now c.args.plan.now c.args.own.now c.requires.accepted c.requires.boxes (places.At c.args.at)
+    (hosted_before c.args.pipeline.now c.args.schedule.now c.requires.accepted c.args.place c.requires.parts.standing c.requires.parts.there c.args.at c.requires.parts.placed_is) c.requires.parts)
+
+-- src/nests.rt:59:1
+pub returns : goal.returns
+returns c =
+    fills c.args.pipeline.now c.args.schedule.now c.args.boxes.now c.store_of.ensures.rules c.requires.accepted c.requires.boxes c.args.at c.args.place c.args.func.now c.args.plan.now c.args.own.now c.requires.parts
+    c.in_ok-store.store c.in_ok-store.ensures.stores c.in_ok-made.made
+    (subst (λ (l : List Loop). Repeats c.args.place c.in_ok-made.made c.in_ok-store.store (wholes (extents_of c.args.own.now) c.args.plan.now.pure.splits l)) c.as_slice-2.ensures
+    (subst (λ (l : List Split). Repeats c.args.place c.in_ok-made.made c.in_ok-store.store (wholes (extents_of c.args.own.now) l c.as_slice-2.result.now)) c.as_slice.ensures
+    (subst (λ (e : Extents). Repeats c.args.place c.in_ok-made.made c.in_ok-store.store (wholes e c.as_slice.result.now c.as_slice-2.result.now)) c.extents_of-extents.ensures c.in_ok-made.ensures)))

@@ -1,0 +1,8 @@
+use Rattle.std.proofs.Common.{◌≡◌, ℕ, List, [], subst, sym, ◌∙◌, ap}
+use Rattle.lowering.specs.Lowered.{AreLowered, No_func}
+use Rattle.lowering.proofs.Lowered.{nothing_lowered}
+use Rattle.lowering.proofs.phases.+lower_first.Goals as goal
+
+pub returns-then-count-eq0 : goal.returns-then-count-eq0
+returns-then-count-eq0 t c =
+    nothing_lowered c.args.pipeline.now c.args.schedule.now c.args.boxes.now c.args.count c.new.result.items c.if-count-eq0.true c.new.ensures.items

@@ -1,0 +1,15 @@
+use Rattle.std.proofs.Common.{suc, ap, arith}
+use Rattle.lowering.proofs.Lowered.{nothing_yet, stages_so}
+use Rattle.lowering.proofs.phases.+with_stages.Goals as goal
+use Rattle.lowering.proofs.phases.+with_stages.Goals.{in-None, in-Some+in_ok-before-in-Some}
+
+pub returns : goal.returns
+returns t c =
+    c.in_ok-phases.ensures c.args.others.items
+    (elim c.match-checked_sub.branch [
+      | in-None w ↦
+          nothing_yet c.args.pipeline.now c.args.schedule.now c.args.boxes.now c.args.place c.args.func.now c.args.plan.now c.args.own.now c.args.others.items c.match-checked_sub.before.items c.args.last (omega (arith, w.in-None.ensures)) (ap (λ v. v.items) w.before-is)
+      | in-Some+in_ok-before-in-Some w ↦
+          stages_so c.args.pipeline.now c.args.schedule.now c.args.boxes.now c.args.place c.args.func.now c.args.plan.now c.args.own.now c.args.others.items w.in_ok-before-in-Some.before.items c.match-checked_sub.before.items
+          (suc w.in-Some.before) c.args.last w.in_ok-before-in-Some.ensures (omega (arith, w.in-Some.ensures)) (ap (λ v. v.items) w.before-is)
+    ])

@@ -1,0 +1,15 @@
+use Rattle.std.proofs.Common.{◌≡◌, ℕ, List, length, subst}
+use Rattle.halide_pipeline.specs.declared.definitions.Func.{Func}
+use Rattle.lowering.specs.Lowered.{AreLowered}
+use Rattle.lowering.proofs.Lowered.{phases_do_pixels, phases_leave_output}
+use Rattle.lowering.proofs.phases.lower.Goals as goal
+
+pub returns-clause-pixels : goal.returns-clause-pixels
+returns-clause-pixels c =
+    phases_do_pixels c.args.pipeline.now c.args.schedule.now c.args.boxes.now c.requires.accepted c.requires.boxes c.in_ok-phases.phases.items
+    (subst (λ (l : List Func). AreLowered c.args.pipeline.now c.args.schedule.now c.args.boxes.now (length l) c.in_ok-phases.phases.items) c.funcs-count.ensures.value c.in_ok-phases.ensures)
+
+pub returns-clause-output : goal.returns-clause-output
+returns-clause-output c =
+    phases_leave_output c.args.pipeline.now c.args.schedule.now c.args.boxes.now c.funcs-count.ensures.rules c.requires.accepted c.requires.boxes c.in_ok-phases.phases.items
+    (subst (λ (l : List Func). AreLowered c.args.pipeline.now c.args.schedule.now c.args.boxes.now (length l) c.in_ok-phases.phases.items) c.funcs-count.ensures.value c.in_ok-phases.ensures)

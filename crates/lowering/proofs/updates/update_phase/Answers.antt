@@ -1,0 +1,55 @@
+use Rattle.std.proofs.Common.{sym, ap, subst, ◌∙◌}
+use Rattle.schedule.specs.declared.standings.Place.{Place}
+use Rattle.stage_loops.specs.declared.extents.Extents.{Extents}
+use Rattle.stage_loops.specs.Iterations as iterations
+use Rattle.stage_loops.specs.Reach.{wholes}
+use Rattle.box_laws.specs.Laws.{IsComputed}
+use Rattle.nest_lowering.specs.Nests.{AreFew, Repeats}
+use Rattle.lowering.specs.PurePhases as pure
+use Rattle.lowering.proofs.RootFacts.{is_box}
+use Rattle.lowering.proofs.UpdateStages.{splits, few, place_small}
+use Rattle.lowering.proofs.UpdateTasks.{does_update}
+use Rattle.lowering.proofs.updates.update_phase.Goals as goal
+
+-- src/updates.rt:120:9
+pub update_extents-extents-requires : goal.update_extents-extents-requires
+update_extents-extents-requires c =
+    is_box c.args.pipeline.now c.args.schedule.now c.args.boxes.now c.args.place c.args.of.now.func.now c.args.of.now.plan.now c.args.of.now.own.now c.requires.accepted c.requires.boxes c.requires.root
+
+-- src/updates.rt:121:17
+pub root_store-requires : goal.root_store-requires
+root_store-requires c = place_small c.args.pipeline.now c.inputs.ensures.rules c.args.place c.args.of.now.func.now c.requires.root.func_is
+
+-- src/updates.rt:122:16
+pub body_of-requires-clause-splits : goal.body_of-requires-clause-splits
+body_of-requires-clause-splits c =
+    splits c.args.pipeline.now c.args.schedule.now c.requires.accepted c.args.place c.args.of.now.func.now c.args.of.now.plan.now c.requires.root.standing c.requires.root.func_is c.requires.root.there
+    c.args.of.now.at c.args.of.now.update.now c.args.of.now.stage.now c.requires.at
+
+-- src/updates.rt:122:16
+pub body_of-requires-clause-few : goal.body_of-requires-clause-few
+body_of-requires-clause-few c =
+    subst AreFew (sym c.update_extents-extents.ensures)
+    (few c.args.pipeline.now c.args.schedule.now c.args.boxes.now c.inputs.ensures.rules c.requires.accepted c.requires.boxes c.args.place c.args.of.now.func.now c.args.of.now.own.now c.requires.root.func_is c.requires.root.box_is
+    c.args.of.now.at c.args.of.now.update.now c.requires.at.update_is c.requires.root.standing c.requires.root.there (subst (λ (p : Place). IsComputed c.args.place p) (sym c.requires.root.placed_is) tt))
+
+-- src/updates.rt:123:17
+pub task_count-requires : goal.task_count-requires
+task_count-requires c =
+    splits c.args.pipeline.now c.args.schedule.now c.requires.accepted c.args.place c.args.of.now.func.now c.args.of.now.plan.now c.requires.root.standing c.requires.root.func_is c.requires.root.there
+    c.args.of.now.at c.args.of.now.update.now c.args.of.now.stage.now c.requires.at
+
+-- src/updates.rt:102:1
+pub returns-clause-tasks : goal.returns-clause-tasks
+returns-clause-tasks c = c.in_ok-tasks.ensures ∙ ap (λ (e : Extents). iterations.iteration_count e c.args.of.now.stage.now) c.update_extents-extents.ensures
+
+-- src/updates.rt:102:1
+pub returns-clause-does : goal.returns-clause-does
+returns-clause-does c = λ inputs begun.
+    does_update c.args.pipeline.now c.args.schedule.now c.args.boxes.now c.inputs.ensures.rules c.requires.accepted c.requires.boxes c.args.place c.args.of.now.func.now c.args.of.now.plan.now c.args.of.now.own.now c.requires.root
+    c.args.of.now.at c.args.of.now.update.now c.args.of.now.stage.now c.requires.at c.in_ok-store.store c.in_ok-store.ensures
+    (record { tasks = c.in_ok-tasks.tasks; counter = c.task_counter-counter.result; body = c.in_ok-body.body; private = c.new-private.result; bytes = c.in_ok-bytes.bytes })
+    (c.in_ok-tasks.ensures ∙ ap (λ (e : Extents). iterations.iteration_count e c.args.of.now.stage.now) c.update_extents-extents.ensures)
+    c.task_counter-counter.ensures
+    (subst (λ (e : Extents). Repeats c.args.place c.in_ok-body.body c.in_ok-store.store (wholes e c.args.of.now.stage.now.splits (pure.inside_of (iterations.parallel c.args.of.now.stage.now) c.args.of.now.stage.now.loops))) c.update_extents-extents.ensures c.in_ok-body.ensures)
+    inputs begun

@@ -1,0 +1,158 @@
+-- Nests of Funcs that are computed at the loops of a host.
+--
+-- At the beginning of each turn of a loop stand the nests of the Funcs that are computed at it, in order of the text. Each fills the Func's
+-- buffer, which begins at the corner of its box in that turn. The loops of the host alone have turns there.
+-- This project's own.
+use Rattle.std.specs.Prelude.{◌≡◌, ◌<◌, ℕ, suc, ◌≤◌, List, [], ◌∷◌, ◌++◌, length, Option, Some, None, slice_get, false}
+use Rattle.std.specs.List.{AllByRecursion}
+use Rattle.halide_pipeline.specs.declared.definitions.Func.{Func}
+use Rattle.halide_pipeline.specs.declared.definitions.Update.{Update}
+use Rattle.halide_pipeline.specs.declared.expressions.Source.TheVariants as sources
+use Rattle.halide_pipeline.specs.Pipelines.{Pipeline}
+use Rattle.halide_pipeline.specs.Words as word
+use Rattle.halide_meaning.specs.Pixel.{Plane, Planes, reads_of, with_plane, points, stage, pixels}
+use Rattle.reads.specs.Points.{Agree}
+use Rattle.schedule_lines.specs.declared.stages.Loop.{Loop}
+use Rattle.schedule_lines.specs.declared.stages.LoopId.{LoopId}
+use Rattle.schedule_lines.specs.declared.stages.Stage.{Stage}
+use Rattle.schedule.specs.declared.plans.FuncPlan.{FuncPlan}
+use Rattle.schedule.specs.declared.schedules.Schedule.{Schedule}
+use Rattle.schedule.specs.declared.standings.LoopPlace.{LoopPlace}
+use Rattle.schedule.specs.declared.standings.Place.TheVariants as places
+use Rattle.stage_loops.specs.declared.extents.Extents.{Extents}
+use Rattle.stage_loops.specs.Counts as loops
+use Rattle.stage_loops.specs.Iterations.{parallel}
+use Rattle.stage_loops.specs.Reach.{wholes}
+use Rattle.ranges.specs.Laws.{Below, AnswerWords}
+use Rattle.bounds.specs.declared.boxes.SourceBox.{SourceBox}
+use Rattle.bounds.specs.declared.verdict.Boxes.{Boxes}
+use Rattle.bounds.specs.Boxes.{extent}
+use Rattle.bounds.specs.Sources.{same_source}
+use Rattle.box_laws.specs.Laws.{LiesIn, pure_points, update_points}
+use Rattle.loop_ir.specs.declared.statements.Stmt.{Stmt}
+use Rattle.loop_ir.specs.Buffers.{Points}
+use Rattle.loop_ir.specs.Counters.{Values, no_values, with}
+use Rattle.loop_ir.specs.Running.{run, turns}
+use Rattle.nest_lowering.specs.Nests.{loops_of, put_loops, Repeats}
+use Rattle.expression_lowering.specs.declared.calls.Corner.{Corner}
+use Rattle.expression_lowering.specs.Lowering.{placed}
+use Rattle.lowering.specs.Corners.{first_of, turns_for, AreCorners}
+use Rattle.lowering.specs.Planes.{box_points}
+use Rattle.lowering.specs.PurePhases.{IsComputedAt, inside_of}
+
+-- ---- what a nest does
+
+-- The loops of the host alone are in these turns.
+abbrev pub hosting : ℕ → loops.Values → Values
+hosting host turns = put_loops host turns no_values
+
+-- The buffer of a Func has these pixels from the corner of its box on, while loops have these values.
+abbrev pub Holds : ℕ → SourceBox → List ℕ → Plane → Planes → Type 0
+Holds place own values plane funcs =
+    (x y : ℕ) → x < extent own.x → y < extent own.y → funcs place x y ≡ plane (word.add (first_of own.x values) x) (word.add (first_of own.y values) y)
+
+-- All other buffers are as they were.
+abbrev pub Keeps : ℕ → Planes → Planes → Type 0
+Keeps place funcs after = (other x y : ℕ) → (other ≡ place → ⊥) → after other x y ≡ funcs other x y
+
+pub record Leaves (place : ℕ) (own : SourceBox) (values : List ℕ) (plane : Plane) (funcs after : Planes) : Type 0 where
+  pub holds : Holds place own values plane after
+  pub keeps : Keeps place funcs after
+
+abbrev pub run_first : Points → Planes → Option Stmt → Values → Planes → Planes
+run_first points inputs None values funcs = funcs
+run_first points inputs (Some first) values funcs = run points inputs first values funcs
+
+-- A statement does this first, and then another one.
+abbrev pub DoesFirst : Option Stmt → Stmt → Stmt → Type 0
+DoesFirst found rest made = (points : Points) (inputs : Planes) (values : Values) (funcs : Planes)
+    → run points inputs made values funcs ≡ run points inputs rest values (run_first points inputs found values funcs)
+
+-- It does another one in so many turns of a loop.
+abbrev pub DoesTurns : ℕ → LoopId → ℕ → Stmt → Stmt → Type 0
+DoesTurns host id count body made = (points : Points) (inputs : Planes) (values : Values) (funcs : Planes)
+    → run points inputs made values funcs ≡ turns count (λ turn. run points inputs body (with (record { func = host; id = id }) turn values)) funcs
+
+module _ (pipeline : Pipeline) (schedule : Schedule) (boxes : Boxes) where
+  -- What the pure definition reads of other Funcs, wherever its arguments lie in its box, is answered as by their pixels, while the loops
+  -- of the host stand so, and whatever its own buffer holds.
+  abbrev pub IsAnswered : ℕ → ℕ → Func → SourceBox → List ℕ → Planes → loops.Values → Planes → Type 0
+  IsAnswered host place func own values inputs turned funcs =
+      (corners : List Corner) → AreCorners schedule.funcs boxes.funcs schedule.standings corners
+      → (counters : Values) → loops_of host counters ≡ turned → (now : Planes) → Keeps place funcs now
+      → (x y : ℕ) → LiesIn values own x y
+      → Agree (reads_of inputs (pixels pipeline.funcs inputs place)) (placed corners counters (reads_of inputs now))
+      (pure_points pipeline schedule (reads_of inputs (pixels pipeline.funcs inputs place)) place func x y)
+
+  -- What its updates read of other Funcs, wherever its arguments lie in its box, is answered so too.
+  abbrev pub AreUpdatesAnswered : ℕ → ℕ → Func → SourceBox → List ℕ → Planes → loops.Values → Planes → Type 0
+  AreUpdatesAnswered host place func own values inputs turned funcs =
+      (corners : List Corner) → AreCorners schedule.funcs boxes.funcs schedule.standings corners
+      → (counters : Values) → loops_of host counters ≡ turned → (now : Planes) → Keeps place funcs now
+      → (at : ℕ) (update : Update) → slice_get func.updates at ≡ Some update → (number x y : ℕ) → number < points update → LiesIn values own x y
+      → (plane : Plane) → AnswerWords pipeline.inputs (reads_of inputs (with_plane place plane (pixels pipeline.funcs inputs place)))
+      → AllByRecursion
+      (λ point. same_source point.source (sources.Func place) ≡ false
+      → placed corners counters (reads_of inputs now) point.source point.x point.y ≡ reads_of inputs (pixels pipeline.funcs inputs place) point.source point.x point.y)
+      (update_points pipeline schedule (reads_of inputs (with_plane place plane (pixels pipeline.funcs inputs place))) place update number x y)
+
+  -- The nest leaves what stands after the stages up to the one with this number in the whole box of the Func, and keeps all else. Where
+  -- the box begins hangs on the turns of the host's loops.
+  abbrev pub DoesNest : LoopPlace → ℕ → Func → SourceBox → ℕ → Stmt → Type 0
+  DoesNest at place func own number made =
+      (inputs : Planes) (turned : loops.Values) → Below (turns_for schedule.funcs (places.At at) (hosting at.func turned)) own.lasts
+      → (funcs : Planes) → IsAnswered at.func place func own (turns_for schedule.funcs (places.At at) (hosting at.func turned)) inputs turned funcs
+      → Leaves place own (turns_for schedule.funcs (places.At at) (hosting at.func turned)) (stage place func inputs (pixels pipeline.funcs inputs place) number)
+      funcs (run (box_points boxes.funcs) inputs made (hosting at.func turned) funcs)
+
+  -- So it is for inputs of words, where what updates read is answered too.
+  abbrev pub DoesNests : LoopPlace → ℕ → Func → SourceBox → ℕ → Stmt → Type 0
+  DoesNests at place func own number made =
+      (inputs : Planes) → AnswerWords pipeline.inputs (reads_of inputs (pixels pipeline.funcs inputs 0))
+      → (turned : loops.Values) → Below (turns_for schedule.funcs (places.At at) (hosting at.func turned)) own.lasts
+      → (funcs : Planes) → IsAnswered at.func place func own (turns_for schedule.funcs (places.At at) (hosting at.func turned)) inputs turned funcs
+      → AreUpdatesAnswered at.func place func own (turns_for schedule.funcs (places.At at) (hosting at.func turned)) inputs turned funcs
+      → Leaves place own (turns_for schedule.funcs (places.At at) (hosting at.func turned)) (stage place func inputs (pixels pipeline.funcs inputs place) number)
+      funcs (run (box_points boxes.funcs) inputs made (hosting at.func turned) funcs)
+
+  -- ---- nests at the beginning of a turn
+
+  -- A Func that is computed at the loop, and the nests of all its stages.
+  pub record IsNestOf (at : LoopPlace) (place : ℕ) (made : Stmt) : Type 0 where
+    pub func : Func
+    pub plan : FuncPlan
+    pub own : SourceBox
+    pub parts : IsComputedAt pipeline schedule boxes (places.At at) place func plan own
+    pub does : DoesNests at place func own (length func.updates) made
+
+  -- There are some exactly if it is computed there.
+  abbrev pub IsNestAt : LoopPlace → ℕ → Option Stmt → Type 0
+  IsNestAt at place None = (func : Func) (plan : FuncPlan) (own : SourceBox) → IsComputedAt pipeline schedule boxes (places.At at) place func plan own → ⊥
+  IsNestAt at place (Some made) = IsNestOf at place made
+
+  -- The nests of the Funcs from a place on that are computed at a loop, in order, and then what stands inside.
+  pub data HasNests (at : LoopPlace) : ℕ → Stmt → Stmt → Type 0 where
+    None_left : (from : ℕ) (inside : Stmt) → length schedule.standings ≤ from → HasNests at from inside inside
+    One_more : (from : ℕ) (found : Option Stmt) (inside rest made : Stmt) → IsNestAt at from found → HasNests at (suc from) inside rest
+        → DoesFirst found rest made → HasNests at from inside made
+
+  -- ---- loops
+
+  -- Loops of a host, innermost first, around a statement, with the nests of the Funcs that are computed at each of them.
+  pub data HasLoops (host : ℕ) (counts : loops.Values) (leaf : Stmt) : List Loop → Stmt → Type 0 where
+    No_loops : HasLoops host counts leaf [] leaf
+    One_outside : (inside : List Loop) (own : Loop) (inner body made : Stmt) → HasLoops host counts leaf inside inner
+        → HasNests (record { func = host; inside = own.id }) 0 inner body → DoesTurns host own.id (counts own.id) body made
+        → HasLoops host counts leaf (inside ++ own ∷ []) made
+
+  -- What a task does: the loops inside the parallel one, and before them the nests of the Funcs that are computed at the parallel one.
+  abbrev pub HasOutermost : ℕ → Option Loop → Stmt → Stmt → Type 0
+  HasOutermost host None inner body = body ≡ inner
+  HasOutermost host (Some own) inner body = HasNests (record { func = host; inside = own.id }) 0 inner body
+
+  pub record IsBody (host : ℕ) (stage : Stage) (extents : Extents) (store body : Stmt) : Type 0 where
+    pub leaf : Stmt
+    pub inner : Stmt
+    pub bound : Repeats host leaf store (wholes extents stage.splits [])
+    pub looped : HasLoops host (loops.counts extents stage.splits) leaf (inside_of (parallel stage) stage.loops) inner
+    pub begun : HasOutermost host (parallel stage) inner body

@@ -1,0 +1,108 @@
+-- The phases of a pipeline under a schedule: one for each stage of each Func that is computed at root and that the output reaches, in order
+-- of the text. They leave the pipeline's pixels.
+-- This project's own.
+use Rattle.std.specs.Prelude.{◌≡◌, ◌<◌, ℕ, zero, suc, Bool, true, List, [], ◌∷◌, ◌++◌, map, length, slice_get, Option, Some, None, Ok}
+use Rattle.halide_pipeline.specs.declared.definitions.Func.{Func}
+use Rattle.halide_pipeline.specs.declared.definitions.Update.{Update}
+use Rattle.halide_pipeline.specs.Pipelines.{Pipeline}
+use Rattle.halide_pipeline.specs.WellFormed.{IsWellFormed}
+use Rattle.halide_pipeline.specs.Words as word
+use Rattle.halide_meaning.specs.Pixel.{Planes, reads_of, pixels}
+use Rattle.schedule_lines.specs.declared.stages.Stage.{Stage}
+use Rattle.schedule.specs.declared.plans.FuncPlan.{FuncPlan}
+use Rattle.schedule.specs.declared.schedules.Schedule.{Schedule}
+use Rattle.schedule.specs.Accepted.{IsAccepted}
+use Rattle.stage_loops.specs.Iterations.{iteration_count}
+use Rattle.ranges.specs.Laws.{AnswerWords}
+use Rattle.bounds.specs.declared.boxes.SourceBox.{SourceBox}
+use Rattle.bounds.specs.declared.verdict.Boxes.{Boxes}
+use Rattle.bounds.specs.Boxes.{box_in}
+use Rattle.bounds.specs.Verdict.{inferred}
+use Rattle.bounds.specs.Views.{extents_of}
+use Rattle.loop_ir.specs.declared.statements.Phase.{Phase}
+use Rattle.loop_ir.specs.Running.{run_task}
+use Rattle.lowering.specs.Order.{Tasks, DoneInOrder, DoPhases, AgreeThere}
+use Rattle.lowering.specs.HostedFuncs.{hosted_from}
+use Rattle.lowering.specs.Planes.{corner_of, held, box_points, owns}
+use Rattle.lowering.specs.PurePhases.{IsAtRoot, byte_places}
+use Rattle.lowering.specs.Stages.{is_private, DoesStage}
+use Rattle.lowering.specs.Updates.{IsUpdateAt, update_extents, owns_update}
+
+-- ---- which phases there are
+
+module _ (pipeline : Pipeline) (schedule : Schedule) (boxes : Boxes) where
+  -- The phase of the stage with this number of a Func: how many tasks it has, which points each owns, which buffers are private and which
+  -- inputs are bytes.
+  pub data IsStagePhase (place : ℕ) (func : Func) (plan : FuncPlan) (own : SourceBox) : ℕ → Phase → Type 0 where
+    Pure : (phase : Phase) → phase.tasks ≡ iteration_count (extents_of own) plan.pure → phase.private ≡ hosted_from place 0 schedule.standings
+        → phase.bytes ≡ byte_places 0 pipeline.inputs
+        → DoesStage pipeline schedule boxes place func 0 (owns (extents_of own) plan.pure) phase → IsStagePhase place func plan own 0 phase
+    Updating : (at : ℕ) (update : Update) (stage : Stage) (phase : Phase) → IsUpdateAt schedule place func plan at update stage
+        → phase.tasks ≡ iteration_count (update_extents own update) stage → phase.private ≡ [] → phase.bytes ≡ byte_places 0 pipeline.inputs
+        → DoesStage pipeline schedule boxes place func (suc at) (owns_update own update stage) phase → IsStagePhase place func plan own (suc at) phase
+
+  -- There is one exactly if there is the stage.
+  abbrev pub IsStagePhaseIfThere : ℕ → Func → FuncPlan → SourceBox → ℕ → Option Phase → Type 0
+  IsStagePhaseIfThere place func plan own number None = length func.updates < number
+  IsStagePhaseIfThere place func plan own number (Some phase) = IsStagePhase place func plan own number phase
+
+  -- Behind other phases stand those of the first so many stages of a Func.
+  pub data ArePhasesOf (place : ℕ) (func : Func) (plan : FuncPlan) (own : SourceBox) (others : List Phase) : ℕ → List Phase → Type 0 where
+    None_yet : ArePhasesOf place func plan own others 0 others
+    One_more : (number : ℕ) (phases : List Phase) (phase : Phase) → ArePhasesOf place func plan own others number phases → IsStagePhase place func plan own number phase
+        → ArePhasesOf place func plan own others (suc number) (phases ++ phase ∷ [])
+
+  -- No phase is of this Func: the output doesn't reach it, or it isn't computed at root.
+  abbrev pub IsNotAtRoot : ℕ → Type 0
+  IsNotAtRoot place = (func : Func) (plan : FuncPlan) (own : SourceBox) → IsAtRoot pipeline schedule boxes place func plan own → ⊥
+
+  -- the phases of the first so many Funcs
+  pub data AreLowered : ℕ → List Phase → Type 0 where
+    No_func : AreLowered 0 []
+    Passed : (place : ℕ) (phases : List Phase) → AreLowered place phases → IsNotAtRoot place → AreLowered (suc place) phases
+    Computed : (place : ℕ) (before phases : List Phase) (func : Func) (plan : FuncPlan) (own : SourceBox) → AreLowered place before
+        → IsAtRoot pipeline schedule boxes place func plan own → ArePhasesOf place func plan own before (suc (length func.updates)) phases
+        → AreLowered (suc place) phases
+
+  -- ---- what they leave
+
+  abbrev pub tasks_of : Planes → Phase → Tasks
+  tasks_of inputs phase = record { count = phase.tasks; run = run_task (box_points boxes.funcs) inputs phase }
+
+  -- From buffers of zeros they come to the pixels of all Funcs, whatever order their tasks run in.
+  abbrev pub DoPixels : List Phase → Type 0
+  DoPixels phases = (inputs : Planes) → AnswerWords pipeline.inputs (reads_of inputs (pixels pipeline.funcs inputs 0))
+      → DoPhases (box_points boxes.funcs) (is_private schedule.standings) (map (tasks_of inputs) phases)
+      (held boxes.funcs (pixels pipeline.funcs inputs 0)) (held boxes.funcs (pixels pipeline.funcs inputs (length pipeline.funcs)))
+
+  -- where the output's buffer has a point of the picture
+  abbrev pub output_at : Planes → ℕ → ℕ → ℕ
+  output_at funcs x y =
+      funcs pipeline.output.func (word.subtract x (corner_of (box_in (slice_get boxes.funcs pipeline.output.func))).x)
+      (word.subtract y (corner_of (box_in (slice_get boxes.funcs pipeline.output.func))).y)
+
+  -- whether it has it
+  abbrev pub has_output_at : ℕ → ℕ → Bool
+  has_output_at x y =
+      box_points boxes.funcs pipeline.output.func (word.subtract x (corner_of (box_in (slice_get boxes.funcs pipeline.output.func))).x)
+      (word.subtract y (corner_of (box_in (slice_get boxes.funcs pipeline.output.func))).y)
+
+  -- Wherever the phases were done one after the other, the tasks of each in any order and whatever private buffers held before each, from
+  -- buffers of zeros, private ones apart, the output's buffer has each point of the picture and holds the output's pixels. (A phase asks for
+  -- zeros in the buffers of the Funcs behind its own, since those aren't its to write.)
+  abbrev pub LeaveOutput : List Phase → Type 0
+  LeaveOutput phases = (inputs : Planes) → AnswerWords pipeline.inputs (reads_of inputs (pixels pipeline.funcs inputs 0))
+      → (funcs after : Planes) → AgreeThere (box_points boxes.funcs) (is_private schedule.standings) funcs (λ place x y. 0)
+      → DoneInOrder (is_private schedule.standings) (map (tasks_of inputs) phases) funcs after
+      → (x y : ℕ) → x < pipeline.output.width → y < pipeline.output.height
+      → (has_output_at x y ≡ true) × (output_at after x y ≡ pixels pipeline.funcs inputs (length pipeline.funcs) pipeline.output.func x y)
+
+-- ---- laws
+
+abbrev pub PhasesDoPixels : Type 0
+PhasesDoPixels = (pipeline : Pipeline) (schedule : Schedule) (boxes : Boxes) → IsAccepted pipeline schedule → inferred pipeline schedule ≡ Ok boxes
+    → (phases : List Phase) → AreLowered pipeline schedule boxes (length pipeline.funcs) phases → DoPixels pipeline schedule boxes phases
+
+abbrev pub PhasesLeaveOutput : Type 0
+PhasesLeaveOutput = (pipeline : Pipeline) (schedule : Schedule) (boxes : Boxes) → IsWellFormed pipeline → IsAccepted pipeline schedule → inferred pipeline schedule ≡ Ok boxes
+    → (phases : List Phase) → AreLowered pipeline schedule boxes (length pipeline.funcs) phases → LeaveOutput pipeline schedule boxes phases

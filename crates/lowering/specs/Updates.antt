@@ -1,0 +1,183 @@
+-- Updates: the store of one, its phase where its Func is computed at root, and its loops where the Func is computed at a loop.
+--
+-- The loops of an update are over the arguments in place and over its reduction variables. A slice is what visits with the same
+-- arguments in place make: they go through the reduction box in order, and read and write the Func at those arguments alone.
+-- This project's own.
+use Rattle.std.specs.Prelude.{◌≡◌, ◌<◌, ℕ, suc, ◌&&◌, Bool, true, false, List, Option, Some, None, slice_get}
+use Rattle.std.specs.List.{AllByRecursion, list_any}
+use Rattle.halide_pipeline.specs.declared.definitions.Func.{Func}
+use Rattle.halide_pipeline.specs.declared.definitions.Reduction.{Reduction}
+use Rattle.halide_pipeline.specs.declared.definitions.Update.{Update}
+use Rattle.halide_pipeline.specs.declared.expressions.Expr.{Expr}
+use Rattle.halide_pipeline.specs.declared.expressions.Source.TheVariants as sources
+use Rattle.halide_pipeline.specs.declared.expressions.Variable.TheVariants as variables
+use Rattle.halide_pipeline.specs.Definitions.{is_first_in_place, is_second_in_place}
+use Rattle.halide_pipeline.specs.Pipelines.{Pipeline}
+use Rattle.halide_pipeline.specs.Words as word
+use Rattle.halide_meaning.specs.declared.environments.Environment.{Environment}
+use Rattle.halide_meaning.specs.Pixel.{Plane, Planes, variable, reads_of, with_plane, points, second_extent, stage, pixels}
+use Rattle.schedule_lines.specs.declared.stages.LoopId.{LoopId}
+use Rattle.schedule_lines.specs.declared.stages.Stage.{Stage}
+use Rattle.schedule.specs.declared.plans.FuncPlan.{FuncPlan}
+use Rattle.schedule.specs.declared.schedules.Schedule.{Schedule}
+use Rattle.schedule.specs.declared.standings.Place.TheVariants as places
+use Rattle.schedule.specs.declared.standings.Standing.{Standing}
+use Rattle.schedule.specs.Uses.{IsReached}
+use Rattle.stage_loops.specs.declared.extents.Extents.{Extents}
+use Rattle.stage_loops.specs.Counts as loops
+use Rattle.stage_loops.specs.Iterations.{iteration}
+use Rattle.stage_loops.specs.Visits.{Visit, is_slice}
+use Rattle.inlining.specs.Inlining.{inlined, flagged}
+use Rattle.inlining.specs.Values.{values as valuing}
+use Rattle.ranges.specs.Laws.{Below, AnswerWords}
+use Rattle.weights.specs.Weight.{flags_of}
+use Rattle.bounds.specs.declared.boxes.HostLoop.{HostLoop}
+use Rattle.bounds.specs.declared.boxes.SourceBox.{SourceBox}
+use Rattle.bounds.specs.declared.verdict.Boxes.{Boxes}
+use Rattle.bounds.specs.Boxes.{extent, lasts_of}
+use Rattle.bounds.specs.Sources.{same_source}
+use Rattle.box_laws.specs.HostLaws.{IsFrom}
+use Rattle.box_laws.specs.Laws.{LiesIn, values_for, host_in, IsComputed, update_points}
+use Rattle.loop_ir.specs.declared.statements.Stmt.{Stmt}
+use Rattle.loop_ir.specs.Buffers.{Points, put}
+use Rattle.loop_ir.specs.Counters.{Values}
+use Rattle.loop_ir.specs.Expressions.{linear_value}
+use Rattle.loop_ir.specs.Running.{run}
+use Rattle.nest_lowering.specs.Nests.{loops_of, put_loops}
+use Rattle.expression_lowering.specs.declared.calls.Corner.{Corner}
+use Rattle.expression_lowering.specs.Lowering.{placed}
+use Rattle.lowering.specs.Planes.{BoxCorner, from_corner, has_point, box_points}
+use Rattle.lowering.specs.Corners.{IsCorner, AreCorners}
+use Rattle.lowering.specs.PurePhases.{whole_at}
+
+-- ---- which update it is
+
+-- A Func that the output reaches and that is computed, with its loops and its box.
+pub record IsComputedIn (pipeline : Pipeline) (schedule : Schedule) (boxes : Boxes) (place : ℕ) (func : Func) (plan : FuncPlan) (own : SourceBox) : Type 0 where
+  pub func_is : slice_get pipeline.funcs place ≡ Some func
+  pub plan_is : slice_get schedule.funcs place ≡ Some plan
+  pub box_is : slice_get boxes.funcs place ≡ Some (Some own)
+  pub standing : Standing
+  pub there : IsReached schedule.standings place standing
+  pub computed : IsComputed place standing.place
+
+-- The update with this number, from 0, of the Func at a place, with its loops.
+pub record IsUpdateAt (schedule : Schedule) (place : ℕ) (func : Func) (plan : FuncPlan) (at : ℕ) (update : Update) (stage : Stage) : Type 0 where
+  pub plan_is : slice_get schedule.funcs place ≡ Some plan
+  pub update_is : slice_get func.updates at ≡ Some update
+  pub stage_is : slice_get plan.updates at ≡ Some stage
+
+-- ---- its store
+
+-- what the second reduction variable stands for, counted from its minimum
+abbrev pub second_reduced : Values → ℕ → Option Reduction → ℕ
+second_reduced values place None = 0
+second_reduced values place (Some own) = word.add (whole_at values place variables.SecondReduction) own.minimum
+
+-- what the variables stand for: arguments counted from the corner, reduction variables from their minimum
+abbrev pub visited_point : Values → ℕ → Corner → Update → Environment
+visited_point values place corner update = record {
+  first_argument = word.add (whole_at values place variables.FirstArgument) (linear_value values corner.x);
+  second_argument = word.add (whole_at values place variables.SecondArgument) (linear_value values corner.y);
+  first_reduction = word.add (whole_at values place variables.FirstReduction) update.first.minimum;
+  second_reduction = second_reduced values place update.second;
+}
+
+-- an index that isn't written is 0
+abbrev pub index_of : (Expr → ℕ) → Option Expr → ℕ
+index_of answer None = 0
+index_of answer (Some index) = answer index
+
+-- It writes the value of the right side at the point that the left side names, counted from the Func's corner.
+abbrev pub StoresUpdate : List Corner → (ℕ → Bool) → List Func → ℕ → Corner → Update → Stmt → Type 0
+StoresUpdate corners flags funcs place corner update made =
+    (points : Points) (inputs : Planes) (values : Values) (buffers : Planes)
+    → run points inputs made values buffers
+    ≡ put points place
+    (word.subtract (inlined (valuing (placed corners values (reads_of inputs buffers))) flags funcs place (variable (visited_point values place corner update)) update.left_x) (linear_value values corner.x))
+    (word.subtract (index_of (inlined (valuing (placed corners values (reads_of inputs buffers))) flags funcs place (variable (visited_point values place corner update))) update.left_y) (linear_value values corner.y))
+    (inlined (valuing (placed corners values (reads_of inputs buffers))) flags funcs (suc place) (variable (visited_point values place corner update)) update.right)
+    buffers
+
+-- It does so for an update of a Func with this box that is computed at root: each buffer begins at its box's corner.
+pub record IsUpdateStoreOf (pipeline : Pipeline) (schedule : Schedule) (boxes : Boxes) (place : ℕ) (own : SourceBox) (update : Update) (made : Stmt) : Type 0 where
+  pub corners : List Corner
+  pub are_corners : AreCorners schedule.funcs boxes.funcs schedule.standings corners
+  pub corner : Corner
+  pub is_corner : IsCorner schedule.funcs places.Root own corner
+  pub stores : StoresUpdate corners (flagged (flags_of schedule.standings)) pipeline.funcs place corner update made
+
+-- ---- slices
+
+-- how many values its variables take
+abbrev pub update_extents : SourceBox → Update → Extents
+update_extents own update = record {
+  first_argument = extent own.x;
+  second_argument = extent own.y;
+  first_reduction = update.first.extent;
+  second_reduction = second_extent update.second;
+}
+
+-- An argument in place tells slices apart; no loop is over any other, which stays 0.
+abbrev pub in_place : Bool → ℕ → ℕ
+in_place true n = n
+in_place false n = 0
+
+-- The slice of the visit has the point.
+abbrev pub is_visited : Update → ℕ → ℕ → Visit → Bool
+is_visited update x y visit = is_slice (in_place (is_first_in_place update) x) (in_place (is_second_in_place update) y) visit
+
+-- A task owns the points of the box in the slices that its iteration visits. Which of them it writes hangs on data.
+abbrev pub owns_update : SourceBox → Update → Stage → ℕ → ℕ → ℕ → Bool
+owns_update own update stage number x y = has_point (Some own) x y && list_any (is_visited update x y) (iteration (update_extents own update) stage number)
+
+-- ---- its loops, where the Func is computed at a loop
+
+-- Whatever loops of the Func stand at, its corner is this point.
+abbrev pub IsCornerAt : ℕ → Values → Corner → BoxCorner → Type 0
+IsCornerAt place values corner own = (inner : loops.Values)
+    → (linear_value (put_loops place inner values) corner.x ≡ own.x) × (linear_value (put_loops place inner values) corner.y ≡ own.y)
+
+-- The point is that of the box's corner, while loops of the host have these values.
+pub record IsBegin (values : List ℕ) (own : SourceBox) (corner : BoxCorner) : Type 0 where
+  pub x : IsFrom values own.x 0 corner.x
+  pub y : IsFrom values own.y 0 corner.y
+
+-- Wherever its loops take its arguments, an update reads other Funcs as by their pixels.
+abbrev pub ReadsPixels : Pipeline → Schedule → List Corner → ℕ → Update → List ℕ → SourceBox → Planes → Values → Planes → Type 0
+ReadsPixels pipeline schedule corners place update turns own inputs values funcs =
+    (inner : loops.Values) (number x y : ℕ) → number < points update → LiesIn turns own x y
+    → (plane : Plane) → AnswerWords pipeline.inputs (reads_of inputs (with_plane place plane (pixels pipeline.funcs inputs place)))
+    → AllByRecursion
+    (λ point. same_source point.source (sources.Func place) ≡ false
+    → placed corners (put_loops place inner values) (reads_of inputs funcs) point.source point.x point.y ≡ reads_of inputs (pixels pipeline.funcs inputs place) point.source point.x point.y)
+    (update_points pipeline schedule (reads_of inputs (with_plane place plane (pixels pipeline.funcs inputs place))) place update number x y)
+
+-- what stands after so many updates, from a corner on
+abbrev pub stage_from : Pipeline → Planes → ℕ → Func → BoxCorner → ℕ → Plane
+stage_from pipeline inputs place func corner updates = from_corner corner (stage place func inputs (pixels pipeline.funcs inputs place) updates)
+
+-- In the box of the Func there is this result, and all else is as it was.
+pub record Leaves (place : ℕ) (own : SourceBox) (result : Plane) (funcs after : Planes) : Type 0 where
+  pub does : (x y : ℕ) → has_point (Some own) x y ≡ true → after place x y ≡ result x y
+  pub keeps : (other x y : ℕ) → (other ≡ place → has_point (Some own) x y ≡ false) → after other x y ≡ funcs other x y
+
+-- the loop at which the Func is computed, if it is computed at one
+abbrev pub host_at : Schedule → Boxes → Standing → Option HostLoop
+host_at schedule boxes standing = host_in schedule boxes.funcs standing.place
+
+-- what loops of the host stand at, where there is a host
+abbrev pub hosted_turns : Schedule → Boxes → Standing → List ℕ → List ℕ
+hosted_turns schedule boxes standing turns = values_for (host_at schedule boxes standing) turns
+
+-- So it is under all values of loops, of which the Func's own haven't begun, wherever those of the host take the Func's box.
+abbrev pub DoesUpdate : Pipeline → Schedule → Boxes → List Corner → ℕ → Func → Corner → SourceBox → ℕ → Update → Stmt → Type 0
+DoesUpdate pipeline schedule boxes corners place func corner own at update made =
+    (inputs : Planes) → AnswerWords pipeline.inputs (reads_of inputs (pixels pipeline.funcs inputs 0))
+    → (standing : Standing) → IsReached schedule.standings place standing
+    → (turns : List ℕ) → Below (hosted_turns schedule boxes standing turns) (lasts_of (host_at schedule boxes standing))
+    → (begin : BoxCorner) → IsBegin (hosted_turns schedule boxes standing turns) own begin
+    → (values : Values) → IsCornerAt place values corner begin → ((id : LoopId) → loops_of place values id ≡ 0)
+    → (funcs : Planes) → ReadsPixels pipeline schedule corners place update (hosted_turns schedule boxes standing turns) own inputs values funcs
+    → ((x y : ℕ) → has_point (Some own) x y ≡ true → funcs place x y ≡ stage_from pipeline inputs place func begin at x y)
+    → Leaves place own (stage_from pipeline inputs place func begin (suc at)) funcs (run (box_points boxes.funcs) inputs made values funcs)

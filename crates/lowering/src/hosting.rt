@@ -1,0 +1,379 @@
+//! Loops of a host, with the nests of the Funcs that are computed at them.
+
+ghost use Rattle.std.specs.Prelude.{◌≡◌, ◌-◌, ◌<◌, ◌≤◌, ◌^◌, ◌+◌, ◌++◌, IfOk, Ok, OnOk, length, slice_get, suc};
+ghost use Rattle.std.specs.Option.{option_copied};
+ghost use Rattle.schedule.specs.Accepted.{IsAccepted};
+ghost use Rattle.schedule.specs.declared.standings.Place.TheVariants as places;
+ghost use Rattle.stage_loops.specs.Counts.{AreSplits, counts};
+ghost use Rattle.stage_loops.specs.Iterations.{parallel};
+ghost use Rattle.bounds.specs.Boxes.{box_in};
+ghost use Rattle.bounds.specs.Verdict.{inferred};
+ghost use Rattle.nest_lowering.specs.Nests.{AreFew};
+ghost use Rattle.lowering.specs.HostedFuncs as hosted;
+ghost use Rattle.lowering.specs.Hosting as spec;
+ghost use Rattle.lowering.specs.PurePhases.{IsComputedAt, inside_of};
+ghost use Rattle.lowering.specs.Updates.{IsUpdateAt};
+
+use crate::corners::{corner_at, corners_of};
+use crate::nests::pure_nest;
+use crate::updates::{UpdateOf, update_nest};
+use bounds::{Boxes, SourceBox};
+use halide_pipeline::{Func, Pipeline};
+use loop_ir::statements::Stmt;
+use nest_lowering::loops::loop_once;
+use nest_lowering::nests::with_nest;
+use schedule::{FuncPlan, LoopPlace, Place, Schedule, Standing};
+use schedule_lines::stages::same_id;
+use schedule_lines::{Loop, Stage};
+use sqlite_items::{Boxed, Items};
+use stage_loops::{Extents, LoopSizes};
+use std::alloc::{AllocError, Global};
+
+/// Whether the output reaches a Func that is computed at a loop of the host.
+fn is_hosted(host: usize, own: &Standing) -> bool
+    ensures { result ≡ hosted.is_hosted host own.now }
+{
+    own.is_reached
+        && match own.place {
+            Place::At(at) => at.func == host,
+            Place::Root => false,
+            Place::Inlined => false,
+            Place::Nowhere => false,
+        }
+}
+
+/// Adds the places of the Funcs that are computed at loops of the host, of those from a place on.
+fn add_hosted(
+    host: usize,
+    at: usize,
+    standings: &[Standing],
+    places: &mut Items<usize>,
+) -> Result<(), AllocError>
+    requires { at + length standings.now < 2 ^ 64 }
+    ensures { OnOk result (places.new ≡ places.old ++ hosted.hosted_from host at standings.now) }
+{
+    match standings {
+        [] => Ok(()),
+        [first, others @ ..] => {
+            if is_hosted(host, first) {
+                places.push(at)?;
+            }
+            add_hosted(host, at + 1, others, places)?;
+            Ok(())
+        }
+    }
+}
+
+/// The places of the Funcs that are computed at loops of the host, in order.
+///
+/// # Errors
+///
+/// Memory ran out.
+pub fn hosted_places(
+    alloc: Global,
+    host: usize,
+    standings: &[Standing],
+) -> Result<Items<usize>, AllocError>
+    ensures { IfOk result (λ places. places ≡ hosted.hosted_from host 0 standings.now) }
+{
+    let mut places = Items::new(alloc);
+    add_hosted(host, 0, standings, &mut places)?;
+    Ok(places)
+}
+
+/// Whether the output reaches a Func that is computed at this loop.
+fn is_computed_at(at: LoopPlace, own: &Standing) -> bool
+    ensures { result ≡ hosted.is_computed_at at own.now }
+{
+    own.is_reached
+        && match own.place {
+            Place::At(other) => other.func == at.func && same_id(other.inside, at.inside),
+            Place::Root => false,
+            Place::Inlined => false,
+            Place::Nowhere => false,
+        }
+}
+
+/// The box at a place, if there is one.
+pub(crate) fn box_at(boxes: &[Option<SourceBox>], place: usize) -> Option<&SourceBox>
+    ensures { option_copied result ≡ box_in (slice_get boxes.now place) }
+{
+    match boxes.get(place) {
+        Some(Some(own)) => Some(own),
+        _ => None,
+    }
+}
+
+/// The nest of an update of a Func that is computed at a loop, behind the nests of the stages before it.
+fn with_update(
+    alloc: Global,
+    pipeline: &Pipeline,
+    schedule: &Schedule,
+    boxes: &Boxes,
+    at: LoopPlace,
+    place: usize,
+    of: &UpdateOf<'_>,
+    before: Stmt,
+) -> Result<Stmt, AllocError>
+    requires accepted { IsAccepted pipeline.now schedule.now }
+    requires boxes { inferred pipeline.now schedule.now ≡ Ok boxes.now }
+    requires parts { IsComputedAt pipeline.now schedule.now boxes.now (places.At at) place of.now.func.now of.now.plan.now of.now.own.now }
+    requires update { IsUpdateAt schedule.now place of.now.func.now of.now.plan.now of.now.at of.now.update.now of.now.stage.now }
+    requires before { spec.DoesNests pipeline.now schedule.now boxes.now at place of.now.func.now of.now.own.now of.now.at before }
+    ensures { IfOk result (spec.DoesNests pipeline.now schedule.now boxes.now at place of.now.func.now of.now.own.now (suc of.now.at)) }
+{
+    let plans = schedule.funcs.as_slice();
+    let standings = schedule.standings.as_slice();
+    let corners = corners_of(alloc, plans, boxes.funcs.as_slice(), standings)?;
+    let Some(corner) = corner_at(&corners, place) else {
+        return Ok(before);
+    };
+    let next = update_nest(
+        alloc, pipeline, schedule, boxes, &corners, place, corner, of,
+    )?;
+    let made = in_order(alloc, Some(before), next)?;
+    Ok(made)
+}
+
+/// The nests of the pure definition and the first so many updates of a Func that is computed at a loop, one after the
+/// other.
+fn nests_upto(
+    alloc: Global,
+    pipeline: &Pipeline,
+    schedule: &Schedule,
+    boxes: &Boxes,
+    at: LoopPlace,
+    place: usize,
+    func: &Func,
+    plan: &FuncPlan,
+    own: &SourceBox,
+    count: usize,
+) -> Result<Stmt, AllocError>
+    requires accepted { IsAccepted pipeline.now schedule.now }
+    requires boxes { inferred pipeline.now schedule.now ≡ Ok boxes.now }
+    requires parts { IsComputedAt pipeline.now schedule.now boxes.now (places.At at) place func.now plan.now own.now }
+    requires count { count ≤ length func.now.updates }
+    ensures { IfOk result (spec.DoesNests pipeline.now schedule.now boxes.now at place func.now own.now count) }
+{
+    let Some(number) = count.checked_sub(1) else {
+        let made = pure_nest(alloc, pipeline, schedule, boxes, at, place, func, plan, own)?;
+        return Ok(made);
+    };
+    let before = nests_upto(
+        alloc, pipeline, schedule, boxes, at, place, func, plan, own, number,
+    )?;
+    let Some(update) = func.updates.get(number) else {
+        return Ok(before);
+    };
+    let Some(stage) = plan.updates.get(number) else {
+        return Ok(before);
+    };
+    let of = UpdateOf {
+        func,
+        plan,
+        own,
+        at: number,
+        update,
+        stage,
+    };
+    let made = with_update(alloc, pipeline, schedule, boxes, at, place, &of, before)?;
+    Ok(made)
+}
+
+/// The nests of the stages of a Func that is computed at a loop, one after the other.
+fn stage_nests(
+    alloc: Global,
+    pipeline: &Pipeline,
+    schedule: &Schedule,
+    boxes: &Boxes,
+    at: LoopPlace,
+    place: usize,
+    func: &Func,
+    plan: &FuncPlan,
+    own: &SourceBox,
+) -> Result<Stmt, AllocError>
+    requires accepted { IsAccepted pipeline.now schedule.now }
+    requires boxes { inferred pipeline.now schedule.now ≡ Ok boxes.now }
+    requires parts { IsComputedAt pipeline.now schedule.now boxes.now (places.At at) place func.now plan.now own.now }
+    ensures { IfOk result (λ made. spec.IsNestOf pipeline.now schedule.now boxes.now at place made) }
+{
+    let count = func.updates.len();
+    let made = nests_upto(
+        alloc, pipeline, schedule, boxes, at, place, func, plan, own, count,
+    )?;
+    Ok(made)
+}
+
+/// The nests of the Func at a place, if it is computed at this loop.
+fn nests_of(
+    alloc: Global,
+    pipeline: &Pipeline,
+    schedule: &Schedule,
+    boxes: &Boxes,
+    at: LoopPlace,
+    place: usize,
+) -> Result<Option<Stmt>, AllocError>
+    requires accepted { IsAccepted pipeline.now schedule.now }
+    requires boxes { inferred pipeline.now schedule.now ≡ Ok boxes.now }
+    ensures { IfOk result (spec.IsNestAt pipeline.now schedule.now boxes.now at place) }
+{
+    let Some(standing) = schedule.standing(place) else {
+        return Ok(None);
+    };
+    if !is_computed_at(at, standing) {
+        return Ok(None);
+    }
+    let Some(func) = pipeline.func(place) else {
+        return Ok(None);
+    };
+    let Some(plan) = schedule.funcs.get(place) else {
+        return Ok(None);
+    };
+    let Some(own) = box_at(boxes.funcs.as_slice(), place) else {
+        return Ok(None);
+    };
+    let made = stage_nests(alloc, pipeline, schedule, boxes, at, place, func, plan, own)?;
+    Ok(Some(made))
+}
+
+/// A statement and then another one; the other alone, if there is none first.
+fn in_order(alloc: Global, first: Option<Stmt>, rest: Stmt) -> Result<Stmt, AllocError>
+    ensures { IfOk result (spec.DoesFirst first rest) }
+{
+    match first {
+        None => Ok(rest),
+        Some(first) => {
+            let first = Boxed::new(alloc, first)?;
+            let rest = Boxed::new(alloc, rest)?;
+            Ok(Stmt::Sequence(first, rest))
+        }
+    }
+}
+
+/// The nests of the Funcs from a place on that are computed at a loop, in order, and then what stands inside.
+fn nests_before(
+    alloc: Global,
+    pipeline: &Pipeline,
+    schedule: &Schedule,
+    boxes: &Boxes,
+    at: LoopPlace,
+    from: usize,
+    inside: Stmt,
+) -> Result<Stmt, AllocError>
+    requires accepted { IsAccepted pipeline.now schedule.now }
+    requires boxes { inferred pipeline.now schedule.now ≡ Ok boxes.now }
+    ensures { IfOk result (λ made. spec.HasNests pipeline.now schedule.now boxes.now at from inside made) }
+{
+    if schedule.standings.len() <= from {
+        return Ok(inside);
+    }
+    let rest = nests_before(alloc, pipeline, schedule, boxes, at, from + 1, inside)?;
+    let found = nests_of(alloc, pipeline, schedule, boxes, at, from)?;
+    let made = in_order(alloc, found, rest)?;
+    Ok(made)
+}
+
+/// Loops of a host, the innermost first, around a statement, in each of them first the nests of the Funcs that are
+/// computed at it.
+fn loops_around(
+    alloc: Global,
+    pipeline: &Pipeline,
+    schedule: &Schedule,
+    boxes: &Boxes,
+    host: usize,
+    sizes: &LoopSizes,
+    loops: &[Loop],
+    leaf: Stmt,
+) -> Result<Stmt, AllocError>
+    requires accepted { IsAccepted pipeline.now schedule.now }
+    requires boxes { inferred pipeline.now schedule.now ≡ Ok boxes.now }
+    requires splits { AreSplits sizes.now.splits }
+    requires few { AreFew sizes.now.extents }
+    ensures { IfOk result (λ made. spec.HasLoops pipeline.now schedule.now boxes.now host (counts sizes.now.extents sizes.now.splits) leaf loops.now made) }
+{
+    match loops {
+        [] => Ok(leaf),
+        [inside @ .., own] => {
+            let inner = loops_around(alloc, pipeline, schedule, boxes, host, sizes, inside, leaf)?;
+            let at = LoopPlace {
+                func: host,
+                inside: own.id,
+            };
+            let body = nests_before(alloc, pipeline, schedule, boxes, at, 0, inner)?;
+            let made = loop_once(alloc, host, sizes, own, body)?;
+            Ok(made)
+        }
+    }
+}
+
+/// The loops inside the parallel one, which is the outermost, where there is one.
+pub(crate) fn inside_parallel(stage: &Stage) -> &[Loop]
+    ensures { result.now ≡ inside_of (parallel stage.now) stage.now.loops }
+{
+    let loops = stage.loops.as_slice();
+    match stage.parallel() {
+        None => loops,
+        Some(_) => {
+            let (inside, _) = loops.split_at(loops.len().saturating_sub(1));
+            inside
+        }
+    }
+}
+
+/// First the nests of the Funcs that are computed at the parallel loop, where there is one.
+fn outermost(
+    alloc: Global,
+    pipeline: &Pipeline,
+    schedule: &Schedule,
+    boxes: &Boxes,
+    host: usize,
+    stage: &Stage,
+    inner: Stmt,
+) -> Result<Stmt, AllocError>
+    requires accepted { IsAccepted pipeline.now schedule.now }
+    requires boxes { inferred pipeline.now schedule.now ≡ Ok boxes.now }
+    ensures { IfOk result (λ made. spec.HasOutermost pipeline.now schedule.now boxes.now host (parallel stage.now) inner made) }
+{
+    match stage.parallel() {
+        None => Ok(inner),
+        Some(own) => {
+            let at = LoopPlace {
+                func: host,
+                inside: own.id,
+            };
+            let made = nests_before(alloc, pipeline, schedule, boxes, at, 0, inner)?;
+            Ok(made)
+        }
+    }
+}
+
+/// What each task of a stage of a host does: the store under the loops inside the parallel one, with the nests of the
+/// Funcs that are computed at them.
+///
+/// # Errors
+///
+/// Memory ran out.
+pub fn body_of(
+    alloc: Global,
+    pipeline: &Pipeline,
+    schedule: &Schedule,
+    boxes: &Boxes,
+    host: usize,
+    stage: &Stage,
+    extents: Extents,
+    store: Stmt,
+) -> Result<Stmt, AllocError>
+    requires accepted { IsAccepted pipeline.now schedule.now }
+    requires boxes { inferred pipeline.now schedule.now ≡ Ok boxes.now }
+    requires splits { AreSplits stage.now.splits }
+    requires few { AreFew extents }
+    ensures { IfOk result (λ made. spec.IsBody pipeline.now schedule.now boxes.now host stage.now extents store made) }
+{
+    let splits = stage.splits.as_slice();
+    let sizes = LoopSizes::new(alloc, extents, splits)?;
+    let leaf = with_nest(alloc, host, extents, splits, &[], store)?;
+    let inside = inside_parallel(stage);
+    let inner = loops_around(alloc, pipeline, schedule, boxes, host, &sizes, inside, leaf)?;
+    let made = outermost(alloc, pipeline, schedule, boxes, host, stage, inner)?;
+    Ok(made)
+}

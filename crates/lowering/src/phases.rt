@@ -1,0 +1,200 @@
+//! The phases of a pipeline.
+
+ghost use Rattle.std.specs.Prelude.{◌≡◌, ◌≤◌, List, IfOk, Ok, length, suc};
+ghost use Rattle.schedule.specs.Accepted.{IsAccepted};
+ghost use Rattle.bounds.specs.Verdict.{inferred};
+ghost use Rattle.loop_ir.specs.declared.statements.Phase.{Phase as MadePhase};
+ghost use Rattle.lowering.specs.Lowered as spec;
+ghost use Rattle.lowering.specs.PurePhases.{IsAtRoot};
+
+use crate::hosting::box_at;
+use crate::pure_phases::{is_at_root, pure_phase};
+use crate::updates::{UpdateOf, update_phase};
+use bounds::{Boxes, SourceBox};
+use halide_pipeline::{Func, Pipeline};
+use loop_ir::statements::Phase;
+use schedule::{FuncPlan, Schedule};
+use std::alloc::{AllocError, Global};
+
+/// The phase of the stage with this number of a Func that is computed at root, if it has that stage.
+fn stage_phase(
+    alloc: Global,
+    pipeline: &Pipeline,
+    schedule: &Schedule,
+    boxes: &Boxes,
+    place: usize,
+    func: &Func,
+    plan: &FuncPlan,
+    own: &SourceBox,
+    number: usize,
+) -> Result<Option<Phase>, AllocError>
+    requires accepted { IsAccepted pipeline.now schedule.now }
+    requires boxes { inferred pipeline.now schedule.now ≡ Ok boxes.now }
+    requires at { IsAtRoot pipeline.now schedule.now boxes.now place func.now plan.now own.now }
+    ensures { IfOk result (spec.IsStagePhaseIfThere pipeline.now schedule.now boxes.now place func.now plan.now own.now number) }
+{
+    let Some(at) = number.checked_sub(1) else {
+        let phase = pure_phase(alloc, pipeline, schedule, boxes, place, func, plan, own)?;
+        return Ok(Some(phase));
+    };
+    let Some(update) = func.updates.get(at) else {
+        return Ok(None);
+    };
+    let Some(stage) = plan.updates.get(at) else {
+        return Ok(None);
+    };
+    let of = UpdateOf {
+        func,
+        plan,
+        own,
+        at,
+        update,
+        stage,
+    };
+    let phase = update_phase(alloc, pipeline, schedule, boxes, place, &of)?;
+    Ok(Some(phase))
+}
+
+/// Puts the phase of a stage of a Func that is computed at root behind those of the stages before it.
+fn with_stage(
+    alloc: Global,
+    pipeline: &Pipeline,
+    schedule: &Schedule,
+    boxes: &Boxes,
+    place: usize,
+    func: &Func,
+    plan: &FuncPlan,
+    own: &SourceBox,
+    number: usize,
+    before: Vec<Phase>,
+) -> Result<Vec<Phase>, AllocError>
+    requires accepted { IsAccepted pipeline.now schedule.now }
+    requires boxes { inferred pipeline.now schedule.now ≡ Ok boxes.now }
+    requires at { IsAtRoot pipeline.now schedule.now boxes.now place func.now plan.now own.now }
+    requires number { number ≤ length func.now.updates }
+    ensures { IfOk result (λ made. (others : List MadePhase) → spec.ArePhasesOf pipeline.now schedule.now boxes.now place func.now plan.now own.now others number before.items
+        → spec.ArePhasesOf pipeline.now schedule.now boxes.now place func.now plan.now own.now others (suc number) made.items) }
+{
+    let found = stage_phase(
+        alloc, pipeline, schedule, boxes, place, func, plan, own, number,
+    )?;
+    let Some(phase) = found else {
+        return Ok(before);
+    };
+    let mut phases = before;
+    phases.push(phase)?;
+    Ok(phases)
+}
+
+/// Puts the phases of the stages of a Func that is computed at root, up to the one with this number, behind others.
+fn with_stages(
+    alloc: Global,
+    pipeline: &Pipeline,
+    schedule: &Schedule,
+    boxes: &Boxes,
+    place: usize,
+    func: &Func,
+    plan: &FuncPlan,
+    own: &SourceBox,
+    last: usize,
+    others: Vec<Phase>,
+) -> Result<Vec<Phase>, AllocError>
+    requires accepted { IsAccepted pipeline.now schedule.now }
+    requires boxes { inferred pipeline.now schedule.now ≡ Ok boxes.now }
+    requires at { IsAtRoot pipeline.now schedule.now boxes.now place func.now plan.now own.now }
+    requires last { last ≤ length func.now.updates }
+    ensures { IfOk result (λ phases. spec.ArePhasesOf pipeline.now schedule.now boxes.now place func.now plan.now own.now others.items (suc last) phases.items) }
+{
+    let before = match last.checked_sub(1) {
+        None => others,
+        Some(before) => with_stages(
+            alloc, pipeline, schedule, boxes, place, func, plan, own, before, others,
+        )?,
+    };
+    let phases = with_stage(
+        alloc, pipeline, schedule, boxes, place, func, plan, own, last, before,
+    )?;
+    Ok(phases)
+}
+
+/// Puts the phases of the Func at a place behind those of the Funcs before it.
+fn with_func(
+    alloc: Global,
+    pipeline: &Pipeline,
+    schedule: &Schedule,
+    boxes: &Boxes,
+    place: usize,
+    others: Vec<Phase>,
+) -> Result<Vec<Phase>, AllocError>
+    requires accepted { IsAccepted pipeline.now schedule.now }
+    requires boxes { inferred pipeline.now schedule.now ≡ Ok boxes.now }
+    requires others { spec.AreLowered pipeline.now schedule.now boxes.now place others.items }
+    ensures { IfOk result (λ phases. spec.AreLowered pipeline.now schedule.now boxes.now (suc place) phases.items) }
+{
+    let Some(standing) = schedule.standing(place) else {
+        return Ok(others);
+    };
+    if !is_at_root(standing) {
+        return Ok(others);
+    }
+    let Some(func) = pipeline.func(place) else {
+        return Ok(others);
+    };
+    let Some(plan) = schedule.funcs.get(place) else {
+        return Ok(others);
+    };
+    let Some(own) = box_at(boxes.funcs.as_slice(), place) else {
+        return Ok(others);
+    };
+    let last = func.updates.len();
+    let phases = with_stages(
+        alloc, pipeline, schedule, boxes, place, func, plan, own, last, others,
+    )?;
+    Ok(phases)
+}
+
+/// The phases of the first so many Funcs.
+fn lower_first(
+    alloc: Global,
+    pipeline: &Pipeline,
+    schedule: &Schedule,
+    boxes: &Boxes,
+    count: usize,
+) -> Result<Vec<Phase>, AllocError>
+    requires accepted { IsAccepted pipeline.now schedule.now }
+    requires boxes { inferred pipeline.now schedule.now ≡ Ok boxes.now }
+    ensures { IfOk result (λ phases. spec.AreLowered pipeline.now schedule.now boxes.now count phases.items) }
+{
+    if count == 0 {
+        return Ok(Vec::new(alloc));
+    }
+    let before = lower_first(alloc, pipeline, schedule, boxes, count - 1)?;
+    let phases = with_func(alloc, pipeline, schedule, boxes, count - 1, before)?;
+    Ok(phases)
+}
+
+/// The phases of a pipeline: one for each stage of each Func that is computed at root and that the output reaches, in order
+/// of the text; its tasks are the iterations of the stage's parallel loop, or one.
+///
+/// Done one after the other from buffers of zeros, the tasks of each in any order and whatever private buffers hold
+/// before each, they leave the output's pixels (`specs/Lowered.antt`).
+///
+/// # Errors
+///
+/// Memory ran out.
+pub fn lower(
+    alloc: Global,
+    pipeline: &Pipeline,
+    schedule: &Schedule,
+    boxes: &Boxes,
+) -> Result<Vec<Phase>, AllocError>
+    requires accepted { IsAccepted pipeline.now schedule.now }
+    requires boxes { inferred pipeline.now schedule.now ≡ Ok boxes.now }
+    ensures phases { IfOk result (λ phases. spec.AreLowered pipeline.now schedule.now boxes.now (length pipeline.now.funcs) phases.items) }
+    ensures pixels { IfOk result (λ phases. spec.DoPixels pipeline.now schedule.now boxes.now phases.items) }
+    ensures output { IfOk result (λ phases. spec.LeaveOutput pipeline.now schedule.now boxes.now phases.items) }
+{
+    let count = pipeline.funcs().len();
+    let phases = lower_first(alloc, pipeline, schedule, boxes, count)?;
+    Ok(phases)
+}

@@ -1,0 +1,145 @@
+//! Stores of updates at the points where loops stand.
+
+ghost use Rattle.std.specs.Prelude.{◌≡◌, ◌+◌, ◌<◌, ◌^◌, IfOk, List};
+ghost use Rattle.halide_pipeline.specs.Words as word;
+ghost use Rattle.halide_meaning.specs.Pixel.{Reads, variable as variable_in};
+ghost use Rattle.inlining.specs.Inlining.{flagged, inlined};
+ghost use Rattle.inlining.specs.Values.{values as valuing};
+ghost use Rattle.loop_ir.specs.Counters.{Values};
+ghost use Rattle.loop_ir.specs.Expressions.{linear_value, value};
+ghost use Rattle.expression_lowering.specs.Lowering.{environment, placed};
+ghost use Rattle.lowering.specs.Updates as spec;
+
+use crate::stores::whole_of;
+use expression_lowering::calls::counted_from;
+use expression_lowering::{Arguments, Corner, lowered};
+use halide_pipeline::{Expr, Func, Reduction, Update, Variable};
+use loop_ir::expressions as terms;
+use loop_ir::expressions::Linear;
+use loop_ir::statements::{Stmt, Store};
+use std::alloc::{AllocError, Global};
+
+/// The sum of two.
+fn plus(alloc: Global, own: Linear, other: &Linear) -> Result<Linear, AllocError>
+    ensures { IfOk result (λ made. (values : Values) → linear_value values made ≡ word.add (linear_value values own) (linear_value values other.now)) }
+{
+    let opposite = Linear::of_number(alloc, 0).minus(other)?;
+    let made = own.minus(&opposite)?;
+    Ok(made)
+}
+
+/// What stands for a second reduction variable of an update of the Func at a place, where there is one.
+fn second_of(alloc: Global, place: usize, second: &Option<Reduction>) -> Result<Linear, AllocError>
+    ensures { IfOk result (λ made. (values : Values) → linear_value values made ≡ spec.second_reduced values place second.now) }
+{
+    match second {
+        None => Ok(Linear::of_number(alloc, 0)),
+        Some(reduction) => {
+            let whole = whole_of(alloc, place, Variable::SecondReduction)?;
+            Ok(whole.plus_number(reduction.minimum))
+        }
+    }
+}
+
+/// What stands for the variables of an update of the Func at a place: its arguments, counted from its corner, and the
+/// reduction variables, from their minimum.
+fn arguments_of(
+    alloc: Global,
+    place: usize,
+    corner: &Corner,
+    update: &Update,
+) -> Result<Arguments, AllocError>
+    ensures { IfOk result (λ made. (values : Values) → environment values made ≡ spec.visited_point values place corner.now update.now) }
+{
+    let across = whole_of(alloc, place, Variable::FirstArgument)?;
+    let down = whole_of(alloc, place, Variable::SecondArgument)?;
+    let first_argument = plus(alloc, across, &corner.x)?;
+    let second_argument = plus(alloc, down, &corner.y)?;
+    let first = whole_of(alloc, place, Variable::FirstReduction)?;
+    let first_reduction = first.plus_number(update.first.minimum);
+    let second_reduction = second_of(alloc, place, &update.second)?;
+    Ok(Arguments {
+        first_argument,
+        second_argument,
+        first_reduction,
+        second_reduction,
+    })
+}
+
+/// What a second index comes to, 0 where none is written.
+fn second_index(
+    alloc: Global,
+    funcs: &[Func],
+    flags: &[bool],
+    place: usize,
+    corners: &[Corner],
+    arguments: &Arguments,
+    index: &Option<Expr>,
+) -> Result<terms::Expr, AllocError>
+    ensures { IfOk result (λ made. (reads : Reads) (values : Values) → value reads values made
+        ≡ spec.index_of (inlined (valuing (placed corners.now values reads)) (flagged flags.now) funcs.now place (variable_in (environment values arguments.now))) index.now) }
+{
+    match index {
+        None => Ok(terms::Expr::Number(0)),
+        Some(index) => {
+            let made = lowered(alloc, funcs, flags, place, corners, arguments, index)?;
+            Ok(made)
+        }
+    }
+}
+
+/// The store of an update of the Func at a place, where the loops over whole variables stand: at the point that its left
+/// side names, counted from the Func's corner.
+///
+/// # Errors
+///
+/// Memory ran out.
+pub fn update_store(
+    alloc: Global,
+    funcs: &[Func],
+    flags: &[bool],
+    corners: &[Corner],
+    place: usize,
+    corner: &Corner,
+    update: &Update,
+) -> Result<Stmt, AllocError>
+    requires { place + 1 < 2 ^ 64 }
+    ensures { IfOk result (λ made. spec.StoresUpdate corners.now (flagged flags.now) funcs.now place corner.now update.now made) }
+{
+    let arguments = arguments_of(alloc, place, corner, update)?;
+    let column = lowered(
+        alloc,
+        funcs,
+        flags,
+        place,
+        corners,
+        &arguments,
+        &update.left_x,
+    )?;
+    let row = second_index(
+        alloc,
+        funcs,
+        flags,
+        place,
+        corners,
+        &arguments,
+        &update.left_y,
+    )?;
+    let value = lowered(
+        alloc,
+        funcs,
+        flags,
+        place + 1,
+        corners,
+        &arguments,
+        &update.right,
+    )?;
+    let x = counted_from(alloc, column, &corner.x)?;
+    let y = counted_from(alloc, row, &corner.y)?;
+    Ok(Stmt::Store(Store {
+        func: place,
+        x,
+        y,
+        value,
+    }))
+}

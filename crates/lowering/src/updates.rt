@@ -1,0 +1,240 @@
+//! Phases of updates, and their loops where the Func is computed at a loop.
+
+ghost use Rattle.std.specs.Prelude.{◌≡◌, ◌+◌, ◌<◌, ◌^◌, [], IfOk, Ok, Some, slice_get, suc};
+ghost use Rattle.halide_meaning.specs.Pixel as meaning;
+ghost use Rattle.schedule.specs.Accepted.{IsAccepted};
+ghost use Rattle.stage_loops.specs.Counts.{AreSplits};
+ghost use Rattle.stage_loops.specs.Iterations as iterations;
+ghost use Rattle.stage_loops.specs.Reach.{wholes};
+ghost use Rattle.inlining.specs.Inlining.{flagged};
+ghost use Rattle.weights.specs.Weight.{flags_of};
+ghost use Rattle.bounds.specs.Boxes.{IsBox};
+ghost use Rattle.bounds.specs.Verdict.{inferred};
+ghost use Rattle.nest_lowering.specs.Nests.{AreFew, Repeats};
+ghost use Rattle.lowering.specs.PurePhases as pure;
+ghost use Rattle.lowering.specs.Stages.{DoesStage};
+ghost use Rattle.lowering.specs.Updates as spec;
+
+use crate::corners::{corner_of, corners_of};
+use crate::hosting::inside_parallel;
+use crate::pure_phases::{byte_inputs, task_count, task_counter};
+use crate::update_stores::update_store;
+use bounds::boxes::extents_of;
+use bounds::{Boxes, SourceBox};
+use expression_lowering::Corner;
+use halide_pipeline::{Func, Pipeline, Reduction, Update};
+use loop_ir::statements::{Phase, Stmt};
+use nest_lowering::nests::with_nest;
+use schedule::{FuncPlan, Place, Schedule};
+use schedule_lines::Stage;
+use sqlite_items::Items;
+use stage_loops::Extents;
+use std::alloc::{AllocError, Global};
+use weights::weighing::inlined_flags;
+
+/// An update of a Func that is computed, with the Func's box and the update's loops.
+#[derive(Clone, Copy)]
+pub struct UpdateOf<'a> {
+    pub func: &'a Func,
+    pub plan: &'a FuncPlan,
+    pub own: &'a SourceBox,
+    /// Its number, from 0.
+    pub at: usize,
+    pub update: &'a Update,
+    pub stage: &'a Stage,
+}
+
+/// How many values a second reduction variable takes, if there is one.
+fn second_extent(second: &Option<Reduction>) -> u32
+    ensures { result ≡ meaning.second_extent second.now }
+{
+    match second {
+        None => 1,
+        Some(reduction) => reduction.extent,
+    }
+}
+
+/// How many values the variables of an update take in a box.
+fn update_extents(own: &SourceBox, update: &Update) -> Extents
+    requires { IsBox own.now }
+    ensures { result ≡ spec.update_extents own.now update.now }
+{
+    let pure = extents_of(own);
+    Extents {
+        first_argument: pure.first_argument,
+        second_argument: pure.second_argument,
+        first_reduction: update.first.extent,
+        second_reduction: second_extent(&update.second),
+    }
+}
+
+/// The store of an update of the Func at a place, where the schedule's inlined Funcs are put in place.
+fn store_at(
+    alloc: Global,
+    pipeline: &Pipeline,
+    schedule: &Schedule,
+    corners: &[Corner],
+    place: usize,
+    corner: &Corner,
+    update: &Update,
+) -> Result<Stmt, AllocError>
+    requires { place + 1 < 2 ^ 64 }
+    ensures { IfOk result (λ made. spec.StoresUpdate corners.now (flagged (flags_of schedule.now.standings)) pipeline.now.funcs place corner.now update.now made) }
+{
+    let flags = inlined_flags(alloc, schedule.standings.as_slice())?;
+    let made = update_store(
+        alloc,
+        pipeline.funcs(),
+        flags.as_slice(),
+        corners,
+        place,
+        corner,
+        update,
+    )?;
+    Ok(made)
+}
+
+/// The store of an update of the Func at a place that is computed at root.
+fn root_store(
+    alloc: Global,
+    pipeline: &Pipeline,
+    schedule: &Schedule,
+    boxes: &Boxes,
+    place: usize,
+    own: &SourceBox,
+    update: &Update,
+) -> Result<Stmt, AllocError>
+    requires { place + 1 < 2 ^ 64 }
+    ensures { IfOk result (λ made. spec.IsUpdateStoreOf pipeline.now schedule.now boxes.now place own.now update.now made) }
+{
+    let plans = schedule.funcs.as_slice();
+    let standings = schedule.standings.as_slice();
+    let corners = corners_of(alloc, plans, boxes.funcs.as_slice(), standings)?;
+    let corner = corner_of(alloc, plans, Place::Root, own)?;
+    let made = store_at(
+        alloc,
+        pipeline,
+        schedule,
+        corners.as_slice(),
+        place,
+        &corner,
+        update,
+    )?;
+    Ok(made)
+}
+
+/// The store under the loops inside the parallel one.
+fn body_of(
+    alloc: Global,
+    place: usize,
+    stage: &Stage,
+    extents: Extents,
+    store: Stmt,
+) -> Result<Stmt, AllocError>
+    requires splits { AreSplits stage.now.splits }
+    requires few { AreFew extents }
+    ensures { IfOk result (λ made. Repeats place made store (wholes extents stage.now.splits (pure.inside_of (iterations.parallel stage.now) stage.now.loops))) }
+{
+    let splits = stage.splits.as_slice();
+    let made = with_nest(alloc, place, extents, splits, inside_parallel(stage), store)?;
+    Ok(made)
+}
+
+/// All loops of a stage around a store.
+fn nest_of(
+    alloc: Global,
+    place: usize,
+    stage: &Stage,
+    extents: Extents,
+    store: Stmt,
+) -> Result<Stmt, AllocError>
+    requires splits { AreSplits stage.now.splits }
+    requires few { AreFew extents }
+    ensures { IfOk result (λ made. Repeats place made store (wholes extents stage.now.splits stage.now.loops)) }
+{
+    let made = with_nest(
+        alloc,
+        place,
+        extents,
+        stage.splits.as_slice(),
+        stage.loops.as_slice(),
+        store,
+    )?;
+    Ok(made)
+}
+
+/// The phase of an update of the Func at a place that is computed at root: each task makes what the loops inside the
+/// parallel one visit.
+///
+/// From buffers that hold what stands after the stages before it, its tasks leave what stands after it
+/// (`specs/Stages.antt`). A task owns the points of the box in the slices that it visits (`specs/Updates.antt`).
+///
+/// # Errors
+///
+/// Memory ran out.
+pub fn update_phase(
+    alloc: Global,
+    pipeline: &Pipeline,
+    schedule: &Schedule,
+    boxes: &Boxes,
+    place: usize,
+    of: &UpdateOf<'_>,
+) -> Result<Phase, AllocError>
+    requires accepted { IsAccepted pipeline.now schedule.now }
+    requires boxes { inferred pipeline.now schedule.now ≡ Ok boxes.now }
+    requires root { pure.IsAtRoot pipeline.now schedule.now boxes.now place of.now.func.now of.now.plan.now of.now.own.now }
+    requires at { spec.IsUpdateAt schedule.now place of.now.func.now of.now.plan.now of.now.at of.now.update.now of.now.stage.now }
+    ensures tasks { IfOk result (λ phase. phase.tasks ≡ iterations.iteration_count (spec.update_extents of.now.own.now of.now.update.now) of.now.stage.now) }
+    ensures private { IfOk result (λ phase. phase.private ≡ []) }
+    ensures bytes { IfOk result (λ phase. phase.bytes ≡ pure.byte_places 0 pipeline.now.inputs) }
+    ensures does { IfOk result (DoesStage pipeline.now schedule.now boxes.now place of.now.func.now (suc of.now.at) (spec.owns_update of.now.own.now of.now.update.now of.now.stage.now)) }
+{
+    let bytes = byte_inputs(alloc, pipeline.inputs())?;
+    let extents = update_extents(of.own, of.update);
+    let store = root_store(alloc, pipeline, schedule, boxes, place, of.own, of.update)?;
+    let body = body_of(alloc, place, of.stage, extents, store)?;
+    let tasks = task_count(alloc, of.stage, extents)?;
+    let counter = task_counter(place, of.stage);
+    let private = Items::new(alloc);
+    Ok(Phase {
+        tasks,
+        counter,
+        body,
+        private,
+        bytes,
+    })
+}
+
+/// All loops of an update of the Func at a place around its store, where the Func is computed at a loop of another one:
+/// reads are counted from the corners, and its own points from its corner.
+///
+/// From buffers that hold what stands before it in the Func's box, it leaves there what stands after it, wherever loops
+/// of the other Func take the box (`specs/Updates.antt`).
+///
+/// # Errors
+///
+/// Memory ran out.
+pub fn update_nest(
+    alloc: Global,
+    pipeline: &Pipeline,
+    schedule: &Schedule,
+    boxes: &Boxes,
+    corners: &[Corner],
+    place: usize,
+    corner: &Corner,
+    of: &UpdateOf<'_>,
+) -> Result<Stmt, AllocError>
+    requires accepted { IsAccepted pipeline.now schedule.now }
+    requires boxes { inferred pipeline.now schedule.now ≡ Ok boxes.now }
+    requires computed { spec.IsComputedIn pipeline.now schedule.now boxes.now place of.now.func.now of.now.plan.now of.now.own.now }
+    requires at { spec.IsUpdateAt schedule.now place of.now.func.now of.now.plan.now of.now.at of.now.update.now of.now.stage.now }
+    requires corner { slice_get corners.now place ≡ Some corner.now }
+    ensures { IfOk result (spec.DoesUpdate pipeline.now schedule.now boxes.now corners.now place of.now.func.now corner.now of.now.own.now of.now.at of.now.update.now) }
+{
+    // What every pipeline keeps is known once its parts are read.
+    let _funcs = pipeline.funcs();
+    let store = store_at(alloc, pipeline, schedule, corners, place, corner, of.update)?;
+    let extents = update_extents(of.own, of.update);
+    let made = nest_of(alloc, place, of.stage, extents, store)?;
+    Ok(made)
+}
