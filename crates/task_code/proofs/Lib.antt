@@ -1,0 +1,9 @@
+pub mod Addresses
+pub mod Emission
+pub mod Evaluation
+pub mod Nests
+pub mod Numbers
+pub mod Quotients
+pub mod Seats
+pub mod Spelling
+pub mod Values

@@ -1,0 +1,5 @@
+use Rattle.task_code.proofs.Spelling.{emits_then}
+use Rattle.task_code.proofs.statements.emit_bind.Goals as goal
+
+pub returns : goal.returns
+returns c = λ is x. emits_then c.in_ok-emit_whole.ensures (c.in_ok-emit_guarded.ensures is x)

@@ -1,0 +1,11 @@
+use Rattle.std.proofs.Common.{◌≡◌, ◌+◌, ◌++◌, length, subst}
+use Rattle.task_code.specs.Code.{test}
+use Rattle.task_code.specs.Words.{Emits}
+use Rattle.task_code.proofs.Spelling.{emits_then, emits-apart, emits-length}
+use Rattle.task_code.proofs.statements.emit_guarded.Goals as goal
+
+pub returns : goal.returns
+returns c = λ is x.
+    let e : length c.args.body.now ≡ length is = emits-length c.args.body.now is x in
+    subst (λ k. Emits c.args.code.now.items c.append.new.code.items (test c.args.r c.args.extent (k + 1) ++ is)) e
+    (emits_then c.in_ok-emit_test.ensures (emits-apart _ _ _ is x c.in_ok-append.ensures))

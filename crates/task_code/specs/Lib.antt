@@ -1,0 +1,4 @@
+pub mod Code
+pub mod Evaluation
+pub mod Values
+pub mod Words

@@ -1,0 +1,19 @@
+//! Laws of code, each the contract of a function that does nothing.
+
+ghost use Rattle.task_code.specs.Evaluation.{ExpressionsLeave};
+ghost use Rattle.task_code.specs.Values.{LiteralsLeave, OperationsLeave, QuotientsLeave, RemaindersLeave, SelectionsLeave};
+
+/// Straight code leaves what operations make of words, wherever it stands, and keeps the registers below.
+pub fn values_are_left()
+    ensures literals { LiteralsLeave }
+    ensures operations { OperationsLeave }
+    ensures selections { SelectionsLeave }
+    ensures quotients { QuotientsLeave }
+    ensures remainders { RemaindersLeave }
+{}
+
+/// The code of an expression leaves its value, wherever it stands, where registers hold the counters' values and memory what is
+/// loaded.
+pub fn expressions_are_evaluated()
+    ensures { ExpressionsLeave }
+{}

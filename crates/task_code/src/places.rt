@@ -1,0 +1,34 @@
+//! Where buffers lie in memory.
+
+use sqlite_items::Items;
+
+/// How a buffer holds its pixels.
+#[derive(Clone, Copy, Debug, PartialEq, Eq)]
+pub enum Pixels {
+    /// Four bytes a pixel, the lowest first.
+    Words,
+    /// One byte a pixel.
+    Bytes,
+}
+
+/// Where a buffer lies. Pixels lie by rows, each row from the left, without gaps.
+#[derive(Clone, Copy, Debug, PartialEq, Eq)]
+pub struct Place {
+    /// The address of its first pixel; of a private buffer, in hart 0's copy.
+    pub start: u32,
+    /// How many pixels a row has.
+    pub width: u32,
+    /// How many bytes each next hart's copy lies further; 0 where all harts share one.
+    pub distance: u32,
+    pub pixels: Pixels,
+}
+
+/// Where all buffers lie, in the pipeline's order.
+#[derive(Debug, Drop)]
+pub struct Places {
+    pub inputs: Items<Place>,
+    pub funcs: Items<Place>,
+    /// The address of hart 0's frame, where there are frames: each hart has 4,096 bytes, one behind the
+    /// other.
+    pub frames: Option<u32>,
+}

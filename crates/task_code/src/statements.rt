@@ -1,0 +1,255 @@
+//! The code of statements and of a task.
+
+ghost use Rattle.std.specs.Prelude.{◌≡◌, ℕ, List, ◌+◌, ◌^◌, ◌<◌, ◌≤◌, [], ◌∷◌, ◌++◌, length, OnOk, IfOk};
+ghost use Rattle.rv_insn.specs.declared.instructions.Insn.{Insn as Instruction};
+ghost use Rattle.task_code.specs.Code as spec;
+ghost use Rattle.task_code.specs.Words.{Emits};
+
+use crate::CodeFault;
+use crate::expressions::{emit_value, place_of, seat, seat_in};
+use crate::instructions::{
+    alu, alu_small, branch_below, emit_literal, jump_back, jump_forth, store_word,
+};
+use crate::operations::{emit_addressed, emit_blend};
+use crate::places::Places;
+use halide_pipeline::Source;
+use loop_ir::expressions::Counter;
+use loop_ir::statements::{Phase, Stmt, Store, Whole};
+use rv_insn::{AluImmOp, AluOp};
+use std::alloc::{AllocError, Global};
+
+fn emit_move(code: &mut Vec<u32>, r: u8, s: u8) -> Result<(), AllocError>
+    requires { (r < 32) × (s < 32) }
+    ensures { OnOk result (Emits code.old.items code.new.items (spec.move r s)) }
+{
+    alu_small(code, AluImmOp::Addi, r, s, 0)?;
+    Ok(())
+}
+
+/// Appends a jump over so many words, made where the register isn't below the number.
+fn emit_test(code: &mut Vec<u32>, r: u8, number: u32, words: usize) -> Result<(), CodeFault>
+    requires { (r < 32) × (words ≤ 2 ^ 40) }
+    ensures { OnOk result (Emits code.old.items code.new.items (spec.test r number words)) }
+{
+    emit_literal(code, 13, number)?;
+    branch_below(code, r, 13)?;
+    jump_forth(code, words)?;
+    Ok(())
+}
+
+fn append(code: &mut Vec<u32>, more: &[u32]) -> Result<(), AllocError>
+    ensures { OnOk result (code.new.items ≡ code.old.items ++ more.now) }
+{
+    code.extend_from_slice(more)?;
+    Ok(())
+}
+
+fn emit_store(
+    code: &mut Vec<u32>,
+    places: &Places,
+    scope: &[Counter],
+    store: &Store,
+) -> Result<(), CodeFault>
+    ensures { OnOk result (Emits code.old.items code.new.items (spec.store_code places.now scope.now store.now)) }
+{
+    emit_value(code, places, scope, &store.x, 20)?;
+    emit_move(code, 15, 20)?;
+    emit_value(code, places, scope, &store.y, 20)?;
+    let place = place_of(places, Source::Func(store.func));
+    emit_addressed(code, &place, 15, 20)?;
+    emit_value(code, places, scope, &store.value, 20)?;
+    store_word(code, 15, 20)?;
+    Ok(())
+}
+
+fn emit_loop(code: &mut Vec<u32>, r: u8, count: u32, body: &[u32]) -> Result<(), CodeFault>
+    requires { r < 32 }
+    ensures { OnOk result ((insns : List Instruction) → Emits [] body.now insns → Emits code.old.items code.new.items (spec.loop_code r count insns)) }
+{
+    let words = body.len();
+    if words >= 1 << 18 {
+        return Err(CodeFault::TooLong);
+    }
+    emit_move(code, r, 0)?;
+    emit_test(code, r, count, words + 3)?;
+    append(code, body)?;
+    alu_small(code, AluImmOp::Addi, r, r, 1)?;
+    jump_back(code, words + 5)?;
+    Ok(())
+}
+
+fn emit_bounded(code: &mut Vec<u32>, last: Option<u32>, r: u8) -> Result<(), AllocError>
+    requires { r < 32 }
+    ensures { OnOk result (Emits code.old.items code.new.items (spec.bounded last r)) }
+{
+    match last {
+        Some(last) => {
+            emit_literal(code, 14, last)?;
+            alu(code, AluOp::Sltu, 13, 14, r)?;
+            emit_blend(code, r, 14)?;
+            Ok(())
+        }
+        None => Ok(()),
+    }
+}
+
+fn emit_whole(
+    code: &mut Vec<u32>,
+    scope: &[Counter],
+    whole: &Whole,
+    r: u8,
+) -> Result<(), AllocError>
+    requires { r < 32 }
+    ensures { OnOk result (Emits code.old.items code.new.items (spec.whole_code scope.now whole.now r)) }
+{
+    emit_literal(code, r, whole.factor)?;
+    let outer = seat_in(scope, whole.outer);
+    alu(code, AluOp::Mul, r, r, outer)?;
+    emit_bounded(code, whole.last, r)?;
+    let inner = seat_in(scope, whole.inner);
+    alu(code, AluOp::Add, r, r, inner)?;
+    Ok(())
+}
+
+fn emit_guarded(code: &mut Vec<u32>, r: u8, extent: u32, body: &[u32]) -> Result<(), CodeFault>
+    requires { r < 32 }
+    ensures { OnOk result ((insns : List Instruction) → Emits [] body.now insns → Emits code.old.items code.new.items (spec.test r extent (length insns + 1) ++ insns)) }
+{
+    let words = body.len();
+    if words >= 1 << 18 {
+        return Err(CodeFault::TooLong);
+    }
+    emit_test(code, r, extent, words + 1)?;
+    append(code, body)?;
+    Ok(())
+}
+
+fn emit_bind(
+    code: &mut Vec<u32>,
+    scope: &[Counter],
+    whole: &Whole,
+    extent: u32,
+    r: u8,
+    body: &[u32],
+) -> Result<(), CodeFault>
+    requires { r < 32 }
+    ensures { OnOk result ((insns : List Instruction) → Emits [] body.now insns → Emits code.old.items code.new.items (spec.bind_code scope.now whole.now extent r insns)) }
+{
+    emit_whole(code, scope, whole, r)?;
+    emit_guarded(code, r, extent, body)?;
+    Ok(())
+}
+
+/// The register of the next counter.
+fn next_seat(scope: &[Counter]) -> Result<u8, CodeFault>
+    ensures { IfOk result (λ r. (r ≡ spec.seat (length scope.now)) × ((r < 32) × (length scope.now < 14))) }
+{
+    if scope.len() < 14 {
+        Ok(seat(scope.len()))
+    } else {
+        Err(CodeFault::TooDeep)
+    }
+}
+
+/// These counters, and one that stands after them.
+fn with_counter(
+    alloc: Global,
+    scope: &[Counter],
+    counter: Counter,
+) -> Result<Vec<Counter>, AllocError>
+    ensures { IfOk result (λ made. made.items ≡ counter ∷ scope.now) }
+{
+    let mut made = Vec::new(alloc);
+    made.push(counter)?;
+    made.extend_from_slice(scope)?;
+    Ok(made)
+}
+
+/// Appends the code of a statement among these counters.
+#[tactic(auto, unfolding(crate::specs::Code::stmt_code))]
+fn emit_stmt(
+    alloc: Global,
+    code: &mut Vec<u32>,
+    places: &Places,
+    scope: &[Counter],
+    stmt: &Stmt,
+) -> Result<(), CodeFault>
+    ensures { OnOk result (Emits code.old.items code.new.items (spec.stmt_code places.now stmt.now scope.now)) }
+{
+    match stmt {
+        Stmt::Store(store) => {
+            emit_store(code, places, scope, store)?;
+            Ok(())
+        }
+        Stmt::Sequence(first, second) => {
+            emit_stmt(alloc, code, places, scope, first.get())?;
+            emit_stmt(alloc, code, places, scope, second.get())?;
+            Ok(())
+        }
+        Stmt::For(counter, count, _, body) => {
+            let r = next_seat(scope)?;
+            let within = with_counter(alloc, scope, *counter)?;
+            let mut inner = Vec::new(alloc);
+            emit_stmt(alloc, &mut inner, places, within.as_slice(), body.get())?;
+            emit_loop(code, r, *count, inner.as_slice())?;
+            Ok(())
+        }
+        Stmt::Bind(counter, whole, extent, body) => {
+            let r = next_seat(scope)?;
+            let within = with_counter(alloc, scope, *counter)?;
+            let mut inner = Vec::new(alloc);
+            emit_stmt(alloc, &mut inner, places, within.as_slice(), body.get())?;
+            emit_bind(code, scope, whole, *extent, r, inner.as_slice())?;
+            Ok(())
+        }
+    }
+}
+
+fn task_scope(alloc: Global, counter: Option<Counter>) -> Result<Vec<Counter>, AllocError>
+    ensures { IfOk result (λ made. made.items ≡ spec.task_scope counter) }
+{
+    match counter {
+        Some(counter) => {
+            let made = with_counter(alloc, &[], counter)?;
+            Ok(made)
+        }
+        None => Ok(Vec::new(alloc)),
+    }
+}
+
+fn emit_restored(code: &mut Vec<u32>, ticket: u32, tasks: u32) -> Result<(), AllocError>
+    requires { ticket + 4 < 2 ^ 32 }
+    ensures { OnOk result (Emits code.old.items code.new.items (spec.restored ticket tasks)) }
+{
+    emit_literal(code, 13, ticket)?;
+    emit_literal(code, 14, ticket + 4)?;
+    emit_literal(code, 15, 1)?;
+    emit_literal(code, 16, tasks)?;
+    Ok(())
+}
+
+/// Appends the code of one task of a phase.
+///
+/// It finds the task's number in x12 and the hart's in x10, and ends behind its last word, with the addresses of the ticket word and of
+/// the gate word behind it in x13 and x14, 1 in x15 and the number of tasks in x16. Its words spell `task_code` of
+/// `specs/Code.antt`.
+///
+/// # Errors
+///
+/// Where memory runs out, the code is longer than a text may be, or an expression or a nest of loops has no registers left: then part
+/// of the code may have been appended.
+pub fn emit(
+    alloc: Global,
+    phase: &Phase,
+    places: &Places,
+    ticket: u32,
+    code: &mut Vec<u32>,
+) -> Result<(), CodeFault>
+    requires { ticket + 4 < 2 ^ 32 }
+    ensures { OnOk result (Emits code.old.items code.new.items (spec.task_code phase.now places.now ticket)) }
+{
+    let scope = task_scope(alloc, phase.counter)?;
+    emit_stmt(alloc, code, places, scope.as_slice(), &phase.body)?;
+    emit_restored(code, ticket, phase.tasks)?;
+    Ok(())
+}
