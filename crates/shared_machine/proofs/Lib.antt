@@ -1,0 +1,6 @@
+pub mod Pushing
+pub mod Eight
+pub mod Passing
+pub mod Seating
+pub mod Stopping
+pub mod Batches

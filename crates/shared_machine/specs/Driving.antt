@@ -1,0 +1,54 @@
+-- What a drive does to a seat.
+-- This project's own.
+use Rattle.std.specs.Prelude.{◌≡◌, ◌≢◌, ℕ, ◌+◌, ◌%◌, ◌<◌, ◌≤◌, Bool, true, false, Option, Some, None, List, length, slice_index_or}
+use Rattle.turn_log.specs.TurnLog.{most_turns}
+use Rattle.board.specs.Tokens.{BoardId, has_asked}
+use Rattle.shared_machine.specs.declared.origins.Origin.{Ghosts}
+use Rattle.shared_machine.specs.declared.seats.Seat.{Seat}
+use Rattle.shared_machine.specs.declared.seats.Ended.{Ended}
+use Rattle.shared_machine.specs.declared.seats.Ended.TheVariants.{Halted, Limit, Shut, Refused}
+use Rattle.shared_machine.specs.declared.refusals.Refusal.{Refusal}
+use Rattle.shared_machine.specs.declared.refusals.Refusal.TheVariants.{OutOfMemory, TurnsSpent, StopAsked}
+use Rattle.shared_machine.specs.Seats.{IsSeatOf, hart, number, tally}
+
+-- a seat whose turns are spent has made 2^40
+abbrev pub RefusedSo : {O F : Type 0} {G : Ghosts O} → Seat O F G → Refusal → Type 0
+RefusedSo seat OutOfMemory = Unit {0}
+RefusedSo seat TurnsSpent = most_turns ≤ number seat
+RefusedSo seat StopAsked = Unit {0}
+
+-- Why a thread ended that was to make so many turns at most, where the seat had made this number before: the hart doesn't run
+-- any more, all of them were made, the gate isn't always open, or a turn was refused
+abbrev pub EndedSo : {O F : Type 0} {G : Ghosts O} → Bool → ℕ → ℕ → Seat O F G → Ended → Type 0
+EndedSo always limit before seat Halted = tally seat % 16 ≢ 0
+EndedSo always limit before seat Limit = number seat ≡ before + limit
+EndedSo always limit before seat Shut = always ≡ false
+EndedSo always limit before seat (Refused why) = RefusedSo seat why
+
+abbrev pub HasEndedSo : {O F : Type 0} {G : Ghosts O} → Bool → ℕ → ℕ → Seat O F G → Option Ended → Type 0
+HasEndedSo always limit before seat None = ⊥
+HasEndedSo always limit before seat (Some ended) = EndedSo always limit before seat ended
+
+-- a seat before and after a drive
+pub record IsDriven {O F : Type 0} {G : Ghosts O} (name : BoardId) (always : Bool) (limit : ℕ) (old new : Seat O F G) : Type 0 where
+  pub of : IsSeatOf name new
+  pub same : hart new ≡ hart old
+  pub some : number old ≤ number new
+  pub few : number new ≤ number old + limit
+  pub ended : HasEndedSo always limit (number old) new new.ended
+
+-- each of the seats
+abbrev pub AreDriven : {O F : Type 0} {G : Ghosts O} → BoardId → Bool → ℕ → List (Seat O F G) → List (Seat O F G) → Type 0
+AreDriven {O} {F} {G} name always limit olds news = (k : ℕ) (d : Seat O F G) → k < length olds → IsDriven name always limit (slice_index_or olds k d) (slice_index_or news k d)
+
+-- a seat before and after a drive that was not made: it has asked for a stop
+pub record IsStopped {O F : Type 0} {G : Ghosts O} (name : BoardId) (old new : Seat O F G) : Type 0 where
+  pub of : IsSeatOf name new
+  pub same : hart new ≡ hart old
+  pub number : number new ≡ number old
+  pub tally : tally new ≡ tally old
+  pub asked : has_asked new.glance ≡ true
+
+-- each of the seats
+abbrev pub AreStopped : {O F : Type 0} {G : Ghosts O} → BoardId → List (Seat O F G) → List (Seat O F G) → Type 0
+AreStopped {O} {F} {G} name olds news = (k : ℕ) (d : Seat O F G) → k < length olds → IsStopped name (slice_index_or olds k d) (slice_index_or news k d)

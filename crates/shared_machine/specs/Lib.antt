@@ -1,0 +1,6 @@
+pub mod Log
+pub mod Refusals
+pub mod Tallies
+pub mod Seats
+pub mod Endings
+pub mod Driving

@@ -1,0 +1,191 @@
+//! Turns made by threads.
+
+ghost use Rattle.std.specs.Prelude.{◌≡◌, ◌+◌, ◌≤◌, All, OnOk, OnErr};
+ghost use Rattle.board.specs.Tokens.{name_of};
+ghost use Rattle.shared_machine.specs.Driving.{IsDriven, AreDriven, IsStopped, AreStopped, EndedSo};
+ghost use Rattle.shared_machine.specs.Log.{most_batch};
+ghost use Rattle.shared_machine.specs.Seats.{IsSeatOf, hart, number};
+
+use crate::gates::Gate;
+use crate::ledgers::Ledgers;
+use crate::origins::Origin;
+use crate::refusals::DriveFault;
+use crate::seats::{Ended, Seat};
+use crate::shared::Shared;
+use rv_insn::Outcome;
+use std::alloc::Global;
+use std::sync::Wait;
+use std::thread::{Threads, for_each_mut, spawn};
+
+/// Makes turns of each seat in a thread of its own, turn by turn, as [`drive_batched`] does.
+pub fn drive<
+    O: Origin + Send + Sync,
+    F: Ledgers + Send + Sync,
+    G: Gate + Sync,
+    R: Threads + Wait + Sync,
+>(
+    rt: &R,
+    alloc: Global,
+    shared: &Shared<O, F>,
+    seats: &mut [Seat<O, F>],
+    limit: u64,
+    gate: &G,
+) -> Result<(), DriveFault>
+    requires { All (IsSeatOf (name_of shared.now.board)) seats.old }
+    ensures of { All (IsSeatOf (name_of shared.now.board)) seats.new }
+    ensures driven { OnOk result (AreDriven (name_of shared.now.board) G.OPEN limit seats.old seats.new) }
+    ensures stopped { OnErr result (AreStopped (name_of shared.now.board) seats.old seats.new) }
+{
+    drive_batched(rt, alloc, shared, seats, limit, 1, gate)
+}
+
+/// Makes turns of each seat in a thread of its own, up to `most` of them under one lock. A thread ends after a turn that didn't
+/// step (a hart that has stopped makes one that is idle), after `limit` turns, where the gate doesn't let it go on, or where a
+/// turn is refused; [`Seat::ended`] says which. The gate is asked about the first turn under a lock, and told of the last.
+///
+/// Threads are tried first, one for each seat. Where they can't be had, a stop is asked and no turn is made.
+/// Where a thread doesn't start later, the seats that are left are driven one after the other.
+pub fn drive_batched<
+    O: Origin + Send + Sync,
+    F: Ledgers + Send + Sync,
+    G: Gate + Sync,
+    R: Threads + Wait + Sync,
+>(
+    rt: &R,
+    alloc: Global,
+    shared: &Shared<O, F>,
+    seats: &mut [Seat<O, F>],
+    limit: u64,
+    most: u64,
+    gate: &G,
+) -> Result<(), DriveFault>
+    requires of { All (IsSeatOf (name_of shared.now.board)) seats.old }
+    requires some { 1 ≤ most }
+    requires few { most ≤ most_batch }
+    ensures of { All (IsSeatOf (name_of shared.now.board)) seats.new }
+    ensures driven { OnOk result (AreDriven (name_of shared.now.board) G.OPEN limit seats.old seats.new) }
+    ensures stopped { OnErr result (AreStopped (name_of shared.now.board) seats.old seats.new) }
+{
+    match start_threads(rt, alloc, seats.len()) {
+        Ok(()) => {
+            drive_seats(rt, shared, seats, limit, most, gate);
+            Ok(())
+        }
+        Err(fault) => {
+            ask_stop(rt, shared, seats);
+            Err(fault)
+        }
+    }
+}
+
+/// Starts so many threads, which end at once.
+fn start_threads<R: Threads>(rt: &R, alloc: Global, count: usize) -> Result<(), DriveFault> {
+    let mut started = Vec::new(alloc);
+    for _thread in 0..count {
+        let Ok(thread) = spawn(rt, || {}) else {
+            return Err(DriveFault::NoThread);
+        };
+        started.push(thread)?;
+    }
+    for thread in started {
+        thread.join(rt);
+    }
+    Ok(())
+}
+
+/// Asks for a stop by each seat.
+fn ask_stop<O: Origin + Send + Sync, F: Ledgers + Send + Sync, R: Threads + Sync>(
+    rt: &R,
+    shared: &Shared<O, F>,
+    seats: &mut [Seat<O, F>],
+)
+    requires { All (IsSeatOf (name_of shared.now.board)) seats.old }
+    ensures of { All (IsSeatOf (name_of shared.now.board)) seats.new }
+    ensures stopped { AreStopped (name_of shared.now.board) seats.old seats.new }
+{
+    for_each_mut(rt, seats, 1, &|_, seat| { ask_stop_by(shared, seat) });
+}
+
+/// Asks for a stop by a seat.
+fn ask_stop_by<O: Origin, F: Ledgers>(shared: &Shared<O, F>, seat: &mut Seat<O, F>)
+    requires { IsSeatOf (name_of shared.now.board) seat.old }
+    ensures { IsStopped (name_of shared.now.board) seat.old seat.new }
+{
+    shared.board().ask_stop(&mut seat.glance);
+}
+
+/// Makes turns of each seat.
+fn drive_seats<
+    O: Origin + Send + Sync,
+    F: Ledgers + Send + Sync,
+    G: Gate + Sync,
+    R: Threads + Wait + Sync,
+>(rt: &R, shared: &Shared<O, F>, seats: &mut [Seat<O, F>], limit: u64, most: u64, gate: &G)
+    requires of { All (IsSeatOf (name_of shared.now.board)) seats.old }
+    requires some { 1 ≤ most }
+    requires few { most ≤ most_batch }
+    ensures of { All (IsSeatOf (name_of shared.now.board)) seats.new }
+    ensures driven { AreDriven (name_of shared.now.board) G.OPEN limit seats.old seats.new }
+{
+    let threads = seats.len().max(1);
+    for_each_mut(
+        rt,
+        seats,
+        threads,
+        &|_, seat| { drive_seat(rt, shared, limit, most, gate, seat) },
+    );
+}
+
+/// Makes turns of one seat.
+fn drive_seat<O: Origin, F: Ledgers, G: Gate, R: Wait>(
+    rt: &R,
+    shared: &Shared<O, F>,
+    limit: u64,
+    most: u64,
+    gate: &G,
+    seat: &mut Seat<O, F>,
+)
+    requires of { IsSeatOf (name_of shared.now.board) seat.old }
+    requires some { 1 ≤ most }
+    requires few { most ≤ most_batch }
+    ensures { IsDriven (name_of shared.now.board) G.OPEN limit seat.old seat.new }
+{
+    let ended = make_turns(rt, shared, limit, most, gate, seat);
+    seat.ended = Some(ended);
+}
+
+/// Makes turns of one seat, and says why it ended.
+fn make_turns<O: Origin, F: Ledgers, G: Gate, R: Wait>(
+    rt: &R,
+    shared: &Shared<O, F>,
+    limit: u64,
+    most: u64,
+    gate: &G,
+    seat: &mut Seat<O, F>,
+) -> Ended
+    requires of { IsSeatOf (name_of shared.now.board) seat.old }
+    requires some { 1 ≤ most }
+    requires few { most ≤ most_batch }
+    ensures of { IsSeatOf (name_of shared.now.board) seat.new × (hart seat.new ≡ hart seat.old) }
+    ensures made { (number seat.old ≤ number seat.new) × (number seat.new ≤ number seat.old + limit) }
+    ensures ended { EndedSo G.OPEN limit (number seat.old) seat.new result }
+{
+    let mut left = limit;
+    while left > 0 {
+        let hart = seat.hart();
+        if !gate.before(hart, seat.number() + 1) {
+            return Ended::Shut;
+        }
+        let batch = match shared.turns(rt, seat, most.min(left)) {
+            Ok(batch) => batch,
+            Err(why) => return Ended::Refused(why),
+        };
+        gate.after(hart, seat.number());
+        left -= batch.made;
+        match batch.last {
+            Outcome::Stepped => {}
+            _ => return Ended::Halted,
+        }
+    }
+    Ended::Limit
+}

@@ -1,0 +1,33 @@
+//! A machine that threads share: each makes the turns of one hart, under one lock, and a log tells them all.
+//!
+//! - [`books`], [`ledgers`]: what is known of each hart's turns under the lock and in its seat.
+//! - [`locked`]: the machine beside its log, of which it is always the replay.
+//! - [`origins`]: what stands in a type for the image and the number of harts.
+//! - [`shared`]: the machine that threads share ([`Shared`]).
+//! - [`driving`], [`gates`]: a thread for each seat ([`drive`], [`Gate`]).
+//! - [`seats`]: a hart of it ([`Seat`]).
+//! - [`refusals`]: why a turn is refused ([`Refusal`]).
+#![tactic(auto)]
+
+pub mod books;
+pub mod driving;
+mod ending;
+pub mod gates;
+mod guarded;
+pub mod ledgers;
+pub mod locked;
+mod opening;
+pub mod origins;
+pub mod refusals;
+pub mod seats;
+pub mod shared;
+
+pub use crate::books::Blanks;
+pub use crate::driving::{drive, drive_batched};
+pub use crate::gates::{AlwaysOpen, Gate};
+pub use crate::ledgers::Ledgers;
+pub use crate::locked::Locked;
+pub use crate::origins::Origin;
+pub use crate::refusals::{DriveFault, Refusal};
+pub use crate::seats::{Batch, Ended, Report, Seat};
+pub use crate::shared::Shared;
