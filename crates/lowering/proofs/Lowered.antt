@@ -320,11 +320,11 @@ pub phases_leave_output : PhasesLeaveOutput
 phases_leave_output pipeline schedule boxes rules accepted is phases are inputs begun funcs after zeros done x y inside_x inside_y =
     let found = box_found pipeline schedule boxes rules accepted is inputs begun x y inside_x inside_y in (
       ap (λ (e : Option (Option SourceBox)). box_points boxes.funcs pipeline.output.func (word.subtract x (corner_of (box_in e)).x) (word.subtract y (corner_of (box_in e)).y)) found.is
-      ∙ there pipeline schedule boxes rules accepted is inputs begun x y inside_x inside_y,
+          ∙ there pipeline schedule boxes rules accepted is inputs begun x y inside_x inside_y,
       ap (λ (e : Option (Option SourceBox)). after pipeline.output.func (word.subtract x (corner_of (box_in e)).x) (word.subtract y (corner_of (box_in e)).y)) found.is
-      ∙ holds pipeline schedule boxes rules accepted is inputs begun x y inside_x inside_y after
-      (phases_in_order (box_points boxes.funcs) (is_private schedule.standings) (map (tasks_of pipeline schedule boxes inputs) phases) (held boxes.funcs (pixels pipeline.funcs inputs 0))
-      (held boxes.funcs (pixels pipeline.funcs inputs (length pipeline.funcs))) (phases_do_pixels pipeline schedule boxes accepted is phases are inputs begun) funcs after
-      (λ place i j shared inside. zeros place i j shared inside
-      ∙ sym (zero_pixels pipeline.funcs inputs place (word.add (corner_of (box_in (slice_get boxes.funcs place))).x i) (word.add (corner_of (box_in (slice_get boxes.funcs place))).y j))) done),
+          ∙ holds pipeline schedule boxes rules accepted is inputs begun x y inside_x inside_y after
+          (phases_in_order (box_points boxes.funcs) (is_private schedule.standings) (map (tasks_of pipeline schedule boxes inputs) phases) (held boxes.funcs (pixels pipeline.funcs inputs 0))
+          (held boxes.funcs (pixels pipeline.funcs inputs (length pipeline.funcs))) (phases_do_pixels pipeline schedule boxes accepted is phases are inputs begun) funcs after
+          (λ place i j shared inside. zeros place i j shared inside
+          ∙ sym (zero_pixels pipeline.funcs inputs place (word.add (corner_of (box_in (slice_get boxes.funcs place))).x i) (word.add (corner_of (box_in (slice_get boxes.funcs place))).y j))) done),
     )
