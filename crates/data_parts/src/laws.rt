@@ -1,0 +1,18 @@
+//! Laws of parts of the data, each the contract of a function that does nothing.
+
+ghost use Rattle.data_parts.specs.Finding.{ControlFound, CopiesFound, FramesFound, InputsFound, PartsAligned, PartsEnd, RootsFound};
+
+/// A byte at an offset from where the layout has a part is found to be that byte of that part.
+pub fn parts_are_found()
+    ensures control { ControlFound }
+    ensures inputs { InputsFound }
+    ensures roots { RootsFound }
+    ensures copies { CopiesFound }
+    ensures frames { FramesFound }
+{}
+
+/// A part of a list lies within the list, at a multiple of 4.
+pub fn parts_lie_within()
+    ensures ends { PartsEnd }
+    ensures aligned { PartsAligned }
+{}
