@@ -6,9 +6,10 @@ use Rattle.memory.specs.Addresses.{AreBytes}
 use Rattle.lanes.specs.Registers.{element}
 use Rattle.lanes.specs.Masks.{mask_bit}
 use Rattle.hart_core.specs.Alu.{one_if}
+use Rattle.hart_core.specs.declared.harts.Status.TheVariants.{Running}
 use Rattle.hart_core.specs.HartState.{HartState, register, vector}
 use Rattle.lone_hart.specs.Uses.{Job}
-use Rattle.lone_hart.specs.Paths.{Comes, lane, bit}
+use Rattle.lone_hart.specs.Paths.{At, Comes, lane, bit}
 use Rattle.lone_hart.proofs.Paths.{soon-then}
 use Rattle.work_sharing.specs.Phases.{Phase, Stands}
 use Rattle.work_sharing.specs.Solo.{world, Leaves, SoonDone}
@@ -51,15 +52,17 @@ bit-number h n i e =
     let q : n - 162 ≡ i = omega (arith, e) in
     rw a (rw b (rw c (rw d (sym (ap (λ x. one_if (mask_bit (vector h 0) x)) q)))))
 
-pub stands-there : StandsThere
-stands-there p k at h s =
-    let known = λ (v : ℕ) (l : v < 32). s.kept.vector_bytes v (vector h v) (there-or h.vectors v [] (let c = s.kept.vector_count in omega (arith, l, c))) in
+-- any hart that runs is where it is with its own numbers
+pub at-numbers : (at : ℕ) (h : HartState) → h.status ≡ Running → h.pc ≡ at → length h.registers ≡ 32 → length h.vectors ≡ 32
+    → ((v : ℕ) (bytes : List ℕ) → slice_get h.vectors v ≡ Some bytes → (length bytes ≡ 16) × AreBytes bytes) → At at (numbers_of h) h
+at-numbers at h runs there full wide vectors =
+    let known = λ (v : ℕ) (l : v < 32). vectors v (vector h v) (there-or h.vectors v [] (omega (arith, l, wide))) in
     record {
-      running = s.running;
-      pc = s.pc;
-      full = s.kept.size;
+      running = runs;
+      pc = there;
+      full = full;
       same = λ r l. register-number h r l;
-      wide = s.kept.vector_count;
+      wide = wide;
       whole = λ v l. (known v l).0;
       bytes = λ v l. (known v l).1;
       vl = refl;
@@ -67,6 +70,9 @@ stands-there p k at h s =
       lanes = λ v i lo hi few. lane-number h (lane v i) v i hi few refl;
       bits = λ i few. bit-number h (bit i) i refl;
     }
+
+pub stands-there : StandsThere
+stands-there p k at h s = at-numbers at h s.running s.pc s.kept.size s.kept.vector_count s.kept.vector_bytes
 
 pub there-stands : ThereStands
 there-stands p k at f h a y = record {

@@ -2,7 +2,6 @@
 
 use crate::example::example_machine;
 use multi_hart::Machine;
-use std::process::Abort;
 use std::test::Fail;
 
 /// So many rounds of the turns, one after the other.
@@ -12,23 +11,33 @@ fn rounds(machine: &mut Machine, turns: &[u8], count: u32) {
     }
 }
 
-/// All harts have finished: both ticket words count the two tasks and each hart, the first gate word the
+/// Whether all harts have finished: both ticket words count the two tasks and each hart, the first gate word the
 /// harts, the last phase has no gate, and the results are there.
-fn check(rt: &impl Abort, machine: &Machine, tickets: u32, harts: u32) {
-    assert!(rt; machine.is_finished());
-    assert_eq!(rt; machine.word(0x0020_0000), Some(tickets));
-    assert_eq!(rt; machine.word(0x0020_0004), Some(harts));
-    assert_eq!(rt; machine.word(0x0020_0008), Some(tickets));
-    assert_eq!(rt; machine.word(0x0020_000c), Some(0));
-    assert_eq!(rt; machine.word(0x0020_0018), Some(16));
-    assert_eq!(rt; machine.word(0x0020_001c), Some(15));
+fn is_done(machine: &Machine, tickets: u32, harts: u32) -> bool {
+    let words = [
+        machine.word(0x0020_0000),
+        machine.word(0x0020_0004),
+        machine.word(0x0020_0008),
+        machine.word(0x0020_000c),
+        machine.word(0x0020_0018),
+        machine.word(0x0020_001c),
+    ];
+    let wanted = [
+        Some(tickets),
+        Some(harts),
+        Some(tickets),
+        Some(0),
+        Some(16),
+        Some(15),
+    ];
+    machine.is_finished() && words == wanted
 }
 
 #[test]
 fn one_hart(rt: HostRuntime) -> Result<(), Fail> {
     let mut machine = example_machine(rt.alloc(), 1)?;
     rounds(&mut machine, &[0], 100);
-    check(&rt, &machine, 3, 1);
+    assert!(rt; is_done(&machine, 3, 1));
     Ok(())
 }
 
@@ -36,7 +45,7 @@ fn one_hart(rt: HostRuntime) -> Result<(), Fail> {
 fn round_robin(rt: HostRuntime) -> Result<(), Fail> {
     let mut machine = example_machine(rt.alloc(), 8)?;
     rounds(&mut machine, &[0, 1, 2, 3, 4, 5, 6, 7], 100);
-    check(&rt, &machine, 10, 8);
+    assert!(rt; is_done(&machine, 10, 8));
     Ok(())
 }
 
@@ -52,6 +61,6 @@ fn one_hart_far_ahead(rt: HostRuntime) -> Result<(), Fail> {
     assert_eq!(rt; machine.word(0x0020_0008), Some(4));
     assert!(rt; !machine.is_finished());
     rounds(&mut machine, &[2], 200);
-    check(&rt, &machine, 5, 3);
+    assert!(rt; is_done(&machine, 5, 3));
     Ok(())
 }

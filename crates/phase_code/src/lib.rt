@@ -1,0 +1,11 @@
+//! The code of phases around the code of their tasks.
+//!
+//! Phases stand one behind the other (`specs/Code.antt`). Where each task's code does its task, such a program shares
+//! its work as the promises of `work_sharing` on every list of turns ask (`specs/Sharing.antt`).
+//!
+//! - [`laws`]: that law.
+#![tactic(auto)]
+
+pub mod laws;
+
+pub use crate::laws::programs_share;
