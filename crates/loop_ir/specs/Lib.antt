@@ -3,3 +3,4 @@ pub mod Counters
 pub mod Expressions
 pub mod Running
 pub mod Soundness
+pub mod Stores
