@@ -21,13 +21,13 @@ use Rattle.task_code.specs.Values.{Free, Leaves, Beside}
 use Rattle.task_code.specs.Evaluation.{IsPlace, LoadsAt, load_op}
 use Rattle.task_code.proofs.Values.{alu-sets, shift-sets, literal-sets, leaves-is, also, last}
 
-row-words : (x p : ℕ) → 4 * (p + x) < 2 ^ 32 → ((x + p % 2 ^ 32) % 2 ^ 32 * 4) % 2 ^ 32 ≡ 4 * (p + x)
+pub row-words : (x p : ℕ) → 4 * (p + x) < 2 ^ 32 → ((x + p % 2 ^ 32) % 2 ^ 32 * 4) % 2 ^ 32 ≡ 4 * (p + x)
 row-words x p l = omega (arith, l)
 
-row-bytes : (x p : ℕ) → 1 * (p + x) < 2 ^ 32 → (x + p % 2 ^ 32) % 2 ^ 32 ≡ 1 * (p + x)
+pub row-bytes : (x p : ℕ) → 1 * (p + x) < 2 ^ 32 → (x + p % 2 ^ 32) % 2 ^ 32 ≡ 1 * (p + x)
 row-bytes x p l = omega (arith, l)
 
-small-product : (p : ℕ) → p < 2 ^ 32 → p % 2 ^ 32 ≡ p
+pub small-product : (p : ℕ) → p < 2 ^ 32 → p % 2 ^ 32 ≡ p
 small-product p l = omega (arith, l)
 
 module _ (w : World) (m : List ℕ) (l : length m ≡ w.size) where

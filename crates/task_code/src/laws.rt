@@ -1,6 +1,8 @@
 //! Laws of code, each the contract of a function that does nothing.
 
+ghost use Rattle.task_code.specs.Doing.{StatementsAreDone};
 ghost use Rattle.task_code.specs.Evaluation.{ExpressionsLeave};
+ghost use Rattle.task_code.specs.Tasks.{AppendedWordsStand, TasksAreDone};
 ghost use Rattle.task_code.specs.Values.{LiteralsLeave, OperationsLeave, QuotientsLeave, RemaindersLeave, SelectionsLeave};
 
 /// Straight code leaves what operations make of words, wherever it stands, and keeps the registers below.
@@ -16,4 +18,20 @@ pub fn values_are_left()
 /// loaded.
 pub fn expressions_are_evaluated()
     ensures { ExpressionsLeave }
+{}
+
+/// The code of a statement does the statement to the buffers in memory, in as many turns as its counters decide, and writes each
+/// point at which the statement stores.
+pub fn statements_are_done()
+    ensures { StatementsAreDone }
+{}
+
+/// The code of a task does the task: from the drawn number to the numbers that the draw looks for.
+pub fn tasks_are_done()
+    ensures { TasksAreDone }
+{}
+
+/// Words that were appended stand in each text that goes on from there.
+pub fn appended_words_stand()
+    ensures { AppendedWordsStand }
 {}

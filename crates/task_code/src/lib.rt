@@ -1,9 +1,9 @@
 //! The machine code of one task of a phase.
 //!
 //! - [`places`]: where buffers lie in memory.
-//! - [`emit`]: appends the words of one task, which spell its code (`specs/Code.antt`). What these words do is proved of
-//!   expressions alone so far.
-//! - [`laws`]: what the code of an expression leaves, wherever it stands (`specs/Values.antt`, `specs/Evaluation.antt`).
+//! - [`emit`]: appends the words of one task, which spell its code (`specs/Code.antt`).
+//! - [`laws`]: what the code of expressions, statements and tasks does, wherever it stands (`specs/Evaluation.antt`, `specs/Doing.antt`,
+//!   `specs/Tasks.antt`), where buffers lie so (`specs/Layout.antt`) and the registers suffice (`specs/Fitting.antt`).
 #![tactic(auto)]
 
 mod expressions;

@@ -1,0 +1,170 @@
+-- The code of a statement does the statement.
+use Rattle.std.proofs.Common.{◌≡◌, ℕ, zero, suc, ◌+◌, ◌^◌, ◌<◌, List, ◌∷◌, length, Bool, true, false, refl, ap, ◌∙◌, sym, subst, arith, inl, inr}
+use Rattle.std.specs.Prelude.{◌==◌, ◌&&◌, if◌then◌else◌, nat_lt}
+use Rattle.std.proofs.lemmas.Bool.{and_parts, or_cases, cases_lt, true≢false}
+use Rattle.std.proofs.lemmas.Bool.Decides.{nat_tests}
+use Rattle.rv_insn.specs.declared.instructions.Insn.{Insn}
+use Rattle.halide_meaning.specs.Pixel.{Planes, reads_of}
+use Rattle.loop_ir.specs.declared.expressions.Counter.{Counter}
+use Rattle.loop_ir.specs.declared.statements.LoopKind.{LoopKind}
+use Rattle.loop_ir.specs.declared.statements.Store.{Store}
+use Rattle.loop_ir.specs.declared.statements.Whole.{Whole}
+use Rattle.loop_ir.specs.declared.statements.Stmt.{Stmt, ind-Stmt, roll-Stmt, map-Stmt}
+use Rattle.loop_ir.specs.declared.statements.Stmt.TheOpen.{Stmt-F}
+use Rattle.loop_ir.specs.declared.statements.Stmt.TheOpen as layer
+use Rattle.loop_ir.specs.declared.statements.Stmt.TheVariants.{rolls-Store, rolls-Sequence, rolls-For, rolls-Bind}
+use Rattle.loop_ir.specs.declared.statements.Stmt.TheVariants as s
+use Rattle.loop_ir.specs.Counters.{Values, with}
+use Rattle.loop_ir.specs.Expressions.{value}
+use Rattle.loop_ir.specs.Running.{run, whole_value}
+use Rattle.loop_ir.specs.Soundness.{every, is_sound}
+use Rattle.loop_ir.proofs.Trees.{run_store, run_sequence, run_for, run_bind}
+use Rattle.loop_ir.proofs.Sound.{sound_store, sound_sequence, sound_for, sound_bind}
+use Rattle.task_code.specs.Code.{seat, whole_code, stmt_code}
+use Rattle.task_code.specs.Evaluation.{Knows}
+use Rattle.task_code.specs.Fitting.{is_word, has_seat, fits_whole, fits, stmt_turns}
+use Rattle.task_code.specs.Layout.{AreWords}
+use Rattle.task_code.specs.Doing.{Setting, IsSetting, SoundIn, HoldsFuncs, stored_points, StatementsAreDone}
+use Rattle.task_code.proofs.Keeping.{at-vector, knows-still}
+use Rattle.task_code.proofs.Going.{Hits, hits_if, Does, went-hits, went-is, does-then}
+use Rattle.task_code.proofs.Tracing.{hit, made, hit_before, hit-store, hit-sequence, hit-for, hit-first, hit-later, hit-bind}
+use Rattle.task_code.proofs.Placing.{store-does}
+use Rattle.task_code.proofs.Looping.{loop-does}
+use Rattle.task_code.proofs.Binding.{bind-does}
+use Rattle.task_code.proofs.Unrolled.{code-store, code-sequence, code-for, code-bind, fits-store, fits-sequence, fits-for, fits-bind, turns-store, turns-sequence, turns-for, turns-bind}
+
+below : (n k : ℕ) → nat_lt n k ≡ true → n < k
+below n k t = grind (arith, nat_tests)
+
+equal-parts : (a b c d e f : ℕ) → (a == b && (c == d && e == f)) ≡ true → (a ≡ b) × ((c ≡ d) × (e ≡ f))
+equal-parts a b c d e f t =
+    let k = and_parts (a == b) (c == d && e == f) t in
+    let j = and_parts (c == d) (e == f) k.1 in
+    let x = k.0 in
+    let y = j.0 in
+    let z = j.1 in
+    (same a b x, (same c d y, same e f z))
+  where
+    same : (m n : ℕ) → (m == n) ≡ true → m ≡ n
+    same m n u = grind (arith, nat_tests)
+
+-- each turn passes
+each-turn : (n : ℕ) (passes : ℕ → Bool) → every n passes ≡ true → (i : ℕ) → i < n → passes i ≡ true
+unfolding every
+each-turn zero passes is i l = absurd (omega (arith, l))
+each-turn (suc n) passes is i l =
+    let k = and_parts (every n passes) (passes n) is in
+    elim (cases_lt i n) [
+      | inl a ↦ each-turn n passes k.0 i a
+      | inr b ↦ let e : n ≡ i = omega (arith, l, b) in subst (λ j. passes j ≡ true) e k.1
+    ]
+
+module _ (own : Setting) (good : IsSetting own) where
+  abbrev hits : Stmt → Values → Planes → Hits
+  hits statement values funcs func x y = stored_points own statement values funcs func x y ≡ true
+
+  abbrev after : Stmt → Values → Planes → Planes
+  after statement values funcs = run own.points own.inputs statement values funcs
+
+  abbrev Follows : Stmt → Type 0
+  Follows statement = (scope : List Counter) (values : Values) → fits own.places statement scope ≡ true → SoundIn own statement values
+      → (f : ℕ → ℕ) (memory : List ℕ) (funcs : Planes) → HoldsFuncs own memory funcs → Knows own.world own.harts scope values f
+      → Does own (stmt_code own.places statement scope) (stmt_turns own.places statement scope values) f memory (length scope) (after statement values funcs) (hits statement values funcs)
+
+  -- the same code
+  recoded : {code other : List Insn} {n : ℕ} {f : ℕ → ℕ} {memory : List ℕ} {depth : ℕ} {funcs : Planes} {points : Hits} → code ≡ other → Does own code n f memory depth funcs points → Does own other n f memory depth funcs points
+  recoded {code} {other} {n} {f} {memory} {depth} {funcs} {points} e a = subst (λ c. Does own c n f memory depth funcs points) e a
+
+  at-store : (store : Store) → Follows (s.Store store)
+  at-store store scope values is sound f memory funcs holds knows =
+      let reads = reads_of own.inputs funcs in
+      let a = store-does own good scope values store f memory funcs (sym (fits-store own.places store scope) ∙ is)
+      (sym (sound_store reads own.written own.loaded store values) ∙ sound funcs holds.are_words) holds knows in
+      recoded (sym (code-store own.places store scope))
+      (went-hits own (λ func x y h. equal-parts store.func func (value reads values store.x) x (value reads values store.y) y (sym (hit-store own.points own.inputs func x y store values funcs) ∙ h))
+      (went-is own (sym (turns-store own.places store scope values)) (sym (run_store own.points own.inputs store values funcs)) a))
+
+  at-sequence : (first second : Stmt) → Follows first → Follows second → Follows (s.Sequence first second)
+  at-sequence first second one two scope values is sound f memory funcs holds knows =
+      let k = and_parts (fits own.places first scope) (fits own.places second scope) (sym (fits-sequence own.places first second scope) ∙ is) in
+      let parts = λ (p : Planes) (words : AreWords p). and_parts (is_sound (reads_of own.inputs p) own.written own.loaded first values) (is_sound (reads_of own.inputs p) own.written own.loaded second values)
+      (sym (sound_sequence (reads_of own.inputs p) own.written own.loaded first second values) ∙ sound p words) in
+      let a = one scope values k.0 (λ p words. (parts p words).0) f memory funcs holds knows in
+      let middle = after first values funcs in
+      let b = two scope values k.1 (λ p words. (parts p words).1) a.after a.left middle a.holds (knows-still own.world own.harts scope values f a.after knows a.keeps) in
+      recoded (sym (code-sequence own.places first second scope))
+      (went-hits own (λ func x y h. or_cases (hit own.points own.inputs func x y first values funcs) (hit own.points own.inputs func x y second values middle) (sym (hit-sequence own.points own.inputs func x y first second values funcs) ∙ h))
+      (went-is own (sym (turns-sequence own.places first second scope values)) (sym (run_sequence own.points own.inputs first second values funcs)) (does-then own a b)))
+
+  at-for : (counter : Counter) (count : ℕ) (kind : LoopKind) (body : Stmt) → Follows body → Follows (s.For counter count kind body)
+  at-for counter count kind body inner scope values is sound f memory funcs holds knows =
+      let k = and_parts (has_seat scope) (is_word count && fits own.places body (counter ∷ scope)) (sym (fits-for own.places counter count kind body scope) ∙ is) in
+      let j = and_parts (is_word count) (fits own.places body (counter ∷ scope)) k.1 in
+      let at : ℕ → Values = λ turn. with counter turn values in
+      let each = λ (i : ℕ) (l : i < count) (p : Planes) (words : AreWords p). each-turn count (λ turn. is_sound (reads_of own.inputs p) own.written own.loaded body (at turn))
+      (sym (sound_for (reads_of own.inputs p) own.written own.loaded counter count kind body values) ∙ sound p words) i l in
+      let a = loop-does own scope values (below (length scope) 14 k.0) counter count (below count (2 ^ 32) j.0) (stmt_code own.places body (counter ∷ scope))
+      (λ i. stmt_turns own.places body (counter ∷ scope) (at i)) (λ i p. after body (at i) p) (λ i p. hits body (at i) p)
+      (λ i g m p l o kn. inner (counter ∷ scope) (at i) j.1 (λ q words. each i l q words) g m p o kn)
+      (λ n p func x y. hit_before own.points own.inputs func x y body at n p ≡ true)
+      (λ p func x y h. true≢false (sym h ∙ hit-first own.points own.inputs func x y body at p))
+      (λ n p func x y h. or_cases (hit_before own.points own.inputs func x y body at n p) (hit own.points own.inputs func x y body (at n) (made own.points own.inputs func x y body at n p))
+      (sym (hit-later own.points own.inputs func x y body at n p) ∙ h))
+      f memory funcs holds knows in
+      recoded (sym (code-for own.places counter count kind body scope))
+      (went-hits own (λ func x y h. sym (hit-for own.points own.inputs func x y counter count kind body values funcs) ∙ h)
+      (went-is own (sym (turns-for own.places counter count kind body scope values)) (sym (run_for own.points own.inputs counter count kind body values funcs)) a))
+
+  at-bind : (counter : Counter) (whole : Whole) (extent : ℕ) (body : Stmt) → Follows body → Follows (s.Bind counter whole extent body)
+  at-bind counter whole extent body inner scope values is sound f memory funcs holds knows = by-test (nat_lt (whole_value whole values) extent) refl
+    where
+      entered : Values
+      entered = with counter (whole_value whole values) values
+
+      parts : (has_seat scope ≡ true) × ((fits_whole whole && (is_word extent && fits own.places body (counter ∷ scope))) ≡ true)
+      parts = and_parts (has_seat scope) _ (sym (fits-bind own.places counter whole extent body scope) ∙ is)
+
+      chosen : (b : Bool) (func x y : ℕ) → (if b then hit own.points own.inputs func x y body entered funcs else false) ≡ true → hits_if b (hits body entered funcs) func x y
+      chosen true func x y h = h
+      chosen false func x y h = true≢false (sym h)
+
+      by-test : (t : Bool) → nat_lt (whole_value whole values) extent ≡ t
+          → Does own (stmt_code own.places (s.Bind counter whole extent body) scope) (stmt_turns own.places (s.Bind counter whole extent body) scope values) f memory (length scope)
+          (after (s.Bind counter whole extent body) values funcs) (hits (s.Bind counter whole extent body) values funcs)
+      by-test t e =
+          let k = and_parts (fits_whole whole) (is_word extent && fits own.places body (counter ∷ scope)) parts.1 in
+          let j = and_parts (is_word extent) (fits own.places body (counter ∷ scope)) k.1 in
+          let a = bind-does own scope values (below (length scope) 14 parts.0) counter whole extent (below extent (2 ^ 32) j.0) k.0 (stmt_code own.places body (counter ∷ scope))
+          (stmt_turns own.places body (counter ∷ scope) entered) (λ p. after body entered p) (λ p. hits body entered p)
+          (λ so g m p o kn. inner (counter ∷ scope) entered j.1
+          (λ q words. sym (ap (λ b. if b then is_sound (reads_of own.inputs q) own.written own.loaded body entered else true) so) ∙ sym (sound_bind (reads_of own.inputs q) own.written own.loaded counter whole extent body values) ∙ sound q words) g m p o kn)
+          t e f memory funcs holds knows in
+          recoded (sym (code-bind own.places counter whole extent body scope))
+          (went-hits own (λ func x y h. chosen t func x y
+          (sym (ap (λ b. if b then hit own.points own.inputs func x y body entered funcs else false) e) ∙ sym (hit-bind own.points own.inputs func x y counter whole extent body values funcs) ∙ h))
+          (went-is own (sym (turns-bind own.places counter whole extent body scope values ∙ ap (λ b. length (whole_code scope whole (seat (length scope))) + (if b then 3 + stmt_turns own.places body (counter ∷ scope) entered else 4)) e))
+          (sym (run_bind own.points own.inputs counter whole extent body values funcs ∙ ap (λ b. if b then after body entered funcs else funcs) e)) a))
+
+  by-layer : (X : Type 0) (part : X → Stmt) → ((p : X) → Follows (part p)) → (l : Stmt-F X) → Follows (roll-Stmt (map-Stmt X Stmt part l))
+  by-layer X part follows (layer.Store store) = subst Follows (sym (rolls-Store store)) (at-store store)
+  by-layer X part follows (layer.Sequence a b) = subst Follows (sym (rolls-Sequence (part a) (part b))) (at-sequence (part a) (part b) (follows a) (follows b))
+  by-layer X part follows (layer.For counter count kind a) = subst Follows (sym (rolls-For counter count kind (part a))) (at-for counter count kind (part a) (follows a))
+  by-layer X part follows (layer.Bind counter whole extent a) = subst Follows (sym (rolls-Bind counter whole extent (part a))) (at-bind counter whole extent (part a) (follows a))
+
+  pub follows : (statement : Stmt) → Follows statement
+  follows = ind-Stmt Follows (λ l t is. subst (λ (k : Stmt-F Stmt). Follows (roll-Stmt k)) is (by-layer _ (λ e. e.0) (λ e. e.1) t))
+
+pub statements-done : StatementsAreDone
+statements-done own good statement scope values is sound f memory funcs holds knows =
+    let a = follows own good statement scope values is sound f memory funcs holds knows in
+    record {
+      after = a.after;
+      left = a.left;
+      block = a.path;
+      knows = knows-still own.world own.harts scope values f a.after knows a.keeps;
+      vectors = λ q high. a.keeps q (at-vector (omega (arith, high)));
+      holds = a.holds;
+      elsewhere = a.elsewhere;
+      are_bytes = a.are_bytes;
+      writes = λ func x y byte at hit of s. a.writes func x y byte at hit of s;
+    }
