@@ -1,29 +1,107 @@
--- Words of parts of a statement, put together.
-use Rattle.std.proofs.Common.{◌≡◌, ℕ, List, ◌++◌, ap, ◌∙◌, sym, subst}
+-- Words of parts of a statement, put together, and room for all.
+use Rattle.std.proofs.Common.{◌≡◌, ℕ, ◌+◌, ◌^◌, ◌<◌, ◌≤◌, List, [], ◌∷◌, ◌++◌, length, true, ap, ◌∙◌, sym, subst, arith}
+use Rattle.std.specs.Prelude.{nat_le, nat_lt, Option, Some}
+use Rattle.std.proofs.lemmas.Bool.{and_from}
+use Rattle.std.proofs.lemmas.Bool.Decides.{nat_tests}
 use Rattle.rv_insn.specs.declared.instructions.Insn.{Insn}
 use Rattle.loop_ir.specs.declared.expressions.Counter.{Counter}
+use Rattle.loop_ir.specs.declared.statements.LoopKind.{LoopKind}
 use Rattle.loop_ir.specs.declared.statements.Phase.{Phase}
-use Rattle.loop_ir.specs.declared.statements.Stmt.{Stmt, fold-roll-Stmt}
-use Rattle.loop_ir.specs.declared.statements.Stmt.TheOpen as layer
-use Rattle.loop_ir.specs.declared.statements.Stmt.TheVariants.{rolls-Sequence}
+use Rattle.loop_ir.specs.declared.statements.Store.{Store}
+use Rattle.loop_ir.specs.declared.statements.Stmt.{Stmt}
 use Rattle.loop_ir.specs.declared.statements.Stmt.TheVariants as s
+use Rattle.loop_ir.specs.declared.statements.Whole.{Whole}
 use Rattle.task_code.specs.declared.places.Places.{Places}
-use Rattle.task_code.specs.Code.{stmt_at, stmt_code, task_scope, task_code, restored}
+use Rattle.task_code.specs.Code.{Made, EmitsValue, seat, made, store_code, loop_code, bind_code, stmt_code, task_scope, restored}
+use Rattle.task_code.specs.Fitting.{is_word, is_word_or_none, has_room, has_seat, fits_store, fits_whole, fits}
+use Rattle.task_code.specs.Tasks.{EmitsStmt, EmitsTask}
 use Rattle.task_code.specs.Words.{Emits}
-use Rattle.task_code.proofs.Spelling.{emits_then}
+use Rattle.task_code.proofs.Spelling.{emits_then, emits-is, emits-apart}
+use Rattle.task_code.proofs.Unrolled.{code-store, code-sequence, code-for, code-bind, fits-store, fits-sequence, fits-for, fits-bind}
 
-code-sequence : (places : Places) (first second : Stmt) (scope : List Counter) → stmt_code places (s.Sequence first second) scope ≡ stmt_code places first scope ++ stmt_code places second scope
-unfolding stmt_code
-code-sequence places first second scope =
-    ap (λ statement. stmt_code places statement scope) (sym (rolls-Sequence first second))
-    ∙ ap (λ (code : List Counter → List Insn). code scope) (fold-roll-Stmt (List Counter → List Insn) (stmt_at places) (layer.Sequence first second))
+pub word-test : (n : ℕ) → n < 2 ^ 32 → is_word n ≡ true
+word-test n l = grind (arith, nat_tests)
+
+seat-test : (n : ℕ) → n < 14 → nat_lt n 14 ≡ true
+seat-test n l = grind (arith, nat_tests)
+
+room-test : (n : ℕ) → n ≤ 32 → nat_le n 32 ≡ true
+room-test n l = grind (arith, nat_tests)
+
+room-of : {old new : List ℕ} (own : Made) → EmitsValue old new own 20 → has_room own ≡ true
+room-of own x = and_from own.is_word (nat_le (own.need + 20) 32) x.is_word (room-test (own.need + 20) x.room)
+
+pub store-fits : (places : Places) (scope : List Counter) (store : Store) {a b c d e f : List ℕ} → EmitsValue a b (made places scope store.x) 20 → EmitsValue c d (made places scope store.y) 20
+    → EmitsValue e f (made places scope store.value) 20 → fits_store places scope store ≡ true
+store-fits places scope store x y v =
+    and_from (has_room (made places scope store.x)) _ (room-of (made places scope store.x) x)
+    (and_from (has_room (made places scope store.y)) (has_room (made places scope store.value)) (room-of (made places scope store.y) y) (room-of (made places scope store.value) v))
+
+pub last-fits : (last : Option ℕ) (n : ℕ) → last ≡ Some n → n < 2 ^ 32 → is_word_or_none last ≡ true
+last-fits last n e l = ap is_word_or_none e ∙ word-test n l
+
+pub whole-fits : (whole : Whole) → whole.factor < 2 ^ 32 → is_word_or_none whole.last ≡ true → fits_whole whole ≡ true
+whole-fits whole l is = and_from (is_word whole.factor) (is_word_or_none whole.last) (word-test whole.factor l) is
+
+-- ---- statements
+
+pub store-emitted : (places : Places) (scope : List Counter) (own : Stmt) (store : Store) (c0 c1 : List ℕ) → own ≡ s.Store store
+    → Emits c0 c1 (store_code places scope store) × (fits_store places scope store ≡ true) → EmitsStmt c0 c1 places own scope
+store-emitted places scope own store c0 c1 e x =
+    subst (λ z. EmitsStmt c0 c1 places z scope) (sym e)
+    (record { emits = emits-is x.0 (sym (code-store places store scope)); has_room = fits-store places store scope ∙ x.1 })
 
 pub sequence-emitted : (places : Places) (scope : List Counter) (own first second x y : Stmt) (c0 c1 c2 : List ℕ) → own ≡ s.Sequence first second → x ≡ first → y ≡ second
-    → Emits c0 c1 (stmt_code places x scope) → Emits c1 c2 (stmt_code places y scope) → Emits c0 c2 (stmt_code places own scope)
+    → EmitsStmt c0 c1 places x scope → EmitsStmt c1 c2 places y scope → EmitsStmt c0 c2 places own scope
 sequence-emitted places scope own first second x y c0 c1 c2 e ex ey a b =
-    subst (Emits c0 c2) (sym (ap (λ statement. stmt_code places statement scope) e ∙ code-sequence places first second scope))
-    (emits_then (subst (λ z. Emits c0 c1 (stmt_code places z scope)) ex a) (subst (λ z. Emits c1 c2 (stmt_code places z scope)) ey b))
+    let first-is = subst (λ z. EmitsStmt c0 c1 places z scope) ex a in
+    let second-is = subst (λ z. EmitsStmt c1 c2 places z scope) ey b in
+    subst (λ z. EmitsStmt c0 c2 places z scope) (sym e) (record {
+      emits = emits-is (emits_then first-is.emits second-is.emits) (sym (code-sequence places first second scope));
+      has_room = fits-sequence places first second scope ∙ and_from (fits places first scope) (fits places second scope) first-is.has_room second-is.has_room;
+    })
+
+-- a loop's or a test's body, emitted apart
+pub inner-emitted : (places : Places) (start made slice : List ℕ) (view items wanted : List Counter) (x body : Stmt) → start ≡ [] → slice ≡ made → view ≡ items → items ≡ wanted → x ≡ body
+    → EmitsStmt start made places x view → EmitsStmt [] slice places body wanted
+inner-emitted places start made slice view items wanted x body es em ev ew ex a =
+    subst (λ z. EmitsStmt [] slice places body z) (ev ∙ ew)
+    (subst (λ z. EmitsStmt [] slice places z view) ex
+    (subst (λ z. EmitsStmt [] z places x view) (sym em)
+    (subst (λ z. EmitsStmt z made places x view) es a)))
+
+pub for-emitted : (places : Places) (scope : List Counter) (own body : Stmt) (counter : Counter) (count r : ℕ) (kind : LoopKind) (inner c0 c1 : List ℕ)
+    → own ≡ s.For counter count kind body → r ≡ seat (length scope) → length scope < 14 → EmitsStmt [] inner places body (counter ∷ scope)
+    → ((insns : List Insn) → Emits [] inner insns → Emits c0 c1 (loop_code r count insns)) × (count < 2 ^ 32) → EmitsStmt c0 c1 places own scope
+for-emitted places scope own body counter count r kind inner c0 c1 e er few part loop =
+    let code = loop.0 (stmt_code places body (counter ∷ scope)) part.emits in
+    subst (λ z. EmitsStmt c0 c1 places z scope) (sym e) (record {
+      emits = emits-is (subst (λ q. Emits c0 c1 (loop_code q count (stmt_code places body (counter ∷ scope)))) er code) (sym (code-for places counter count kind body scope));
+      has_room = fits-for places counter count kind body scope
+          ∙ and_from (has_seat scope) _ (seat-test (length scope) few) (and_from (is_word count) (fits places body (counter ∷ scope)) (word-test count loop.1) part.has_room);
+    })
+
+pub bind-emitted : (places : Places) (scope : List Counter) (own body : Stmt) (counter : Counter) (whole : Whole) (extent r : ℕ) (inner c0 c1 : List ℕ)
+    → own ≡ s.Bind counter whole extent body → r ≡ seat (length scope) → length scope < 14 → EmitsStmt [] inner places body (counter ∷ scope)
+    → ((insns : List Insn) → Emits [] inner insns → Emits c0 c1 (bind_code scope whole extent r insns)) × ((fits_whole whole ≡ true) × (extent < 2 ^ 32)) → EmitsStmt c0 c1 places own scope
+bind-emitted places scope own body counter whole extent r inner c0 c1 e er few part bound =
+    let code = bound.0 (stmt_code places body (counter ∷ scope)) part.emits in
+    subst (λ z. EmitsStmt c0 c1 places z scope) (sym e) (record {
+      emits = emits-is (subst (λ q. Emits c0 c1 (bind_code scope whole extent q (stmt_code places body (counter ∷ scope)))) er code) (sym (code-bind places counter whole extent body scope));
+      has_room = fits-bind places counter whole extent body scope
+          ∙ and_from (has_seat scope) _ (seat-test (length scope) few) (and_from (fits_whole whole) _ bound.1.0 (and_from (is_word extent) (fits places body (counter ∷ scope)) (word-test extent bound.1.1) part.has_room));
+    })
+
+-- ---- tasks
 
 pub task-emitted : (phase : Phase) (places : Places) (ticket : ℕ) (scope items : List Counter) (c0 c1 c2 : List ℕ) → scope ≡ items → items ≡ task_scope phase.counter
-    → Emits c0 c1 (stmt_code places phase.body scope) → Emits c1 c2 (restored ticket phase.tasks) → Emits c0 c2 (task_code phase places ticket)
-task-emitted phase places ticket scope items c0 c1 c2 e f a b = emits_then (subst (λ z. Emits c0 c1 (stmt_code places phase.body z)) (e ∙ f) a) b
+    → EmitsStmt c0 c1 places phase.body scope → Emits c1 c2 (restored ticket phase.tasks) × (phase.tasks < 2 ^ 32) → EmitsTask c0 c2 phase places ticket
+task-emitted phase places ticket scope items c0 c1 c2 e f a b =
+    let own = subst (λ z. EmitsStmt c0 c1 places phase.body z) (e ∙ f) a in
+    record {
+      emits = emits_then own.emits b.0;
+      has_room = and_from (fits places phase.body (task_scope phase.counter)) (is_word phase.tasks) own.has_room (word-test phase.tasks b.1);
+    }
+
+pub task-apart : (phase : Phase) (places : Places) (ticket : ℕ) (old new inner : List ℕ) → EmitsTask [] inner phase places ticket → new ≡ old ++ inner → EmitsTask old new phase places ticket
+task-apart phase places ticket old new inner x e = record { emits = emits-apart old new inner _ x.emits e; has_room = x.has_room }

@@ -4,13 +4,15 @@ use Rattle.std.specs.Prelude.{◌≡◌, ◌<◌, ◌≤◌, ℕ, ◌+◌, ◌*�
 use Rattle.rv_insn.specs.declared.instructions.Insn.{Insn}
 use Rattle.memory.specs.Addresses.{byte_at, AreBytes, text_start, most_words}
 use Rattle.halide_meaning.specs.Pixel.{Planes}
+use Rattle.loop_ir.specs.declared.expressions.Counter.{Counter}
 use Rattle.loop_ir.specs.declared.statements.Phase.{Phase}
+use Rattle.loop_ir.specs.declared.statements.Stmt.{Stmt}
 use Rattle.loop_ir.specs.Running.{run_task, task_values}
 use Rattle.loop_ir.specs.Stores.{is_stored_by_task}
 use Rattle.lone_hart.specs.Paths.{Stand, end, Block, Writes}
 use Rattle.task_code.specs.declared.places.Places.{Places}
-use Rattle.task_code.specs.Code.{task_code}
-use Rattle.task_code.specs.Fitting.{fits_task, task_turns}
+use Rattle.task_code.specs.Code.{stmt_code, task_code}
+use Rattle.task_code.specs.Fitting.{fits, fits_task, task_turns}
 use Rattle.task_code.specs.Layout.{IsOf, IsElsewhere}
 use Rattle.task_code.specs.Doing.{Setting, IsSetting, SoundIn, HoldsFuncs}
 use Rattle.task_code.specs.Words.{Emits}
@@ -47,10 +49,15 @@ TasksAreDone =
     → (f : ℕ → ℕ) (memory : List ℕ) (funcs : Planes) → HoldsFuncs own memory funcs → HasDrawn own task f
     → TaskEnds own phase ticket task f memory funcs
 
+-- words of a statement's code among these counters, which the registers suffice for
+pub record EmitsStmt (old new : List ℕ) (places : Places) (statement : Stmt) (scope : List Counter) : Type 0 where
+  pub emits : Emits old new (stmt_code places statement scope)
+  pub has_room : fits places statement scope ≡ true
+
 -- words of a task's code, which fits
 pub record EmitsTask (old new : List ℕ) (phase : Phase) (places : Places) (ticket : ℕ) : Type 0 where
   pub emits : Emits old new (task_code phase places ticket)
-  pub fits : fits_task phase places ≡ true
+  pub has_room : fits_task phase places ≡ true
 
 -- words that were appended stand in each text that goes on from there
 pub record StandThere (old new text : List ℕ) (insns : List Insn) : Type 0 where

@@ -52,7 +52,7 @@ pub(crate) fn seat_in(scope: &[Counter], counter: Counter) -> u8
 }
 
 /// Appends what leaves a number in a register.
-fn emit_number(code: &mut Vec<u32>, r: u8, number: u32) -> Result<(), AllocError>
+pub(crate) fn emit_number(code: &mut Vec<u32>, r: u8, number: u32) -> Result<(), AllocError>
     requires { r < 32 }
     ensures { OnOk result (Emits code.old.items code.new.items (spec.literal r number) × (number < 2 ^ 32)) }
 {

@@ -1,12 +1,14 @@
 //! The code of statements and of a task.
 
-ghost use Rattle.std.specs.Prelude.{◌≡◌, ℕ, List, ◌+◌, ◌^◌, ◌<◌, ◌≤◌, [], ◌∷◌, ◌++◌, length, OnOk, IfOk};
+ghost use Rattle.std.specs.Prelude.{◌≡◌, ℕ, List, ◌+◌, ◌^◌, ◌<◌, ◌≤◌, [], ◌∷◌, ◌++◌, length, OnErr, OnOk, IfOk, true};
 ghost use Rattle.rv_insn.specs.declared.instructions.Insn.{Insn as Instruction};
 ghost use Rattle.task_code.specs.Code as spec;
+ghost use Rattle.task_code.specs.Fitting.{fits_store, fits_whole, is_word_or_none};
+ghost use Rattle.task_code.specs.Tasks.{EmitsStmt, EmitsTask};
 ghost use Rattle.task_code.specs.Words.{Emits};
 
 use crate::CodeFault;
-use crate::expressions::{emit_value, place_of, seat, seat_in};
+use crate::expressions::{emit_number, emit_value, place_of, seat, seat_in};
 use crate::instructions::{
     alu, alu_small, branch_below, emit_literal, jump_back, jump_forth, store_word,
 };
@@ -29,16 +31,17 @@ fn emit_move(code: &mut Vec<u32>, r: u8, s: u8) -> Result<(), AllocError>
 /// Appends a jump over so many words, made where the register isn't below the number.
 fn emit_test(code: &mut Vec<u32>, r: u8, number: u32, words: usize) -> Result<(), CodeFault>
     requires { (r < 32) × (words ≤ 2 ^ 40) }
-    ensures { OnOk result (Emits code.old.items code.new.items (spec.test r number words)) }
+    ensures { OnOk result (Emits code.old.items code.new.items (spec.test r number words) × (number < 2 ^ 32)) }
 {
-    emit_literal(code, 13, number)?;
+    emit_number(code, 13, number)?;
     branch_below(code, r, 13)?;
     jump_forth(code, words)?;
     Ok(())
 }
 
 fn append(code: &mut Vec<u32>, more: &[u32]) -> Result<(), AllocError>
-    ensures { OnOk result (code.new.items ≡ code.old.items ++ more.now) }
+    ensures ok { OnOk result (code.new.items ≡ code.old.items ++ more.now) }
+    ensures err { OnErr result (code.new.items ≡ code.old.items) }
 {
     code.extend_from_slice(more)?;
     Ok(())
@@ -50,7 +53,7 @@ fn emit_store(
     scope: &[Counter],
     store: &Store,
 ) -> Result<(), CodeFault>
-    ensures { OnOk result (Emits code.old.items code.new.items (spec.store_code places.now scope.now store.now)) }
+    ensures { OnOk result (Emits code.old.items code.new.items (spec.store_code places.now scope.now store.now) × (fits_store places.now scope.now store.now ≡ true)) }
 {
     emit_value(code, places, scope, &store.x, 20)?;
     emit_move(code, 15, 20)?;
@@ -64,7 +67,7 @@ fn emit_store(
 
 fn emit_loop(code: &mut Vec<u32>, r: u8, count: u32, body: &[u32]) -> Result<(), CodeFault>
     requires { r < 32 }
-    ensures { OnOk result ((insns : List Instruction) → Emits [] body.now insns → Emits code.old.items code.new.items (spec.loop_code r count insns)) }
+    ensures { OnOk result (((insns : List Instruction) → Emits [] body.now insns → Emits code.old.items code.new.items (spec.loop_code r count insns)) × (count < 2 ^ 32)) }
 {
     let words = body.len();
     if words >= 1 << 18 {
@@ -80,11 +83,11 @@ fn emit_loop(code: &mut Vec<u32>, r: u8, count: u32, body: &[u32]) -> Result<(),
 
 fn emit_bounded(code: &mut Vec<u32>, last: Option<u32>, r: u8) -> Result<(), AllocError>
     requires { r < 32 }
-    ensures { OnOk result (Emits code.old.items code.new.items (spec.bounded last r)) }
+    ensures { OnOk result (Emits code.old.items code.new.items (spec.bounded last r) × (is_word_or_none last ≡ true)) }
 {
     match last {
         Some(last) => {
-            emit_literal(code, 14, last)?;
+            emit_number(code, 14, last)?;
             alu(code, AluOp::Sltu, 13, 14, r)?;
             emit_blend(code, r, 14)?;
             Ok(())
@@ -100,9 +103,9 @@ fn emit_whole(
     r: u8,
 ) -> Result<(), AllocError>
     requires { r < 32 }
-    ensures { OnOk result (Emits code.old.items code.new.items (spec.whole_code scope.now whole.now r)) }
+    ensures { OnOk result (Emits code.old.items code.new.items (spec.whole_code scope.now whole.now r) × (fits_whole whole.now ≡ true)) }
 {
-    emit_literal(code, r, whole.factor)?;
+    emit_number(code, r, whole.factor)?;
     let outer = seat_in(scope, whole.outer);
     alu(code, AluOp::Mul, r, r, outer)?;
     emit_bounded(code, whole.last, r)?;
@@ -113,7 +116,7 @@ fn emit_whole(
 
 fn emit_guarded(code: &mut Vec<u32>, r: u8, extent: u32, body: &[u32]) -> Result<(), CodeFault>
     requires { r < 32 }
-    ensures { OnOk result ((insns : List Instruction) → Emits [] body.now insns → Emits code.old.items code.new.items (spec.test r extent (length insns + 1) ++ insns)) }
+    ensures { OnOk result (((insns : List Instruction) → Emits [] body.now insns → Emits code.old.items code.new.items (spec.test r extent (length insns + 1) ++ insns)) × (extent < 2 ^ 32)) }
 {
     let words = body.len();
     if words >= 1 << 18 {
@@ -133,7 +136,7 @@ fn emit_bind(
     body: &[u32],
 ) -> Result<(), CodeFault>
     requires { r < 32 }
-    ensures { OnOk result ((insns : List Instruction) → Emits [] body.now insns → Emits code.old.items code.new.items (spec.bind_code scope.now whole.now extent r insns)) }
+    ensures { OnOk result (((insns : List Instruction) → Emits [] body.now insns → Emits code.old.items code.new.items (spec.bind_code scope.now whole.now extent r insns)) × ((fits_whole whole.now ≡ true) × (extent < 2 ^ 32))) }
 {
     emit_whole(code, scope, whole, r)?;
     emit_guarded(code, r, extent, body)?;
@@ -166,7 +169,6 @@ fn with_counter(
 }
 
 /// Appends the code of a statement among these counters.
-#[tactic(auto, unfolding(crate::specs::Code::stmt_code))]
 fn emit_stmt(
     alloc: Global,
     code: &mut Vec<u32>,
@@ -174,7 +176,7 @@ fn emit_stmt(
     scope: &[Counter],
     stmt: &Stmt,
 ) -> Result<(), CodeFault>
-    ensures { OnOk result (Emits code.old.items code.new.items (spec.stmt_code places.now stmt.now scope.now)) }
+    ensures { OnOk result (EmitsStmt code.old.items code.new.items places.now stmt.now scope.now) }
 {
     match stmt {
         Stmt::Store(store) => {
@@ -219,12 +221,28 @@ fn task_scope(alloc: Global, counter: Option<Counter>) -> Result<Vec<Counter>, A
 
 fn emit_restored(code: &mut Vec<u32>, ticket: u32, tasks: u32) -> Result<(), AllocError>
     requires { ticket + 4 < 2 ^ 32 }
-    ensures { OnOk result (Emits code.old.items code.new.items (spec.restored ticket tasks)) }
+    ensures { OnOk result (Emits code.old.items code.new.items (spec.restored ticket tasks) × (tasks < 2 ^ 32)) }
 {
     emit_literal(code, 13, ticket)?;
     emit_literal(code, 14, ticket + 4)?;
     emit_literal(code, 15, 1)?;
-    emit_literal(code, 16, tasks)?;
+    emit_number(code, 16, tasks)?;
+    Ok(())
+}
+
+fn emit_task(
+    alloc: Global,
+    phase: &Phase,
+    places: &Places,
+    ticket: u32,
+    code: &mut Vec<u32>,
+) -> Result<(), CodeFault>
+    requires { ticket + 4 < 2 ^ 32 }
+    ensures { OnOk result (EmitsTask code.old.items code.new.items phase.now places.now ticket) }
+{
+    let scope = task_scope(alloc, phase.counter)?;
+    emit_stmt(alloc, code, places, scope.as_slice(), &phase.body)?;
+    emit_restored(code, ticket, phase.tasks)?;
     Ok(())
 }
 
@@ -232,12 +250,13 @@ fn emit_restored(code: &mut Vec<u32>, ticket: u32, tasks: u32) -> Result<(), All
 ///
 /// It finds the task's number in x12 and the hart's in x10, and ends behind its last word, with the addresses of the ticket word and of
 /// the gate word behind it in x13 and x14, 1 in x15 and the number of tasks in x16. Its words spell `task_code` of
-/// `specs/Code.antt`.
+/// `specs/Code.antt`, whose numbers are words and which the registers suffice for: so it does the task wherever it stands
+/// ([`crate::laws::tasks_are_done`]).
 ///
 /// # Errors
 ///
-/// Where memory runs out, the code is longer than a text may be, or an expression or a nest of loops has no registers left: then part
-/// of the code may have been appended.
+/// Where memory runs out, the code is longer than a text may be, or an expression or a nest of loops has no registers left: then
+/// nothing was appended.
 pub fn emit(
     alloc: Global,
     phase: &Phase,
@@ -246,10 +265,11 @@ pub fn emit(
     code: &mut Vec<u32>,
 ) -> Result<(), CodeFault>
     requires { ticket + 4 < 2 ^ 32 }
-    ensures { OnOk result (Emits code.old.items code.new.items (spec.task_code phase.now places.now ticket)) }
+    ensures ok { OnOk result (EmitsTask code.old.items code.new.items phase.now places.now ticket) }
+    ensures err { OnErr result (code.new.items ≡ code.old.items) }
 {
-    let scope = task_scope(alloc, phase.counter)?;
-    emit_stmt(alloc, code, places, scope.as_slice(), &phase.body)?;
-    emit_restored(code, ticket, phase.tasks)?;
+    let mut words = Vec::new(alloc);
+    emit_task(alloc, phase, places, ticket, &mut words)?;
+    append(code, words.as_slice())?;
     Ok(())
 }

@@ -2,4 +2,7 @@ use Rattle.task_code.proofs.Spelling.{emits_then}
 use Rattle.task_code.proofs.statements.emit_restored.Goals as goal
 
 pub returns : goal.returns
-returns c = emits_then c.in_ok-emit_literal.ensures (emits_then c.in_ok-emit_literal-2.ensures (emits_then c.in_ok-emit_literal-3.ensures c.in_ok-emit_literal-4.ensures))
+returns c = (
+  emits_then c.in_ok-emit_literal.ensures (emits_then c.in_ok-emit_literal-2.ensures (emits_then c.in_ok-emit_literal-3.ensures c.in_ok-emit_number.ensures.0)),
+  c.in_ok-emit_number.ensures.1,
+)

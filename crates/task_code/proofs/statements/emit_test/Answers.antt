@@ -2,4 +2,4 @@ use Rattle.task_code.proofs.Spelling.{emits_then}
 use Rattle.task_code.proofs.statements.emit_test.Goals as goal
 
 pub returns : goal.returns
-returns c = emits_then c.in_ok-emit_literal.ensures (emits_then c.in_ok-branch_below.ensures c.in_ok-jump_forth.ensures)
+returns c = (emits_then c.in_ok-emit_number.ensures.0 (emits_then c.in_ok-branch_below.ensures c.in_ok-jump_forth.ensures), c.in_ok-emit_number.ensures.1)
