@@ -16,14 +16,16 @@ use rv_insn::{
 };
 use std::alloc::AllocError;
 
-fn register(number: u8) -> Reg
+/// The register with this number.
+pub fn register(number: u8) -> Reg
     requires { number < 32 }
     ensures { result ≡ number }
 {
     Reg::new(number).unwrap()
 }
 
-fn put(code: &mut Vec<u32>, insn: &Insn) -> Result<(), AllocError>
+/// Appends the word of an instruction.
+pub fn put(code: &mut Vec<u32>, insn: &Insn) -> Result<(), AllocError>
     ensures { OnOk result (Emits code.old.items code.new.items (insn.now ∷ [])) }
 {
     decoded_is_meant();
@@ -141,7 +143,11 @@ fn add_lower(code: &mut Vec<u32>, r: u8, value: u32) -> Result<(), AllocError>
 }
 
 /// Appends what leaves a number in a register.
-pub(crate) fn emit_literal(code: &mut Vec<u32>, r: u8, value: u32) -> Result<(), AllocError>
+///
+/// # Errors
+///
+/// Memory ran out.
+pub fn emit_literal(code: &mut Vec<u32>, r: u8, value: u32) -> Result<(), AllocError>
     requires { r < 32 }
     ensures { OnOk result (Emits code.old.items code.new.items (literal r value)) }
 {
@@ -210,7 +216,7 @@ pub(crate) fn branch_below(code: &mut Vec<u32>, r: u8, s: u8) -> Result<(), Allo
 }
 
 /// Appends a jump over so many words, its own among them.
-pub(crate) fn jump_forth(code: &mut Vec<u32>, words: usize) -> Result<(), CodeFault>
+pub fn jump_forth(code: &mut Vec<u32>, words: usize) -> Result<(), CodeFault>
     requires { words ≤ 2 ^ 40 }
     ensures { OnOk result (Emits code.old.items code.new.items (Jal 0 (forth words) ∷ [])) }
 {
@@ -224,7 +230,7 @@ pub(crate) fn jump_forth(code: &mut Vec<u32>, words: usize) -> Result<(), CodeFa
 }
 
 /// Appends a jump back by so many words.
-pub(crate) fn jump_back(code: &mut Vec<u32>, words: usize) -> Result<(), CodeFault>
+pub fn jump_back(code: &mut Vec<u32>, words: usize) -> Result<(), CodeFault>
     requires { (1 ≤ words) × (words ≤ 2 ^ 40) }
     ensures { OnOk result (Emits code.old.items code.new.items (Jal 0 (back words) ∷ [])) }
 {

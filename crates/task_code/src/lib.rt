@@ -2,18 +2,19 @@
 //!
 //! - [`places`]: where buffers lie in memory.
 //! - [`emit`]: appends the words of one task, which spell its code (`specs/Code.antt`).
+//! - [`instructions`]: appends single instructions, for the code around tasks too.
 //! - [`laws`]: what the code of expressions, statements and tasks does, wherever it stands (`specs/Evaluation.antt`, `specs/Doing.antt`,
 //!   `specs/Tasks.antt`), where buffers lie so (`specs/Layout.antt`) and the registers suffice (`specs/Fitting.antt`).
 #![tactic(auto)]
 
 mod expressions;
-mod instructions;
+pub mod instructions;
 pub mod laws;
 mod operations;
 pub mod places;
 mod statements;
 
-pub use crate::statements::emit;
+pub use crate::statements::{append, emit, emit_restored};
 use std::alloc::AllocError;
 
 /// Why no code is given.

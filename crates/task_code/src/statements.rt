@@ -39,7 +39,8 @@ fn emit_test(code: &mut Vec<u32>, r: u8, number: u32, words: usize) -> Result<()
     Ok(())
 }
 
-fn append(code: &mut Vec<u32>, more: &[u32]) -> Result<(), AllocError>
+/// Appends words.
+pub fn append(code: &mut Vec<u32>, more: &[u32]) -> Result<(), AllocError>
     ensures ok { OnOk result (code.new.items ≡ code.old.items ++ more.now) }
     ensures err { OnErr result (code.new.items ≡ code.old.items) }
 {
@@ -219,7 +220,8 @@ fn task_scope(alloc: Global, counter: Option<Counter>) -> Result<Vec<Counter>, A
     }
 }
 
-fn emit_restored(code: &mut Vec<u32>, ticket: u32, tasks: u32) -> Result<(), AllocError>
+/// Appends what leaves the numbers that the draw and the gate look for.
+pub fn emit_restored(code: &mut Vec<u32>, ticket: u32, tasks: u32) -> Result<(), AllocError>
     requires { ticket + 4 < 2 ^ 32 }
     ensures { OnOk result (Emits code.old.items code.new.items (spec.restored ticket tasks) × (tasks < 2 ^ 32)) }
 {

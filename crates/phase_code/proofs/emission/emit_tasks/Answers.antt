@@ -1,0 +1,12 @@
+use Rattle.std.proofs.Common.{◌≡◌, ◌+◌, ◌∷◌, ◌++◌, [], length, subst}
+use Rattle.rv_insn.specs.declared.instructions.Insn.TheVariants.{Jal}
+use Rattle.task_code.specs.Code.{back}
+use Rattle.task_code.specs.Words.{Emits}
+use Rattle.task_code.proofs.Spelling.{emits_then, emits-apart, emits-length}
+use Rattle.phase_code.proofs.emission.emit_tasks.Goals as goal
+
+pub returns : goal.returns
+returns c = λ is x.
+    let e : length c.args.words.now ≡ length is = emits-length c.args.words.now is x in
+    subst (λ k. Emits c.args.code.now.items c.jump_back.new.code.items (is ++ (Jal 0 (back (k + 2)) ∷ []))) e
+    (emits_then (emits-apart _ _ _ is x c.in_ok-append.ensures) c.in_ok-jump_back.ensures)
