@@ -9,4 +9,4 @@ pub returns : goal.returns
 returns c = λ is x.
     let e : length c.args.words.now ≡ length is = emits-length c.args.words.now is x in
     subst (λ k. Emits c.args.code.now.items c.jump_back.new.code.items (is ++ (Jal 0 (back (k + 2)) ∷ []))) e
-    (emits_then (emits-apart _ _ _ is x c.in_ok-append.ensures) c.in_ok-jump_back.ensures)
+    (emits_then (emits-apart _ _ _ is x c.in_ok-append.ensures.ok) c.in_ok-jump_back.ensures)
