@@ -186,7 +186,7 @@ module _ (pipeline : Pipeline) (schedule : Schedule) (boxes : Boxes) (rules : Is
       through = r.through.1;
     }
 
-    input_held : (place a b : ℕ) → is_some (slice_get pipeline.inputs place) ≡ true → IsBoxed no_loops (slice_get boxes.inputs place) a b → is_within (slice_get pipeline.inputs place) a b ≡ true
+    pub input_held : (place a b : ℕ) → is_some (slice_get pipeline.inputs place) ≡ true → IsBoxed no_loops (slice_get boxes.inputs place) a b → is_within (slice_get pipeline.inputs place) a b ≡ true
     input_held place a b some boxed = by_input (slice_get pipeline.inputs place) refl some
       where
         found : AreFound pipeline schedule boxes

@@ -66,6 +66,8 @@ pub fn loop_once(
     requires few { AreFew sizes.now.extents }
     ensures runs { IfOk result (λ made. (points : Points) (inputs : Planes) (values : Values) (funcs : Planes) → run points inputs made values funcs
         ≡ turns (counts.counts sizes.now.extents sizes.now.splits own.now.id) (λ turn. run points inputs body (with (record { func = func; id = own.now.id }) turn values)) funcs) }
+    ensures sound { IfOk result (λ made. (reads : Reads) (written : Points) (loaded : Point → Bool) (values : Values) → is_sound reads written loaded made values
+        ≡ every (counts.counts sizes.now.extents sizes.now.splits own.now.id) (λ turn. is_sound reads written loaded body (with (record { func = func; id = own.now.id }) turn values))) }
     ensures repeats { IfOk result (λ made. (leaf : Stmt) (list : counts.Values → List counts.Values) → Repeats func body leaf list
         → Repeats func made leaf (λ outer. upto (counts.counts sizes.now.extents sizes.now.splits own.now.id) (λ turn. list (counts.with own.now.id turn outer)))) }
 {
