@@ -1,13 +1,16 @@
 -- The nest of a pure definition of a Func that is computed at a loop fills its box of one iteration.
 use Rattle.std.proofs.Common.{◌≡◌, ℕ, ◌<◌, Bool, true, false, cond, List, map, Option, Some, None, refl, sym, ap, subst, ◌∙◌, arith, true≢false}
-use Rattle.std.specs.Prelude.{◌==◌, slice_get, Ok}
-use Rattle.std.specs.List.{AllByRecursion, list_any}
-use Rattle.std.proofs.lemmas.Bool.{and_from, eq-eqb, ne_eqb}
+use Rattle.std.specs.Prelude.{◌==◌, nat_lt, slice_get, Ok}
+use Rattle.std.specs.List.{AllByRecursion, list_all, list_any}
+use Rattle.std.proofs.lemmas.Bool.{and_from, eq-eqb, lt-ltb, ne_eqb}
 use mathlib.Core.Path.{fun_ext}
 use Rattle.halide_pipeline.specs.declared.definitions.Func.{Func}
+use Rattle.halide_pipeline.specs.declared.expressions.Variable.TheVariants as variables
 use Rattle.halide_pipeline.specs.Pipelines.{Pipeline}
 use Rattle.halide_pipeline.specs.WellFormed.{IsWellFormed}
-use Rattle.halide_meaning.specs.Pixel.{Plane, Planes, pixels, stage}
+use Rattle.halide_meaning.specs.Pixel.{Plane, Planes, Reads, pixels, stage}
+use Rattle.reads.specs.Points.{Point}
+use Rattle.schedule_lines.specs.declared.stages.LoopId.TheVariants as ids
 use Rattle.schedule.specs.declared.plans.FuncPlan.{FuncPlan}
 use Rattle.schedule.specs.declared.schedules.Schedule.{Schedule}
 use Rattle.schedule.specs.declared.standings.LoopPlace.{LoopPlace}
@@ -22,7 +25,7 @@ use Rattle.stage_loops.proofs.Covering.{visited}
 use Rattle.stage_loops.proofs.Slices.{visits_within}
 use Rattle.stage_loops.proofs.TurnsFound.{of_all}
 use Rattle.stage_loops.proofs.Wholes.{visits_of_wholes}
-use Rattle.ranges.specs.Laws.{Below}
+use Rattle.ranges.specs.Laws.{Below, AnswerWords}
 use Rattle.bounds.specs.declared.boxes.SourceBox.{SourceBox}
 use Rattle.bounds.specs.declared.verdict.Boxes.{Boxes}
 use Rattle.bounds.specs.Boxes.{extent}
@@ -30,16 +33,18 @@ use Rattle.bounds.specs.Verdict.{inferred}
 use Rattle.bounds.specs.Views.{extents_of}
 use Rattle.box_laws.specs.HostLaws.{values_in}
 use Rattle.loop_ir.specs.declared.statements.Stmt.{Stmt}
+use Rattle.loop_ir.specs.Buffers.{Points}
 use Rattle.loop_ir.specs.Counters.{Values}
 use Rattle.loop_ir.specs.Running.{run}
+use Rattle.loop_ir.specs.Soundness.{is_sound}
 use Rattle.nest_lowering.specs.Nests.{loops_of, put_loops, all, AreSmall, Repeats}
 use Rattle.lowering.specs.Corners.{turns_for, turns_at}
-use Rattle.lowering.specs.Hosting.{hosting, Keeps, Leaves, IsAnswered, DoesNest}
+use Rattle.lowering.specs.Hosting.{hosting, Keeps, Leaves, IsAnswered, DoesNest, MayTouch, IsSoundNest}
 use Rattle.lowering.specs.Planes.{box_points}
 use Rattle.lowering.specs.PurePhases.{IsComputedAt, IsStoreOf}
-use Rattle.lowering.proofs.Covered.{point_there, slice_there}
+use Rattle.lowering.proofs.Covered.{parts_of, point_there, slice_there}
 use Rattle.lowering.proofs.Facts.{staged, fits, hosted_before}
-use Rattle.lowering.proofs.Lists.{any_map, all_map, none_passes}
+use Rattle.lowering.proofs.Lists.{any_map, all_map, all_pass, none_passes}
 use Rattle.lowering.proofs.Painting.{Writes, Paints, is_at, paints}
 use Rattle.lowering.proofs.Writing as writing
 
@@ -157,3 +162,46 @@ module _ (pipeline : Pipeline) (schedule : Schedule) (boxes : Boxes) (rules : Is
 
   pub fills : DoesNest pipeline schedule boxes loop place func own 0 made
   fills inputs turned below funcs answered = leaves inputs turned below funcs answered
+
+  -- ---- what it touches
+
+  module _ (reads : Reads) (words : AnswerWords pipeline.inputs reads) (written : Points) (loaded : Point → Bool) (turned : loops.Values)
+      (below : Below (turns_for schedule.funcs (places.At loop) (hosting loop.func turned)) own.lasts)
+      (may : MayTouch pipeline schedule boxes loop.func place func own (turns_for schedule.funcs (places.At loop) (hosting loop.func turned)) reads written loaded turned) where
+    dark : Planes
+    dark other x y = 0
+
+    abbrev now : Values
+    now = hosting loop.func turned
+
+    abbrev values_now : List ℕ
+    values_now = turns_for schedule.funcs (places.At loop) now
+
+    abbrev IsSoundAt : loops.Values → Type 0
+    IsSoundAt inner = is_sound reads written loaded store (put_loops place inner now) ≡ true
+
+    step_sound : (inner : loops.Values) → IsVisitOf func None extents (visit_of extents inner) → IsSoundAt inner
+    step_sound inner v =
+        let x = inner (ids.Whole variables.FirstArgument) in
+        let y = inner (ids.Whole variables.SecondArgument) in
+        let p = parts_of pipeline schedule boxes rules accepted is (places.At loop) place func plan own here at (visit_of extents inner) v in
+        writing.sound pipeline schedule boxes rules accepted is (places.At loop) place func plan own here at store store_of dark values_now below now (turns_same dark turned) inner v reads written loaded
+        (may.writes x y (and_from (nat_lt x (extent own.x)) (nat_lt y (extent own.y)) (lt-ltb x (extent own.x) p.0) (lt-ltb y (extent own.y) p.1)))
+        (may.pure store_of.corners store_of.are_corners (put_loops place inner now) (loops_put_other place loop.func inner now (λ e. omega (arith, e, here)) ∙ loops_hosting loop.func turned)
+        (writing.across pipeline schedule boxes rules accepted is (places.At loop) place func plan own here at store store_of dark values_now below now (turns_same dark turned) inner)
+        (writing.down pipeline schedule boxes rules accepted is (places.At loop) place func plan own here at store store_of dark values_now below now (turns_same dark turned) inner)
+        (writing.lies pipeline schedule boxes rules accepted is (places.At loop) place func plan own here at store store_of dark values_now below now (turns_same dark turned) inner v))
+
+    no_turns_now : loops_of place now ≡ zeros
+    no_turns_now = no_other_loops loop.func place turned (λ e. omega (arith, e, here))
+
+    pub sound_nest : is_sound reads written loaded made now ≡ true
+    sound_nest =
+        repeats.sound reads written loaded now (subst AreSmall (sym no_turns_now) (λ id. omega arith))
+        ∙ ap (λ (t : loops.Values). list_all (λ inner. is_sound reads written loaded store (put_loops place inner now)) (wholes extents plan.pure.splits plan.pure.loops t)) no_turns_now
+        ∙ all_pass (λ inner. is_sound reads written loaded store (put_loops place inner now)) turns
+        (all_map (IsVisitOf func None extents) IsSoundAt (visit_of extents) step_sound turns
+        (subst (λ (l : List Visit). AllByRecursion (IsVisitOf func None extents) l) visits_are (visits_within func None extents plan.pure stage_facts.0)))
+
+  pub touches : IsSoundNest pipeline schedule boxes loop place func own made
+  touches reads words written loaded turned below may = sound_nest reads words written loaded turned below may

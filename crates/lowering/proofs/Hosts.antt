@@ -128,10 +128,10 @@ module _ (pipeline : Pipeline) (schedule : Schedule) (boxes : Boxes) (rules : Is
   hosted_loop : (k : ℕ) (loop other : LoopPlace) → IsHosted k loop → IsHosted k other → loop ≡ other
   hosted_loop k loop other h g = one_loop loop other h.standing.place h.placed_is (one_place k h.standing g.standing h.there g.there ∙ g.placed_is)
 
-  root_not_hosted : (k : ℕ) (standing : Standing) → IsReached schedule.standings k standing → standing.place ≡ places.Root → (loop : LoopPlace) → IsHosted k loop → ⊥
+  pub root_not_hosted : (k : ℕ) (standing : Standing) → IsReached schedule.standings k standing → standing.place ≡ places.Root → (loop : LoopPlace) → IsHosted k loop → ⊥
   root_not_hosted k standing there root loop h = not_root standing.place loop (one_place k standing h.standing there h.there ∙ h.placed_is) root
 
-  before_host : (k : ℕ) (loop : LoopPlace) → IsHosted k loop → k < host
+  pub before_host : (k : ℕ) (loop : LoopPlace) → IsHosted k loop → k < host
   before_host k loop h = omega (arith, hosted_before pipeline schedule accepted k h.standing h.there loop h.placed_is, h.same)
 
   host_of : (k : ℕ) (loop : LoopPlace) → IsHosted k loop → IsHost pipeline schedule.funcs k loop
@@ -182,28 +182,28 @@ module _ (pipeline : Pipeline) (schedule : Schedule) (boxes : Boxes) (rules : Is
     unique_here : Unique (inside ++ mid ∷ outside)
     unique_here = subst Unique loops_are unique
 
-    mid_count : inner_count mid.id loops_in ≡ length inside
+    pub mid_count : inner_count mid.id loops_in ≡ length inside
     mid_count = ap (inner_count mid.id) loops_are ∙ count_at inside mid outside unique_here
 
     -- a loop with as many inside is this one
     mid_is : (id : LoopId) → inner_count id loops_in ≡ length inside → mid.id ≡ id
     mid_is id e = counted_is inside mid outside id (sym (ap (inner_count id) loops_are) ∙ e)
 
-    abbrev loop_here : LoopPlace
+    abbrev pub loop_here : LoopPlace
     loop_here = record { func = host; inside = mid.id }
 
-    turns_here : AreTurnsFrom plan own mid.id turned
+    pub turns_here : AreTurnsFrom plan own mid.id turned
     turns_here =
         subst (λ (n : ℕ). AreTurns counts (drop n loops_in) turned) (sym mid_count)
         (subst (λ (l : List Loop). AreTurns counts (drop (length inside) l) turned) (sym loops_are)
         (subst (λ (l : List Loop). AreTurns counts l turned) (sym (drop_front inside (mid ∷ outside))) are))
 
-    below_lasts : Below (values_in plan mid.id turned) (lasts_in extents plan.pure.splits loops_in)
+    pub below_lasts : Below (values_in plan mid.id turned) (lasts_in extents plan.pure.splits loops_in)
     below_lasts =
         subst (λ (n : ℕ). Below (turns_from n turned loops_in) (lasts_in extents plan.pure.splits loops_in)) (sym mid_count)
         (turns_below extents plan.pure.splits turned inside (mid ∷ outside) loops_in loops_are are)
 
-    turns_are : turns_for schedule.funcs (places.At loop_here) (hosting host turned) ≡ values_in plan mid.id turned
+    pub turns_are : turns_for schedule.funcs (places.At loop_here) (hosting host turned) ≡ values_in plan mid.id turned
     turns_are = ap (λ (p : Option FuncPlan). turns_at loop_here p (hosting host turned)) at.plan_is ∙ ap (values_in plan mid.id) (loops_hosting host turned)
 
     -- the Funcs at this loop that stand before one have their pixels
@@ -218,27 +218,21 @@ module _ (pipeline : Pipeline) (schedule : Schedule) (boxes : Boxes) (rules : Is
     unfolding host_loop_in
     lasts_in_host id = refl
 
-    module _ (g : ℕ) (nested : Func) (nested_plan : FuncPlan) (box : SourceBox) (parts : IsComputedAt pipeline schedule boxes (places.At loop_here) g nested nested_plan box) (funcs : Planes) (begins : Begins g funcs) where
-      hosted_here : IsHosted g loop_here
+    module _ (g : ℕ) (nested : Func) (nested_plan : FuncPlan) (box : SourceBox) (parts : IsComputedAt pipeline schedule boxes (places.At loop_here) g nested nested_plan box) where
+      pub hosted_here : IsHosted g loop_here
       hosted_here = record { standing = parts.standing; there = parts.there; placed_is = parts.placed_is; same = refl }
 
-      g_before : g < host
+      pub g_before : g < host
       g_before = before_host g loop_here hosted_here
 
-      below : Below (values_in plan mid.id turned) box.lasts
+      pub below : Below (values_in plan mid.id turned) box.lasts
       below =
           subst (λ (l : List ℕ). Below (values_in plan mid.id turned) l)
           (sym (lasts_are pipeline schedule boxes g nested nested_plan box accepted is (places.At loop_here) g_before parts
           ∙ ap lasts_of (host_is schedule boxes.funcs (places.At loop_here) loop_here host plan own refl refl at.plan_is at.box_is) ∙ lasts_in_host mid.id))
           below_lasts
 
-      roots_hold : (k : ℕ) (standing : Standing) → k < g → IsReached schedule.standings k standing → standing.place ≡ places.Root
-          → (other : SourceBox) → slice_get boxes.funcs k ≡ Some (Some other) → Holds k other no_loops (pixels pipeline.funcs inputs g k) funcs
-      roots_hold k standing before there root other other_is x y lx ly =
-          begins.state.shared k standing (omega (arith, before, g_before)) there root other other_is x y lx ly
-          ∙ pixels_fewer pipeline.funcs inputs host g k (word.add (first_of other.x no_loops) x) (word.add (first_of other.y no_loops) y) before (omega (arith, g_before))
-
-      stands_inside : (k : ℕ) (w : IsReadWithin schedule g k) (loop : LoopPlace) → w.own.place ≡ places.At loop → StandsAt schedule loop g → (loop.func ≡ host) × (length inside ≤ inner_count loop.inside loops_in)
+      pub stands_inside : (k : ℕ) (w : IsReadWithin schedule g k) (loop : LoopPlace) → w.own.place ≡ places.At loop → StandsAt schedule loop g → (loop.func ≡ host) × (length inside ≤ inner_count loop.inside loops_in)
       stands_inside k w loop placed (HasLoop e) =
           let r : IsRootReached schedule.standings loop.func = numbered_at (HasHostAtRoot schedule.standings) 0 schedule.standings accepted.hosts_at_root k w.own w.there.standing w.there.reached loop placed in
           absurd (root_not_hosted g r.own (subst (λ (n : ℕ). IsReached schedule.standings n r.own) (sym e) r.there) r.root loop_here hosted_here)
@@ -252,85 +246,92 @@ module _ (pipeline : Pipeline) (schedule : Schedule) (boxes : Boxes) (rules : Is
           ∙ sym (ap (λ (q : Option FuncPlan). comes_first other.inside loop.inside (pure_loops_of q)) (ap (λ (n : ℕ). slice_get schedule.funcs n) (sym is_host) ∙ at.plan_is)) ∙ p.1 in
           (sym (is_host ∙ f), omega (arith, count_first mid.id loop.inside loops_in first, mid_count))
 
-      of_host : (k : ℕ) (w : IsReadWithin schedule g k) (loop : LoopPlace) → w.own.place ≡ places.At loop → loop.func ≡ host
+      pub of_host : (k : ℕ) (w : IsReadWithin schedule g k) (loop : LoopPlace) → w.own.place ≡ places.At loop → loop.func ≡ host
       of_host k w loop placed = (stands_inside k w loop placed (w.within loop placed)).0
 
       hosted_read : (k : ℕ) (w : IsReadWithin schedule g k) (loop : LoopPlace) → w.own.place ≡ places.At loop → IsHosted k loop
       hosted_read k w loop placed = record { standing = w.own; there = w.there; placed_is = placed; same = of_host k w loop placed }
 
-      holds_by : (k : ℕ) (w : IsReadWithin schedule g k) (loop : LoopPlace) (placed : w.own.place ≡ places.At loop) → HoldsAt turned k loop funcs
-      holds_by k w loop placed = elim (cases_eq (inner_count loop.inside loops_in) (length inside)) [
-        | inl e ↦ begins.held k loop w.before (hosted_read k w loop placed) (sym (mid_is loop.inside e))
-        | inr d ↦ begins.state.hosted k loop (hosted_read k w loop placed) (omega (arith, (stands_inside k w loop placed (w.within loop placed)).1, d))
-      ]
+      module _ (funcs : Planes) (begins : Begins g funcs) where
+        roots_hold : (k : ℕ) (standing : Standing) → k < g → IsReached schedule.standings k standing → standing.place ≡ places.Root
+            → (other : SourceBox) → slice_get boxes.funcs k ≡ Some (Some other) → Holds k other no_loops (pixels pipeline.funcs inputs g k) funcs
+        roots_hold k standing before there root other other_is x y lx ly =
+            begins.state.shared k standing (omega (arith, before, g_before)) there root other other_is x y lx ly
+            ∙ pixels_fewer pipeline.funcs inputs host g k (word.add (first_of other.x no_loops) x) (word.add (first_of other.y no_loops) y) before (omega (arith, g_before))
 
-      loops_hold : (k : ℕ) (w : IsReadWithin schedule g k) (loop : LoopPlace) → w.own.place ≡ places.At loop
-          → (other : SourceBox) → slice_get boxes.funcs k ≡ Some (Some other) → Holds k other (values_in plan loop.inside turned) (pixels pipeline.funcs inputs g k) funcs
-      loops_hold k w loop placed other other_is x y lx ly =
-          holds_by k w loop placed other other_is x y lx ly
-          ∙ pixels_fewer pipeline.funcs inputs host g k (word.add (first_of other.x (values_in plan loop.inside turned)) x) (word.add (first_of other.y (values_in plan loop.inside turned)) y) w.before (omega (arith, g_before))
+        holds_by : (k : ℕ) (w : IsReadWithin schedule g k) (loop : LoopPlace) (placed : w.own.place ≡ places.At loop) → HoldsAt turned k loop funcs
+        holds_by k w loop placed = elim (cases_eq (inner_count loop.inside loops_in) (length inside)) [
+          | inl e ↦ begins.held k loop w.before (hosted_read k w loop placed) (sym (mid_is loop.inside e))
+          | inr d ↦ begins.state.hosted k loop (hosted_read k w loop placed) (omega (arith, (stands_inside k w loop placed (w.within loop placed)).1, d))
+        ]
 
-      reads_answered : (values : List ℕ) → values ≡ values_in plan mid.id turned → IsAnswered pipeline schedule boxes host g nested box values inputs turned funcs
-      reads_answered values e corners are_corners counters counters_are now keeps x y lies =
-          let lies_here : LiesIn (values_in plan mid.id turned) box x y = subst (λ (l : List ℕ). LiesIn l box x y) e lies in
-          answered pipeline schedule boxes rules accepted is (places.At loop_here) g nested nested_plan box g_before parts inputs begun host func plan own at turned funcs roots_hold of_host loops_hold
-          counters (λ id. ap (values_in plan id) counters_are) corners are_corners now keeps (values_in plan mid.id turned) below x y lies_here
-          (λ k w loop placed. (turns_here, lies_here))
+        loops_hold : (k : ℕ) (w : IsReadWithin schedule g k) (loop : LoopPlace) → w.own.place ≡ places.At loop
+            → (other : SourceBox) → slice_get boxes.funcs k ≡ Some (Some other) → Holds k other (values_in plan loop.inside turned) (pixels pipeline.funcs inputs g k) funcs
+        loops_hold k w loop placed other other_is x y lx ly =
+            holds_by k w loop placed other other_is x y lx ly
+            ∙ pixels_fewer pipeline.funcs inputs host g k (word.add (first_of other.x (values_in plan loop.inside turned)) x) (word.add (first_of other.y (values_in plan loop.inside turned)) y) w.before (omega (arith, g_before))
 
-      updates_answered : (values : List ℕ) → values ≡ values_in plan mid.id turned → AreUpdatesAnswered pipeline schedule boxes host g nested box values inputs turned funcs
-      updates_answered values e corners are_corners counters counters_are now keeps number_at update update_is number x y few lies own_plane words =
-          let lies_here : LiesIn (values_in plan mid.id turned) box x y = subst (λ (l : List ℕ). LiesIn l box x y) e lies in
-          answered_beside pipeline schedule boxes rules accepted is (places.At loop_here) g nested nested_plan box g_before parts inputs begun host func plan own at turned funcs roots_hold of_host loops_hold
-          counters (λ id. ap (values_in plan id) counters_are) corners are_corners now keeps (values_in plan mid.id turned) below x y lies_here
-          (λ k w loop placed. (turns_here, lies_here)) number_at update update_is number few (reads_of inputs (with_plane g own_plane (pixels pipeline.funcs inputs g))) words
+        reads_answered : (values : List ℕ) → values ≡ values_in plan mid.id turned → IsAnswered pipeline schedule boxes host g nested box values inputs turned funcs
+        reads_answered values e corners are_corners counters counters_are now keeps x y lies =
+            let lies_here : LiesIn (values_in plan mid.id turned) box x y = subst (λ (l : List ℕ). LiesIn l box x y) e lies in
+            answered pipeline schedule boxes rules accepted is (places.At loop_here) g nested nested_plan box g_before parts inputs begun host func plan own at turned funcs roots_hold of_host loops_hold
+            counters (λ id. ap (values_in plan id) counters_are) corners are_corners now keeps (values_in plan mid.id turned) below x y lies_here
+            (λ k w loop placed. (turns_here, lies_here))
 
-      -- what its nest leaves
-      module _ (made : Stmt) (does : DoesNests pipeline schedule boxes loop_here g nested box (length nested.updates) made) where
-        abbrev after : Planes
-        after = run points inputs made (hosting host turned) funcs
+        updates_answered : (values : List ℕ) → values ≡ values_in plan mid.id turned → AreUpdatesAnswered pipeline schedule boxes host g nested box values inputs turned funcs
+        updates_answered values e corners are_corners counters counters_are now keeps number_at update update_is number x y few lies own_plane words =
+            let lies_here : LiesIn (values_in plan mid.id turned) box x y = subst (λ (l : List ℕ). LiesIn l box x y) e lies in
+            answered_beside pipeline schedule boxes rules accepted is (places.At loop_here) g nested nested_plan box g_before parts inputs begun host func plan own at turned funcs roots_hold of_host loops_hold
+            counters (λ id. ap (values_in plan id) counters_are) corners are_corners now keeps (values_in plan mid.id turned) below x y lies_here
+            (λ k w loop placed. (turns_here, lies_here)) number_at update update_is number few (reads_of inputs (with_plane g own_plane (pixels pipeline.funcs inputs g))) words
 
-        leaves : Leaves g box (values_in plan mid.id turned) (stage g nested inputs (pixels pipeline.funcs inputs g) (length nested.updates)) funcs after
-        leaves =
-            subst (λ (l : List ℕ). Leaves g box l (stage g nested inputs (pixels pipeline.funcs inputs g) (length nested.updates)) funcs after) turns_are
-            (does inputs begun turned
-            (subst (λ (l : List ℕ). Below l box.lasts) (sym turns_are) below) funcs
-            (reads_answered (turns_for schedule.funcs (places.At loop_here) (hosting host turned)) turns_are)
-            (updates_answered (turns_for schedule.funcs (places.At loop_here) (hosting host turned)) turns_are))
+        -- what its nest leaves
+        module _ (made : Stmt) (does : DoesNests pipeline schedule boxes loop_here g nested box (length nested.updates) made) where
+          abbrev after : Planes
+          after = run points inputs made (hosting host turned) funcs
 
-        same_box : (a b : SourceBox) → Some (Some a) ≡ Some (Some b) → a ≡ b
-        same_box a b e = cc
+          leaves : Leaves g box (values_in plan mid.id turned) (stage g nested inputs (pixels pipeline.funcs inputs g) (length nested.updates)) funcs after
+          leaves =
+              subst (λ (l : List ℕ). Leaves g box l (stage g nested inputs (pixels pipeline.funcs inputs g) (length nested.updates)) funcs after) turns_are
+              (does inputs begun turned
+              (subst (λ (l : List ℕ). Below l box.lasts) (sym turns_are) below) funcs
+              (reads_answered (turns_for schedule.funcs (places.At loop_here) (hosting host turned)) turns_are)
+              (updates_answered (turns_for schedule.funcs (places.At loop_here) (hosting host turned)) turns_are))
 
-        holds_after : HoldsAt turned g loop_here after
-        holds_after other other_is =
-            subst (λ (b : SourceBox). Holds g b (values_in plan mid.id turned) (pixel g) after) (same_box box other (sym parts.box_is ∙ other_is))
-            (λ x y lx ly. leaves.holds x y lx ly
-            ∙ sym (pixels_before pipeline.funcs inputs host g (word.add (first_of box.x (values_in plan mid.id turned)) x) (word.add (first_of box.y (values_in plan mid.id turned)) y) g_before
-            ∙ ap (λ (f : Option Func). func_plane g f inputs (pixels pipeline.funcs inputs g) (word.add (first_of box.x (values_in plan mid.id turned)) x) (word.add (first_of box.y (values_in plan mid.id turned)) y)) parts.func_is))
+          same_box : (a b : SourceBox) → Some (Some a) ≡ Some (Some b) → a ≡ b
+          same_box a b e = cc
 
-        begins_after : Begins (suc g) after
-        begins_after = record {
-          state = record {
-            shared = λ k standing before there root other other_is x y lx ly.
-                leaves.keeps k x y (λ e. root_not_hosted k standing there root loop_here (subst (λ (n : ℕ). IsHosted n loop_here) (sym e) hosted_here)) ∙ begins.state.shared k standing before there root other other_is x y lx ly;
-            hosted = λ k loop h further other other_is x y lx ly.
-                leaves.keeps k x y (λ e.
-                let one : loop ≡ loop_here = hosted_loop g loop loop_here (subst (λ (n : ℕ). IsHosted n loop) e h) hosted_here in
-                omega (arith, further, ap (λ (l : LoopPlace). inner_count l.inside loops_in) one, mid_count))
-                ∙ begins.state.hosted k loop h further other other_is x y lx ly;
-          };
-          held = λ k loop before h here. elim (cases_eq k g) [
-            | inl e ↦
-                let here_is : loop_here ≡ loop = hosted_loop g loop_here loop hosted_here (subst (λ (n : ℕ). IsHosted n loop) e h) in
-                subst (λ (n : ℕ). HoldsAt turned n loop after) (sym e) (subst (λ (l : LoopPlace). HoldsAt turned g l after) here_is holds_after)
-            | inr d ↦ λ other other_is x y lx ly. leaves.keeps k x y d ∙ begins.held k loop (omega (arith, before, d)) h here other other_is x y lx ly
-          ];
-        }
+          holds_after : HoldsAt turned g loop_here after
+          holds_after other other_is =
+              subst (λ (b : SourceBox). Holds g b (values_in plan mid.id turned) (pixel g) after) (same_box box other (sym parts.box_is ∙ other_is))
+              (λ x y lx ly. leaves.holds x y lx ly
+              ∙ sym (pixels_before pipeline.funcs inputs host g (word.add (first_of box.x (values_in plan mid.id turned)) x) (word.add (first_of box.y (values_in plan mid.id turned)) y) g_before
+              ∙ ap (λ (f : Option Func). func_plane g f inputs (pixels pipeline.funcs inputs g) (word.add (first_of box.x (values_in plan mid.id turned)) x) (word.add (first_of box.y (values_in plan mid.id turned)) y)) parts.func_is))
 
-        keeps_after : KeepsOuter (suc (length inside)) funcs after
-        keeps_after k x y outer = leaves.keeps k x y (λ e. no_outer (outer loop_here (subst (λ (n : ℕ). IsHosted n loop_here) (sym e) hosted_here)))
-          where
-            no_outer : suc (length inside) ≤ inner_count mid.id loops_in → ⊥
-            no_outer few = omega (arith, few, mid_count)
+          begins_after : Begins (suc g) after
+          begins_after = record {
+            state = record {
+              shared = λ k standing before there root other other_is x y lx ly.
+                  leaves.keeps k x y (λ e. root_not_hosted k standing there root loop_here (subst (λ (n : ℕ). IsHosted n loop_here) (sym e) hosted_here)) ∙ begins.state.shared k standing before there root other other_is x y lx ly;
+              hosted = λ k loop h further other other_is x y lx ly.
+                  leaves.keeps k x y (λ e.
+                  let one : loop ≡ loop_here = hosted_loop g loop loop_here (subst (λ (n : ℕ). IsHosted n loop) e h) hosted_here in
+                  omega (arith, further, ap (λ (l : LoopPlace). inner_count l.inside loops_in) one, mid_count))
+                  ∙ begins.state.hosted k loop h further other other_is x y lx ly;
+            };
+            held = λ k loop before h here. elim (cases_eq k g) [
+              | inl e ↦
+                  let here_is : loop_here ≡ loop = hosted_loop g loop_here loop hosted_here (subst (λ (n : ℕ). IsHosted n loop) e h) in
+                  subst (λ (n : ℕ). HoldsAt turned n loop after) (sym e) (subst (λ (l : LoopPlace). HoldsAt turned g l after) here_is holds_after)
+              | inr d ↦ λ other other_is x y lx ly. leaves.keeps k x y d ∙ begins.held k loop (omega (arith, before, d)) h here other other_is x y lx ly
+            ];
+          }
+
+          keeps_after : KeepsOuter (suc (length inside)) funcs after
+          keeps_after k x y outer = leaves.keeps k x y (λ e. no_outer (outer loop_here (subst (λ (n : ℕ). IsHosted n loop_here) (sym e) hosted_here)))
+            where
+              no_outer : suc (length inside) ≤ inner_count mid.id loops_in → ⊥
+              no_outer few = omega (arith, few, mid_count)
 
     -- ---- all Funcs that are computed at the loop
 
@@ -369,13 +370,13 @@ module _ (pipeline : Pipeline) (schedule : Schedule) (boxes : Boxes) (rules : Is
     }
     nests from inner body (One_more _ None _ rest _ none more does) funcs begins =
         let b = nests (suc from) inner rest more funcs (begins_next from funcs none begins) in
-        record { between = b.between; runs = does points inputs (hosting host turned) funcs ∙ b.runs; state = b.state; keeps = b.keeps }
+        record { between = b.between; runs = does.runs points inputs (hosting host turned) funcs ∙ b.runs; state = b.state; keeps = b.keeps }
     nests from inner body (One_more _ (Some first) _ rest _ nest_of more does) funcs begins =
         let after = run points inputs first (hosting host turned) funcs in
         let b = nests (suc from) inner rest more after (begins_after from nest_of.func nest_of.plan nest_of.own nest_of.parts funcs begins first nest_of.does) in
         record {
           between = b.between;
-          runs = does points inputs (hosting host turned) funcs ∙ b.runs;
+          runs = does.runs points inputs (hosting host turned) funcs ∙ b.runs;
           state = b.state;
           keeps = λ k x y outer. b.keeps k x y outer ∙ keeps_after from nest_of.func nest_of.plan nest_of.own nest_of.parts funcs begins first nest_of.does k x y outer;
         }
@@ -411,23 +412,13 @@ module _ (pipeline : Pipeline) (schedule : Schedule) (boxes : Boxes) (rules : Is
 
     -- ---- where no loop is inside
 
-    module _ (leaf : Stmt) (bound : Repeats host leaf store (wholes extents plan.pure.splits [])) (turned : loops.Values) (small : AreSmall turned) (are : AreTurns counts loops_in turned)
-        (all_visited : AllByRecursion IsVisited (wholes extents plan.pure.splits [] turned)) (funcs : Planes) (state : State 0 turned funcs) where
-      abbrev Ready : Planes → Type 0
-      Ready now = Keeps host funcs now
-
-      stays : (now after : Planes) → Keeps host now after → Ready now → Ready after
-      stays now later keeps ready other x y d = keeps other x y d ∙ ready other x y d
-
-      abbrev step : loops.Values → Planes → Planes
-      step inner = run points inputs store (put_loops host inner (hosting host turned))
-
+    module _ (turned : loops.Values) (are : AreTurns counts loops_in turned) (all_visited : AllByRecursion IsVisited (wholes extents plan.pure.splits [] turned)) where
       stands_root : (k : ℕ) (w : IsReadWithin schedule host k) (loop : LoopPlace) → w.own.place ≡ places.At loop → StandsAt schedule loop host → loop.func ≡ host
       stands_root k w loop placed (HasLoop e) = sym e
       stands_root k w loop placed (IsWithin standing other there other_placed within) =
           absurd (not_root standing.place other other_placed (one_place host standing at.standing there at.there ∙ at.placed_is))
 
-      of_root : (k : ℕ) (w : IsReadWithin schedule host k) (loop : LoopPlace) → w.own.place ≡ places.At loop → loop.func ≡ host
+      pub of_root : (k : ℕ) (w : IsReadWithin schedule host k) (loop : LoopPlace) → w.own.place ≡ places.At loop → loop.func ≡ host
       of_root k w loop placed = stands_root k w loop placed (w.within loop placed)
 
       taken_by : (has : Bool) (n far : ℕ) → far < cond has n 1 → cond has far 0 ≡ far
@@ -435,13 +426,13 @@ module _ (pipeline : Pipeline) (schedule : Schedule) (boxes : Boxes) (rules : Is
       taken_by false n far l = omega (arith, l)
 
       module _ (inner : loops.Values) (listed : Contains (wholes extents plan.pure.splits [] turned) inner) where
-        v : IsVisited inner
+        pub v : IsVisited inner
         v = of_all IsVisited (wholes extents plan.pure.splits [] turned) all_visited inner listed
 
-        abbrev across : ℕ
+        abbrev pub across : ℕ
         across = word.add (x_of inner) (first_of own.x no_loops)
 
-        abbrev down : ℕ
+        abbrev pub down : ℕ
         down = word.add (y_of inner) (first_of own.y no_loops)
 
         first_from : IsFrom no_loops own.x (x_of inner) across
@@ -466,7 +457,7 @@ module _ (pipeline : Pipeline) (schedule : Schedule) (boxes : Boxes) (rules : Is
           second = record { word = second_from.word; is = omega (arith, second_from.is, more_none own.y.base, less_none own.y.base, gone_y) };
         }
 
-        reached : (id : LoopId) → IsReachedIn func plan own id turned across down
+        pub reached : (id : LoopId) → IsReachedIn func plan own id turned across down
         reached id = record {
           turns_are = turns_drop counts (inner_count id loops_in) loops_in turned are;
           whole = inner;
@@ -474,38 +465,49 @@ module _ (pipeline : Pipeline) (schedule : Schedule) (boxes : Boxes) (rules : Is
           taken = taken;
         }
 
-        agrees : (now : Planes) → Ready now
-            → Agree (reads_of inputs (pixels pipeline.funcs inputs host)) (placed store_of.corners (put_loops host inner (hosting host turned)) (reads_of inputs now))
-            (pure_points pipeline schedule (reads_of inputs (pixels pipeline.funcs inputs host)) host func across down)
-        agrees now ready =
-            answered pipeline schedule boxes rules accepted is places.Root host func plan own tt at inputs begun host func plan own at turned funcs state.shared of_root
-            (λ k w loop placed. state.hosted k loop (record { standing = w.own; there = w.there; placed_is = placed; same = of_root k w loop placed }) (omega arith))
-            (put_loops host inner (hosting host turned)) (λ id. ap (values_in plan id) (loops_put host inner (hosting host turned)) ∙ turns_kept func plan.pure stage_is extents turned inner listed (inner_count id loops_in)) store_of.corners store_of.are_corners now ready no_loops no_turns_below across down
-            (writing.lies pipeline schedule boxes rules accepted is places.Root host func plan own tt at store store_of inputs no_loops no_turns_below (hosting host turned) (λ i. refl) inner v)
-            (λ k w loop placed. reached loop.inside)
+      module _ (leaf : Stmt) (bound : Repeats host leaf store (wholes extents plan.pure.splits [])) (small : AreSmall turned) (funcs : Planes) (state : State 0 turned funcs) where
+        abbrev Ready : Planes → Type 0
+        Ready now = Keeps host funcs now
 
-        writes : Writes points host plane Ready stays x_of y_of step inner
-        writes =
-            writing.writes pipeline schedule boxes rules accepted is places.Root host func plan own tt at store store_of inputs no_loops no_turns_below (hosting host turned) (λ i. refl) inner v Ready stays agrees
+        stays : (now after : Planes) → Keeps host now after → Ready now → Ready after
+        stays now later keeps ready other x y d = keeps other x y d ∙ ready other x y d
 
-      list : List loops.Values
-      list = wholes extents plan.pure.splits [] turned
+        abbrev step : loops.Values → Planes → Planes
+        step inner = run points inputs store (put_loops host inner (hosting host turned))
 
-      ran : run points inputs leaf (hosting host turned) funcs ≡ all step (wholes extents plan.pure.splits [] turned) funcs
-      ran =
-          bound.runs points inputs (hosting host turned) funcs (subst AreSmall (sym (loops_hosting host turned)) small)
-          ∙ ap (λ (t : loops.Values). all step (wholes extents plan.pure.splits [] t) funcs) (loops_hosting host turned)
+        module _ (inner : loops.Values) (listed : Contains (wholes extents plan.pure.splits [] turned) inner) where
+          agrees : (now : Planes) → Ready now
+              → Agree (reads_of inputs (pixels pipeline.funcs inputs host)) (placed store_of.corners (put_loops host inner (hosting host turned)) (reads_of inputs now))
+              (pure_points pipeline schedule (reads_of inputs (pixels pipeline.funcs inputs host)) host func (across inner listed) (down inner listed))
+          agrees now ready =
+              answered pipeline schedule boxes rules accepted is places.Root host func plan own tt at inputs begun host func plan own at turned funcs state.shared of_root
+              (λ k w loop placed. state.hosted k loop (record { standing = w.own; there = w.there; placed_is = placed; same = of_root k w loop placed }) (omega arith))
+              (put_loops host inner (hosting host turned)) (λ id. ap (values_in plan id) (loops_put host inner (hosting host turned)) ∙ turns_kept func plan.pure stage_is extents turned inner listed (inner_count id loops_in)) store_of.corners store_of.are_corners now ready no_loops no_turns_below (across inner listed) (down inner listed)
+              (writing.lies pipeline schedule boxes rules accepted is places.Root host func plan own tt at store store_of inputs no_loops no_turns_below (hosting host turned) (λ i. refl) inner (v inner listed))
+              (λ k w loop placed. reached inner listed loop.inside)
 
-      painted : Paints points host plane Ready stays x_of y_of step (wholes extents plan.pure.splits [] turned) funcs (all step (wholes extents plan.pure.splits [] turned) funcs)
-      painted =
-          paints points host plane Ready stays x_of y_of step (wholes extents plan.pure.splits [] turned) funcs
-          (all_contained (Writes points host plane Ready stays x_of y_of step) (wholes extents plan.pure.splits [] turned) writes) (λ other x y d. refl)
+          writes : Writes points host plane Ready stays x_of y_of step inner
+          writes =
+              writing.writes pipeline schedule boxes rules accepted is places.Root host func plan own tt at store store_of inputs no_loops no_turns_below (hosting host turned) (λ i. refl) inner (v inner listed) Ready stays agrees
 
-      leaf_does : Does 0 (wholes extents plan.pure.splits [] turned) funcs (run points inputs leaf (hosting host turned) funcs)
-      leaf_does = record {
-        there = λ x y e. ap (λ (f : Planes). f host x y) ran ∙ painted.there x y e;
-        keeps = λ k x y outer free. ap (λ (f : Planes). f k x y) ran ∙ painted.keeps k x y free;
-      }
+        list : List loops.Values
+        list = wholes extents plan.pure.splits [] turned
+
+        ran : run points inputs leaf (hosting host turned) funcs ≡ all step (wholes extents plan.pure.splits [] turned) funcs
+        ran =
+            bound.runs points inputs (hosting host turned) funcs (subst AreSmall (sym (loops_hosting host turned)) small)
+            ∙ ap (λ (t : loops.Values). all step (wholes extents plan.pure.splits [] t) funcs) (loops_hosting host turned)
+
+        painted : Paints points host plane Ready stays x_of y_of step (wholes extents plan.pure.splits [] turned) funcs (all step (wholes extents plan.pure.splits [] turned) funcs)
+        painted =
+            paints points host plane Ready stays x_of y_of step (wholes extents plan.pure.splits [] turned) funcs
+            (all_contained (Writes points host plane Ready stays x_of y_of step) (wholes extents plan.pure.splits [] turned) writes) (λ other x y d. refl)
+
+        leaf_does : Does 0 (wholes extents plan.pure.splits [] turned) funcs (run points inputs leaf (hosting host turned) funcs)
+        leaf_does = record {
+          there = λ x y e. ap (λ (f : Planes). f host x y) ran ∙ painted.there x y e;
+          keeps = λ k x y outer free. ap (λ (f : Planes). f k x y) ran ∙ painted.keeps k x y free;
+        }
 
     -- ---- one list after the other
 
@@ -587,10 +589,10 @@ module _ (pipeline : Pipeline) (schedule : Schedule) (boxes : Boxes) (rules : Is
               (state.hosted k loop h further box box_is);
         }
 
-        mid_turns : (n : ℕ) → n < counts mid.id → AreTurns counts (mid ∷ outside) (at_turn n)
+        pub mid_turns : (n : ℕ) → n < counts mid.id → AreTurns counts (mid ∷ outside) (at_turn n)
         mid_turns n l = (subst (λ (m : ℕ). m < counts mid.id) (sym (with_same mid.id n turned)) l, turns_with counts outside turned mid.id n (none_outside inside mid outside split_at) are)
 
-        small_at : (n : ℕ) → n < counts mid.id → AreSmall (at_turn n)
+        pub small_at : (n : ℕ) → n < counts mid.id → AreSmall (at_turn n)
         small_at n l = small_with mid.id n turned (omega (arith, l, few_turns extents plan.pure.splits (few pipeline schedule boxes host func plan own accepted is places.Root tt at) (splits pipeline schedule boxes host func plan own accepted is places.Root tt at) mid.id)) small
 
         -- what is done in a turn, by the body under the counters of that turn
@@ -610,13 +612,13 @@ module _ (pipeline : Pipeline) (schedule : Schedule) (boxes : Boxes) (rules : Is
             (λ x y e. ap (λ (f : Planes). f host x y) (same_step n there) ∙ turn_there (at_turn n) (small_at n here) (mid_turns n here) (visited n (omega arith)) there state_there x y e)
             (λ k x y outer free. ap (λ (f : Planes). f k x y) (same_step n there) ∙ turn_keeps (at_turn n) (small_at n here) (mid_turns n here) (visited n (omega arith)) there state_there k x y outer free)
 
-    wholes_outside : (inside : List Loop) (mid : Loop) (turned : loops.Values)
+    pub wholes_outside : (inside : List Loop) (mid : Loop) (turned : loops.Values)
         → wholes extents plan.pure.splits (inside ++ mid ∷ []) turned ≡ upto (counts mid.id) (λ turn. wholes extents plan.pure.splits inside (loops.with mid.id turn turned))
     wholes_outside inside mid turned = nest-append counts inside (mid ∷ []) (over_loops extents plan.pure.splits (λ whole. whole ∷ [])) turned
 
     pub all_loops : (leaf : Stmt) (bound : Repeats host leaf store (wholes extents plan.pure.splits [])) (inside : List Loop) (made : Stmt) → HasLoops pipeline schedule boxes host counts leaf inside made → DoesLoops inside made
     all_loops leaf bound _ _ No_loops outside loops_are turned small are visited funcs state =
-        leaf_does leaf bound turned small (subst (λ (l : List Loop). AreTurns counts l turned) (sym loops_are) are) visited funcs state
+        leaf_does turned (subst (λ (l : List Loop). AreTurns counts l turned) (sym loops_are) are) visited leaf bound small funcs state
     all_loops leaf bound _ made (One_outside inside mid inner body _ within nested does) outside loops_are turned small are visited funcs state =
         let further : loops_in ≡ inside ++ mid ∷ outside = loops_are ∙ append_assoc inside (mid ∷ []) outside in
         let count : length (inside ++ mid ∷ []) ≡ suc (length inside) = omega (arith, length-append inside (mid ∷ [])) in
@@ -629,4 +631,4 @@ module _ (pipeline : Pipeline) (schedule : Schedule) (boxes : Boxes) (rules : Is
         (subst (λ (n : ℕ). State n turned funcs) count state) in
         subst (λ (n : ℕ). Does n (wholes extents plan.pure.splits (inside ++ mid ∷ []) turned) funcs (run points inputs made (hosting host turned) funcs)) (sym count)
         (subst (λ (l : List loops.Values). Does (suc (length inside)) l funcs (run points inputs made (hosting host turned) funcs)) (sym list_is)
-        (subst (Does (suc (length inside)) (upto (counts mid.id) (λ turn. wholes extents plan.pure.splits inside (loops.with mid.id turn turned))) funcs) (sym (does points inputs (hosting host turned) funcs)) result))
+        (subst (Does (suc (length inside)) (upto (counts mid.id) (λ turn. wholes extents plan.pure.splits inside (loops.with mid.id turn turned))) funcs) (sym (does.runs points inputs (hosting host turned) funcs)) result))

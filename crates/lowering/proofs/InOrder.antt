@@ -1,8 +1,6 @@
 -- Phases one after the other.
-use Rattle.std.proofs.Common.{◌≡◌, ℕ, Bool, true, false, List, [], ◌∷◌, ◌∙◌}
-use Rattle.halide_meaning.specs.Pixel.{Planes}
-use Rattle.loop_ir.specs.Buffers.{Points}
-use Rattle.lowering.specs.Order.{Tasks, DoneInOrder, Nothing, Phase, DoPhases, None_left, Same, One_more, AgreeThere, PhasesInOrder}
+use Rattle.std.proofs.Common.{◌∙◌}
+use Rattle.lowering.specs.Order.{Nothing, Phase, None_left, Same, One_more, PhasesInOrder}
 use Rattle.lowering.proofs.AnyOrder.{tasks_in_any_order}
 
 pub phases_in_order : PhasesInOrder

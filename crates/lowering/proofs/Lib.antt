@@ -1,4 +1,5 @@
 pub mod AnyOrder
+pub mod AtVisit
 pub mod BaseWords
 pub mod Covered
 pub mod Facts
@@ -7,12 +8,15 @@ pub mod Hosts
 pub mod InOrder
 pub mod Lists
 pub mod Lowered
+pub mod Loads
 pub mod LoopTurns
 pub mod Offsets
 pub mod Painting
 pub mod Parts
 pub mod PureStage
 pub mod RootFacts
+pub mod SoundHosts
+pub mod SoundTasks
 pub mod SplitsApart
 pub mod Storing
 pub mod Tasks
@@ -31,5 +35,6 @@ pub mod UpdateReads
 pub mod UpdateRuns
 pub mod UpdateStages
 pub mod UpdateTasks
+pub mod UpdateTouches
 pub mod UpdateSlices
 pub mod UpdateNests

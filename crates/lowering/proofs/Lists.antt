@@ -1,8 +1,8 @@
 -- Lists in which some pass a test.
 use Rattle.std.proofs.Common.{◌≡◌, ℕ, zero, suc, ◌-◌, ◌<◌, ◌≤◌, Bool, true, false, cond, List, [], ◌∷◌, ◌++◌, length, get_or, take, map, filter, refl, sym, ap, subst, ◌∙◌, arith, inl, inr, length-append, length-take-le}
 use Rattle.std.specs.Prelude.{◌||◌}
-use Rattle.std.specs.List.{AllByRecursion, list_any}
-use Rattle.std.proofs.lemmas.Bool.{cases_eq, or_parts}
+use Rattle.std.specs.List.{AllByRecursion, list_all, list_any}
+use Rattle.std.proofs.lemmas.Bool.{and_from, cases_eq, or_parts}
 use Rattle.std.proofs.lemmas.List.Folds.{list_any-append}
 use Rattle.reads.proofs.Seeing.{all_parts}
 use Rattle.stage_loops.specs.Visits.{upto}
@@ -14,6 +14,11 @@ any_map test f (x ∷ xs) = ap (λ (b : Bool). test (f x) || b) (any_map test f 
 pub all_map : {A B : Type 0} (P : B → Type 0) (Q : A → Type 0) (f : A → B) → ((x : A) → P (f x) → Q x) → (xs : List A) → AllByRecursion P (map f xs) → AllByRecursion Q xs
 all_map P Q f step [] all = tt
 all_map P Q f step (x ∷ xs) all = (step x all.0, all_map P Q f step xs all.1)
+
+-- all pass a test
+pub all_pass : {A : Type 0} (test : A → Bool) (xs : List A) → AllByRecursion (λ x. test x ≡ true) xs → list_all test xs ≡ true
+all_pass test [] all = refl
+all_pass test (x ∷ xs) all = and_from (test x) (list_all test xs) all.0 (all_pass test xs all.1)
 
 -- one that passes has what all have that pass
 pub any_gives : {A : Type 0} (P : A → Type 0) (C : Type 0) (test : A → Bool) → ((x : A) → P x → test x ≡ true → C) → (xs : List A) → AllByRecursion P xs → list_any test xs ≡ true → C

@@ -1,16 +1,15 @@
 -- The phases of a pipeline leave its pixels.
 use Rattle.std.proofs.Common.{◌≡◌, ℕ, zero, suc, ◌<◌, ◌≤◌, Bool, true, false, cond, List, [], ◌∷◌, ◌++◌, map, length, Option, Some, None, refl, sym, ap, subst, ◌∙◌, arith, inl, inr, true≢false}
 use Rattle.std.specs.Prelude.{◌&&◌, ◌||◌, ◌==◌, nat_lt, slice_get, Ok}
-use Rattle.std.proofs.lemmas.Bool.{and_from, and_parts, lt-ltb, cases_eq, eq-eqb, ne_eqb}
+use Rattle.std.proofs.lemmas.Bool.{and_from, lt-ltb, cases_eq, ne_eqb}
 use Rattle.halide_pipeline.specs.declared.definitions.Func.{Func}
 use Rattle.halide_pipeline.specs.declared.definitions.Update.{Update}
 use Rattle.halide_pipeline.specs.Pipelines.{Pipeline}
 use Rattle.halide_pipeline.specs.WellFormed.{IsWellFormed, is_func_of}
 use Rattle.halide_pipeline.specs.Words as word
-use Rattle.halide_meaning.specs.Pixel.{Planes, Plane, reads_of, func_plane, stage, pixels}
+use Rattle.halide_meaning.specs.Pixel.{Planes, reads_of, func_plane, stage, pixels}
 use Rattle.schedule.specs.declared.plans.FuncPlan.{FuncPlan}
 use Rattle.schedule.specs.declared.schedules.Schedule.{Schedule}
-use Rattle.schedule.specs.declared.standings.LoopPlace.{LoopPlace}
 use Rattle.schedule.specs.declared.standings.Place.{Place}
 use Rattle.schedule.specs.declared.standings.Place.TheVariants as places
 use Rattle.schedule.specs.declared.standings.Standing.{Standing}
@@ -20,7 +19,6 @@ use Rattle.schedule.specs.Standing as standing
 use Rattle.schedule.specs.Standing.{standings_from}
 use Rattle.schedule.proofs.Uses.{IsSome, output_standing, standing_some}
 use Rattle.stage_loops.proofs.AcceptedStages.{pair_at}
-use Rattle.ranges.specs.declared.ranges.Range.{Range}
 use Rattle.ranges.specs.Laws.{Lies, AnswerWords}
 use Rattle.bounds.specs.declared.boxes.SourceBox.{SourceBox}
 use Rattle.bounds.specs.declared.verdict.Boxes.{Boxes}
@@ -37,7 +35,7 @@ use Rattle.loop_ir.specs.declared.statements.Phase.{Phase}
 use Rattle.loop_ir.specs.Buffers.{Points}
 use Rattle.lowering.specs.Lowered.{IsStagePhase, Pure, Updating, ArePhasesOf, None_yet, IsNotAtRoot, AreLowered, No_func, Passed, Computed, tasks_of, DoPixels, LeaveOutput, PhasesDoPixels, PhasesLeaveOutput}
 use Rattle.lowering.specs.Lowered as lowered
-use Rattle.lowering.specs.Order.{Tasks, DoPhases, None_left, Same, One_more, AgreeThere, DoneInOrder}
+use Rattle.lowering.specs.Order.{Tasks, DoPhases, None_left, Same, One_more, AgreeThere}
 use Rattle.lowering.specs.Phases.{DoesPhase}
 use Rattle.lowering.specs.Planes.{word_at, corner_of, held, has_point, box_points, owns}
 use Rattle.lowering.specs.PurePhases.{IsAtRoot, is_at_root}
@@ -89,8 +87,8 @@ module _ (pipeline : Pipeline) (schedule : Schedule) (boxes : Boxes) (accepted :
     does : DoesStage pipeline schedule boxes place func number owned phase
 
   goes : (place : ℕ) (func : Func) (plan : FuncPlan) (own : SourceBox) (number : ℕ) (phase : Phase) → IsStagePhase pipeline schedule boxes place func plan own number phase → Goes place func number phase
-  goes place func plan own _ _ (Pure phase tasks private_is bytes does) = record { owned = owns (extents_of own) plan.pure; does = does }
-  goes place func plan own _ _ (Updating at update stage phase it tasks private_is bytes does) = record { owned = owns_update own update stage; does = does }
+  goes place func plan own _ _ (Pure phase tasks private_is bytes does touches) = record { owned = owns (extents_of own) plan.pure; does = does }
+  goes place func plan own _ _ (Updating at update stage phase it tasks private_is bytes does touches) = record { owned = owns_update own update stage; does = does }
 
   stages_do : (place : ℕ) (func : Func) (plan : FuncPlan) (own : SourceBox) (others phases : List Phase) (number : ℕ) → ArePhasesOf pipeline schedule boxes place func plan own others number phases
       → DoPhases points private (do_tasks others) (before 0) (before place)

@@ -1,5 +1,5 @@
 -- What is known of Funcs at root, whose boxes have no base.
-use Rattle.std.proofs.Common.{◌≡◌, ℕ, ◌<◌, ◌≤◌, List, Some, sym, ap, subst, ◌∙◌, arith}
+use Rattle.std.proofs.Common.{◌≡◌, ℕ, ◌<◌, ◌≤◌, List, Some, subst, ◌∙◌, arith}
 use Rattle.std.specs.Prelude.{slice_get, Ok}
 use Rattle.halide_pipeline.specs.declared.definitions.Func.{Func}
 use Rattle.halide_pipeline.specs.Pipelines.{Pipeline}
@@ -13,7 +13,7 @@ use Rattle.schedule.specs.declared.standings.Standing.{Standing}
 use Rattle.schedule.specs.Accepted.{IsAccepted}
 use Rattle.schedule.specs.Uses.{IsReached}
 use Rattle.ranges.specs.declared.ranges.Range.{Range}
-use Rattle.ranges.specs.Laws.{Below, Lies}
+use Rattle.ranges.specs.Laws.{Lies}
 use Rattle.ranges.specs.Ranges.{IsFit}
 use Rattle.bounds.specs.declared.boxes.SourceBox.{SourceBox}
 use Rattle.bounds.specs.declared.verdict.Boxes.{Boxes}
@@ -30,7 +30,7 @@ use Rattle.lowering.specs.PurePhases.{IsAtRoot}
 use Rattle.lowering.proofs.Facts as facts
 use Rattle.lowering.proofs.Offsets.{more_none, less_none, first_none, from_first_on}
 use Rattle.lowering.proofs.Offsets as offsets
-use Rattle.lowering.proofs.Values.{HasCorner, corner_at}
+use Rattle.lowering.proofs.Values.{corner_at}
 
 -- No Func that the output reaches is computed at one of its loops.
 abbrev pub HostsNone : List Standing → ℕ → Type 0

@@ -1,28 +1,38 @@
 -- The store of a pure definition.
-use Rattle.std.proofs.Common.{◌≡◌, ℕ, Bool, List, sym, ap, ◌∙◌}
+use Rattle.std.proofs.Common.{◌≡◌, ℕ, Bool, true, List, ◌++◌, sym, ap, subst, ◌∙◌}
+use Rattle.std.specs.List.{list_all}
+use Rattle.std.proofs.lemmas.Bool.{and_from}
 use Rattle.halide_pipeline.specs.declared.definitions.Func.{Func}
 use Rattle.halide_pipeline.specs.declared.expressions.Expr.{Expr}
 use Rattle.halide_pipeline.specs.declared.expressions.Variable.TheVariants as variables
 use Rattle.halide_pipeline.specs.Words as word
 use Rattle.halide_meaning.specs.declared.environments.Environment.{Environment}
 use Rattle.halide_meaning.specs.Pixel.{Reads, variable, reads_of, at_point}
+use Rattle.reads.specs.Points.{Point, Hold}
+use Rattle.reads.proofs.Seeing.{all_both}
 use Rattle.inlining.specs.Inlining.{inlined}
-use Rattle.inlining.specs.Values.{values as valuing}
+use Rattle.inlining.specs.Laws.{seen_variable}
+use Rattle.inlining.specs.Values.{values as valuing, seeing}
 use Rattle.loop_ir.specs.declared.expressions.Expr.{fold-roll-Expr}
 use Rattle.loop_ir.specs.declared.expressions.Expr as expressions
 use Rattle.loop_ir.specs.declared.expressions.Expr.TheOpen as layer
 use Rattle.loop_ir.specs.declared.expressions.Expr.TheVariants.{rolls-Linear}
 use Rattle.loop_ir.specs.declared.expressions.Expr.TheVariants as e
 use Rattle.loop_ir.specs.declared.expressions.Linear.{Linear}
+use Rattle.loop_ir.specs.declared.statements.Store.{Store}
 use Rattle.loop_ir.specs.declared.statements.Stmt.TheVariants as s
-use Rattle.loop_ir.specs.Buffers.{put}
+use Rattle.loop_ir.specs.Buffers.{Points, put}
 use Rattle.loop_ir.specs.Counters.{Values}
-use Rattle.loop_ir.specs.Expressions.{linear_value, value, value_at}
+use Rattle.loop_ir.specs.Expressions.{linear_value, loads, value, value_at}
+use Rattle.loop_ir.specs.Soundness.{is_sound, store_loads}
+use Rattle.loop_ir.proofs.Sound.{sound_store}
 use Rattle.loop_ir.proofs.Trees.{run_store}
 use Rattle.expression_lowering.specs.declared.calls.Corner.{Corner}
 use Rattle.expression_lowering.specs.declared.lowering.Arguments.{Arguments}
-use Rattle.expression_lowering.specs.Lowering.{environment, placed}
-use Rattle.lowering.specs.PurePhases.{StoresPure, whole_at}
+use Rattle.expression_lowering.specs.Lowering.{environment, placed, place as place_in}
+use Rattle.expression_lowering.proofs.Following.{linear_passes}
+use Rattle.lowering.specs.PurePhases.{StoresPure, IsSoundPure, whole_at}
+use Rattle.lowering.proofs.Lists.{all_pass}
 
 value_linear : (reads : Reads) (values : Values) (own : Linear) → value reads values (e.Linear own) ≡ linear_value values own
 unfolding value
@@ -48,3 +58,31 @@ stores_pure corners flags funcs place corner pure x y made arguments environment
     ∙ ap (λ (n : ℕ). put points place n (value reads values (e.Linear y)) (value reads values made) buffers) at_x
     ∙ ap (λ (n : ℕ). put points place (whole_at values place variables.FirstArgument) n (value reads values made) buffers) at_y
     ∙ ap (λ (n : ℕ). put points place (whole_at values place variables.FirstArgument) (whole_at values place variables.SecondArgument) n buffers) written
+
+-- ---- what it touches
+
+-- A store is sound whose point may be written, and all of whose loads may be made.
+pub store_sound : (reads : Reads) (written : Points) (loaded : Point → Bool) (store : Store) (values : Values) → written store.func (value reads values store.x) (value reads values store.y) ≡ true
+    → Hold loaded (loads reads values store.x) → Hold loaded (loads reads values store.y) → Hold loaded (loads reads values store.value) → is_sound reads written loaded (s.Store store) values ≡ true
+store_sound reads written loaded store values writes first second stored =
+    let passes : Point → Type 0 = λ point. loaded point ≡ true in
+    sound_store reads written loaded store values
+    ∙ and_from (written store.func (value reads values store.x) (value reads values store.y)) (list_all loaded (store_loads reads values store)) writes
+    (all_pass loaded (store_loads reads values store)
+    (all_both passes (loads reads values store.x) (loads reads values store.y ++ loads reads values store.value) first (all_both passes (loads reads values store.y) (loads reads values store.value) second stored)))
+
+pub sound_pure : (corners : List Corner) (flags : ℕ → Bool) (funcs : List Func) (place : ℕ) (corner : Corner) (pure : Expr) (x y : Linear) (made : expressions.Expr) (arguments : Arguments)
+    → ((values : Values) → environment values arguments
+    ≡ at_point (word.add (whole_at values place variables.FirstArgument) (linear_value values corner.x)) (word.add (whole_at values place variables.SecondArgument) (linear_value values corner.y)))
+    → ((values : Values) → linear_value values x ≡ whole_at values place variables.FirstArgument)
+    → ((values : Values) → linear_value values y ≡ whole_at values place variables.SecondArgument)
+    → ((reads : Reads) (values : Values) (test : Point → Bool) → Hold (λ point. test (place_in corners values point)) (inlined (seeing (placed corners values reads)) flags funcs place (seen_variable (environment values arguments)) pure).points
+    → Hold test (loads reads values made))
+    → IsSoundPure corners flags funcs place corner pure (s.Store (record { func = place; x = e.Linear x; y = e.Linear y; value = made }))
+sound_pure corners flags funcs place corner pure x y made arguments environment_is x_is y_is loads_are reads written loaded values writes all_loaded =
+    store_sound reads written loaded (record { func = place; x = e.Linear x; y = e.Linear y; value = made }) values
+    (ap (λ (n : ℕ). written place n (value reads values (e.Linear y))) (value_linear reads values x ∙ x_is values)
+    ∙ ap (λ (n : ℕ). written place (whole_at values place variables.FirstArgument) n) (value_linear reads values y ∙ y_is values) ∙ writes)
+    (linear_passes reads values x loaded) (linear_passes reads values y loaded)
+    (loads_are reads values loaded
+    (subst (λ (v : Environment). Hold (λ point. loaded (place_in corners values point)) (inlined (seeing (placed corners values reads)) flags funcs place (seen_variable v) pure).points) (sym (environment_is values)) all_loaded))

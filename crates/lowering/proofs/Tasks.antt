@@ -12,7 +12,7 @@ use Rattle.schedule.specs.declared.plans.FuncPlan.{FuncPlan}
 use Rattle.schedule.specs.declared.schedules.Schedule.{Schedule}
 use Rattle.schedule.specs.Accepted.{IsAccepted}
 use Rattle.stage_loops.specs.declared.extents.Extents.{Extents}
-use Rattle.stage_loops.specs.Counts.{counts}
+use Rattle.stage_loops.specs.Counts.{AreSplits, counts}
 use Rattle.stage_loops.specs.Counts as loops
 use Rattle.stage_loops.specs.Iterations.{parallel, is_turn, iteration, iteration_count, count_of}
 use Rattle.stage_loops.specs.Reach.{wholes}
@@ -43,7 +43,7 @@ use Rattle.stage_loops.proofs.Ids.{with_same}
 use Rattle.stage_loops.proofs.TurnsFound.{of_all}
 use Rattle.bounds.specs.Boxes.{no_loops}
 use Rattle.loop_ir.specs.Counters.{Values, with}
-use Rattle.nest_lowering.specs.Nests.{AreSmall}
+use Rattle.nest_lowering.specs.Nests.{AreFew, AreSmall}
 use Rattle.lowering.specs.Corners.{first_of}
 use Rattle.lowering.specs.Hosting.{hosting, HasOutermost, IsBody}
 use Rattle.lowering.specs.Planes.{word_at, corner_of, held, box_points, with_pure, owns}
@@ -64,10 +64,10 @@ module _ (func : Func) (extents : Extents) (stage : Stage) (stage_is : IsStageOf
   turned_by (Some own) number = loops.with own.id number zeros
 
   -- the loops inside the last one
-  inside_last : (own : Loop) (inside : List Loop) → stage.loops ≡ inside ++ own ∷ [] → inside_of (Some own) stage.loops ≡ inside
+  pub inside_last : (own : Loop) (inside : List Loop) → stage.loops ≡ inside ++ own ∷ [] → inside_of (Some own) stage.loops ≡ inside
   inside_last own inside is = ap (λ (ls : List Loop). take (length ls - 1) ls) is ∙ before_last inside own
 
-  listed : (found : Option Loop) → parallel stage ≡ found → (number : ℕ) → number < count_of (counts extents stage.splits) found
+  pub listed : (found : Option Loop) → parallel stage ≡ found → (number : ℕ) → number < count_of (counts extents stage.splits) found
       → iteration extents stage number ≡ map (visit_of extents) (wholes extents stage.splits (inside_of found stage.loops) (turned_by found number))
   listed None is number l =
       let first : number ≡ 0 = omega (arith, l) in
@@ -81,7 +81,16 @@ module _ (func : Func) (extents : Extents) (stage : Stage) (stage_is : IsStageOf
       ∙ visits_of_wholes extents stage.splits o.last.inside turns
       ∙ ap (λ (ls : List Loop). map (visit_of extents) (wholes extents stage.splits ls turns)) (sym (inside_last own o.last.inside o.last.loops_are))
 
-  all_visits : (number : ℕ) → number < iteration_count extents stage → AllByRecursion (IsVisitOf func None extents) (iteration extents stage number)
+  -- what counters stand at before a task
+  pub before_by : (found : Option Loop) (number : ℕ) → task_values (counter_of place found) number ≡ hosting place (turned_by found number)
+  before_by None number = hosting_none place
+  before_by (Some loop) number = ap (with (record { func = place; id = loop.id }) number) (hosting_none place) ∙ hosting_with place loop.id number zeros
+
+  pub small_by : AreFew extents → AreSplits stage.splits → (found : Option Loop) (number : ℕ) → number < count_of (counts extents stage.splits) found → AreSmall (turned_by found number)
+  small_by few_so splits_so None number l = λ id. omega arith
+  small_by few_so splits_so (Some loop) number l = small_with loop.id number zeros (omega (arith, l, few_turns extents stage.splits few_so splits_so loop.id)) (λ id. omega arith)
+
+  pub all_visits : (number : ℕ) → number < iteration_count extents stage → AllByRecursion (IsVisitOf func None extents) (iteration extents stage number)
   all_visits number l =
       all_upto (IsVisitOf func None extents) (iteration extents stage) (iteration_count extents stage)
       (subst (λ (v : List Visit). AllByRecursion (IsVisitOf func None extents) v) (all_iterations func None extents stage stage_is legal) (visits_within func None extents stage stage_is)) number l
@@ -179,19 +188,9 @@ module _ (pipeline : Pipeline) (schedule : Schedule) (boxes : Boxes) (rules : Is
     visits_are : iteration extents stage number ≡ map (visit_of extents) list
     visits_are = listed func extents stage stage_facts.0 stage_facts.1 place (parallel stage) refl number below_count
 
-    before_by : (found : Option Loop) → task_values (counter_of place found) number ≡ hosting place (turned_by func extents stage stage_facts.0 stage_facts.1 place found number)
-    before_by None = hosting_none place
-    before_by (Some loop) = ap (with (record { func = place; id = loop.id }) number) (hosting_none place) ∙ hosting_with place loop.id number zeros
-
     ran : (funcs : Planes) → run_task points inputs phase number funcs ≡ run points inputs phase.body (hosting place turned) funcs
     ran funcs =
-        ap (λ (c : Option Counter). run points inputs phase.body (task_values c number) funcs) counter_is ∙ ap (λ (v : Values). run points inputs phase.body v funcs) (before_by (parallel stage))
-
-    small_by : (found : Option Loop) → number < count_of (counts extents stage.splits) found → AreSmall (turned_by func extents stage stage_facts.0 stage_facts.1 place found number)
-    small_by None l = λ id. omega arith
-    small_by (Some loop) l =
-        small_with loop.id number zeros
-        (omega (arith, l, few_turns extents stage.splits (few pipeline schedule boxes place func plan own accepted is places.Root tt at) (splits pipeline schedule boxes place func plan own accepted is places.Root tt at) loop.id)) (λ id. omega arith)
+        ap (λ (c : Option Counter). run points inputs phase.body (task_values c number) funcs) counter_is ∙ ap (λ (v : Values). run points inputs phase.body v funcs) (before_by func extents stage stage_facts.0 stage_facts.1 place (parallel stage) number)
 
     abbrev IsVisited : loops.Values → Type 0
     IsVisited inner = IsVisitOf func None extents (visit_of extents inner)
@@ -240,7 +239,7 @@ module _ (pipeline : Pipeline) (schedule : Schedule) (boxes : Boxes) (rules : Is
           → Done (wholes extents stage.splits (inside_of found stage.loops) (turned_by func extents stage stage_facts.0 stage_facts.1 place found number))
           (run points inputs made (hosting place (turned_by func extents stage stage_facts.0 stage_facts.1 place found number)) funcs)
       done_by None e l inner made same does visited =
-          let d = does [] (sym (append-nil stage.loops)) zeros (small_by None l) tt visited funcs (begins (length stage.loops) (omega arith) zeros) in
+          let d = does [] (sym (append-nil stage.loops)) zeros (small_by func extents stage stage_facts.0 stage_facts.1 place (few pipeline schedule boxes place func plan own accepted is places.Root tt at) (splits pipeline schedule boxes place func plan own accepted is places.Root tt at) None number l) tt visited funcs (begins (length stage.loops) (omega arith) zeros) in
           record {
             there = λ x y t. ap (λ (s : Stmt). run points inputs s (hosting place zeros) funcs place x y) same ∙ d.there x y t;
             keeps = λ k x y public_so free. ap (λ (s : Stmt). run points inputs s (hosting place zeros) funcs k x y) same ∙ d.keeps k x y (public_outer (length stage.loops) k public_so) free;
@@ -253,9 +252,9 @@ module _ (pipeline : Pipeline) (schedule : Schedule) (boxes : Boxes) (rules : Is
           let most : length stage.loops ≤ suc (length inside) = omega (arith, ap length o.last.loops_are, length-append inside (loop ∷ [])) in
           let turns : AreTurns (counts extents stage.splits) (loop ∷ []) values = (subst (λ (n : ℕ). n < counts extents stage.splits loop.id) (sym (with_same loop.id number zeros)) l, tt) in
           let there = hosts.turn_there pipeline schedule boxes rules accepted is place func plan own at inputs begun store store_of inside loop inner made nested (subst (λ (ls : List Loop). DoesLoops ls inner) same does) [] o.last.loops_are
-          values (small_by (Some loop) l) turns (subst (λ (ls : List Loop). AllByRecursion IsVisited (wholes extents stage.splits ls values)) same visited) funcs (begins (suc (length inside)) most values) in
+          values (small_by func extents stage stage_facts.0 stage_facts.1 place (few pipeline schedule boxes place func plan own accepted is places.Root tt at) (splits pipeline schedule boxes place func plan own accepted is places.Root tt at) (Some loop) number l) turns (subst (λ (ls : List Loop). AllByRecursion IsVisited (wholes extents stage.splits ls values)) same visited) funcs (begins (suc (length inside)) most values) in
           let keeps = hosts.turn_keeps pipeline schedule boxes rules accepted is place func plan own at inputs begun store store_of inside loop inner made nested (subst (λ (ls : List Loop). DoesLoops ls inner) same does) [] o.last.loops_are
-          values (small_by (Some loop) l) turns (subst (λ (ls : List Loop). AllByRecursion IsVisited (wholes extents stage.splits ls values)) same visited) funcs (begins (suc (length inside)) most values) in
+          values (small_by func extents stage stage_facts.0 stage_facts.1 place (few pipeline schedule boxes place func plan own accepted is places.Root tt at) (splits pipeline schedule boxes place func plan own accepted is places.Root tt at) (Some loop) number l) turns (subst (λ (ls : List Loop). AllByRecursion IsVisited (wholes extents stage.splits ls values)) same visited) funcs (begins (suc (length inside)) most values) in
           subst (λ (ls : List Loop). Done (wholes extents stage.splits ls values) (run points inputs made (hosting place values) funcs)) (sym same)
           (record { there = there; keeps = λ k x y public_so free. keeps k x y (public_outer (suc (length inside)) k public_so) free })
 

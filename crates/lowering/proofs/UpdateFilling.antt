@@ -1,15 +1,13 @@
 -- The nests of the updates of a Func at a loop, behind that of its pure definition.
-use Rattle.std.proofs.Common.{◌≡◌, ℕ, zero, suc, ◌<◌, ◌≤◌, ◌^◌, length, Bool, true, false, List, [], ◌∷◌, Option, Some, None, refl, sym, ap, subst, ◌∙◌, arith, inl, inr}
-use Rattle.std.specs.Prelude.{◌&&◌, nat_lt, slice_get, Ok}
-use Rattle.std.specs.List.{AllByRecursion}
+use Rattle.std.proofs.Common.{◌≡◌, ℕ, zero, suc, ◌<◌, ◌^◌, length, List, [], ◌∷◌, Option, Some, None, refl, sym, ap, subst, ◌∙◌, arith}
+use Rattle.std.specs.Prelude.{nat_lt, slice_get, Ok}
 use Rattle.std.proofs.lemmas.Bool.{and_parts, and_from, ltb-true, lt-ltb}
 use Rattle.halide_pipeline.specs.declared.definitions.Func.{Func}
 use Rattle.halide_pipeline.specs.declared.definitions.Update.{Update}
 use Rattle.halide_pipeline.specs.Pipelines.{Pipeline}
 use Rattle.halide_pipeline.specs.Words as word
-use Rattle.halide_meaning.specs.Pixel.{Plane, Planes, reads_of, stage, pixels}
+use Rattle.halide_meaning.specs.Pixel.{Planes, stage, pixels}
 use Rattle.schedule_lines.specs.declared.stages.LoopId.{LoopId}
-use Rattle.schedule_lines.specs.declared.stages.Stage.{Stage}
 use Rattle.schedule.specs.declared.plans.FuncPlan.{FuncPlan}
 use Rattle.schedule.specs.declared.schedules.Schedule.{Schedule}
 use Rattle.schedule.specs.declared.standings.LoopPlace.{LoopPlace}
@@ -20,8 +18,7 @@ use Rattle.schedule.specs.Accepted.{IsAccepted, IsPlan, IsUpdateStage}
 use Rattle.schedule.proofs.Uses.{IsSome}
 use Rattle.stage_loops.specs.Counts as loops
 use Rattle.stage_loops.proofs.AcceptedStages.{pair_at}
-use Rattle.ranges.specs.declared.ranges.Range.{Range}
-use Rattle.ranges.specs.Laws.{Below, AnswerWords}
+use Rattle.ranges.specs.Laws.{Below}
 use Rattle.bounds.specs.declared.boxes.HostLoop.{HostLoop}
 use Rattle.bounds.specs.declared.boxes.SourceBox.{SourceBox}
 use Rattle.bounds.specs.declared.verdict.Boxes.{Boxes}
@@ -32,15 +29,15 @@ use Rattle.box_laws.specs.Laws.{IsComputed, values_for, host_in}
 use Rattle.box_laws.proofs.PutIn.{pair_there}
 use Rattle.loop_ir.specs.declared.statements.Stmt.{Stmt}
 use Rattle.loop_ir.specs.Counters.{Values}
-use Rattle.loop_ir.specs.Expressions.{linear_value}
 use Rattle.loop_ir.specs.Running.{run}
+use Rattle.loop_ir.specs.Soundness.{is_sound}
 use Rattle.nest_lowering.specs.Nests.{loops_of, put_loops}
 use Rattle.expression_lowering.specs.declared.calls.Corner.{Corner}
 use Rattle.lowering.specs.Corners.{first_of, turns_for, IsCorner, AreCorners}
-use Rattle.lowering.specs.Hosting.{hosting, Holds, Keeps, Leaves, DoesFirst, IsAnswered, AreUpdatesAnswered, DoesNest, DoesNests}
-use Rattle.lowering.specs.Planes.{BoxCorner, has_point, box_points}
+use Rattle.lowering.specs.Hosting.{hosting, Leaves, DoesFirst, DoesNest, DoesNests, IsSoundNest}
+use Rattle.lowering.specs.Planes.{BoxCorner, box_points}
 use Rattle.lowering.specs.PurePhases.{IsComputedAt}
-use Rattle.lowering.specs.Updates.{IsComputedIn, IsUpdateAt, IsCornerAt, IsBegin, ReadsPixels, DoesUpdate, hosted_turns, host_at}
+use Rattle.lowering.specs.Updates.{IsComputedIn, IsUpdateAt, IsCornerAt, IsBegin, ReadsPixels, LoadsOthers, DoesUpdate, AreSoundLoops, hosted_turns, host_at}
 use Rattle.lowering.specs.Updates as updates
 use Rattle.lowering.proofs.Facts as facts
 use Rattle.lowering.proofs.Facts.{is_box, hosted_before}
@@ -108,52 +105,86 @@ module _ (pipeline : Pipeline) (schedule : Schedule) (boxes : Boxes) (accepted :
 
   -- ---- one more stage
 
-  module _ (corners : List Corner) (are : AreCorners schedule.funcs boxes.funcs schedule.standings corners) (corner : Corner) (corner_is : slice_get corners place ≡ Some corner)
-      (at : ℕ) (update : Update) (update_is : slice_get func.updates at ≡ Some update) (first next made : Stmt)
-      (does : DoesNests pipeline schedule boxes loop place func own at first) (goes_on : DoesUpdate pipeline schedule boxes corners place func corner own at update next) (both : DoesFirst (Some first) next made) where
-    pub one_more_stage : DoesNests pipeline schedule boxes loop place func own (suc at) made
-    one_more_stage inputs begun turned below funcs answered all_answered =
-        let counters : Values = hosting loop.func turned in
-        let values : List ℕ = turns_for schedule.funcs (places.At loop) counters in
-        let points = box_points boxes.funcs in
-        let between = run points inputs first counters funcs in
-        let left : Leaves place own values (stage place func inputs (pixels pipeline.funcs inputs place) at) funcs between = does inputs begun turned below funcs answered all_answered in
-        let begin : BoxCorner = record { x = first_of own.x values; y = first_of own.y values } in
-        let host_below : Below values (lasts_of (host_at schedule boxes parts.standing)) =
-        subst (λ (l : List ℕ). Below values l) (lasts_here values) below in
-        let turns_so : hosted_turns schedule boxes parts.standing values ≡ values = values_are (host_at schedule boxes parts.standing) values host_below in
-        let begins : IsBegin values own begin = record {
-          x = subst (λ (n : ℕ). IsFrom values own.x 0 n) (add_none (first_of own.x values) (first_small own.x values)) (from_first_on own.lasts values own.x 0 box_facts.x below (omega (arith, box_facts.x.ordered)));
-          y = subst (λ (n : ℕ). IsFrom values own.y 0 n) (add_none (first_of own.y values) (first_small own.y values)) (from_first_on own.lasts values own.y 0 box_facts.y below (omega (arith, box_facts.y.ordered)));
-        } in
-        let turns_stay : (inner : loops.Values) → turns_for schedule.funcs (places.At loop) (put_loops place inner counters) ≡ values =
-        λ inner. turns_by loop (slice_get schedule.funcs loop.func) (put_loops place inner counters) counters (loops_put_other place loop.func inner counters (λ e. omega (arith, e, here))) in
-        let begins_at : IsCornerAt place counters corner begin = λ inner.
-        let c = corner_so corners are corner corner_is (put_loops place inner counters) in
-        (c.0 ∙ ap (first_of own.x) (turns_stay inner), c.1 ∙ ap (first_of own.y) (turns_stay inner)) in
-        let reads : ReadsPixels pipeline schedule corners place update values own inputs counters between = λ inner number x y few lies plane words.
-        all_answered corners are (put_loops place inner counters) (loops_put_other place loop.func inner counters (λ e. omega (arith, e, here)) ∙ loops_hosting loop.func turned) between left.keeps
-        at update update_is number x y few lies plane words in
-        let after : updates.Leaves place own (updates.stage_from pipeline inputs place func begin (suc at)) between (run points inputs next counters between) =
-        goes_on inputs begun parts.standing parts.there values (subst (λ (l : List ℕ). Below l (lasts_of (host_at schedule boxes parts.standing))) (sym turns_so) host_below) begin
-        (subst (λ (l : List ℕ). IsBegin l own begin) (sym turns_so) begins) counters begins_at
-        (λ id. ap (λ (t : loops.Values). t id) (no_other_loops loop.func place turned (λ e. omega (arith, e, here)))) between
-        (subst (λ (l : List ℕ). ReadsPixels pipeline schedule corners place update l own inputs counters between) (sym turns_so) reads)
-        (λ x y there.
-        let p = and_parts (nat_lt x (extent own.x)) (nat_lt y (extent own.y)) there in
-        left.holds x y (ltb-true x (extent own.x) p.0) (ltb-true y (extent own.y) p.1)) in
-        let ran : run points inputs made counters funcs ≡ run points inputs next counters between = both points inputs counters funcs in
-        record {
-          holds = λ x y lx ly.
-              ap (λ (f : Planes). f place x y) ran
-              ∙ after.does x y (and_from (nat_lt x (extent own.x)) (nat_lt y (extent own.y)) (lt-ltb x (extent own.x) lx) (lt-ltb y (extent own.y) ly));
-          keeps = λ other x y d. ap (λ (f : Planes). f other x y) ran ∙ (after.keeps other x y (λ e. absurd (d e)) ∙ left.keeps other x y d);
-        }
-      where
-        lasts_here : (values : List ℕ) → own.lasts ≡ lasts_of (host_at schedule boxes parts.standing)
-        lasts_here values =
-            facts.lasts_are pipeline schedule boxes place func plan own accepted is (places.At loop) here parts
-            ∙ ap (λ (p : Place). lasts_of (host_in schedule boxes.funcs p)) (sym parts.placed_is)
+  lasts_here : own.lasts ≡ lasts_of (host_at schedule boxes parts.standing)
+  lasts_here =
+      facts.lasts_are pipeline schedule boxes place func plan own accepted is (places.At loop) here parts
+      ∙ ap (λ (p : Place). lasts_of (host_in schedule boxes.funcs p)) (sym parts.placed_is)
+
+  module _ (corners : List Corner) (are : AreCorners schedule.funcs boxes.funcs schedule.standings corners) (corner : Corner) (corner_is : slice_get corners place ≡ Some corner) where
+    -- while loops of the host are in these turns
+    module _ (turned : loops.Values) (below : Below (turns_for schedule.funcs (places.At loop) (hosting loop.func turned)) own.lasts) where
+      abbrev counters : Values
+      counters = hosting loop.func turned
+
+      abbrev values : List ℕ
+      values = turns_for schedule.funcs (places.At loop) counters
+
+      abbrev begin : BoxCorner
+      begin = record { x = first_of own.x values; y = first_of own.y values }
+
+      host_below : Below values (lasts_of (host_at schedule boxes parts.standing))
+      host_below = subst (λ (l : List ℕ). Below values l) lasts_here below
+
+      turns_so : hosted_turns schedule boxes parts.standing values ≡ values
+      turns_so = values_are (host_at schedule boxes parts.standing) values host_below
+
+      below_so : Below (hosted_turns schedule boxes parts.standing values) (lasts_of (host_at schedule boxes parts.standing))
+      below_so = subst (λ (l : List ℕ). Below l (lasts_of (host_at schedule boxes parts.standing))) (sym turns_so) host_below
+
+      begins : IsBegin (hosted_turns schedule boxes parts.standing values) own begin
+      begins =
+          subst (λ (l : List ℕ). IsBegin l own begin) (sym turns_so)
+          (record {
+            x = subst (λ (n : ℕ). IsFrom values own.x 0 n) (add_none (first_of own.x values) (first_small own.x values)) (from_first_on own.lasts values own.x 0 box_facts.x below (omega (arith, box_facts.x.ordered)));
+            y = subst (λ (n : ℕ). IsFrom values own.y 0 n) (add_none (first_of own.y values) (first_small own.y values)) (from_first_on own.lasts values own.y 0 box_facts.y below (omega (arith, box_facts.y.ordered)));
+          })
+
+      turns_stay : (inner : loops.Values) → turns_for schedule.funcs (places.At loop) (put_loops place inner counters) ≡ values
+      turns_stay inner = turns_by loop (slice_get schedule.funcs loop.func) (put_loops place inner counters) counters (loops_put_other place loop.func inner counters (λ e. omega (arith, e, here)))
+
+      begins_at : IsCornerAt place counters corner begin
+      begins_at inner =
+          let c = corner_so corners are corner corner_is (put_loops place inner counters) in
+          (c.0 ∙ ap (first_of own.x) (turns_stay inner), c.1 ∙ ap (first_of own.y) (turns_stay inner))
+
+      loops_stay : (inner : loops.Values) → loops_of loop.func (put_loops place inner counters) ≡ turned
+      loops_stay inner = loops_put_other place loop.func inner counters (λ e. omega (arith, e, here)) ∙ loops_hosting loop.func turned
+
+      not_begun : (id : LoopId) → loops_of place counters id ≡ 0
+      not_begun id = ap (λ (t : loops.Values). t id) (no_other_loops loop.func place turned (λ e. omega (arith, e, here)))
+
+    module _ (at : ℕ) (update : Update) (update_is : slice_get func.updates at ≡ Some update) (first next made : Stmt) (both : DoesFirst (Some first) next made) where
+      pub one_more_stage : DoesNests pipeline schedule boxes loop place func own at first → DoesUpdate pipeline schedule boxes corners place func corner own at update next
+          → DoesNests pipeline schedule boxes loop place func own (suc at) made
+      one_more_stage does goes_on inputs begun turned below funcs answered all_answered =
+          let points = box_points boxes.funcs in
+          let between = run points inputs first (counters turned below) funcs in
+          let left : Leaves place own (values turned below) (stage place func inputs (pixels pipeline.funcs inputs place) at) funcs between = does inputs begun turned below funcs answered all_answered in
+          let reads : ReadsPixels pipeline schedule corners place update (values turned below) own inputs (counters turned below) between = λ inner number x y few lies plane words.
+          all_answered corners are (put_loops place inner (counters turned below)) (loops_stay turned below inner) between left.keeps at update update_is number x y few lies plane words in
+          let after : updates.Leaves place own (updates.stage_from pipeline inputs place func (begin turned below) (suc at)) between (run points inputs next (counters turned below) between) =
+          goes_on inputs begun parts.standing parts.there (values turned below) (below_so turned below) (begin turned below) (begins turned below) (counters turned below) (begins_at turned below) (not_begun turned below) between
+          (subst (λ (l : List ℕ). ReadsPixels pipeline schedule corners place update l own inputs (counters turned below) between) (sym (turns_so turned below)) reads)
+          (λ x y there.
+          let p = and_parts (nat_lt x (extent own.x)) (nat_lt y (extent own.y)) there in
+          left.holds x y (ltb-true x (extent own.x) p.0) (ltb-true y (extent own.y) p.1)) in
+          let ran : run points inputs made (counters turned below) funcs ≡ run points inputs next (counters turned below) between = both.runs points inputs (counters turned below) funcs in
+          record {
+            holds = λ x y lx ly.
+                ap (λ (f : Planes). f place x y) ran
+                ∙ after.does x y (and_from (nat_lt x (extent own.x)) (nat_lt y (extent own.y)) (lt-ltb x (extent own.x) lx) (lt-ltb y (extent own.y) ly));
+            keeps = λ other x y d. ap (λ (f : Planes). f other x y) ran ∙ (after.keeps other x y (λ e. absurd (d e)) ∙ left.keeps other x y d);
+          }
+
+      pub one_more_sound : IsSoundNest pipeline schedule boxes loop place func own first → AreSoundLoops pipeline schedule boxes corners place corner own update next
+          → IsSoundNest pipeline schedule boxes loop place func own made
+      one_more_sound first_sound next_sound reads words written loaded turned below may =
+          let loads : LoadsOthers pipeline schedule corners place update (values turned below) own reads loaded (counters turned below) = λ inner number x y few lies.
+          may.updates corners are (put_loops place inner (counters turned below)) (loops_stay turned below inner) at update update_is number x y few lies in
+          both.sound reads written loaded (counters turned below)
+          ∙ and_from (is_sound reads written loaded first (counters turned below)) (is_sound reads written loaded next (counters turned below)) (first_sound reads words written loaded turned below may)
+          (next_sound reads words written loaded may.writes may.loads parts.standing parts.there (values turned below) (below_so turned below) (begin turned below) (begins turned below) (counters turned below)
+          (begins_at turned below) (not_begun turned below) (subst (λ (l : List ℕ). LoadsOthers pipeline schedule corners place update l own reads loaded (counters turned below)) (sym (turns_so turned below)) loads))
 
   -- the pure definition alone
   pub pure_stage : (made : Stmt) → DoesNest pipeline schedule boxes loop place func own 0 made → DoesNests pipeline schedule boxes loop place func own 0 made

@@ -2,14 +2,16 @@
 use Rattle.std.proofs.Common.{◌≡◌, ℕ, suc, ◌<◌, Bool, true, false, List, [], map, Some, refl, sym, ap, subst, ◌∙◌, arith}
 use mathlib.Core.Path.{fun_ext}
 use Rattle.std.specs.Prelude.{slice_get, Ok}
-use Rattle.std.specs.List.{AllByRecursion, list_any}
+use Rattle.std.specs.List.{AllByRecursion, list_all, list_any}
 use Rattle.std.proofs.lemmas.List.{append-nil}
 use Rattle.halide_pipeline.specs.declared.definitions.Func.{Func}
 use Rattle.halide_pipeline.specs.declared.definitions.Update.{Update}
+use Rattle.halide_pipeline.specs.declared.expressions.Source.TheVariants as sources
 use Rattle.halide_pipeline.specs.declared.expressions.Variable.TheVariants as variables
 use Rattle.halide_pipeline.specs.Definitions.{is_first_in_place, is_second_in_place}
 use Rattle.halide_pipeline.specs.Pipelines.{Pipeline}
 use Rattle.halide_pipeline.specs.WellFormed.{IsWellFormed}
+use Rattle.halide_pipeline.specs.Words as word
 use Rattle.halide_meaning.specs.Pixel.{Planes, points}
 use Rattle.schedule_lines.specs.declared.stages.LoopId.TheVariants as ids
 use Rattle.schedule_lines.specs.declared.stages.Stage.{Stage}
@@ -32,16 +34,19 @@ use Rattle.box_laws.proofs.StandingWithin.{one_standing}
 use Rattle.loop_ir.specs.declared.statements.Stmt.{Stmt}
 use Rattle.loop_ir.specs.Counters.{Values}
 use Rattle.loop_ir.specs.Running.{run}
+use Rattle.loop_ir.specs.Soundness.{is_sound}
 use Rattle.nest_lowering.specs.Nests.{loops_of, put_loops, all, AreSmall, Repeats}
 use Rattle.expression_lowering.specs.declared.calls.Corner.{Corner}
-use Rattle.expression_lowering.specs.Lowering.{placed}
+use Rattle.expression_lowering.specs.Lowering.{placed, place as place_in}
 use Rattle.lowering.specs.Planes.{BoxCorner, has_point, box_points}
-use Rattle.lowering.specs.Updates.{IsComputedIn, IsUpdateAt, StoresUpdate, DoesUpdate, update_extents, in_place, is_visited, IsCornerAt, stage_from}
+use Rattle.lowering.specs.Updates.{IsComputedIn, IsUpdateAt, StoresUpdate, IsSoundUpdate, DoesUpdate, AreSoundLoops, update_extents, in_place, is_visited, IsCornerAt, stage_from}
+use Rattle.lowering.proofs.Lists.{all_pass}
 use Rattle.lowering.proofs.UpdateFacts.{has_reduction, points_are}
 use Rattle.lowering.proofs.UpdateRuns.{members, all_so, leaves, stays}
 use Rattle.lowering.proofs.UpdateSlices.{slice_there}
 use Rattle.lowering.proofs.UpdateStages.{staged}
 use Rattle.lowering.proofs.UpdateSteps.{ReadsOwn}
+use Rattle.lowering.proofs.UpdateTouches.{all_sound}
 use Rattle.lowering.proofs.UpdateVisits.{all_listed, all_in_order, all_within}
 
 module _ (pipeline : Pipeline) (schedule : Schedule) (boxes : Boxes) (rules : IsWellFormed pipeline) (accepted : IsAccepted pipeline schedule) (is : inferred pipeline schedule ≡ Ok boxes)
@@ -120,3 +125,20 @@ module _ (pipeline : Pipeline) (schedule : Schedule) (boxes : Boxes) (rules : Is
       kept other i j free =
           stays pipeline schedule boxes rules accepted is place func own at_it.func_is at_it.box_is standing there computed at update it.update_is inputs begun turns below begin begins corners values corner corner_is reads_own
           store stores funcs reads_others list all_visits reduced in_all (λ i j e. e) closed in_order holds other i j free
+
+  -- ---- what it touches
+
+  pub sound_nest : IsSoundUpdate corners (flags pipeline schedule) pipeline.funcs place corner update store → AreSoundLoops pipeline schedule boxes corners place corner own update made
+  sound_nest sound reads words written loaded writes loads standing there turns below begin begins values corner_is not_begun others =
+      repeats.sound reads written loaded values (λ id. omega (arith, not_begun id))
+      ∙ ap (λ (t : loops.Values). list_all (λ inner. is_sound reads written loaded store (put_loops place inner values)) (wholes extents stage.splits stage.loops t)) (fun_ext not_begun)
+      ∙ all_pass (λ inner. is_sound reads written loaded store (put_loops place inner values)) list
+      (all_sound pipeline schedule boxes rules is place func own at_it.func_is at_it.box_is standing there computed at update it.update_is turns below begin begins corners values corner corner_is store sound
+      reads words written loaded own_placed others in_all writes loads list all_visits reduced closed)
+    where
+      computed : IsComputed place standing.place
+      computed = subst (λ (s : Standing). IsComputed place s.place) (one_standing schedule.standings place at_it.standing standing at_it.there.standing there.standing) at_it.computed
+
+      own_placed : (inner : loops.Values) (a b : ℕ) → place_in corners (put_loops place inner values) (record { source = sources.Func place; x = a; y = b })
+          ≡ record { source = sources.Func place; x = word.subtract a begin.x; y = word.subtract b begin.y }
+      own_placed inner a b = rw (corner_there, (corner_is inner).0, (corner_is inner).1) refl

@@ -71,6 +71,18 @@ module _ (pipeline : Pipeline) (schedule : Schedule) (accepted : IsAccepted pipe
       let plan_same : h.plan ≡ plan = cc in
       no_stage plan.updates at stage stage_is (ap (λ (p : FuncPlan). length p.updates) (sym plan_same) ∙ h.no_updates)
 
+  -- So nothing that is computed at a loop is read by a root that hosts none.
+  pub none_within : (place : ℕ) (its : Standing) → IsReached schedule.standings place its → its.place ≡ places.Root → HostsNone schedule.standings place
+      → (k : ℕ) (w : IsReadWithin schedule place k) (host : LoopPlace) → w.own.place ≡ places.At host → ⊥
+  none_within place its there root none k w host e = by_stand (w.within host e)
+    where
+      by_stand : StandsAt schedule host place → ⊥
+      by_stand (HasLoop same) = none k w.own host w.there e (sym same)
+      by_stand (IsWithin standing other there_too other_place inside) =
+          let same = one_standing schedule.standings place standing its there_too.standing there.standing in
+          let wrong : places.At other ≡ places.Root = sym other_place ∙ ap (λ (s : Standing). s.place) same ∙ root in
+          cc
+
   pub roots_are_shared : RootsAreShared schedule.standings (is_private schedule.standings)
   roots_are_shared other own there root =
       ap is_private_in there.standing ∙ (ap (λ (b : Bool). b && is_at_loop own.place) there.reached ∙ ap is_at_loop root)
@@ -100,16 +112,9 @@ module _ (pipeline : Pipeline) (schedule : Schedule) (boxes : Boxes) (rules : Is
       let p = pair_there IsPlan pipeline.funcs schedule.funcs k f.value accepted.plans f.is in
       (pair_at IsLegal schedule.funcs schedule.standings k p.value standing accepted.legal p.is there.standing there.reached).somewhere
 
-  not_within : (k : ℕ) (w : IsReadWithin schedule place k) (host : LoopPlace) → w.own.place ≡ places.At host → StandsAt schedule host place → ⊥
-  not_within k w host e (HasLoop same) = none_hosted k w.own host w.there e (sym same)
-  not_within k w host e (IsWithin standing other there other_place inside) =
-      let same = one_standing schedule.standings place standing at.standing there.standing at.there.standing in
-      let wrong : places.At other ≡ places.Root = sym other_place ∙ ap (λ (s : Standing). s.place) same ∙ at.placed_is in
-      cc
-
   root_read : (k : ℕ) (w : IsReadWithin schedule place k) → flagged (flags_of schedule.standings) k ≡ false → (p : Place) → w.own.place ≡ p → p ≡ places.Root
   root_read k w unflagged places.Root e = refl
-  root_read k w unflagged (places.At host) e = absurd (not_within k w host e (w.within host e))
+  root_read k w unflagged (places.At host) e = absurd (none_within pipeline schedule accepted place at.standing at.there at.placed_is none_hosted k w host e)
   root_read k w unflagged places.Inlined e = absurd (true≢false (sym (flag_is schedule.standings k w.own w.there.standing ∙ ap is_inlined e) ∙ unflagged))
   root_read k w unflagged places.Nowhere e = absurd (true≢false (sym (ap is_nowhere e) ∙ somewhere k w.before w.own w.there))
 

@@ -38,7 +38,7 @@ use Rattle.lowering.proofs.UpdateSteps.{ReadsOwn, from_begin, column_in, row_in,
 
 -- ---- lists
 
-all_and : {A : Type 0} (P Q : A → Type 0) (xs : List A) → AllByRecursion P xs → AllByRecursion Q xs → AllByRecursion (λ x. P x × Q x) xs
+pub all_and : {A : Type 0} (P Q : A → Type 0) (xs : List A) → AllByRecursion P xs → AllByRecursion Q xs → AllByRecursion (λ x. P x × Q x) xs
 all_and P Q [] p q = tt
 all_and P Q (x ∷ xs) p q = ((p.0, q.0), all_and P Q xs p.1 q.1)
 

@@ -1,22 +1,19 @@
 -- One visit of an update takes its slice one further.
-use Rattle.std.proofs.Common.{◌≡◌, ℕ, suc, ◌+◌, ◌*◌, ◌/◌, ◌%◌, ◌^◌, ◌<◌, ◌≤◌, Bool, true, false, cond, List, [], ◌∷◌, Option, Some, None, refl, sym, ap, subst, ◌∙◌, arith, true≢false}
+use Rattle.std.proofs.Common.{◌≡◌, ℕ, suc, ◌^◌, ◌<◌, ◌≤◌, Bool, true, false, cond, List, [], ◌∷◌, Option, Some, None, refl, sym, ap, subst, ◌∙◌, arith, true≢false}
 use Rattle.std.specs.Prelude.{◌&&◌, ◌==◌, nat_lt, slice_get, Ok}
 use Rattle.std.specs.List.{AllByRecursion}
-use Rattle.std.proofs.lemmas.Bool.{and_parts, and_from, lt-ltb, ltb-true, eq-eqb, eqb-true}
-use Rattle.std.proofs.Math.Nat.{mod-eq_of_lt, mul-le-mul}
+use Rattle.std.proofs.lemmas.Bool.{and_parts, and_from, ltb-true, eq-eqb, eqb-true}
 use Rattle.halide_pipeline.specs.declared.definitions.Func.{Func}
-use Rattle.halide_pipeline.specs.declared.definitions.Reduction.{Reduction}
 use Rattle.halide_pipeline.specs.declared.definitions.Update.{Update}
 use Rattle.halide_pipeline.specs.declared.expressions.Source.{Source}
 use Rattle.halide_pipeline.specs.declared.expressions.Source.TheVariants as sources
-use Rattle.halide_pipeline.specs.declared.expressions.Variable.{Variable}
 use Rattle.halide_pipeline.specs.declared.expressions.Variable.TheVariants as variables
 use Rattle.halide_pipeline.specs.Definitions.{is_first_in_place, is_second_in_place}
 use Rattle.halide_pipeline.specs.Pipelines.{Pipeline}
-use Rattle.halide_pipeline.specs.WellFormed.{IsWellFormed, is_box}
+use Rattle.halide_pipeline.specs.WellFormed.{IsWellFormed}
 use Rattle.halide_pipeline.specs.Words as word
 use Rattle.halide_meaning.specs.declared.environments.Environment.{Environment}
-use Rattle.halide_meaning.specs.Pixel.{Plane, Planes, Reads, variable, reads_of, pixels, points, second_extent, second_value, at_reduction}
+use Rattle.halide_meaning.specs.Pixel.{Plane, Planes, Reads, variable, reads_of, pixels, points, at_reduction}
 use Rattle.reads.specs.Points.{Point, Agree}
 use Rattle.schedule_lines.specs.declared.stages.LoopId.TheVariants as ids
 use Rattle.schedule.specs.declared.schedules.Schedule.{Schedule}
@@ -25,7 +22,7 @@ use Rattle.schedule.specs.Accepted.{IsAccepted}
 use Rattle.schedule.specs.Uses.{IsReached}
 use Rattle.stage_loops.specs.declared.extents.Extents.{Extents}
 use Rattle.stage_loops.specs.Counts as loops
-use Rattle.stage_loops.specs.Stages.{IsVisitOf, extent_in, first_loops, has_variable}
+use Rattle.stage_loops.specs.Stages.{IsVisitOf}
 use Rattle.stage_loops.specs.Visits.{Visit, visit_of}
 use Rattle.inlining.specs.Inlining.{inlined}
 use Rattle.inlining.specs.Values.{values as valuing}
@@ -37,7 +34,6 @@ use Rattle.bounds.specs.Sources.{same_source}
 use Rattle.bounds.specs.Verdict.{inferred}
 use Rattle.box_laws.specs.HostLaws.{IsHosted, IsInPlace}
 use Rattle.box_laws.specs.Laws.{LiesIn, AreBoxed, IsNear, IsComputed, update_points}
-use Rattle.box_laws.proofs.BoxesHosted.{boxes_are_hosted, points_are_near, visits_lie}
 use Rattle.box_laws.proofs.OwnPoints.{own_points_lie}
 use Rattle.box_laws.proofs.PutIn.{flags}
 use Rattle.box_laws.proofs.StayingReads.{own_reads_stay}
@@ -50,30 +46,14 @@ use Rattle.nest_lowering.specs.Nests.{put_loops}
 use Rattle.expression_lowering.specs.declared.calls.Corner.{Corner}
 use Rattle.expression_lowering.specs.Lowering.{placed}
 use Rattle.lowering.specs.Planes.{BoxCorner, has_point, box_points}
-use Rattle.lowering.specs.PurePhases.{whole_at}
-use Rattle.lowering.specs.Updates.{StoresUpdate, index_of, visited_point, second_reduced, update_extents, in_place, is_visited, IsCornerAt, IsBegin, ReadsPixels, host_at, hosted_turns}
-use Rattle.lowering.proofs.Begins.{on_from, offset_in, back_on, on_back, same_test}
+use Rattle.lowering.specs.Updates.{StoresUpdate, index_of, visited_point, update_extents, in_place, is_visited, IsCornerAt, IsBegin, ReadsPixels, host_at, hosted_turns}
+use Rattle.lowering.proofs.AtVisit as visiting
+use Rattle.lowering.proofs.Begins.{back_on, same_test}
 use Rattle.lowering.proofs.Offsets.{add_turned}
 use Rattle.lowering.proofs.Painting.{put_there, put_other}
 use Rattle.lowering.proofs.Slices.{Goes, HoldsAt, Others}
 use Rattle.lowering.proofs.UpdateStoring.{put_as}
-use Rattle.lowering.proofs.UpdateFacts.{has_first, no_second, points_are, first_extent, second_few, remainder_is, quotient_is}
-use Rattle.lowering.proofs.UpdateMeaning.{stands, wanted, wanted_words, formed, other_answers, own_answers, column, row, right, of_target, column_found, row_found, right_found, one_more}
-
--- ---- where loops stand
-
-whole_small : (second width first height : ℕ) → 1 ≤ width → width ≤ 65536 → height ≤ 65536 → second * width + first < width * height → second < 2 ^ 32
-whole_small second width first height some few low inside =
-    let all : width * height ≤ 65536 * 65536 = mul-le-mul few low in
-    let own : second * 1 ≤ second * width = mul-le-mul (omega arith) some in
-    omega (arith, all, own, inside)
-
-abbrev point_of : ℕ → ℕ → ℕ → ℕ → Environment
-point_of a b c d = record { first_argument = a; second_argument = b; first_reduction = c; second_reduction = d }
-
-same_point : (a b c d x y z w : ℕ) → a ≡ x → b ≡ y → c ≡ z → d ≡ w → point_of a b c d ≡ point_of x y z w
-same_point a b c d x y z w ea eb ec ed =
-    ap (λ (n : ℕ). point_of n b c d) ea ∙ ap (λ (n : ℕ). point_of x n c d) eb ∙ ap (λ (n : ℕ). point_of x y n d) ec ∙ ap (λ (n : ℕ). point_of x y z n) ed
+use Rattle.lowering.proofs.UpdateMeaning.{stands, wanted, wanted_words, other_answers, own_answers, column, row, right, of_target, column_found, row_found, right_found, one_more}
 
 -- The Func's own buffer is read from where its box begins.
 abbrev pub ReadsOwn : List Corner → ℕ → Values → Planes → BoxCorner → Type 0
@@ -107,10 +87,10 @@ module _ (pipeline : Pipeline) (schedule : Schedule) (boxes : Boxes) (rules : Is
   answers = wanted pipeline schedule rules accepted place func func_is standing there computed at update update_is inputs begun
 
   hosted : IsHosted (host_at schedule boxes standing) own
-  hosted = boxes_are_hosted pipeline schedule boxes is place standing there.standing there.reached computed own box_is
+  hosted = visiting.hosted pipeline schedule boxes rules is place func own func_is box_is standing there computed at update update_is turns below begin begins before corner corner_is
 
   below_own : Below values own.lasts
-  below_own = subst (λ (l : List ℕ). Below values l) (sym hosted.lasts) below
+  below_own = visiting.below_own pipeline schedule boxes rules is place func own func_is box_is standing there computed at update update_is turns below begin begins before corner corner_is
 
   points_own : (i j : ℕ) → boxed place i j ≡ has_point (Some own) i j
   points_own i j = ap (λ (o : Option (Option SourceBox)). has_point (box_in o) i j) box_is
@@ -145,82 +125,26 @@ module _ (pipeline : Pipeline) (schedule : Schedule) (boxes : Boxes) (rules : Is
 
     -- ---- the visit
 
-    parts : (nat_lt visit.x (extent_in func (Some update) extents variables.FirstArgument) ≡ true) × (nat_lt visit.y (extent_in func (Some update) extents variables.SecondArgument) ≡ true)
-    parts = and_parts (nat_lt visit.x (extent_in func (Some update) extents variables.FirstArgument)) (nat_lt visit.y (extent_in func (Some update) extents variables.SecondArgument)) v.slice
-
-    below_by : (has : Bool) (n far : ℕ) → 1 ≤ n → nat_lt far (cond has n 1) ≡ true → far < n
-    below_by true n far some e = ltb-true far n e
-    below_by false n far some e = omega (arith, ltb-true far 1 e, some)
-
-    across : visit.x < extent own.x
-    across = below_by (has_variable variables.FirstArgument (first_loops func (Some update))) (extent own.x) visit.x (omega (arith, hosted.box.x.ordered)) parts.0
-
-    down : visit.y < extent own.y
-    down = below_by (has_variable variables.SecondArgument (first_loops func (Some update))) (extent own.y) visit.y (omega (arith, hosted.box.y.ordered)) parts.1
-
-    -- what isn't in place stays 0
-    no_column : is_first_in_place update ≡ false → visit.x ≡ 0
-    no_column e =
-        let l : nat_lt visit.x (cond false (extent own.x) 1) ≡ true = ap (λ (b : Bool). nat_lt visit.x (cond b (extent own.x) 1)) (sym (has_first func update ∙ e)) ∙ parts.0 in
-        omega (arith, ltb-true visit.x 1 l)
-
-    no_row : is_second_in_place update ≡ false → visit.y ≡ 0
-    no_row e =
-        let l : nat_lt visit.y (cond false (extent own.y) 1) ≡ true = ap (λ (b : Bool). nat_lt visit.y (cond b (extent own.y) 1)) (sym (no_second func update e)) ∙ parts.1 in
-        omega (arith, ltb-true visit.y 1 l)
-
     wide : extent own.x ≤ 2 ^ 32
-    wide = omega (arith, hosted.box.x.low, hosted.box.x.high)
+    wide = visiting.wide pipeline schedule boxes rules is place func own func_is box_is standing there computed at update update_is turns below begin begins before corner corner_is inner v reduced
 
     high : extent own.y ≤ 2 ^ 32
-    high = omega (arith, hosted.box.y.low, hosted.box.y.high)
+    high = visiting.high pipeline schedule boxes rules is place func own func_is box_is standing there computed at update update_is turns below begin begins before corner corner_is inner v reduced
 
     lies : LiesIn values own x y
-    lies =
-        visits_lie func (Some update) own hosted.box values below_own extents refl refl visit v x y
-        (on_from own.lasts values below_own own.x hosted.box.x begin.x begins.x visit.x across)
-        (on_from own.lasts values below_own own.y hosted.box.y begin.y begins.y visit.y down)
+    lies = visiting.lies pipeline schedule boxes rules is place func own func_is box_is standing there computed at update update_is turns below begin begins before corner corner_is inner v reduced
 
     few_points : visit.number < points update
-    few_points = subst (λ (n : ℕ). visit.number < n) (points_are func update own) v.number
-
-    -- ---- what variables stand for
-
-    stands_now : (variable : Variable) → inner (ids.Whole variable) < 2 ^ 32 → whole_at now place variable ≡ inner (ids.Whole variable)
-    stands_now variable few =
-        ap (λ (b : Bool). cond b (inner (ids.Whole variable)) (before (record { func = place; id = ids.Whole variable })) % 2 ^ 32) (eq-eqb place place refl)
-        ∙ mod-eq_of_lt {n = inner (ids.Whole variable)} {m = 2 ^ 32} few
-
-    box_rule : is_box update ≡ true
-    box_rule = (formed pipeline schedule rules accepted place func func_is standing there computed at update update_is inputs begun).box
-
-    first_few : (1 ≤ update.first.extent) × (update.first.extent ≤ 65536)
-    first_few = first_extent update box_rule
-
-    second_most : (1 ≤ second_extent update.second) × (second_extent update.second ≤ 65536)
-    second_most = second_few update box_rule
-
-    second_whole : inner (ids.Whole variables.SecondReduction) < 2 ^ 32
-    second_whole = whole_small (inner (ids.Whole variables.SecondReduction)) update.first.extent (inner (ids.Whole variables.FirstReduction)) (second_extent update.second) first_few.0 first_few.1 second_most.1 few_points
-
-    second_is : (second : Option Reduction) → second_reduced now place second ≡ second_value second (visit.number / update.first.extent)
-    second_is None = refl
-    second_is (Some reduction) =
-        add_turned (whole_at now place variables.SecondReduction) reduction.minimum
-        ∙ ap (word.add reduction.minimum)
-        (stands_now variables.SecondReduction second_whole ∙ sym (quotient_is update box_rule (inner (ids.Whole variables.FirstReduction)) (inner (ids.Whole variables.SecondReduction)) reduced))
+    few_points = visiting.few_points pipeline schedule boxes rules is place func own func_is box_is standing there computed at update update_is turns below begin begins before corner corner_is inner v reduced
 
     point_is : visited_point now place corner update ≡ at_reduction update visit.number x y
-    point_is =
-        same_point (word.add (whole_at now place variables.FirstArgument) (linear_value now corner.x)) (word.add (whole_at now place variables.SecondArgument) (linear_value now corner.y))
-        (word.add (whole_at now place variables.FirstReduction) update.first.minimum) (second_reduced now place update.second)
-        x y (word.add update.first.minimum (visit.number % update.first.extent)) (second_value update.second (visit.number / update.first.extent))
-        (ap (λ (n : ℕ). word.add n (linear_value now corner.x)) (stands_now variables.FirstArgument (omega (arith, across, wide))) ∙ ap (word.add visit.x) (corner_is inner).0)
-        (ap (λ (n : ℕ). word.add n (linear_value now corner.y)) (stands_now variables.SecondArgument (omega (arith, down, high))) ∙ ap (word.add visit.y) (corner_is inner).1)
-        (add_turned (whole_at now place variables.FirstReduction) update.first.minimum
-        ∙ ap (word.add update.first.minimum)
-        (stands_now variables.FirstReduction (omega (arith, reduced, first_few.1)) ∙ sym (remainder_is update box_rule (inner (ids.Whole variables.FirstReduction)) (inner (ids.Whole variables.SecondReduction)) reduced)))
-        (second_is update.second)
+    point_is = visiting.point_is pipeline schedule boxes rules is place func own func_is box_is standing there computed at update update_is turns below begin begins before corner corner_is inner v reduced
+
+    on_slice : (a b : ℕ) → IsInPlace update x y (record { source = sources.Func place; x = a; y = b }) → is_visited update (word.subtract a begin.x) (word.subtract b begin.y) visit ≡ true
+    on_slice = visiting.on_slice pipeline schedule boxes rules is place func own func_is box_is standing there computed at update update_is turns below begin begins before corner corner_is inner v reduced
+
+    boxed_at : (a b : ℕ) → LiesIn values own a b → has_point (Some own) (word.subtract a begin.x) (word.subtract b begin.y) ≡ true
+    boxed_at = visiting.boxed_at pipeline schedule boxes rules is place func own func_is box_is standing there computed at update update_is turns below begin begins before corner corner_is inner v reduced
 
     -- ---- what is read
 
@@ -238,29 +162,6 @@ module _ (pipeline : Pipeline) (schedule : Schedule) (boxes : Boxes) (rules : Is
       unfolding placed
       other_found (sources.Input k) a b differs = refl
       other_found (sources.Func k) a b differs = other_found_by (slice_get corners k) k a b (λ e. true≢false (sym (eq-eqb k place e) ∙ differs)) refl
-
-      -- a point of the slice, counted from the corner
-      in_slice : (test : Bool) (argument n c far : ℕ) → (test ≡ true → n ≡ argument) → argument ≡ word.add far c → (test ≡ false → far ≡ 0) → far < 2 ^ 32 → c < 2 ^ 32 → in_place test (word.subtract n c) ≡ far
-      in_slice true argument n c far same is zero_so few small =
-          ap (λ (m : ℕ). word.subtract m c) (same refl ∙ is ∙ add_turned far c) ∙ on_back c far few small
-      in_slice false argument n c far same is zero_so few small = sym (zero_so refl)
-
-      column_of : (a : ℕ) → (is_first_in_place update ≡ true → a ≡ x) → column_in (word.subtract a begin.x) ≡ visit.x
-      column_of a same = in_slice (is_first_in_place update) x a begin.x visit.x same refl no_column (omega (arith, across, wide)) begins.x.word
-
-      row_of : (b : ℕ) → (is_second_in_place update ≡ true → b ≡ y) → row_in (word.subtract b begin.y) ≡ visit.y
-      row_of b same = in_slice (is_second_in_place update) y b begin.y visit.y same refl no_row (omega (arith, down, high)) begins.y.word
-
-      on_slice : (a b : ℕ) → IsInPlace update x y (record { source = sources.Func place; x = a; y = b }) → is_visited update (word.subtract a begin.x) (word.subtract b begin.y) visit ≡ true
-      on_slice a b stays =
-          and_from (visit.x == column_in (word.subtract a begin.x)) (visit.y == row_in (word.subtract b begin.y))
-          (eq-eqb visit.x (column_in (word.subtract a begin.x)) (sym (column_of a stays.first))) (eq-eqb visit.y (row_in (word.subtract b begin.y)) (sym (row_of b stays.second)))
-
-      boxed_at : (a b : ℕ) → LiesIn values own a b → has_point (Some own) (word.subtract a begin.x) (word.subtract b begin.y) ≡ true
-      boxed_at a b inside_it =
-          and_from (nat_lt (word.subtract a begin.x) (extent own.x)) (nat_lt (word.subtract b begin.y) (extent own.y))
-          (lt-ltb (word.subtract a begin.x) (extent own.x) (offset_in own.lasts values below_own own.x hosted.box.x begin.x begins.x a inside_it.first))
-          (lt-ltb (word.subtract b begin.y) (extent own.y) (offset_in own.lasts values below_own own.y hosted.box.y begin.y begins.y b inside_it.second))
 
       own_found : (a b : ℕ) → LiesIn values own a b → IsInPlace update x y (record { source = sources.Func place; x = a; y = b }) → found (sources.Func place) a b ≡ standing_at visit.number a b
       own_found a b inside_it stays =
@@ -294,7 +195,7 @@ module _ (pipeline : Pipeline) (schedule : Schedule) (boxes : Boxes) (rules : Is
           (one_agrees point.source point.x point.y (same_source point.source (sources.Func place)) refl lie.0 (λ e. let p = stay.0 e in record { first = p.first; second = p.second }) others.0, all_agree list lie.1 stay.1 others.1)
 
       near : IsNear x × IsNear y
-      near = points_are_near own hosted.box values below_own x y lies
+      near = visiting.near pipeline schedule boxes rules is place func own func_is box_is standing there computed at update update_is turns below begin begins before corner corner_is inner v reduced
 
       wanted_are : AnswerWords pipeline.inputs (answers visit.number)
       wanted_are = wanted_words pipeline schedule rules accepted place func func_is standing there computed at update update_is inputs begun visit.number

@@ -1,22 +1,27 @@
 -- The store of an update.
-use Rattle.std.proofs.Common.{◌≡◌, ℕ, suc, ◌^◌, ◌<◌, Bool, List, refl, ap, ◌∙◌, arith}
+use Rattle.std.proofs.Common.{◌≡◌, ℕ, suc, ◌^◌, ◌<◌, Bool, List, refl, sym, ap, subst, ◌∙◌, arith}
 use Rattle.halide_pipeline.specs.declared.definitions.Func.{Func}
 use Rattle.halide_pipeline.specs.declared.definitions.Update.{Update}
 use Rattle.halide_pipeline.specs.Words as word
+use Rattle.halide_pipeline.specs.declared.expressions.Expr.{Expr}
+use Rattle.halide_meaning.specs.declared.environments.Environment.{Environment}
 use Rattle.halide_meaning.specs.Pixel.{Planes, Reads, variable, reads_of}
+use Rattle.reads.specs.Points.{Point, Hold}
 use Rattle.inlining.specs.Inlining.{inlined}
-use Rattle.inlining.specs.Values.{values as valuing}
+use Rattle.inlining.specs.Laws.{seen_variable}
+use Rattle.inlining.specs.Values.{values as valuing, seeing}
 use Rattle.loop_ir.specs.declared.expressions.Expr as expressions
 use Rattle.loop_ir.specs.declared.statements.Stmt.TheVariants as s
 use Rattle.loop_ir.specs.Buffers.{Points, put}
 use Rattle.loop_ir.specs.Counters.{Values}
-use Rattle.loop_ir.specs.Expressions.{linear_value, value}
+use Rattle.loop_ir.specs.Expressions.{linear_value, loads, value}
 use Rattle.loop_ir.specs.declared.expressions.Linear.{Linear}
 use Rattle.loop_ir.proofs.Trees.{run_store}
 use Rattle.expression_lowering.specs.declared.calls.Corner.{Corner}
 use Rattle.expression_lowering.specs.declared.lowering.Arguments.{Arguments}
-use Rattle.expression_lowering.specs.Lowering.{environment, placed}
-use Rattle.lowering.specs.Updates.{StoresUpdate, visited_point, index_of}
+use Rattle.expression_lowering.specs.Lowering.{environment, placed, place as place_in}
+use Rattle.lowering.specs.Updates.{StoresUpdate, IsSoundUpdate, visited_point, index_of, points_of_index}
+use Rattle.lowering.proofs.Storing.{store_sound}
 
 -- ---- sums
 
@@ -69,3 +74,37 @@ module _ (corners : List Corner) (flags : ℕ → Bool) (funcs : List Func) (pla
       (y_is reads values ∙ ap (λ (n : ℕ). word.subtract n (linear_value values corner.y)) (row_is reads values))
       (made_is reads values)
       ∙ by_point
+
+  -- ---- what it touches
+
+  pub sound_update : (column row x y made : expressions.Expr) (arguments : Arguments) (count : ℕ) → count ≡ suc place
+      → ((values : Values) → environment values arguments ≡ visited_point values place corner update)
+      → ((reads : Reads) (values : Values) → value reads values column ≡ inlined (valuing (placed corners values reads)) flags funcs place (variable (environment values arguments)) update.left_x)
+      → ((reads : Reads) (values : Values) → value reads values row ≡ index_of (inlined (valuing (placed corners values reads)) flags funcs place (variable (environment values arguments))) update.left_y)
+      → ((reads : Reads) (values : Values) → value reads values x ≡ word.subtract (value reads values column) (linear_value values corner.x))
+      → ((reads : Reads) (values : Values) → value reads values y ≡ word.subtract (value reads values row) (linear_value values corner.y))
+      → ((reads : Reads) (values : Values) (test : Point → Bool)
+      → Hold (λ point. test (place_in corners values point)) (inlined (seeing (placed corners values reads)) flags funcs place (seen_variable (environment values arguments)) update.left_x).points → Hold test (loads reads values column))
+      → ((reads : Reads) (values : Values) (test : Point → Bool)
+      → Hold (λ point. test (place_in corners values point)) (points_of_index (λ e. (inlined (seeing (placed corners values reads)) flags funcs place (seen_variable (environment values arguments)) e).points) update.left_y)
+      → Hold test (loads reads values row))
+      → ((reads : Reads) (values : Values) (test : Point → Bool)
+      → Hold (λ point. test (place_in corners values point)) (inlined (seeing (placed corners values reads)) flags funcs count (seen_variable (environment values arguments)) update.right).points → Hold test (loads reads values made))
+      → ((reads : Reads) (values : Values) (test : Point → Bool) → Hold test (loads reads values column) → Hold test (loads reads values x))
+      → ((reads : Reads) (values : Values) (test : Point → Bool) → Hold test (loads reads values row) → Hold test (loads reads values y))
+      → IsSoundUpdate corners flags funcs place corner update (s.Store (record { func = place; x = x; y = y; value = made }))
+  sound_update column row x y made arguments count count_is environment_is column_is row_is x_is y_is column_loads row_loads made_loads x_loads y_loads reads written loaded values writes left second right =
+      let answers = placed corners values reads in
+      let held : List Point → Type 0 = λ points. Hold (λ point. loaded (place_in corners values point)) points in
+      let back = sym (environment_is values) in
+      store_sound reads written loaded (record { func = place; x = x; y = y; value = made }) values
+      (ap (λ (n : ℕ). written place n (value reads values y))
+      (x_is reads values ∙ ap (λ (n : ℕ). word.subtract n (linear_value values corner.x)) (column_is reads values ∙ ap (λ (v : Environment). inlined (valuing answers) flags funcs place (variable v) update.left_x) (environment_is values)))
+      ∙ ap (written place (word.subtract (inlined (valuing answers) flags funcs place (variable (visited_point values place corner update)) update.left_x) (linear_value values corner.x)))
+      (y_is reads values ∙ ap (λ (n : ℕ). word.subtract n (linear_value values corner.y)) (row_is reads values ∙ ap (λ (v : Environment). index_of (inlined (valuing answers) flags funcs place (variable v)) update.left_y) (environment_is values)))
+      ∙ writes)
+      (x_loads reads values loaded (column_loads reads values loaded (subst (λ (v : Environment). held (inlined (seeing answers) flags funcs place (seen_variable v) update.left_x).points) back left)))
+      (y_loads reads values loaded (row_loads reads values loaded (subst (λ (v : Environment). held (points_of_index (λ (e : Expr). (inlined (seeing answers) flags funcs place (seen_variable v) e).points) update.left_y)) back second)))
+      (made_loads reads values loaded
+      (subst (λ (n : ℕ). held (inlined (seeing answers) flags funcs n (seen_variable (environment values arguments)) update.right).points) (sym count_is)
+      (subst (λ (v : Environment). held (inlined (seeing answers) flags funcs (suc place) (seen_variable v) update.right).points) back right)))

@@ -5,19 +5,23 @@ use Rattle.std.specs.List.{AllByRecursion, list_any}
 use Rattle.std.proofs.lemmas.Bool.{and_parts, and_from, eq-eqb, ne_eqb}
 use Rattle.halide_pipeline.specs.declared.definitions.Func.{Func}
 use Rattle.halide_pipeline.specs.declared.definitions.Update.{Update}
+use Rattle.halide_pipeline.specs.declared.expressions.Source.TheVariants as sources
 use Rattle.halide_pipeline.specs.declared.expressions.Variable.TheVariants as variables
 use Rattle.halide_pipeline.specs.Definitions.{is_first_in_place, is_second_in_place}
 use Rattle.halide_pipeline.specs.Pipelines.{Pipeline}
 use Rattle.halide_pipeline.specs.WellFormed.{IsWellFormed}
 use Rattle.halide_pipeline.specs.Words as word
-use Rattle.halide_meaning.specs.Pixel.{Plane, Planes, reads_of, with_plane, pixels, points, second_extent}
+use Rattle.halide_meaning.specs.Pixel.{Plane, Planes, Reads, reads_of, with_plane, pixels, points, second_extent}
+use Rattle.reads.specs.Points.{Point}
 use Rattle.halide_meaning.specs.Pixel as meaning
 use Rattle.schedule_lines.specs.declared.stages.Loop.{Loop}
 use Rattle.schedule_lines.specs.declared.stages.LoopId.TheVariants as ids
 use Rattle.schedule_lines.specs.declared.stages.Stage.{Stage}
 use Rattle.schedule.specs.declared.plans.FuncPlan.{FuncPlan}
 use Rattle.schedule.specs.declared.schedules.Schedule.{Schedule}
+use Rattle.schedule.specs.declared.standings.LoopPlace.{LoopPlace}
 use Rattle.schedule.specs.declared.standings.Place.{Place}
+use Rattle.schedule.specs.declared.standings.Place.TheVariants as places
 use Rattle.schedule.specs.Accepted.{IsAccepted}
 use Rattle.stage_loops.specs.declared.extents.Extents.{Extents}
 use Rattle.stage_loops.specs.Counts.{counts}
@@ -37,32 +41,39 @@ use Rattle.bounds.specs.declared.boxes.SourceBox.{SourceBox}
 use Rattle.bounds.specs.declared.verdict.Boxes.{Boxes}
 use Rattle.bounds.specs.Boxes.{IsBox, box_in, no_loops, lasts_of}
 use Rattle.bounds.specs.Verdict.{inferred}
+use Rattle.box_laws.specs.Callers.{IsReadWithin}
 use Rattle.box_laws.specs.HostLaws.{IsFrom}
 use Rattle.box_laws.specs.Laws.{IsComputed, host_in, values_for}
 use Rattle.box_laws.proofs.Found.{no_below}
 use Rattle.loop_ir.specs.declared.expressions.Counter.{Counter}
 use Rattle.loop_ir.specs.declared.statements.Phase.{Phase}
 use Rattle.loop_ir.specs.declared.statements.Stmt.{Stmt}
+use Rattle.loop_ir.specs.Buffers.{Points}
 use Rattle.loop_ir.specs.Counters.{Values}
 use Rattle.loop_ir.specs.Running.{run, task_values, run_task}
+use Rattle.loop_ir.specs.Soundness.{is_sound}
 use Rattle.nest_lowering.specs.Nests.{loops_of, put_loops, all, AreSmall, Repeats}
 use Rattle.nest_lowering.proofs.Few.{few_turns}
 use Rattle.schedule_lines.specs.Loops.{same_id}
-use Rattle.expression_lowering.specs.Lowering.{placed}
+use Rattle.expression_lowering.specs.Lowering.{placed, place as place_in}
 use Rattle.lowering.specs.Phases.{Hold, DoesTask, DoesPhase}
 use Rattle.lowering.specs.Planes.{BoxCorner, word_at, corner_of, held, has_point, box_points}
 use Rattle.lowering.specs.PurePhases.{IsAtRoot, inside_of, counter_of}
 use Rattle.lowering.specs.Stages.{is_private, after_stages}
-use Rattle.lowering.specs.Updates.{IsUpdateAt, IsUpdateStoreOf, update_extents, in_place, is_visited, owns_update, IsBegin, IsCornerAt, ReadsPixels, host_at, hosted_turns, stage_from}
-use Rattle.lowering.proofs.Lists.{before_last}
+use Rattle.lowering.specs.Touching.{may_write, may_load, TouchesItsOwn}
+use Rattle.lowering.specs.Updates.{IsUpdateAt, IsUpdateStoreOf, LoadsOthers, update_extents, in_place, is_visited, owns_update, IsBegin, IsCornerAt, ReadsPixels, host_at, hosted_turns, stage_from}
+use Rattle.lowering.proofs.Lists.{all_pass, before_last}
+use Rattle.lowering.proofs.Loads.{update_loads}
 use Rattle.lowering.proofs.Offsets.{first_none}
 use Rattle.lowering.proofs.RootFacts.{is_box, no_lasts, from_corner_on, root_corner_at}
+use Rattle.lowering.proofs.SoundTasks.{own_writes, own_loads, roots_load}
 use Rattle.lowering.proofs.UpdateFacts.{has_reduction, points_are, first_extent, second_few}
-use Rattle.lowering.proofs.UpdateReads.{roots_are_shared, reads_pixels}
+use Rattle.lowering.proofs.UpdateReads.{hosts_none, none_within, roots_are_shared, reads_pixels}
 use Rattle.lowering.proofs.UpdateRuns.{members, all_so, leaves, stays}
 use Rattle.lowering.proofs.UpdateSteps.{ReadsOwn}
 use Rattle.lowering.proofs.UpdateSlices.{slice_there}
 use Rattle.lowering.proofs.UpdateStages.{staged, splits, few}
+use Rattle.lowering.proofs.UpdateTouches.{all_sound}
 use Rattle.lowering.proofs.UpdateVisits.{listed, task_within, task_in_order, one_task, some_task}
 
 none_added : (n : ℕ) → n < 2 ^ 32 → word.add 0 n ≡ n
@@ -255,6 +266,39 @@ module _ (pipeline : Pipeline) (schedule : Schedule) (boxes : Boxes) (rules : Is
     task : DoesTask (box_points boxes.funcs) (is_private schedule.standings) place start result owned (run_task (box_points boxes.funcs) inputs phase number)
     task = record { there = λ x y e. points_own x y ∙ in_box x y e; does = task_does; keeps = task_keeps }
 
+    -- ---- what it touches
+
+    module _ (private_is : phase.private ≡ []) (reads : Reads) (words : AnswerWords pipeline.inputs reads) where
+      abbrev written : Points
+      written = may_write boxes.funcs place owned phase.private
+
+      abbrev loaded : Point → Bool
+      loaded = may_load pipeline schedule boxes place owned phase.private
+
+      hosted_none : (k : ℕ) (w : IsReadWithin schedule place k) (loop : LoopPlace) → w.own.place ≡ places.At loop → ⊥
+      hosted_none = none_within pipeline schedule accepted place root.standing root.there root.placed_is (hosts_none pipeline schedule accepted place plan at stage it.plan_is it.stage_is)
+
+      others_load : LoadsOthers pipeline schedule store_of.corners place update no_loops own reads loaded before
+      others_load inner count x y few_so lies =
+          update_loads pipeline schedule boxes rules accepted is places.Root place func plan own tt root place func plan own root (loops_of place (put_loops place inner before)) (λ k w loop e. absurd (hosted_none k w loop e))
+          (put_loops place inner before) (λ id. refl) store_of.corners store_of.are_corners reads words loaded (λ k a b e. e) (roots_load pipeline schedule boxes place owned phase.private)
+          (λ k w loop e. absurd (hosted_none k w loop e)) no_loops (subst (λ (l : List ℕ). Below no_loops l) (sym none_of) no_below) x y lies (λ k w loop e. absurd (hosted_none k w loop e)) at update it.update_is count few_so
+
+      own_placed : (inner : loops.Values) (a b : ℕ) → place_in store_of.corners (put_loops place inner before) (record { source = sources.Func place; x = a; y = b })
+          ≡ record { source = sources.Func place; x = word.subtract a begin.x; y = word.subtract b begin.y }
+      own_placed inner a b =
+          let now : Values = put_loops place inner before in
+          let c = root_corner_at schedule boxes store_of.corners place own root.standing store_of.are_corners root.box_is root.there.standing root.placed_is in
+          rw (c.there, (c.is now).0, (c.is now).1) refl
+
+      pub task_sound : is_sound reads written loaded phase.body (task_values phase.counter number) ≡ true
+      task_sound =
+          ap (λ (c : Option Counter). is_sound reads written loaded phase.body (task_values c number)) counter_is ∙ repeats.sound reads written loaded before (small_by (parallel stage) below_count)
+          ∙ all_pass (λ inner. is_sound reads written loaded store (put_loops place inner before)) list
+          (all_sound pipeline schedule boxes rules is place func own root.func_is root.box_is root.standing root.there computed at update it.update_is no_loops below begin begins store_of.corners before store_of.corner corner_is
+          store store_of.sound reads words written loaded own_placed (subst (λ (l : List ℕ). LoadsOthers pipeline schedule store_of.corners place update l own reads loaded before) (sym turns_are) others_load)
+          owned (own_writes pipeline schedule boxes place owned phase.private) (own_loads pipeline schedule boxes place owned phase.private) list all_visits reduced closed)
+
   -- ---- all tasks
 
   in_count : (number : ℕ) → number < phase.tasks → number < iteration_count extents stage
@@ -280,3 +324,6 @@ module _ (pipeline : Pipeline) (schedule : Schedule) (boxes : Boxes) (rules : Is
     unowned = λ x y boxed none. absurd (never_unowned x y boxed none);
     others = λ other x y d. held_other (suc at) other x y d ∙ sym (held_other at other x y d);
   }
+
+  pub touches : phase.private ≡ [] → TouchesItsOwn pipeline schedule boxes place (owns_update own update stage) phase
+  touches private_is number below_tasks reads words = task_sound number below_tasks private_is reads words

@@ -1,5 +1,5 @@
 -- What a store of a pure definition writes under values of the loops.
-use Rattle.std.proofs.Common.{◌≡◌, ℕ, ◌%◌, ◌^◌, ◌<◌, ◌≤◌, Bool, cond, List, None, refl, ap, ◌∙◌, arith}
+use Rattle.std.proofs.Common.{◌≡◌, ℕ, ◌%◌, ◌^◌, ◌<◌, ◌≤◌, Bool, true, cond, List, None, refl, sym, ap, subst, ◌∙◌, arith}
 use Rattle.std.specs.Prelude.{Ok}
 use Rattle.std.proofs.lemmas.Bool.{eq-eqb}
 use Rattle.std.proofs.Math.Nat.{mod-eq_of_lt}
@@ -10,7 +10,7 @@ use Rattle.halide_pipeline.specs.Pipelines.{Pipeline}
 use Rattle.halide_pipeline.specs.WellFormed.{IsWellFormed}
 use Rattle.halide_pipeline.specs.Words as word
 use Rattle.halide_meaning.specs.Pixel.{Plane, Planes, Reads, reads_of, pixels, stage, value, variable, at_point}
-use Rattle.reads.specs.Points.{Agree}
+use Rattle.reads.specs.Points.{Point, Agree, Hold}
 use Rattle.schedule_lines.specs.declared.stages.LoopId.TheVariants as ids
 use Rattle.schedule.specs.declared.plans.FuncPlan.{FuncPlan}
 use Rattle.schedule.specs.declared.schedules.Schedule.{Schedule}
@@ -21,7 +21,8 @@ use Rattle.stage_loops.specs.Counts as loops
 use Rattle.stage_loops.specs.Stages.{IsVisitOf}
 use Rattle.stage_loops.specs.Visits.{visit_of}
 use Rattle.inlining.specs.Inlining.{inlined, flagged}
-use Rattle.inlining.specs.Values.{values as valuing}
+use Rattle.inlining.specs.Laws.{seen_variable}
+use Rattle.inlining.specs.Values.{values as valuing, seeing}
 use Rattle.ranges.specs.Laws.{Below}
 use Rattle.weights.specs.Weight.{flags_of}
 use Rattle.bounds.specs.declared.boxes.SourceBox.{SourceBox}
@@ -37,8 +38,9 @@ use Rattle.loop_ir.specs.Buffers.{Points, put}
 use Rattle.loop_ir.specs.Counters.{Values}
 use Rattle.loop_ir.specs.Expressions.{linear_value}
 use Rattle.loop_ir.specs.Running.{run}
+use Rattle.loop_ir.specs.Soundness.{is_sound}
 use Rattle.nest_lowering.specs.Nests.{put_loops}
-use Rattle.expression_lowering.specs.Lowering.{placed}
+use Rattle.expression_lowering.specs.Lowering.{placed, place as place_in}
 use Rattle.lowering.specs.Corners.{first_of, turns_for}
 use Rattle.lowering.specs.Hosting.{Keeps}
 use Rattle.lowering.specs.Planes.{box_points}
@@ -106,16 +108,16 @@ module _ (pipeline : Pipeline) (schedule : Schedule) (boxes : Boxes) (rules : Is
     pub lies : LiesIn values own (across inner) (down inner)
     lies = visits_lie func None own box_facts values below extents refl refl (visit_of extents inner) v (across inner) (down inner) first_from second_from
 
-    at_x : whole_at (put_loops place inner counters) place variables.FirstArgument ≡ x_of inner
+    pub at_x : whole_at (put_loops place inner counters) place variables.FirstArgument ≡ x_of inner
     at_x = stands_at inner variables.FirstArgument (extent own.x) (few pipeline schedule boxes place func plan own accepted is placed_at here at variables.FirstArgument) parts.0
 
-    at_y : whole_at (put_loops place inner counters) place variables.SecondArgument ≡ y_of inner
+    pub at_y : whole_at (put_loops place inner counters) place variables.SecondArgument ≡ y_of inner
     at_y = stands_at inner variables.SecondArgument (extent own.y) (few pipeline schedule boxes place func plan own accepted is placed_at here at variables.SecondArgument) parts.1
 
-    corner_x : linear_value (put_loops place inner counters) store_of.corner.x ≡ first_of own.x values
+    pub corner_x : linear_value (put_loops place inner counters) store_of.corner.x ≡ first_of own.x values
     corner_x = (store_of.is_corner (put_loops place inner counters)).0 ∙ ap (first_of own.x) (turns_same inner)
 
-    corner_y : linear_value (put_loops place inner counters) store_of.corner.y ≡ first_of own.y values
+    pub corner_y : linear_value (put_loops place inner counters) store_of.corner.y ≡ first_of own.y values
     corner_y = (store_of.is_corner (put_loops place inner counters)).1 ∙ ap (first_of own.y) (turns_same inner)
 
     pure_is : value wanted (at_point (across inner) (down inner)) func.pure ≡ plane (x_of inner) (y_of inner)
@@ -149,3 +151,22 @@ module _ (pipeline : Pipeline) (schedule : Schedule) (boxes : Boxes) (rules : Is
         there = point_there pipeline schedule boxes rules accepted is placed_at place func plan own here at (x_of inner) (y_of inner) parts.0 parts.1;
         does = λ funcs ready. does funcs (agrees funcs ready);
       }
+
+    -- ---- what it touches
+
+    module _ (reads : Reads) (written : Points) (loaded : Point → Bool) where
+      abbrev answers : Reads
+      answers = placed store_of.corners (put_loops place inner counters) reads
+
+      abbrev Loads : ℕ → ℕ → Type 0
+      Loads a b = Hold (λ point. loaded (place_in store_of.corners (put_loops place inner counters) point)) (inlined (seeing answers) (flagged (flags_of schedule.standings)) pipeline.funcs place (seen_variable (at_point a b)) func.pure).points
+
+      pub sound : written place (x_of inner) (y_of inner) ≡ true → Hold (λ point. loaded (place_in store_of.corners (put_loops place inner counters) point)) (pure_points pipeline schedule answers place func (across inner) (down inner))
+          → is_sound reads written loaded store (put_loops place inner counters) ≡ true
+      sound writes all_loaded =
+          let first = ap (λ (n : ℕ). word.add n (linear_value (put_loops place inner counters) store_of.corner.x)) at_x ∙ ap (word.add (x_of inner)) corner_x in
+          let second = ap (λ (n : ℕ). word.add n (linear_value (put_loops place inner counters) store_of.corner.y)) at_y ∙ ap (word.add (y_of inner)) corner_y in
+          store_of.sound reads written loaded (put_loops place inner counters)
+          (ap (λ (n : ℕ). written place n (whole_at (put_loops place inner counters) place variables.SecondArgument)) at_x ∙ ap (written place (x_of inner)) at_y ∙ writes)
+          (subst (λ (n : ℕ). Loads n (word.add (whole_at (put_loops place inner counters) place variables.SecondArgument) (linear_value (put_loops place inner counters) store_of.corner.y))) (sym first)
+          (subst (Loads (across inner)) (sym second) all_loaded))

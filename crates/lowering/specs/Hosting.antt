@@ -3,15 +3,15 @@
 -- At the beginning of each turn of a loop stand the nests of the Funcs that are computed at it, in order of the text. Each fills the Func's
 -- buffer, which begins at the corner of its box in that turn. The loops of the host alone have turns there.
 -- This project's own.
-use Rattle.std.specs.Prelude.{◌≡◌, ◌<◌, ℕ, suc, ◌≤◌, List, [], ◌∷◌, ◌++◌, length, Option, Some, None, slice_get, false}
+use Rattle.std.specs.Prelude.{◌≡◌, ◌<◌, ℕ, suc, ◌≤◌, ◌&&◌, Bool, true, List, [], ◌∷◌, ◌++◌, length, Option, Some, None, slice_get, false}
 use Rattle.std.specs.List.{AllByRecursion}
 use Rattle.halide_pipeline.specs.declared.definitions.Func.{Func}
 use Rattle.halide_pipeline.specs.declared.definitions.Update.{Update}
 use Rattle.halide_pipeline.specs.declared.expressions.Source.TheVariants as sources
 use Rattle.halide_pipeline.specs.Pipelines.{Pipeline}
 use Rattle.halide_pipeline.specs.Words as word
-use Rattle.halide_meaning.specs.Pixel.{Plane, Planes, reads_of, with_plane, points, stage, pixels}
-use Rattle.reads.specs.Points.{Agree}
+use Rattle.halide_meaning.specs.Pixel.{Plane, Planes, Reads, reads_of, with_plane, points, stage, pixels}
+use Rattle.reads.specs.Points.{Point, Agree, Hold}
 use Rattle.schedule_lines.specs.declared.stages.Loop.{Loop}
 use Rattle.schedule_lines.specs.declared.stages.LoopId.{LoopId}
 use Rattle.schedule_lines.specs.declared.stages.Stage.{Stage}
@@ -33,11 +33,12 @@ use Rattle.loop_ir.specs.declared.statements.Stmt.{Stmt}
 use Rattle.loop_ir.specs.Buffers.{Points}
 use Rattle.loop_ir.specs.Counters.{Values, no_values, with}
 use Rattle.loop_ir.specs.Running.{run, turns}
+use Rattle.loop_ir.specs.Soundness.{every, is_sound}
 use Rattle.nest_lowering.specs.Nests.{loops_of, put_loops, Repeats}
 use Rattle.expression_lowering.specs.declared.calls.Corner.{Corner}
-use Rattle.expression_lowering.specs.Lowering.{placed}
+use Rattle.expression_lowering.specs.Lowering.{placed, place as place_in}
 use Rattle.lowering.specs.Corners.{first_of, turns_for, AreCorners}
-use Rattle.lowering.specs.Planes.{box_points}
+use Rattle.lowering.specs.Planes.{has_point, box_points}
 use Rattle.lowering.specs.PurePhases.{IsComputedAt, inside_of}
 
 -- ---- what a nest does
@@ -63,15 +64,23 @@ abbrev pub run_first : Points → Planes → Option Stmt → Values → Planes �
 run_first points inputs None values funcs = funcs
 run_first points inputs (Some first) values funcs = run points inputs first values funcs
 
+abbrev pub is_sound_first : Reads → Points → (Point → Bool) → Option Stmt → Values → Bool
+is_sound_first reads written loaded None values = true
+is_sound_first reads written loaded (Some first) values = is_sound reads written loaded first values
+
 -- A statement does this first, and then another one.
-abbrev pub DoesFirst : Option Stmt → Stmt → Stmt → Type 0
-DoesFirst found rest made = (points : Points) (inputs : Planes) (values : Values) (funcs : Planes)
-    → run points inputs made values funcs ≡ run points inputs rest values (run_first points inputs found values funcs)
+pub record DoesFirst (found : Option Stmt) (rest made : Stmt) : Type 0 where
+  pub runs : (points : Points) (inputs : Planes) (values : Values) (funcs : Planes)
+      → run points inputs made values funcs ≡ run points inputs rest values (run_first points inputs found values funcs)
+  pub sound : (reads : Reads) (written : Points) (loaded : Point → Bool) (values : Values)
+      → is_sound reads written loaded made values ≡ (is_sound_first reads written loaded found values && is_sound reads written loaded rest values)
 
 -- It does another one in so many turns of a loop.
-abbrev pub DoesTurns : ℕ → LoopId → ℕ → Stmt → Stmt → Type 0
-DoesTurns host id count body made = (points : Points) (inputs : Planes) (values : Values) (funcs : Planes)
-    → run points inputs made values funcs ≡ turns count (λ turn. run points inputs body (with (record { func = host; id = id }) turn values)) funcs
+pub record DoesTurns (host : ℕ) (id : LoopId) (count : ℕ) (body made : Stmt) : Type 0 where
+  pub runs : (points : Points) (inputs : Planes) (values : Values) (funcs : Planes)
+      → run points inputs made values funcs ≡ turns count (λ turn. run points inputs body (with (record { func = host; id = id }) turn values)) funcs
+  pub sound : (reads : Reads) (written : Points) (loaded : Point → Bool) (values : Values)
+      → is_sound reads written loaded made values ≡ every count (λ turn. is_sound reads written loaded body (with (record { func = host; id = id }) turn values))
 
 module _ (pipeline : Pipeline) (schedule : Schedule) (boxes : Boxes) where
   -- What the pure definition reads of other Funcs, wherever its arguments lie in its box, is answered as by their pixels, while the loops
@@ -115,6 +124,30 @@ module _ (pipeline : Pipeline) (schedule : Schedule) (boxes : Boxes) where
       → Leaves place own (turns_for schedule.funcs (places.At at) (hosting at.func turned)) (stage place func inputs (pixels pipeline.funcs inputs place) number)
       funcs (run (box_points boxes.funcs) inputs made (hosting at.func turned) funcs)
 
+  -- ---- what a nest touches
+
+  -- The points of the Func's box may be written and loaded, and so may be loaded, wherever its arguments lie in its box, all that its pure
+  -- definition and its updates read of other sources, while the loops of the host stand so.
+  pub record MayTouch (host place : ℕ) (func : Func) (own : SourceBox) (values : List ℕ) (reads : Reads) (written : Points) (loaded : Point → Bool) (turned : loops.Values) : Type 0 where
+    pub writes : (x y : ℕ) → has_point (Some own) x y ≡ true → written place x y ≡ true
+    pub loads : (x y : ℕ) → has_point (Some own) x y ≡ true → loaded (record { source = sources.Func place; x = x; y = y }) ≡ true
+    pub pure : (corners : List Corner) → AreCorners schedule.funcs boxes.funcs schedule.standings corners
+        → (counters : Values) → loops_of host counters ≡ turned → (x y : ℕ) → LiesIn values own x y
+        → Hold (λ point. loaded (place_in corners counters point)) (pure_points pipeline schedule (placed corners counters reads) place func x y)
+    pub updates : (corners : List Corner) → AreCorners schedule.funcs boxes.funcs schedule.standings corners
+        → (counters : Values) → loops_of host counters ≡ turned
+        → (at : ℕ) (update : Update) → slice_get func.updates at ≡ Some update → (number x y : ℕ) → number < points update → LiesIn values own x y
+        → AllByRecursion (λ point. same_source point.source (sources.Func place) ≡ false → loaded (place_in corners counters point) ≡ true)
+        (update_points pipeline schedule (placed corners counters reads) place update number x y)
+
+  -- Where that may be touched, the nest is sound, whatever reads are answered by, as long as these are words.
+  abbrev pub IsSoundNest : LoopPlace → ℕ → Func → SourceBox → Stmt → Type 0
+  IsSoundNest at place func own made =
+      (reads : Reads) → AnswerWords pipeline.inputs reads → (written : Points) (loaded : Point → Bool)
+      → (turned : loops.Values) → Below (turns_for schedule.funcs (places.At at) (hosting at.func turned)) own.lasts
+      → MayTouch at.func place func own (turns_for schedule.funcs (places.At at) (hosting at.func turned)) reads written loaded turned
+      → is_sound reads written loaded made (hosting at.func turned) ≡ true
+
   -- ---- nests at the beginning of a turn
 
   -- A Func that is computed at the loop, and the nests of all its stages.
@@ -124,6 +157,7 @@ module _ (pipeline : Pipeline) (schedule : Schedule) (boxes : Boxes) where
     pub own : SourceBox
     pub parts : IsComputedAt pipeline schedule boxes (places.At at) place func plan own
     pub does : DoesNests at place func own (length func.updates) made
+    pub sound : IsSoundNest at place func own made
 
   -- There are some exactly if it is computed there.
   abbrev pub IsNestAt : LoopPlace → ℕ → Option Stmt → Type 0

@@ -8,7 +8,8 @@ use Rattle.halide_pipeline.specs.declared.expressions.Variable.{Variable}
 use Rattle.halide_pipeline.specs.declared.expressions.Variable.TheVariants as variables
 use Rattle.halide_pipeline.specs.Pipelines.{Pipeline}
 use Rattle.halide_pipeline.specs.Words as word
-use Rattle.halide_meaning.specs.Pixel.{Planes, variable, reads_of, pixels, at_point}
+use Rattle.halide_meaning.specs.Pixel.{Planes, Reads, variable, reads_of, pixels, at_point}
+use Rattle.reads.specs.Points.{Point, Hold}
 use Rattle.schedule_lines.specs.declared.stages.Loop.{Loop}
 use Rattle.schedule_lines.specs.declared.stages.LoopId.TheVariants as ids
 use Rattle.schedule.specs.declared.plans.FuncPlan.{FuncPlan}
@@ -20,7 +21,8 @@ use Rattle.schedule.specs.declared.standings.Standing.{Standing}
 use Rattle.schedule.specs.Legal.{is_root}
 use Rattle.schedule.specs.Uses.{IsReached}
 use Rattle.inlining.specs.Inlining.{inlined, flagged}
-use Rattle.inlining.specs.Values.{values as valuing}
+use Rattle.inlining.specs.Laws.{seen_variable}
+use Rattle.inlining.specs.Values.{values as valuing, seeing}
 use Rattle.ranges.specs.Laws.{AnswerWords}
 use Rattle.weights.specs.Weight.{flags_of}
 use Rattle.bounds.specs.declared.boxes.SourceBox.{SourceBox}
@@ -33,11 +35,11 @@ use Rattle.loop_ir.specs.Buffers.{Points, put}
 use Rattle.loop_ir.specs.Counters.{Values}
 use Rattle.loop_ir.specs.Expressions.{linear_value}
 use Rattle.loop_ir.specs.Running.{run, run_task}
+use Rattle.loop_ir.specs.Soundness.{is_sound}
 use Rattle.expression_lowering.specs.declared.calls.Corner.{Corner}
-use Rattle.expression_lowering.specs.Lowering.{placed}
+use Rattle.expression_lowering.specs.Lowering.{placed, place as place_in}
 use Rattle.lowering.specs.Phases.{DoesPhase}
 use Rattle.lowering.specs.Corners.{IsCorner, AreCorners}
-use Rattle.lowering.specs.HostedFuncs.{hosted_from}
 use Rattle.lowering.specs.Planes.{held, box_points, with_pure, owns}
 
 -- ---- which Func it is
@@ -94,6 +96,16 @@ StoresPure corners flags funcs place corner pure made =
     (variable (at_point (word.add (whole_at values place variables.FirstArgument) (linear_value values corner.x)) (word.add (whole_at values place variables.SecondArgument) (linear_value values corner.y)))) pure)
     buffers
 
+-- It is sound where that point may be written, and where all that the pure definition reads there may be loaded, counted from the corners.
+abbrev pub IsSoundPure : List Corner → (ℕ → Bool) → List Func → ℕ → Corner → Expr → Stmt → Type 0
+IsSoundPure corners flags funcs place corner pure made =
+    (reads : Reads) (written : Points) (loaded : Point → Bool) (values : Values)
+    → written place (whole_at values place variables.FirstArgument) (whole_at values place variables.SecondArgument) ≡ true
+    → Hold (λ point. loaded (place_in corners values point))
+    (inlined (seeing (placed corners values reads)) flags funcs place
+    (seen_variable (at_point (word.add (whole_at values place variables.FirstArgument) (linear_value values corner.x)) (word.add (whole_at values place variables.SecondArgument) (linear_value values corner.y)))) pure).points
+    → is_sound reads written loaded made values ≡ true
+
 -- It does so for the pure definition of a Func with this box that is computed there, where inlined Funcs are put in place, and each buffer
 -- begins at its box's corner.
 pub record IsStoreOf (pipeline : Pipeline) (schedule : Schedule) (boxes : Boxes) (placed : Place) (place : ℕ) (func : Func) (own : SourceBox) (made : Stmt) : Type 0 where
@@ -102,6 +114,7 @@ pub record IsStoreOf (pipeline : Pipeline) (schedule : Schedule) (boxes : Boxes)
   pub corner : Corner
   pub is_corner : IsCorner schedule.funcs placed own corner
   pub stores : StoresPure corners (flagged (flags_of schedule.standings)) pipeline.funcs place corner func.pure made
+  pub sound : IsSoundPure corners (flagged (flags_of schedule.standings)) pipeline.funcs place corner func.pure made
 
 -- the loops inside the parallel one, which is the outermost, where there is one
 abbrev pub inside_of : Option Loop → List Loop → List Loop

@@ -3,7 +3,7 @@
 -- The loops of an update are over the arguments in place and over its reduction variables. A slice is what visits with the same
 -- arguments in place make: they go through the reduction box in order, and read and write the Func at those arguments alone.
 -- This project's own.
-use Rattle.std.specs.Prelude.{◌≡◌, ◌<◌, ℕ, suc, ◌&&◌, Bool, true, false, List, Option, Some, None, slice_get}
+use Rattle.std.specs.Prelude.{◌≡◌, ◌<◌, ℕ, suc, ◌&&◌, Bool, true, false, List, [], Option, Some, None, slice_get}
 use Rattle.std.specs.List.{AllByRecursion, list_any}
 use Rattle.halide_pipeline.specs.declared.definitions.Func.{Func}
 use Rattle.halide_pipeline.specs.declared.definitions.Reduction.{Reduction}
@@ -15,7 +15,8 @@ use Rattle.halide_pipeline.specs.Definitions.{is_first_in_place, is_second_in_pl
 use Rattle.halide_pipeline.specs.Pipelines.{Pipeline}
 use Rattle.halide_pipeline.specs.Words as word
 use Rattle.halide_meaning.specs.declared.environments.Environment.{Environment}
-use Rattle.halide_meaning.specs.Pixel.{Plane, Planes, variable, reads_of, with_plane, points, second_extent, stage, pixels}
+use Rattle.halide_meaning.specs.Pixel.{Plane, Planes, Reads, variable, reads_of, with_plane, points, second_extent, stage, pixels}
+use Rattle.reads.specs.Points.{Point, Hold}
 use Rattle.schedule_lines.specs.declared.stages.LoopId.{LoopId}
 use Rattle.schedule_lines.specs.declared.stages.Stage.{Stage}
 use Rattle.schedule.specs.declared.plans.FuncPlan.{FuncPlan}
@@ -28,7 +29,8 @@ use Rattle.stage_loops.specs.Counts as loops
 use Rattle.stage_loops.specs.Iterations.{iteration}
 use Rattle.stage_loops.specs.Visits.{Visit, is_slice}
 use Rattle.inlining.specs.Inlining.{inlined, flagged}
-use Rattle.inlining.specs.Values.{values as valuing}
+use Rattle.inlining.specs.Laws.{seen_variable}
+use Rattle.inlining.specs.Values.{values as valuing, seeing}
 use Rattle.ranges.specs.Laws.{Below, AnswerWords}
 use Rattle.weights.specs.Weight.{flags_of}
 use Rattle.bounds.specs.declared.boxes.HostLoop.{HostLoop}
@@ -43,9 +45,10 @@ use Rattle.loop_ir.specs.Buffers.{Points, put}
 use Rattle.loop_ir.specs.Counters.{Values}
 use Rattle.loop_ir.specs.Expressions.{linear_value}
 use Rattle.loop_ir.specs.Running.{run}
+use Rattle.loop_ir.specs.Soundness.{is_sound}
 use Rattle.nest_lowering.specs.Nests.{loops_of, put_loops}
 use Rattle.expression_lowering.specs.declared.calls.Corner.{Corner}
-use Rattle.expression_lowering.specs.Lowering.{placed}
+use Rattle.expression_lowering.specs.Lowering.{placed, place as place_in}
 use Rattle.lowering.specs.Planes.{BoxCorner, from_corner, has_point, box_points}
 use Rattle.lowering.specs.Corners.{IsCorner, AreCorners}
 use Rattle.lowering.specs.PurePhases.{whole_at}
@@ -99,6 +102,26 @@ StoresUpdate corners flags funcs place corner update made =
     (inlined (valuing (placed corners values (reads_of inputs buffers))) flags funcs (suc place) (variable (visited_point values place corner update)) update.right)
     buffers
 
+-- an index that isn't written reads nothing
+abbrev pub points_of_index : (Expr → List Point) → Option Expr → List Point
+points_of_index read None = []
+points_of_index read (Some index) = read index
+
+-- It is sound where that point may be written, and where all that the update reads there may be loaded, counted from the corners.
+abbrev pub IsSoundUpdate : List Corner → (ℕ → Bool) → List Func → ℕ → Corner → Update → Stmt → Type 0
+IsSoundUpdate corners flags funcs place corner update made =
+    (reads : Reads) (written : Points) (loaded : Point → Bool) (values : Values)
+    → written place
+    (word.subtract (inlined (valuing (placed corners values reads)) flags funcs place (variable (visited_point values place corner update)) update.left_x) (linear_value values corner.x))
+    (word.subtract (index_of (inlined (valuing (placed corners values reads)) flags funcs place (variable (visited_point values place corner update))) update.left_y) (linear_value values corner.y)) ≡ true
+    → Hold (λ point. loaded (place_in corners values point))
+    (inlined (seeing (placed corners values reads)) flags funcs place (seen_variable (visited_point values place corner update)) update.left_x).points
+    → Hold (λ point. loaded (place_in corners values point))
+    (points_of_index (λ e. (inlined (seeing (placed corners values reads)) flags funcs place (seen_variable (visited_point values place corner update)) e).points) update.left_y)
+    → Hold (λ point. loaded (place_in corners values point))
+    (inlined (seeing (placed corners values reads)) flags funcs (suc place) (seen_variable (visited_point values place corner update)) update.right).points
+    → is_sound reads written loaded made values ≡ true
+
 -- It does so for an update of a Func with this box that is computed at root: each buffer begins at its box's corner.
 pub record IsUpdateStoreOf (pipeline : Pipeline) (schedule : Schedule) (boxes : Boxes) (place : ℕ) (own : SourceBox) (update : Update) (made : Stmt) : Type 0 where
   pub corners : List Corner
@@ -106,6 +129,7 @@ pub record IsUpdateStoreOf (pipeline : Pipeline) (schedule : Schedule) (boxes : 
   pub corner : Corner
   pub is_corner : IsCorner schedule.funcs places.Root own corner
   pub stores : StoresUpdate corners (flagged (flags_of schedule.standings)) pipeline.funcs place corner update made
+  pub sound : IsSoundUpdate corners (flagged (flags_of schedule.standings)) pipeline.funcs place corner update made
 
 -- ---- slices
 
@@ -153,6 +177,13 @@ ReadsPixels pipeline schedule corners place update turns own inputs values funcs
     → placed corners (put_loops place inner values) (reads_of inputs funcs) point.source point.x point.y ≡ reads_of inputs (pixels pipeline.funcs inputs place) point.source point.x point.y)
     (update_points pipeline schedule (reads_of inputs (with_plane place plane (pixels pipeline.funcs inputs place))) place update number x y)
 
+-- Wherever its loops take its arguments, all that an update reads of other sources may be loaded.
+abbrev pub LoadsOthers : Pipeline → Schedule → List Corner → ℕ → Update → List ℕ → SourceBox → Reads → (Point → Bool) → Values → Type 0
+LoadsOthers pipeline schedule corners place update turns own reads loaded values =
+    (inner : loops.Values) (number x y : ℕ) → number < points update → LiesIn turns own x y
+    → AllByRecursion (λ point. same_source point.source (sources.Func place) ≡ false → loaded (place_in corners (put_loops place inner values) point) ≡ true)
+    (update_points pipeline schedule (placed corners (put_loops place inner values) reads) place update number x y)
+
 -- what stands after so many updates, from a corner on
 abbrev pub stage_from : Pipeline → Planes → ℕ → Func → BoxCorner → ℕ → Plane
 stage_from pipeline inputs place func corner updates = from_corner corner (stage place func inputs (pixels pipeline.funcs inputs place) updates)
@@ -181,3 +212,17 @@ DoesUpdate pipeline schedule boxes corners place func corner own at update made 
     → (funcs : Planes) → ReadsPixels pipeline schedule corners place update (hosted_turns schedule boxes standing turns) own inputs values funcs
     → ((x y : ℕ) → has_point (Some own) x y ≡ true → funcs place x y ≡ stage_from pipeline inputs place func begin at x y)
     → Leaves place own (stage_from pipeline inputs place func begin (suc at)) funcs (run (box_points boxes.funcs) inputs made values funcs)
+
+-- They are sound under all such values, where the Func's box may be written and loaded, and all that the update reads of other sources may be
+-- loaded, wherever its loops take its arguments.
+abbrev pub AreSoundLoops : Pipeline → Schedule → Boxes → List Corner → ℕ → Corner → SourceBox → Update → Stmt → Type 0
+AreSoundLoops pipeline schedule boxes corners place corner own update made =
+    (reads : Reads) → AnswerWords pipeline.inputs reads → (written : Points) (loaded : Point → Bool)
+    → ((x y : ℕ) → has_point (Some own) x y ≡ true → written place x y ≡ true)
+    → ((x y : ℕ) → has_point (Some own) x y ≡ true → loaded (record { source = sources.Func place; x = x; y = y }) ≡ true)
+    → (standing : Standing) → IsReached schedule.standings place standing
+    → (turns : List ℕ) → Below (hosted_turns schedule boxes standing turns) (lasts_of (host_at schedule boxes standing))
+    → (begin : BoxCorner) → IsBegin (hosted_turns schedule boxes standing turns) own begin
+    → (values : Values) → IsCornerAt place values corner begin → ((id : LoopId) → loops_of place values id ≡ 0)
+    → LoadsOthers pipeline schedule corners place update (hosted_turns schedule boxes standing turns) own reads loaded values
+    → is_sound reads written loaded made values ≡ true

@@ -120,7 +120,9 @@ fn with_update(
     requires parts { IsComputedAt pipeline.now schedule.now boxes.now (places.At at) place of.now.func.now of.now.plan.now of.now.own.now }
     requires update { IsUpdateAt schedule.now place of.now.func.now of.now.plan.now of.now.at of.now.update.now of.now.stage.now }
     requires before { spec.DoesNests pipeline.now schedule.now boxes.now at place of.now.func.now of.now.own.now of.now.at before }
-    ensures { IfOk result (spec.DoesNests pipeline.now schedule.now boxes.now at place of.now.func.now of.now.own.now (suc of.now.at)) }
+    requires sound { spec.IsSoundNest pipeline.now schedule.now boxes.now at place of.now.func.now of.now.own.now before }
+    ensures does { IfOk result (spec.DoesNests pipeline.now schedule.now boxes.now at place of.now.func.now of.now.own.now (suc of.now.at)) }
+    ensures sound { IfOk result (spec.IsSoundNest pipeline.now schedule.now boxes.now at place of.now.func.now of.now.own.now) }
 {
     let plans = schedule.funcs.as_slice();
     let standings = schedule.standings.as_slice();
@@ -153,7 +155,8 @@ fn nests_upto(
     requires boxes { inferred pipeline.now schedule.now ≡ Ok boxes.now }
     requires parts { IsComputedAt pipeline.now schedule.now boxes.now (places.At at) place func.now plan.now own.now }
     requires count { count ≤ length func.now.updates }
-    ensures { IfOk result (spec.DoesNests pipeline.now schedule.now boxes.now at place func.now own.now count) }
+    ensures does { IfOk result (spec.DoesNests pipeline.now schedule.now boxes.now at place func.now own.now count) }
+    ensures sound { IfOk result (spec.IsSoundNest pipeline.now schedule.now boxes.now at place func.now own.now) }
 {
     let Some(number) = count.checked_sub(1) else {
         let made = pure_nest(alloc, pipeline, schedule, boxes, at, place, func, plan, own)?;

@@ -5,7 +5,7 @@ ghost use Rattle.halide_pipeline.specs.WellFormed.{IsWellFormed};
 ghost use Rattle.schedule.specs.Accepted.{IsAccepted};
 ghost use Rattle.schedule.specs.declared.standings.Place.TheVariants as places;
 ghost use Rattle.bounds.specs.Verdict.{inferred};
-ghost use Rattle.lowering.specs.Hosting.{DoesNest};
+ghost use Rattle.lowering.specs.Hosting.{DoesNest, IsSoundNest};
 ghost use Rattle.lowering.specs.PurePhases.{IsComputedAt, IsStoreOf};
 
 use crate::corners::{corner_of, corners_of};
@@ -70,7 +70,8 @@ pub fn pure_nest(
     requires accepted { IsAccepted pipeline.now schedule.now }
     requires boxes { inferred pipeline.now schedule.now ≡ Ok boxes.now }
     requires parts { IsComputedAt pipeline.now schedule.now boxes.now (places.At at) place func.now plan.now own.now }
-    ensures { IfOk result (λ made. DoesNest pipeline.now schedule.now boxes.now at place func.now own.now 0 made) }
+    ensures does { IfOk result (λ made. DoesNest pipeline.now schedule.now boxes.now at place func.now own.now 0 made) }
+    ensures sound { IfOk result (λ made. IsSoundNest pipeline.now schedule.now boxes.now at place func.now own.now made) }
 {
     let placed = Place::At(at);
     let extents = extents_of(own);

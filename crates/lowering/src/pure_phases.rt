@@ -10,6 +10,7 @@ ghost use Rattle.lowering.specs.HostedFuncs.{hosted_from};
 ghost use Rattle.lowering.specs.Planes.{owns};
 ghost use Rattle.lowering.specs.PurePhases as spec;
 ghost use Rattle.lowering.specs.Stages.{DoesStage};
+ghost use Rattle.lowering.specs.Touching.{TouchesItsOwn};
 
 use crate::hosting::{body_of, box_at, hosted_places};
 use crate::nests::store_of;
@@ -97,6 +98,7 @@ pub fn pure_phase(
     ensures bytes { IfOk result (λ phase. phase.bytes ≡ spec.byte_places 0 pipeline.now.inputs) }
     ensures does { IfOk result (spec.DoesPure pipeline.now schedule.now boxes.now place func.now plan.now own.now) }
     ensures stage { IfOk result (DoesStage pipeline.now schedule.now boxes.now place func.now 0 (owns (views.extents_of own.now) plan.now.pure)) }
+    ensures touches { IfOk result (TouchesItsOwn pipeline.now schedule.now boxes.now place (owns (views.extents_of own.now) plan.now.pure)) }
 {
     let stage = &plan.pure;
     let extents = extents_of(own);

@@ -7,7 +7,7 @@ ghost use Rattle.inlining.specs.Inlining.{flagged};
 ghost use Rattle.loop_ir.specs.Counters.{Values};
 ghost use Rattle.loop_ir.specs.Expressions.{linear_value};
 ghost use Rattle.expression_lowering.specs.Lowering.{environment};
-ghost use Rattle.lowering.specs.PurePhases.{StoresPure, whole_at};
+ghost use Rattle.lowering.specs.PurePhases.{IsSoundPure, StoresPure, whole_at};
 
 use expression_lowering::{Arguments, Corner, lowered};
 use halide_pipeline::{Expr, Func, Variable};
@@ -76,7 +76,8 @@ pub fn pure_store(
     corner: &Corner,
     pure: &Expr,
 ) -> Result<Stmt, AllocError>
-    ensures { IfOk result (λ made. StoresPure corners.now (flagged flags.now) funcs.now place corner.now pure.now made) }
+    ensures stores { IfOk result (λ made. StoresPure corners.now (flagged flags.now) funcs.now place corner.now pure.now made) }
+    ensures sound { IfOk result (λ made. IsSoundPure corners.now (flagged flags.now) funcs.now place corner.now pure.now made) }
 {
     let arguments = arguments_of(alloc, place, corner)?;
     let value = lowered(alloc, funcs, flags, place, corners, &arguments, pure)?;

@@ -1,13 +1,15 @@
 //! Stores of updates at the points where loops stand.
 
-ghost use Rattle.std.specs.Prelude.{◌≡◌, ◌+◌, ◌<◌, ◌^◌, IfOk, List};
+ghost use Rattle.std.specs.Prelude.{◌≡◌, ◌+◌, ◌<◌, ◌^◌, Bool, IfOk, List};
 ghost use Rattle.halide_pipeline.specs.Words as word;
 ghost use Rattle.halide_meaning.specs.Pixel.{Reads, variable as variable_in};
+ghost use Rattle.reads.specs.Points.{Hold, Point};
 ghost use Rattle.inlining.specs.Inlining.{flagged, inlined};
-ghost use Rattle.inlining.specs.Values.{values as valuing};
+ghost use Rattle.inlining.specs.Laws.{seen_variable};
+ghost use Rattle.inlining.specs.Values.{values as valuing, seeing};
 ghost use Rattle.loop_ir.specs.Counters.{Values};
-ghost use Rattle.loop_ir.specs.Expressions.{linear_value, value};
-ghost use Rattle.expression_lowering.specs.Lowering.{environment, placed};
+ghost use Rattle.loop_ir.specs.Expressions.{linear_value, loads, value};
+ghost use Rattle.expression_lowering.specs.Lowering.{environment, place as place_in, placed};
 ghost use Rattle.lowering.specs.Updates as spec;
 
 use crate::stores::whole_of;
@@ -76,8 +78,11 @@ fn second_index(
     arguments: &Arguments,
     index: &Option<Expr>,
 ) -> Result<terms::Expr, AllocError>
-    ensures { IfOk result (λ made. (reads : Reads) (values : Values) → value reads values made
+    ensures value { IfOk result (λ made. (reads : Reads) (values : Values) → value reads values made
         ≡ spec.index_of (inlined (valuing (placed corners.now values reads)) (flagged flags.now) funcs.now place (variable_in (environment values arguments.now))) index.now) }
+    ensures loads { IfOk result (λ made. (reads : Reads) (values : Values) (test : Point → Bool)
+        → Hold (λ point. test (place_in corners.now values point)) (spec.points_of_index (λ e. (inlined (seeing (placed corners.now values reads)) (flagged flags.now) funcs.now place (seen_variable (environment values arguments.now)) e).points) index.now)
+        → Hold test (loads reads values made)) }
 {
     match index {
         None => Ok(terms::Expr::Number(0)),
@@ -104,7 +109,8 @@ pub fn update_store(
     update: &Update,
 ) -> Result<Stmt, AllocError>
     requires { place + 1 < 2 ^ 64 }
-    ensures { IfOk result (λ made. spec.StoresUpdate corners.now (flagged flags.now) funcs.now place corner.now update.now made) }
+    ensures stores { IfOk result (λ made. spec.StoresUpdate corners.now (flagged flags.now) funcs.now place corner.now update.now made) }
+    ensures sound { IfOk result (λ made. spec.IsSoundUpdate corners.now (flagged flags.now) funcs.now place corner.now update.now made) }
 {
     let arguments = arguments_of(alloc, place, corner, update)?;
     let column = lowered(

@@ -13,6 +13,7 @@ ghost use Rattle.bounds.specs.Verdict.{inferred};
 ghost use Rattle.nest_lowering.specs.Nests.{AreFew, Repeats};
 ghost use Rattle.lowering.specs.PurePhases as pure;
 ghost use Rattle.lowering.specs.Stages.{DoesStage};
+ghost use Rattle.lowering.specs.Touching.{TouchesItsOwn};
 ghost use Rattle.lowering.specs.Updates as spec;
 
 use crate::corners::{corner_of, corners_of};
@@ -79,7 +80,8 @@ fn store_at(
     update: &Update,
 ) -> Result<Stmt, AllocError>
     requires { place + 1 < 2 ^ 64 }
-    ensures { IfOk result (λ made. spec.StoresUpdate corners.now (flagged (flags_of schedule.now.standings)) pipeline.now.funcs place corner.now update.now made) }
+    ensures stores { IfOk result (λ made. spec.StoresUpdate corners.now (flagged (flags_of schedule.now.standings)) pipeline.now.funcs place corner.now update.now made) }
+    ensures sound { IfOk result (λ made. spec.IsSoundUpdate corners.now (flagged (flags_of schedule.now.standings)) pipeline.now.funcs place corner.now update.now made) }
 {
     let flags = inlined_flags(alloc, schedule.standings.as_slice())?;
     let made = update_store(
@@ -188,6 +190,7 @@ pub fn update_phase(
     ensures private { IfOk result (λ phase. phase.private ≡ []) }
     ensures bytes { IfOk result (λ phase. phase.bytes ≡ pure.byte_places 0 pipeline.now.inputs) }
     ensures does { IfOk result (DoesStage pipeline.now schedule.now boxes.now place of.now.func.now (suc of.now.at) (spec.owns_update of.now.own.now of.now.update.now of.now.stage.now)) }
+    ensures touches { IfOk result (TouchesItsOwn pipeline.now schedule.now boxes.now place (spec.owns_update of.now.own.now of.now.update.now of.now.stage.now)) }
 {
     let bytes = byte_inputs(alloc, pipeline.inputs())?;
     let extents = update_extents(of.own, of.update);
@@ -229,7 +232,8 @@ pub fn update_nest(
     requires computed { spec.IsComputedIn pipeline.now schedule.now boxes.now place of.now.func.now of.now.plan.now of.now.own.now }
     requires at { spec.IsUpdateAt schedule.now place of.now.func.now of.now.plan.now of.now.at of.now.update.now of.now.stage.now }
     requires corner { slice_get corners.now place ≡ Some corner.now }
-    ensures { IfOk result (spec.DoesUpdate pipeline.now schedule.now boxes.now corners.now place of.now.func.now corner.now of.now.own.now of.now.at of.now.update.now) }
+    ensures does { IfOk result (spec.DoesUpdate pipeline.now schedule.now boxes.now corners.now place of.now.func.now corner.now of.now.own.now of.now.at of.now.update.now) }
+    ensures sound { IfOk result (spec.AreSoundLoops pipeline.now schedule.now boxes.now corners.now place corner.now of.now.own.now of.now.update.now) }
 {
     // What every pipeline keeps is known once its parts are read.
     let _funcs = pipeline.funcs();

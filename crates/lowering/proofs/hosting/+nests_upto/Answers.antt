@@ -1,13 +1,13 @@
-use Rattle.std.proofs.Common.{◌≡◌, ℕ, suc, List, Option, Some, sym, ap, subst, ◌∙◌, arith}
+use Rattle.std.proofs.Common.{ℕ, sym, subst, arith}
 use Rattle.std.specs.Prelude.{slice_get}
 use Rattle.lowering.specs.Hosting.{DoesNests}
 use Rattle.lowering.proofs.UpdateFilling.{pure_stage, stage_there, nothing_there, some_within}
 use Rattle.lowering.proofs.hosting.+nests_upto.Goals as goal
 
-pub returns-in_default : goal.returns-in_default
-returns-in_default t c =
+pub returns-in_default-clause-does : goal.returns-in_default-clause-does
+returns-in_default-clause-does t c =
     subst (λ (n : ℕ). DoesNests c.args.pipeline.now c.args.schedule.now c.args.boxes.now c.args.at c.args.place c.args.func.now c.args.own.now n c.in_ok-made.made) (omega (arith, c.in_default.ensures))
-    (pure_stage c.args.pipeline.now c.args.schedule.now c.args.boxes.now c.requires.accepted c.requires.boxes c.args.at c.args.place c.args.func.now c.args.plan.now c.args.own.now c.requires.parts c.in_ok-made.made c.in_ok-made.ensures)
+    (pure_stage c.args.pipeline.now c.args.schedule.now c.args.boxes.now c.requires.accepted c.requires.boxes c.args.at c.args.place c.args.func.now c.args.plan.now c.args.own.now c.requires.parts c.in_ok-made.made c.in_ok-made.ensures.does)
 
 pub returns-in_default-get : goal.returns-in_default-get
 returns-in_default-get t c =
@@ -19,6 +19,6 @@ returns-in_default-get-2 t c =
     (stage_there c.args.pipeline.now c.args.schedule.now c.args.boxes.now c.requires.accepted c.requires.boxes c.args.at c.args.place c.args.func.now c.args.plan.now c.args.own.now c.requires.parts c.in-Some.number c.in-Some-get.update.now (sym c.in-Some-get.ensures.value))
     c.in_default-get-2.ensures.value)
 
-pub returns : goal.returns
-returns t c =
-    subst (λ (n : ℕ). DoesNests c.args.pipeline.now c.args.schedule.now c.args.boxes.now c.args.at c.args.place c.args.func.now c.args.own.now n c.in_ok-made-2.made) (omega (arith, c.in-Some.ensures)) c.in_ok-made-2.ensures
+pub returns-clause-does : goal.returns-clause-does
+returns-clause-does t c =
+    subst (λ (n : ℕ). DoesNests c.args.pipeline.now c.args.schedule.now c.args.boxes.now c.args.at c.args.place c.args.func.now c.args.own.now n c.in_ok-made-2.made) (omega (arith, c.in-Some.ensures)) c.in_ok-made-2.ensures.does

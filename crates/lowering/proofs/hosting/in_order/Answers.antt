@@ -1,14 +1,30 @@
 use Rattle.std.proofs.Common.{Option, sym, ap, ◌∙◌}
+use Rattle.std.specs.Prelude.{◌&&◌}
 use Rattle.loop_ir.specs.declared.statements.Stmt.{Stmt}
 use Rattle.loop_ir.specs.Running.{run}
+use Rattle.loop_ir.specs.Soundness.{is_sound}
+use Rattle.loop_ir.proofs.Sound.{sound_sequence}
 use Rattle.loop_ir.proofs.Trees.{run_sequence}
-use Rattle.lowering.specs.Hosting.{run_first}
+use Rattle.lowering.specs.Hosting.{run_first, is_sound_first}
 use Rattle.lowering.proofs.hosting.in_order.Goals as goal
+
+pub returns-in-None : goal.returns-in-None
+returns-in-None c = record {
+  runs = λ points inputs values funcs. ap (λ (o : Option Stmt). run points inputs c.args.rest values (run_first points inputs o values funcs)) (sym c.in-None.is);
+  sound = λ reads written loaded values. ap (λ (o : Option Stmt). is_sound_first reads written loaded o values && is_sound reads written loaded c.args.rest values) (sym c.in-None.is);
+}
 
 -- src/hosting.rt:161:1
 pub returns-in_ok-rest-in-Some : goal.returns-in_ok-rest-in-Some
-returns-in_ok-rest-in-Some c = λ points inputs values funcs.
-    run_sequence points inputs c.in_ok-first-in-Some.first c.in_ok-rest-in-Some.rest values funcs
-    ∙ ap (λ (s : Stmt). run points inputs s values (run points inputs c.in_ok-first-in-Some.first values funcs)) c.in_ok-rest-in-Some.ensures
-    ∙ ap (λ (s : Stmt). run points inputs c.args.rest values (run points inputs s values funcs)) c.in_ok-first-in-Some.ensures
-    ∙ ap (λ (o : Option Stmt). run points inputs c.args.rest values (run_first points inputs o values funcs)) (sym c.in-Some.is)
+returns-in_ok-rest-in-Some c = record {
+  runs = λ points inputs values funcs.
+      run_sequence points inputs c.in_ok-first-in-Some.first c.in_ok-rest-in-Some.rest values funcs
+      ∙ ap (λ (s : Stmt). run points inputs s values (run points inputs c.in_ok-first-in-Some.first values funcs)) c.in_ok-rest-in-Some.ensures
+      ∙ ap (λ (s : Stmt). run points inputs c.args.rest values (run points inputs s values funcs)) c.in_ok-first-in-Some.ensures
+      ∙ ap (λ (o : Option Stmt). run points inputs c.args.rest values (run_first points inputs o values funcs)) (sym c.in-Some.is);
+  sound = λ reads written loaded values.
+      sound_sequence reads written loaded c.in_ok-first-in-Some.first c.in_ok-rest-in-Some.rest values
+      ∙ ap (λ (s : Stmt). is_sound reads written loaded c.in_ok-first-in-Some.first values && is_sound reads written loaded s values) c.in_ok-rest-in-Some.ensures
+      ∙ ap (λ (s : Stmt). is_sound reads written loaded s values && is_sound reads written loaded c.args.rest values) c.in_ok-first-in-Some.ensures
+      ∙ ap (λ (o : Option Stmt). is_sound_first reads written loaded o values && is_sound reads written loaded c.args.rest values) (sym c.in-Some.is);
+}

@@ -1,9 +1,8 @@
-use Rattle.std.proofs.Common.{◌≡◌, ℕ, List, Option, Some, sym, ap, subst, ◌∙◌}
+use Rattle.std.proofs.Common.{List, sym, ap, subst, ◌∙◌}
 use Rattle.std.specs.Prelude.{slice_get}
 use Rattle.expression_lowering.specs.declared.calls.Corner.{Corner}
-use Rattle.lowering.specs.Corners.{AreCorners}
-use Rattle.lowering.specs.Updates.{DoesUpdate}
-use Rattle.lowering.proofs.UpdateFilling.{computed_in, corner_there, one_more_stage, same_corners, nothing_there}
+use Rattle.lowering.specs.Updates.{DoesUpdate, AreSoundLoops}
+use Rattle.lowering.proofs.UpdateFilling.{computed_in, corner_there, one_more_stage, one_more_sound, same_corners, nothing_there}
 use Rattle.lowering.proofs.hosting.with_update.Goals as goal
 
 pub returns-in_default : goal.returns-in_default
@@ -20,11 +19,18 @@ update_nest-requires-clause-computed c =
 pub update_nest-requires-clause-corner : goal.update_nest-requires-clause-corner
 update_nest-requires-clause-corner c = ap (λ (l : List Corner). slice_get l c.args.place) (c.deref-2.ensures.value ∙ sym c.deref.ensures.value) ∙ sym c.in-Some.ensures
 
-pub returns : goal.returns
-returns c =
+pub returns-clause-does : goal.returns-clause-does
+returns-clause-does c =
     one_more_stage c.args.pipeline.now c.args.schedule.now c.args.boxes.now c.requires.accepted c.requires.boxes c.args.at c.args.place c.args.of.now.func.now c.args.of.now.plan.now c.args.of.now.own.now c.requires.parts c.in_ok-corners.corners.items
     (same_corners c.args.schedule.now.funcs c.as_slice-plans.result.now c.args.boxes.now.funcs c.as_slice.result.now c.args.schedule.now.standings c.as_slice-standings.result.now c.in_ok-corners.corners.items c.as_slice-plans.ensures c.as_slice.ensures.value c.as_slice-standings.ensures c.in_ok-corners.ensures)
     c.in-Some.corner.now (ap (λ (l : List Corner). slice_get l c.args.place) (sym c.deref.ensures.value) ∙ sym c.in-Some.ensures)
-    c.args.of.now.at c.args.of.now.update.now c.requires.update.update_is c.args.before c.in_ok-next.next c.in_ok-made.made c.requires.before
-    (subst (λ (l : List Corner). DoesUpdate c.args.pipeline.now c.args.schedule.now c.args.boxes.now l c.args.place c.args.of.now.func.now c.in-Some.corner.now c.args.of.now.own.now c.args.of.now.at c.args.of.now.update.now c.in_ok-next.next) c.deref-2.ensures.value c.in_ok-next.ensures)
-    c.in_ok-made.ensures
+    c.args.of.now.at c.args.of.now.update.now c.requires.update.update_is c.args.before c.in_ok-next.next c.in_ok-made.made c.in_ok-made.ensures c.requires.before
+    (subst (λ (l : List Corner). DoesUpdate c.args.pipeline.now c.args.schedule.now c.args.boxes.now l c.args.place c.args.of.now.func.now c.in-Some.corner.now c.args.of.now.own.now c.args.of.now.at c.args.of.now.update.now c.in_ok-next.next) c.deref-2.ensures.value c.in_ok-next.ensures.does)
+
+pub returns-clause-sound : goal.returns-clause-sound
+returns-clause-sound c =
+    one_more_sound c.args.pipeline.now c.args.schedule.now c.args.boxes.now c.requires.accepted c.requires.boxes c.args.at c.args.place c.args.of.now.func.now c.args.of.now.plan.now c.args.of.now.own.now c.requires.parts c.in_ok-corners.corners.items
+    (same_corners c.args.schedule.now.funcs c.as_slice-plans.result.now c.args.boxes.now.funcs c.as_slice.result.now c.args.schedule.now.standings c.as_slice-standings.result.now c.in_ok-corners.corners.items c.as_slice-plans.ensures c.as_slice.ensures.value c.as_slice-standings.ensures c.in_ok-corners.ensures)
+    c.in-Some.corner.now (ap (λ (l : List Corner). slice_get l c.args.place) (sym c.deref.ensures.value) ∙ sym c.in-Some.ensures)
+    c.args.of.now.at c.args.of.now.update.now c.requires.update.update_is c.args.before c.in_ok-next.next c.in_ok-made.made c.in_ok-made.ensures c.requires.sound
+    (subst (λ (l : List Corner). AreSoundLoops c.args.pipeline.now c.args.schedule.now c.args.boxes.now l c.args.place c.in-Some.corner.now c.args.of.now.own.now c.args.of.now.update.now c.in_ok-next.next) c.deref-2.ensures.value c.in_ok-next.ensures.sound)

@@ -8,7 +8,7 @@ use Rattle.stage_loops.specs.declared.extents.Extents.{Extents}
 use Rattle.stage_loops.specs.Reach.{wholes}
 use Rattle.nest_lowering.specs.Nests.{AreFew, Repeats}
 use Rattle.lowering.proofs.Facts.{is_box, splits, few, hosted_before}
-use Rattle.lowering.proofs.Filling.{fills}
+use Rattle.lowering.proofs.Filling.{fills, touches}
 use Rattle.lowering.proofs.nests.pure_nest.Goals as goal
 
 -- src/nests.rt:76:9
@@ -31,10 +31,17 @@ with_nest-requires-clause-few c =
     (few c.args.pipeline.now c.args.schedule.now c.args.boxes.now c.args.place c.args.func.now c.args.plan.now c.args.own.now c.requires.accepted c.requires.boxes (places.At c.args.at)
     (hosted_before c.args.pipeline.now c.args.schedule.now c.requires.accepted c.args.place c.requires.parts.standing c.requires.parts.there c.args.at c.requires.parts.placed_is) c.requires.parts)
 
--- src/nests.rt:59:1
-pub returns : goal.returns
-returns c =
+pub returns-clause-does : goal.returns-clause-does
+returns-clause-does c =
     fills c.args.pipeline.now c.args.schedule.now c.args.boxes.now c.store_of.ensures.rules c.requires.accepted c.requires.boxes c.args.at c.args.place c.args.func.now c.args.plan.now c.args.own.now c.requires.parts
+    c.in_ok-store.store c.in_ok-store.ensures.stores c.in_ok-made.made
+    (subst (λ (l : List Loop). Repeats c.args.place c.in_ok-made.made c.in_ok-store.store (wholes (extents_of c.args.own.now) c.args.plan.now.pure.splits l)) c.as_slice-2.ensures
+    (subst (λ (l : List Split). Repeats c.args.place c.in_ok-made.made c.in_ok-store.store (wholes (extents_of c.args.own.now) l c.as_slice-2.result.now)) c.as_slice.ensures
+    (subst (λ (e : Extents). Repeats c.args.place c.in_ok-made.made c.in_ok-store.store (wholes e c.as_slice.result.now c.as_slice-2.result.now)) c.extents_of-extents.ensures c.in_ok-made.ensures)))
+
+pub returns-clause-sound : goal.returns-clause-sound
+returns-clause-sound c =
+    touches c.args.pipeline.now c.args.schedule.now c.args.boxes.now c.store_of.ensures.rules c.requires.accepted c.requires.boxes c.args.at c.args.place c.args.func.now c.args.plan.now c.args.own.now c.requires.parts
     c.in_ok-store.store c.in_ok-store.ensures.stores c.in_ok-made.made
     (subst (λ (l : List Loop). Repeats c.args.place c.in_ok-made.made c.in_ok-store.store (wholes (extents_of c.args.own.now) c.args.plan.now.pure.splits l)) c.as_slice-2.ensures
     (subst (λ (l : List Split). Repeats c.args.place c.in_ok-made.made c.in_ok-store.store (wholes (extents_of c.args.own.now) l c.as_slice-2.result.now)) c.as_slice.ensures

@@ -1,5 +1,3 @@
-use Rattle.std.proofs.Common.{◌≡◌, ℕ, List, [], subst, sym, ◌∙◌, ap}
-use Rattle.lowering.specs.Lowered.{AreLowered, No_func}
 use Rattle.lowering.proofs.Lowered.{nothing_lowered}
 use Rattle.lowering.proofs.phases.+lower_first.Goals as goal
 

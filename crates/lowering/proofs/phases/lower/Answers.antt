@@ -1,4 +1,4 @@
-use Rattle.std.proofs.Common.{◌≡◌, ℕ, List, length, subst}
+use Rattle.std.proofs.Common.{List, length, subst}
 use Rattle.halide_pipeline.specs.declared.definitions.Func.{Func}
 use Rattle.lowering.specs.Lowered.{AreLowered}
 use Rattle.lowering.proofs.Lowered.{phases_do_pixels, phases_leave_output}

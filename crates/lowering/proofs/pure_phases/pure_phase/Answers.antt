@@ -3,9 +3,11 @@ use Rattle.schedule.specs.declared.standings.Place.TheVariants as places
 use Rattle.stage_loops.specs.declared.extents.Extents.{Extents}
 use Rattle.stage_loops.specs.Iterations as iterations
 use Rattle.nest_lowering.specs.Nests.{AreFew}
+use Rattle.lowering.specs.HostedFuncs.{hosted_from}
 use Rattle.lowering.specs.Hosting.{IsBody}
 use Rattle.lowering.proofs.Facts.{is_box, splits, few}
 use Rattle.lowering.proofs.PureStage.{does_stage}
+use Rattle.lowering.proofs.SoundTasks.{touches}
 use Rattle.lowering.proofs.Tasks.{does_phase}
 use Rattle.lowering.proofs.pure_phases.pure_phase.Goals as goal
 
@@ -51,3 +53,13 @@ returns-clause-stage c =
     does_stage c.args.pipeline.now c.args.schedule.now c.args.boxes.now c.args.place c.args.func.now c.args.plan.now c.args.own.now
     (record { tasks = c.in_ok-tasks.tasks; counter = c.task_counter-counter.result; body = c.in_ok-body.body; private = c.in_ok-private.private; bytes = c.in_ok-bytes.bytes })
     (returns-clause-does c)
+
+-- src/pure_phases.rt:139:1
+pub returns-clause-touches : goal.returns-clause-touches
+returns-clause-touches c =
+    touches c.args.pipeline.now c.args.schedule.now c.args.boxes.now c.inputs.ensures.rules c.requires.accepted c.requires.boxes c.args.place c.args.func.now c.args.plan.now c.args.own.now c.requires.at
+    c.in_ok-store.store c.in_ok-store.ensures.stores
+    (record { tasks = c.in_ok-tasks.tasks; counter = c.task_counter-counter.result; body = c.in_ok-body.body; private = c.in_ok-private.private; bytes = c.in_ok-bytes.bytes })
+    (c.in_ok-tasks.ensures ∙ ap (λ (e : Extents). iterations.iteration_count e c.args.plan.now.pure) c.extents_of-extents.ensures)
+    c.task_counter-counter.ensures (c.in_ok-private.ensures ∙ ap (hosted_from c.args.place 0) c.as_slice.ensures)
+    (subst (λ (e : Extents). IsBody c.args.pipeline.now c.args.schedule.now c.args.boxes.now c.args.place c.args.plan.now.pure e c.in_ok-store.store c.in_ok-body.body) c.extents_of-extents.ensures c.in_ok-body.ensures)

@@ -1,15 +1,27 @@
-use Rattle.std.proofs.Common.{ap, ◌∙◌, sym}
+use Rattle.std.proofs.Common.{Option, ap, ◌∙◌, subst, sym}
+use Rattle.halide_pipeline.specs.declared.expressions.Expr.{Expr}
 use Rattle.halide_meaning.specs.Pixel.{variable as variable_in}
+use Rattle.reads.specs.Points.{Hold}
 use Rattle.inlining.specs.Inlining.{flagged, inlined}
-use Rattle.inlining.specs.Values.{values as valuing}
-use Rattle.expression_lowering.specs.Lowering.{environment, placed}
-use Rattle.expression_lowering.proofs.Following.{number_value}
+use Rattle.inlining.specs.Laws.{seen_variable}
+use Rattle.inlining.specs.Values.{values as valuing, seeing}
+use Rattle.expression_lowering.specs.Lowering.{environment, place as place_in, placed}
+use Rattle.expression_lowering.proofs.Following.{number_loads, number_value}
 use Rattle.lowering.specs.Updates as spec
 use Rattle.lowering.proofs.update_stores.second_index.Goals as goal
 
 -- src/update_stores.rt:74:1
-pub returns-in-None : goal.returns-in-None
-returns-in-None c = λ reads values.
+pub returns-in-None-clause-value : goal.returns-in-None-clause-value
+returns-in-None-clause-value c = λ reads values.
     number_value reads values 0
     ∙ sym
     (ap (spec.index_of (inlined (valuing (placed c.args.corners.now values reads)) (flagged c.args.flags.now) c.args.funcs.now c.args.place (variable_in (environment values c.args.arguments.now)))) c.in-None.is)
+
+pub returns-in-None-clause-loads : goal.returns-in-None-clause-loads
+returns-in-None-clause-loads c = λ reads values test h. subst (Hold test) (sym (number_loads reads values 0)) tt
+
+pub returns-in_ok-made-in-Some-clause-loads : goal.returns-in_ok-made-in-Some-clause-loads
+returns-in_ok-made-in-Some-clause-loads c = λ reads values test h.
+    c.in_ok-made-in-Some.ensures.loads reads values test
+    (subst (λ (o : Option Expr). Hold (λ point. test (place_in c.args.corners.now values point))
+    (spec.points_of_index (λ e. (inlined (seeing (placed c.args.corners.now values reads)) (flagged c.args.flags.now) c.args.funcs.now c.args.place (seen_variable (environment values c.args.arguments.now)) e).points) o)) c.in-Some.is h)

@@ -1,0 +1,223 @@
+-- What each task of a pure definition touches.
+use Rattle.std.proofs.Common.{◌≡◌, ℕ, zero, suc, ◌+◌, ◌<◌, Bool, true, false, cond, List, [], ◌∷◌, map, Option, Some, None, refl, sym, ap, subst, ◌∙◌, arith, append-nil}
+use Rattle.std.specs.Prelude.{◌==◌, ◌&&◌, ◌||◌, slice_get, Ok}
+use Rattle.std.specs.List.{AllByRecursion, list_any}
+use Rattle.std.proofs.lemmas.Bool.{and_from, eq-eqb, ne_eqb}
+use Rattle.halide_pipeline.specs.declared.definitions.Func.{Func}
+use Rattle.halide_pipeline.specs.declared.expressions.Source.TheVariants as sources
+use Rattle.halide_pipeline.specs.declared.expressions.Variable.TheVariants as variables
+use Rattle.halide_pipeline.specs.Pipelines.{Pipeline}
+use Rattle.halide_pipeline.specs.WellFormed.{IsWellFormed}
+use Rattle.halide_meaning.specs.Pixel.{Reads}
+use Rattle.reads.specs.Points.{Point}
+use Rattle.schedule_lines.specs.declared.stages.Loop.{Loop}
+use Rattle.schedule_lines.specs.declared.stages.LoopId.TheVariants as ids
+use Rattle.schedule_lines.specs.declared.stages.Stage.{Stage}
+use Rattle.schedule.specs.declared.plans.FuncPlan.{FuncPlan}
+use Rattle.schedule.specs.declared.schedules.Schedule.{Schedule}
+use Rattle.schedule.specs.declared.standings.LoopPlace.{LoopPlace}
+use Rattle.schedule.specs.declared.standings.Place.TheVariants as places
+use Rattle.schedule.specs.declared.standings.Standing.{Standing}
+use Rattle.schedule.specs.Accepted.{IsAccepted}
+use Rattle.schedule.specs.Legal.{is_root}
+use Rattle.schedule.specs.Uses.{IsReached}
+use Rattle.stage_loops.specs.declared.extents.Extents.{Extents}
+use Rattle.stage_loops.specs.Counts.{counts}
+use Rattle.stage_loops.specs.Counts as loops
+use Rattle.stage_loops.specs.Iterations.{parallel, iteration, iteration_count, count_of}
+use Rattle.stage_loops.specs.Reach.{AreTurns, wholes}
+use Rattle.stage_loops.specs.Stages.{IsStageOf, KeepsRules, IsVisitOf}
+use Rattle.stage_loops.specs.Visits.{Visit, zeros, visit_of, is_slice}
+use Rattle.stage_loops.proofs.Ids.{with_same}
+use Rattle.stage_loops.proofs.Parallel.{outermost}
+use Rattle.ranges.specs.Laws.{AnswerWords}
+use Rattle.bounds.specs.declared.boxes.SourceBox.{SourceBox}
+use Rattle.bounds.specs.declared.verdict.Boxes.{Boxes}
+use Rattle.bounds.specs.Verdict.{inferred}
+use Rattle.bounds.specs.Views.{extents_of}
+use Rattle.box_laws.proofs.Callers.{or_left, or_right}
+use Rattle.loop_ir.specs.declared.expressions.Counter.{Counter}
+use Rattle.loop_ir.specs.declared.statements.Phase.{Phase}
+use Rattle.loop_ir.specs.declared.statements.Stmt.{Stmt}
+use Rattle.loop_ir.specs.Buffers.{Points}
+use Rattle.loop_ir.specs.Running.{task_values}
+use Rattle.loop_ir.specs.Soundness.{is_sound}
+use Rattle.nest_lowering.specs.Nests.{AreSmall}
+use Rattle.lowering.specs.HostedFuncs.{hosted_from, is_hosted, is_at_loop_of}
+use Rattle.lowering.specs.Hosting.{hosting, HasOutermost, IsBody}
+use Rattle.lowering.specs.Planes.{box_points, owns}
+use Rattle.lowering.specs.PurePhases.{IsAtRoot, IsStoreOf, inside_of, counter_of}
+use Rattle.lowering.specs.Touching.{is_root_at, is_root_in, is_listed, may_write, may_load, TouchesItsOwn}
+use Rattle.lowering.proofs.Facts.{staged, splits, few, hosted_before}
+use Rattle.lowering.proofs.Lists.{any_map, all_map}
+use Rattle.lowering.proofs.SoundHosts as hosts
+use Rattle.lowering.proofs.Tasks.{turned_by, inside_last, listed, before_by, small_by, all_visits}
+use Rattle.lowering.proofs.UpdateRuns.{members, all_and, all_so}
+
+-- ---- which Funcs may be touched
+
+-- a Func at a loop of the host is among its private ones
+pub listed_from : (host at : ℕ) (standings : List Standing) (k : ℕ) (own : Standing) → slice_get standings k ≡ Some own → is_hosted host own ≡ true → is_listed (hosted_from host at standings) (at + k) ≡ true
+listed_from host at [] k own there hosted = absurd cc
+listed_from host at (first ∷ others) zero own there hosted =
+    let same : first ≡ own = cc in
+    ap (λ (b : Bool). is_listed (cond b (at ∷ hosted_from host (suc at) others) (hosted_from host (suc at) others)) (at + 0)) (ap (is_hosted host) same ∙ hosted)
+    ∙ or_left (at == at + 0) (is_listed (hosted_from host (suc at) others) (at + 0)) (eq-eqb at (at + 0) (omega arith))
+listed_from host at (first ∷ others) (suc k) own there hosted =
+    let next : suc at + k ≡ at + suc k = omega arith in
+    by_test (is_hosted host first) (subst (λ (n : ℕ). is_listed (hosted_from host (suc at) others) n ≡ true) next (listed_from host (suc at) others k own there hosted))
+  where
+    by_test : (b : Bool) → is_listed (hosted_from host (suc at) others) (at + suc k) ≡ true
+        → is_listed (cond b (at ∷ hosted_from host (suc at) others) (hosted_from host (suc at) others)) (at + suc k) ≡ true
+    by_test true e = or_right (at == at + suc k) (is_listed (hosted_from host (suc at) others) (at + suc k)) e
+    by_test false e = e
+
+module _ (pipeline : Pipeline) (schedule : Schedule) (boxes : Boxes) (place : ℕ) (owned : ℕ → ℕ → Bool) (private : List ℕ) where
+  pub own_writes : (x y : ℕ) → owned x y ≡ true → may_write boxes.funcs place owned private place x y ≡ true
+  own_writes x y e = ap (λ (b : Bool). cond b (owned x y) (is_listed private place && box_points boxes.funcs place x y)) (eq-eqb place place refl) ∙ e
+
+  pub own_loads : (x y : ℕ) → owned x y ≡ true → may_load pipeline schedule boxes place owned private (record { source = sources.Func place; x = x; y = y }) ≡ true
+  own_loads x y e = ap (λ (b : Bool). cond b (owned x y) ((is_root_at schedule.standings place || is_listed private place) && box_points boxes.funcs place x y)) (eq-eqb place place refl) ∙ e
+
+  pub roots_load : (k : ℕ) (standing : Standing) → k < place → IsReached schedule.standings k standing → standing.place ≡ places.Root
+      → (x y : ℕ) → box_points boxes.funcs k x y ≡ true → may_load pipeline schedule boxes place owned private (record { source = sources.Func k; x = x; y = y }) ≡ true
+  roots_load k standing before there root x y e =
+      ap (λ (b : Bool). cond b (owned x y) ((is_root_at schedule.standings k || is_listed private k) && box_points boxes.funcs k x y)) (ne_eqb k place (λ (same : k ≡ place). omega (arith, before, same)))
+      ∙ and_from (is_root_at schedule.standings k || is_listed private k) (box_points boxes.funcs k x y)
+      (or_left (is_root_at schedule.standings k) (is_listed private k) (ap is_root_in there.standing ∙ and_from standing.is_reached (is_root standing.place) there.reached (ap is_root root))) e
+
+  module _ (private_is : private ≡ hosted_from place 0 schedule.standings) (accepted : IsAccepted pipeline schedule) (k : ℕ) (standing : Standing) (loop : LoopPlace)
+      (there : IsReached schedule.standings k standing) (placed : standing.place ≡ places.At loop) (same : loop.func ≡ place) (x y : ℕ) (inside : box_points boxes.funcs k x y ≡ true) where
+    is_private : is_listed private k ≡ true
+    is_private =
+        let here : 0 + k ≡ k = omega arith in
+        ap (λ (l : List ℕ). is_listed l k) private_is
+        ∙ subst (λ (n : ℕ). is_listed (hosted_from place 0 schedule.standings) n ≡ true) here
+        (listed_from place 0 schedule.standings k standing there.standing
+        (and_from standing.is_reached (is_at_loop_of place standing.place) there.reached (ap (is_at_loop_of place) placed ∙ eq-eqb loop.func place same)))
+
+    other : (k == place) ≡ false
+    other = ne_eqb k place (λ (e : k ≡ place). omega (arith, e, same, hosted_before pipeline schedule accepted k standing there loop placed))
+
+    pub hosted_writes : may_write boxes.funcs place owned private k x y ≡ true
+    hosted_writes = ap (λ (b : Bool). cond b (owned x y) (is_listed private k && box_points boxes.funcs k x y)) other ∙ and_from (is_listed private k) (box_points boxes.funcs k x y) is_private inside
+
+    pub hosted_loads : may_load pipeline schedule boxes place owned private (record { source = sources.Func k; x = x; y = y }) ≡ true
+    hosted_loads =
+        ap (λ (b : Bool). cond b (owned x y) ((is_root_at schedule.standings k || is_listed private k) && box_points boxes.funcs k x y)) other
+        ∙ and_from (is_root_at schedule.standings k || is_listed private k) (box_points boxes.funcs k x y) (or_right (is_root_at schedule.standings k) (is_listed private k) is_private) inside
+
+-- ---- a task
+
+module _ (pipeline : Pipeline) (schedule : Schedule) (boxes : Boxes) (rules : IsWellFormed pipeline) (accepted : IsAccepted pipeline schedule) (is : inferred pipeline schedule ≡ Ok boxes)
+    (place : ℕ) (func : Func) (plan : FuncPlan) (own : SourceBox) (at : IsAtRoot pipeline schedule boxes place func plan own)
+    (store : Stmt) (store_of : IsStoreOf pipeline schedule boxes places.Root place func own store)
+    (phase : Phase) (tasks_are : phase.tasks ≡ iteration_count (extents_of own) plan.pure) (counter_is : phase.counter ≡ counter_of place (parallel plan.pure))
+    (private_is : phase.private ≡ hosted_from place 0 schedule.standings)
+    (body : IsBody pipeline schedule boxes place plan.pure (extents_of own) store phase.body) where
+  abbrev extents : Extents
+  extents = extents_of own
+
+  abbrev stage : Stage
+  stage = plan.pure
+
+  facts : IsStageOf func None stage × KeepsRules stage
+  facts = staged pipeline schedule boxes place func plan own accepted is places.Root tt at
+
+  module _ (number : ℕ) (below : number < phase.tasks) (reads : Reads) (words : AnswerWords pipeline.inputs reads) where
+    abbrev owned : ℕ → ℕ → Bool
+    owned = owns extents stage number
+
+    abbrev written : Points
+    written = may_write boxes.funcs place owned phase.private
+
+    abbrev loaded : Point → Bool
+    loaded = may_load pipeline schedule boxes place owned phase.private
+
+    abbrev turned : Option Loop → loops.Values
+    turned found = turned_by func extents stage facts.0 facts.1 place found number
+
+    abbrev list : List loops.Values
+    list = wholes extents stage.splits (inside_of (parallel stage) stage.loops) (turned (parallel stage))
+
+    below_count : number < iteration_count extents stage
+    below_count = subst (λ (n : ℕ). number < n) tasks_are below
+
+    visits_are : iteration extents stage number ≡ map (visit_of extents) list
+    visits_are = listed func extents stage facts.0 facts.1 place (parallel stage) refl number below_count
+
+    abbrev IsVisited : loops.Values → Type 0
+    IsVisited inner = IsVisitOf func None extents (visit_of extents inner)
+
+    visited : AllByRecursion IsVisited list
+    visited =
+        all_map (IsVisitOf func None extents) IsVisited (visit_of extents) (λ inner v. v) list
+        (subst (λ (l : List Visit). AllByRecursion (IsVisitOf func None extents) l) visits_are (all_visits func extents stage facts.0 facts.1 place number below_count))
+
+    abbrev x_of : loops.Values → ℕ
+    x_of inner = inner (ids.Whole variables.FirstArgument)
+
+    abbrev y_of : loops.Values → ℕ
+    y_of inner = inner (ids.Whole variables.SecondArgument)
+
+    abbrev IsWritten : loops.Values → Type 0
+    IsWritten inner = written place (x_of inner) (y_of inner) ≡ true
+
+    all_written : AllByRecursion IsWritten list
+    all_written =
+        all_so (λ inner. (test : loops.Values → Bool) → test inner ≡ true → list_any test list ≡ true) IsWritten
+        (λ inner member.
+        own_writes pipeline schedule boxes place owned phase.private (x_of inner) (y_of inner)
+        (ap (list_any (is_slice (x_of inner) (y_of inner))) visits_are ∙ any_map (is_slice (x_of inner) (y_of inner)) (visit_of extents) list
+        ∙ member (λ other. is_slice (x_of inner) (y_of inner) (visit_of extents other))
+        (and_from (x_of inner == x_of inner) (y_of inner == y_of inner) (eq-eqb (x_of inner) (x_of inner) refl) (eq-eqb (y_of inner) (y_of inner) refl))))
+        list (members list)
+
+    abbrev Good : loops.Values → Type 0
+    Good inner = IsVisited inner × IsWritten inner
+
+    abbrev AreSound : List Loop → Stmt → Type 0
+    AreSound =
+        hosts.AreSound pipeline schedule boxes rules accepted is place func plan own at store store_of reads words written loaded
+        (λ k x y e. e) (roots_load pipeline schedule boxes place owned phase.private)
+        (λ k standing loop there placed same x y e. hosted_writes pipeline schedule boxes place owned phase.private private_is accepted k standing loop there placed same x y e)
+        (λ k standing loop there placed same x y e. hosted_loads pipeline schedule boxes place owned phase.private private_is accepted k standing loop there placed same x y e)
+
+    inner_sound : AreSound (inside_of (parallel stage) stage.loops) body.inner
+    inner_sound =
+        hosts.sound_loops pipeline schedule boxes rules accepted is place func plan own at store store_of reads words written loaded
+        (λ k x y e. e) (roots_load pipeline schedule boxes place owned phase.private)
+        (λ k standing loop there placed same x y e. hosted_writes pipeline schedule boxes place owned phase.private private_is accepted k standing loop there placed same x y e)
+        (λ k standing loop there placed same x y e. hosted_loads pipeline schedule boxes place owned phase.private private_is accepted k standing loop there placed same x y e)
+        body.leaf body.bound (inside_of (parallel stage) stage.loops) body.inner body.looped
+
+    small : (found : Option Loop) → number < count_of (counts extents stage.splits) found → AreSmall (turned found)
+    small found l =
+        small_by func extents stage facts.0 facts.1 place (few pipeline schedule boxes place func plan own accepted is places.Root tt at) (splits pipeline schedule boxes place func plan own accepted is places.Root tt at) found number l
+
+    sound_by : (found : Option Loop) → parallel stage ≡ found → number < count_of (counts extents stage.splits) found → (inner made : Stmt) → HasOutermost pipeline schedule boxes place found inner made
+        → AreSound (inside_of found stage.loops) inner → AllByRecursion Good (wholes extents stage.splits (inside_of found stage.loops) (turned found))
+        → is_sound reads written loaded made (hosting place (turned found)) ≡ true
+    sound_by None e l inner made same sound good =
+        ap (λ (s : Stmt). is_sound reads written loaded s (hosting place zeros)) same ∙ sound [] (sym (append-nil stage.loops)) zeros (small None l) tt good
+    sound_by (Some loop) e l inner made nested sound good =
+        let o = outermost stage loop facts.1 e in
+        let inside = o.last.inside in
+        let same : inside_of (Some loop) stage.loops ≡ inside = inside_last func extents stage facts.0 facts.1 place loop inside o.last.loops_are in
+        let values = loops.with loop.id number zeros in
+        let turns : AreTurns (counts extents stage.splits) (loop ∷ []) values = (subst (λ (n : ℕ). n < counts extents stage.splits loop.id) (sym (with_same loop.id number zeros)) l, tt) in
+        hosts.sound_nests pipeline schedule boxes rules accepted is place func plan own at store store_of reads words written loaded
+        (λ k x y e. e) (roots_load pipeline schedule boxes place owned phase.private)
+        (λ k standing loop there placed same x y e. hosted_writes pipeline schedule boxes place owned phase.private private_is accepted k standing loop there placed same x y e)
+        (λ k standing loop there placed same x y e. hosted_loads pipeline schedule boxes place owned phase.private private_is accepted k standing loop there placed same x y e)
+        inside loop [] o.last.loops_are values turns 0 inner made nested
+        (subst (λ (ls : List Loop). AreSound ls inner) same sound (loop ∷ []) o.last.loops_are values (small (Some loop) l) turns (subst (λ (ls : List Loop). AllByRecursion Good (wholes extents stage.splits ls values)) same good))
+
+    task_sound : is_sound reads written loaded phase.body (task_values phase.counter number) ≡ true
+    task_sound =
+        ap (λ (c : Option Counter). is_sound reads written loaded phase.body (task_values c number)) counter_is
+        ∙ ap (is_sound reads written loaded phase.body) (before_by func extents stage facts.0 facts.1 place (parallel stage) number)
+        ∙ sound_by (parallel stage) refl below_count body.inner phase.body body.begun inner_sound (all_and IsVisited IsWritten list visited all_written)
+
+  pub touches : TouchesItsOwn pipeline schedule boxes place (owns extents stage) phase
+  touches number below reads words = task_sound number below reads words
