@@ -20,6 +20,7 @@ pub mod SoundTasks
 pub mod SplitsApart
 pub mod Storing
 pub mod Tasks
+pub mod Using
 pub mod Values
 pub mod Writing
 pub mod Slices

@@ -9,3 +9,4 @@ pub mod PurePhases
 pub mod Hosting
 pub mod Updates
 pub mod Lowered
+pub mod Using

@@ -3,6 +3,7 @@
 ghost use Rattle.lowering.specs.Lowered.{PhasesDoPixels, PhasesLeaveOutput};
 ghost use Rattle.lowering.specs.Order.{PhasesInOrder};
 ghost use Rattle.lowering.specs.Phases.{TasksInAnyOrder};
+ghost use Rattle.lowering.specs.Using.{BuffersHaveBoxPoints, PicturesAnswerWords, RisingIsAnOrder, TurnsAreDone};
 
 /// A phase whose tasks each leave the result at the points that they own leaves it at all points, in whatever order the
 /// tasks are done, and whatever private buffers hold before each.
@@ -25,4 +26,24 @@ pub fn phases_do_pixels()
 /// before each, the output's buffer holds the output's pixels.
 pub fn phases_leave_output()
     ensures { PhasesLeaveOutput }
+{}
+
+/// The numbers below a count, in rising order, are an order of so many tasks.
+pub fn rising_is_an_order()
+    ensures { RisingIsAnOrder }
+{}
+
+/// A loop over tasks does them in that order.
+pub fn turns_are_done()
+    ensures { TurnsAreDone }
+{}
+
+/// Buffers of the boxes' extents have the boxes' points.
+pub fn buffers_have_box_points()
+    ensures { BuffersHaveBoxPoints }
+{}
+
+/// Pictures answer words, and those that hold bytes bytes.
+pub fn pictures_answer_words()
+    ensures { PicturesAnswerWords }
 {}

@@ -1,0 +1,63 @@
+-- What the laws of phases are used with: an order, buffers, pictures.
+-- This project's own.
+use Rattle.std.specs.Prelude.{◌≡◌, ℕ, zero, suc, ◌<◌, Bool, true, List, [], ◌∷◌, ◌++◌, Option, Some, None, slice_get}
+use Rattle.std.specs.List.{All}
+use Rattle.halide_pipeline.specs.declared.definitions.Func.{Func}
+use Rattle.halide_pipeline.specs.declared.definitions.Input.{Input}
+use Rattle.halide_meaning.specs.Picture.{PictureContents, IsPicture}
+use Rattle.halide_meaning.specs.Pixel.{Planes, input_planes, reads_of, pixels}
+use Rattle.stage_loops.specs.Iterations.{IsOrder}
+use Rattle.ranges.specs.Laws.{AnswerWords}
+use Rattle.bounds.specs.declared.boxes.SourceBox.{SourceBox}
+use Rattle.bounds.specs.Boxes.{extent}
+use Rattle.loop_ir.specs.Buffers.{BufferContents, points_of}
+use Rattle.loop_ir.specs.Running.{turns}
+use Rattle.lowering.specs.Phases.{Done}
+use Rattle.lowering.specs.Planes.{box_points}
+
+-- ---- an order
+
+-- the numbers below this one, in rising order
+abbrev pub numbers_below : ℕ → List ℕ
+numbers_below zero = []
+numbers_below (suc n) = numbers_below n ++ (n ∷ [])
+
+-- They are an order of so many tasks.
+abbrev pub RisingIsAnOrder : Type 0
+RisingIsAnOrder = (count : ℕ) → IsOrder count (numbers_below count)
+
+-- The turns of a loop over tasks do them in that order.
+abbrev pub TurnsAreDone : Type 0
+TurnsAreDone = (is_private : ℕ → Bool) (tasks : ℕ → Planes → Planes) (count : ℕ) (funcs : Planes) → Done is_private tasks (numbers_below count) funcs (turns count tasks funcs)
+
+-- ---- buffers
+
+-- The buffer has the extents of the Func's box; it has no points where there is no box.
+abbrev pub IsOfBox : Option SourceBox → BufferContents → Type 0
+IsOfBox None buffer = buffer.width ≡ 0
+IsOfBox (Some own) buffer = (buffer.width ≡ extent own.x) × (buffer.height ≡ extent own.y)
+
+-- There is one for each box.
+abbrev pub AreOfBoxes : List (Option SourceBox) → List BufferContents → Type 0
+AreOfBoxes [] [] = Unit {0}
+AreOfBoxes [] (buffer ∷ buffers) = ⊥
+AreOfBoxes (own ∷ boxes) [] = ⊥
+AreOfBoxes (own ∷ boxes) (buffer ∷ buffers) = IsOfBox own buffer × AreOfBoxes boxes buffers
+
+-- Such buffers have the points of the boxes.
+abbrev pub BuffersHaveBoxPoints : Type 0
+BuffersHaveBoxPoints = (boxes : List (Option SourceBox)) (buffers : List BufferContents) → AreOfBoxes boxes buffers
+    → (place x y : ℕ) → points_of buffers place x y ≡ box_points boxes place x y
+
+-- ---- pictures
+
+-- They are pictures, and those of inputs of bytes hold bytes.
+pub record AreInputs (inputs : List Input) (pictures : List PictureContents) : Type 0 where
+  pub each : (place : ℕ) (picture : PictureContents) → slice_get pictures place ≡ Some picture → IsPicture picture
+  pub bytes : (place : ℕ) (input : Input) (picture : PictureContents) → slice_get inputs place ≡ Some input → slice_get pictures place ≡ Some picture
+      → input.is_bytes ≡ true → All (λ pixel. pixel < 256) picture.pixels
+
+-- Then the inputs answer words, and those of bytes bytes.
+abbrev pub PicturesAnswerWords : Type 0
+PicturesAnswerWords = (inputs : List Input) (funcs : List Func) (pictures : List PictureContents) → AreInputs inputs pictures
+    → AnswerWords inputs (reads_of (input_planes pictures) (pixels funcs (input_planes pictures) 0))
