@@ -4,3 +4,4 @@ pub mod Passing
 pub mod Seating
 pub mod Stopping
 pub mod Batches
+pub mod RunningOut

@@ -256,3 +256,15 @@ idle-after image harts hart turns machine came tallied replays all below is sum 
     let told = tells start turns hart (omega (arith, few, below)) (all-run image.entry harts harts hart) in
     let now : Told (hart_at machine hart).status tallied = subst (λ n. Told (hart_at machine hart).status n) (sym sum) (subst (λ s. Told (hart_at s hart).status (tally image harts turns hart)) (sym replays) told) in
     subst (λ o. (o ≡ Idle → tallied % 16 ≢ 0) × (tallied % 16 ≢ 0 → o ≡ Idle)) (sym is) (idle-told machine hart tallied (omega (arith, all, below)) now)
+
+-- a hart whose tally says that it has stopped isn't running
+pub halted-after : (image : ImageContents) (harts hart : ℕ) (turns : List ℕ) → hart < harts → tally image harts turns hart % 16 ≢ 0 → (hart_at (state_after image harts turns) hart).status ≢ Running
+halted-after image harts hart turns below some =
+    let start = machine_of image harts in
+    let few : length start.harts ≡ harts = length-opening_harts image.entry harts harts in
+    let last = (hart_at (state_after image harts turns) hart).status in
+    let sum = tally image harts turns hart in
+    ⊎_elim
+    (λ (r : (last ≡ Running) × (sum % 16 ≡ 0)). absurd (some r.1))
+    (λ (r : (last ≢ Running) × (sum % 16 ≢ 0)). r.0)
+    (tells start turns hart (omega (arith, few, below)) (all-run image.entry harts harts hart))

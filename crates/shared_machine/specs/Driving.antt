@@ -1,6 +1,7 @@
 -- What a drive does to a seat.
 -- This project's own.
-use Rattle.std.specs.Prelude.{◌≡◌, ◌≢◌, ℕ, ◌+◌, ◌%◌, ◌<◌, ◌≤◌, Bool, true, false, Option, Some, None, List, length, slice_index_or}
+use Rattle.std.specs.Prelude.{◌≡◌, ◌≢◌, ℕ, ◌+◌, ◌%◌, ◌<◌, ◌≤◌, ◌==◌, Bool, true, false, Option, Some, None, List, length, slice_index_or}
+use Rattle.std.specs.List.{list_any}
 use Rattle.turn_log.specs.TurnLog.{most_turns}
 use Rattle.board.specs.Tokens.{BoardId, has_asked}
 use Rattle.shared_machine.specs.declared.origins.Origin.{Ghosts}
@@ -9,6 +10,7 @@ use Rattle.shared_machine.specs.declared.seats.Ended.{Ended}
 use Rattle.shared_machine.specs.declared.seats.Ended.TheVariants.{Halted, Limit, Shut, Refused}
 use Rattle.shared_machine.specs.declared.refusals.Refusal.{Refusal}
 use Rattle.shared_machine.specs.declared.refusals.Refusal.TheVariants.{OutOfMemory, TurnsSpent, StopAsked}
+use Rattle.shared_machine.specs.Refusals.{number_of}
 use Rattle.shared_machine.specs.Seats.{IsSeatOf, hart, number, tally}
 
 -- a seat whose turns are spent has made 2^40
@@ -28,6 +30,18 @@ EndedSo always limit before seat (Refused why) = RefusedSo seat why
 abbrev pub HasEndedSo : {O F : Type 0} {G : Ghosts O} → Bool → ℕ → ℕ → Seat O F G → Option Ended → Type 0
 HasEndedSo always limit before seat None = ⊥
 HasEndedSo always limit before seat (Some ended) = EndedSo always limit before seat ended
+
+-- the number of the refusal with which a thread ended, 0 where it ended otherwise
+abbrev pub refused_by : Option Ended → ℕ
+refused_by None = 0
+refused_by (Some Halted) = 0
+refused_by (Some Limit) = 0
+refused_by (Some Shut) = 0
+refused_by (Some (Refused why)) = number_of why
+
+-- a thread of one of the seats ended with the refusal of this number
+abbrev pub has_refused : {O F : Type 0} {G : Ghosts O} → ℕ → List (Seat O F G) → Bool
+has_refused number seats = list_any (λ seat. refused_by seat.ended == number) seats
 
 -- a seat before and after a drive
 pub record IsDriven {O F : Type 0} {G : Ghosts O} (name : BoardId) (always : Bool) (limit : ℕ) (old new : Seat O F G) : Type 0 where

@@ -4,3 +4,4 @@ pub mod Tallies
 pub mod Seats
 pub mod Endings
 pub mod Driving
+pub mod Running

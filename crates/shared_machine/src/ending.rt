@@ -2,6 +2,7 @@
 
 ghost use Rattle.std.specs.Prelude.{◌≡◌, ℕ, ◌<◌, ◌≤◌, ◌↔◌, Bool, true, All, IsTrue, IsOk, IfOk, IfErr, slice_index};
 ghost use Rattle.multi_hart.specs.Run.{State};
+ghost use Rattle.turn_log.specs.TurnLog.{IsLog};
 ghost use Rattle.board.specs.Tokens.{name_of};
 ghost use Rattle.shared_machine.specs.Log.{BeginsWith, state_after};
 ghost use Rattle.shared_machine.specs.Seats.{IsSeatOf, has_hart, has_all, hart};
@@ -26,6 +27,7 @@ impl<O: Origin, F: Ledgers> Shared<O, F> {
         ensures machine { IfOk result (λ ended. ended.0 ≡ state_after O.image O.harts ended.1.turns) }
         ensures begins { IfOk result (λ ended. BeginsWith ended.1.turns O.resumed) }
         ensures harts { IfOk result (λ ended. ended.1.harts ≡ O.harts) }
+        ensures log { IfOk result (λ ended. IsLog ended.1) }
         ensures told { IfOk result (λ ended. All (IsToldIn O.image O.harts ended.1.turns ended.2) seats.items) }
         ensures rest { IfOk result (λ ended. (hart : ℕ) → O.harts ≤ hart → hart < 8 → slice_index ended.2 hart ≡ 0) }
         ensures back { IfErr result (λ back. (back.0 ≡ self) × (back.1 ≡ seats)) }
@@ -42,6 +44,7 @@ impl<O: Origin, F: Ledgers> Shared<O, F> {
         ensures machine { result.0 ≡ state_after O.image O.harts result.1.turns }
         ensures begins { BeginsWith result.1.turns O.resumed }
         ensures harts { result.1.harts ≡ O.harts }
+        ensures log { IsLog result.1 }
         ensures told { All (IsToldIn O.image O.harts result.1.turns result.2) seats.items }
         ensures rest { (hart : ℕ) → O.harts ≤ hart → hart < 8 → slice_index result.2 hart ≡ 0 }
     {

@@ -2,7 +2,7 @@
 
 ghost use Rattle.std.specs.Prelude.{◌≡◌, ◌≢◌, ◌+◌, ◌-◌, ◌*◌, ◌%◌, ◌<◌, ◌≤◌, ◌↔◌, Err, IfOk, IfErr, OnErr};
 ghost use Rattle.rv_insn.specs.declared.outcomes.Outcome.TheVariants.{Stepped, Idle};
-ghost use Rattle.turn_log.specs.TurnLog.{count_of, most_turns};
+ghost use Rattle.turn_log.specs.TurnLog.{IsLog, count_of, most_turns};
 ghost use Rattle.shared_machine.specs.Log.{BeginsWith, CameSo, code_of, most_batch, state_after, tally};
 ghost use Rattle.shared_machine.specs.Refusals.{number_of};
 ghost use Rattle.shared_machine.specs.Tallies.{each, hart_of, number_in, tally_in, numbers_of, tallies_of};
@@ -78,6 +78,7 @@ impl<O: Origin, F: Ledgers> Guarded<O, F> {
     pub(crate) fn into_parts(self) -> (Machine, TurnLog)
         ensures machine { result.0 ≡ state_after O.image O.harts result.1.turns }
         ensures begins { BeginsWith result.1.turns O.resumed }
+        ensures log { IsLog result.1 }
         ensures same { (result.0 ≡ self.locked.machine) × (result.1 ≡ self.locked.log) }
     {
         let Guarded { locked, books: _ } = self;

@@ -5,6 +5,7 @@
 //! - [`origins`]: what stands in a type for the image and the number of harts.
 //! - [`shared`]: the machine that threads share ([`Shared`]).
 //! - [`driving`], [`gates`]: a thread for each seat ([`drive`], [`Gate`]).
+//! - [`running`]: a machine made, driven and closed in one call ([`run`]).
 //! - [`seats`]: a hart of it ([`Seat`]).
 //! - [`refusals`]: why a turn is refused ([`Refusal`]).
 #![tactic(auto)]
@@ -19,6 +20,7 @@ pub mod locked;
 mod opening;
 pub mod origins;
 pub mod refusals;
+pub mod running;
 pub mod seats;
 pub mod shared;
 
@@ -29,5 +31,6 @@ pub use crate::ledgers::Ledgers;
 pub use crate::locked::Locked;
 pub use crate::origins::Origin;
 pub use crate::refusals::{DriveFault, Refusal};
+pub use crate::running::run;
 pub use crate::seats::{Batch, Ended, Report, Seat};
 pub use crate::shared::Shared;

@@ -115,6 +115,7 @@ impl<O: Origin> Locked<O> {
     pub fn into_parts(self) -> (Machine, TurnLog)
         ensures machine { result.0 ≡ state_after O.image O.harts result.1.turns }
         ensures begins { BeginsWith result.1.turns O.resumed }
+        ensures log { IsLog result.1 }
         ensures same { (result.0 ≡ self.machine) × (result.1 ≡ self.log) }
     {
         let Locked { machine, log, .. } = self;

@@ -73,6 +73,12 @@ impl DriveFault {
     }
 }
 
+impl From<AllocError> for DriveFault {
+    fn from(_e: AllocError) -> DriveFault {
+        DriveFault::OutOfMemory
+    }
+}
+
 impl<T: Drop> From<AllocFailed<T>> for DriveFault {
     fn from(_e: AllocFailed<T>) -> DriveFault {
         DriveFault::OutOfMemory

@@ -1,0 +1,151 @@
+//! A machine that runs until its harts stop.
+
+ghost use Rattle.std.specs.Prelude.{◌≡◌, ◌≤◌, [], All, length, true, false, OnOk, IfOk};
+ghost use Rattle.board.specs.Tokens.{name_of};
+ghost use Rattle.turn_log.specs.TurnLog.{count_of};
+ghost use Rattle.shared_machine.specs.Driving.{AreDriven, has_refused, refused_by};
+ghost use Rattle.shared_machine.specs.Log.{state_after, tally};
+ghost use Rattle.shared_machine.specs.Running.{IsRunOf};
+ghost use Rattle.shared_machine.specs.Seats.{IsSeatOf, AreSeatsAt};
+ghost use Rattle.shared_machine.specs.Tallies.{AreNamed};
+
+use crate::books::Blanks;
+use crate::driving::drive_batched;
+use crate::gates::AlwaysOpen;
+use crate::ledgers::Ledgers;
+use crate::origins::Origin;
+use crate::refusals::{DriveFault, Refusal};
+use crate::seats::{Ended, Seat};
+use crate::shared::Shared;
+use loader::Image;
+use multi_hart::Machine;
+use std::alloc::Global;
+use std::marker::Brand;
+use std::sync::Wait;
+use std::thread::Threads;
+use turn_log::TurnLog;
+
+/// How many turns are made under one lock.
+const BATCH: u64 = 64;
+
+/// Runs the machine of an image, of 1 to 8 harts, in a thread for each hart, until each has stopped or has made so many turns. The
+/// machine at the end, and the log of its turns.
+///
+/// Where a turn is refused memory, none comes out; nor where threads can't be had.
+pub fn run<R: Threads + Wait + Sync>(
+    rt: &R,
+    alloc: Global,
+    image: Image,
+    harts: usize,
+    limit: u64,
+) -> Result<(Machine, TurnLog), DriveFault>
+    requires some { 1 ≤ harts }
+    requires few { harts ≤ 8 }
+    ensures machine { IfOk result (λ ran. ran.0 ≡ state_after image harts ran.1.turns) }
+    ensures log { IfOk result (λ ran. IsRunOf image harts [] limit ran.1) }
+{
+    run_new::<Brand, Brand, R>(rt, alloc, image, harts, limit, Blanks::new())
+}
+
+/// The same of a machine that types name.
+fn run_new<O: Origin + Send + Sync, F: Ledgers + Send + Sync, R: Threads + Wait + Sync>(
+    rt: &R,
+    alloc: Global,
+    image: Image,
+    harts: usize,
+    limit: u64,
+    blanks: Blanks,
+) -> Result<(Machine, TurnLog), DriveFault>
+    requires image { image ≡ O.image }
+    requires harts { harts ≡ O.harts }
+    requires resumed { O.resumed ≡ [] }
+    requires some { 1 ≤ harts }
+    requires few { harts ≤ 8 }
+    requires blanks { AreNamed F.numbers F.tallies blanks }
+    ensures machine { IfOk result (λ ran. ran.0 ≡ state_after O.image O.harts ran.1.turns) }
+    ensures log { IfOk result (λ ran. IsRunOf O.image O.harts O.resumed limit ran.1) }
+{
+    let (shared, seats) = Shared::<O, F>::new(alloc, image, harts, blanks)?;
+    run_out(rt, alloc, shared, seats, limit)
+}
+
+/// Drives all seats of a machine, each for so many turns, and closes the machine.
+fn run_out<O: Origin + Send + Sync, F: Ledgers + Send + Sync, R: Threads + Wait + Sync>(
+    rt: &R,
+    alloc: Global,
+    shared: Shared<O, F>,
+    mut seats: Vec<Seat<O, F>>,
+    limit: u64,
+) -> Result<(Machine, TurnLog), DriveFault>
+    requires all { length seats.items ≡ O.harts }
+    requires of { All (IsSeatOf (name_of shared.board)) seats.items }
+    requires at { AreSeatsAt (name_of shared.board) (count_of O.resumed) (tally O.image O.harts O.resumed) 0 seats.items }
+    ensures machine { IfOk result (λ ran. ran.0 ≡ state_after O.image O.harts ran.1.turns) }
+    ensures log { IfOk result (λ ran. IsRunOf O.image O.harts O.resumed limit ran.1) }
+{
+    drive_all(rt, alloc, &shared, &mut seats, limit)?;
+    check_ended(&seats)?;
+    let Ok((machine, log, _)) = shared.close(seats) else {
+        unreachable!()
+    };
+    Ok((machine, log))
+}
+
+/// Drives all seats.
+fn drive_all<O: Origin + Send + Sync, F: Ledgers + Send + Sync, R: Threads + Wait + Sync>(
+    rt: &R,
+    alloc: Global,
+    shared: &Shared<O, F>,
+    seats: &mut Vec<Seat<O, F>>,
+    limit: u64,
+) -> Result<(), DriveFault>
+    requires { All (IsSeatOf (name_of shared.now.board)) seats.old.items }
+    ensures all { length seats.new.items ≡ length seats.old.items }
+    ensures of { All (IsSeatOf (name_of shared.now.board)) seats.new.items }
+    ensures driven { OnOk result (AreDriven (name_of shared.now.board) true limit seats.old.items seats.new.items) }
+{
+    drive_batched(
+        rt,
+        alloc,
+        shared,
+        seats.as_mut_slice(),
+        limit,
+        BATCH,
+        &AlwaysOpen,
+    )
+}
+
+/// Why a thread ended that should have gone on: a turn was refused memory, or a stop was asked, which is asked where threads can't
+/// be had.
+fn check_ended<O: Origin, F: Ledgers>(seats: &[Seat<O, F>]) -> Result<(), DriveFault>
+    ensures memory { OnOk result (has_refused 1 seats.now ≡ false) }
+    ensures stopped { OnOk result (has_refused 3 seats.now ≡ false) }
+{
+    if has_refused(seats, Refusal::OutOfMemory.number()) {
+        return Err(DriveFault::OutOfMemory);
+    }
+    if has_refused(seats, Refusal::StopAsked.number()) {
+        return Err(DriveFault::NoThread);
+    }
+    Ok(())
+}
+
+/// Whether a thread of one of the seats ended with the refusal of this number.
+fn has_refused<O: Origin, F: Ledgers>(seats: &[Seat<O, F>], number: u8) -> bool
+    ensures { result ≡ has_refused number seats.now }
+{
+    seats.iter().any(|seat| refused_by(seat.ended()) == number)
+}
+
+/// The number of the refusal with which a thread ended, 0 where it ended otherwise.
+fn refused_by(ended: Option<Ended>) -> u8
+    ensures { result ≡ refused_by ended }
+{
+    match ended {
+        None => 0,
+        Some(Ended::Halted) => 0,
+        Some(Ended::Limit) => 0,
+        Some(Ended::Shut) => 0,
+        Some(Ended::Refused(why)) => why.number(),
+    }
+}
