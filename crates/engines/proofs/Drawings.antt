@@ -8,7 +8,7 @@ use Rattle.halide_parser.specs.Parsing.{parsed}
 use Rattle.picture.specs.declared.faults.PictureFault.{PictureFault}
 use Rattle.halide_meaning.specs.Picture.{PictureContents}
 use Rattle.engines.specs.declared.faults.Fault.{Fault}
-use Rattle.engines.specs.declared.faults.Fault.TheVariants.{Refused, File, Memory}
+use Rattle.engines.specs.declared.faults.Fault.TheVariants.{Refused, File, Memory, Thread}
 use Rattle.engines.specs.Drawing.{IsDrawing, IsRefusedDrawing, RefusesPictures, refusal_of, with_pictures, with_pipeline}
 use Rattle.engines.specs.Engine.{Judges, Unmeant}
 use Rattle.engines.proofs.Steps.{judges_not, passed}
@@ -35,3 +35,4 @@ no_pictures value alloc texts pipeline r fault is given p =
     unmeant (Refused refusal) q = ap (λ found. with_pipeline found texts.1) given ∙ ap (with_pictures pipeline) q.2 ∙ ap (λ x. Some x) (sym q.1)
     unmeant (File path) q = q
     unmeant Memory q = q
+    unmeant Thread q = q

@@ -5,6 +5,7 @@ pub mod Printing
 pub mod Reading
 pub mod Sources
 pub mod Splits
+pub mod Runs
 pub mod Steps
 pub mod StopsFound
 pub mod TalkSteps

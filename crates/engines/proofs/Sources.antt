@@ -8,7 +8,7 @@ use Rattle.std.proofs.lemmas.Option.{slice_get_within}
 use Rattle.std.proofs.lemmas.Bool.{cases_lt}
 use Rattle.std.specs.String.{string_bytes}
 use Rattle.engines.specs.declared.faults.Fault.{Fault}
-use Rattle.engines.specs.declared.faults.Fault.TheVariants.{Refused, File, Memory}
+use Rattle.engines.specs.declared.faults.Fault.TheVariants.{Refused, File, Memory, Thread}
 use Rattle.engines.specs.Devices.{GaveEach, GaveNoText, NamesFailed, NoneFailed, text_of, texts_of}
 use Rattle.engines.specs.Engine.{Reads, Unread}
 use Rattle.engines.proofs.Steps.{passed, reads_not}
@@ -150,6 +150,7 @@ module _ {S : Type 0} (place_of : S → List ℕ) (failures : S → ℕ) (gave :
   next_unread first texts now count s t (Refused refusal) g well here p = p
   next_unread first texts now count s t (File path) g well here p = next_failed first texts now count s t (string_bytes path) g here p.0 p.1
   next_unread first texts now count s t Memory g well here p = next_well failures first now count s t well here p
+  next_unread first texts now count s t Thread g well here p = p
 
   pub reads_no_texts : {X : Type 0} (value : X → List (List ℕ)) (r : Result X Fault) (first : List S) (texts : List (List ℕ)) (now : List S) (count : ℕ) (s t : S) (fault : Fault)
       → IsErrAnd r (λ f. f ≡ fault)

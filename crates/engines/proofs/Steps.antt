@@ -3,7 +3,7 @@ use Rattle.std.proofs.Common.{◌≡◌, ℕ, List, inl, inr, sym, subst}
 use Rattle.std.specs.Prelude.{Err, IsErrAnd, Ok, Result}
 use Rattle.engines.specs.declared.faults.Refusal.{Refusal}
 use Rattle.engines.specs.declared.faults.Fault.{Fault}
-use Rattle.engines.specs.declared.faults.Fault.TheVariants.{Refused, File, Memory}
+use Rattle.engines.specs.declared.faults.Fault.TheVariants.{Refused, File, Memory, Thread}
 use Rattle.engines.specs.Devices.{Sources, Taken, both}
 use Rattle.engines.specs.Engine.{GaveUp, Judges, Performs, Reads, Unmeant, Unread, Writes}
 
@@ -24,11 +24,13 @@ module _ {I J : Type 0} (first : Sources I) (second : Sources J) where
   first_unread (Refused refusal) still well p = p
   first_unread (File path) still well p = inl (p, still)
   first_unread Memory still well p = (p, well)
+  first_unread Thread still well p = p
 
   pub second_unread : (input : I) (fault : Fault) → first.gave input → first.well → Unread second fault → Unread (both first second) fault
   second_unread input (Refused refusal) given well p = p
   second_unread input (File path) given well p = inr ((input, given), well, p)
   second_unread input Memory given well p = (well, p)
+  second_unread input Thread given well p = p
 
 -- ---- judging
 
@@ -53,6 +55,7 @@ module _ {I : Type 0} (means : I → List ℕ → Type 0) (refuses : I → Refus
       gave_up (Refused refusal) q = absurd q
       gave_up (File path) q = inl (q, still)
       gave_up Memory q = (q, still)
+      gave_up Thread q = q
 
   -- they have no output
   pub unmeant : {X : Type 0} (r : Result X Fault) (fault : Fault) (inputs : I) → IsErrAnd r (λ f. f ≡ fault) → sink.untouched → sources.gave inputs → sources.well
@@ -63,6 +66,7 @@ module _ {I : Type 0} (means : I → List ℕ → Type 0) (refuses : I → Refus
       gave_up (Refused refusal) q = (record { inputs = inputs; are_given = given; are_refused = q }, well, still)
       gave_up (File path) q = absurd q
       gave_up Memory q = (well, still)
+      gave_up Thread q = q
 
   -- their output was written, or a beginning of it
   pub written : {X : Type 0} (r : Result X Fault) (inputs : I) (output : List ℕ) → sources.gave inputs → sources.well → means inputs output
@@ -76,3 +80,4 @@ module _ {I : Type 0} (means : I → List ℕ → Type 0) (refuses : I → Refus
     record { inputs = inputs; output = output; count = p.1.0; are_given = given; is_meant = meant; is_taken = p.1.1 },
   )
   written (Err Memory) inputs output given well meant p = (well, p)
+  written (Err Thread) inputs output given well meant p = absurd p

@@ -6,7 +6,7 @@ use Rattle.std.proofs.lemmas.List.{append-nil}
 use Rattle.line_text.specs.Lines.{IsLine, lines_of}
 use Rattle.debugger.specs.Places.{SessionState}
 use Rattle.engines.specs.declared.faults.Fault.{Fault}
-use Rattle.engines.specs.declared.faults.Fault.TheVariants.{Refused, File, Memory}
+use Rattle.engines.specs.declared.faults.Fault.TheVariants.{Refused, File, Memory, Thread}
 use Rattle.std.specs.String.{string_bytes}
 use Rattle.engines.specs.Talk.{Answer, answer, answers, quits, talk, talk_ends, unless_last}
 use Rattle.engines.specs.TalkSoFar.{BrokenTalk, GoesOn, HeldTalk, HoldsTalk, IsOver, SoFar, TalkBroke, Took, WaitingTalk}
@@ -282,6 +282,7 @@ module _ (session : SessionState) (lines : Sources (List ℕ)) (lines_ended : Ty
   text_broke part text (Refused refusal) well names still broken p = absurd p
   text_broke part text (File path) well names still broken p = inr (names (string_bytes path) p.0, well, broken p.1)
   text_broke part text Memory well names still broken p = (well, (still p).0, broken (still p).1)
+  text_broke part text Thread well names still broken p = p
 
   -- the last text, whatever became of it
   pub last_text : {X : Type 0} (r : Result X Fault) (part : Taken) (text : List ℕ) → lines.well → ((path : List ℕ) → part.failed path → sink.failed path)
@@ -308,6 +309,7 @@ module _ (files : Sources (List ℕ × List ℕ)) (lines : Sources (List ℕ)) (
       gave_up (Refused refusal) q = absurd q
       gave_up (File path) q = inl (q, lines_still, still)
       gave_up Memory q = (q, lines_well, well, inl (lines_still, still))
+      gave_up Thread q = q
 
   -- they have no session
   pub files_refused : {X : Type 0} (r : Result X Fault) (fault : Fault) (inputs : List ℕ × List ℕ) → IsErrAnd r (λ f. f ≡ fault) → lines.untouched → lines.well
@@ -319,6 +321,7 @@ module _ (files : Sources (List ℕ × List ℕ)) (lines : Sources (List ℕ)) (
       gave_up (Refused refusal) q = (record { inputs = inputs; are_given = given; are_refused = q }, files_well, lines_still, still)
       gave_up (File path) q = absurd q
       gave_up Memory q = (files_well, lines_well, well, inl (lines_still, still))
+      gave_up Thread q = q
 
   -- the talk was held, or broke off
   pub talk_held : {X : Type 0} (r : Result X Fault) (inputs : List ℕ × List ℕ) (session : SessionState) → files.gave inputs → files.well
@@ -343,3 +346,4 @@ module _ (files : Sources (List ℕ × List ℕ)) (lines : Sources (List ℕ)) (
       inr (inr (p.0, files_well, p.1, record { files = inputs; session = session; are_given = given; opens = opens; begun = p.2 }))
   talk_held (Err Memory) inputs session given files_well opens p =
       (files_well, p.0, p.1, inr (record { files = inputs; session = session; are_given = given; opens = opens; begun = p.2 }))
+  talk_held (Err Thread) inputs session given files_well opens p = absurd p

@@ -12,7 +12,7 @@ use Rattle.debugger.specs.Places.{SessionState, opened}
 use Rattle.engines.specs.declared.faults.Refusal.{Refusal}
 use Rattle.engines.specs.declared.faults.Refusal.TheVariants.{Load, Log}
 use Rattle.engines.specs.declared.faults.Fault.{Fault}
-use Rattle.engines.specs.declared.faults.Fault.TheVariants.{Refused, File, Memory}
+use Rattle.engines.specs.declared.faults.Fault.TheVariants.{Refused, File, Memory, Thread}
 use Rattle.engines.specs.Devices.{Sources, Taken, both}
 use Rattle.engines.specs.Engine.{Answered, RefusedSo}
 use Rattle.engines.specs.Talk.{talk}
@@ -72,6 +72,7 @@ TalkGaveUp files lines lines_ended sink (File path) =
     ⊎ (sink.failed (string_bytes path) × files.well × lines.well × BeganTalk files.gave lines.gave lines_ended sink.took)
 TalkGaveUp files lines lines_ended sink Memory =
     files.well × lines.well × sink.well × ((lines.untouched × sink.untouched) ⊎ BeganTalk files.gave lines.gave lines_ended sink.took)
+TalkGaveUp files lines lines_ended sink Thread = ⊥
 
 -- Ok where the sink took the talk on the lines, up to their end or to one that ends it, and no device failed
 abbrev pub Talks : {X : Type 0} → Sources (List ℕ × List ℕ) → Sources (List ℕ) → Type 0 → Taken → Result X Fault → Type 0

@@ -10,5 +10,6 @@ pub mod Faults
 pub mod Refusals
 pub mod Renew
 pub mod Replay
+pub mod Run
 pub mod Talk
 pub mod TalkSoFar

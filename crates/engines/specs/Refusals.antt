@@ -2,11 +2,13 @@
 -- This project's own.
 use Rattle.engines.specs.declared.faults.Refusal.TheVariants.{Load, Log, Asm, Parse, Picture, Input}
 use Rattle.engines.specs.declared.faults.Fault.{Fault}
-use Rattle.engines.specs.declared.faults.Fault.TheVariants.{Refused, Memory}
+use Rattle.engines.specs.declared.faults.Fault.TheVariants.{Refused, Memory, Thread}
 use Rattle.loader.specs.declared.faults.LoadFault.{LoadFault}
 use Rattle.loader.specs.declared.faults.LoadFault.TheVariants as load
 use Rattle.turn_log.specs.declared.log_faults.LogFault.{LogFault}
 use Rattle.turn_log.specs.declared.log_faults.LogFault.TheVariants as log
+use Rattle.shared_machine.specs.declared.refusals.DriveFault.{DriveFault}
+use Rattle.shared_machine.specs.declared.refusals.DriveFault.TheVariants as drive
 use Rattle.line_text.specs.declared.read_errors.LocatedError.{LocatedError}
 use Rattle.line_text.specs.declared.read_errors.LocatedError.TheVariants as located
 use Rattle.line_text.specs.declared.read_errors.ReadError.{ReadError}
@@ -24,6 +26,10 @@ fault_of_load fault = Refused (Load fault)
 abbrev pub fault_of_log : LogFault → Fault
 fault_of_log log.OutOfMemory = Memory
 fault_of_log fault = Refused (Log fault)
+
+abbrev pub fault_of_drive : DriveFault → Fault
+fault_of_drive drive.OutOfMemory = Memory
+fault_of_drive drive.NoThread = Thread
 
 abbrev pub fault_of_asm : LocatedError AsmFault → Fault
 fault_of_asm located.Memory = Memory

@@ -5,7 +5,7 @@ use Rattle.std.specs.String.{string_bytes}
 use Rattle.line_text.specs.Lines.{IsLine}
 use Rattle.debugger.specs.Places.{SessionState}
 use Rattle.engines.specs.declared.faults.Fault.{Fault}
-use Rattle.engines.specs.declared.faults.Fault.TheVariants.{Refused, File, Memory}
+use Rattle.engines.specs.declared.faults.Fault.TheVariants.{Refused, File, Memory, Thread}
 use Rattle.engines.specs.Devices.{Sources, Taken}
 use Rattle.engines.specs.Talk.{talk, talk_ends}
 
@@ -75,6 +75,7 @@ TalkBroke session lines lines_ended sink (File path) =
     (lines.failed (string_bytes path) × sink.well × WaitingTalk session lines.gave sink.took)
     ⊎ (sink.failed (string_bytes path) × lines.well × BrokenTalk session lines.gave lines_ended sink.took)
 TalkBroke session lines lines_ended sink Memory = lines.well × sink.well × BrokenTalk session lines.gave lines_ended sink.took
+TalkBroke session lines lines_ended sink Thread = ⊥
 
 abbrev pub HoldsTalk : {X : Type 0} → SessionState → Sources (List ℕ) → Type 0 → Taken → Result X Fault → Type 0
 HoldsTalk session lines lines_ended sink (Ok done) = HeldTalk session lines.gave lines_ended sink.took × lines.well × sink.well

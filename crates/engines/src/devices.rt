@@ -6,7 +6,7 @@
 ghost use Rattle.std.specs.Prelude.{◌≡◌, ℕ, ◌+◌, ◌<◌, ◌≤◌, ◌^◌, List, [], ◌++◌, length, take, OnOk, OnErr, IfOk};
 ghost use Rattle.std.specs.String.{string_bytes};
 ghost use Rattle.engines.specs.Devices.{bytes_of, sink_of, text_of};
-ghost use Rattle.engines.specs.Engine.{Reads, Writes};
+ghost use Rattle.engines.specs.Engine.{Reads, Writes, WritesEach};
 
 use crate::faults::Fault;
 use std::alloc::Global;
@@ -134,13 +134,25 @@ pub fn write_all<S: Sink>(alloc: Global, sink: &mut S, bytes: &[u8]) -> Result<(
 {
     // Made before the first write, so that a write that fails needs no memory.
     let path = String::from_str(alloc, sink.path())?;
+    if !write_each(sink, bytes) {
+        return Err(Fault::File(path));
+    }
+    Ok(())
+}
+
+/// Writes the bytes up to a write that fails: whether all are written. It takes no memory.
+pub fn write_each<S: Sink>(sink: &mut S, bytes: &[u8]) -> bool
+    requires { S.failed sink.old + 1 < 2 ^ 64 }
+    ensures writes { WritesEach (sink_of S.place S.failed S.took sink.old sink.new) (S.place sink.old) bytes.now result }
+    ensures path { S.place sink.new ≡ S.place sink.old }
+{
     let mut written = 0;
     while written < bytes.len() {
         let (_, rest) = bytes.split_at(written);
         match sink.write(rest) {
             Ok(count) if count > 0 => written += count,
-            _ => return Err(Fault::File(path)),
+            _ => return false,
         }
     }
-    Ok(())
+    true
 }

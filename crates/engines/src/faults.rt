@@ -7,6 +7,7 @@ use halide_syntax::ParseFault;
 use line_text::{LocatedError, ReadError};
 use loader::LoadFault;
 use picture::{EvalError, PictureFault};
+use shared_machine::DriveFault;
 use std::alloc::{AllocError, AllocFailed};
 use thiserror::Error;
 use turn_log::LogFault;
@@ -46,6 +47,9 @@ pub enum Fault {
     /// Memory ran out.
     #[error("refused memory")]
     Memory,
+    /// A thread could not be started.
+    #[error("refused thread")]
+    Thread,
 }
 
 impl Fault {
@@ -74,6 +78,19 @@ impl<T: Drop> From<AllocFailed<T>> for Fault {
 
     fn from(_error: AllocFailed<T>) -> Fault {
         Fault::Memory
+    }
+}
+
+impl From<DriveFault> for Fault {
+    ghost use Rattle.engines.specs.Refusals.{fault_of_drive};
+
+    ghost from_gives = { λ fault answered. answered ≡ fault_of_drive fault };
+
+    fn from(fault: DriveFault) -> Fault {
+        match fault {
+            DriveFault::OutOfMemory => Fault::Memory,
+            DriveFault::NoThread => Fault::Thread,
+        }
     }
 }
 

@@ -1,0 +1,41 @@
+-- A run's log and dump.
+use Rattle.std.proofs.Common.{◌≡◌, ℕ, List, [], sym, ap, ◌∙◌, subst}
+use Rattle.std.specs.Prelude.{IsTrue, Ok, Option, length}
+use Rattle.multi_hart.specs.Run.{State, run}
+use Rattle.multi_hart.proofs.TurnByTurn.{shape-run}
+use Rattle.turn_log.specs.TurnLog.{LogState}
+use Rattle.turn_log.specs.LogSpelling.{log_of, spelled}
+use Rattle.turn_log.proofs.LogLaws.{all_again}
+use Rattle.loader.specs.Image.{ImageContents, IsImage, is_output_or_none}
+use Rattle.loader.specs.Loading.{machine_of}
+use Rattle.loader.specs.Spelling.{image_of}
+use Rattle.loader.specs.declared.outputs.Output.{Output}
+use Rattle.shared_machine.specs.Log.{state_after}
+use Rattle.shared_machine.specs.Running.{IsRunOf}
+use Rattle.engines.specs.Dump.{dumped}
+use Rattle.engines.specs.Replay.{answer, dump_of, replayed, with_image, with_log}
+use Rattle.engines.specs.Run.{IsRun}
+
+-- the output of an image lies in the machine's data after any turns
+pub output-fits : (image : ImageContents) (harts : ℕ) (turns : List ℕ) (machine : State) (output : Option Output) → machine ≡ state_after image harts turns → output ≡ image.output
+    → IsImage image → IsTrue (is_output_or_none (length machine.memory) output)
+output-fits image harts turns machine output is out rules =
+    let bytes : length machine.memory ≡ length image.bytes = ap (λ s. length s.memory) is ∙ (shape-run (machine_of image harts) turns).bytes in
+    subst (λ n. IsTrue (is_output_or_none n output)) (sym bytes) (subst (λ o. IsTrue (is_output_or_none (length image.bytes) o)) (sym out) rules.output)
+
+-- the bytes of an image and of a log of its turns, and the dump after them
+pub run-is : (harts limit : ℕ) (image_bytes log_bytes text : List ℕ) (image : ImageContents) (log : LogState) (machine : State) (output : Option Output)
+    → image_of image_bytes ≡ Ok image → machine ≡ state_after image harts log.turns → IsRunOf image harts [] limit log → log_bytes ≡ spelled log
+    → output ≡ image.output → text ≡ dumped machine log.turns output → IsRun harts limit image_bytes log_bytes text
+unfolding answer
+run-is harts limit image_bytes log_bytes text image log machine output is_image is_machine is_run is_spelled is_output is_text =
+    let state : machine ≡ replayed image log = is_machine ∙ ap (λ n. run (machine_of image n) log.turns) (sym is_run.same) in
+    let dump : text ≡ dump_of image log = is_text ∙ ap (λ s. dumped s log.turns output) state ∙ ap (dumped (replayed image log) log.turns) is_output in
+    record {
+      image = image;
+      log = log;
+      is_image = is_image;
+      is_run = is_run;
+      is_spelled = is_spelled;
+      is_replay = ap (λ found. with_image found log_bytes) is_image ∙ ap (with_log image) (ap log_of is_spelled ∙ all_again log is_run.is_log) ∙ ap (λ t. Ok t) (sym dump);
+    }

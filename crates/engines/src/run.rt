@@ -1,0 +1,90 @@
+//! Running an image by threads, with a log of the turns that were made.
+
+ghost use Rattle.std.specs.Prelude.{◌+◌, ◌<◌, ◌≤◌, ◌^◌, IfOk, IfErr};
+ghost use Rattle.std.specs.String.{string_bytes};
+ghost use Rattle.engines.specs.Devices.{bytes_of, sink_of};
+ghost use Rattle.engines.specs.Run.{IsRun, Runs, Unrun, WritesBoth};
+
+use crate::devices::{Sink, Source, read_all, write_each};
+use crate::dumps::dump;
+use crate::faults::Fault;
+use loader::read_image;
+use std::alloc::Global;
+use std::sync::Wait;
+use std::thread::Threads;
+
+/// Reads an image, runs it by a thread for each of 1 to 8 harts until each has stopped or has made so many turns, and writes the log
+/// of the turns and then the dump. The whole image is read before the first turn, the whole log is written before the dump, and
+/// nothing is written where memory or threads are wanting.
+pub fn run_bytes<I: Source, L: Sink, O: Sink, R: Threads + Wait + Sync>(
+    rt: &R,
+    alloc: Global,
+    image: &mut I,
+    log: &mut L,
+    out: &mut O,
+    harts: usize,
+    limit: u64,
+) -> Result<(), Fault>
+    requires some { 1 ≤ harts }
+    requires few { harts ≤ 8 }
+    requires image { I.failed image.old + 1 < 2 ^ 64 }
+    requires log { L.failed log.old + 1 < 2 ^ 64 }
+    requires out { O.failed out.old + 1 < 2 ^ 64 }
+    ensures { Runs harts limit
+        (bytes_of I.place I.failed I.gave I.ended image.old image.new)
+        (sink_of L.place L.failed L.took log.old log.new)
+        (sink_of O.place O.failed O.took out.old out.new) result }
+{
+    let image_bytes = read_all(alloc, image)?;
+    let (log_bytes, text) = run_image(rt, alloc, image_bytes, harts, limit)?;
+    write_both(alloc, log, out, &log_bytes, text.as_bytes())
+}
+
+/// The bytes of the log of a run of an image, and the dump at the end. The image's bytes are let go as soon as they are read.
+fn run_image<R: Threads + Wait + Sync>(
+    rt: &R,
+    alloc: Global,
+    image: Vec<u8>,
+    harts: usize,
+    limit: u64,
+) -> Result<(Vec<u8>, String), Fault>
+    requires some { 1 ≤ harts }
+    requires few { harts ≤ 8 }
+    ensures ok { IfOk result (λ made. IsRun harts limit image.items made.0.items (string_bytes made.1)) }
+    ensures err { IfErr result (Unrun image.items) }
+{
+    let read = read_image(alloc, &image)?;
+    drop(image);
+    let output = read.output();
+    let (machine, log) = shared_machine::run(rt, alloc, read, harts, limit)?;
+    let mut bytes = Vec::new(alloc);
+    log.write(&mut bytes)?;
+    let text = dump(alloc, &machine, &log, output)?;
+    Ok((bytes, text))
+}
+
+/// Writes the bytes of a log, and then a text.
+fn write_both<L: Sink, O: Sink>(
+    alloc: Global,
+    log: &mut L,
+    out: &mut O,
+    bytes: &[u8],
+    text: &[u8],
+) -> Result<(), Fault>
+    requires log { L.failed log.old + 1 < 2 ^ 64 }
+    requires out { O.failed out.old + 1 < 2 ^ 64 }
+    ensures { WritesBoth
+        (sink_of L.place L.failed L.took log.old log.new)
+        (sink_of O.place O.failed O.took out.old out.new) bytes.now text.now result }
+{
+    // Both made before the first write, so that nothing is written where memory runs out.
+    let log_path = String::from_str(alloc, log.path())?;
+    let out_path = String::from_str(alloc, out.path())?;
+    if !write_each(log, bytes) {
+        return Err(Fault::File(log_path));
+    }
+    if !write_each(out, text) {
+        return Err(Fault::File(out_path));
+    }
+    Ok(())
+}
