@@ -2,6 +2,8 @@ pub mod Addresses
 pub mod Binding
 pub mod Emission
 pub mod Evaluation
+pub mod ExampleTask
+pub mod ExampleWords
 pub mod Finishing
 pub mod Following
 pub mod Going

@@ -2,6 +2,7 @@
 
 ghost use Rattle.task_code.specs.Doing.{StatementsAreDone};
 ghost use Rattle.task_code.specs.Evaluation.{ExpressionsLeave};
+ghost use Rattle.task_code.specs.Example.{ExampleIsDone};
 ghost use Rattle.task_code.specs.Tasks.{AppendedWordsStand, TasksAreDone};
 ghost use Rattle.task_code.specs.Values.{LiteralsLeave, OperationsLeave, QuotientsLeave, RemaindersLeave, SelectionsLeave};
 
@@ -34,4 +35,9 @@ pub fn tasks_are_done()
 /// Words that were appended stand in each text that goes on from there.
 pub fn appended_words_stand()
     ensures { AppendedWordsStand }
+{}
+
+/// A phase of two tasks over a text of 36 words meets all that is asked of tasks: each leaves its number and 7 in its own word.
+pub fn two_tasks_are_done()
+    ensures { ExampleIsDone }
 {}
