@@ -72,10 +72,10 @@ step-sum v stride n rest = let e : stride * n ≡ n * stride = omega arith in ap
     plain v p rest = omega arith
 
 module _ (w : World) (harts : ℕ) (m : List ℕ) (places : Places) (scope : List Counter) (values : Values) (reads : Reads) (l : length m ≡ w.size) (all : ArePlaces places) where
-  abbrev Known : (ℕ → ℕ) → Type 0
+  abbrev pub Known : (ℕ → ℕ) → Type 0
   Known f = Knows w harts scope values f
 
-  abbrev Left : List Insn → (ℕ → ℕ) → ℕ → ℕ → Type 0
+  abbrev pub Left : List Insn → (ℕ → ℕ) → ℕ → ℕ → Type 0
   Left is f r v = Leaves w m is f r v
 
   kept : (f g : ℕ → ℕ) (r : ℕ) → (r ≡ 14) ⊎ (20 ≤ r) → Known f → ((q : ℕ) → Free r q → g q ≡ f q) → Known g
@@ -115,7 +115,7 @@ module _ (w : World) (harts : ℕ) (m : List ℕ) (places : Places) (scope : Lis
   -- ---- expressions
 
   -- where a value may be left
-  abbrev Target : Bool → ℕ → Type 0
+  abbrev pub Target : Bool → ℕ → Type 0
   Target true r = (r ≡ 14) ⊎ (20 ≤ r)
   Target false r = 20 ≤ r
 
@@ -125,17 +125,17 @@ module _ (w : World) (harts : ℕ) (m : List ℕ) (places : Places) (scope : Lis
     pub one : own.is_leaf ≡ true → own.need ≡ 1
     pub leaves : (r : ℕ) (f : ℕ → ℕ) → Target own.is_leaf r → own.need + r ≤ 32 → Known f → Left (own.code r) f r s.value
 
-  abbrev Loaded : List Point → Type 0
+  abbrev pub Loaded : List Point → Type 0
   Loaded points = AllByRecursion (Loads w places m reads) points
 
-  abbrev Evaluates : Made → Seen → Type 0
+  abbrev pub Evaluates : Made → Seen → Type 0
   Evaluates own s = own.is_word ≡ true → Loaded s.points → Comes own s
 
   either : (is_leaf : Bool) (r : ℕ) → Target is_leaf r → (r ≡ 14) ⊎ (20 ≤ r)
   either true r t = t
   either false r t = inr t
 
-  stacked : (is_leaf : Bool) (r : ℕ) → 20 ≤ r → Target is_leaf r
+  pub stacked : (is_leaf : Bool) (r : ℕ) → 20 ≤ r → Target is_leaf r
   stacked true r t = inr t
   stacked false r t = t
 
@@ -265,7 +265,7 @@ module _ (w : World) (harts : ℕ) (m : List ℕ) (places : Places) (scope : Lis
   unfolding linear_value
   linear-below own = modulus-below _
 
-  level : (y : Expr-F (Both Evaluates)) → Evaluates (made_at places scope (left_of Evaluates y)) (seen_at reads values (right_of Evaluates y))
+  pub level : (y : Expr-F (Both Evaluates)) → Evaluates (made_at places scope (left_of Evaluates y)) (seen_at reads values (right_of Evaluates y))
   level (layer.Number n) is loaded = record {
     small = word-below n is;
     some = omega arith;

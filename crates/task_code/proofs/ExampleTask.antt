@@ -23,7 +23,7 @@ use Rattle.loop_ir.proofs.Folds.{at_number, at_linear}
 use Rattle.loop_ir.proofs.Sound.{sound_store}
 use Rattle.loop_ir.proofs.Trees.{run_store}
 use Rattle.lone_hart.specs.Paths.{Stand, end, Path}
-use Rattle.task_code.specs.Code.{Made, leaf, is_linear, linear_code, literal, made, made_at, move, addressed, task_code, restored}
+use Rattle.task_code.specs.Code.{leaf, Deep, deep, deep_at, deep_leaf, is_linear, linear_code, literal, move, addressed, task_code, restored}
 use Rattle.task_code.specs.Evaluation.{IsPlace, ArePlaces}
 use Rattle.task_code.specs.Fitting.{has_room, is_word, fits_task, task_turns}
 use Rattle.task_code.specs.Layout.{func_point, address_of, size_of, IsAt, MayStore, MayLoad, Laid}
@@ -39,25 +39,30 @@ use Rattle.task_code.proofs.ExampleWords.{example_insns, example-spelled}
 abbrev scope : List Counter
 scope = example_counter ∷ []
 
-made-linear : (own : Linear) → made example_places scope (e.Linear own) ≡ leaf (is_linear own) (linear_code scope own)
-unfolding made
-made-linear own = at_linear Made (made_at example_places scope) own
+linear-made : (own : Linear) → deep example_places scope (e.Linear own) ≡ deep_leaf (leaf (is_linear own) (linear_code scope own))
+unfolding deep
+linear-made own = at_linear Deep (deep_at example_places scope) own
 
-made-number : (n : ℕ) → made example_places scope (e.Number n) ≡ leaf (nat_lt n (2 ^ 32)) (λ r. literal r n)
-unfolding made
-made-number n = at_number Made (made_at example_places scope) n
+number-made : (n : ℕ) → deep example_places scope (e.Number n) ≡ deep_leaf (leaf (nat_lt n (2 ^ 32)) (λ r. literal r n))
+unfolding deep
+number-made n = at_number Deep (deep_at example_places scope) n
+
+abbrev sum : ℕ → Deep
+sum n = deep_leaf (leaf (is_linear (counted n)) (linear_code scope (counted n)))
+
+abbrev zero-made : Deep
+zero-made = deep_leaf (leaf (nat_lt 0 (2 ^ 32)) (λ r. literal r 0))
 
 -- of what is made of a store's parts
-by-parts : {A : Type 0} (f : Made → Made → Made → A)
-    → f (made example_places scope example_store.x) (made example_places scope example_store.y) (made example_places scope example_store.value)
-    ≡ f (leaf (is_linear (counted 0)) (linear_code scope (counted 0))) (leaf (nat_lt 0 (2 ^ 32)) (λ r. literal r 0)) (leaf (is_linear (counted 7)) (linear_code scope (counted 7)))
+by-parts : {A : Type 0} (f : Deep → Deep → Deep → A)
+    → f (deep example_places scope example_store.x) (deep example_places scope example_store.y) (deep example_places scope example_store.value) ≡ f (sum 0) zero-made (sum 7)
 by-parts f =
-    ap (λ a. f a (made example_places scope example_store.y) (made example_places scope example_store.value)) (made-linear (counted 0))
-    ∙ ap (λ b. f (leaf (is_linear (counted 0)) (linear_code scope (counted 0))) b (made example_places scope example_store.value)) (made-number 0)
-    ∙ ap (λ c. f (leaf (is_linear (counted 0)) (linear_code scope (counted 0))) (leaf (nat_lt 0 (2 ^ 32)) (λ r. literal r 0)) c) (made-linear (counted 7))
+    ap (λ a. f a (deep example_places scope example_store.y) (deep example_places scope example_store.value)) (linear-made (counted 0))
+    ∙ ap (λ b. f (sum 0) b (deep example_places scope example_store.value)) (number-made 0)
+    ∙ ap (λ c. f (sum 0) zero-made c) (linear-made (counted 7))
 
-abbrev joined : Made → Made → Made → List Insn
-joined a b c = a.code 20 ++ (move 15 20 ++ (b.code 20 ++ (addressed example_place 15 20 ++ (c.code 20 ++ (Save save_ops.Sw 15 20 (pos 0) ∷ [])))))
+abbrev joined : Deep → Deep → Deep → List Insn
+joined a b c = a.code 0 ++ (move 15 20 ++ (b.code 0 ++ (addressed example_place 15 20 ++ (c.code 0 ++ (Save save_ops.Sw 15 20 (pos 0) ∷ [])))))
 
 code-is : task_code example_phase example_places example_ticket ≡ example_insns
 code-is =
@@ -72,7 +77,7 @@ turns-are task =
 fits-is : fits_task example_phase example_places ≡ true
 fits-is =
     ap (λ b. b && is_word 2) (fits-store example_places example_store scope)
-    ∙ by-parts (λ a b c. (has_room a && (has_room b && has_room c)) && is_word 2)
+    ∙ by-parts (λ a b c. (has_room example_places a && (has_room example_places b && has_room example_places c)) && is_word 2)
 
 stands : Stand example_text 65536 (task_code example_phase example_places example_ticket)
 stands = subst (Stand example_text 65536) (sym code-is) (stand-spelled [] example_text [] example_insns (omega arith) example-spelled)
@@ -199,6 +204,12 @@ module _ (task : ℕ) (small : task < 2) where
         let i = is-its task func x y is in
         subst (λ b. IsAt point func x b) i.row_is (subst (λ a. IsAt point func a 0) i.column_is (subst (λ f. IsAt point f task 0) i.func_is
         (of-loaded (λ p. IsAt p 0 task 0) (record { source_is = refl; column_is = refl; row_is = refl }) point.source point.x point.y can)));
+    frame = record {
+      low = λ word l. absurd (omega (arith, l));
+      may_write = λ word l. absurd (omega (arith, l));
+      may_read = λ word l. absurd (omega (arith, l));
+      apart = λ word point l can. absurd (omega (arith, l));
+    };
   }
 
   good : IsSetting (example_setting task)

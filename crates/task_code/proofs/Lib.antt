@@ -1,5 +1,6 @@
 pub mod Addresses
 pub mod Binding
+pub mod Deepening
 pub mod Emission
 pub mod Evaluation
 pub mod ExampleTask
@@ -16,6 +17,7 @@ pub mod Quotients
 pub mod Reaching
 pub mod Seats
 pub mod Spelling
+pub mod Spilling
 pub mod Storing
 pub mod Tracing
 pub mod Unrolled

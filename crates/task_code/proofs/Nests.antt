@@ -1,5 +1,5 @@
 -- Words of parts of a statement, put together, and room for all.
-use Rattle.std.proofs.Common.{◌≡◌, ℕ, ◌+◌, ◌^◌, ◌<◌, ◌≤◌, List, [], ◌∷◌, ◌++◌, length, true, ap, ◌∙◌, sym, subst, arith}
+use Rattle.std.proofs.Common.{◌≡◌, ℕ, ◌^◌, ◌<◌, ◌≤◌, List, [], ◌∷◌, ◌++◌, length, true, ap, ◌∙◌, sym, subst, arith}
 use Rattle.std.specs.Prelude.{nat_le, nat_lt, Option, Some}
 use Rattle.std.proofs.lemmas.Bool.{and_from}
 use Rattle.std.proofs.lemmas.Bool.Decides.{nat_tests}
@@ -12,7 +12,7 @@ use Rattle.loop_ir.specs.declared.statements.Stmt.{Stmt}
 use Rattle.loop_ir.specs.declared.statements.Stmt.TheVariants as s
 use Rattle.loop_ir.specs.declared.statements.Whole.{Whole}
 use Rattle.task_code.specs.declared.places.Places.{Places}
-use Rattle.task_code.specs.Code.{Made, EmitsValue, seat, made, store_code, loop_code, bind_code, stmt_code, task_scope, restored}
+use Rattle.task_code.specs.Code.{Deep, EmitsDeep, deep, frame_words, seat, store_code, loop_code, bind_code, stmt_code, task_scope, restored}
 use Rattle.task_code.specs.Fitting.{is_word, is_word_or_none, has_room, has_seat, fits_store, fits_whole, fits}
 use Rattle.task_code.specs.Tasks.{EmitsStmt, EmitsTask}
 use Rattle.task_code.specs.Words.{Emits}
@@ -25,17 +25,17 @@ word-test n l = grind (arith, nat_tests)
 seat-test : (n : ℕ) → n < 14 → nat_lt n 14 ≡ true
 seat-test n l = grind (arith, nat_tests)
 
-room-test : (n : ℕ) → n ≤ 32 → nat_le n 32 ≡ true
-room-test n l = grind (arith, nat_tests)
+room-test : (n most : ℕ) → n ≤ most → nat_le n most ≡ true
+room-test n most l = grind (arith, nat_tests)
 
-room-of : {old new : List ℕ} (own : Made) → EmitsValue old new own 20 → has_room own ≡ true
-room-of own x = and_from own.is_word (nat_le (own.need + 20) 32) x.is_word (room-test (own.need + 20) x.room)
+room-of : {old new : List ℕ} (places : Places) (own : Deep) → EmitsDeep old new places.frames own 0 → has_room places own ≡ true
+room-of places own x = let r = x.room in and_from own.own.is_word (nat_le own.depth (frame_words places.frames)) x.is_word (room-test own.depth (frame_words places.frames) (omega (arith, r)))
 
-pub store-fits : (places : Places) (scope : List Counter) (store : Store) {a b c d e f : List ℕ} → EmitsValue a b (made places scope store.x) 20 → EmitsValue c d (made places scope store.y) 20
-    → EmitsValue e f (made places scope store.value) 20 → fits_store places scope store ≡ true
+pub store-fits : (places : Places) (scope : List Counter) (store : Store) {a b c d e f : List ℕ} → EmitsDeep a b places.frames (deep places scope store.x) 0 → EmitsDeep c d places.frames (deep places scope store.y) 0
+    → EmitsDeep e f places.frames (deep places scope store.value) 0 → fits_store places scope store ≡ true
 store-fits places scope store x y v =
-    and_from (has_room (made places scope store.x)) _ (room-of (made places scope store.x) x)
-    (and_from (has_room (made places scope store.y)) (has_room (made places scope store.value)) (room-of (made places scope store.y) y) (room-of (made places scope store.value) v))
+    and_from (has_room places (deep places scope store.x)) _ (room-of places (deep places scope store.x) x)
+    (and_from (has_room places (deep places scope store.y)) (has_room places (deep places scope store.value)) (room-of places (deep places scope store.y) y) (room-of places (deep places scope store.value) v))
 
 pub last-fits : (last : Option ℕ) (n : ℕ) → last ≡ Some n → n < 2 ^ 32 → is_word_or_none last ≡ true
 last-fits last n e l = ap is_word_or_none e ∙ word-test n l

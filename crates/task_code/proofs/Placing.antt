@@ -1,7 +1,7 @@
 -- The code of a store does the store.
-use Rattle.std.proofs.Common.{◌≡◌, ℕ, ◌+◌, ◌%◌, ◌^◌, ◌<◌, ◌≤◌, List, [], ◌∷◌, ◌++◌, length, Bool, true, refl, ap, ◌∙◌, sym, subst, arith, inl, inr}
+use Rattle.std.proofs.Common.{◌≡◌, ℕ, ◌+◌, ◌%◌, ◌^◌, ◌<◌, ◌≤◌, List, [], ◌∷◌, ◌++◌, length, true, refl, ap, ◌∙◌, sym, subst, arith, inl, inr}
 use Rattle.std.specs.Prelude.{◌≢◌, nat_le, pos}
-use Rattle.std.specs.List.{AllByRecursion, list_all}
+use Rattle.std.specs.List.{list_all}
 use Rattle.std.proofs.lemmas.Bool.{and_parts}
 use Rattle.std.proofs.lemmas.Bool.Decides.{nat_tests}
 use Rattle.std.proofs.lemmas.List.Folds.{list_all-append}
@@ -11,10 +11,8 @@ use Rattle.rv_insn.specs.declared.operations.AluImmOp.TheVariants as alu_imms
 use Rattle.rv_insn.specs.declared.operations.StoreOp.TheVariants as save_ops
 use Rattle.memory.specs.Access.{Word, put_number}
 use Rattle.hart_core.specs.Alu.{plus}
-use Rattle.halide_pipeline.specs.declared.expressions.Source.{Source}
 use Rattle.halide_pipeline.specs.declared.expressions.Source.TheVariants as sources
 use Rattle.halide_meaning.specs.Pixel.{Planes, reads_of}
-use Rattle.reads.specs.Points.{Point}
 use Rattle.loop_ir.specs.declared.expressions.Counter.{Counter}
 use Rattle.loop_ir.specs.declared.expressions.Expr.{Expr}
 use Rattle.loop_ir.specs.declared.statements.Store.{Store}
@@ -25,28 +23,21 @@ use Rattle.loop_ir.specs.Soundness.{store_loads, is_sound_store}
 use Rattle.lone_hart.specs.Alone.{World}
 use Rattle.lone_hart.specs.Paths.{Path}
 use Rattle.lone_hart.proofs.Jumps as rules
-use Rattle.task_code.specs.Code.{place_of, addressed, made, expr_code, store_code}
+use Rattle.task_code.specs.Code.{place_of, addressed, deep, frame_words, store_code, value_code}
 use Rattle.task_code.specs.Values.{Free}
-use Rattle.task_code.specs.Evaluation.{Knows, Loads}
+use Rattle.task_code.specs.Evaluation.{Knows}
 use Rattle.task_code.specs.Fitting.{has_room, fits_store}
 use Rattle.task_code.specs.Layout.{func_point, address_of}
 use Rattle.task_code.specs.Doing.{Setting, IsSetting, HoldsFuncs}
 use Rattle.task_code.proofs.Values.{Sets, imm-sets}
-use Rattle.task_code.proofs.Evaluation.{expressions-leave, value-small}
+use Rattle.task_code.proofs.Spilling.{deep-goes, deep-small}
 use Rattle.task_code.proofs.Keeping.{Kept, kept-safe, kept-free, knows-still}
 use Rattle.task_code.proofs.Reaching.{addressed-reaches}
 use Rattle.task_code.proofs.Storing.{stored-is, size-stays, bytes-stay, is-touched, words-put, stored-holds, others-stay}
 use Rattle.task_code.proofs.Going.{Hits, no_hits, Does, still, lines-then}
 
--- all that passes a test
-each-passes : {A : Type 0} (P : A → Type 0) (test : A → Bool) (xs : List A) → ((x : A) → test x ≡ true → P x) → list_all test xs ≡ true → AllByRecursion P xs
-each-passes P test [] go is = tt
-each-passes P test (x ∷ xs) go is =
-    let k = and_parts (test x) (list_all test xs) is in
-    (go x k.0, each-passes P test xs go k.1)
-
-room : (n : ℕ) → nat_le n 32 ≡ true → n ≤ 32
-room n t = grind (arith, nat_tests)
+room : (n most : ℕ) → nat_le n most ≡ true → n ≤ most
+room n most t = grind (arith, nat_tests)
 
 pub no-offset : (a : ℕ) → a < 2 ^ 32 → plus a (pos 0) ≡ a
 no-offset a l = let g : (a + 0) % 2 ^ 32 ≡ a = omega (arith, l) in g
@@ -69,32 +60,30 @@ module _ (own : Setting) (good : IsSetting own) where
 
     -- the code of an expression leaves its value
     pub record Valued (e : Expr) (f : ℕ → ℕ) (memory : List ℕ) (funcs : Planes) : Type 0 where
-      pub does : Does own (expr_code own.places scope e 20) (length (expr_code own.places scope e 20)) f memory depth funcs no_hits
+      pub does : Does own (value_code own.places scope e) (length (value_code own.places scope e)) f memory depth funcs no_hits
       pub value_is : does.after 20 ≡ value (reads_of own.inputs funcs) values e
       pub stays : (q : ℕ) → Free 20 q → does.after q ≡ f q
       pub small : value (reads_of own.inputs funcs) values e < 2 ^ 32
 
-    loads-may : (memory : List ℕ) (funcs : Planes) → HoldsFuncs own memory funcs → (point : Point) → own.loaded point ≡ true → Loads w own.places memory (reads_of own.inputs funcs) point
-    loads-may memory funcs holds point is =
-        let may = good.laid.loads point is in
-        record { low = may.low; may = may.may; holds = holds.holds point is; is_word = small point.source point.x point.y may.column may.row }
-      where
-        small : (source : Source) (x y : ℕ) → x < 2 ^ 32 → y < 2 ^ 32 → reads_of own.inputs funcs source x y < 2 ^ 32
-        small (sources.Input k) x y lx ly = good.are_words k x y lx ly
-        small (sources.Func k) x y lx ly = holds.are_words k x y lx ly
-
-    pub evaluated : (e : Expr) (f : ℕ → ℕ) (memory : List ℕ) (funcs : Planes) → has_room (made own.places scope e) ≡ true
+    pub evaluated : (e : Expr) (f : ℕ → ℕ) (memory : List ℕ) (funcs : Planes) → has_room own.places (deep own.places scope e) ≡ true
         → list_all own.loaded (loads (reads_of own.inputs funcs) values e) ≡ true → HoldsFuncs own memory funcs → Known f → Valued e f memory funcs
     evaluated e f memory funcs has may holds knows =
-        let k = and_parts (made own.places scope e).is_word (nat_le ((made own.places scope e).need + 20) 32) has in
-        let reads = reads_of own.inputs funcs in
-        let all = each-passes (Loads w own.places memory reads) own.loaded (loads reads values e) (loads-may memory funcs holds) may in
-        let a = expressions-leave w own.harts memory own.places scope values reads holds.size good.are_places e k.0 all 20 f (omega arith) (room _ k.1) knows in
+        let k = and_parts (deep own.places scope e).own.is_word (nat_le (deep own.places scope e).depth (frame_words own.places.frames)) has in
+        let a = deep-goes own good scope values funcs e k.0 may f memory (room _ _ k.1) holds knows in
         record {
-          does = still own (λ at. at) _ _ a.after holds (λ q kept. a.keeps q (kept-free depth q 20 kept (inr (omega arith)))) (λ at s. a.line at s);
-          value_is = a.value;
-          stays = a.keeps;
-          small = value-small w own.harts memory own.places scope values reads holds.size good.are_places e k.0 all;
+          does = record {
+            after = a.after;
+            left = a.left;
+            path = λ at s. a.line at s;
+            keeps = λ q kept. a.stays q (kept-free depth q 20 kept (inr (omega arith)));
+            holds = a.holds;
+            elsewhere = λ byte other. a.before byte other.frame;
+            are_bytes = a.are_bytes;
+            writes = λ func x y byte at hit of s. absurd hit;
+          };
+          value_is = a.value_is;
+          stays = a.stays;
+          small = deep-small own good scope values funcs e k.0 may memory holds;
         }
 
     -- ---- a store
@@ -156,8 +145,8 @@ module _ (own : Setting) (good : IsSetting own) where
         let y = value reads values store.y in
         let v = value reads values store.value in
         let place = place_of own.places (sources.Func store.func) in
-        let rooms = and_parts (has_room (made own.places scope store.x)) _ fits in
-        let others = and_parts (has_room (made own.places scope store.y)) (has_room (made own.places scope store.value)) rooms.1 in
+        let rooms = and_parts (has_room own.places (deep own.places scope store.x)) _ fits in
+        let others = and_parts (has_room own.places (deep own.places scope store.y)) (has_room own.places (deep own.places scope store.value)) rooms.1 in
         let k = and_parts (own.written store.func x y) (list_all own.loaded (store_loads reads values store)) sound in
         let p = and_parts (list_all own.loaded (loads reads values store.x)) _ (sym (list_all-append own.loaded (loads reads values store.x) (loads reads values store.y ++ loads reads values store.value)) ∙ k.1) in
         let q = and_parts (list_all own.loaded (loads reads values store.y)) (list_all own.loaded (loads reads values store.value)) (sym (list_all-append own.loaded (loads reads values store.y) (loads reads values store.value)) ∙ p.1) in

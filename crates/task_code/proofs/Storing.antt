@@ -67,7 +67,7 @@ is-touched a c low high = elim (cases_eq c a) [
 -- ---- numbers
 
 -- a number that shares no byte with a word that is put stays
-number-other : (p : Pixels) (text memory : List ℕ) (a c v : ℕ) → (c + pixel_bytes p ≤ a) ⊎ (a + 4 ≤ c)
+pub number-other : (p : Pixels) (text memory : List ℕ) (a c v : ℕ) → (c + pixel_bytes p ≤ a) ⊎ (a + 4 ≤ c)
     → number_in text (put_number memory Word a v) (load_size (load_op p)) c ≡ number_in text memory (load_size (load_op p)) c
 number-other pixels.Words text memory a c v o = word-other text memory a v c o
 number-other pixels.Bytes text memory a c v o = ap (λ b. number_of Byte (b ∷ [])) (byte-other text memory a v c (elim o [ inl x ↦ inl (omega (arith, x)) | inr x ↦ inr x ]))
@@ -163,4 +163,4 @@ module _ (w : World) (places : Places) (written : Points) (loaded : Point → Bo
           ∙ sym (put-away points func x y v inputs funcs point.source point.x point.y never)
 
   pub others-stay : (memory : List ℕ) (func x y v byte : ℕ) → written func x y ≡ true → IsElsewhere w places written byte → byte_at w.text (put_number memory Word (spot func x y) v) byte ≡ byte_at w.text memory byte
-  others-stay memory func x y v byte is elsewhere = byte-other w.text memory (spot func x y) v byte (elsewhere func x y is)
+  others-stay memory func x y v byte is elsewhere = byte-other w.text memory (spot func x y) v byte (elsewhere.points func x y is)

@@ -3,7 +3,8 @@
 -- Registers. x10 and x11 are the hart's number and the number of harts. Counters stand in x12, x1 to x9, x17, x18, x19 and x16, in the
 -- order in which their loops begin: the task's own is the first. x20 to x31 are the stack of an expression. x13 and x14 are scratch, and
 -- x15 holds a store's column or address while its other parts are made. Behind a task's last statement x13 to x16 are set anew.
-use Rattle.std.specs.Prelude.{◌≡◌, ◌≤◌, ℕ, ◌+◌, ◌-◌, ◌*◌, ◌/◌, ◌%◌, ◌^◌, ◌==◌, ◌&&◌, Bool, true, false, nat_lt, if◌then◌else◌, List, [], ◌∷◌, ◌++◌, length, ℤ, pos, negsuc, max, slice_index_or, Option, Some, None}
+-- Values of an expression that the stack has no room for wait in the hart's frame, from its first word on.
+use Rattle.std.specs.Prelude.{◌≡◌, ◌≤◌, ℕ, ◌+◌, ◌-◌, ◌*◌, ◌/◌, ◌%◌, ◌^◌, ◌==◌, ◌&&◌, Bool, true, false, nat_le, nat_lt, if◌then◌else◌, List, [], ◌∷◌, ◌++◌, length, ℤ, pos, negsuc, max, slice_index_or, Option, Some, None}
 use Rattle.rv_insn.specs.declared.instructions.Insn.{Insn}
 use Rattle.rv_insn.specs.declared.instructions.Insn.TheVariants.{Lui, Jal, Branch, Load, Store as Save, AluImm, Shift, Alu}
 use Rattle.rv_insn.specs.declared.operations.BranchOp.TheVariants as branches
@@ -262,6 +263,88 @@ pub record EmitsValue (old new : List ℕ) (own : Made) (r : ℕ) : Type 0 where
   pub room : own.need + r ≤ 32
   pub is_word : own.is_word ≡ true
 
+-- ---- values that wait in the hart's frame
+
+-- where frames begin; 0 where there are none
+abbrev pub frames_of : Option ℕ → ℕ
+frames_of None = 0
+frames_of (Some start) = start
+
+-- how many words a frame has
+abbrev pub frame_words : Option ℕ → ℕ
+frame_words None = 0
+frame_words (Some start) = 1024
+
+-- the first scratch register becomes the address of a word of the hart's frame
+abbrev pub framed : ℕ → ℕ → List Insn
+framed frames word =
+    literal scratch (frames + 4 * word)
+    ++ (literal second_scratch 4096 ++ (Alu alus.Mul second_scratch second_scratch 10 ∷ Alu alus.Add scratch scratch second_scratch ∷ []))
+
+-- the first slot is kept in a word of the frame
+abbrev pub spill : ℕ → ℕ → List Insn
+spill frames word = framed frames word ++ (Save stores.Sw scratch bottom (pos 0) ∷ [])
+
+-- r becomes what a word of the frame keeps
+abbrev pub unspill : ℕ → ℕ → ℕ → List Insn
+unspill frames word r = framed frames word ++ (Load loads.Lw r scratch (pos 0) ∷ [])
+
+-- what is made of an expression that may keep values in the frame: what is made of it on the stack alone, how many words of the frame
+-- it takes, and the code that leaves its value in the first slot, with the frame free from a word on
+pub record Deep : Type 0 where
+  pub own : Made
+  pub depth : ℕ
+  pub code : ℕ → List Insn
+
+abbrev pub on_stack : Made → Bool
+on_stack own = nat_le (own.need + bottom) 32
+
+-- the frame serves where the stack has no room
+abbrev pub deep_or : Made → ℕ → (ℕ → List Insn) → Deep
+deep_or own depth code = record {
+  own = own;
+  depth = if on_stack own then 0 else depth;
+  code = λ word. if on_stack own then own.code bottom else code word;
+}
+
+abbrev pub deep_pair : ℕ → Made → Deep → Deep → (ℕ → ℕ → List Insn) → Deep
+deep_pair frames own a b combine = deep_or own (max a.depth (1 + b.depth)) (λ word.
+    a.code word ++ (spill frames word ++ (b.code (word + 1) ++ (move (bottom + 1) bottom ++ (unspill frames word bottom ++ combine bottom (bottom + 1))))))
+
+abbrev pub deep_divided : Made → Deep → ℕ → (ℕ → ℕ → List Insn) → Deep
+deep_divided own a c combine = deep_or own a.depth (λ word. a.code word ++ (literal (bottom + 1) c ++ combine bottom (bottom + 1)))
+
+abbrev pub deep_triple : ℕ → Made → Deep → Deep → Deep → Deep
+deep_triple frames own c a b = deep_or own (max c.depth (max (1 + a.depth) (2 + b.depth))) (λ word.
+    c.code word ++ (spill frames word ++ (a.code (word + 1) ++ (spill frames (word + 1) ++ (b.code (word + 2)
+    ++ (move (bottom + 2) bottom ++ (unspill frames (word + 1) (bottom + 1) ++ (unspill frames word bottom ++ selection bottom (bottom + 1) (bottom + 2)))))))))
+
+abbrev pub deep_leaf : Made → Deep
+deep_leaf own = deep_or own 0 (λ word. own.code bottom)
+
+abbrev pub deep_at : Places → List Counter → Expr-F Deep → Deep
+deep_at places scope (layer.Number n) = deep_leaf (made_at places scope (layer.Number n))
+deep_at places scope (layer.Linear own) = deep_leaf (made_at places scope (layer.Linear own))
+deep_at places scope (layer.Binary o a b) = deep_pair (frames_of places.frames) (made_at places scope (layer.Binary o a.own b.own)) a b (operation o)
+deep_at places scope (layer.Divide a c) = deep_divided (made_at places scope (layer.Divide a.own c)) a c quotient
+deep_at places scope (layer.Remainder a c) = deep_divided (made_at places scope (layer.Remainder a.own c)) a c remainder
+deep_at places scope (layer.Select c a b) = deep_triple (frames_of places.frames) (made_at places scope (layer.Select c.own a.own b.own)) c a b
+deep_at places scope (layer.Load source x y) =
+    deep_pair (frames_of places.frames) (made_at places scope (layer.Load source x.own y.own)) x y (loading (place_of places source))
+
+unfoldable pub deep : Places → List Counter → Expr → Deep
+deep places scope e = fold-Expr Deep (deep_at places scope) e
+
+-- the code that leaves an expression's value in the first slot
+abbrev pub value_code : Places → List Counter → Expr → List Insn
+value_code places scope e = (deep places scope e).code 0
+
+-- words of that code are appended, which takes no word behind the frame
+pub record EmitsDeep (old new : List ℕ) (frames : Option ℕ) (own : Deep) (word : ℕ) : Type 0 where
+  pub emits : Emits old new (own.code word)
+  pub room : own.depth + word ≤ frame_words frames
+  pub is_word : own.own.is_word ≡ true
+
 -- ---- statements
 
 -- so many words forward, or back
@@ -278,9 +361,9 @@ test r n words = literal scratch n ++ (Branch branches.Bltu r scratch (pos 4) �
 -- a pixel is put at the address that is parked: the column is parked while the row is made
 abbrev pub store_code : Places → List Counter → Store → List Insn
 store_code places scope store =
-    expr_code places scope store.x bottom ++ (move parked bottom ++ (expr_code places scope store.y bottom
+    value_code places scope store.x ++ (move parked bottom ++ (value_code places scope store.y
     ++ (addressed (place_of places (sources.Func store.func)) parked bottom
-    ++ (expr_code places scope store.value bottom ++ (Save stores.Sw parked bottom (pos 0) ∷ [])))))
+    ++ (value_code places scope store.value ++ (Save stores.Sw parked bottom (pos 0) ∷ [])))))
 
 -- then the next value's turn comes
 abbrev pub loop_tail : ℕ → ℕ → List Insn

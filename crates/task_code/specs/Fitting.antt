@@ -11,20 +11,20 @@ use Rattle.loop_ir.specs.declared.statements.Whole.{Whole}
 use Rattle.loop_ir.specs.Counters.{Values, with}
 use Rattle.loop_ir.specs.Running.{whole_value, task_values}
 use Rattle.task_code.specs.declared.places.Places.{Places}
-use Rattle.task_code.specs.Code.{seat, bottom, made, Made, store_code, whole_code, restored, task_scope}
+use Rattle.task_code.specs.Code.{seat, Deep, deep, frame_words, store_code, whole_code, restored, task_scope}
 
 -- ---- registers suffice, and numbers are words
 
 abbrev pub is_word : ℕ → Bool
 is_word n = nat_lt n (2 ^ 32)
 
--- the stack has room for what is made of an expression
-abbrev pub has_room : Made → Bool
-has_room own = own.is_word && nat_le (own.need + bottom) 32
+-- the frame has room for what is made of an expression
+abbrev pub has_room : Places → Deep → Bool
+has_room places own = own.own.is_word && nat_le own.depth (frame_words places.frames)
 
 abbrev pub fits_store : Places → List Counter → Store → Bool
 fits_store places scope store =
-    has_room (made places scope store.x) && (has_room (made places scope store.y) && has_room (made places scope store.value))
+    has_room places (deep places scope store.x) && (has_room places (deep places scope store.y) && has_room places (deep places scope store.value))
 
 -- one more counter has a register
 abbrev pub has_seat : List Counter → Bool

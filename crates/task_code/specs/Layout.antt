@@ -1,5 +1,5 @@
 -- Buffers in memory: where the points lie that code may write or load, and what memory holds there. This project's own.
-use Rattle.std.specs.Prelude.{◌≡◌, ◌<◌, ◌≤◌, ◌⊎◌, ℕ, ◌+◌, ◌^◌, Bool, true, List}
+use Rattle.std.specs.Prelude.{◌≡◌, ◌<◌, ◌≤◌, ◌⊎◌, ℕ, ◌+◌, ◌*◌, ◌^◌, Bool, true, List}
 use Rattle.memory.specs.Access.{Size, Word, number_in}
 use Rattle.hart_core.specs.Alu.{load_size}
 use Rattle.halide_pipeline.specs.declared.expressions.Source.TheVariants as sources
@@ -10,7 +10,7 @@ use Rattle.lone_hart.specs.Alone.{World}
 use Rattle.lone_hart.specs.Paths.{Readable, Writable}
 use Rattle.task_code.specs.declared.places.Pixels.TheVariants as pixels
 use Rattle.task_code.specs.declared.places.Places.{Places}
-use Rattle.task_code.specs.Code.{place_of, pixel_bytes, address}
+use Rattle.task_code.specs.Code.{place_of, pixel_bytes, address, frames_of, frame_words}
 use Rattle.task_code.specs.Evaluation.{load_op}
 
 -- ---- one point
@@ -54,6 +54,22 @@ pub record MayLoad (world : World) (places : Places) (point : Point) : Type 0 wh
   pub low : address_of world places point < 2 ^ 32
   pub may : Readable world (size_of places point) (address_of world places point)
 
+-- the address of a word of the hart's frame
+abbrev pub frame_word : World → Places → ℕ → ℕ
+frame_word world places word = frames_of places.frames + 4096 * world.hart + 4 * word
+
+-- the byte is none of a word's at the address
+abbrev pub Misses : ℕ → ℕ → Type 0
+Misses byte address = (byte < address) ⊎ (address + 4 ≤ byte)
+
+-- The hart's frame lies so: no point that may be loaded shares a byte with it.
+pub record IsFrame (world : World) (places : Places) (loaded : Point → Bool) : Type 0 where
+  pub low : (word : ℕ) → word < frame_words places.frames → frame_word world places word < 2 ^ 32
+  pub may_write : (word : ℕ) → word < frame_words places.frames → Writable world Word (frame_word world places word)
+  pub may_read : (word : ℕ) → word < frame_words places.frames → Readable world Word (frame_word world places word)
+  pub apart : (word : ℕ) (point : Point) → word < frame_words places.frames → loaded point ≡ true
+      → (address_of world places point + bytes_of places point ≤ frame_word world places word) ⊎ (frame_word world places word + 4 ≤ address_of world places point)
+
 -- The points that may be written lie so, and those that may be loaded. Where bytes of one that is written and one that is loaded meet,
 -- both are one point.
 pub record Laid (world : World) (places : Places) (written : Points) (loaded : Point → Bool) : Type 0 where
@@ -62,17 +78,21 @@ pub record Laid (world : World) (places : Places) (written : Points) (loaded : P
   pub apart : (func x y : ℕ) (point : Point) → written func x y ≡ true → loaded point ≡ true
       → address_of world places point < address_of world places (func_point func x y) + 4
       → address_of world places (func_point func x y) < address_of world places point + bytes_of places point → IsAt point func x y
+  pub frame : IsFrame world places loaded
 
 -- memory holds, at each point that may be loaded, what reads of it answer
 abbrev pub Holds : World → Places → (Point → Bool) → List ℕ → Reads → Type 0
 Holds world places loaded memory reads =
     (point : Point) → loaded point ≡ true → number_in world.text memory (size_of places point) (address_of world places point) ≡ reads point.source point.x point.y
 
--- the byte belongs to no point that may be written
-abbrev pub IsElsewhere : World → Places → Points → ℕ → Type 0
-IsElsewhere world places written byte =
-    (func x y : ℕ) → written func x y ≡ true
-    → (byte < address_of world places (func_point func x y)) ⊎ (address_of world places (func_point func x y) + 4 ≤ byte)
+-- the byte belongs to no word of the frame from this one on
+abbrev pub IsBefore : World → Places → ℕ → ℕ → Type 0
+IsBefore world places first byte = (word : ℕ) → first ≤ word → word < frame_words places.frames → Misses byte (frame_word world places word)
+
+-- the byte belongs to no point that may be written, and not to the frame
+pub record IsElsewhere (world : World) (places : Places) (written : Points) (byte : ℕ) : Type 0 where
+  pub points : (func x y : ℕ) → written func x y ≡ true → Misses byte (address_of world places (func_point func x y))
+  pub frame : IsBefore world places 0 byte
 
 -- the planes have a word at each point whose coordinates are words
 abbrev pub AreWords : Planes → Type 0

@@ -4,6 +4,7 @@ ghost use Rattle.std.specs.Prelude.{◌≡◌, ℕ, ◌+◌, ◌*◌, ◌-◌, �
 ghost use Rattle.rv_insn.specs.declared.instructions.Insn.TheVariants.{Alu, AluImm, Branch, Jal, Load as Fetch, Lui, Shift, Store as Save};
 ghost use Rattle.rv_insn.specs.declared.operations.AluImmOp.TheVariants.{Addi};
 ghost use Rattle.rv_insn.specs.declared.operations.BranchOp.TheVariants.{Bltu};
+ghost use Rattle.rv_insn.specs.declared.operations.LoadOp.TheVariants.{Lw};
 ghost use Rattle.rv_insn.specs.declared.operations.StoreOp.TheVariants.{Sw};
 ghost use Rattle.task_code.specs.Code.{back, forth, literal, lower, upper};
 ghost use Rattle.task_code.specs.Words.{Emits};
@@ -169,6 +170,26 @@ pub(crate) fn load(code: &mut Vec<u32>, op: LoadOp, r: u8) -> Result<(), AllocEr
             op,
             rd,
             rs1: rd,
+            imm,
+        },
+    )?;
+    Ok(())
+}
+
+/// Appends a load of the word at the address in a register.
+pub(crate) fn load_word(code: &mut Vec<u32>, r: u8, base: u8) -> Result<(), AllocError>
+    requires { (r < 32) × (base < 32) }
+    ensures { OnOk result (Emits code.old.items code.new.items (Fetch Lw r base (pos 0) ∷ [])) }
+{
+    let rd = register(r);
+    let rs1 = register(base);
+    let imm = Imm12::new(0).unwrap();
+    put(
+        code,
+        &Insn::Load {
+            op: LoadOp::Lw,
+            rd,
+            rs1,
             imm,
         },
     )?;

@@ -8,6 +8,7 @@
 #![tactic(auto)]
 
 mod expressions;
+mod frames;
 pub mod instructions;
 pub mod laws;
 mod operations;
@@ -23,8 +24,8 @@ pub enum CodeFault {
     OutOfMemory(AllocError),
     /// The code is longer than a text may be.
     TooLong,
-    /// An expression takes more registers than there are, or a statement stands under more counters. No
-    /// statement of an accepted schedule does.
+    /// An expression takes more registers than there are and more words than a hart's frame has, a divisor
+    /// is 0, or more than 14 counters stand around a statement.
     TooDeep,
 }
 

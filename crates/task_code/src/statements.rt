@@ -8,7 +8,8 @@ ghost use Rattle.task_code.specs.Tasks.{EmitsStmt, EmitsTask};
 ghost use Rattle.task_code.specs.Words.{Emits};
 
 use crate::CodeFault;
-use crate::expressions::{emit_number, emit_value, place_of, seat, seat_in};
+use crate::expressions::{emit_number, place_of, seat, seat_in};
+use crate::frames::emit_deep;
 use crate::instructions::{
     alu, alu_small, branch_below, emit_literal, jump_back, jump_forth, store_word,
 };
@@ -56,12 +57,12 @@ fn emit_store(
 ) -> Result<(), CodeFault>
     ensures { OnOk result (Emits code.old.items code.new.items (spec.store_code places.now scope.now store.now) × (fits_store places.now scope.now store.now ≡ true)) }
 {
-    emit_value(code, places, scope, &store.x, 20)?;
+    emit_deep(code, places, scope, &store.x, 0)?;
     emit_move(code, 15, 20)?;
-    emit_value(code, places, scope, &store.y, 20)?;
+    emit_deep(code, places, scope, &store.y, 0)?;
     let place = place_of(places, Source::Func(store.func));
     emit_addressed(code, &place, 15, 20)?;
-    emit_value(code, places, scope, &store.value, 20)?;
+    emit_deep(code, places, scope, &store.value, 0)?;
     store_word(code, 15, 20)?;
     Ok(())
 }

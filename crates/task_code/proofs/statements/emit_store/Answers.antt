@@ -2,7 +2,7 @@ use Rattle.std.proofs.Common.{[], ◌∷◌, ◌++◌, subst}
 use Rattle.std.specs.Prelude.{pos}
 use Rattle.rv_insn.specs.declared.instructions.Insn.TheVariants.{Store as Save}
 use Rattle.rv_insn.specs.declared.operations.StoreOp.TheVariants.{Sw}
-use Rattle.task_code.specs.Code.{addressed, expr_code, move}
+use Rattle.task_code.specs.Code.{addressed, value_code, move}
 use Rattle.task_code.specs.Words.{Emits}
 use Rattle.task_code.proofs.Nests.{store-fits}
 use Rattle.task_code.proofs.Spelling.{emits_then}
@@ -11,10 +11,10 @@ use Rattle.task_code.proofs.statements.emit_store.Goals as goal
 pub returns : goal.returns
 returns c = (
   subst (λ p. Emits c.args.code.now.items c.store_word.new.code.items
-      (expr_code c.args.places.now c.args.scope.now c.args.store.now.x 20 ++ (move 15 20 ++ (expr_code c.args.places.now c.args.scope.now c.args.store.now.y 20
-      ++ (addressed p 15 20 ++ (expr_code c.args.places.now c.args.scope.now c.args.store.now.value 20 ++ (Save Sw 15 20 (pos 0) ∷ [])))))))
+      (value_code c.args.places.now c.args.scope.now c.args.store.now.x ++ (move 15 20 ++ (value_code c.args.places.now c.args.scope.now c.args.store.now.y
+      ++ (addressed p 15 20 ++ (value_code c.args.places.now c.args.scope.now c.args.store.now.value ++ (Save Sw 15 20 (pos 0) ∷ [])))))))
       c.place_of-place.ensures
-      (emits_then c.in_ok-emit_value.ensures.emits (emits_then c.in_ok-emit_move.ensures (emits_then c.in_ok-emit_value-2.ensures.emits
-      (emits_then c.in_ok-emit_addressed.ensures (emits_then c.in_ok-emit_value-3.ensures.emits c.in_ok-store_word.ensures))))),
-  store-fits c.args.places.now c.args.scope.now c.args.store.now c.in_ok-emit_value.ensures c.in_ok-emit_value-2.ensures c.in_ok-emit_value-3.ensures,
+      (emits_then c.in_ok-emit_deep.ensures.emits (emits_then c.in_ok-emit_move.ensures (emits_then c.in_ok-emit_deep-2.ensures.emits
+      (emits_then c.in_ok-emit_addressed.ensures (emits_then c.in_ok-emit_deep-3.ensures.emits c.in_ok-store_word.ensures))))),
+  store-fits c.args.places.now c.args.scope.now c.args.store.now c.in_ok-emit_deep.ensures c.in_ok-emit_deep-2.ensures c.in_ok-emit_deep-3.ensures,
 )
