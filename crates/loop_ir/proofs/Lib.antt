@@ -1,3 +1,4 @@
+pub mod Depths
 pub mod Folds
 pub mod Loads
 pub mod Points

@@ -1,10 +1,11 @@
 //! Loops around a body.
 
-ghost use Rattle.std.specs.Prelude.{◌≡◌, Bool, List, IfOk};
+ghost use Rattle.std.specs.Prelude.{◌≡◌, ◌+◌, Bool, List, IfOk, length, suc};
 ghost use Rattle.halide_meaning.specs.Pixel.{Planes, Reads};
 ghost use Rattle.reads.specs.Points.{Point};
 ghost use Rattle.loop_ir.specs.Buffers.{Points};
 ghost use Rattle.loop_ir.specs.Counters.{Values, with};
+ghost use Rattle.loop_ir.specs.Depths.{depth};
 ghost use Rattle.loop_ir.specs.Running.{run, turns};
 ghost use Rattle.loop_ir.specs.Soundness.{every, is_sound};
 ghost use Rattle.loop_ir.specs.declared.statements.Stmt.{Stmt};
@@ -45,6 +46,7 @@ fn looped(
         → run points inputs made values funcs ≡ turns count (λ turn. run points inputs body (with counter turn values)) funcs) }
     ensures sound { IfOk result (λ made. (reads : Reads) (written : Points) (loaded : Point → Bool) (values : Values)
         → is_sound reads written loaded made values ≡ every count (λ turn. is_sound reads written loaded body (with counter turn values))) }
+    ensures depth { IfOk result (λ made. depth made ≡ suc (depth body)) }
 {
     let body = Boxed::new(alloc, body)?;
     Ok(Stmt::For(counter, count, kind, body))
@@ -70,6 +72,7 @@ pub fn loop_once(
         ≡ every (counts.counts sizes.now.extents sizes.now.splits own.now.id) (λ turn. is_sound reads written loaded body (with (record { func = func; id = own.now.id }) turn values))) }
     ensures repeats { IfOk result (λ made. (leaf : Stmt) (list : counts.Values → List counts.Values) → Repeats func body leaf list
         → Repeats func made leaf (λ outer. upto (counts.counts sizes.now.extents sizes.now.splits own.now.id) (λ turn. list (counts.with own.now.id turn outer)))) }
+    ensures depth { IfOk result (λ made. depth made ≡ suc (depth body)) }
 {
     let counter = Counter { func, id: own.id };
     let count = extent_of(sizes, own.id);
@@ -91,8 +94,9 @@ pub fn with_loops(
 ) -> Result<Stmt, AllocError>
     requires splits { counts.AreSplits sizes.now.splits }
     requires few { AreFew sizes.now.extents }
-    ensures { IfOk result (λ made. (leaf : Stmt) (list : counts.Values → List counts.Values) → Repeats func body leaf list
+    ensures repeats { IfOk result (λ made. (leaf : Stmt) (list : counts.Values → List counts.Values) → Repeats func body leaf list
         → Repeats func made leaf (nest (counts.counts sizes.now.extents sizes.now.splits) loops.now list)) }
+    ensures depth { IfOk result (λ made. depth made ≡ length loops.now + depth body) }
 {
     match loops {
         [] => Ok(body),

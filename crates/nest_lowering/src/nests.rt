@@ -1,6 +1,7 @@
 //! Bodies under the loops of a stage.
 
-ghost use Rattle.std.specs.Prelude.{◌≡◌, IfOk};
+ghost use Rattle.std.specs.Prelude.{◌≡◌, ◌+◌, IfOk, length};
+ghost use Rattle.loop_ir.specs.Depths.{depth};
 ghost use Rattle.nest_lowering.specs.Nests.{AreFew, Repeats};
 ghost use Rattle.stage_loops.specs.Counts as counts;
 ghost use Rattle.stage_loops.specs.Reach.{wholes};
@@ -28,7 +29,8 @@ pub fn with_nest(
 ) -> Result<Stmt, AllocError>
     requires splits { counts.AreSplits splits.now }
     requires few { AreFew extents }
-    ensures { IfOk result (λ made. Repeats func made body (wholes extents splits.now loops.now)) }
+    ensures repeats { IfOk result (λ made. Repeats func made body (wholes extents splits.now loops.now)) }
+    ensures depth { IfOk result (λ made. depth made ≡ length loops.now + (length splits.now + depth body)) }
 {
     let sizes = LoopSizes::new(alloc, extents, splits)?;
     let inner = with_splits(alloc, func, extents, splits, body)?;

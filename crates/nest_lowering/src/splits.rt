@@ -1,10 +1,11 @@
 //! The values of loops that are split.
 
-ghost use Rattle.std.specs.Prelude.{◌≡◌, Bool, ◌+◌, ◌≤◌, ◌<◌, ◌^◌, List, nat_lt, true, if◌then◌else◌, IfOk};
+ghost use Rattle.std.specs.Prelude.{◌≡◌, Bool, ◌+◌, ◌≤◌, ◌<◌, ◌^◌, List, nat_lt, true, if◌then◌else◌, IfOk, length, suc};
 ghost use Rattle.halide_meaning.specs.Pixel.{Planes, Reads};
 ghost use Rattle.reads.specs.Points.{Point};
 ghost use Rattle.loop_ir.specs.Buffers.{Points};
 ghost use Rattle.loop_ir.specs.Counters.{Values, with};
+ghost use Rattle.loop_ir.specs.Depths.{depth};
 ghost use Rattle.loop_ir.specs.Running.{run, whole_value};
 ghost use Rattle.loop_ir.specs.Soundness.{is_sound};
 ghost use Rattle.loop_ir.specs.declared.statements.Stmt.{Stmt};
@@ -56,6 +57,7 @@ fn bound(
         ≡ (if nat_lt (whole_value whole values) extent then run points inputs body (with counter (whole_value whole values) values) funcs else funcs)) }
     ensures sound { IfOk result (λ made. (reads : Reads) (written : Points) (loaded : Point → Bool) (values : Values) → is_sound reads written loaded made values
         ≡ (if nat_lt (whole_value whole values) extent then is_sound reads written loaded body (with counter (whole_value whole values) values) else true)) }
+    ensures depth { IfOk result (λ made. depth made ≡ suc (depth body)) }
 {
     let body = Boxed::new(alloc, body)?;
     Ok(Stmt::Bind(counter, whole, extent, body))
@@ -72,8 +74,9 @@ fn split_once(
 ) -> Result<Stmt, AllocError>
     requires factor { split.factor ≤ 64 }
     requires few { extent < 2 ^ 25 }
-    ensures { IfOk result (λ made. (before : counts.Values) → before split.of ≡ extent
+    ensures repeats { IfOk result (λ made. (before : counts.Values) → before split.of ≡ extent
         → (leaf : Stmt) (list : counts.Values → List counts.Values) → Repeats func body leaf list → Repeats func made leaf (split_body before place split list)) }
+    ensures depth { IfOk result (λ made. depth made ≡ suc (depth body)) }
 {
     let whole = whole_of(func, place, split, extent);
     let counter = Counter { func, id: split.of };
@@ -106,7 +109,8 @@ pub fn with_splits(
 ) -> Result<Stmt, AllocError>
     requires splits { counts.AreSplits splits.now }
     requires few { AreFew extents }
-    ensures { IfOk result (λ made. (leaf : Stmt) (list : counts.Values → List counts.Values) → Repeats func body leaf list → Repeats func made leaf (over_loops extents splits.now list)) }
+    ensures repeats { IfOk result (λ made. (leaf : Stmt) (list : counts.Values → List counts.Values) → Repeats func body leaf list → Repeats func made leaf (over_loops extents splits.now list)) }
+    ensures depth { IfOk result (λ made. depth made ≡ length splits.now + depth body) }
 {
     match splits {
         [] => Ok(body),

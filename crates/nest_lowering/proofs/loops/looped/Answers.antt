@@ -1,8 +1,10 @@
-use Rattle.std.proofs.Common.{ap, ◌∙◌}
+use Rattle.std.proofs.Common.{suc, ap, ◌∙◌}
 use Rattle.loop_ir.specs.declared.statements.Stmt.{Stmt}
 use Rattle.loop_ir.specs.Counters.{with}
+use Rattle.loop_ir.specs.Depths.{depth}
 use Rattle.loop_ir.specs.Running.{run, turns}
 use Rattle.loop_ir.specs.Soundness.{every, is_sound}
+use Rattle.loop_ir.proofs.Depths.{depth_for}
 use Rattle.loop_ir.proofs.Sound.{sound_for}
 use Rattle.loop_ir.proofs.Trees.{run_for}
 use Rattle.nest_lowering.proofs.loops.looped.Goals as goal
@@ -16,3 +18,6 @@ pub returns-clause-sound : goal.returns-clause-sound
 returns-clause-sound c = λ reads written loaded values.
     sound_for reads written loaded c.args.counter c.args.count c.args.kind c.in_ok-body.body values
     ∙ ap (λ (own : Stmt). every c.args.count (λ turn. is_sound reads written loaded own (with c.args.counter turn values))) c.in_ok-body.ensures
+
+pub returns-clause-depth : goal.returns-clause-depth
+returns-clause-depth c = depth_for c.args.counter c.args.count c.args.kind c.in_ok-body.body ∙ ap (λ (own : Stmt). suc (depth own)) c.in_ok-body.ensures

@@ -1,9 +1,11 @@
-use Rattle.std.proofs.Common.{true, cond, ap, ◌∙◌}
+use Rattle.std.proofs.Common.{suc, true, cond, ap, ◌∙◌}
 use Rattle.std.specs.Prelude.{nat_lt}
 use Rattle.loop_ir.specs.declared.statements.Stmt.{Stmt}
 use Rattle.loop_ir.specs.Counters.{with}
+use Rattle.loop_ir.specs.Depths.{depth}
 use Rattle.loop_ir.specs.Running.{run, whole_value}
 use Rattle.loop_ir.specs.Soundness.{is_sound}
+use Rattle.loop_ir.proofs.Depths.{depth_bind}
 use Rattle.loop_ir.proofs.Sound.{sound_bind}
 use Rattle.loop_ir.proofs.Trees.{run_bind}
 use Rattle.nest_lowering.proofs.splits.bound.Goals as goal
@@ -19,3 +21,6 @@ returns-clause-sound c = λ reads written loaded values.
     let n = whole_value c.args.whole values in
     sound_bind reads written loaded c.args.counter c.args.whole c.args.extent c.in_ok-body.body values
     ∙ ap (λ (own : Stmt). cond (nat_lt n c.args.extent) (is_sound reads written loaded own (with c.args.counter n values)) true) c.in_ok-body.ensures
+
+pub returns-clause-depth : goal.returns-clause-depth
+returns-clause-depth c = depth_bind c.args.counter c.args.whole c.args.extent c.in_ok-body.body ∙ ap (λ (own : Stmt). suc (depth own)) c.in_ok-body.ensures
