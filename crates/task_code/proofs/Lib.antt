@@ -15,6 +15,8 @@ pub mod Numbers
 pub mod Placing
 pub mod Quotients
 pub mod Reaching
+pub mod Rooms
+pub mod Seating
 pub mod Seats
 pub mod Spelling
 pub mod Spilling

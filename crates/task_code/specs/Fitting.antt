@@ -1,7 +1,8 @@
 -- Which statements the registers suffice for, and how many turns their code takes. Neither hangs on what buffers hold.
 -- This project's own.
-use Rattle.std.specs.Prelude.{ℕ, zero, suc, ◌+◌, ◌^◌, Bool, true, ◌&&◌, nat_lt, nat_le, if◌then◌else◌, List, ◌∷◌, length, Option, Some, None}
+use Rattle.std.specs.Prelude.{◌≡◌, ◌≤◌, ◌⊎◌, ℕ, zero, suc, ◌+◌, ◌^◌, Bool, true, ◌&&◌, nat_lt, nat_le, if◌then◌else◌, List, ◌∷◌, length, Option, Some, None}
 use Rattle.loop_ir.specs.declared.expressions.Counter.{Counter}
+use Rattle.loop_ir.specs.declared.expressions.Expr.{Expr}
 use Rattle.loop_ir.specs.declared.statements.Phase.{Phase}
 use Rattle.loop_ir.specs.declared.statements.Store.{Store}
 use Rattle.loop_ir.specs.declared.statements.Stmt.{Stmt, fold-Stmt}
@@ -9,9 +10,10 @@ use Rattle.loop_ir.specs.declared.statements.Stmt.TheOpen.{Stmt-F}
 use Rattle.loop_ir.specs.declared.statements.Stmt.TheOpen as parts
 use Rattle.loop_ir.specs.declared.statements.Whole.{Whole}
 use Rattle.loop_ir.specs.Counters.{Values, with}
+use Rattle.loop_ir.specs.Depths.{task_depth}
 use Rattle.loop_ir.specs.Running.{whole_value, task_values}
 use Rattle.task_code.specs.declared.places.Places.{Places}
-use Rattle.task_code.specs.Code.{seat, Deep, deep, frame_words, store_code, whole_code, restored, task_scope}
+use Rattle.task_code.specs.Code.{seat, Deep, deep, frame_words, made, store_code, whole_code, restored, task_scope}
 
 -- ---- registers suffice, and numbers are words
 
@@ -48,6 +50,28 @@ fits places statement = fold-Stmt (List Counter → Bool) (fits_at places) state
 
 abbrev pub fits_task : Phase → Places → Bool
 fits_task phase places = fits places phase.body (task_scope phase.counter) && is_word phase.tasks
+
+-- ---- what has room
+
+-- An expression has room whose need is at most that of the stack, or at most the words of a frame.
+abbrev pub ExpressionsHaveRoom : Type 0
+ExpressionsHaveRoom = (places : Places) (scope : List Counter) (e : Expr) → (made places scope e).is_word ≡ true
+    → ((made places scope e).need ≤ 12) ⊎ ((made places scope e).need ≤ frame_words places.frames) → has_room places (deep places scope e) ≡ true
+
+-- stores have room and numbers are words, whatever registers counters have
+abbrev pub parts_fit_at : Places → Stmt-F (List Counter → Bool) → List Counter → Bool
+parts_fit_at places (parts.Store store) scope = fits_store places scope store
+parts_fit_at places (parts.Sequence first second) scope = first scope && second scope
+parts_fit_at places (parts.For counter count kind body) scope = is_word count && body (counter ∷ scope)
+parts_fit_at places (parts.Bind counter whole extent body) scope = fits_whole whole && (is_word extent && body (counter ∷ scope))
+
+unfoldable pub parts_fit : Places → Stmt → List Counter → Bool
+parts_fit places statement = fold-Stmt (List Counter → Bool) (parts_fit_at places) statement
+
+-- Counters of a task have registers where no more than 14 stand around a store.
+abbrev pub CountersHaveSeats : Type 0
+CountersHaveSeats = (phase : Phase) (places : Places) → task_depth phase ≤ 14
+    → (parts_fit places phase.body (task_scope phase.counter) && is_word phase.tasks) ≡ true → fits_task phase places ≡ true
 
 -- ---- turns
 

@@ -3,6 +3,7 @@
 ghost use Rattle.task_code.specs.Doing.{StatementsAreDone};
 ghost use Rattle.task_code.specs.Evaluation.{ExpressionsLeave};
 ghost use Rattle.task_code.specs.Example.{ExampleIsDone};
+ghost use Rattle.task_code.specs.Fitting.{CountersHaveSeats, ExpressionsHaveRoom};
 ghost use Rattle.task_code.specs.Tasks.{AppendedWordsStand, TasksAreDone};
 ghost use Rattle.task_code.specs.Values.{LiteralsLeave, OperationsLeave, QuotientsLeave, RemaindersLeave, SelectionsLeave};
 
@@ -30,6 +31,16 @@ pub fn statements_are_done()
 /// The code of a task does the task: from the drawn number to the numbers that the draw looks for.
 pub fn tasks_are_done()
     ensures { TasksAreDone }
+{}
+
+/// An expression has room whose need is at most that of the stack, or at most the words of a frame.
+pub fn expressions_have_room()
+    ensures { ExpressionsHaveRoom }
+{}
+
+/// Counters of a task have registers where no more than 14 stand around a store.
+pub fn counters_have_seats()
+    ensures { CountersHaveSeats }
 {}
 
 /// Words that were appended stand in each text that goes on from there.
