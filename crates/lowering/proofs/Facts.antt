@@ -1,5 +1,5 @@
 -- What is known of a Func that is computed.
-use Rattle.std.proofs.Common.{◌≡◌, ℕ, zero, suc, ◌*◌, ◌^◌, ◌<◌, ◌≤◌, true, List, [], ◌∷◌, Option, Some, None, sym, ap, ◌∙◌, subst, arith}
+use Rattle.std.proofs.Common.{◌≡◌, ℕ, zero, suc, ◌*◌, ◌^◌, ◌<◌, ◌≤◌, true, List, [], ◌∷◌, length, Option, Some, None, sym, ap, ◌∙◌, subst, arith}
 use Rattle.std.specs.Prelude.{◌&&◌, nat_le, slice_get, Ok}
 use Rattle.std.proofs.lemmas.Bool.{and_parts, leb-true}
 use Rattle.std.proofs.Math.Nat.{mul-le-mul}
@@ -76,6 +76,9 @@ module _ (pipeline : Pipeline) (schedule : Schedule) (boxes : Boxes) (place : �
 
   pub staged : IsStageOf func None plan.pure × KeepsRules plan.pure
   staged = (accepted_stages func plan at.standing plan_so (pair_at IsLegal schedule.funcs schedule.standings place plan at.standing accepted.legal at.plan_is at.there.standing) at.there.reached).0
+
+  pub few_loops : length plan.pure.loops ≤ 5
+  few_loops = staged.0.few
 
   pub splits : AreSplits plan.pure.splits
   splits = few_splits func None plan.pure staged.0

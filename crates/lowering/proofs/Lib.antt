@@ -2,6 +2,7 @@ pub mod AnyOrder
 pub mod AtVisit
 pub mod BaseWords
 pub mod Covered
+pub mod Depths
 pub mod Facts
 pub mod Filling
 pub mod Hosts

@@ -38,6 +38,9 @@ module _ (pipeline : Pipeline) (schedule : Schedule) (accepted : IsAccepted pipe
       (accepted_stages func plan standing (pair_at IsPlan pipeline.funcs schedule.funcs place func plan accepted.plans func_is it.plan_is)
       (pair_at IsLegal schedule.funcs schedule.standings place plan standing accepted.legal it.plan_is there.standing) there.reached).1 at update stage it.update_is it.stage_is
 
+  pub few_loops : length stage.loops ≤ 5
+  few_loops = staged.0.few
+
   pub splits : AreSplits stage.splits
   splits = few_splits func (Some update) stage staged.0
 

@@ -3,7 +3,7 @@
 -- At the beginning of each turn of a loop stand the nests of the Funcs that are computed at it, in order of the text. Each fills the Func's
 -- buffer, which begins at the corner of its box in that turn. The loops of the host alone have turns there.
 -- This project's own.
-use Rattle.std.specs.Prelude.{◌≡◌, ◌<◌, ℕ, suc, ◌≤◌, ◌&&◌, Bool, true, List, [], ◌∷◌, ◌++◌, length, Option, Some, None, slice_get, false}
+use Rattle.std.specs.Prelude.{◌≡◌, ◌<◌, ℕ, suc, ◌≤◌, ◌&&◌, Bool, true, List, [], ◌∷◌, ◌++◌, ◌+◌, length, max, Option, Some, None, slice_get, false}
 use Rattle.std.specs.List.{AllByRecursion}
 use Rattle.halide_pipeline.specs.declared.definitions.Func.{Func}
 use Rattle.halide_pipeline.specs.declared.definitions.Update.{Update}
@@ -32,6 +32,7 @@ use Rattle.box_laws.specs.Laws.{LiesIn, pure_points, update_points}
 use Rattle.loop_ir.specs.declared.statements.Stmt.{Stmt}
 use Rattle.loop_ir.specs.Buffers.{Points}
 use Rattle.loop_ir.specs.Counters.{Values, no_values, with}
+use Rattle.loop_ir.specs.Depths.{depth}
 use Rattle.loop_ir.specs.Running.{run, turns}
 use Rattle.loop_ir.specs.Soundness.{every, is_sound}
 use Rattle.nest_lowering.specs.Nests.{loops_of, put_loops, Repeats}
@@ -68,12 +69,17 @@ abbrev pub is_sound_first : Reads → Points → (Point → Bool) → Option Stm
 is_sound_first reads written loaded None values = true
 is_sound_first reads written loaded (Some first) values = is_sound reads written loaded first values
 
+abbrev pub depth_first : Option Stmt → ℕ
+depth_first None = 0
+depth_first (Some first) = depth first
+
 -- A statement does this first, and then another one.
 pub record DoesFirst (found : Option Stmt) (rest made : Stmt) : Type 0 where
   pub runs : (points : Points) (inputs : Planes) (values : Values) (funcs : Planes)
       → run points inputs made values funcs ≡ run points inputs rest values (run_first points inputs found values funcs)
   pub sound : (reads : Reads) (written : Points) (loaded : Point → Bool) (values : Values)
       → is_sound reads written loaded made values ≡ (is_sound_first reads written loaded found values && is_sound reads written loaded rest values)
+  pub depth_is : depth made ≡ max (depth_first found) (depth rest)
 
 -- It does another one in so many turns of a loop.
 pub record DoesTurns (host : ℕ) (id : LoopId) (count : ℕ) (body made : Stmt) : Type 0 where
@@ -81,6 +87,7 @@ pub record DoesTurns (host : ℕ) (id : LoopId) (count : ℕ) (body made : Stmt)
       → run points inputs made values funcs ≡ turns count (λ turn. run points inputs body (with (record { func = host; id = id }) turn values)) funcs
   pub sound : (reads : Reads) (written : Points) (loaded : Point → Bool) (values : Values)
       → is_sound reads written loaded made values ≡ every count (λ turn. is_sound reads written loaded body (with (record { func = host; id = id }) turn values))
+  pub depth_is : depth made ≡ suc (depth body)
 
 module _ (pipeline : Pipeline) (schedule : Schedule) (boxes : Boxes) where
   -- What the pure definition reads of other Funcs, wherever its arguments lie in its box, is answered as by their pixels, while the loops
@@ -158,6 +165,8 @@ module _ (pipeline : Pipeline) (schedule : Schedule) (boxes : Boxes) where
     pub parts : IsComputedAt pipeline schedule boxes (places.At at) place func plan own
     pub does : DoesNests at place func own (length func.updates) made
     pub sound : IsSoundNest at place func own made
+    -- under at most five loops and four values of split ones
+    pub few : depth made ≤ 9
 
   -- There are some exactly if it is computed there.
   abbrev pub IsNestAt : LoopPlace → ℕ → Option Stmt → Type 0
@@ -188,5 +197,6 @@ module _ (pipeline : Pipeline) (schedule : Schedule) (boxes : Boxes) where
     pub leaf : Stmt
     pub inner : Stmt
     pub bound : Repeats host leaf store (wholes extents stage.splits [])
+    pub depth_is : depth leaf ≡ length stage.splits + depth store
     pub looped : HasLoops host (loops.counts extents stage.splits) leaf (inside_of (parallel stage) stage.loops) inner
     pub begun : HasOutermost host (parallel stage) inner body

@@ -8,6 +8,7 @@ ghost use Rattle.stage_loops.specs.Counts.{AreSplits, counts};
 ghost use Rattle.stage_loops.specs.Iterations.{parallel};
 ghost use Rattle.bounds.specs.Boxes.{box_in};
 ghost use Rattle.bounds.specs.Verdict.{inferred};
+ghost use Rattle.loop_ir.specs.Depths.{depth};
 ghost use Rattle.nest_lowering.specs.Nests.{AreFew};
 ghost use Rattle.lowering.specs.HostedFuncs as hosted;
 ghost use Rattle.lowering.specs.Hosting as spec;
@@ -121,8 +122,10 @@ fn with_update(
     requires update { IsUpdateAt schedule.now place of.now.func.now of.now.plan.now of.now.at of.now.update.now of.now.stage.now }
     requires before { spec.DoesNests pipeline.now schedule.now boxes.now at place of.now.func.now of.now.own.now of.now.at before }
     requires sound { spec.IsSoundNest pipeline.now schedule.now boxes.now at place of.now.func.now of.now.own.now before }
+    requires few { depth before ≤ 9 }
     ensures does { IfOk result (spec.DoesNests pipeline.now schedule.now boxes.now at place of.now.func.now of.now.own.now (suc of.now.at)) }
     ensures sound { IfOk result (spec.IsSoundNest pipeline.now schedule.now boxes.now at place of.now.func.now of.now.own.now) }
+    ensures few { IfOk result (λ made. depth made ≤ 9) }
 {
     let plans = schedule.funcs.as_slice();
     let standings = schedule.standings.as_slice();
@@ -157,6 +160,7 @@ fn nests_upto(
     requires count { count ≤ length func.now.updates }
     ensures does { IfOk result (spec.DoesNests pipeline.now schedule.now boxes.now at place func.now own.now count) }
     ensures sound { IfOk result (spec.IsSoundNest pipeline.now schedule.now boxes.now at place func.now own.now) }
+    ensures few { IfOk result (λ made. depth made ≤ 9) }
 {
     let Some(number) = count.checked_sub(1) else {
         let made = pure_nest(alloc, pipeline, schedule, boxes, at, place, func, plan, own)?;

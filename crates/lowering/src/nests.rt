@@ -1,10 +1,11 @@
 //! Nests of stages: stores under their loops.
 
-ghost use Rattle.std.specs.Prelude.{◌≡◌, IfOk, Ok};
+ghost use Rattle.std.specs.Prelude.{◌≡◌, ◌≤◌, IfOk, Ok};
 ghost use Rattle.halide_pipeline.specs.WellFormed.{IsWellFormed};
 ghost use Rattle.schedule.specs.Accepted.{IsAccepted};
 ghost use Rattle.schedule.specs.declared.standings.Place.TheVariants as places;
 ghost use Rattle.bounds.specs.Verdict.{inferred};
+ghost use Rattle.loop_ir.specs.Depths.{depth};
 ghost use Rattle.lowering.specs.Hosting.{DoesNest, IsSoundNest};
 ghost use Rattle.lowering.specs.PurePhases.{IsComputedAt, IsStoreOf};
 
@@ -32,6 +33,7 @@ pub(crate) fn store_of(
 ) -> Result<Stmt, AllocError>
     ensures rules { IsWellFormed pipeline.now }
     ensures stores { IfOk result (λ made. IsStoreOf pipeline.now schedule.now boxes.now placed place func.now own.now made) }
+    ensures depth { IfOk result (λ made. depth made ≡ 0) }
 {
     let funcs = pipeline.funcs();
     let plans = schedule.funcs.as_slice();
@@ -72,6 +74,7 @@ pub fn pure_nest(
     requires parts { IsComputedAt pipeline.now schedule.now boxes.now (places.At at) place func.now plan.now own.now }
     ensures does { IfOk result (λ made. DoesNest pipeline.now schedule.now boxes.now at place func.now own.now 0 made) }
     ensures sound { IfOk result (λ made. IsSoundNest pipeline.now schedule.now boxes.now at place func.now own.now made) }
+    ensures few { IfOk result (λ made. depth made ≤ 9) }
 {
     let placed = Place::At(at);
     let extents = extents_of(own);

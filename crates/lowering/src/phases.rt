@@ -177,7 +177,8 @@ fn lower_first(
 /// of the text; its tasks are the iterations of the stage's parallel loop, or one.
 ///
 /// Done one after the other from buffers of zeros, the tasks of each in any order and whatever private buffers hold
-/// before each, they leave the output's pixels (`specs/Lowered.antt`).
+/// before each, they leave the output's pixels (`specs/Lowered.antt`). No more than 14 counters stand around a store, a
+/// task's own among them.
 ///
 /// # Errors
 ///
@@ -191,6 +192,7 @@ pub fn lower(
     requires accepted { IsAccepted pipeline.now schedule.now }
     requires boxes { inferred pipeline.now schedule.now ≡ Ok boxes.now }
     ensures phases { IfOk result (λ phases. spec.AreLowered pipeline.now schedule.now boxes.now (length pipeline.now.funcs) phases.items) }
+    ensures few { IfOk result (λ phases. spec.HaveFewCounters phases.items) }
     ensures pixels { IfOk result (λ phases. spec.DoPixels pipeline.now schedule.now boxes.now phases.items) }
     ensures output { IfOk result (λ phases. spec.LeaveOutput pipeline.now schedule.now boxes.now phases.items) }
 {

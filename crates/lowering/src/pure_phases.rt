@@ -1,11 +1,12 @@
 //! Phases of pure definitions.
 
-ghost use Rattle.std.specs.Prelude.{◌≡◌, ◌+◌, ◌<◌, ◌^◌, ◌++◌, IfOk, Ok, OnOk, length};
+ghost use Rattle.std.specs.Prelude.{◌≡◌, ◌+◌, ◌<◌, ◌≤◌, ◌^◌, ◌++◌, IfOk, Ok, OnOk, length};
 ghost use Rattle.schedule.specs.Accepted.{IsAccepted};
 ghost use Rattle.stage_loops.specs.Counts.{AreSplits};
 ghost use Rattle.stage_loops.specs.Iterations as iterations;
 ghost use Rattle.bounds.specs.Verdict.{inferred};
 ghost use Rattle.bounds.specs.Views as views;
+ghost use Rattle.loop_ir.specs.Depths.{task_depth};
 ghost use Rattle.lowering.specs.HostedFuncs.{hosted_from};
 ghost use Rattle.lowering.specs.Planes.{owns};
 ghost use Rattle.lowering.specs.PurePhases as spec;
@@ -99,6 +100,7 @@ pub fn pure_phase(
     ensures does { IfOk result (spec.DoesPure pipeline.now schedule.now boxes.now place func.now plan.now own.now) }
     ensures stage { IfOk result (DoesStage pipeline.now schedule.now boxes.now place func.now 0 (owns (views.extents_of own.now) plan.now.pure)) }
     ensures touches { IfOk result (TouchesItsOwn pipeline.now schedule.now boxes.now place (owns (views.extents_of own.now) plan.now.pure)) }
+    ensures few { IfOk result (λ phase. task_depth phase ≤ 14) }
 {
     let stage = &plan.pure;
     let extents = extents_of(own);

@@ -5,6 +5,7 @@ ghost use Rattle.halide_pipeline.specs.Words as word;
 ghost use Rattle.halide_meaning.specs.Pixel.{at_point};
 ghost use Rattle.inlining.specs.Inlining.{flagged};
 ghost use Rattle.loop_ir.specs.Counters.{Values};
+ghost use Rattle.loop_ir.specs.Depths.{depth};
 ghost use Rattle.loop_ir.specs.Expressions.{linear_value};
 ghost use Rattle.expression_lowering.specs.Lowering.{environment};
 ghost use Rattle.lowering.specs.PurePhases.{IsSoundPure, StoresPure, whole_at};
@@ -78,6 +79,7 @@ pub fn pure_store(
 ) -> Result<Stmt, AllocError>
     ensures stores { IfOk result (λ made. StoresPure corners.now (flagged flags.now) funcs.now place corner.now pure.now made) }
     ensures sound { IfOk result (λ made. IsSoundPure corners.now (flagged flags.now) funcs.now place corner.now pure.now made) }
+    ensures depth { IfOk result (λ made. depth made ≡ 0) }
 {
     let arguments = arguments_of(alloc, place, corner)?;
     let value = lowered(alloc, funcs, flags, place, corners, &arguments, pure)?;

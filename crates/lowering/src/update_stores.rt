@@ -8,6 +8,7 @@ ghost use Rattle.inlining.specs.Inlining.{flagged, inlined};
 ghost use Rattle.inlining.specs.Laws.{seen_variable};
 ghost use Rattle.inlining.specs.Values.{values as valuing, seeing};
 ghost use Rattle.loop_ir.specs.Counters.{Values};
+ghost use Rattle.loop_ir.specs.Depths.{depth};
 ghost use Rattle.loop_ir.specs.Expressions.{linear_value, loads, value};
 ghost use Rattle.expression_lowering.specs.Lowering.{environment, place as place_in, placed};
 ghost use Rattle.lowering.specs.Updates as spec;
@@ -111,6 +112,7 @@ pub fn update_store(
     requires { place + 1 < 2 ^ 64 }
     ensures stores { IfOk result (λ made. spec.StoresUpdate corners.now (flagged flags.now) funcs.now place corner.now update.now made) }
     ensures sound { IfOk result (λ made. spec.IsSoundUpdate corners.now (flagged flags.now) funcs.now place corner.now update.now made) }
+    ensures depth { IfOk result (λ made. depth made ≡ 0) }
 {
     let arguments = arguments_of(alloc, place, corner, update)?;
     let column = lowered(

@@ -1,6 +1,6 @@
 //! Phases of updates, and their loops where the Func is computed at a loop.
 
-ghost use Rattle.std.specs.Prelude.{◌≡◌, ◌+◌, ◌<◌, ◌^◌, [], IfOk, Ok, Some, slice_get, suc};
+ghost use Rattle.std.specs.Prelude.{◌≡◌, ◌+◌, ◌<◌, ◌≤◌, ◌^◌, [], IfOk, Ok, Some, length, slice_get, suc};
 ghost use Rattle.halide_meaning.specs.Pixel as meaning;
 ghost use Rattle.schedule.specs.Accepted.{IsAccepted};
 ghost use Rattle.stage_loops.specs.Counts.{AreSplits};
@@ -10,6 +10,7 @@ ghost use Rattle.inlining.specs.Inlining.{flagged};
 ghost use Rattle.weights.specs.Weight.{flags_of};
 ghost use Rattle.bounds.specs.Boxes.{IsBox};
 ghost use Rattle.bounds.specs.Verdict.{inferred};
+ghost use Rattle.loop_ir.specs.Depths.{depth, task_depth};
 ghost use Rattle.nest_lowering.specs.Nests.{AreFew, Repeats};
 ghost use Rattle.lowering.specs.PurePhases as pure;
 ghost use Rattle.lowering.specs.Stages.{DoesStage};
@@ -82,6 +83,7 @@ fn store_at(
     requires { place + 1 < 2 ^ 64 }
     ensures stores { IfOk result (λ made. spec.StoresUpdate corners.now (flagged (flags_of schedule.now.standings)) pipeline.now.funcs place corner.now update.now made) }
     ensures sound { IfOk result (λ made. spec.IsSoundUpdate corners.now (flagged (flags_of schedule.now.standings)) pipeline.now.funcs place corner.now update.now made) }
+    ensures depth { IfOk result (λ made. depth made ≡ 0) }
 {
     let flags = inlined_flags(alloc, schedule.standings.as_slice())?;
     let made = update_store(
@@ -107,7 +109,8 @@ fn root_store(
     update: &Update,
 ) -> Result<Stmt, AllocError>
     requires { place + 1 < 2 ^ 64 }
-    ensures { IfOk result (λ made. spec.IsUpdateStoreOf pipeline.now schedule.now boxes.now place own.now update.now made) }
+    ensures stores { IfOk result (λ made. spec.IsUpdateStoreOf pipeline.now schedule.now boxes.now place own.now update.now made) }
+    ensures depth { IfOk result (λ made. depth made ≡ 0) }
 {
     let plans = schedule.funcs.as_slice();
     let standings = schedule.standings.as_slice();
@@ -135,7 +138,8 @@ fn body_of(
 ) -> Result<Stmt, AllocError>
     requires splits { AreSplits stage.now.splits }
     requires few { AreFew extents }
-    ensures { IfOk result (λ made. Repeats place made store (wholes extents stage.now.splits (pure.inside_of (iterations.parallel stage.now) stage.now.loops))) }
+    ensures repeats { IfOk result (λ made. Repeats place made store (wholes extents stage.now.splits (pure.inside_of (iterations.parallel stage.now) stage.now.loops))) }
+    ensures depth { IfOk result (λ made. depth made ≡ length (pure.inside_of (iterations.parallel stage.now) stage.now.loops) + (length stage.now.splits + depth store)) }
 {
     let splits = stage.splits.as_slice();
     let made = with_nest(alloc, place, extents, splits, inside_parallel(stage), store)?;
@@ -152,7 +156,8 @@ fn nest_of(
 ) -> Result<Stmt, AllocError>
     requires splits { AreSplits stage.now.splits }
     requires few { AreFew extents }
-    ensures { IfOk result (λ made. Repeats place made store (wholes extents stage.now.splits stage.now.loops)) }
+    ensures repeats { IfOk result (λ made. Repeats place made store (wholes extents stage.now.splits stage.now.loops)) }
+    ensures depth { IfOk result (λ made. depth made ≡ length stage.now.loops + (length stage.now.splits + depth store)) }
 {
     let made = with_nest(
         alloc,
@@ -191,6 +196,7 @@ pub fn update_phase(
     ensures bytes { IfOk result (λ phase. phase.bytes ≡ pure.byte_places 0 pipeline.now.inputs) }
     ensures does { IfOk result (DoesStage pipeline.now schedule.now boxes.now place of.now.func.now (suc of.now.at) (spec.owns_update of.now.own.now of.now.update.now of.now.stage.now)) }
     ensures touches { IfOk result (TouchesItsOwn pipeline.now schedule.now boxes.now place (spec.owns_update of.now.own.now of.now.update.now of.now.stage.now)) }
+    ensures few { IfOk result (λ phase. task_depth phase ≤ 14) }
 {
     let bytes = byte_inputs(alloc, pipeline.inputs())?;
     let extents = update_extents(of.own, of.update);
@@ -234,6 +240,7 @@ pub fn update_nest(
     requires corner { slice_get corners.now place ≡ Some corner.now }
     ensures does { IfOk result (spec.DoesUpdate pipeline.now schedule.now boxes.now corners.now place of.now.func.now corner.now of.now.own.now of.now.at of.now.update.now) }
     ensures sound { IfOk result (spec.AreSoundLoops pipeline.now schedule.now boxes.now corners.now place corner.now of.now.own.now of.now.update.now) }
+    ensures few { IfOk result (λ made. depth made ≤ 9) }
 {
     // What every pipeline keeps is known once its parts are read.
     let _funcs = pipeline.funcs();

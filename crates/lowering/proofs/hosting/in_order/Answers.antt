@@ -1,17 +1,23 @@
-use Rattle.std.proofs.Common.{Option, sym, ap, ◌∙◌}
-use Rattle.std.specs.Prelude.{◌&&◌}
+use Rattle.std.proofs.Common.{◌≡◌, ℕ, Option, sym, ap, ◌∙◌, arith}
+use Rattle.std.specs.Prelude.{◌&&◌, max}
 use Rattle.loop_ir.specs.declared.statements.Stmt.{Stmt}
+use Rattle.loop_ir.specs.Depths.{depth}
 use Rattle.loop_ir.specs.Running.{run}
 use Rattle.loop_ir.specs.Soundness.{is_sound}
+use Rattle.loop_ir.proofs.Depths.{depth_sequence}
 use Rattle.loop_ir.proofs.Sound.{sound_sequence}
 use Rattle.loop_ir.proofs.Trees.{run_sequence}
-use Rattle.lowering.specs.Hosting.{run_first, is_sound_first}
+use Rattle.lowering.specs.Hosting.{run_first, is_sound_first, depth_first}
 use Rattle.lowering.proofs.hosting.in_order.Goals as goal
+
+without : (n : ℕ) → n ≡ max 0 n
+without n = omega arith
 
 pub returns-in-None : goal.returns-in-None
 returns-in-None c = record {
   runs = λ points inputs values funcs. ap (λ (o : Option Stmt). run points inputs c.args.rest values (run_first points inputs o values funcs)) (sym c.in-None.is);
   sound = λ reads written loaded values. ap (λ (o : Option Stmt). is_sound_first reads written loaded o values && is_sound reads written loaded c.args.rest values) (sym c.in-None.is);
+  depth_is = without (depth c.args.rest) ∙ ap (λ (o : Option Stmt). max (depth_first o) (depth c.args.rest)) (sym c.in-None.is);
 }
 
 -- src/hosting.rt:161:1
@@ -27,4 +33,8 @@ returns-in_ok-rest-in-Some c = record {
       ∙ ap (λ (s : Stmt). is_sound reads written loaded c.in_ok-first-in-Some.first values && is_sound reads written loaded s values) c.in_ok-rest-in-Some.ensures
       ∙ ap (λ (s : Stmt). is_sound reads written loaded s values && is_sound reads written loaded c.args.rest values) c.in_ok-first-in-Some.ensures
       ∙ ap (λ (o : Option Stmt). is_sound_first reads written loaded o values && is_sound reads written loaded c.args.rest values) (sym c.in-Some.is);
+  depth_is = depth_sequence c.in_ok-first-in-Some.first c.in_ok-rest-in-Some.rest
+      ∙ ap (λ (s : Stmt). max (depth c.in_ok-first-in-Some.first) (depth s)) c.in_ok-rest-in-Some.ensures
+      ∙ ap (λ (s : Stmt). max (depth s) (depth c.args.rest)) c.in_ok-first-in-Some.ensures
+      ∙ ap (λ (o : Option Stmt). max (depth_first o) (depth c.args.rest)) (sym c.in-Some.is);
 }

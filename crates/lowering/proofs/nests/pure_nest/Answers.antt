@@ -1,4 +1,4 @@
-use Rattle.std.proofs.Common.{List, subst, sym}
+use Rattle.std.proofs.Common.{List, length, ap, subst, sym, arith}
 use Rattle.schedule_lines.specs.declared.stages.Loop.{Loop}
 use Rattle.schedule_lines.specs.declared.stages.Split.{Split}
 use Rattle.stage_loops.specs.Counts.{AreSplits}
@@ -7,7 +7,7 @@ use Rattle.schedule.specs.declared.standings.Place.TheVariants as places
 use Rattle.stage_loops.specs.declared.extents.Extents.{Extents}
 use Rattle.stage_loops.specs.Reach.{wholes}
 use Rattle.nest_lowering.specs.Nests.{AreFew, Repeats}
-use Rattle.lowering.proofs.Facts.{is_box, splits, few, hosted_before}
+use Rattle.lowering.proofs.Facts.{is_box, splits, few, few_loops, hosted_before}
 use Rattle.lowering.proofs.Filling.{fills, touches}
 use Rattle.lowering.proofs.nests.pure_nest.Goals as goal
 
@@ -37,7 +37,7 @@ returns-clause-does c =
     c.in_ok-store.store c.in_ok-store.ensures.stores c.in_ok-made.made
     (subst (λ (l : List Loop). Repeats c.args.place c.in_ok-made.made c.in_ok-store.store (wholes (extents_of c.args.own.now) c.args.plan.now.pure.splits l)) c.as_slice-2.ensures
     (subst (λ (l : List Split). Repeats c.args.place c.in_ok-made.made c.in_ok-store.store (wholes (extents_of c.args.own.now) l c.as_slice-2.result.now)) c.as_slice.ensures
-    (subst (λ (e : Extents). Repeats c.args.place c.in_ok-made.made c.in_ok-store.store (wholes e c.as_slice.result.now c.as_slice-2.result.now)) c.extents_of-extents.ensures c.in_ok-made.ensures)))
+    (subst (λ (e : Extents). Repeats c.args.place c.in_ok-made.made c.in_ok-store.store (wholes e c.as_slice.result.now c.as_slice-2.result.now)) c.extents_of-extents.ensures c.in_ok-made.ensures.repeats)))
 
 pub returns-clause-sound : goal.returns-clause-sound
 returns-clause-sound c =
@@ -45,4 +45,15 @@ returns-clause-sound c =
     c.in_ok-store.store c.in_ok-store.ensures.stores c.in_ok-made.made
     (subst (λ (l : List Loop). Repeats c.args.place c.in_ok-made.made c.in_ok-store.store (wholes (extents_of c.args.own.now) c.args.plan.now.pure.splits l)) c.as_slice-2.ensures
     (subst (λ (l : List Split). Repeats c.args.place c.in_ok-made.made c.in_ok-store.store (wholes (extents_of c.args.own.now) l c.as_slice-2.result.now)) c.as_slice.ensures
-    (subst (λ (e : Extents). Repeats c.args.place c.in_ok-made.made c.in_ok-store.store (wholes e c.as_slice.result.now c.as_slice-2.result.now)) c.extents_of-extents.ensures c.in_ok-made.ensures)))
+    (subst (λ (e : Extents). Repeats c.args.place c.in_ok-made.made c.in_ok-store.store (wholes e c.as_slice.result.now c.as_slice-2.result.now)) c.extents_of-extents.ensures c.in_ok-made.ensures.repeats)))
+
+pub returns-clause-few : goal.returns-clause-few
+returns-clause-few c =
+    let hosted = hosted_before c.args.pipeline.now c.args.schedule.now c.requires.accepted c.args.place c.requires.parts.standing c.requires.parts.there c.args.at c.requires.parts.placed_is in
+    let l = few_loops c.args.pipeline.now c.args.schedule.now c.args.boxes.now c.args.place c.args.func.now c.args.plan.now c.args.own.now c.requires.accepted c.requires.boxes (places.At c.args.at) hosted c.requires.parts in
+    let s = (splits c.args.pipeline.now c.args.schedule.now c.args.boxes.now c.args.place c.args.func.now c.args.plan.now c.args.own.now c.requires.accepted c.requires.boxes (places.At c.args.at) hosted c.requires.parts).few in
+    let el = ap (λ (x : List Loop). length x) c.as_slice-2.ensures in
+    let es = ap (λ (x : List Split). length x) c.as_slice.ensures in
+    let d = c.in_ok-made.ensures.depth in
+    let z = c.in_ok-store.ensures.depth in
+    omega (arith, l, s, el, es, d, z)

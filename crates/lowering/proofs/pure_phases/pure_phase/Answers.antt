@@ -1,11 +1,14 @@
-use Rattle.std.proofs.Common.{sym, ap, subst, ◌∙◌}
+use Rattle.std.proofs.Common.{◌≤◌, ◌+◌, Option, sym, ap, subst, ◌∙◌}
 use Rattle.schedule.specs.declared.standings.Place.TheVariants as places
 use Rattle.stage_loops.specs.declared.extents.Extents.{Extents}
 use Rattle.stage_loops.specs.Iterations as iterations
+use Rattle.loop_ir.specs.declared.expressions.Counter.{Counter}
+use Rattle.loop_ir.specs.Depths.{depth, count_of}
 use Rattle.nest_lowering.specs.Nests.{AreFew}
 use Rattle.lowering.specs.HostedFuncs.{hosted_from}
 use Rattle.lowering.specs.Hosting.{IsBody}
-use Rattle.lowering.proofs.Facts.{is_box, splits, few}
+use Rattle.lowering.proofs.Depths.{body_few}
+use Rattle.lowering.proofs.Facts.{is_box, splits, few, few_loops}
 use Rattle.lowering.proofs.PureStage.{does_stage}
 use Rattle.lowering.proofs.SoundTasks.{touches}
 use Rattle.lowering.proofs.Tasks.{does_phase}
@@ -63,3 +66,10 @@ returns-clause-touches c =
     (c.in_ok-tasks.ensures ∙ ap (λ (e : Extents). iterations.iteration_count e c.args.plan.now.pure) c.extents_of-extents.ensures)
     c.task_counter-counter.ensures (c.in_ok-private.ensures ∙ ap (hosted_from c.args.place 0) c.as_slice.ensures)
     (subst (λ (e : Extents). IsBody c.args.pipeline.now c.args.schedule.now c.args.boxes.now c.args.place c.args.plan.now.pure e c.in_ok-store.store c.in_ok-body.body) c.extents_of-extents.ensures c.in_ok-body.ensures)
+
+pub returns-clause-few : goal.returns-clause-few
+returns-clause-few c =
+    subst (λ (o : Option Counter). count_of o + depth c.in_ok-body.body ≤ 14) (sym c.task_counter-counter.ensures)
+    (body_few c.args.pipeline.now c.args.schedule.now c.args.boxes.now c.args.place c.args.plan.now.pure c.extents_of-extents.result c.in_ok-store.store c.in_ok-body.body c.in_ok-body.ensures c.in_ok-store.ensures.depth
+    (few_loops c.args.pipeline.now c.args.schedule.now c.args.boxes.now c.args.place c.args.func.now c.args.plan.now c.args.own.now c.requires.accepted c.requires.boxes places.Root tt c.requires.at)
+    (splits c.args.pipeline.now c.args.schedule.now c.args.boxes.now c.args.place c.args.func.now c.args.plan.now c.args.own.now c.requires.accepted c.requires.boxes places.Root tt c.requires.at).few)

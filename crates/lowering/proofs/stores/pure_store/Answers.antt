@@ -1,4 +1,5 @@
 use Rattle.inlining.specs.Inlining.{flagged}
+use Rattle.loop_ir.proofs.Depths.{depth_store}
 use Rattle.lowering.proofs.Storing.{stores_pure, sound_pure}
 use Rattle.lowering.proofs.stores.pure_store.Goals as goal
 
@@ -13,3 +14,6 @@ pub returns-clause-sound : goal.returns-clause-sound
 returns-clause-sound c =
     sound_pure c.args.corners.now (flagged c.args.flags.now) c.args.funcs.now c.args.place c.args.corner.now c.args.pure.now c.in_ok-x.x c.in_ok-y.y c.in_ok-value.value c.in_ok-arguments.arguments
     c.in_ok-arguments.ensures c.in_ok-x.ensures c.in_ok-y.ensures c.in_ok-value.ensures.loads
+
+pub returns-clause-depth : goal.returns-clause-depth
+returns-clause-depth c = depth_store _

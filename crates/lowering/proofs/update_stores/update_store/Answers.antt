@@ -1,5 +1,6 @@
 use Rattle.std.proofs.Common.{◌≡◌, suc, ◌+◌, arith}
 use Rattle.inlining.specs.Inlining.{flagged}
+use Rattle.loop_ir.proofs.Depths.{depth_store}
 use Rattle.lowering.proofs.UpdateStoring.{stores_update, sound_update}
 use Rattle.lowering.proofs.update_stores.update_store.Goals as goal
 
@@ -17,3 +18,6 @@ returns-clause-sound c =
     sound_update c.args.corners.now (flagged c.args.flags.now) c.args.funcs.now c.args.place c.args.corner.now c.args.update.now c.in_ok-column.column c.in_ok-row.row c.in_ok-x.x c.in_ok-y.y c.in_ok-value.value
     c.in_ok-arguments.arguments (c.args.place + 1) more c.in_ok-arguments.ensures c.in_ok-column.ensures.value c.in_ok-row.ensures.value c.in_ok-x.ensures.value c.in_ok-y.ensures.value
     c.in_ok-column.ensures.loads c.in_ok-row.ensures.loads c.in_ok-value.ensures.loads c.in_ok-x.ensures.loads c.in_ok-y.ensures.loads
+
+pub returns-clause-depth : goal.returns-clause-depth
+returns-clause-depth c = depth_store _

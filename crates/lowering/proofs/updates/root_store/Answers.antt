@@ -9,8 +9,8 @@ use Rattle.lowering.specs.Updates as spec
 use Rattle.lowering.proofs.UpdateFilling.{same_corners}
 use Rattle.lowering.proofs.updates.root_store.Goals as goal
 
-pub returns : goal.returns
-returns c = record {
+pub returns-clause-stores : goal.returns-clause-stores
+returns-clause-stores c = record {
   corners = c.in_ok-corners.corners.items;
   are_corners = same_corners c.args.schedule.now.funcs c.as_slice-plans.result.now c.args.boxes.now.funcs c.as_slice.result.now c.args.schedule.now.standings c.as_slice-standings.result.now c.in_ok-corners.corners.items
       c.as_slice-plans.ensures c.as_slice.ensures.value c.as_slice-standings.ensures c.in_ok-corners.ensures;

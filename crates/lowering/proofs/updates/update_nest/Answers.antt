@@ -1,9 +1,9 @@
-use Rattle.std.proofs.Common.{sym, subst}
+use Rattle.std.proofs.Common.{sym, subst, arith}
 use Rattle.stage_loops.specs.declared.extents.Extents.{Extents}
 use Rattle.stage_loops.specs.Reach.{wholes}
 use Rattle.nest_lowering.specs.Nests.{AreFew, Repeats}
 use Rattle.lowering.proofs.UpdateNests.{does_nest, sound_nest}
-use Rattle.lowering.proofs.UpdateStages.{splits, few, is_box, place_small}
+use Rattle.lowering.proofs.UpdateStages.{splits, few, few_loops, is_box, place_small}
 use Rattle.lowering.proofs.updates.update_nest.Goals as goal
 
 pub store_at-requires : goal.store_at-requires
@@ -29,11 +29,19 @@ pub returns-clause-does : goal.returns-clause-does
 returns-clause-does c =
     does_nest c.args.pipeline.now c.args.schedule.now c.args.boxes.now c.funcs-funcs.ensures.rules c.requires.accepted c.requires.boxes c.args.corners.now c.args.place c.args.of.now.func.now c.args.of.now.plan.now c.args.of.now.own.now
     c.requires.computed c.args.of.now.at c.args.of.now.update.now c.args.of.now.stage.now c.requires.at c.args.corner.now c.requires.corner c.in_ok-store.store c.in_ok-store.ensures.stores c.in_ok-made.made
-    (subst (λ (e : Extents). Repeats c.args.place c.in_ok-made.made c.in_ok-store.store (wholes e c.args.of.now.stage.now.splits c.args.of.now.stage.now.loops)) c.update_extents-extents.ensures c.in_ok-made.ensures)
+    (subst (λ (e : Extents). Repeats c.args.place c.in_ok-made.made c.in_ok-store.store (wholes e c.args.of.now.stage.now.splits c.args.of.now.stage.now.loops)) c.update_extents-extents.ensures c.in_ok-made.ensures.repeats)
 
 pub returns-clause-sound : goal.returns-clause-sound
 returns-clause-sound c =
     sound_nest c.args.pipeline.now c.args.schedule.now c.args.boxes.now c.funcs-funcs.ensures.rules c.requires.accepted c.requires.boxes c.args.corners.now c.args.place c.args.of.now.func.now c.args.of.now.plan.now c.args.of.now.own.now
     c.requires.computed c.args.of.now.at c.args.of.now.update.now c.args.of.now.stage.now c.requires.at c.args.corner.now c.requires.corner c.in_ok-store.store c.in_ok-store.ensures.stores c.in_ok-made.made
-    (subst (λ (e : Extents). Repeats c.args.place c.in_ok-made.made c.in_ok-store.store (wholes e c.args.of.now.stage.now.splits c.args.of.now.stage.now.loops)) c.update_extents-extents.ensures c.in_ok-made.ensures)
+    (subst (λ (e : Extents). Repeats c.args.place c.in_ok-made.made c.in_ok-store.store (wholes e c.args.of.now.stage.now.splits c.args.of.now.stage.now.loops)) c.update_extents-extents.ensures c.in_ok-made.ensures.repeats)
     c.in_ok-store.ensures.sound
+
+pub returns-clause-few : goal.returns-clause-few
+returns-clause-few c =
+    let l = few_loops c.args.pipeline.now c.args.schedule.now c.requires.accepted c.args.place c.args.of.now.func.now c.args.of.now.plan.now c.requires.computed.standing c.requires.computed.func_is c.requires.computed.there c.args.of.now.at c.args.of.now.update.now c.args.of.now.stage.now c.requires.at in
+    let s = (splits c.args.pipeline.now c.args.schedule.now c.requires.accepted c.args.place c.args.of.now.func.now c.args.of.now.plan.now c.requires.computed.standing c.requires.computed.func_is c.requires.computed.there c.args.of.now.at c.args.of.now.update.now c.args.of.now.stage.now c.requires.at).few in
+    let d = c.in_ok-made.ensures.depth in
+    let z = c.in_ok-store.ensures.depth in
+    omega (arith, l, s, d, z)

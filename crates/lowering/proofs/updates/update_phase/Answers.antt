@@ -1,13 +1,16 @@
-use Rattle.std.proofs.Common.{sym, ap, subst, ◌∙◌}
+use Rattle.std.proofs.Common.{length, ◌≤◌, ◌+◌, Option, sym, ap, subst, ◌∙◌}
 use Rattle.schedule.specs.declared.standings.Place.{Place}
 use Rattle.stage_loops.specs.declared.extents.Extents.{Extents}
 use Rattle.stage_loops.specs.Iterations as iterations
 use Rattle.stage_loops.specs.Reach.{wholes}
 use Rattle.box_laws.specs.Laws.{IsComputed}
+use Rattle.loop_ir.specs.declared.expressions.Counter.{Counter}
+use Rattle.loop_ir.specs.Depths.{depth, count_of}
 use Rattle.nest_lowering.specs.Nests.{AreFew, Repeats}
 use Rattle.lowering.specs.PurePhases as pure
 use Rattle.lowering.proofs.RootFacts.{is_box}
-use Rattle.lowering.proofs.UpdateStages.{splits, few, place_small}
+use Rattle.lowering.proofs.Depths.{update_few}
+use Rattle.lowering.proofs.UpdateStages.{splits, few, few_loops, place_small}
 use Rattle.lowering.proofs.SoundHosts.{dark, dark_words}
 use Rattle.lowering.proofs.UpdateTasks.{does_update, touches}
 use Rattle.lowering.proofs.updates.update_phase.Goals as goal
@@ -48,19 +51,26 @@ returns-clause-tasks c = c.in_ok-tasks.ensures ∙ ap (λ (e : Extents). iterati
 pub returns-clause-does : goal.returns-clause-does
 returns-clause-does c = λ inputs begun.
     does_update c.args.pipeline.now c.args.schedule.now c.args.boxes.now c.inputs.ensures.rules c.requires.accepted c.requires.boxes c.args.place c.args.of.now.func.now c.args.of.now.plan.now c.args.of.now.own.now c.requires.root
-    c.args.of.now.at c.args.of.now.update.now c.args.of.now.stage.now c.requires.at c.in_ok-store.store c.in_ok-store.ensures
+    c.args.of.now.at c.args.of.now.update.now c.args.of.now.stage.now c.requires.at c.in_ok-store.store c.in_ok-store.ensures.stores
     (record { tasks = c.in_ok-tasks.tasks; counter = c.task_counter-counter.result; body = c.in_ok-body.body; private = c.new-private.result; bytes = c.in_ok-bytes.bytes })
     (c.in_ok-tasks.ensures ∙ ap (λ (e : Extents). iterations.iteration_count e c.args.of.now.stage.now) c.update_extents-extents.ensures)
     c.task_counter-counter.ensures
-    (subst (λ (e : Extents). Repeats c.args.place c.in_ok-body.body c.in_ok-store.store (wholes e c.args.of.now.stage.now.splits (pure.inside_of (iterations.parallel c.args.of.now.stage.now) c.args.of.now.stage.now.loops))) c.update_extents-extents.ensures c.in_ok-body.ensures)
+    (subst (λ (e : Extents). Repeats c.args.place c.in_ok-body.body c.in_ok-store.store (wholes e c.args.of.now.stage.now.splits (pure.inside_of (iterations.parallel c.args.of.now.stage.now) c.args.of.now.stage.now.loops))) c.update_extents-extents.ensures c.in_ok-body.ensures.repeats)
     inputs begun
 
 pub returns-clause-touches : goal.returns-clause-touches
 returns-clause-touches c =
     touches c.args.pipeline.now c.args.schedule.now c.args.boxes.now c.inputs.ensures.rules c.requires.accepted c.requires.boxes c.args.place c.args.of.now.func.now c.args.of.now.plan.now c.args.of.now.own.now c.requires.root
-    c.args.of.now.at c.args.of.now.update.now c.args.of.now.stage.now c.requires.at c.in_ok-store.store c.in_ok-store.ensures
+    c.args.of.now.at c.args.of.now.update.now c.args.of.now.stage.now c.requires.at c.in_ok-store.store c.in_ok-store.ensures.stores
     (record { tasks = c.in_ok-tasks.tasks; counter = c.task_counter-counter.result; body = c.in_ok-body.body; private = c.new-private.result; bytes = c.in_ok-bytes.bytes })
     (c.in_ok-tasks.ensures ∙ ap (λ (e : Extents). iterations.iteration_count e c.args.of.now.stage.now) c.update_extents-extents.ensures)
     c.task_counter-counter.ensures
-    (subst (λ (e : Extents). Repeats c.args.place c.in_ok-body.body c.in_ok-store.store (wholes e c.args.of.now.stage.now.splits (pure.inside_of (iterations.parallel c.args.of.now.stage.now) c.args.of.now.stage.now.loops))) c.update_extents-extents.ensures c.in_ok-body.ensures)
+    (subst (λ (e : Extents). Repeats c.args.place c.in_ok-body.body c.in_ok-store.store (wholes e c.args.of.now.stage.now.splits (pure.inside_of (iterations.parallel c.args.of.now.stage.now) c.args.of.now.stage.now.loops))) c.update_extents-extents.ensures c.in_ok-body.ensures.repeats)
     dark (dark_words c.args.pipeline.now) c.new-private.ensures
+
+pub returns-clause-few : goal.returns-clause-few
+returns-clause-few c =
+    subst (λ (o : Option Counter). count_of o + depth c.in_ok-body.body ≤ 14) (sym c.task_counter-counter.ensures)
+    (update_few c.args.place (iterations.parallel c.args.of.now.stage.now) c.args.of.now.stage.now.loops (length c.args.of.now.stage.now.splits) (depth c.in_ok-store.store) (depth c.in_ok-body.body)
+    (few_loops c.args.pipeline.now c.args.schedule.now c.requires.accepted c.args.place c.args.of.now.func.now c.args.of.now.plan.now c.requires.root.standing c.requires.root.func_is c.requires.root.there c.args.of.now.at c.args.of.now.update.now c.args.of.now.stage.now c.requires.at)
+    (splits c.args.pipeline.now c.args.schedule.now c.requires.accepted c.args.place c.args.of.now.func.now c.args.of.now.plan.now c.requires.root.standing c.requires.root.func_is c.requires.root.there c.args.of.now.at c.args.of.now.update.now c.args.of.now.stage.now c.requires.at).few c.in_ok-store.ensures.depth c.in_ok-body.ensures.depth)

@@ -1,0 +1,91 @@
+-- How many counters stand around the stores of nests and hosts.
+use Rattle.std.proofs.Common.{◌≡◌, ℕ, suc, ◌+◌, ◌-◌, ◌≤◌, List, [], ◌∷◌, ◌++◌, length, Option, Some, None, ap, arith, length-append, length-take}
+use Rattle.std.specs.Prelude.{max}
+use Rattle.halide_pipeline.specs.declared.definitions.Func.{Func}
+use Rattle.halide_pipeline.specs.Pipelines.{Pipeline}
+use Rattle.schedule_lines.specs.declared.stages.Loop.{Loop}
+use Rattle.schedule_lines.specs.declared.stages.Stage.{Stage}
+use Rattle.schedule.specs.declared.plans.FuncPlan.{FuncPlan}
+use Rattle.schedule.specs.declared.schedules.Schedule.{Schedule}
+use Rattle.schedule.specs.declared.standings.LoopPlace.{LoopPlace}
+use Rattle.stage_loops.specs.declared.extents.Extents.{Extents}
+use Rattle.stage_loops.specs.Counts as loops
+use Rattle.stage_loops.specs.Iterations.{parallel}
+use Rattle.bounds.specs.declared.boxes.SourceBox.{SourceBox}
+use Rattle.bounds.specs.declared.verdict.Boxes.{Boxes}
+use Rattle.loop_ir.specs.declared.statements.Phase.{Phase}
+use Rattle.loop_ir.specs.declared.statements.Stmt.{Stmt}
+use Rattle.loop_ir.specs.Depths.{depth, count_of, task_depth}
+use Rattle.lowering.specs.Hosting.{IsNestAt, HasNests, None_left, One_more, HasLoops, No_loops, One_outside, HasOutermost, IsBody, depth_first}
+use Rattle.lowering.specs.Lowered as lowered
+use Rattle.lowering.specs.PurePhases.{inside_of, counter_of}
+
+-- loops inside a parallel one, with its own counter, are no more than all
+inside_few : (host : ℕ) (own : Option Loop) (all : List Loop) → length all ≤ 5 → count_of (counter_of host own) + length (inside_of own all) ≤ 5
+inside_few host None all few = omega (arith, few)
+inside_few host (Some own) all few = let e = length-take (length all - 1) all in omega (arith, few, e)
+
+pub update_few : (host : ℕ) (own : Option Loop) (all : List Loop) (splits inner body : ℕ) → length all ≤ 5 → splits ≤ 4 → inner ≡ 0 → body ≡ length (inside_of own all) + (splits + inner)
+    → count_of (counter_of host own) + body ≤ 14
+update_few host own all splits inner body few few_splits none is = let l = inside_few host own all few in omega (arith, l, few_splits, none, is)
+
+module _ (pipeline : Pipeline) (schedule : Schedule) (boxes : Boxes) where
+  found_few : (at : LoopPlace) (place : ℕ) (found : Option Stmt) → IsNestAt pipeline schedule boxes at place found → depth_first found ≤ 9
+  found_few at place None is = omega arith
+  found_few at place (Some made) is = is.few
+
+  nests_few : (at : LoopPlace) (from : ℕ) (inside made : Stmt) → HasNests pipeline schedule boxes at from inside made → depth made ≤ max 9 (depth inside)
+  nests_few at _ inside _ (None_left from _ past) = omega arith
+  nests_few at _ _ _ (One_more from found inside rest made is others first) =
+      let e = first.depth_is in
+      let f = found_few at from found is in
+      let r = nests_few at (suc from) inside rest others in
+      omega (arith, e, f, r)
+
+  loops_few : (host : ℕ) (counts : loops.Values) (leaf : Stmt) (own : List Loop) (made : Stmt) → HasLoops pipeline schedule boxes host counts leaf own made
+      → depth made ≤ length own + max 9 (depth leaf)
+  loops_few host counts leaf _ _ No_loops = omega arith
+  loops_few host counts leaf _ _ (One_outside inside own inner body made has nests does) =
+      let e = does.depth_is in
+      let n = nests_few (record { func = host; inside = own.id }) 0 inner body nests in
+      let i = loops_few host counts leaf inside inner has in
+      let l = length-append inside (own ∷ []) in
+      omega (arith, e, n, i, l)
+
+  outermost_few : (host : ℕ) (own : Option Loop) (inner body : Stmt) → HasOutermost pipeline schedule boxes host own inner body → depth body ≤ max 9 (depth inner)
+  outermost_few host None inner body same = omega (arith, ap depth same)
+  outermost_few host (Some own) inner body nests = nests_few (record { func = host; inside = own.id }) 0 inner body nests
+
+  pub body_few : (host : ℕ) (stage : Stage) (extents : Extents) (store body : Stmt) → IsBody pipeline schedule boxes host stage extents store body → depth store ≡ 0
+      → length stage.loops ≤ 5 → length stage.splits ≤ 4 → count_of (counter_of host (parallel stage)) + depth body ≤ 14
+  body_few host stage extents store body is none few few_splits =
+      let e = is.depth_is in
+      let i = loops_few host (loops.counts extents stage.splits) is.leaf (inside_of (parallel stage) stage.loops) is.inner is.looped in
+      let o = outermost_few host (parallel stage) is.inner body is.begun in
+      let l = inside_few host (parallel stage) stage.loops few in
+      omega (arith, e, none, few_splits, i, o, l)
+
+  -- ---- phases
+
+  abbrev Few : List Phase → Type 0
+  Few phases = lowered.HaveFewCounters phases
+
+  one_behind : (phases : List Phase) (phase : Phase) → Few phases → task_depth phase ≤ 14 → Few (phases ++ phase ∷ [])
+  one_behind [] phase few own = (own, tt)
+  one_behind (first ∷ phases) phase few own = (few.0, one_behind phases phase few.1 own)
+
+  stage_few : (place : ℕ) (func : Func) (plan : FuncPlan) (own : SourceBox) (number : ℕ) (phase : Phase) → lowered.IsStagePhase pipeline schedule boxes place func plan own number phase → task_depth phase ≤ 14
+  stage_few place func plan own _ _ (lowered.Pure phase tasks private_is bytes does touches few) = few
+  stage_few place func plan own _ _ (lowered.Updating at update stage phase it tasks private_is bytes does touches few) = few
+
+  stages_few : (place : ℕ) (func : Func) (plan : FuncPlan) (own : SourceBox) (others phases : List Phase) (number : ℕ)
+      → lowered.ArePhasesOf pipeline schedule boxes place func plan own others number phases → Few others → Few phases
+  stages_few place func plan own others _ _ lowered.None_yet few = few
+  stages_few place func plan own others _ _ (lowered.One_more number phases phase rest one) few =
+      one_behind phases phase (stages_few place func plan own others phases number rest few) (stage_few place func plan own number phase one)
+
+  pub phases_few : (count : ℕ) (phases : List Phase) → lowered.AreLowered pipeline schedule boxes count phases → Few phases
+  phases_few _ _ lowered.No_func = tt
+  phases_few _ _ (lowered.Passed place phases rest none) = phases_few place phases rest
+  phases_few _ _ (lowered.Computed place before phases func plan own rest at stages) =
+      stages_few place func plan own before phases (suc (length func.updates)) stages (phases_few place before rest)
