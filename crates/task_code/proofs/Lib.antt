@@ -7,6 +7,7 @@ pub mod ExampleTask
 pub mod ExampleWords
 pub mod Finishing
 pub mod Following
+pub mod FrameUses
 pub mod Going
 pub mod Keeping
 pub mod Looping

@@ -1,6 +1,7 @@
 -- Buffers in memory: where the points lie that code may write or load, and what memory holds there. This project's own.
-use Rattle.std.specs.Prelude.{◌≡◌, ◌<◌, ◌≤◌, ◌⊎◌, ℕ, ◌+◌, ◌*◌, ◌^◌, Bool, true, List}
+use Rattle.std.specs.Prelude.{◌≡◌, ◌<◌, ◌≤◌, ◌⊎◌, ℕ, ◌+◌, ◌*◌, ◌%◌, ◌^◌, Bool, true, List}
 use Rattle.memory.specs.Access.{Size, Word, number_in}
+use Rattle.memory.specs.Addresses.{data_start}
 use Rattle.hart_core.specs.Alu.{load_size}
 use Rattle.halide_pipeline.specs.declared.expressions.Source.TheVariants as sources
 use Rattle.halide_meaning.specs.Pixel.{Planes, Reads}
@@ -8,6 +9,7 @@ use Rattle.reads.specs.Points.{Point}
 use Rattle.loop_ir.specs.Buffers.{Points}
 use Rattle.lone_hart.specs.Alone.{World}
 use Rattle.lone_hart.specs.Paths.{Readable, Writable}
+use Rattle.lone_hart.specs.Uses.{Private, Task}
 use Rattle.task_code.specs.declared.places.Pixels.TheVariants as pixels
 use Rattle.task_code.specs.declared.places.Places.{Places}
 use Rattle.task_code.specs.Code.{place_of, pixel_bytes, address, frames_of, frame_words}
@@ -69,6 +71,26 @@ pub record IsFrame (world : World) (places : Places) (loaded : Point → Bool) :
   pub may_read : (word : ℕ) → word < frame_words places.frames → Readable world Word (frame_word world places word)
   pub apart : (word : ℕ) (point : Point) → word < frame_words places.frames → loaded point ≡ true
       → (address_of world places point + bytes_of places point ≤ frame_word world places word) ⊎ (frame_word world places word + 4 ≤ address_of world places point)
+
+-- the address of the hart's frame
+abbrev pub frame_start : World → Places → ℕ
+frame_start world places = frames_of places.frames + 4096 * world.hart
+
+-- A task runs, and the hart's frame lies in the data, is the hart's own, and has no point that may be loaded.
+pub record OwnsFrame (world : World) (places : Places) (loaded : Point → Bool) : Type 0 where
+  pub task : ℕ
+  pub job_is : world.job ≡ Task task
+  pub aligned : frame_start world places % 4 ≡ 0
+  pub above : data_start ≤ frame_start world places
+  pub below : frame_start world places + 4096 ≤ data_start + world.size
+  pub low : data_start + world.size ≤ 2 ^ 32
+  pub uses : (byte : ℕ) → frame_start world places ≤ byte → byte < frame_start world places + 4096 → world.uses byte ≡ Private world.hart
+  pub apart : (point : Point) → loaded point ≡ true
+      → (address_of world places point + bytes_of places point ≤ frame_start world places) ⊎ (frame_start world places + 4096 ≤ address_of world places point)
+
+-- Where there are frames and the hart has such a one, it lies so.
+abbrev pub FramesLie : Type 0
+FramesLie = (world : World) (places : Places) (loaded : Point → Bool) → (0 < frame_words places.frames → OwnsFrame world places loaded) → IsFrame world places loaded
 
 -- The points that may be written lie so, and those that may be loaded. Where bytes of one that is written and one that is loaded meet,
 -- both are one point.

@@ -4,6 +4,7 @@ ghost use Rattle.task_code.specs.Doing.{StatementsAreDone};
 ghost use Rattle.task_code.specs.Evaluation.{ExpressionsLeave};
 ghost use Rattle.task_code.specs.Example.{ExampleIsDone};
 ghost use Rattle.task_code.specs.Fitting.{CountersHaveSeats, ExpressionsHaveRoom};
+ghost use Rattle.task_code.specs.Layout.{FramesLie};
 ghost use Rattle.task_code.specs.Tasks.{AppendedWordsStand, TasksAreDone};
 ghost use Rattle.task_code.specs.Values.{LiteralsLeave, OperationsLeave, QuotientsLeave, RemaindersLeave, SelectionsLeave};
 
@@ -31,6 +32,11 @@ pub fn statements_are_done()
 /// The code of a task does the task: from the drawn number to the numbers that the draw looks for.
 pub fn tasks_are_done()
     ensures { TasksAreDone }
+{}
+
+/// A frame in the data that its hart alone uses, and in which no point lies that may be loaded, may be written and read.
+pub fn frames_lie()
+    ensures { FramesLie }
 {}
 
 /// An expression has room whose need is at most that of the stack, or at most the words of a frame.

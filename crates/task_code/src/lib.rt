@@ -24,8 +24,8 @@ pub enum CodeFault {
     OutOfMemory(AllocError),
     /// The code is longer than a text may be.
     TooLong,
-    /// An expression takes more registers than there are and more words than a hart's frame has, a divisor
-    /// is 0, or more than 14 counters stand around a statement.
+    /// An expression takes more registers than there are and more words than a hart's frame has, frames lie
+    /// in the last 64 KiB of addresses, a divisor is 0, or more than 14 counters stand around a statement.
     TooDeep,
 }
 
