@@ -1,0 +1,39 @@
+-- The words of a program: its phases one behind the other, each around the code of its tasks.
+-- This project's own.
+use Rattle.std.specs.Prelude.{◌≡◌, ◌≤◌, ℕ, suc, true, List, [], ◌∷◌, length}
+use Rattle.std.specs.List.{AllByRecursion}
+use Rattle.memory.specs.Addresses.{most_words, text_start}
+use Rattle.lone_hart.specs.Paths.{Stand}
+use Rattle.loop_ir.specs.declared.statements.Phase.{Phase}
+use Rattle.work_sharing.specs.Programs.{ticket_word}
+use Rattle.task_code.specs.declared.places.Places.{Places}
+use Rattle.task_code.specs.Code.{task_code}
+use Rattle.task_code.specs.Fitting.{fits_task}
+use Rattle.task_code.specs.Words.{Emits}
+use Rattle.phase_code.specs.Code.{Part, program}
+
+-- the phase with this number, where buffers lie so
+abbrev pub part_of : Places → ℕ → Phase → Part
+part_of places number phase = record { tasks = phase.tasks; insns = task_code phase places (ticket_word number) }
+
+-- phases, the first of which has this number
+abbrev pub parts_from : Places → ℕ → List Phase → List Part
+parts_from places number [] = []
+parts_from places number (phase ∷ phases) = part_of places number phase ∷ parts_from places (suc number) phases
+
+-- the registers suffice for each task
+abbrev pub Fits : Places → Phase → Type 0
+Fits places phase = fits_task phase places ≡ true
+
+-- words of the program that these phases make, no more than a text may have
+pub record IsProgram (places : Places) (phases : List Phase) (words : List ℕ) : Type 0 where
+  pub emits : Emits [] words (program 0 (parts_from places 0 phases))
+  pub fit : AllByRecursion (Fits places) phases
+  pub few : length words ≤ most_words
+
+-- ---- laws
+
+-- Such words have the program at the beginning of the text.
+abbrev pub ProgramsStand : Type 0
+ProgramsStand =
+    (places : Places) (phases : List Phase) (words : List ℕ) → IsProgram places phases words → Stand words text_start (program 0 (parts_from places 0 phases))

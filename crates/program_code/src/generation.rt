@@ -1,0 +1,86 @@
+//! The words of phases, one behind the other.
+
+ghost use Rattle.std.specs.Prelude.{◌≡◌, ◌+◌, ◌<◌, ◌≤◌, ◌==◌, OnOk, IfOk, length};
+ghost use Rattle.std.specs.List.{AllByRecursion};
+ghost use Rattle.task_code.specs.Words.{Emits};
+ghost use Rattle.phase_code.specs.Code.{phase_code, program};
+ghost use Rattle.work_sharing.specs.Programs.{ticket_word};
+ghost use Rattle.program_code.specs.Programs as spec;
+
+use loop_ir::statements::Phase;
+use memory::{DATA_START, MOST_WORDS};
+use phase_code::emit_phase;
+use std::alloc::Global;
+use task_code::places::Places;
+use task_code::{CodeFault, emit};
+
+/// A program has at most so many phases: the code around a phase's tasks takes 16 words.
+const MOST_PHASES: usize = MOST_WORDS / 16;
+
+/// The address of a phase's ticket word.
+fn ticket_of(number: u32) -> u32
+    requires { number < 16384 }
+    ensures is { result ≡ ticket_word number }
+    ensures low { result + 4 < 4294967296 }
+{
+    DATA_START + 8 * number
+}
+
+/// Appends the words of the phase with this number.
+fn push_phase(
+    alloc: Global,
+    code: &mut Vec<u32>,
+    places: &Places,
+    number: u32,
+    phase: &Phase,
+    is_last: bool,
+) -> Result<(), CodeFault>
+    requires { number < 16384 }
+    ensures emits { OnOk result (Emits code.old.items code.new.items (phase_code is_last (ticket_word number) (spec.part_of places.now number phase.now))) }
+    ensures fits { OnOk result (spec.Fits places.now phase.now) }
+{
+    let ticket = ticket_of(number);
+    let mut words = Vec::new(alloc);
+    emit(alloc, phase, places, ticket, &mut words)?;
+    emit_phase(code, is_last, ticket, phase.tasks, words.as_slice())?;
+    Ok(())
+}
+
+/// Appends the words of phases, the first of which has this number.
+fn push_phases(
+    alloc: Global,
+    code: &mut Vec<u32>,
+    places: &Places,
+    number: u32,
+    phases: &[Phase],
+) -> Result<(), CodeFault>
+    requires { number + length phases.now ≤ 16384 }
+    ensures emits { OnOk result (Emits code.old.items code.new.items (program number (spec.parts_from places.now number phases.now))) }
+    ensures fit { OnOk result (AllByRecursion (spec.Fits places.now) phases.now) }
+{
+    let [phase, others @ ..] = phases else {
+        return Ok(());
+    };
+    push_phase(alloc, code, places, number, phase, others.is_empty())?;
+    push_phases(alloc, code, places, number + 1, others)?;
+    Ok(())
+}
+
+/// The words of the program that phases make, where buffers lie so.
+///
+/// # Errors
+///
+/// Memory ran out, the program is longer than a text may be, or an expression or a nest of loops has no registers left.
+pub fn generate(alloc: Global, phases: &[Phase], places: &Places) -> Result<Vec<u32>, CodeFault>
+    ensures { IfOk result (λ words. spec.IsProgram places.now phases.now words.items) }
+{
+    if phases.len() > MOST_PHASES {
+        return Err(CodeFault::TooLong);
+    }
+    let mut code = Vec::new(alloc);
+    push_phases(alloc, &mut code, places, 0, phases)?;
+    if code.len() > MOST_WORDS {
+        return Err(CodeFault::TooLong);
+    }
+    Ok(code)
+}
