@@ -1,10 +1,11 @@
 -- Each byte is found where the layout has it.
-use Rattle.std.proofs.Common.{◌≡◌, ℕ, zero, suc, ◌+◌, ◌-◌, ◌*◌, ◌/◌, ◌<◌, ◌≤◌, List, [], ◌∷◌, true, false, Some, None, refl, ap, ◌∙◌, arith}
-use Rattle.std.specs.Prelude.{nat_lt, slice_index}
+use Rattle.std.proofs.Common.{◌≡◌, ℕ, zero, suc, ◌+◌, ◌-◌, ◌*◌, ◌/◌, ◌<◌, ◌≤◌, List, [], ◌∷◌, true, false, Option, Some, None, refl, sym, ap, subst, ◌∙◌, arith, inl, inr}
+use Rattle.std.specs.Prelude.{nat_lt, slice_index, if◌then◌else◌}
+use Rattle.std.proofs.lemmas.Bool.{cases_lt}
 use Rattle.std.proofs.lemmas.Bool.Decides.{nat_tests}
 use Rattle.bounds.specs.Layout.{data_start, placed, total}
-use Rattle.data_parts.specs.Parts.{Sizes, Input, Root, Copies, Frame, further, find, found_or, in_privates, in_roots, in_inputs, in_data, part_at}
-use Rattle.data_parts.specs.Finding.{inputs_at, roots_at, privates_at, frames_at, ControlFound, InputsFound, RootsFound, CopiesFound, FramesFound, PartsEnd, PartsAligned}
+use Rattle.data_parts.specs.Parts.{Sizes, Part, Control, Input, Root, Copies, Frame, Outside, Found, further, find, found_or, in_privates, in_roots, in_inputs, in_data, part_at}
+use Rattle.data_parts.specs.Finding.{inputs_at, roots_at, privates_at, frames_at, ControlFound, InputsFound, RootsFound, CopiesFound, FramesFound, PartsEnd, PartsAligned, LiesAt, RootsLie}
 
 is-lt : (a b : ℕ) → a < b → nat_lt a b ≡ true
 is-lt a b l = grind (arith, nat_tests)
@@ -131,3 +132,108 @@ frames-found s n =
     ∙ from-inputs s (8 * s.phases + (total s.inputs + (total s.roots + (total s.privates + n)))) (total s.inputs + (total s.roots + (total s.privates + n))) refl
     ∙ from-roots s (total s.inputs + (total s.roots + (total s.privates + n))) (total s.roots + (total s.privates + n)) refl
     ∙ from-privates s (total s.roots + (total s.privates + n)) (total s.privates + n) refl ∙ from-frames s (total s.privates + n) n refl
+
+-- ---- and the other way
+
+record LiesIn (start : ℕ) (sizes : List ℕ) (n place offset : ℕ) : Type 0 where
+  below : offset < slice_index sizes place
+  there : start + n ≡ slice_index (placed start sizes) place + offset
+
+abbrev place_or : Option Found → ℕ
+place_or None = 0
+place_or (Some f) = f.place
+
+abbrev offset_or : Option Found → ℕ
+offset_or None = 0
+offset_or (Some f) = f.offset
+
+lies-later : (start size : ℕ) (sizes : List ℕ) (n place offset : ℕ) → size ≤ n → (f : Option Found) → find sizes (n - size) ≡ f → further f ≡ Some (record { place = place; offset = offset })
+    → ((p o : ℕ) → find sizes (n - size) ≡ Some (record { place = p; offset = o }) → LiesIn (start + size) sizes (n - size) p o) → LiesIn start (size ∷ sizes) n place offset
+lies-later start size sizes n place offset b None e q next = absurd (cc q)
+lies-later start size sizes n place offset b (Some f) e q next =
+    let place_is : suc f.place ≡ place = ap place_or q in
+    let offset_is : f.offset ≡ offset = ap offset_or q in
+    let r = next f.place f.offset e in
+    let t = r.there in
+    subst (λ p. LiesIn start (size ∷ sizes) n p offset) place_is
+    (subst (λ o. LiesIn start (size ∷ sizes) n (suc f.place) o) offset_is (record { below = r.below; there = omega (arith, t, b) }))
+
+lies-in : (start : ℕ) (sizes : List ℕ) (n place offset : ℕ) → find sizes n ≡ Some (record { place = place; offset = offset }) → LiesIn start sizes n place offset
+lies-in start [] n place offset e = absurd (cc e)
+lies-in start (size ∷ sizes) n place offset e = elim (cases_lt n size) [
+  | inl b ↦
+      let q : Some (record { place = 0; offset = n }) ≡ Some (record { place = place; offset = offset }) = sym (ap (λ t. if t then Some (record { place = 0; offset = n }) else further (find sizes (n - size))) (is-lt n size b)) ∙ e in
+      let place_is : 0 ≡ place = ap place_or q in
+      let offset_is : n ≡ offset = ap offset_or q in
+      subst (λ p. LiesIn start (size ∷ sizes) n p offset) place_is (subst (λ o. LiesIn start (size ∷ sizes) n 0 o) offset_is (record { below = b; there = refl }))
+  | inr b ↦
+      let q : further (find sizes (n - size)) ≡ Some (record { place = place; offset = offset }) = sym (ap (λ t. if t then Some (record { place = 0; offset = n }) else further (find sizes (n - size))) (no-lt n size b)) ∙ e in
+      lies-later start size sizes n place offset b (find sizes (n - size)) refl q (λ p o. lies-in (start + size) sizes (n - size) p o)
+]
+
+further-none : (f : Option Found) → further f ≡ None → f ≡ None
+further-none None e = refl
+further-none (Some f) e = absurd (cc e)
+
+-- what no part of a list has stands behind the list
+behind : (sizes : List ℕ) (n : ℕ) → find sizes n ≡ None → total sizes ≤ n
+behind [] n e = omega arith
+behind (size ∷ sizes) n e = elim (cases_lt n size) [
+  | inl b ↦
+      let q : Some (record { place = 0; offset = n }) ≡ None = sym (ap (λ t. if t then Some (record { place = 0; offset = n }) else further (find sizes (n - size))) (is-lt n size b)) ∙ e in
+      absurd (cc q)
+  | inr b ↦
+      let q : further (find sizes (n - size)) ≡ None = sym (ap (λ t. if t then Some (record { place = 0; offset = n }) else further (find sizes (n - size))) (no-lt n size b)) ∙ e in
+      let r = behind sizes (n - size) (further-none (find sizes (n - size)) q) in
+      omega (arith, r, b)
+]
+
+abbrev root_place : Part → ℕ
+root_place (Root place offset) = place
+root_place _ = 0
+
+abbrev root_offset : Part → ℕ
+root_offset (Root place offset) = offset
+root_offset _ = 0
+
+module _ (s : Sizes) where
+  no-private : (n place offset : ℕ) (f : Option Found) → found_or Copies f (Frame ((n - total s.privates) / 4096)) ≡ Root place offset → ⊥
+  no-private n place offset None e = cc e
+  no-private n place offset (Some f) e = cc e
+
+  lies-roots : (n place offset : ℕ) (f : Option Found) → find s.roots n ≡ f → found_or Root f (in_privates s (n - total s.roots)) ≡ Root place offset → LiesIn (roots_at s) s.roots n place offset
+  lies-roots n place offset None e q = absurd (no-private (n - total s.roots) place offset (find s.privates (n - total s.roots)) q)
+  lies-roots n place offset (Some f) e q =
+      let place_is : f.place ≡ place = ap root_place q in
+      let offset_is : f.offset ≡ offset = ap root_offset q in
+      subst (λ p. LiesIn (roots_at s) s.roots n p offset) place_is
+      (subst (λ o. LiesIn (roots_at s) s.roots n f.place o) offset_is (lies-in (roots_at s) s.roots n f.place f.offset e))
+
+  lies-inputs : (n place offset : ℕ) (f : Option Found) → find s.inputs n ≡ f → found_or Input f (in_roots s (n - total s.inputs)) ≡ Root place offset
+      → (total s.inputs ≤ n) × LiesIn (roots_at s) s.roots (n - total s.inputs) place offset
+  lies-inputs n place offset None e q = (behind s.inputs n e, lies-roots (n - total s.inputs) place offset (find s.roots (n - total s.inputs)) refl q)
+  lies-inputs n place offset (Some f) e q = absurd (cc q)
+
+  lies-data : (n place offset : ℕ) → in_data s n ≡ Root place offset → LiesAt s (data_start + n) place offset
+  lies-data n place offset e = elim (cases_lt n (8 * s.phases)) [
+    | inl b ↦
+        let q : Control (n / 8) ≡ Root place offset = sym (ap (λ t. if t then Control (n / 8) else in_inputs s (n - 8 * s.phases)) (is-lt n (8 * s.phases) b)) ∙ e in
+        absurd (cc q)
+    | inr b ↦
+        let q : in_inputs s (n - 8 * s.phases) ≡ Root place offset = sym (ap (λ t. if t then Control (n / 8) else in_inputs s (n - 8 * s.phases)) (no-lt n (8 * s.phases) b)) ∙ e in
+        let r = lies-inputs (n - 8 * s.phases) place offset (find s.inputs (n - 8 * s.phases)) refl q in
+        let l = r.0 in
+        let t = r.1.there in
+        record { below = r.1.below; address_is = omega (arith, b, l, t) }
+  ]
+
+pub roots-lie : RootsLie
+roots-lie s a place offset e = elim (cases_lt a data_start) [
+  | inl b ↦
+      let q : Outside ≡ Root place offset = sym (ap (λ t. if t then Outside else in_data s (a - data_start)) (is-lt a data_start b)) ∙ e in
+      absurd (cc q)
+  | inr b ↦
+      let q : in_data s (a - data_start) ≡ Root place offset = sym (ap (λ t. if t then Outside else in_data s (a - data_start)) (no-lt a data_start b)) ∙ e in
+      let back : data_start + (a - data_start) ≡ a = omega (arith, b) in
+      subst (λ n. LiesAt s n place offset) back (lies-data s (a - data_start) place offset q)
+]

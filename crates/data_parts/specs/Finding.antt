@@ -35,6 +35,14 @@ CopiesFound = (sizes : Sizes) (place offset : ℕ) → offset < slice_index size
 abbrev pub FramesFound : Type 0
 FramesFound = (sizes : Sizes) (n : ℕ) → part_at sizes (frames_at sizes + n) ≡ Frame (n / 4096)
 
+-- And the other way: what is found to be a byte of the box of a Func computed at root lies where the layout has it.
+pub record LiesAt (sizes : Sizes) (address place offset : ℕ) : Type 0 where
+  pub below : offset < slice_index sizes.roots place
+  pub address_is : address ≡ slice_index (placed (roots_at sizes) sizes.roots) place + offset
+
+abbrev pub RootsLie : Type 0
+RootsLie = (sizes : Sizes) (address place offset : ℕ) → part_at sizes address ≡ Root place offset → LiesAt sizes address place offset
+
 -- A part of a list ends where the list ends, or before.
 abbrev pub PartsEnd : Type 0
 PartsEnd = (start : ℕ) (sizes : List ℕ) (place : ℕ) → place < length sizes

@@ -6,4 +6,4 @@
 
 pub mod laws;
 
-pub use crate::laws::{parts_are_found, parts_lie_within};
+pub use crate::laws::{parts_are_found, parts_lie_within, roots_lie};
