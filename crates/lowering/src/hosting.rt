@@ -96,7 +96,7 @@ fn is_computed_at(at: LoopPlace, own: &Standing) -> bool
 }
 
 /// The box at a place, if there is one.
-pub(crate) fn box_at(boxes: &[Option<SourceBox>], place: usize) -> Option<&SourceBox>
+pub fn box_at(boxes: &[Option<SourceBox>], place: usize) -> Option<&SourceBox>
     ensures { option_copied result ≡ box_in (slice_get boxes.now place) }
 {
     match boxes.get(place) {

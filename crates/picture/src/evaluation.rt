@@ -66,8 +66,8 @@ fn hold_bytes(inputs: &[Input], pictures: &[Picture]) -> bool
     }
 }
 
-/// Judges the pictures, their count first and their pixels last.
-fn judge(inputs: &[Input], pictures: &[Picture]) -> Option<EvalError>
+/// Why pictures aren't those that inputs ask for, if they aren't: their count is judged first, their pixels last.
+pub fn judge(inputs: &[Input], pictures: &[Picture]) -> Option<EvalError>
     ensures { result ≡ judged inputs.now pictures.now }
 {
     if pictures.len() != inputs.len() {

@@ -23,7 +23,7 @@ mod scenes;
 pub mod spellings;
 mod writes;
 
-pub use crate::evaluation::evaluate;
+pub use crate::evaluation::{evaluate, judge};
 pub use crate::faults::{EvalError, PictureFault};
 pub use crate::pictures::Picture;
 pub use crate::spellings::one_spelling;
