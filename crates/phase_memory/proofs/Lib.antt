@@ -1,2 +1,5 @@
 pub mod Listing
 pub mod There
+pub mod Numbers
+pub mod Laying
+pub mod Holding

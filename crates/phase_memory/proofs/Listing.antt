@@ -1,5 +1,5 @@
 -- What stands at a place of the layout's lists.
-use Rattle.std.proofs.Common.{◌≡◌, ℕ, zero, suc, ◌+◌, ◌-◌, ◌*◌, ◌/◌, ◌%◌, ◌<◌, ◌≤◌, List, [], ◌∷◌, length, map, Option, Some, None, true, false, Bool, refl, ap, ◌∙◌, sym, subst, arith}
+use Rattle.std.proofs.Common.{◌≡◌, ℕ, zero, suc, ◌+◌, ◌*◌, ◌/◌, ◌%◌, ◌<◌, ◌≤◌, List, [], ◌∷◌, length, map, Option, Some, None, true, false, Bool, refl, ap, ◌∙◌, arith}
 use Rattle.std.specs.Prelude.{slice_get, slice_index, slice_index_or, if◌then◌else◌}
 use Rattle.std.specs.List.{AllByRecursion}
 use Rattle.halide_pipeline.specs.declared.definitions.Input.{Input}
@@ -9,7 +9,6 @@ use Rattle.schedule.specs.declared.standings.Standing.{Standing}
 use Rattle.bounds.specs.declared.boxes.SourceBox.{SourceBox}
 use Rattle.bounds.specs.Boxes.{points}
 use Rattle.bounds.specs.Layout.{input_bytes, root_bytes, private_bytes, root_sizes, private_sizes, placed}
-use Rattle.task_code.specs.declared.places.Place.{Place}
 use Rattle.task_code.specs.Code.{nowhere}
 use Rattle.phase_memory.specs.Places.{input_place, input_places, func_place, func_places}
 

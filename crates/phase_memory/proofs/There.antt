@@ -1,25 +1,25 @@
 -- Points of buffers lie where the layout has them.
-use Rattle.std.proofs.Common.{◌≡◌, ℕ, zero, suc, ◌+◌, ◌-◌, ◌*◌, ◌/◌, ◌%◌, ◌<◌, ◌≤◌, List, [], ◌∷◌, length, map, Option, Some, None, true, false, Bool, refl, ap, ◌∙◌, sym, subst, arith}
-use Rattle.std.specs.Prelude.{slice_get, slice_index, slice_index_or, if◌then◌else◌}
+use Rattle.std.proofs.Common.{◌≡◌, ℕ, suc, ◌+◌, ◌*◌, ◌/◌, ◌%◌, ◌<◌, ◌≤◌, List, [], ◌∷◌, length, Option, Some, Bool, refl, ap, ◌∙◌, arith}
+use Rattle.std.specs.Prelude.{slice_get, slice_index, if◌then◌else◌}
 use Rattle.std.specs.List.{AllByRecursion}
 use Rattle.std.proofs.Math.Nat.{mul-le-mul_right}
 use Rattle.halide_pipeline.specs.declared.definitions.Input.{Input}
+use Rattle.halide_pipeline.specs.declared.expressions.Source.{Source}
 use Rattle.halide_pipeline.specs.declared.expressions.Source.TheVariants as sources
 use Rattle.halide_pipeline.specs.Pipelines.{Pipeline}
 use Rattle.schedule.specs.declared.schedules.Schedule.{Schedule}
-use Rattle.schedule.specs.declared.standings.Place.TheVariants as standpoints
 use Rattle.schedule.specs.declared.standings.Standing.{Standing}
 use Rattle.bounds.specs.declared.boxes.SourceBox.{SourceBox}
 use Rattle.bounds.specs.Boxes.{extent, points}
-use Rattle.bounds.specs.Layout.{data_start, laid_in, laid_out, input_bytes, root_bytes, private_bytes, root_sizes, private_sizes, placed, total, phases}
-use Rattle.data_parts.specs.Parts.{Sizes, Part, Input as InputPart, Root, Copies, sizes_of, part_at}
+use Rattle.bounds.specs.Layout.{data_start, laid_in, laid_out, root_bytes, private_bytes, placed, total}
+use Rattle.data_parts.specs.Parts.{Sizes, sizes_of, part_at}
 use Rattle.data_parts.specs.Finding.{inputs_at, roots_at, privates_at}
 use Rattle.data_parts.proofs.Finding.{parts-end, parts-aligned, inputs-found, roots-found, copies-found}
 use Rattle.task_code.specs.declared.places.Pixels.TheVariants as pixels
 use Rattle.task_code.specs.declared.places.Place.{Place}
-use Rattle.task_code.specs.Code.{place_of, address, nowhere}
+use Rattle.task_code.specs.Code.{place_of, address}
 use Rattle.phase_memory.specs.Places.{input_place, func_place, places_of}
-use Rattle.phase_memory.specs.Points.{RootPoint, PrivatePoint, InputPoint, part, address_at, IsWordOf, IsByteOf, RootsAreThere, CopiesAreThere, WordInputsAreThere, ByteInputsAreThere}
+use Rattle.phase_memory.specs.Points.{RootPoint, PrivatePoint, InputPoint, address_at, RootsAreThere, CopiesAreThere, WordInputsAreThere, ByteInputsAreThere}
 use Rattle.phase_memory.proofs.Listing.{there-below, placed-length, input-at, input-size, sizes-length, inputs-four, func-at, root-size, private-size, root-below, private-below, roots-four, privates-four}
 
 -- the number of a point, by rows
@@ -43,7 +43,7 @@ module _ (pipeline : Pipeline) (schedule : Schedule) (boxes : List (Option Sourc
   abbrev inputs : List ℕ
   inputs = placed (inputs_at sizes) sizes.inputs
 
-  func-place-at : (func : ℕ) (standing : Standing) (own : SourceBox) → slice_get schedule.standings func ≡ Some standing → slice_get boxes func ≡ Some (Some own)
+  pub func-place-at : (func : ℕ) (standing : Standing) (own : SourceBox) → slice_get schedule.standings func ≡ Some standing → slice_get boxes func ≡ Some (Some own)
       → place_of (places_of pipeline schedule boxes (laid_out pipeline schedule boxes)) (sources.Func func) ≡ func_place standing.place (Some own) (slice_index roots func) (slice_index privates func)
   unfolding laid_in
   func-place-at func standing own e f =
@@ -66,7 +66,7 @@ module _ (pipeline : Pipeline) (schedule : Schedule) (boxes : List (Option Sourc
   unfolding laid_in
   inputs-within = omega arith
 
-total-four : (sizes : List ℕ) → AllByRecursion (λ size. size % 4 ≡ 0) sizes → total sizes % 4 ≡ 0
+pub total-four : (sizes : List ℕ) → AllByRecursion (λ size. size % 4 ≡ 0) sizes → total sizes % 4 ≡ 0
 total-four [] a = refl
 total-four (size ∷ sizes) a =
     let f = a.0 in
@@ -76,7 +76,7 @@ total-four (size ∷ sizes) a =
 roots-start : (pipeline : Pipeline) (schedule : Schedule) (boxes : List (Option SourceBox)) → roots_at (sizes_of pipeline schedule boxes) % 4 ≡ 0
 roots-start pipeline schedule boxes = let t = total-four (sizes_of pipeline schedule boxes).inputs (inputs-four pipeline.inputs) in omega (arith, t)
 
-privates-start : (pipeline : Pipeline) (schedule : Schedule) (boxes : List (Option SourceBox)) → privates_at (sizes_of pipeline schedule boxes) % 4 ≡ 0
+pub privates-start : (pipeline : Pipeline) (schedule : Schedule) (boxes : List (Option SourceBox)) → privates_at (sizes_of pipeline schedule boxes) % 4 ≡ 0
 privates-start pipeline schedule boxes =
     let t = roots-start pipeline schedule boxes in
     let u = total-four (sizes_of pipeline schedule boxes).roots (roots-four schedule.standings boxes) in
@@ -137,7 +137,7 @@ copies-are-there pipeline schedule boxes hart func x y few-harts p =
     }
 
 module _ (pipeline : Pipeline) (schedule : Schedule) (boxes : List (Option SourceBox)) where
-  input-place-at : (place : ℕ) (input : Input) → slice_get pipeline.inputs place ≡ Some input
+  pub input-place-at : (place : ℕ) (input : Input) → slice_get pipeline.inputs place ≡ Some input
       → place_of (places_of pipeline schedule boxes (laid_out pipeline schedule boxes)) (sources.Input place) ≡ input_place (slice_index (inputs pipeline schedule boxes) place) input
   unfolding laid_in
   input-place-at place input e =
@@ -189,3 +189,28 @@ byte-inputs-are-there pipeline schedule boxes hart place x y p bytes =
       below = omega (arith, at, e1, all, size, few);
       is_part = ap (part_at s) at ∙ inputs-found s place k (omega (arith, size, few));
     }
+
+-- ---- how buffers lie
+
+module _ (pipeline : Pipeline) (schedule : Schedule) (boxes : List (Option SourceBox)) where
+  abbrev place_at : Source → Place
+  place_at source = place_of (places_of pipeline schedule boxes (laid_out pipeline schedule boxes)) source
+
+  pub root-place : (func x y : ℕ) → (p : RootPoint pipeline schedule boxes func x y)
+      → place_at (sources.Func func) ≡ record { start = slice_index (placed (roots_at (sizes pipeline schedule boxes)) (sizes pipeline schedule boxes).roots) func; width = extent p.own.x; distance = 0; pixels = pixels.Words }
+  root-place func x y p =
+      let s = sizes_of pipeline schedule boxes in
+      func-place-at pipeline schedule boxes func p.standing p.own p.standing_is p.box_is ∙ ap (λ z. func_place z (Some p.own) (slice_index (placed (roots_at s) s.roots) func) (slice_index (placed (privates_at s) s.privates) func)) p.at_root
+
+  pub copies-place : (func x y : ℕ) → (p : PrivatePoint pipeline schedule boxes func x y)
+      → place_at (sources.Func func) ≡ record { start = slice_index (placed (privates_at (sizes pipeline schedule boxes)) (sizes pipeline schedule boxes).privates) func; width = extent p.own.x; distance = 4 * points p.own; pixels = pixels.Words }
+  copies-place func x y p =
+      let s = sizes_of pipeline schedule boxes in
+      func-place-at pipeline schedule boxes func p.standing p.own p.standing_is p.box_is ∙ ap (λ z. func_place z (Some p.own) (slice_index (placed (roots_at s) s.roots) func) (slice_index (placed (privates_at s) s.privates) func)) p.at_loop
+
+  pub input-place-is : (place x y : ℕ) → (p : InputPoint pipeline schedule boxes place x y) → (is_bytes : Bool) → p.input.is_bytes ≡ is_bytes
+      → place_at (sources.Input place) ≡ record { start = slice_index (placed (inputs_at (sizes pipeline schedule boxes)) (sizes pipeline schedule boxes).inputs) place; width = p.input.width; distance = 0; pixels = if is_bytes then pixels.Bytes else pixels.Words }
+  input-place-is place x y p is_bytes e =
+      let s = sizes_of pipeline schedule boxes in
+      input-place-at pipeline schedule boxes place p.input p.input_is
+      ∙ ap (λ b. record { start = slice_index (placed (inputs_at s) s.inputs) place; width = p.input.width; distance = 0; pixels = if b then pixels.Bytes else pixels.Words }) e

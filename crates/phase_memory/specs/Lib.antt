@@ -1,3 +1,5 @@
 pub mod Places
 pub mod Uses
 pub mod Points
+pub mod Settings
+pub mod Held

@@ -1,9 +1,12 @@
 //! Laws of buffers in memory, each the contract of a function that does nothing.
 
-ghost use Rattle.std.specs.Prelude.{List, Option};
+ghost use Rattle.std.specs.Prelude.{ℕ, List, Option};
 ghost use Rattle.halide_pipeline.specs.Pipelines.{Pipeline};
 ghost use Rattle.schedule.specs.declared.schedules.Schedule.{Schedule};
 ghost use Rattle.bounds.specs.declared.boxes.SourceBox.{SourceBox};
+ghost use Rattle.phase_memory.specs.Held.{MemoryHoldsFuncs, TasksFindTheirs, TasksLeaveTheirs};
+ghost use Rattle.phase_memory.specs.Settings.{TasksAreLaid};
+ghost use Rattle.phase_memory.specs.Uses.{Owners};
 ghost use Rattle.phase_memory.specs.Points.{ByteInputsAreThere, CopiesAreThere, RootsAreThere, WordInputsAreThere};
 
 /// Each byte of a point of a buffer is found as that byte, and lies in the data; words lie at multiples of 4.
@@ -12,4 +15,18 @@ pub fn points_are_there()
     ensures copies { (pipeline : Pipeline) (schedule : Schedule) (boxes : List (Option SourceBox)) → CopiesAreThere pipeline schedule boxes }
     ensures words { (pipeline : Pipeline) (schedule : Schedule) (boxes : List (Option SourceBox)) → WordInputsAreThere pipeline schedule boxes }
     ensures bytes { (pipeline : Pipeline) (schedule : Schedule) (boxes : List (Option SourceBox)) → ByteInputsAreThere pipeline schedule boxes }
+{}
+
+/// What a task of a phase may touch lies so that its code may touch it: points that it owns and a hart's own copies are written, these and
+/// all that no task of the phase writes are loaded, and no two points share a byte.
+pub fn tasks_are_laid()
+    ensures { (pipeline : Pipeline) (schedule : Schedule) (boxes : List (Option SourceBox)) (number : ℕ) (owners : Owners) → TasksAreLaid pipeline schedule boxes number owners }
+{}
+
+/// A memory with the inputs' bytes holds some words at all points that a task may load. At its own points, and at those of Funcs at root that
+/// its phase leaves alone, a task finds the planes that its bytes are given from, and leaves the bytes of those that it computed.
+pub fn memory_holds_funcs()
+    ensures any { (pipeline : Pipeline) (schedule : Schedule) (boxes : List (Option SourceBox)) (number : ℕ) (owners : Owners) → MemoryHoldsFuncs pipeline schedule boxes number owners }
+    ensures finds { (pipeline : Pipeline) (schedule : Schedule) (boxes : List (Option SourceBox)) (number : ℕ) (owners : Owners) → TasksFindTheirs pipeline schedule boxes number owners }
+    ensures leaves { (pipeline : Pipeline) (schedule : Schedule) (boxes : List (Option SourceBox)) (number : ℕ) (owners : Owners) → TasksLeaveTheirs pipeline schedule boxes number owners }
 {}
