@@ -1,0 +1,7 @@
+pub mod Addresses
+pub mod Compiled
+pub mod Data
+pub mod Faults
+pub mod Images
+pub mod Outputs
+pub mod Verdict

@@ -1,0 +1,92 @@
+//! From two texts to a program.
+
+ghost use Rattle.std.specs.Prelude.{◌≡◌, IfErr, IfOk, None, Ok};
+ghost use Rattle.schedule.specs.Accepted.{IsAccepted};
+ghost use Rattle.weights.specs.Weight.{weight};
+ghost use Rattle.bounds.specs.Verdict.{inferred};
+ghost use Rattle.compiler.specs.Compiled.{AreWordsOf, IsCompiled, Means};
+ghost use Rattle.compiler.specs.Verdict as spec;
+
+use crate::compiled::Compiled;
+use crate::faults::CompileFault;
+use crate::places::places;
+use bounds::{Boxes, infer};
+use halide_parser::parse;
+use halide_pipeline::Pipeline;
+use lowering::phases::lower;
+use program_code::generate;
+use schedule::{Schedule, read};
+use std::alloc::Global;
+use weights::{needs, weigh};
+
+/// The boxes of a pipeline under a schedule, or the first fault that stands.
+fn judged(alloc: Global, pipeline: &Pipeline, schedule: &Schedule) -> Result<Boxes, CompileFault>
+    requires { IsAccepted pipeline.now schedule.now }
+    ensures ok { IfOk result (λ boxes. inferred pipeline.now schedule.now ≡ Ok boxes) }
+    ensures passed { IfOk result (λ boxes. spec.by_weight pipeline.now schedule.now (weight pipeline.now schedule.now) ≡ None) }
+    ensures err { IfErr result (spec.IsFirst (spec.by_weight pipeline.now schedule.now (weight pipeline.now schedule.now))) }
+{
+    weigh(pipeline, schedule, alloc)?;
+    let boxes = infer(pipeline, schedule, alloc)?;
+    if needs(pipeline, schedule, alloc)?.is_too_deep() {
+        return Err(CompileFault::TooDeep);
+    }
+    Ok(boxes)
+}
+
+/// The words of the phases of a pipeline under a schedule.
+fn words_of(
+    alloc: Global,
+    pipeline: &Pipeline,
+    schedule: &Schedule,
+    boxes: &Boxes,
+) -> Result<Vec<u32>, CompileFault>
+    requires accepted { IsAccepted pipeline.now schedule.now }
+    requires boxes { inferred pipeline.now schedule.now ≡ Ok boxes.now }
+    ensures ok { IfOk result (λ words. AreWordsOf pipeline.now schedule.now boxes.now words.items) }
+    ensures err { IfErr result spec.IsLimitOrMemory }
+{
+    let phases = lower(alloc, pipeline, schedule, boxes)?;
+    let places = places(alloc, pipeline, schedule, boxes)?;
+    let words = generate(alloc, phases.as_slice(), &places)?;
+    Ok(words)
+}
+
+/// The program of a pipeline under a schedule, or the first fault that stands.
+#[tactic(auto, using(crate::proofs::Refusals::limit_refused))]
+fn built(alloc: Global, pipeline: Pipeline, schedule: Schedule) -> Result<Compiled, CompileFault>
+    requires { IsAccepted pipeline schedule }
+    ensures pipeline { IfOk result (λ own. own.pipeline ≡ pipeline) }
+    ensures schedule { IfOk result (λ own. own.schedule ≡ schedule) }
+    ensures passed { IfOk result (λ own. spec.by_weight pipeline schedule (weight pipeline schedule) ≡ None) }
+    ensures err { IfErr result (spec.IsRefusal (spec.by_weight pipeline schedule (weight pipeline schedule))) }
+{
+    let boxes = judged(alloc, &pipeline, &schedule)?;
+    let words = words_of(alloc, &pipeline, &schedule, &boxes)?;
+    Ok(Compiled {
+        pipeline,
+        schedule,
+        boxes,
+        words,
+    })
+}
+
+/// The program of an algorithm under a schedule: exactly where no fault stands, and else the first fault
+/// (`specs/Verdict.antt`).
+///
+/// # Errors
+///
+/// In this order: the algorithm's text, the schedule's, its weight, its boxes, an expression that needs more than 64
+/// registers. Memory ran out; or the code is longer than a machine's text, or its nests have more loops than registers.
+#[tactic(auto, unfolding(crate::specs::Verdict::refusal_of))]
+pub fn compile(algorithm: &str, schedule: &str, alloc: Global) -> Result<Compiled, CompileFault>
+    ensures means { IfOk result (Means alloc algorithm.now schedule.now) }
+    ensures passed { IfOk result (λ compiled. spec.refusal_of alloc algorithm.now schedule.now ≡ None) }
+    ensures rules { IfOk result IsCompiled }
+    ensures err { IfErr result (spec.IsRefusal (spec.refusal_of alloc algorithm.now schedule.now)) }
+{
+    let pipeline = parse(algorithm, alloc)?;
+    let schedule = read(schedule, &pipeline, alloc)?;
+    let compiled = built(alloc, pipeline, schedule)?;
+    Ok(compiled)
+}

@@ -1,0 +1,17 @@
+//! Compiles an algorithm under a schedule into an image that any number of harts compute together.
+//!
+//! - [`compile`]: the program of two texts, or the first fault that stands (`specs/Verdict.antt`, `specs/Compiled.antt`).
+//! - [`Compiled::image`]: an image of it with these input pictures (`specs/Data.antt`).
+//! - [`faults`]: why nothing is compiled.
+//! - [`places`]: where buffers lie.
+#![tactic(auto)]
+
+pub mod compiled;
+pub mod compiling;
+mod data;
+pub mod faults;
+pub mod places;
+
+pub use crate::compiled::Compiled;
+pub use crate::compiling::compile;
+pub use crate::faults::CompileFault;
