@@ -1,6 +1,6 @@
 -- The words of a program: its phases one behind the other, each around the code of its tasks.
 -- This project's own.
-use Rattle.std.specs.Prelude.{◌≡◌, ◌≤◌, ℕ, suc, true, List, [], ◌∷◌, length}
+use Rattle.std.specs.Prelude.{◌≡◌, ◌≤◌, ◌^◌, ℕ, suc, true, List, [], ◌∷◌, length}
 use Rattle.std.specs.List.{AllByRecursion}
 use Rattle.memory.specs.Addresses.{most_words, text_start}
 use Rattle.lone_hart.specs.Paths.{Stand}
@@ -25,10 +25,15 @@ parts_from places number (phase ∷ phases) = part_of places number phase ∷ pa
 abbrev pub Fits : Places → Phase → Type 0
 Fits places phase = fits_task phase places ≡ true
 
+-- as many tasks as harts can count in a word, with those that they draw in vain
+abbrev pub HasFewTasks : Phase → Type 0
+HasFewTasks phase = phase.tasks ≤ 2 ^ 31
+
 -- words of the program that these phases make, no more than a text may have
 pub record IsProgram (places : Places) (phases : List Phase) (words : List ℕ) : Type 0 where
   pub emits : Emits [] words (program 0 (parts_from places 0 phases))
   pub fit : AllByRecursion (Fits places) phases
+  pub few_tasks : AllByRecursion HasFewTasks phases
   pub few : length words ≤ most_words
 
 -- ---- laws

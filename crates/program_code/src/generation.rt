@@ -17,6 +17,9 @@ use task_code::{CodeFault, emit};
 /// A program has at most so many phases: the code around a phase's tasks takes 16 words.
 const MOST_PHASES: usize = MOST_WORDS / 16;
 
+/// Harts count tasks in a word, with those that they draw in vain.
+const MOST_TASKS: u32 = 1 << 31;
+
 /// The address of a phase's ticket word.
 fn ticket_of(number: u32) -> u32
     requires { number < 16384 }
@@ -38,7 +41,11 @@ fn push_phase(
     requires { number < 16384 }
     ensures emits { OnOk result (Emits code.old.items code.new.items (phase_code is_last (ticket_word number) (spec.part_of places.now number phase.now))) }
     ensures fits { OnOk result (spec.Fits places.now phase.now) }
+    ensures few { OnOk result (spec.HasFewTasks phase.now) }
 {
+    if phase.tasks > MOST_TASKS {
+        return Err(CodeFault::TooLong);
+    }
     let ticket = ticket_of(number);
     let mut words = Vec::new(alloc);
     emit(alloc, phase, places, ticket, &mut words)?;
@@ -57,6 +64,7 @@ fn push_phases(
     requires { number + length phases.now ≤ 16384 }
     ensures emits { OnOk result (Emits code.old.items code.new.items (program number (spec.parts_from places.now number phases.now))) }
     ensures fit { OnOk result (AllByRecursion (spec.Fits places.now) phases.now) }
+    ensures few { OnOk result (AllByRecursion spec.HasFewTasks phases.now) }
 {
     let [phase, others @ ..] = phases else {
         return Ok(());
@@ -70,7 +78,8 @@ fn push_phases(
 ///
 /// # Errors
 ///
-/// Memory ran out, the program is longer than a text may be, or an expression or a nest of loops has no registers left.
+/// Memory ran out, the program is longer than a text may be, a phase has more than 2^31 tasks, or an expression or a nest of
+/// loops has no registers left.
 pub fn generate(alloc: Global, phases: &[Phase], places: &Places) -> Result<Vec<u32>, CodeFault>
     ensures { IfOk result (λ words. spec.IsProgram places.now phases.now words.items) }
 {
