@@ -1,0 +1,349 @@
+-- Phases of a pipeline share their work, and leave the pixels.
+use Rattle.std.proofs.Common.{◌≡◌, ℕ, zero, suc, ◌+◌, ◌*◌, ◌/◌, ◌%◌, ◌^◌, ◌<◌, ◌≤◌, Bool, cond, List, [], ◌∷◌, length, Some, refl, sym, ap, subst, ◌∙◌, arith, inl, inr}
+use Rattle.std.specs.Prelude.{◌⊎◌, ◌-◌, slice_get, slice_index_or, Ok}
+use Rattle.std.specs.List.{AllByRecursion}
+use Rattle.std.proofs.lemmas.Bool.{cases_lt, lt-ltb, le-leb, lt-leb}
+use Rattle.memory.specs.Addresses.{text_start, data_start, byte_at}
+use Rattle.memory.specs.Access.{word_at}
+use Rattle.hart_core.specs.HartState.{HartState}
+use Rattle.halide_pipeline.specs.declared.definitions.Func.{Func}
+use Rattle.halide_pipeline.specs.declared.expressions.Source.TheVariants as sources
+use Rattle.halide_pipeline.specs.Pipelines.{Pipeline}
+use Rattle.halide_pipeline.specs.WellFormed.{IsWellFormed}
+use Rattle.halide_pipeline.specs.Words as word
+use Rattle.halide_meaning.specs.Pixel.{Planes, reads_of, pixels}
+use Rattle.schedule.specs.declared.schedules.Schedule.{Schedule}
+use Rattle.schedule.specs.Accepted.{IsAccepted}
+use Rattle.ranges.specs.Laws.{AnswerWords}
+use Rattle.bounds.specs.declared.verdict.Boxes.{Boxes}
+use Rattle.bounds.specs.Boxes.{box_in, extent}
+use Rattle.bounds.specs.Layout.{laid_in, phases}
+use Rattle.bounds.specs.Verdict.{inferred}
+use Rattle.data_parts.specs.Parts.{Part, Control, Input as InputPart, Root, Copies, Frame, Outside, sizes_of, in_data}
+use Rattle.data_parts.proofs.Finding.{control-found}
+use Rattle.loop_ir.specs.declared.statements.Phase.{Phase}
+use Rattle.lowering.specs.Planes.{corner_of, held}
+use Rattle.lone_hart.specs.Uses.{Control as ForControl, Fixed, Owned, Shared, Task}
+use Rattle.lone_hart.specs.Paths.{Stand, Block}
+use Rattle.work_sharing.specs.Phases.{Phase as SharedPhase}
+use Rattle.work_sharing.specs.Solo.{world, Begins}
+use Rattle.work_sharing.specs.Bridges.{numbers_of}
+use Rattle.work_sharing.specs.Programs.{ticket_word, IsControlByte, FoundBy}
+use Rattle.work_sharing.proofs.Bridges.{stands-there}
+use Rattle.task_code.specs.declared.places.Places.{Places}
+use Rattle.task_code.specs.Tasks.{HasDrawn, TaskEnds}
+use Rattle.phase_code.specs.Code.{Part as CodePart, program}
+use Rattle.phase_code.specs.Sharing.{Matter, no_part, part_at, phase, Runs, IsShared}
+use Rattle.program_code.specs.Programs.{part_of as code_of, parts_from}
+use Rattle.phase_memory.specs.Uses.{use_of, width_in, width_of, byte_of, byte_in}
+use Rattle.phase_memory.specs.Held.{funcs_in}
+use Rattle.phase_memory.specs.Points.{RootPoint, part, address_at}
+use Rattle.phase_memory.specs.Settings.{places, size}
+use Rattle.phase_memory.proofs.Laying.{column-of, row-of}
+use Rattle.phase_memory.proofs.Numbers.{bytes-word}
+use Rattle.phase_memory.proofs.There.{roots-are-there}
+use Rattle.phase_sharing.specs.Sharing.{HasCode, parts, OpensWith, PhasesAreShared}
+use Rattle.phase_sharing.proofs.Between.{Stays, HasOwner, root_use}
+use Rattle.phase_sharing.proofs.Chain.{left_by, Told, funcs_told, some_work}
+use Rattle.phase_sharing.proofs.Counting.{all_counted}
+use Rattle.phase_sharing.proofs.Facts.{Work, IsKnown}
+use Rattle.phase_sharing.proofs.Matters.{start_of, result_of, AgreeAtRoots, owners_of, byte_of_planes, same_bytes, matter_of}
+use Rattle.phase_sharing.proofs.Places.{size_fits}
+use Rattle.phase_sharing.proofs.Running as running
+use Rattle.phase_sharing.proofs.Words.{pixels_answer, held_word}
+
+-- ---- lists
+
+length_parts : (all : Places) (at : ℕ) (list : List Phase) → length (parts_from all at list) ≡ length list
+length_parts all at [] = refl
+length_parts all at (first ∷ others) = ap suc (length_parts all (suc at) others)
+
+part_so : (all : Places) (at : ℕ) (list : List Phase) (k : ℕ) (own : Phase) → slice_get list k ≡ Some own → slice_index_or (parts_from all at list) k no_part ≡ code_of all (at + k) own
+part_so all at [] k own e = absurd cc
+part_so all at (first ∷ others) zero own e =
+    let same : first ≡ own = cc in
+    let here : at ≡ at + 0 = omega arith in
+    ap (code_of all at) same ∙ ap (λ (n : ℕ). code_of all n own) here
+part_so all at (first ∷ others) (suc k) own e =
+    let next : suc at + k ≡ at + suc k = omega arith in
+    part_so all (suc at) others k own e ∙ ap (λ (n : ℕ). code_of all n own) next
+
+all_at : {A : Type 0} (P : A → Type 0) (list : List A) → AllByRecursion P list → (k : ℕ) (own : A) → slice_get list k ≡ Some own → P own
+all_at P [] all k own e = absurd cc
+all_at P (first ∷ others) all zero own e = let same : first ≡ own = cc in subst P same all.0
+all_at P (first ∷ others) all (suc k) own e = all_at P others all.1 k own e
+
+last_two : (k byte : ℕ) → byte < 4 → (4 * k + byte) % 4 ≡ byte
+last_two k byte l = omega (arith, l)
+
+zero_pixels : (funcs : List Func) (inputs : Planes) (place x y : ℕ) → pixels funcs inputs 0 place x y ≡ 0
+unfolding pixels
+zero_pixels funcs inputs place x y = refl
+
+phases_fit : (pipeline : Pipeline) (schedule : Schedule) (boxes : Boxes) → 8 * phases schedule.standings pipeline.funcs boxes.funcs ≤ size pipeline schedule boxes.funcs
+unfolding laid_in
+phases_fit pipeline schedule boxes = omega arith
+
+module _ (pipeline : Pipeline) (schedule : Schedule) (boxes : Boxes) (rules : IsWellFormed pipeline) (accepted : IsAccepted pipeline schedule) (is : inferred pipeline schedule ≡ Ok boxes)
+    (inputs : Planes) (begun : AnswerWords pipeline.inputs (reads_of inputs (pixels pipeline.funcs inputs 0))) (list : List Phase) (planes : Planes)
+    (told : Told pipeline schedule boxes inputs list planes) (harts : ℕ) (few_harts : harts ≤ 8) (coded : AllByRecursion (HasCode (places pipeline schedule boxes.funcs) harts) list)
+    (last : ℕ) (count : length list ≡ suc last) (counted : length list ≤ phases schedule.standings pipeline.funcs boxes.funcs) (text : List ℕ) where
+  abbrev all_places : Places
+  all_places = places pipeline schedule boxes.funcs
+
+  abbrev bytes : ℕ
+  bytes = size pipeline schedule boxes.funcs
+
+  abbrev all_parts : List CodePart
+  all_parts = parts pipeline schedule boxes list
+
+  abbrev work : ℕ → Work
+  work k = told.works k
+
+  abbrev matter : ℕ → Matter
+  matter k = matter_of pipeline schedule boxes inputs told.works k
+
+  abbrev P : ℕ → SharedPhase
+  P k = phase text bytes harts all_parts matter k
+
+  abbrev part_here : ℕ → CodePart
+  part_here k = part_at text bytes harts all_parts matter k
+
+  abbrev byte : Planes → ℕ → ℕ
+  byte funcs address = byte_of_planes pipeline schedule boxes inputs funcs address
+
+  abbrev start : ℕ → Planes
+  start k = start_of pipeline schedule boxes inputs (told.works k)
+
+  abbrev result : ℕ → Planes
+  result k = result_of pipeline schedule boxes inputs (told.works k)
+
+  -- ---- each phase
+
+  known : (k : ℕ) → k ≤ last → IsKnown pipeline schedule boxes (work k)
+  known k l = told.known k (omega (arith, l, count))
+
+  code_at : (k : ℕ) → k ≤ last → HasCode all_places harts (work k).phase
+  code_at k l = all_at (HasCode all_places harts) list coded k (work k).phase (told.phase_is k (omega (arith, l, count)))
+
+  is_part : (k : ℕ) → k ≤ last → part_here k ≡ code_of all_places k (work k).phase
+  is_part k l = let here : 0 + k ≡ k = omega arith in
+      part_so all_places 0 list k (work k).phase (told.phase_is k (omega (arith, l, count))) ∙ ap (λ (n : ℕ). code_of all_places n (work k).phase) here
+
+  tasks_are : (k : ℕ) → k ≤ last → (part_here k).tasks ≡ (work k).phase.tasks
+  tasks_are k l = ap (λ (p : CodePart). p.tasks) (is_part k l)
+
+  few : (k : ℕ) → k ≤ last → (part_here k).tasks + harts + 1 < 2 ^ 32
+  few k l = let e = tasks_are k l in let f = (code_at k l).few in omega (arith, e, f)
+
+  fits : bytes ≤ 33554432
+  fits = size_fits pipeline schedule boxes is
+
+  room : 8 * suc last ≤ bytes
+  room = let f = phases_fit pipeline schedule boxes in omega (arith, f, counted, count)
+
+  -- ---- control words
+
+  control_part : (address : ℕ) → data_start ≤ address → address < data_start + 8 * suc last → part pipeline schedule boxes.funcs address ≡ Control ((address - data_start) / 8)
+  control_part address low high =
+      let e : address ≡ data_start + (address - data_start) = omega (arith, low) in
+      ap (part pipeline schedule boxes.funcs) e ∙ control-found (sizes_of pipeline schedule boxes.funcs) (address - data_start) (omega (arith, low, high, counted, count))
+
+  control : (k address : ℕ) → k ≤ last → IsControlByte k address → (matter k).uses address ≡ ForControl
+  control k address l c =
+      let low = c.0 in
+      let high = c.1 in
+      let number = (address - data_start) / 8 in
+      ap (use_of boxes.funcs k (owners_of (work k))) (control_part address low (omega (arith, high, l)))
+      ∙ ap (λ (b : Bool). cond b ForControl Fixed) (le-leb number k (omega (arith, low, high)))
+
+  fresh : (k address : ℕ) → k ≤ last → data_start + 8 * suc k ≤ address → address < data_start + 8 * suc last → ((matter k).uses address ≡ Fixed) × ((matter k).start address ≡ 0)
+  fresh k address l low high =
+      let number = (address - data_start) / 8 in
+      let here = control_part address (omega (arith, low)) high in (
+        ap (use_of boxes.funcs k (owners_of (work k))) here ∙ ap (λ (b : Bool). cond b ForControl Fixed) (lt-leb number k (omega (arith, low))),
+        ap (byte_in pipeline.inputs boxes.funcs inputs (start k)) here,
+      )
+
+  -- ---- tasks
+
+  module _ (k task number : ℕ) (hart : HartState) (found : List ℕ) (l : k ≤ last) (b : Begins (P k) task number hart found) where
+    below : task < (work k).phase.tasks
+    below = subst (λ (n : ℕ). task < n) (tasks_are k l) b.task_is
+
+    low_ticket : ticket_word k + 4 < 2 ^ 32
+    low_ticket = omega (arith, l, room, fits)
+
+    few_tasks : (work k).phase.tasks < 2 ^ 32
+    few_tasks = let f = (code_at k l).few in omega (arith, f)
+
+    drawn : HasDrawn (running.own pipeline schedule boxes rules accepted is inputs begun (work k) (known k l) k text harts task number below b.number_is few_harts) task (numbers_of hart)
+    drawn =
+        let here = stands-there (P k) number ((P k).draw_code + 8) hart b.stands in
+        record {
+          none = sym (here.same 0 (omega arith));
+          number = sym (here.same 10 (omega arith)) ∙ b.stands.kept.number;
+          all = sym (here.same 11 (omega arith)) ∙ b.stands.kept.harts;
+          drawn = sym (here.same 12 (omega arith)) ∙ b.drawn;
+        }
+
+    ends : TaskEnds (running.own pipeline schedule boxes rules accepted is inputs begun (work k) (known k l) k text harts task number below b.number_is few_harts) (work k).phase (ticket_word k) task (numbers_of hart) found
+        (funcs_in pipeline schedule boxes.funcs text found number)
+    ends =
+        running.ends pipeline schedule boxes rules accepted is inputs begun (work k) (known k l) k text harts task number below b.number_is few_harts found b.size b.bytes b.given (numbers_of hart) (code_at k l).fits low_ticket
+        few_tasks drawn
+
+    leaves : (address : ℕ) → (matter k).uses address ≡ Owned task → byte_at text ends.left address ≡ (matter k).result address
+    unfolding ends
+    leaves =
+        running.leaves pipeline schedule boxes rules accepted is inputs begun (work k) (known k l) k text harts task number below b.number_is few_harts found b.size b.bytes b.given (numbers_of hart) (code_at k l).fits low_ticket
+        few_tasks drawn
+
+    runs : Runs text bytes harts all_parts matter k task number hart found
+    runs = record {
+      after = ends.after;
+      left = ends.left;
+      block = subst (λ (p : CodePart). Block (world (P k) (Task task) number) p.insns ((matter k).turns task) (numbers_of hart) found ends.after ends.left) (sym (is_part k l)) ends.block;
+      keeps = record {
+        number_is = ends.number;
+        harts = ends.all;
+        ticket = ends.ticket_is;
+        gate = ends.gate_is;
+        one = ends.one;
+        tasks = ends.tasks_are ∙ sym (tasks_are k l);
+      };
+      does = leaves;
+      size_stays = ends.holds.size;
+      covers = λ at address stands own written. absurd cc;
+    }
+
+  -- ---- from phase to phase
+
+  abbrev root_at : (k : ℕ) → (l : k ≤ last) → (address place offset : ℕ) → part pipeline schedule boxes.funcs address ≡ Root place offset
+      → Stays pipeline schedule boxes inputs (work k) k ((known k l).does inputs begun) address ⊎ HasOwner pipeline schedule boxes inputs (work k) k ((known k l).does inputs begun) address
+  root_at k l address place offset e = root_use pipeline schedule boxes inputs (work k) k ((known k l).does inputs begun) address place offset e
+
+  module _ (k : ℕ) (l : k < last) (address : ℕ) where
+    before : k ≤ last
+    before = omega (arith, l)
+
+    -- what the later one finds is what the earlier one leaves
+    linked : byte (start (suc k)) address ≡ byte (result k) address
+    linked = same_bytes pipeline schedule boxes inputs (start (suc k)) (result k) (told.starts (suc k) (omega (arith, l, count))) address
+
+    stays : (p : Part) → part pipeline schedule boxes.funcs address ≡ p → use_of boxes.funcs k (owners_of (work k)) p ≡ Fixed
+        → byte_in pipeline.inputs boxes.funcs inputs (start (suc k)) p ≡ byte_in pipeline.inputs boxes.funcs inputs (start k) p → FoundBy (P k) (P (suc k)) address
+    stays p e fixed same =
+        inl (
+          ap (use_of boxes.funcs k (owners_of (work k))) e ∙ fixed,
+          ap (byte_in pipeline.inputs boxes.funcs inputs (start (suc k))) e ∙ (same ∙ sym (ap (byte_in pipeline.inputs boxes.funcs inputs (start k)) e)),
+        )
+
+    follows_at : (p : Part) → part pipeline schedule boxes.funcs address ≡ p → Shared (use_of boxes.funcs (suc k) (owners_of (work (suc k))) p) → FoundBy (P k) (P (suc k)) address
+    follows_at (Control number) e s = elim (cases_lt (suc k) number) [
+      | inl b ↦ stays (Control number) e (ap (λ (t : Bool). cond t ForControl Fixed) (lt-leb number k (omega (arith, b)))) refl
+      | inr b ↦ absurd (subst (λ (t : Bool). Shared (cond t ForControl Fixed)) (le-leb number (suc k) b) s)
+    ]
+    follows_at (InputPart place offset) e s = stays (InputPart place offset) e refl refl
+    follows_at (Root place offset) e s = elim (root_at k before address place offset e) [
+      | inl it ↦ inl (it.fixed, linked ∙ sym it.same)
+      | inr it ↦ inr (it.task, it.owned, subst (λ (n : ℕ). it.task < n) (sym (tasks_are k before)) it.below, linked)
+    ]
+    follows_at (Copies place offset) e s = absurd s
+    follows_at (Frame hart) e s = absurd s
+    follows_at Outside e s = absurd s
+
+    follows : Shared ((matter (suc k)).uses address) → FoundBy (P k) (P (suc k)) address
+    follows s = follows_at (part pipeline schedule boxes.funcs address) refl s
+
+  -- ---- the beginning
+
+  module _ (memory : List ℕ) (opens : OpensWith pipeline schedule boxes text memory inputs) where
+    zeros : (address : ℕ) → IsControlByte 0 address → byte_at text memory address ≡ 0
+    zeros address c =
+        let high = c.1 in
+        opens.holds address c.0 ∙ ap (byte_in pipeline.inputs boxes.funcs inputs (λ place x y. 0)) (control_part address c.0 (omega (arith, high)))
+
+    first_start : AgreeAtRoots pipeline schedule boxes (λ place x y. 0) (start 0)
+    first_start func x y p =
+        let corner = corner_of (box_in (slice_get boxes.funcs func)) in
+        sym (told.starts 0 (omega (arith, count)) func x y p ∙ zero_pixels pipeline.funcs inputs func (word.add corner.x x) (word.add corner.y y))
+
+    outside : (address : ℕ) → address < data_start → (matter 0).uses address ≡ ForControl
+    outside address l =
+        ap (λ (b : Bool). use_of boxes.funcs 0 (owners_of (work 0)) (cond b Outside (in_data (sizes_of pipeline schedule boxes.funcs) (address - data_start)))) (lt-ltb address data_start l)
+
+    found_first : (address : ℕ) → Shared ((matter 0).uses address) → byte_at text memory address ≡ (matter 0).start address
+    found_first address s = elim (cases_lt address data_start) [
+      | inl b ↦ absurd (subst Shared (outside address b) s)
+      | inr b ↦ opens.holds address b ∙ same_bytes pipeline schedule boxes inputs (λ place x y. 0) (start 0) first_start address
+    ]
+
+    shared : 0 < harts → Stand text text_start (program 0 all_parts) → IsShared text bytes harts all_parts matter last memory
+    shared some stands = record {
+      count = length_parts all_places 0 list ∙ count;
+      stands = stands;
+      some = some;
+      few = few;
+      words = λ k l. let f = few k l in omega (arith, f);
+      small = fits;
+      room = room;
+      control = control;
+      fresh = fresh;
+      runs = λ k task number hart found l b. runs k task number hart found l b;
+      follows = λ k address l s. follows k l address s;
+      whole = opens.whole;
+      bytes = opens.bytes;
+      zeros = zeros;
+      found = found_first;
+    }
+
+  -- ---- the end
+
+  module _ (left : List ℕ) (done : (address task : ℕ) → task < (part_here last).tasks → (matter last).uses address ≡ Owned task → byte_at text left address ≡ (matter last).result address)
+      (kept : (address : ℕ) → (matter last).uses address ≡ Fixed → byte_at text left address ≡ (matter last).start address) where
+    here : last ≤ last
+    here = omega arith
+
+    last_byte : (address place offset : ℕ) → part pipeline schedule boxes.funcs address ≡ Root place offset → byte_at text left address ≡ byte (result last) address
+    last_byte address place offset e = elim (root_at last here address place offset e) [
+      | inl it ↦ kept address it.fixed ∙ it.same
+      | inr it ↦ done address it.task (subst (λ (n : ℕ). it.task < n) (sym (tasks_are last here)) it.below) it.owned
+    ]
+
+    ends_so : AgreeAtRoots pipeline schedule boxes (result last) planes
+    ends_so func x y p = ap (λ (n : ℕ). left_by pipeline schedule boxes inputs told.works n func x y) (sym count) ∙ told.ends func x y p
+
+    module _ (func x y : ℕ) (p : RootPoint pipeline schedule boxes.funcs func x y) where
+      abbrev address : ℕ
+      address = address_at pipeline schedule boxes.funcs 0 (sources.Func func) x y
+
+      pixel_byte : (i : ℕ) → i < 4 → byte_at text left (address + i) ≡ byte_of (planes func x y) i
+      pixel_byte i l =
+          let w = extent p.own.x in
+          let o = 4 * (y * w + x) + i in
+          let wide : width_of boxes.funcs func ≡ w = ap (λ e. width_in (box_in e)) p.box_is in
+          let there = (roots-are-there pipeline schedule boxes.funcs 0 func x y p).parts i l in
+          last_byte (address + i) func o there
+          ∙ (same_bytes pipeline schedule boxes inputs (result last) planes ends_so (address + i)
+          ∙ (ap (byte_in pipeline.inputs boxes.funcs inputs planes) there
+          ∙ (ap (λ v. byte_of (planes func (o / 4 % v) (o / 4 / v)) (o % 4)) wide
+          ∙ (ap (λ n. byte_of (planes func n (o / 4 / w)) (o % 4)) (column-of w x y i p.column l)
+          ∙ (ap (λ n. byte_of (planes func x n) (o % 4)) (row-of w x y i p.column l) ∙ ap (byte_of (planes func x y)) (last_two (y * w + x) i l))))))
+
+      pixel_is : planes func x y < 2 ^ 32 → word_at text left address ≡ planes func x y
+      pixel_is small = bytes-word text left address (planes func x y) small pixel_byte
+
+pub phases-are-shared : PhasesAreShared
+phases-are-shared pipeline schedule boxes rules accepted is inputs begun list are harts some few_harts coded last count text memory stands opens =
+    let other = some_work pipeline schedule boxes (length pipeline.funcs) last list are count in
+    let told = funcs_told pipeline schedule boxes inputs accepted is other (length pipeline.funcs) list are in
+    let counted = all_counted pipeline schedule boxes (length pipeline.funcs) list are in
+    let planes = held boxes.funcs (pixels pipeline.funcs inputs (length pipeline.funcs)) in
+    record {
+      matter = matter pipeline schedule boxes rules accepted is inputs begun list planes told harts few_harts coded last count counted text;
+      is_shared = shared pipeline schedule boxes rules accepted is inputs begun list planes told harts few_harts coded last count counted text memory opens some stands;
+      ends = λ left done kept func x y p.
+          pixel_is pipeline schedule boxes rules accepted is inputs begun list planes told harts few_harts coded last count counted text left done kept func x y p
+          (held_word pipeline rules inputs begun boxes.funcs (pixels pipeline.funcs inputs (length pipeline.funcs)) (pixels_answer pipeline rules inputs begun (length pipeline.funcs)) func x y);
+    }

@@ -1,0 +1,74 @@
+-- The harts of an image share the tasks of a pipeline's phases, and leave the pixels of all Funcs at root.
+-- This project's own.
+use Rattle.std.specs.Prelude.{◌≡◌, ◌<◌, ◌≤◌, ℕ, suc, ◌+◌, ◌^◌, true, List, length, Ok}
+use Rattle.std.specs.List.{AllByRecursion}
+use Rattle.memory.specs.Addresses.{text_start, data_start, byte_at, AreBytes}
+use Rattle.memory.specs.Access.{word_at}
+use Rattle.halide_pipeline.specs.declared.expressions.Source.TheVariants as sources
+use Rattle.halide_pipeline.specs.Pipelines.{Pipeline}
+use Rattle.halide_pipeline.specs.WellFormed.{IsWellFormed}
+use Rattle.halide_meaning.specs.Pixel.{Planes, reads_of, pixels}
+use Rattle.schedule.specs.declared.schedules.Schedule.{Schedule}
+use Rattle.schedule.specs.Accepted.{IsAccepted}
+use Rattle.ranges.specs.Laws.{AnswerWords}
+use Rattle.bounds.specs.declared.verdict.Boxes.{Boxes}
+use Rattle.bounds.specs.Verdict.{inferred}
+use Rattle.loop_ir.specs.declared.statements.Phase.{Phase}
+use Rattle.lowering.specs.Lowered.{AreLowered}
+use Rattle.lowering.specs.Planes.{held}
+use Rattle.lone_hart.specs.Uses.{Fixed, Owned}
+use Rattle.lone_hart.specs.Paths.{Stand}
+use Rattle.task_code.specs.declared.places.Places.{Places}
+use Rattle.task_code.specs.Fitting.{fits_task}
+use Rattle.phase_code.specs.Code.{Part, program}
+use Rattle.phase_code.specs.Sharing.{Matter, IsShared, part_at}
+use Rattle.program_code.specs.Programs.{parts_from}
+use Rattle.phase_memory.specs.Points.{RootPoint, part, address_at}
+use Rattle.phase_memory.specs.Settings.{places, size}
+use Rattle.phase_memory.specs.Uses.{byte_in}
+
+-- The registers suffice for the phase's tasks, and so many harts count them in a word.
+pub record HasCode (places : Places) (harts : ℕ) (phase : Phase) : Type 0 where
+  pub fits : fits_task phase places ≡ true
+  pub few : phase.tasks + harts + 1 < 2 ^ 32
+
+module _ (pipeline : Pipeline) (schedule : Schedule) (boxes : Boxes) where
+  -- the phases' code, where the layout has the buffers
+  abbrev pub parts : List Phase → List Part
+  parts phases = parts_from (places pipeline schedule boxes.funcs) 0 phases
+
+  -- The data begin so: the inputs' pixels, and zeros.
+  pub record OpensWith (text memory : List ℕ) (inputs : Planes) : Type 0 where
+    pub whole : length memory ≡ size pipeline schedule boxes.funcs
+    pub bytes : AreBytes memory
+    pub holds : (address : ℕ) → data_start ≤ address
+        → byte_at text memory address ≡ byte_in pipeline.inputs boxes.funcs inputs (λ place x y. 0) (part pipeline schedule boxes.funcs address)
+
+  -- Memory holds the pixels of each Func at root, counted from the corner of its box.
+  abbrev pub HoldsPixels : List ℕ → List ℕ → Planes → Type 0
+  HoldsPixels text memory inputs = (func x y : ℕ) → RootPoint pipeline schedule boxes.funcs func x y
+      → word_at text memory (address_at pipeline schedule boxes.funcs 0 (sources.Func func) x y)
+      ≡ held boxes.funcs (pixels pipeline.funcs inputs (length pipeline.funcs)) func x y
+
+  -- So many harts share their work. Where the tasks of the last phase left what they own, and all else is as that phase found it, the pixels
+  -- stand.
+  pub record AreShared (harts : ℕ) (phases : List Phase) (last : ℕ) (text memory : List ℕ) (inputs : Planes) : Type 0 where
+    pub matter : ℕ → Matter
+    pub is_shared : IsShared text (size pipeline schedule boxes.funcs) harts (parts phases) matter last memory
+    pub ends : (left : List ℕ)
+        → ((address task : ℕ) → task < (part_at text (size pipeline schedule boxes.funcs) harts (parts phases) matter last).tasks
+        → (matter last).uses address ≡ Owned task → byte_at text left address ≡ (matter last).result address)
+        → ((address : ℕ) → (matter last).uses address ≡ Fixed → byte_at text left address ≡ (matter last).start address)
+        → HoldsPixels text left inputs
+
+-- ---- law
+
+abbrev pub PhasesAreShared : Type 0
+PhasesAreShared =
+    (pipeline : Pipeline) (schedule : Schedule) (boxes : Boxes) → IsWellFormed pipeline → IsAccepted pipeline schedule → inferred pipeline schedule ≡ Ok boxes
+    → (inputs : Planes) → AnswerWords pipeline.inputs (reads_of inputs (pixels pipeline.funcs inputs 0))
+    → (phases : List Phase) → AreLowered pipeline schedule boxes (length pipeline.funcs) phases
+    → (harts : ℕ) → 0 < harts → harts ≤ 8 → AllByRecursion (HasCode (places pipeline schedule boxes.funcs) harts) phases
+    → (last : ℕ) → length phases ≡ suc last
+    → (text memory : List ℕ) → Stand text text_start (program 0 (parts pipeline schedule boxes phases)) → OpensWith pipeline schedule boxes text memory inputs
+    → AreShared pipeline schedule boxes harts phases last text memory inputs
