@@ -149,7 +149,7 @@ module _ (input : Input) (picture : PictureContents) (rules : IsPicture picture)
 -- ---- all inputs
 
 -- what is found at a byte behind the control words: of an input, or 0
-abbrev found_byte : List Input → Planes → Option Found → ℕ
+abbrev pub found_byte : List Input → Planes → Option Found → ℕ
 found_byte all inputs None = 0
 found_byte all inputs (Some found) = input_byte (slice_get all found.place) found.place inputs found.offset
 

@@ -91,7 +91,7 @@ picture_lies at size own width height h aligned above within few =
 -- ---- the parts of an image
 
 module _ (own : CompiledContents) (rules : IsCompiled own) (pictures : List PictureContents) (none : judged own.pipeline.inputs pictures ≡ None) (are : ArePictures pictures) where
-  long : length (image_data own.boxes.layout own.pipeline.inputs pictures) ≡ own.boxes.layout.size
+  pub long : length (image_data own.boxes.layout own.pipeline.inputs pictures) ≡ own.boxes.layout.size
   long =
       let content = replicate (8 * own.boxes.layout.phases) 0 ++ inputs_data own.pipeline.inputs pictures in
       let fit = room own.boxes.layout.size own.boxes.layout.phases own.pipeline.inputs pictures none are (inputs_fit own.pipeline own.schedule own.boxes rules.inferred_is) in
@@ -113,10 +113,10 @@ module _ (own : CompiledContents) (rules : IsCompiled own) (pictures : List Pict
       let l : nat_lt text_start (text_start + 4 * length own.words) ≡ true = lt-ltb text_start (text_start + 4 * length own.words) (omega (arith, some)) in
       rw l refl
 
-  box_here : OutputBox own.pipeline own.boxes
+  pub box_here : OutputBox own.pipeline own.boxes
   box_here = output_box own.pipeline own.schedule own.boxes rules.well_formed rules.accepted rules.inferred_is
 
-  output_is : output_of own.pipeline own.boxes ≡ output_in box_here.at (Some box_here.own) own.pipeline.output.width own.pipeline.output.height
+  pub output_is : output_of own.pipeline own.boxes ≡ output_in box_here.at (Some box_here.own) own.pipeline.output.width own.pipeline.output.height
   output_is =
       ap (λ (n : ℕ). output_in n (box_in (slice_get own.boxes.funcs own.pipeline.output.func)) own.pipeline.output.width own.pipeline.output.height)
       (get_or_from_slice_get own.boxes.layout.roots own.pipeline.output.func box_here.at 0 box_here.at_is)

@@ -5,3 +5,9 @@ pub mod Nonempty
 pub mod OutputBox
 pub mod Outputs
 pub mod Refusals
+pub mod Asked
+pub mod Control
+pub mod Opening
+pub mod Shown
+pub mod Correct
+pub mod Counted

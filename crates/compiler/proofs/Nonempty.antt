@@ -27,7 +27,7 @@ module _ (pipeline : Pipeline) (schedule : Schedule) (boxes : Boxes) where
       let l = length-append phases (phase ∷ []) in
       omega (arith, l)
 
-  some_phases : (count : ℕ) (phases : List Phase) → AreLowered pipeline schedule boxes count phases
+  pub some_phases : (count : ℕ) (phases : List Phase) → AreLowered pipeline schedule boxes count phases
       → (place : ℕ) (func : Func) (plan : FuncPlan) (own : SourceBox) → place < count → IsAtRoot pipeline schedule boxes place func plan own → 1 ≤ length phases
   some_phases _ _ No_func place func plan own l at = absurd (omega (arith, l))
   some_phases _ phases (Passed last _ before none) place func plan own l at = elim (cases_lt place last) [

@@ -1,5 +1,6 @@
 pub mod Addresses
 pub mod Compiled
+pub mod Correct
 pub mod Data
 pub mod Faults
 pub mod Images

@@ -10,6 +10,7 @@ ghost use Rattle.memory.specs.Addresses.{text_start};
 ghost use Rattle.picture.specs.Evaluated.{judged};
 ghost use Rattle.schedule.specs.Accepted.{IsAccepted};
 ghost use Rattle.compiler.specs.Compiled.{output_in, output_of};
+ghost use Rattle.compiler.specs.Correct.{Correct};
 ghost use Rattle.compiler.specs.Images.{ArePictures, IsRefusedInput, control_words, image_of};
 ghost use Rattle.compiler.specs.Outputs.{Holds};
 
@@ -71,6 +72,9 @@ impl Compiled {
     /// Text and entry are the same for all pictures. The data are zeros, but for the pixels of the inputs
     /// (`specs/Images.antt`).
     ///
+    /// On every list that says which hart makes the next turn, no hart traps, none race but on the words of
+    /// [`Compiled::control`], and wherever all have finished the output is the algorithm's (`specs/Correct.antt`).
+    ///
     /// # Errors
     ///
     /// There aren't as many pictures as inputs; one has another size than its input; one of an input of bytes has a pixel
@@ -79,6 +83,7 @@ impl Compiled {
         ensures judged { IfOk result (λ image. judged self.now.pipeline.inputs pictures.now ≡ None) }
         ensures pictures { IfOk result (λ image. ArePictures pictures.now) }
         ensures is { IfOk result (λ image. image ≡ image_of self.now pictures.now) }
+        ensures correct { IfOk result (λ image. Correct self.now.pipeline pictures.now self.now.boxes.layout.phases image) }
         ensures err { IfErr result (IsRefusedInput (judged self.now.pipeline.inputs pictures.now)) }
     {
         if let Some(error) = judge(self.pipeline.inputs(), pictures) {

@@ -1,10 +1,12 @@
-use Rattle.std.proofs.Common.{◌≡◌, ◌≤◌, ◌+◌, ◌*◌, ℕ, List, Some, ◌++◌, map, sym, ap, subst, ◌∙◌}
+use Rattle.std.proofs.Common.{◌≡◌, ◌≤◌, ◌+◌, ◌*◌, ℕ, List, Some, None, ◌++◌, map, sym, ap, subst, ◌∙◌}
 use Rattle.halide_pipeline.specs.declared.definitions.Input.{Input}
 use Rattle.bounds.specs.Layout.{input_bytes, total}
 use Rattle.picture.specs.Evaluated.{judged}
-use Rattle.compiler.specs.Compiled.{CompiledContents, output_of}
+use Rattle.compiler.specs.Compiled.{CompiledContents, IsCompiled, output_of}
+use Rattle.compiler.specs.Correct.{Correct}
 use Rattle.compiler.specs.Data.{image_data}
 use Rattle.compiler.specs.Images.{image_of}
+use Rattle.compiler.proofs.Correct.{correct}
 use Rattle.compiler.proofs.Images.{is_ok, ok_is, parts_pass}
 use Rattle.compiler.proofs.Low.{inputs_fit, lies_low}
 use Rattle.compiler.proofs.compiled.Compiled.image.Goals as goal
@@ -38,3 +40,12 @@ returns-clause-is c =
     (c.in_ok-data.ensures.is ∙ ap (λ (inputs : List Input). image_data c.self.inside.boxes.layout inputs c.args.pictures.now) c.inputs-2.ensures.value)
     (subst (λ (own : CompiledContents). Some c.output-output.result ≡ output_of own.pipeline own.boxes) (sym c.self.view_is) c.output-output.ensures))
     c.unwrap.ensures)
+
+pub returns-clause-correct : goal.returns-clause-correct
+returns-clause-correct c =
+    let rules = subst IsCompiled c.self.view_is c.self.invariant in
+    let none =
+    subst (λ (own : CompiledContents). judged own.pipeline.inputs c.args.pictures.now ≡ None) c.self.view_is
+    (ap (λ (inputs : List Input). judged inputs c.args.pictures.now) (sym c.inputs.ensures.value) ∙ (sym c.judge.ensures ∙ c.in_default.is)) in
+    subst (Correct c.args.self.now.pipeline c.args.pictures.now c.args.self.now.boxes.layout.phases) (sym (returns-clause-is c))
+    (correct c.args.self.now rules c.args.pictures.now none c.in_ok-data.ensures.rules)
