@@ -3,6 +3,8 @@ pub mod Folds
 pub mod Loads
 pub mod Points
 pub mod Sound
+pub mod Stored
 pub mod Sums
+pub mod Traces
 pub mod Trees
 pub mod Turns

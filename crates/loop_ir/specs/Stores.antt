@@ -2,7 +2,7 @@
 --
 -- Which points it stores at may hang on what buffers hold, so the test goes along with the run.
 -- This project's own.
-use Rattle.std.specs.Prelude.{ℕ, ◌==◌, ◌&&◌, ◌||◌, nat_lt, if◌then◌else◌, Bool, false}
+use Rattle.std.specs.Prelude.{◌≡◌, ℕ, ◌==◌, ◌&&◌, ◌||◌, nat_lt, if◌then◌else◌, Bool, true, false}
 use Rattle.halide_meaning.specs.Pixel.{Planes, reads_of}
 use Rattle.loop_ir.specs.declared.statements.Phase.{Phase}
 use Rattle.loop_ir.specs.declared.statements.Stmt.{Stmt, fold-Stmt}
@@ -11,7 +11,7 @@ use Rattle.loop_ir.specs.declared.statements.Stmt.TheOpen as layer
 use Rattle.loop_ir.specs.Buffers.{Points}
 use Rattle.loop_ir.specs.Counters.{Values, with}
 use Rattle.loop_ir.specs.Expressions.{value}
-use Rattle.loop_ir.specs.Running.{stored, turns, whole_value, task_values}
+use Rattle.loop_ir.specs.Running.{stored, turns, whole_value, task_values, run}
 
 -- what buffers hold so far, and whether any store so far was at the point
 pub record Trace : Type 0 where
@@ -39,3 +39,20 @@ is_stored_by points inputs func x y statement values funcs =
 -- one task of a phase does
 abbrev pub is_stored_by_task : Points → Planes → Phase → ℕ → ℕ → ℕ → ℕ → Planes → Bool
 is_stored_by_task points inputs phase task func x y funcs = is_stored_by points inputs func x y phase.body (task_values phase.counter task) funcs
+
+-- ---- laws
+
+-- What buffers hold so far is what the run leaves.
+abbrev pub TracesFollowRuns : Type 0
+TracesFollowRuns = (points : Points) (inputs : Planes) (func x y : ℕ) (statement : Stmt) (values : Values) (so_far : Trace)
+    → (trace points inputs func x y statement values so_far).funcs ≡ run points inputs statement values so_far.funcs
+
+-- What is stored stays so.
+abbrev pub StoredStaysStored : Type 0
+StoredStaysStored = (points : Points) (inputs : Planes) (func x y : ℕ) (statement : Stmt) (values : Values) (so_far : Trace)
+    → so_far.is_stored ≡ true → (trace points inputs func x y statement values so_far).is_stored ≡ true
+
+-- A point at which nothing is stored holds what it held.
+abbrev pub OtherPointsStay : Type 0
+OtherPointsStay = (points : Points) (inputs : Planes) (func x y : ℕ) (statement : Stmt) (values : Values) (funcs : Planes)
+    → is_stored_by points inputs func x y statement values funcs ≡ false → run points inputs statement values funcs func x y ≡ funcs func x y

@@ -2,6 +2,7 @@
 
 ghost use Rattle.loop_ir.specs.Expressions.{SeesValues, ValuesDependOnLoads};
 ghost use Rattle.loop_ir.specs.Soundness.{SoundStatementsWriteWhatIsThere};
+ghost use Rattle.loop_ir.specs.Stores.{OtherPointsStay, StoredStaysStored, TracesFollowRuns};
 
 /// The value that is seen beside what an expression loads is the expression's.
 pub fn values_are_seen()
@@ -16,4 +17,19 @@ pub fn values_depend_on_loads()
 /// A sound statement does the same whatever is said of points that it doesn't write.
 pub fn sound_statements_write_what_is_there()
     ensures { SoundStatementsWriteWhatIsThere }
+{}
+
+/// What the test of a stored point takes buffers to hold is what the run leaves.
+pub fn traces_follow_runs()
+    ensures { TracesFollowRuns }
+{}
+
+/// A point that is stored at once is stored at after all that follows.
+pub fn stored_stays_stored()
+    ensures { StoredStaysStored }
+{}
+
+/// A point at which a statement doesn't store holds what it held.
+pub fn other_points_stay()
+    ensures { OtherPointsStay }
 {}

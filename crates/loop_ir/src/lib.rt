@@ -6,8 +6,8 @@
 //! - [`buffers`]: pixels of inputs and Funcs (`specs/Buffers.antt`).
 //! - [`running`]: **what a statement and a phase do to the buffers** (`specs/Running.antt`).
 //! - [`linear`]: sums of counters times strides, and what is made of them.
-//! - [`laws`]: what an expression loads decides its value, and sound statements only write points that are there
-//!   (`specs/Soundness.antt`).
+//! - [`laws`]: what an expression loads decides its value, sound statements only write points that are there
+//!   (`specs/Soundness.antt`), and a point stays where nothing is stored at it (`specs/Stores.antt`).
 #![tactic(auto)]
 
 pub mod buffers;
