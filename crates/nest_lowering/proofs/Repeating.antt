@@ -20,6 +20,7 @@ use Rattle.loop_ir.specs.Buffers.{Points}
 use Rattle.loop_ir.specs.Counters.{Values, with}
 use Rattle.loop_ir.specs.Running.{run, turns, whole_value}
 use Rattle.loop_ir.specs.Soundness.{every, is_sound}
+use Rattle.loop_ir.specs.Stores.{Trace, trace}
 use Rattle.nest_lowering.specs.Nests.{loops_of, put_loops, all, AreSmall, Repeats}
 
 -- ---- lists
@@ -76,6 +77,7 @@ module _ (func : ℕ) where
   pub repeats_itself : (body : Stmt) → Repeats func body body (λ inner. inner ∷ [])
   repeats_itself body = record {
     runs = λ points inputs values funcs are. ap (λ (v : Values). run points inputs body v funcs) (sym (put_own values));
+    traces = λ points inputs place x y values so_far are. ap (λ (v : Values). trace points inputs place x y body v so_far) (sym (put_own values));
     sound = λ reads written loaded values are. ap (λ (v : Values). is_sound reads written loaded body v) (sym (put_own values)) ∙ and_more (is_sound reads written loaded body (put_loops func (loops_of func values) values));
   }
     where
@@ -110,6 +112,13 @@ module _ (func : ℕ) where
         ∙ ap (λ (at : loops.Values). all (λ (inner : loops.Values). run points inputs leaf (put_loops func inner (with (counter id) n values))) (list at) funcs) (loops_with id n values)
         ∙ ap (λ (put : loops.Values → Values). all (λ (inner : loops.Values). run points inputs leaf (put inner)) (list (loops.with id n (loops_of func values))) funcs) same_puts
 
+    traces_with : (points : Points) (inputs : Planes) (place x y : ℕ) (so_far : Trace) → trace points inputs place x y body (with (counter id) n values) so_far
+        ≡ all (λ inner. trace points inputs place x y leaf (put_loops func inner values)) (list (loops.with id n (loops_of func values))) so_far
+    traces_with points inputs place x y so_far =
+        repeats.traces points inputs place x y (with (counter id) n values) so_far still
+        ∙ ap (λ (at : loops.Values). all (λ (inner : loops.Values). trace points inputs place x y leaf (put_loops func inner (with (counter id) n values))) (list at) so_far) (loops_with id n values)
+        ∙ ap (λ (put : loops.Values → Values). all (λ (inner : loops.Values). trace points inputs place x y leaf (put inner)) (list (loops.with id n (loops_of func values))) so_far) same_puts
+
     sound_with : (reads : Reads) (written : Points) (loaded : Point → Bool) → is_sound reads written loaded body (with (counter id) n values)
         ≡ list_all (λ inner. is_sound reads written loaded leaf (put_loops func inner values)) (list (loops.with id n (loops_of func values)))
     sound_with reads written loaded =
@@ -119,14 +128,20 @@ module _ (func : ℕ) where
 
   pub loop_repeats : (made body : Stmt) (id : LoopId) (count : ℕ) → count < 2 ^ 25
       → ((points : Points) (inputs : Planes) (values : Values) (funcs : Planes) → run points inputs made values funcs ≡ turns count (λ turn. run points inputs body (with (counter id) turn values)) funcs)
+      → ((points : Points) (inputs : Planes) (place x y : ℕ) (values : Values) (so_far : Trace)
+      → trace points inputs place x y made values so_far ≡ turns count (λ turn. trace points inputs place x y body (with (counter id) turn values)) so_far)
       → ((reads : Reads) (written : Points) (loaded : Point → Bool) (values : Values) → is_sound reads written loaded made values ≡ every count (λ turn. is_sound reads written loaded body (with (counter id) turn values)))
       → (leaf : Stmt) (list : loops.Values → List loops.Values) → Repeats func body leaf list
       → Repeats func made leaf (λ outer. upto count (λ turn. list (loops.with id turn outer)))
-  loop_repeats made body id count few runs_is sound_is leaf list repeats = record {
+  loop_repeats made body id count few runs_is traces_is sound_is leaf list repeats = record {
     runs = λ points inputs values funcs are.
         runs_is points inputs values funcs
         ∙ turns_upto count count (omega arith) (λ (turn : ℕ). run points inputs body (with (counter id) turn values)) (λ (inner : loops.Values). run points inputs leaf (put_loops func inner values)) (λ (turn : ℕ). list (loops.with id turn (loops_of func values)))
         (λ turn b below. runs_with leaf body list repeats id turn (omega (arith, few, below)) values are points inputs b) funcs;
+    traces = λ points inputs place x y values so_far are.
+        traces_is points inputs place x y values so_far
+        ∙ turns_upto count count (omega arith) (λ (turn : ℕ). trace points inputs place x y body (with (counter id) turn values)) (λ (inner : loops.Values). trace points inputs place x y leaf (put_loops func inner values)) (λ (turn : ℕ). list (loops.with id turn (loops_of func values)))
+        (λ turn b below. traces_with leaf body list repeats id turn (omega (arith, few, below)) values are points inputs place x y b) so_far;
     sound = λ reads written loaded values are.
         sound_is reads written loaded values
         ∙ every_upto count count (omega arith) (λ (turn : ℕ). is_sound reads written loaded body (with (counter id) turn values)) (λ (inner : loops.Values). is_sound reads written loaded leaf (put_loops func inner values)) (λ (turn : ℕ). list (loops.with id turn (loops_of func values)))
@@ -139,6 +154,8 @@ module _ (func : ℕ) where
       (whole_is : (values : Values) → AreSmall (loops_of func values) → whole_value whole values ≡ begin_of split.tail split.factor extent (loops_of func values (ids.Outer place)) + loops_of func values (ids.Inner place))
       (runs_is : (points : Points) (inputs : Planes) (values : Values) (funcs : Planes) → run points inputs made values funcs
       ≡ cond (nat_lt (whole_value whole values) extent) (run points inputs body (with (counter split.of) (whole_value whole values) values) funcs) funcs)
+      (traces_is : (points : Points) (inputs : Planes) (place_of x y : ℕ) (values : Values) (so_far : Trace) → trace points inputs place_of x y made values so_far
+      ≡ cond (nat_lt (whole_value whole values) extent) (trace points inputs place_of x y body (with (counter split.of) (whole_value whole values) values) so_far) so_far)
       (sound_is : (reads : Reads) (written : Points) (loaded : Point → Bool) (values : Values) → is_sound reads written loaded made values
       ≡ cond (nat_lt (whole_value whole values) extent) (is_sound reads written loaded body (with (counter split.of) (whole_value whole values) values)) true)
       (before : loops.Values) (is : before split.of ≡ extent) (leaf : Stmt) (list : loops.Values → List loops.Values) (repeats : Repeats func body leaf list) where
@@ -168,6 +185,21 @@ module _ (func : ℕ) where
             ∙ ap (λ (e : ℕ). cond (nat_lt (at values) e) (run points inputs body (with (counter split.of) (at values) values) funcs) funcs) (sym is)
             ∙ run_by (at values) (nat_lt (at values) (before split.of)) refl
 
+      module _ (points : Points) (inputs : Planes) (place_of x y : ℕ) (so_far : Trace) where
+        trace_by : (n : ℕ) (t : Bool) → nat_lt n (before split.of) ≡ t
+            → cond t (trace points inputs place_of x y body (with (counter split.of) n values) so_far) so_far
+            ≡ all (λ inner. trace points inputs place_of x y leaf (put_loops func inner values)) (cond t (list (loops.with split.of n (loops_of func values))) []) so_far
+        trace_by n true e = traces_with leaf body list repeats split.of n (below n e) values are points inputs place_of x y so_far
+        trace_by n false e = refl
+
+        split_traces : trace points inputs place_of x y made values so_far ≡ all (λ inner. trace points inputs place_of x y leaf (put_loops func inner values)) (split_body before place split list (loops_of func values)) so_far
+        unfolding at
+        split_traces =
+            traces_is points inputs place_of x y values so_far
+            ∙ ap (λ (v : ℕ). cond (nat_lt v extent) (trace points inputs place_of x y body (with (counter split.of) v values) so_far) so_far) (at_is values are)
+            ∙ ap (λ (e : ℕ). cond (nat_lt (at values) e) (trace points inputs place_of x y body (with (counter split.of) (at values) values) so_far) so_far) (sym is)
+            ∙ trace_by (at values) (nat_lt (at values) (before split.of)) refl
+
       module _ (reads : Reads) (written : Points) (loaded : Point → Bool) where
         sound_by : (n : ℕ) (t : Bool) → nat_lt n (before split.of) ≡ t
             → cond t (is_sound reads written loaded body (with (counter split.of) n values)) true
@@ -186,5 +218,6 @@ module _ (func : ℕ) where
     pub split_repeats : Repeats func made leaf (split_body before place split list)
     split_repeats = record {
       runs = λ points inputs values funcs are. split_runs values are points inputs funcs;
+      traces = λ points inputs place_of x y values so_far are. split_traces values are points inputs place_of x y so_far;
       sound = λ reads written loaded values are. split_sound values are reads written loaded;
     }

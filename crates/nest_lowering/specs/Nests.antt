@@ -14,6 +14,7 @@ use Rattle.loop_ir.specs.Buffers.{Points}
 use Rattle.loop_ir.specs.Counters.{Values}
 use Rattle.loop_ir.specs.Running.{run}
 use Rattle.loop_ir.specs.Soundness.{is_sound}
+use Rattle.loop_ir.specs.Stores.{Trace, trace}
 
 -- what the loops of a Func stand at
 abbrev pub loops_of : ℕ → Values → loops.Values
@@ -36,11 +37,13 @@ AreSmall values = (id : LoopId) → values id < 2 ^ 25
 abbrev pub AreFew : Extents → Type 0
 AreFew extents = (variable : Variable) → extent_of extents variable ≤ 2 ^ 20
 
--- A statement does what another does under each of the values of a Func's loops that are listed for those outside, one after the other,
--- and it is sound exactly if the other is under each of them.
+-- A statement does what another does under each of the values of a Func's loops that are listed for those outside, one after the other:
+-- it stores where the other does under each of them, and it is sound exactly if the other is under each of them.
 pub record Repeats (func : ℕ) (made body : Stmt) (list : loops.Values → List loops.Values) : Type 0 where
   pub runs : (points : Points) (inputs : Planes) (values : Values) (funcs : Planes) → AreSmall (loops_of func values)
       → run points inputs made values funcs ≡ all (λ inner. run points inputs body (put_loops func inner values)) (list (loops_of func values)) funcs
+  pub traces : (points : Points) (inputs : Planes) (place x y : ℕ) (values : Values) (so_far : Trace) → AreSmall (loops_of func values)
+      → trace points inputs place x y made values so_far ≡ all (λ inner. trace points inputs place x y body (put_loops func inner values)) (list (loops_of func values)) so_far
   pub sound : (reads : Reads) (written : Points) (loaded : Point → Bool) (values : Values) → AreSmall (loops_of func values)
       → is_sound reads written loaded made values ≡ list_all (λ inner. is_sound reads written loaded body (put_loops func inner values)) (list (loops_of func values))
 

@@ -1,6 +1,6 @@
 //! Loops around a body.
 
-ghost use Rattle.std.specs.Prelude.{◌≡◌, ◌+◌, Bool, List, IfOk, length, suc};
+ghost use Rattle.std.specs.Prelude.{◌≡◌, ◌+◌, ℕ, Bool, List, IfOk, length, suc};
 ghost use Rattle.halide_meaning.specs.Pixel.{Planes, Reads};
 ghost use Rattle.reads.specs.Points.{Point};
 ghost use Rattle.loop_ir.specs.Buffers.{Points};
@@ -8,6 +8,7 @@ ghost use Rattle.loop_ir.specs.Counters.{Values, with};
 ghost use Rattle.loop_ir.specs.Depths.{depth};
 ghost use Rattle.loop_ir.specs.Running.{run, turns};
 ghost use Rattle.loop_ir.specs.Soundness.{every, is_sound};
+ghost use Rattle.loop_ir.specs.Stores.{Trace, trace};
 ghost use Rattle.loop_ir.specs.declared.statements.Stmt.{Stmt};
 ghost use Rattle.nest_lowering.specs.Nests.{AreFew, Repeats};
 ghost use Rattle.stage_loops.specs.Counts as counts;
@@ -44,6 +45,8 @@ fn looped(
 ) -> Result<Stmt, AllocError>
     ensures runs { IfOk result (λ made. (points : Points) (inputs : Planes) (values : Values) (funcs : Planes)
         → run points inputs made values funcs ≡ turns count (λ turn. run points inputs body (with counter turn values)) funcs) }
+    ensures traces { IfOk result (λ made. (points : Points) (inputs : Planes) (place x y : ℕ) (values : Values) (so_far : Trace)
+        → trace points inputs place x y made values so_far ≡ turns count (λ turn. trace points inputs place x y body (with counter turn values)) so_far) }
     ensures sound { IfOk result (λ made. (reads : Reads) (written : Points) (loaded : Point → Bool) (values : Values)
         → is_sound reads written loaded made values ≡ every count (λ turn. is_sound reads written loaded body (with counter turn values))) }
     ensures depth { IfOk result (λ made. depth made ≡ suc (depth body)) }
@@ -68,6 +71,8 @@ pub fn loop_once(
     requires few { AreFew sizes.now.extents }
     ensures runs { IfOk result (λ made. (points : Points) (inputs : Planes) (values : Values) (funcs : Planes) → run points inputs made values funcs
         ≡ turns (counts.counts sizes.now.extents sizes.now.splits own.now.id) (λ turn. run points inputs body (with (record { func = func; id = own.now.id }) turn values)) funcs) }
+    ensures traces { IfOk result (λ made. (points : Points) (inputs : Planes) (place x y : ℕ) (values : Values) (so_far : Trace) → trace points inputs place x y made values so_far
+        ≡ turns (counts.counts sizes.now.extents sizes.now.splits own.now.id) (λ turn. trace points inputs place x y body (with (record { func = func; id = own.now.id }) turn values)) so_far) }
     ensures sound { IfOk result (λ made. (reads : Reads) (written : Points) (loaded : Point → Bool) (values : Values) → is_sound reads written loaded made values
         ≡ every (counts.counts sizes.now.extents sizes.now.splits own.now.id) (λ turn. is_sound reads written loaded body (with (record { func = func; id = own.now.id }) turn values))) }
     ensures repeats { IfOk result (λ made. (leaf : Stmt) (list : counts.Values → List counts.Values) → Repeats func body leaf list

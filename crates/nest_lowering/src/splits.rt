@@ -1,6 +1,6 @@
 //! The values of loops that are split.
 
-ghost use Rattle.std.specs.Prelude.{◌≡◌, Bool, ◌+◌, ◌≤◌, ◌<◌, ◌^◌, List, nat_lt, true, if◌then◌else◌, IfOk, length, suc};
+ghost use Rattle.std.specs.Prelude.{◌≡◌, ℕ, Bool, ◌+◌, ◌≤◌, ◌<◌, ◌^◌, List, nat_lt, true, if◌then◌else◌, IfOk, length, suc};
 ghost use Rattle.halide_meaning.specs.Pixel.{Planes, Reads};
 ghost use Rattle.reads.specs.Points.{Point};
 ghost use Rattle.loop_ir.specs.Buffers.{Points};
@@ -8,6 +8,7 @@ ghost use Rattle.loop_ir.specs.Counters.{Values, with};
 ghost use Rattle.loop_ir.specs.Depths.{depth};
 ghost use Rattle.loop_ir.specs.Running.{run, whole_value};
 ghost use Rattle.loop_ir.specs.Soundness.{is_sound};
+ghost use Rattle.loop_ir.specs.Stores.{Trace, trace};
 ghost use Rattle.loop_ir.specs.declared.statements.Stmt.{Stmt};
 ghost use Rattle.nest_lowering.specs.Nests.{AreFew, AreSmall, Repeats, loops_of};
 ghost use Rattle.stage_loops.specs.Counts as counts;
@@ -55,6 +56,8 @@ fn bound(
 ) -> Result<Stmt, AllocError>
     ensures runs { IfOk result (λ made. (points : Points) (inputs : Planes) (values : Values) (funcs : Planes) → run points inputs made values funcs
         ≡ (if nat_lt (whole_value whole values) extent then run points inputs body (with counter (whole_value whole values) values) funcs else funcs)) }
+    ensures traces { IfOk result (λ made. (points : Points) (inputs : Planes) (place x y : ℕ) (values : Values) (so_far : Trace) → trace points inputs place x y made values so_far
+        ≡ (if nat_lt (whole_value whole values) extent then trace points inputs place x y body (with counter (whole_value whole values) values) so_far else so_far)) }
     ensures sound { IfOk result (λ made. (reads : Reads) (written : Points) (loaded : Point → Bool) (values : Values) → is_sound reads written loaded made values
         ≡ (if nat_lt (whole_value whole values) extent then is_sound reads written loaded body (with counter (whole_value whole values) values) else true)) }
     ensures depth { IfOk result (λ made. depth made ≡ suc (depth body)) }

@@ -8,4 +8,4 @@ use Rattle.nest_lowering.proofs.loops.loop_once.Goals as goal
 pub returns-clause-repeats : goal.returns-clause-repeats
 returns-clause-repeats c = λ leaf list repeats.
     subst (λ (n : ℕ). Repeats c.args.func c.in_ok-made.made leaf (λ (outer : loops.Values). upto n (λ (turn : ℕ). list (loops.with c.args.own.now.id turn outer)))) c.extent_of-count.ensures.is
-    (loop_repeats c.args.func c.in_ok-made.made c.args.body c.args.own.now.id c.extent_of-count.result c.extent_of-count.ensures.few c.in_ok-made.ensures.runs c.in_ok-made.ensures.sound leaf list repeats)
+    (loop_repeats c.args.func c.in_ok-made.made c.args.body c.args.own.now.id c.extent_of-count.result c.extent_of-count.ensures.few c.in_ok-made.ensures.runs c.in_ok-made.ensures.traces c.in_ok-made.ensures.sound leaf list repeats)

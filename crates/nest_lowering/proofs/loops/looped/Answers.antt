@@ -4,8 +4,10 @@ use Rattle.loop_ir.specs.Counters.{with}
 use Rattle.loop_ir.specs.Depths.{depth}
 use Rattle.loop_ir.specs.Running.{run, turns}
 use Rattle.loop_ir.specs.Soundness.{every, is_sound}
+use Rattle.loop_ir.specs.Stores.{trace}
 use Rattle.loop_ir.proofs.Depths.{depth_for}
 use Rattle.loop_ir.proofs.Sound.{sound_for}
+use Rattle.loop_ir.proofs.Traces.{trace_for}
 use Rattle.loop_ir.proofs.Trees.{run_for}
 use Rattle.nest_lowering.proofs.loops.looped.Goals as goal
 
@@ -13,6 +15,11 @@ pub returns-clause-runs : goal.returns-clause-runs
 returns-clause-runs c = λ points inputs values funcs.
     run_for points inputs c.args.counter c.args.count c.args.kind c.in_ok-body.body values funcs
     ∙ ap (λ (own : Stmt). turns c.args.count (λ turn. run points inputs own (with c.args.counter turn values)) funcs) c.in_ok-body.ensures
+
+pub returns-clause-traces : goal.returns-clause-traces
+returns-clause-traces c = λ points inputs place x y values so_far.
+    trace_for points inputs place x y c.args.counter c.args.count c.args.kind c.in_ok-body.body values so_far
+    ∙ ap (λ (own : Stmt). turns c.args.count (λ turn. trace points inputs place x y own (with c.args.counter turn values)) so_far) c.in_ok-body.ensures
 
 pub returns-clause-sound : goal.returns-clause-sound
 returns-clause-sound c = λ reads written loaded values.

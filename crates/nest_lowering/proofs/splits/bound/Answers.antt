@@ -5,8 +5,10 @@ use Rattle.loop_ir.specs.Counters.{with}
 use Rattle.loop_ir.specs.Depths.{depth}
 use Rattle.loop_ir.specs.Running.{run, whole_value}
 use Rattle.loop_ir.specs.Soundness.{is_sound}
+use Rattle.loop_ir.specs.Stores.{trace}
 use Rattle.loop_ir.proofs.Depths.{depth_bind}
 use Rattle.loop_ir.proofs.Sound.{sound_bind}
+use Rattle.loop_ir.proofs.Traces.{trace_bind}
 use Rattle.loop_ir.proofs.Trees.{run_bind}
 use Rattle.nest_lowering.proofs.splits.bound.Goals as goal
 
@@ -15,6 +17,12 @@ returns-clause-runs c = λ points inputs values funcs.
     let n = whole_value c.args.whole values in
     run_bind points inputs c.args.counter c.args.whole c.args.extent c.in_ok-body.body values funcs
     ∙ ap (λ (own : Stmt). cond (nat_lt n c.args.extent) (run points inputs own (with c.args.counter n values) funcs) funcs) c.in_ok-body.ensures
+
+pub returns-clause-traces : goal.returns-clause-traces
+returns-clause-traces c = λ points inputs place x y values so_far.
+    let n = whole_value c.args.whole values in
+    trace_bind points inputs place x y c.args.counter c.args.whole c.args.extent c.in_ok-body.body values so_far
+    ∙ ap (λ (own : Stmt). cond (nat_lt n c.args.extent) (trace points inputs place x y own (with c.args.counter n values) so_far) so_far) c.in_ok-body.ensures
 
 pub returns-clause-sound : goal.returns-clause-sound
 returns-clause-sound c = λ reads written loaded values.
