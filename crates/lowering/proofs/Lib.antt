@@ -10,6 +10,7 @@ pub mod InOrder
 pub mod Lists
 pub mod Lowered
 pub mod Loads
+pub mod Marks
 pub mod LoopTurns
 pub mod Offsets
 pub mod Painting
@@ -19,6 +20,8 @@ pub mod RootFacts
 pub mod SoundHosts
 pub mod SoundTasks
 pub mod SplitsApart
+pub mod StoredHosts
+pub mod StoredTasks
 pub mod Storing
 pub mod Tasks
 pub mod Using

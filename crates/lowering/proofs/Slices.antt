@@ -1,9 +1,10 @@
 -- Steps that each take a slice one further: what stands behind all of them.
-use Rattle.std.proofs.Common.{◌≡◌, ℕ, zero, suc, ◌+◌, ◌-◌, Bool, true, false, cond, List, [], ◌∷◌, map, refl, sym, ap, ◌∙◌, arith}
-use Rattle.std.specs.Prelude.{◌&&◌}
-use Rattle.std.specs.List.{AllByRecursion}
+use Rattle.std.proofs.Common.{◌≡◌, ℕ, zero, suc, ◌+◌, ◌-◌, Bool, true, false, cond, List, [], ◌∷◌, map, refl, sym, ap, subst, ◌∙◌, arith}
+use Rattle.std.specs.Prelude.{◌&&◌, ◌||◌}
+use Rattle.std.specs.List.{AllByRecursion, list_any}
 use Rattle.halide_meaning.specs.Pixel.{Planes}
 use Rattle.stage_loops.specs.Visits.{Visit, is_slice, slice, rising}
+use Rattle.loop_ir.specs.Stores.{Trace}
 use Rattle.nest_lowering.specs.Nests.{all}
 
 -- ---- the first of what is left of a slice
@@ -133,3 +134,32 @@ module _ (own : ℕ) (begin : Planes) (inside : ℕ → ℕ → Bool) (column ro
         gone_more a others at left funcs goes.0 rise ready stand (all step others (step a funcs))
         (slices_go others (at_next a others at left funcs goes.0 rise ready stand) (left_next a others at left funcs goes.0 rise ready stand) (step a funcs) goes.1
         (rise_next a others at left funcs goes.0 rise ready stand) (ready_next a others at left funcs goes.0 rise ready stand) (stand_next a others at left funcs goes.0 rise ready stand))
+
+    -- ---- beside a trace
+
+    module _ (traced : A → Trace → Trace) (hit : A → Bool) where
+      -- a visit does what its step does, and stores at the point if it hits
+      abbrev pub Marks : A → Type 0
+      Marks a = (so_far : Trace) → Others so_far.funcs → HoldsAt (visit_of a) (visit_of a).number so_far.funcs
+          → ((traced a so_far).funcs ≡ step a so_far.funcs) × ((traced a so_far).is_stored ≡ (so_far.is_stored || hit a))
+
+      or_none : (b : Bool) → b ≡ (b || false)
+      or_none true = refl
+      or_none false = refl
+
+      or_or : (a b c : Bool) → ((a || b) || c) ≡ (a || (b || c))
+      or_or true b c = refl
+      or_or false b c = refl
+
+      -- So the point is stored at if one of the visits hits.
+      pub slices_mark : (list : List A) (at left : ℕ → ℕ → ℕ) (so_far : Trace) → AllByRecursion (λ a. Goes (visit_of a) (step a)) list → AllByRecursion Marks list → Rise at left list
+          → Others so_far.funcs → Stand at so_far.funcs → (all traced list so_far).is_stored ≡ (so_far.is_stored || list_any hit list)
+      slices_mark [] at left so_far goes marks rise ready stand = or_none so_far.is_stored
+      slices_mark (a ∷ others) at left so_far goes marks rise ready stand =
+          let funcs = so_far.funcs in
+          let made = marks.0 so_far ready (holds a others at left funcs goes.0 rise ready stand) in
+          slices_mark others (at_next a others at left funcs goes.0 rise ready stand) (left_next a others at left funcs goes.0 rise ready stand) (traced a so_far) goes.1 marks.1
+          (rise_next a others at left funcs goes.0 rise ready stand)
+          (subst Others (sym made.0) (ready_next a others at left funcs goes.0 rise ready stand))
+          (subst (Stand (at_next a others at left funcs goes.0 rise ready stand)) (sym made.0) (stand_next a others at left funcs goes.0 rise ready stand))
+          ∙ ap (λ (b : Bool). b || list_any hit others) made.1 ∙ or_or so_far.is_stored (hit a) (list_any hit others)

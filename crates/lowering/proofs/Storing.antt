@@ -1,7 +1,8 @@
 -- The store of a pure definition.
-use Rattle.std.proofs.Common.{◌≡◌, ℕ, Bool, true, List, ◌++◌, sym, ap, subst, ◌∙◌}
+use Rattle.std.proofs.Common.{◌≡◌, ℕ, Bool, true, List, ◌++◌, refl, sym, ap, subst, ◌∙◌}
+use Rattle.std.specs.Prelude.{◌==◌, ◌&&◌, ◌||◌}
 use Rattle.std.specs.List.{list_all}
-use Rattle.std.proofs.lemmas.Bool.{and_from}
+use Rattle.std.proofs.lemmas.Bool.{and_from, eq-eqb}
 use Rattle.halide_pipeline.specs.declared.definitions.Func.{Func}
 use Rattle.halide_pipeline.specs.declared.expressions.Expr.{Expr}
 use Rattle.halide_pipeline.specs.declared.expressions.Variable.TheVariants as variables
@@ -25,13 +26,15 @@ use Rattle.loop_ir.specs.Buffers.{Points, put}
 use Rattle.loop_ir.specs.Counters.{Values}
 use Rattle.loop_ir.specs.Expressions.{linear_value, loads, value, value_at}
 use Rattle.loop_ir.specs.Soundness.{is_sound, store_loads}
+use Rattle.loop_ir.specs.Stores.{Trace}
 use Rattle.loop_ir.proofs.Sound.{sound_store}
+use Rattle.loop_ir.proofs.Traces.{trace_store}
 use Rattle.loop_ir.proofs.Trees.{run_store}
 use Rattle.expression_lowering.specs.declared.calls.Corner.{Corner}
 use Rattle.expression_lowering.specs.declared.lowering.Arguments.{Arguments}
 use Rattle.expression_lowering.specs.Lowering.{environment, placed, place as place_in}
 use Rattle.expression_lowering.proofs.Following.{linear_passes}
-use Rattle.lowering.specs.PurePhases.{StoresPure, IsSoundPure, whole_at}
+use Rattle.lowering.specs.PurePhases.{StoresPure, HitsPure, IsSoundPure, whole_at}
 use Rattle.lowering.proofs.Lists.{all_pass}
 
 value_linear : (reads : Reads) (values : Values) (own : Linear) → value reads values (e.Linear own) ≡ linear_value values own
@@ -58,6 +61,16 @@ stores_pure corners flags funcs place corner pure x y made arguments environment
     ∙ ap (λ (n : ℕ). put points place n (value reads values (e.Linear y)) (value reads values made) buffers) at_x
     ∙ ap (λ (n : ℕ). put points place (whole_at values place variables.FirstArgument) n (value reads values made) buffers) at_y
     ∙ ap (λ (n : ℕ). put points place (whole_at values place variables.FirstArgument) (whole_at values place variables.SecondArgument) n buffers) written
+
+pub hits_pure : (place : ℕ) (x y : Linear) (made : expressions.Expr) → ((values : Values) → linear_value values x ≡ whole_at values place variables.FirstArgument)
+    → ((values : Values) → linear_value values y ≡ whole_at values place variables.SecondArgument)
+    → HitsPure place (s.Store (record { func = place; x = e.Linear x; y = e.Linear y; value = made }))
+hits_pure place x y made x_is y_is points inputs p q values so_far =
+    let reads = reads_of inputs so_far.funcs in
+    ap (λ (t : Trace). t.is_stored) (trace_store points inputs place p q (record { func = place; x = e.Linear x; y = e.Linear y; value = made }) values so_far)
+    ∙ ap (λ (b : Bool). so_far.is_stored || (b && (value reads values (e.Linear x) == p && value reads values (e.Linear y) == q))) (eq-eqb place place refl)
+    ∙ ap (λ (n : ℕ). so_far.is_stored || (n == p && value reads values (e.Linear y) == q)) (value_linear reads values x ∙ x_is values)
+    ∙ ap (λ (n : ℕ). so_far.is_stored || (whole_at values place variables.FirstArgument == p && n == q)) (value_linear reads values y ∙ y_is values)
 
 -- ---- what it touches
 

@@ -28,13 +28,15 @@ use Rattle.box_laws.proofs.Callers.{or_right}
 use Rattle.box_laws.proofs.PutIn.{flags}
 use Rattle.loop_ir.specs.declared.statements.Stmt.{Stmt}
 use Rattle.loop_ir.specs.Counters.{Values}
-use Rattle.nest_lowering.specs.Nests.{all}
+use Rattle.loop_ir.specs.Stores.{Trace, trace}
+use Rattle.nest_lowering.specs.Nests.{put_loops, all}
 use Rattle.expression_lowering.specs.declared.calls.Corner.{Corner}
-use Rattle.lowering.specs.Planes.{BoxCorner, has_point}
-use Rattle.lowering.specs.Updates.{StoresUpdate, update_extents, is_visited, IsCornerAt, IsBegin, ReadsPixels, host_at, hosted_turns, stage_from}
+use Rattle.lowering.specs.Planes.{BoxCorner, has_point, box_points}
+use Rattle.lowering.specs.Stored.{named_point, is_point}
+use Rattle.lowering.specs.Updates.{StoresUpdate, HitsUpdate, update_extents, is_visited, IsCornerAt, IsBegin, ReadsPixels, host_at, hosted_turns, stage_from}
 use Rattle.lowering.proofs.Lists.{all_map}
-use Rattle.lowering.proofs.Slices.{Goes, Gone, slices_go}
-use Rattle.lowering.proofs.UpdateSteps.{ReadsOwn, from_begin, column_in, row_in, step, goes}
+use Rattle.lowering.proofs.Slices.{Goes, Gone, Marks, slices_go, slices_mark}
+use Rattle.lowering.proofs.UpdateSteps.{ReadsOwn, from_begin, column_in, row_in, step, goes, marks}
 
 -- ---- lists
 
@@ -97,17 +99,23 @@ module _ (pipeline : Pipeline) (schedule : Schedule) (boxes : Boxes) (rules : Is
   abbrev Closed : Visit → Type 0
   Closed visit = (i j : ℕ) → has_point (Some own) i j ≡ true → is_visited update i j visit ≡ true → inside i j ≡ true
 
+  abbrev Known : loops.Values → Type 0
+  Known inner = (IsVisitOf func (Some update) extents (visit_of extents inner) × Closed (visit_of extents inner)) × (inner (ids.Whole variables.FirstReduction) < update.first.extent)
+
+  all_known : AllByRecursion Known list
+  all_known =
+      all_and (λ inner. IsVisitOf func (Some update) extents (visit_of extents inner) × Closed (visit_of extents inner)) (λ inner. inner (ids.Whole variables.FirstReduction) < update.first.extent) list
+      (all_map (λ visit. IsVisitOf func (Some update) extents visit × Closed visit) (λ inner. IsVisitOf func (Some update) extents (visit_of extents inner) × Closed (visit_of extents inner)) (visit_of extents) (λ inner p. p) list
+      (all_and (IsVisitOf func (Some update) extents) Closed (map (visit_of extents) list) visits closed))
+      reduced
+
   all_go : AllByRecursion IsGone list
   all_go =
-      all_so (λ inner. (IsVisitOf func (Some update) extents (visit_of extents inner) × Closed (visit_of extents inner)) × (inner (ids.Whole variables.FirstReduction) < update.first.extent)) IsGone
+      all_so Known IsGone
       (λ inner p.
       goes pipeline schedule boxes rules accepted is place func own func_is box_is standing there computed at update update_is inputs begun turns below begin begins corners before corner corner_is reads_own store stores funcs reads_others inside
       inner p.0.0 p.1 p.0.1 in_box)
-      list
-      (all_and (λ inner. IsVisitOf func (Some update) extents (visit_of extents inner) × Closed (visit_of extents inner)) (λ inner. inner (ids.Whole variables.FirstReduction) < update.first.extent) list
-      (all_map (λ visit. IsVisitOf func (Some update) extents visit × Closed visit) (λ inner. IsVisitOf func (Some update) extents (visit_of extents inner) × Closed (visit_of extents inner)) (visit_of extents) (λ inner p. p) list
-      (all_and (IsVisitOf func (Some update) extents) Closed (map (visit_of extents) list) visits closed))
-      reduced)
+      list all_known
 
   -- before the first point
   at_first : (i j : ℕ) → stage_from pipeline inputs place func begin at i j ≡ stands_at 0 i j
@@ -134,3 +142,26 @@ module _ (pipeline : Pipeline) (schedule : Schedule) (boxes : Boxes) (rules : Is
 
     pub stays : (other i j : ℕ) → (other ≡ place → inside i j ≡ false) → all steps list funcs other i j ≡ funcs other i j
     stays = gone.keeps
+
+    -- ---- beside a trace
+
+    module _ (hits : HitsUpdate corners (flags pipeline schedule) pipeline.funcs place corner update store) (x y : ℕ) where
+      abbrev traced : loops.Values → Trace → Trace
+      traced inner = trace (box_points boxes.funcs) inputs place x y store (put_loops place inner before)
+
+      abbrev is_hit : loops.Values → Bool
+      is_hit inner = is_point x y (named_point (reads_of inputs (pixels pipeline.funcs inputs place)) begin update (visit_of extents inner))
+
+      all_mark : AllByRecursion (Marks place funcs inside columns rows stands_at (visit_of extents) steps traced is_hit) list
+      all_mark =
+          all_so Known (Marks place funcs inside columns rows stands_at (visit_of extents) steps traced is_hit)
+          (λ inner p.
+          marks pipeline schedule boxes rules accepted is place func own func_is box_is standing there computed at update update_is inputs begun turns below begin begins corners before corner corner_is reads_own store stores funcs reads_others
+          inside inner p.0.0 p.1 p.0.1 in_box hits x y)
+          list all_known
+
+      -- the point is stored at if the left side names it at one of the visits
+      pub stores_named : (all traced list (record { funcs = funcs; is_stored = false })).is_stored ≡ list_any is_hit list
+      stores_named =
+          slices_mark place funcs inside columns rows stands_at (visit_of extents) steps traced is_hit list (λ i j. 0) (λ i j. points update) (record { funcs = funcs; is_stored = false }) all_go all_mark in_order (λ k i j other. refl)
+          (λ i j e. holds i j e ∙ at_first i j)

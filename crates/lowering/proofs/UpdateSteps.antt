@@ -1,6 +1,6 @@
 -- One visit of an update takes its slice one further.
 use Rattle.std.proofs.Common.{◌≡◌, ℕ, suc, ◌^◌, ◌<◌, ◌≤◌, Bool, true, false, cond, List, [], ◌∷◌, Option, Some, None, refl, sym, ap, subst, ◌∙◌, arith, true≢false}
-use Rattle.std.specs.Prelude.{◌&&◌, ◌==◌, nat_lt, slice_get, Ok}
+use Rattle.std.specs.Prelude.{◌&&◌, ◌==◌, ◌||◌, nat_lt, slice_get, Ok}
 use Rattle.std.specs.List.{AllByRecursion}
 use Rattle.std.proofs.lemmas.Bool.{and_parts, and_from, ltb-true, eq-eqb, eqb-true}
 use Rattle.halide_pipeline.specs.declared.definitions.Func.{Func}
@@ -42,11 +42,14 @@ use Rattle.loop_ir.specs.Buffers.{Points, put}
 use Rattle.loop_ir.specs.Counters.{Values}
 use Rattle.loop_ir.specs.Expressions.{linear_value}
 use Rattle.loop_ir.specs.Running.{run}
+use Rattle.loop_ir.specs.Stores.{Trace, trace}
+use Rattle.loop_ir.proofs.Stored.{traces_follow_runs}
 use Rattle.nest_lowering.specs.Nests.{put_loops}
 use Rattle.expression_lowering.specs.declared.calls.Corner.{Corner}
 use Rattle.expression_lowering.specs.Lowering.{placed}
 use Rattle.lowering.specs.Planes.{BoxCorner, has_point, box_points}
-use Rattle.lowering.specs.Updates.{StoresUpdate, index_of, visited_point, update_extents, in_place, is_visited, IsCornerAt, IsBegin, ReadsPixels, host_at, hosted_turns}
+use Rattle.lowering.specs.Stored.{named_point, is_point}
+use Rattle.lowering.specs.Updates.{StoresUpdate, HitsUpdate, index_of, visited_point, update_extents, in_place, is_visited, IsCornerAt, IsBegin, ReadsPixels, host_at, hosted_turns}
 use Rattle.lowering.proofs.AtVisit as visiting
 use Rattle.lowering.proofs.Begins.{back_on, same_test}
 use Rattle.lowering.proofs.Offsets.{add_turned}
@@ -247,6 +250,18 @@ module _ (pipeline : Pipeline) (schedule : Schedule) (boxes : Boxes) (rules : Is
       target_on : is_visited update i_of j_of visit ≡ true
       target_on = on_slice written_column written_row target_stays
 
+      column_at : word.subtract (inlined (valuing found) (flags pipeline schedule) pipeline.funcs place (variable (visited_point now place corner update)) update.left_x) (linear_value now corner.x) ≡ i_of
+      column_at =
+          ap (λ (p : Environment). word.subtract (inlined (valuing found) (flags pipeline schedule) pipeline.funcs place (variable p) update.left_x) (linear_value now corner.x)) point_is
+          ∙ ap (word.subtract (inlined (valuing found) (flags pipeline schedule) pipeline.funcs place (variable (at_reduction update visit.number x y)) update.left_x)) (corner_is inner).0
+          ∙ ap (λ (n : ℕ). word.subtract n begin.x) (column_found pipeline schedule rules accepted place func func_is standing there computed at update update_is inputs begun visit.number x y found agree)
+
+      row_at : word.subtract (index_of (inlined (valuing found) (flags pipeline schedule) pipeline.funcs place (variable (visited_point now place corner update))) update.left_y) (linear_value now corner.y) ≡ j_of
+      row_at =
+          ap (λ (p : Environment). word.subtract (index_of (inlined (valuing found) (flags pipeline schedule) pipeline.funcs place (variable p)) update.left_y) (linear_value now corner.y)) point_is
+          ∙ ap (word.subtract (index_of (inlined (valuing found) (flags pipeline schedule) pipeline.funcs place (variable (at_reduction update visit.number x y))) update.left_y)) (corner_is inner).1
+          ∙ ap (λ (n : ℕ). word.subtract n begin.y) (row_found pipeline schedule rules accepted place func func_is standing there computed at update update_is inputs begun visit.number x y found agree)
+
       ran : step inner buffers ≡ put boxed place i_of j_of written buffers
       ran =
           stores boxed inputs now buffers
@@ -254,12 +269,7 @@ module _ (pipeline : Pipeline) (schedule : Schedule) (boxes : Boxes) (rules : Is
           (word.subtract (inlined (valuing found) (flags pipeline schedule) pipeline.funcs place (variable (visited_point now place corner update)) update.left_x) (linear_value now corner.x))
           (word.subtract (index_of (inlined (valuing found) (flags pipeline schedule) pipeline.funcs place (variable (visited_point now place corner update))) update.left_y) (linear_value now corner.y))
           (inlined (valuing found) (flags pipeline schedule) pipeline.funcs (suc place) (variable (visited_point now place corner update)) update.right) i_of j_of written
-          (ap (λ (p : Environment). word.subtract (inlined (valuing found) (flags pipeline schedule) pipeline.funcs place (variable p) update.left_x) (linear_value now corner.x)) point_is
-          ∙ ap (word.subtract (inlined (valuing found) (flags pipeline schedule) pipeline.funcs place (variable (at_reduction update visit.number x y)) update.left_x)) (corner_is inner).0
-          ∙ ap (λ (n : ℕ). word.subtract n begin.x) (column_found pipeline schedule rules accepted place func func_is standing there computed at update update_is inputs begun visit.number x y found agree))
-          (ap (λ (p : Environment). word.subtract (index_of (inlined (valuing found) (flags pipeline schedule) pipeline.funcs place (variable p)) update.left_y) (linear_value now corner.y)) point_is
-          ∙ ap (word.subtract (index_of (inlined (valuing found) (flags pipeline schedule) pipeline.funcs place (variable (at_reduction update visit.number x y))) update.left_y)) (corner_is inner).1
-          ∙ ap (λ (n : ℕ). word.subtract n begin.y) (row_found pipeline schedule rules accepted place func func_is standing there computed at update update_is inputs begun visit.number x y found agree))
+          column_at row_at
           (ap (λ (p : Environment). inlined (valuing found) (flags pipeline schedule) pipeline.funcs (suc place) (variable p) update.right) point_is
           ∙ right_found pipeline schedule rules accepted place func func_is standing there computed at update update_is inputs begun visit.number x y found agree)
 
@@ -335,3 +345,19 @@ module _ (pipeline : Pipeline) (schedule : Schedule) (boxes : Boxes) (rules : Is
       does = λ buffers ready holds i j in_it on. goes_on buffers ready holds i j in_it on;
       keeps = λ buffers ready holds other i j free. stays_at buffers ready holds other i j free;
     }
+
+    -- ---- beside a trace
+
+    abbrev corner_point : ℕ × ℕ
+    corner_point = named_point (reads_of inputs (pixels pipeline.funcs inputs place)) begin update visit
+
+    module _ (hits : HitsUpdate corners (flags pipeline schedule) pipeline.funcs place corner update store) (p q : ℕ) where
+      pub marks : (so_far : Trace) → Others place funcs0 inside column_in row_in from_begin so_far.funcs → HoldsAt place funcs0 inside column_in row_in from_begin visit visit.number so_far.funcs
+          → ((trace boxed inputs place p q store now so_far).funcs ≡ step inner so_far.funcs) × ((trace boxed inputs place p q store now so_far).is_stored ≡ (so_far.is_stored || is_point p q corner_point))
+      marks so_far ready holds = (
+        traces_follow_runs boxed inputs place p q store now so_far,
+        hits boxed inputs p q now so_far
+            ∙ ap (λ (n : ℕ). so_far.is_stored || (n == p && word.subtract (index_of (inlined (valuing (found so_far.funcs ready holds)) (flags pipeline schedule) pipeline.funcs place (variable (visited_point now place corner update))) update.left_y) (linear_value now corner.y) == q))
+            (column_at so_far.funcs ready holds)
+            ∙ ap (λ (n : ℕ). so_far.is_stored || (i_of so_far.funcs ready holds == p && n == q)) (row_at so_far.funcs ready holds),
+      )

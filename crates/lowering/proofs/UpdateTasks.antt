@@ -52,6 +52,7 @@ use Rattle.loop_ir.specs.Buffers.{Points}
 use Rattle.loop_ir.specs.Counters.{Values}
 use Rattle.loop_ir.specs.Running.{run, task_values, run_task}
 use Rattle.loop_ir.specs.Soundness.{is_sound}
+use Rattle.loop_ir.specs.Stores.{Trace, is_stored_by, is_stored_by_task}
 use Rattle.nest_lowering.specs.Nests.{loops_of, put_loops, all, AreSmall, Repeats}
 use Rattle.nest_lowering.proofs.Few.{few_turns}
 use Rattle.schedule_lines.specs.Loops.{same_id}
@@ -60,16 +61,17 @@ use Rattle.lowering.specs.Phases.{Hold, DoesTask, DoesPhase}
 use Rattle.lowering.specs.Planes.{BoxCorner, word_at, corner_of, held, has_point, box_points}
 use Rattle.lowering.specs.PurePhases.{IsAtRoot, inside_of, counter_of}
 use Rattle.lowering.specs.Stages.{is_private, after_stages}
+use Rattle.lowering.specs.Stored.{named_point, is_point, names}
 use Rattle.lowering.specs.Touching.{may_write, may_load, TouchesItsOwn}
 use Rattle.lowering.specs.Updates.{IsUpdateAt, IsUpdateStoreOf, LoadsOthers, update_extents, in_place, is_visited, owns_update, IsBegin, IsCornerAt, ReadsPixels, host_at, hosted_turns, stage_from}
-use Rattle.lowering.proofs.Lists.{all_pass, before_last}
+use Rattle.lowering.proofs.Lists.{any_map, all_pass, before_last}
 use Rattle.lowering.proofs.Loads.{update_loads}
 use Rattle.lowering.proofs.Offsets.{first_none}
 use Rattle.lowering.proofs.RootFacts.{is_box, no_lasts, from_corner_on, root_corner_at}
 use Rattle.lowering.proofs.SoundTasks.{own_writes, own_loads, roots_load}
 use Rattle.lowering.proofs.UpdateFacts.{has_reduction, points_are, first_extent, second_few}
 use Rattle.lowering.proofs.UpdateReads.{hosts_none, none_within, roots_are_shared, reads_pixels}
-use Rattle.lowering.proofs.UpdateRuns.{members, all_so, leaves, stays}
+use Rattle.lowering.proofs.UpdateRuns.{members, all_so, leaves, stays, stores_named}
 use Rattle.lowering.proofs.UpdateSteps.{ReadsOwn}
 use Rattle.lowering.proofs.UpdateSlices.{slice_there}
 use Rattle.lowering.proofs.UpdateStages.{staged, splits, few}
@@ -262,6 +264,26 @@ module _ (pipeline : Pipeline) (schedule : Schedule) (boxes : Boxes) (rules : Is
           ap (λ (f : Planes). f other x y) (ran funcs)
           ∙ stays pipeline schedule boxes rules accepted is place func own root.func_is root.box_is root.standing root.there computed at update it.update_is inputs begun no_loops below begin begins store_of.corners before store_of.corner corner_is reads_own
           store store_of.stores funcs others list all_visits reduced owned in_box closed in_order holds other x y free
+
+      -- ---- where it stores
+
+      abbrev is_hit : ℕ → ℕ → loops.Values → Bool
+      is_hit x y inner = is_point x y (named_point (reads_of inputs (pixels pipeline.funcs inputs place)) begin update (visit_of extents inner))
+
+      names_are : (x y : ℕ) → names pipeline inputs place own update stage number x y ≡ list_any (is_hit x y) list
+      names_are x y =
+          let left = named_point (reads_of inputs (pixels pipeline.funcs inputs place)) begin update in
+          any_map (is_point x y) left (iteration extents stage number)
+          ∙ ap (list_any (λ (visit : Visit). is_point x y (left visit))) visits_are ∙ any_map (λ (visit : Visit). is_point x y (left visit)) (visit_of extents) list
+
+      pub task_stores : (x y : ℕ) → is_stored_by_task (box_points boxes.funcs) inputs phase number place x y funcs ≡ names pipeline inputs place own update stage number x y
+      task_stores x y =
+          let begins_so : Trace = record { funcs = funcs; is_stored = false } in
+          ap (λ (c : Option Counter). is_stored_by (box_points boxes.funcs) inputs place x y phase.body (task_values c number) funcs) counter_is
+          ∙ ap (λ (t : Trace). t.is_stored) (repeats.traces (box_points boxes.funcs) inputs place x y before begins_so (small_by (parallel stage) below_count))
+          ∙ stores_named pipeline schedule boxes rules accepted is place func own root.func_is root.box_is root.standing root.there computed at update it.update_is inputs begun no_loops below begin begins store_of.corners before store_of.corner corner_is reads_own
+          store store_of.stores funcs others list all_visits reduced owned in_box closed in_order holds store_of.hits x y
+          ∙ sym (names_are x y)
 
     task : DoesTask (box_points boxes.funcs) (is_private schedule.standings) place start result owned (run_task (box_points boxes.funcs) inputs phase number)
     task = record { there = λ x y e. points_own x y ∙ in_box x y e; does = task_does; keeps = task_keeps }

@@ -35,6 +35,7 @@ use Rattle.loop_ir.specs.Counters.{Values, no_values, with}
 use Rattle.loop_ir.specs.Depths.{depth}
 use Rattle.loop_ir.specs.Running.{run, turns}
 use Rattle.loop_ir.specs.Soundness.{every, is_sound}
+use Rattle.loop_ir.specs.Stores.{Trace, trace}
 use Rattle.nest_lowering.specs.Nests.{loops_of, put_loops, Repeats}
 use Rattle.expression_lowering.specs.declared.calls.Corner.{Corner}
 use Rattle.expression_lowering.specs.Lowering.{placed, place as place_in}
@@ -65,6 +66,10 @@ abbrev pub run_first : Points → Planes → Option Stmt → Values → Planes �
 run_first points inputs None values funcs = funcs
 run_first points inputs (Some first) values funcs = run points inputs first values funcs
 
+abbrev pub trace_first : Points → Planes → ℕ → ℕ → ℕ → Option Stmt → Values → Trace → Trace
+trace_first points inputs place x y None values so_far = so_far
+trace_first points inputs place x y (Some first) values so_far = trace points inputs place x y first values so_far
+
 abbrev pub is_sound_first : Reads → Points → (Point → Bool) → Option Stmt → Values → Bool
 is_sound_first reads written loaded None values = true
 is_sound_first reads written loaded (Some first) values = is_sound reads written loaded first values
@@ -77,6 +82,8 @@ depth_first (Some first) = depth first
 pub record DoesFirst (found : Option Stmt) (rest made : Stmt) : Type 0 where
   pub runs : (points : Points) (inputs : Planes) (values : Values) (funcs : Planes)
       → run points inputs made values funcs ≡ run points inputs rest values (run_first points inputs found values funcs)
+  pub traces : (points : Points) (inputs : Planes) (place x y : ℕ) (values : Values) (so_far : Trace)
+      → trace points inputs place x y made values so_far ≡ trace points inputs place x y rest values (trace_first points inputs place x y found values so_far)
   pub sound : (reads : Reads) (written : Points) (loaded : Point → Bool) (values : Values)
       → is_sound reads written loaded made values ≡ (is_sound_first reads written loaded found values && is_sound reads written loaded rest values)
   pub depth_is : depth made ≡ max (depth_first found) (depth rest)
@@ -85,6 +92,8 @@ pub record DoesFirst (found : Option Stmt) (rest made : Stmt) : Type 0 where
 pub record DoesTurns (host : ℕ) (id : LoopId) (count : ℕ) (body made : Stmt) : Type 0 where
   pub runs : (points : Points) (inputs : Planes) (values : Values) (funcs : Planes)
       → run points inputs made values funcs ≡ turns count (λ turn. run points inputs body (with (record { func = host; id = id }) turn values)) funcs
+  pub traces : (points : Points) (inputs : Planes) (place x y : ℕ) (values : Values) (so_far : Trace)
+      → trace points inputs place x y made values so_far ≡ turns count (λ turn. trace points inputs place x y body (with (record { func = host; id = id }) turn values)) so_far
   pub sound : (reads : Reads) (written : Points) (loaded : Point → Bool) (values : Values)
       → is_sound reads written loaded made values ≡ every count (λ turn. is_sound reads written loaded body (with (record { func = host; id = id }) turn values))
   pub depth_is : depth made ≡ suc (depth body)

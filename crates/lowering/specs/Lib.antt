@@ -3,6 +3,7 @@ pub mod Order
 pub mod Planes
 pub mod Corners
 pub mod Stages
+pub mod Stored
 pub mod Touching
 pub mod HostedFuncs
 pub mod PurePhases

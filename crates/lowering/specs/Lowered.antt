@@ -28,6 +28,7 @@ use Rattle.lowering.specs.HostedFuncs.{hosted_from}
 use Rattle.lowering.specs.Planes.{corner_of, held, box_points, owns}
 use Rattle.lowering.specs.PurePhases.{IsAtRoot, byte_places}
 use Rattle.lowering.specs.Stages.{is_private, DoesStage}
+use Rattle.lowering.specs.Stored.{StoresItsOwn, StoresWhatItNames}
 use Rattle.lowering.specs.Touching.{TouchesItsOwn}
 use Rattle.lowering.specs.Updates.{IsUpdateAt, update_extents, owns_update}
 
@@ -35,16 +36,18 @@ use Rattle.lowering.specs.Updates.{IsUpdateAt, update_extents, owns_update}
 
 module _ (pipeline : Pipeline) (schedule : Schedule) (boxes : Boxes) where
   -- The phase of the stage with this number of a Func: how many tasks it has, which points each owns, which buffers are private, which
-  -- inputs are bytes, what its tasks touch, and that at most 14 counters stand around a store.
+  -- inputs are bytes, what its tasks touch, that at most 14 counters stand around a store, and which points its tasks store at.
   pub data IsStagePhase (place : ℕ) (func : Func) (plan : FuncPlan) (own : SourceBox) : ℕ → Phase → Type 0 where
     Pure : (phase : Phase) → phase.tasks ≡ iteration_count (extents_of own) plan.pure → phase.private ≡ hosted_from place 0 schedule.standings
         → phase.bytes ≡ byte_places 0 pipeline.inputs
         → DoesStage pipeline schedule boxes place func 0 (owns (extents_of own) plan.pure) phase
-        → TouchesItsOwn pipeline schedule boxes place (owns (extents_of own) plan.pure) phase → task_depth phase ≤ 14 → IsStagePhase place func plan own 0 phase
+        → TouchesItsOwn pipeline schedule boxes place (owns (extents_of own) plan.pure) phase → task_depth phase ≤ 14
+        → StoresItsOwn boxes place (owns (extents_of own) plan.pure) phase → IsStagePhase place func plan own 0 phase
     Updating : (at : ℕ) (update : Update) (stage : Stage) (phase : Phase) → IsUpdateAt schedule place func plan at update stage
         → phase.tasks ≡ iteration_count (update_extents own update) stage → phase.private ≡ [] → phase.bytes ≡ byte_places 0 pipeline.inputs
         → DoesStage pipeline schedule boxes place func (suc at) (owns_update own update stage) phase
-        → TouchesItsOwn pipeline schedule boxes place (owns_update own update stage) phase → task_depth phase ≤ 14 → IsStagePhase place func plan own (suc at) phase
+        → TouchesItsOwn pipeline schedule boxes place (owns_update own update stage) phase → task_depth phase ≤ 14
+        → StoresWhatItNames pipeline schedule boxes place func at own update stage phase → IsStagePhase place func plan own (suc at) phase
 
   -- There is one exactly if there is the stage.
   abbrev pub IsStagePhaseIfThere : ℕ → Func → FuncPlan → SourceBox → ℕ → Option Phase → Type 0

@@ -1,6 +1,6 @@
 -- The phase of a pure definition of a Func that is computed at root, with the Funcs computed at its loops in it.
 -- This project's own.
-use Rattle.std.specs.Prelude.{◌≡◌, ℕ, suc, ◌-◌, ◌%◌, ◌^◌, ◌&&◌, Bool, true, false, if◌then◌else◌, List, [], ◌∷◌, take, length, slice_get, Option, Some, None}
+use Rattle.std.specs.Prelude.{◌≡◌, ℕ, suc, ◌-◌, ◌%◌, ◌^◌, ◌==◌, ◌&&◌, ◌||◌, Bool, true, false, if◌then◌else◌, List, [], ◌∷◌, take, length, slice_get, Option, Some, None}
 use Rattle.halide_pipeline.specs.declared.definitions.Func.{Func}
 use Rattle.halide_pipeline.specs.declared.definitions.Input.{Input}
 use Rattle.halide_pipeline.specs.declared.expressions.Expr.{Expr}
@@ -36,6 +36,7 @@ use Rattle.loop_ir.specs.Counters.{Values}
 use Rattle.loop_ir.specs.Expressions.{linear_value}
 use Rattle.loop_ir.specs.Running.{run, run_task}
 use Rattle.loop_ir.specs.Soundness.{is_sound}
+use Rattle.loop_ir.specs.Stores.{Trace, trace}
 use Rattle.expression_lowering.specs.declared.calls.Corner.{Corner}
 use Rattle.expression_lowering.specs.Lowering.{placed, place as place_in}
 use Rattle.lowering.specs.Phases.{DoesPhase}
@@ -96,6 +97,13 @@ StoresPure corners flags funcs place corner pure made =
     (variable (at_point (word.add (whole_at values place variables.FirstArgument) (linear_value values corner.x)) (word.add (whole_at values place variables.SecondArgument) (linear_value values corner.y)))) pure)
     buffers
 
+-- It stores at that point alone.
+abbrev pub HitsPure : ℕ → Stmt → Type 0
+HitsPure place made =
+    (points : Points) (inputs : Planes) (x y : ℕ) (values : Values) (so_far : Trace)
+    → (trace points inputs place x y made values so_far).is_stored
+    ≡ (so_far.is_stored || (whole_at values place variables.FirstArgument == x && whole_at values place variables.SecondArgument == y))
+
 -- It is sound where that point may be written, and where all that the pure definition reads there may be loaded, counted from the corners.
 abbrev pub IsSoundPure : List Corner → (ℕ → Bool) → List Func → ℕ → Corner → Expr → Stmt → Type 0
 IsSoundPure corners flags funcs place corner pure made =
@@ -114,6 +122,7 @@ pub record IsStoreOf (pipeline : Pipeline) (schedule : Schedule) (boxes : Boxes)
   pub corner : Corner
   pub is_corner : IsCorner schedule.funcs placed own corner
   pub stores : StoresPure corners (flagged (flags_of schedule.standings)) pipeline.funcs place corner func.pure made
+  pub hits : HitsPure place made
   pub sound : IsSoundPure corners (flagged (flags_of schedule.standings)) pipeline.funcs place corner func.pure made
 
 -- the loops inside the parallel one, which is the outermost, where there is one

@@ -3,7 +3,7 @@
 -- The loops of an update are over the arguments in place and over its reduction variables. A slice is what visits with the same
 -- arguments in place make: they go through the reduction box in order, and read and write the Func at those arguments alone.
 -- This project's own.
-use Rattle.std.specs.Prelude.{◌≡◌, ◌<◌, ℕ, suc, ◌&&◌, Bool, true, false, List, [], Option, Some, None, slice_get}
+use Rattle.std.specs.Prelude.{◌≡◌, ◌<◌, ℕ, suc, ◌==◌, ◌&&◌, ◌||◌, Bool, true, false, List, [], Option, Some, None, slice_get}
 use Rattle.std.specs.List.{AllByRecursion, list_any}
 use Rattle.halide_pipeline.specs.declared.definitions.Func.{Func}
 use Rattle.halide_pipeline.specs.declared.definitions.Reduction.{Reduction}
@@ -46,6 +46,7 @@ use Rattle.loop_ir.specs.Counters.{Values}
 use Rattle.loop_ir.specs.Expressions.{linear_value}
 use Rattle.loop_ir.specs.Running.{run}
 use Rattle.loop_ir.specs.Soundness.{is_sound}
+use Rattle.loop_ir.specs.Stores.{Trace, trace}
 use Rattle.nest_lowering.specs.Nests.{loops_of, put_loops}
 use Rattle.expression_lowering.specs.declared.calls.Corner.{Corner}
 use Rattle.expression_lowering.specs.Lowering.{placed, place as place_in}
@@ -102,6 +103,15 @@ StoresUpdate corners flags funcs place corner update made =
     (inlined (valuing (placed corners values (reads_of inputs buffers))) flags funcs (suc place) (variable (visited_point values place corner update)) update.right)
     buffers
 
+-- It stores at that point alone.
+abbrev pub HitsUpdate : List Corner → (ℕ → Bool) → List Func → ℕ → Corner → Update → Stmt → Type 0
+HitsUpdate corners flags funcs place corner update made =
+    (points : Points) (inputs : Planes) (x y : ℕ) (values : Values) (so_far : Trace)
+    → (trace points inputs place x y made values so_far).is_stored
+    ≡ (so_far.is_stored
+    || (word.subtract (inlined (valuing (placed corners values (reads_of inputs so_far.funcs))) flags funcs place (variable (visited_point values place corner update)) update.left_x) (linear_value values corner.x) == x
+    && word.subtract (index_of (inlined (valuing (placed corners values (reads_of inputs so_far.funcs))) flags funcs place (variable (visited_point values place corner update))) update.left_y) (linear_value values corner.y) == y))
+
 -- an index that isn't written reads nothing
 abbrev pub points_of_index : (Expr → List Point) → Option Expr → List Point
 points_of_index read None = []
@@ -129,6 +139,7 @@ pub record IsUpdateStoreOf (pipeline : Pipeline) (schedule : Schedule) (boxes : 
   pub corner : Corner
   pub is_corner : IsCorner schedule.funcs places.Root own corner
   pub stores : StoresUpdate corners (flagged (flags_of schedule.standings)) pipeline.funcs place corner update made
+  pub hits : HitsUpdate corners (flagged (flags_of schedule.standings)) pipeline.funcs place corner update made
   pub sound : IsSoundUpdate corners (flagged (flags_of schedule.standings)) pipeline.funcs place corner update made
 
 -- ---- slices

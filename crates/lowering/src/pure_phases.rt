@@ -11,6 +11,7 @@ ghost use Rattle.lowering.specs.HostedFuncs.{hosted_from};
 ghost use Rattle.lowering.specs.Planes.{owns};
 ghost use Rattle.lowering.specs.PurePhases as spec;
 ghost use Rattle.lowering.specs.Stages.{DoesStage};
+ghost use Rattle.lowering.specs.Stored.{StoresItsOwn};
 ghost use Rattle.lowering.specs.Touching.{TouchesItsOwn};
 
 use crate::hosting::{body_of, box_at, hosted_places};
@@ -101,6 +102,7 @@ pub fn pure_phase(
     ensures stage { IfOk result (DoesStage pipeline.now schedule.now boxes.now place func.now 0 (owns (views.extents_of own.now) plan.now.pure)) }
     ensures touches { IfOk result (TouchesItsOwn pipeline.now schedule.now boxes.now place (owns (views.extents_of own.now) plan.now.pure)) }
     ensures few { IfOk result (λ phase. task_depth phase ≤ 14) }
+    ensures stores { IfOk result (StoresItsOwn boxes.now place (owns (views.extents_of own.now) plan.now.pure)) }
 {
     let stage = &plan.pure;
     let extents = extents_of(own);

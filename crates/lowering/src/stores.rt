@@ -8,7 +8,7 @@ ghost use Rattle.loop_ir.specs.Counters.{Values};
 ghost use Rattle.loop_ir.specs.Depths.{depth};
 ghost use Rattle.loop_ir.specs.Expressions.{linear_value};
 ghost use Rattle.expression_lowering.specs.Lowering.{environment};
-ghost use Rattle.lowering.specs.PurePhases.{IsSoundPure, StoresPure, whole_at};
+ghost use Rattle.lowering.specs.PurePhases.{HitsPure, IsSoundPure, StoresPure, whole_at};
 
 use expression_lowering::{Arguments, Corner, lowered};
 use halide_pipeline::{Expr, Func, Variable};
@@ -78,6 +78,7 @@ pub fn pure_store(
     pure: &Expr,
 ) -> Result<Stmt, AllocError>
     ensures stores { IfOk result (λ made. StoresPure corners.now (flagged flags.now) funcs.now place corner.now pure.now made) }
+    ensures hits { IfOk result (HitsPure place) }
     ensures sound { IfOk result (λ made. IsSoundPure corners.now (flagged flags.now) funcs.now place corner.now pure.now made) }
     ensures depth { IfOk result (λ made. depth made ≡ 0) }
 {

@@ -111,6 +111,7 @@ pub fn update_store(
 ) -> Result<Stmt, AllocError>
     requires { place + 1 < 2 ^ 64 }
     ensures stores { IfOk result (λ made. spec.StoresUpdate corners.now (flagged flags.now) funcs.now place corner.now update.now made) }
+    ensures hits { IfOk result (λ made. spec.HitsUpdate corners.now (flagged flags.now) funcs.now place corner.now update.now made) }
     ensures sound { IfOk result (λ made. spec.IsSoundUpdate corners.now (flagged flags.now) funcs.now place corner.now update.now made) }
     ensures depth { IfOk result (λ made. depth made ≡ 0) }
 {

@@ -14,6 +14,7 @@ ghost use Rattle.loop_ir.specs.Depths.{depth, task_depth};
 ghost use Rattle.nest_lowering.specs.Nests.{AreFew, Repeats};
 ghost use Rattle.lowering.specs.PurePhases as pure;
 ghost use Rattle.lowering.specs.Stages.{DoesStage};
+ghost use Rattle.lowering.specs.Stored.{StoresWhatItNames};
 ghost use Rattle.lowering.specs.Touching.{TouchesItsOwn};
 ghost use Rattle.lowering.specs.Updates as spec;
 
@@ -82,6 +83,7 @@ fn store_at(
 ) -> Result<Stmt, AllocError>
     requires { place + 1 < 2 ^ 64 }
     ensures stores { IfOk result (λ made. spec.StoresUpdate corners.now (flagged (flags_of schedule.now.standings)) pipeline.now.funcs place corner.now update.now made) }
+    ensures hits { IfOk result (λ made. spec.HitsUpdate corners.now (flagged (flags_of schedule.now.standings)) pipeline.now.funcs place corner.now update.now made) }
     ensures sound { IfOk result (λ made. spec.IsSoundUpdate corners.now (flagged (flags_of schedule.now.standings)) pipeline.now.funcs place corner.now update.now made) }
     ensures depth { IfOk result (λ made. depth made ≡ 0) }
 {
@@ -197,6 +199,7 @@ pub fn update_phase(
     ensures does { IfOk result (DoesStage pipeline.now schedule.now boxes.now place of.now.func.now (suc of.now.at) (spec.owns_update of.now.own.now of.now.update.now of.now.stage.now)) }
     ensures touches { IfOk result (TouchesItsOwn pipeline.now schedule.now boxes.now place (spec.owns_update of.now.own.now of.now.update.now of.now.stage.now)) }
     ensures few { IfOk result (λ phase. task_depth phase ≤ 14) }
+    ensures stores { IfOk result (StoresWhatItNames pipeline.now schedule.now boxes.now place of.now.func.now of.now.at of.now.own.now of.now.update.now of.now.stage.now) }
 {
     let bytes = byte_inputs(alloc, pipeline.inputs())?;
     let extents = update_extents(of.own, of.update);

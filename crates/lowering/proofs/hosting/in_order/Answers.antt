@@ -5,9 +5,11 @@ use Rattle.loop_ir.specs.Depths.{depth}
 use Rattle.loop_ir.specs.Running.{run}
 use Rattle.loop_ir.specs.Soundness.{is_sound}
 use Rattle.loop_ir.proofs.Depths.{depth_sequence}
+use Rattle.loop_ir.specs.Stores.{trace}
 use Rattle.loop_ir.proofs.Sound.{sound_sequence}
+use Rattle.loop_ir.proofs.Traces.{trace_sequence}
 use Rattle.loop_ir.proofs.Trees.{run_sequence}
-use Rattle.lowering.specs.Hosting.{run_first, is_sound_first, depth_first}
+use Rattle.lowering.specs.Hosting.{run_first, trace_first, is_sound_first, depth_first}
 use Rattle.lowering.proofs.hosting.in_order.Goals as goal
 
 without : (n : ℕ) → n ≡ max 0 n
@@ -16,6 +18,7 @@ without n = omega arith
 pub returns-in-None : goal.returns-in-None
 returns-in-None c = record {
   runs = λ points inputs values funcs. ap (λ (o : Option Stmt). run points inputs c.args.rest values (run_first points inputs o values funcs)) (sym c.in-None.is);
+  traces = λ points inputs place x y values so_far. ap (λ (o : Option Stmt). trace points inputs place x y c.args.rest values (trace_first points inputs place x y o values so_far)) (sym c.in-None.is);
   sound = λ reads written loaded values. ap (λ (o : Option Stmt). is_sound_first reads written loaded o values && is_sound reads written loaded c.args.rest values) (sym c.in-None.is);
   depth_is = without (depth c.args.rest) ∙ ap (λ (o : Option Stmt). max (depth_first o) (depth c.args.rest)) (sym c.in-None.is);
 }
@@ -28,6 +31,11 @@ returns-in_ok-rest-in-Some c = record {
       ∙ ap (λ (s : Stmt). run points inputs s values (run points inputs c.in_ok-first-in-Some.first values funcs)) c.in_ok-rest-in-Some.ensures
       ∙ ap (λ (s : Stmt). run points inputs c.args.rest values (run points inputs s values funcs)) c.in_ok-first-in-Some.ensures
       ∙ ap (λ (o : Option Stmt). run points inputs c.args.rest values (run_first points inputs o values funcs)) (sym c.in-Some.is);
+  traces = λ points inputs place x y values so_far.
+      trace_sequence points inputs place x y c.in_ok-first-in-Some.first c.in_ok-rest-in-Some.rest values so_far
+      ∙ ap (λ (s : Stmt). trace points inputs place x y s values (trace points inputs place x y c.in_ok-first-in-Some.first values so_far)) c.in_ok-rest-in-Some.ensures
+      ∙ ap (λ (s : Stmt). trace points inputs place x y c.args.rest values (trace points inputs place x y s values so_far)) c.in_ok-first-in-Some.ensures
+      ∙ ap (λ (o : Option Stmt). trace points inputs place x y c.args.rest values (trace_first points inputs place x y o values so_far)) (sym c.in-Some.is);
   sound = λ reads written loaded values.
       sound_sequence reads written loaded c.in_ok-first-in-Some.first c.in_ok-rest-in-Some.rest values
       ∙ ap (λ (s : Stmt). is_sound reads written loaded c.in_ok-first-in-Some.first values && is_sound reads written loaded s values) c.in_ok-rest-in-Some.ensures

@@ -11,6 +11,7 @@ use Rattle.lowering.proofs.Depths.{body_few}
 use Rattle.lowering.proofs.Facts.{is_box, splits, few, few_loops}
 use Rattle.lowering.proofs.PureStage.{does_stage}
 use Rattle.lowering.proofs.SoundTasks.{touches}
+use Rattle.lowering.proofs.StoredTasks.{stores_its_own}
 use Rattle.lowering.proofs.Tasks.{does_phase}
 use Rattle.lowering.proofs.pure_phases.pure_phase.Goals as goal
 
@@ -65,6 +66,15 @@ returns-clause-touches c =
     (record { tasks = c.in_ok-tasks.tasks; counter = c.task_counter-counter.result; body = c.in_ok-body.body; private = c.in_ok-private.private; bytes = c.in_ok-bytes.bytes })
     (c.in_ok-tasks.ensures ∙ ap (λ (e : Extents). iterations.iteration_count e c.args.plan.now.pure) c.extents_of-extents.ensures)
     c.task_counter-counter.ensures (c.in_ok-private.ensures ∙ ap (hosted_from c.args.place 0) c.as_slice.ensures)
+    (subst (λ (e : Extents). IsBody c.args.pipeline.now c.args.schedule.now c.args.boxes.now c.args.place c.args.plan.now.pure e c.in_ok-store.store c.in_ok-body.body) c.extents_of-extents.ensures c.in_ok-body.ensures)
+
+pub returns-clause-stores : goal.returns-clause-stores
+returns-clause-stores c =
+    stores_its_own c.args.pipeline.now c.args.schedule.now c.args.boxes.now c.inputs.ensures.rules c.requires.accepted c.requires.boxes c.args.place c.args.func.now c.args.plan.now c.args.own.now c.requires.at
+    c.in_ok-store.store c.in_ok-store.ensures.stores
+    (record { tasks = c.in_ok-tasks.tasks; counter = c.task_counter-counter.result; body = c.in_ok-body.body; private = c.in_ok-private.private; bytes = c.in_ok-bytes.bytes })
+    (c.in_ok-tasks.ensures ∙ ap (λ (e : Extents). iterations.iteration_count e c.args.plan.now.pure) c.extents_of-extents.ensures)
+    c.task_counter-counter.ensures
     (subst (λ (e : Extents). IsBody c.args.pipeline.now c.args.schedule.now c.args.boxes.now c.args.place c.args.plan.now.pure e c.in_ok-store.store c.in_ok-body.body) c.extents_of-extents.ensures c.in_ok-body.ensures)
 
 pub returns-clause-few : goal.returns-clause-few

@@ -1,6 +1,6 @@
 use Rattle.inlining.specs.Inlining.{flagged}
 use Rattle.loop_ir.proofs.Depths.{depth_store}
-use Rattle.lowering.proofs.Storing.{stores_pure, sound_pure}
+use Rattle.lowering.proofs.Storing.{stores_pure, hits_pure, sound_pure}
 use Rattle.lowering.proofs.stores.pure_store.Goals as goal
 
 -- src/stores.rt:56:1
@@ -8,6 +8,9 @@ pub returns-clause-stores : goal.returns-clause-stores
 returns-clause-stores c =
     stores_pure c.args.corners.now (flagged c.args.flags.now) c.args.funcs.now c.args.place c.args.corner.now c.args.pure.now c.in_ok-x.x c.in_ok-y.y c.in_ok-value.value c.in_ok-arguments.arguments
     c.in_ok-arguments.ensures c.in_ok-x.ensures c.in_ok-y.ensures c.in_ok-value.ensures.value
+
+pub returns-clause-hits : goal.returns-clause-hits
+returns-clause-hits c = hits_pure c.args.place c.in_ok-x.x c.in_ok-y.y c.in_ok-value.value c.in_ok-x.ensures c.in_ok-y.ensures
 
 -- src/stores.rt:56:1
 pub returns-clause-sound : goal.returns-clause-sound

@@ -1,7 +1,7 @@
 use Rattle.std.proofs.Common.{◌≡◌, suc, ◌+◌, arith}
 use Rattle.inlining.specs.Inlining.{flagged}
 use Rattle.loop_ir.proofs.Depths.{depth_store}
-use Rattle.lowering.proofs.UpdateStoring.{stores_update, sound_update}
+use Rattle.lowering.proofs.UpdateStoring.{stores_update, hits_update, sound_update}
 use Rattle.lowering.proofs.update_stores.update_store.Goals as goal
 
 -- src/update_stores.rt:101:1
@@ -10,6 +10,11 @@ returns-clause-stores c =
     let more : c.args.place + 1 ≡ suc c.args.place = omega arith in
     stores_update c.args.corners.now (flagged c.args.flags.now) c.args.funcs.now c.args.place c.args.corner.now c.args.update.now c.in_ok-column.column c.in_ok-row.row c.in_ok-x.x c.in_ok-y.y c.in_ok-value.value
     c.in_ok-arguments.arguments (c.args.place + 1) more c.in_ok-arguments.ensures c.in_ok-column.ensures.value c.in_ok-row.ensures.value c.in_ok-value.ensures.value c.in_ok-x.ensures.value c.in_ok-y.ensures.value
+
+pub returns-clause-hits : goal.returns-clause-hits
+returns-clause-hits c =
+    hits_update c.args.corners.now (flagged c.args.flags.now) c.args.funcs.now c.args.place c.args.corner.now c.args.update.now c.in_ok-column.column c.in_ok-row.row c.in_ok-x.x c.in_ok-y.y c.in_ok-value.value
+    c.in_ok-arguments.arguments c.in_ok-arguments.ensures c.in_ok-column.ensures.value c.in_ok-row.ensures.value c.in_ok-x.ensures.value c.in_ok-y.ensures.value
 
 -- src/update_stores.rt:101:1
 pub returns-clause-sound : goal.returns-clause-sound

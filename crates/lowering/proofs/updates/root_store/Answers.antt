@@ -18,6 +18,8 @@ returns-clause-stores c = record {
   is_corner = subst (λ (l : List FuncPlan). IsCorner l places.Root c.args.own.now c.in_ok-corner.corner) c.as_slice-plans.ensures c.in_ok-corner.ensures;
   stores = subst (λ (l : List Corner). spec.StoresUpdate l (flagged (flags_of c.args.schedule.now.standings)) c.args.pipeline.now.funcs c.args.place c.in_ok-corner.corner c.args.update.now c.in_ok-made.made)
       c.as_slice-2.ensures.value c.in_ok-made.ensures.stores;
+  hits = subst (λ (l : List Corner). spec.HitsUpdate l (flagged (flags_of c.args.schedule.now.standings)) c.args.pipeline.now.funcs c.args.place c.in_ok-corner.corner c.args.update.now c.in_ok-made.made)
+      c.as_slice-2.ensures.value c.in_ok-made.ensures.hits;
   sound = subst (λ (l : List Corner). spec.IsSoundUpdate l (flagged (flags_of c.args.schedule.now.standings)) c.args.pipeline.now.funcs c.args.place c.in_ok-corner.corner c.args.update.now c.in_ok-made.made)
       c.as_slice-2.ensures.value c.in_ok-made.ensures.sound;
 }

@@ -5,6 +5,12 @@ use Rattle.weights.specs.Weight.{flags_of}
 use Rattle.lowering.specs.Updates as spec
 use Rattle.lowering.proofs.updates.store_at.Goals as goal
 
+pub returns-clause-hits : goal.returns-clause-hits
+returns-clause-hits c =
+    subst (λ (l : List Func). spec.HitsUpdate c.args.corners.now (flagged (flags_of c.args.schedule.now.standings)) l c.args.place c.args.corner.now c.args.update.now c.in_ok-made.made) c.funcs.ensures.value
+    (subst (λ (f : List Bool). spec.HitsUpdate c.args.corners.now (flagged f) c.funcs.result.now c.args.place c.args.corner.now c.args.update.now c.in_ok-made.made)
+    (c.as_slice-2.ensures.value ∙ (c.in_ok-flags.ensures ∙ ap flags_of c.as_slice.ensures)) c.in_ok-made.ensures.hits)
+
 pub returns-clause-sound : goal.returns-clause-sound
 returns-clause-sound c =
     subst (λ (l : List Func). spec.IsSoundUpdate c.args.corners.now (flagged (flags_of c.args.schedule.now.standings)) l c.args.place c.args.corner.now c.args.update.now c.in_ok-made.made) c.funcs.ensures.value

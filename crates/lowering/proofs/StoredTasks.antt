@@ -1,0 +1,113 @@
+-- Each task of a pure definition stores at the points that its iteration visits.
+use Rattle.std.proofs.Common.{◌≡◌, ℕ, ◌<◌, ◌^◌, true, false, List, map, Option, Some, None, refl, sym, ap, subst, ◌∙◌, arith}
+use Rattle.std.specs.Prelude.{Ok}
+use Rattle.std.specs.List.{AllByRecursion, list_any}
+use Rattle.halide_pipeline.specs.declared.definitions.Func.{Func}
+use Rattle.halide_pipeline.specs.declared.expressions.Variable.TheVariants as variables
+use Rattle.halide_pipeline.specs.Pipelines.{Pipeline}
+use Rattle.halide_pipeline.specs.WellFormed.{IsWellFormed}
+use Rattle.halide_meaning.specs.Pixel.{Planes}
+use Rattle.schedule_lines.specs.declared.stages.Loop.{Loop}
+use Rattle.schedule_lines.specs.declared.stages.Stage.{Stage}
+use Rattle.schedule.specs.declared.plans.FuncPlan.{FuncPlan}
+use Rattle.schedule.specs.declared.schedules.Schedule.{Schedule}
+use Rattle.schedule.specs.declared.standings.Place.TheVariants as places
+use Rattle.schedule.specs.Accepted.{IsAccepted}
+use Rattle.stage_loops.specs.declared.extents.Extents.{Extents}
+use Rattle.stage_loops.specs.Counts as loops
+use Rattle.stage_loops.specs.Iterations.{parallel, iteration, iteration_count, count_of}
+use Rattle.stage_loops.specs.Reach.{wholes}
+use Rattle.stage_loops.specs.Stages.{IsStageOf, KeepsRules, IsVisitOf}
+use Rattle.stage_loops.specs.Visits.{Visit, visit_of, is_slice}
+use Rattle.bounds.specs.declared.boxes.SourceBox.{SourceBox}
+use Rattle.bounds.specs.declared.verdict.Boxes.{Boxes}
+use Rattle.bounds.specs.Verdict.{inferred}
+use Rattle.bounds.specs.Views.{extents_of}
+use Rattle.loop_ir.specs.declared.expressions.Counter.{Counter}
+use Rattle.loop_ir.specs.declared.statements.Phase.{Phase}
+use Rattle.loop_ir.specs.declared.statements.Stmt.{Stmt}
+use Rattle.loop_ir.specs.Buffers.{Points}
+use Rattle.loop_ir.specs.Counters.{Values}
+use Rattle.loop_ir.specs.Running.{task_values}
+use Rattle.loop_ir.specs.Stores.{is_stored_by, is_stored_by_task}
+use Rattle.nest_lowering.specs.Nests.{AreSmall}
+use Rattle.lowering.specs.Hosting.{hosting, HasLoops, HasOutermost, IsBody}
+use Rattle.lowering.specs.Planes.{box_points, owns}
+use Rattle.lowering.specs.PurePhases.{IsAtRoot, IsStoreOf, inside_of, counter_of}
+use Rattle.lowering.specs.Stored.{StoresItsOwn}
+use Rattle.lowering.proofs.Covered.{parts_of}
+use Rattle.lowering.proofs.Facts.{staged, splits, few}
+use Rattle.lowering.proofs.Lists.{any_map, all_map}
+use Rattle.lowering.proofs.StoredHosts.{AreWords, is_at, Always, nests, loops_store}
+use Rattle.lowering.proofs.Tasks.{turned_by, listed, before_by, small_by, all_visits}
+
+module _ (pipeline : Pipeline) (schedule : Schedule) (boxes : Boxes) (rules : IsWellFormed pipeline) (accepted : IsAccepted pipeline schedule) (is : inferred pipeline schedule ≡ Ok boxes)
+    (place : ℕ) (func : Func) (plan : FuncPlan) (own : SourceBox) (at : IsAtRoot pipeline schedule boxes place func plan own)
+    (store : Stmt) (store_of : IsStoreOf pipeline schedule boxes places.Root place func own store)
+    (phase : Phase) (tasks_are : phase.tasks ≡ iteration_count (extents_of own) plan.pure) (counter_is : phase.counter ≡ counter_of place (parallel plan.pure))
+    (body : IsBody pipeline schedule boxes place plan.pure (extents_of own) store phase.body) where
+  abbrev extents : Extents
+  extents = extents_of own
+
+  abbrev stage : Stage
+  stage = plan.pure
+
+  abbrev points : Points
+  points = box_points boxes.funcs
+
+  facts : IsStageOf func None stage × KeepsRules stage
+  facts = staged pipeline schedule boxes place func plan own accepted is places.Root tt at
+
+  few_values : (visit : Visit) → IsVisitOf func None extents visit → (visit.x < 2 ^ 32) × (visit.y < 2 ^ 32)
+  few_values visit v =
+      let parts = parts_of pipeline schedule boxes rules accepted is places.Root place func plan own tt at visit v in
+      let first = few pipeline schedule boxes place func plan own accepted is places.Root tt at variables.FirstArgument in
+      let second = few pipeline schedule boxes place func plan own accepted is places.Root tt at variables.SecondArgument in
+      (omega (arith, parts.0, first), omega (arith, parts.1, second))
+
+  module _ (inputs : Planes) (number : ℕ) (below : number < phase.tasks) (x y : ℕ) where
+    abbrev turned : Option Loop → loops.Values
+    turned found = turned_by func extents stage facts.0 facts.1 place found number
+
+    abbrev list : Option Loop → List loops.Values
+    list found = wholes extents stage.splits (inside_of found stage.loops) (turned found)
+
+    below_count : number < iteration_count extents stage
+    below_count = subst (λ (n : ℕ). number < n) tasks_are below
+
+    visits_are : iteration extents stage number ≡ map (visit_of extents) (list (parallel stage))
+    visits_are = listed func extents stage facts.0 facts.1 place (parallel stage) refl number below_count
+
+    words : AllByRecursion AreWords (list (parallel stage))
+    words =
+        all_map (IsVisitOf func None extents) AreWords (visit_of extents) (λ inner v. few_values (visit_of extents inner) v) (list (parallel stage))
+        (subst (λ (l : List Visit). AllByRecursion (IsVisitOf func None extents) l) visits_are (all_visits func extents stage facts.0 facts.1 place number below_count))
+
+    owned_is : owns extents stage number x y ≡ list_any (is_at x y) (list (parallel stage))
+    owned_is = ap (list_any (is_slice x y)) visits_are ∙ any_map (is_slice x y) (visit_of extents) (list (parallel stage))
+
+    small : (found : Option Loop) → number < count_of (loops.counts extents stage.splits) found → AreSmall (turned found)
+    small found l =
+        small_by func extents stage facts.0 facts.1 place (few pipeline schedule boxes place func plan own accepted is places.Root tt at) (splits pipeline schedule boxes place func plan own accepted is places.Root tt at) found number l
+
+    inner_stores : (found : Option Loop) → parallel stage ≡ found → number < count_of (loops.counts extents stage.splits) found → AllByRecursion AreWords (list found) → list_any (is_at x y) (list found) ≡ true
+        → Always pipeline schedule boxes points inputs place x y body.inner (hosting place (turned found))
+    inner_stores found e l words_so any =
+        loops_store pipeline schedule boxes points inputs place x y extents stage.splits (few pipeline schedule boxes place func plan own accepted is places.Root tt at) (splits pipeline schedule boxes place func plan own accepted is places.Root tt at)
+        store store_of.hits body.leaf body.bound (inside_of found stage.loops) body.inner
+        (subst (λ (o : Option Loop). HasLoops pipeline schedule boxes place (loops.counts extents stage.splits) body.leaf (inside_of o stage.loops) body.inner) e body.looped) (turned found) (small found l) words_so any
+
+    stored_by : (found : Option Loop) (made : Stmt) → HasOutermost pipeline schedule boxes place found body.inner made → Always pipeline schedule boxes points inputs place x y body.inner (hosting place (turned found))
+        → Always pipeline schedule boxes points inputs place x y made (hosting place (turned found))
+    stored_by None made same stores = subst (λ (s : Stmt). Always pipeline schedule boxes points inputs place x y s (hosting place (turned None))) (sym same) stores
+    stored_by (Some loop) made nested stores =
+        nests pipeline schedule boxes points inputs place x y (record { func = place; inside = loop.id }) 0 body.inner made nested (hosting place (turned (Some loop))) stores
+
+    task_stores : owns extents stage number x y ≡ true → (funcs : Planes) → is_stored_by_task points inputs phase number place x y funcs ≡ true
+    task_stores owned funcs =
+        ap (λ (c : Option Counter). is_stored_by points inputs place x y phase.body (task_values c number) funcs) counter_is
+        ∙ ap (λ (v : Values). is_stored_by points inputs place x y phase.body v funcs) (before_by func extents stage facts.0 facts.1 place (parallel stage) number)
+        ∙ stored_by (parallel stage) phase.body body.begun (inner_stores (parallel stage) refl below_count words (sym owned_is ∙ owned)) (record { funcs = funcs; is_stored = false })
+
+  pub stores_its_own : StoresItsOwn boxes place (owns extents stage) phase
+  stores_its_own inputs funcs number below x y owned = task_stores inputs number below x y owned funcs
