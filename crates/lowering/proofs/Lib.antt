@@ -1,3 +1,4 @@
+pub mod Alone
 pub mod AnyOrder
 pub mod AtVisit
 pub mod BaseWords

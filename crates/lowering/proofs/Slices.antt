@@ -6,6 +6,7 @@ use Rattle.halide_meaning.specs.Pixel.{Planes}
 use Rattle.stage_loops.specs.Visits.{Visit, is_slice, slice, rising}
 use Rattle.loop_ir.specs.Stores.{Trace}
 use Rattle.nest_lowering.specs.Nests.{all}
+use Rattle.lowering.proofs.Marks.{or_none, or_or}
 
 -- ---- the first of what is left of a slice
 
@@ -142,14 +143,6 @@ module _ (own : ℕ) (begin : Planes) (inside : ℕ → ℕ → Bool) (column ro
       abbrev pub Marks : A → Type 0
       Marks a = (so_far : Trace) → Others so_far.funcs → HoldsAt (visit_of a) (visit_of a).number so_far.funcs
           → ((traced a so_far).funcs ≡ step a so_far.funcs) × ((traced a so_far).is_stored ≡ (so_far.is_stored || hit a))
-
-      or_none : (b : Bool) → b ≡ (b || false)
-      or_none true = refl
-      or_none false = refl
-
-      or_or : (a b c : Bool) → ((a || b) || c) ≡ (a || (b || c))
-      or_or true b c = refl
-      or_or false b c = refl
 
       -- So the point is stored at if one of the visits hits.
       pub slices_mark : (list : List A) (at left : ℕ → ℕ → ℕ) (so_far : Trace) → AllByRecursion (λ a. Goes (visit_of a) (step a)) list → AllByRecursion Marks list → Rise at left list

@@ -1,6 +1,6 @@
--- Where the loops of a host store, with the nests of the Funcs that are computed at them.
-use Rattle.std.proofs.Common.{◌≡◌, ℕ, ◌%◌, ◌^◌, ◌<◌, Bool, true, cond, List, [], ◌∷◌, ◌++◌, refl, sym, ap, subst, ◌∙◌, arith}
-use Rattle.std.specs.Prelude.{◌==◌, ◌&&◌, suc}
+-- Where the loops of a host store in its buffer, with the nests of the Funcs that are computed at them, which store in others.
+use Rattle.std.proofs.Common.{◌≡◌, ℕ, ◌%◌, ◌^◌, ◌<◌, Bool, cond, Some, None, List, [], ◌∷◌, ◌++◌, refl, sym, ap, subst, ◌∙◌, arith}
+use Rattle.std.specs.Prelude.{◌==◌, ◌&&◌, ◌||◌, suc}
 use Rattle.std.specs.List.{AllByRecursion, list_any}
 use Rattle.std.proofs.lemmas.Bool.{eq-eqb}
 use Rattle.std.proofs.Math.Nat.{mod-eq_of_lt}
@@ -13,26 +13,26 @@ use Rattle.schedule_lines.specs.declared.stages.LoopId.TheVariants as ids
 use Rattle.schedule_lines.specs.declared.stages.Split.{Split}
 use Rattle.schedule.specs.declared.schedules.Schedule.{Schedule}
 use Rattle.schedule.specs.declared.standings.LoopPlace.{LoopPlace}
+use Rattle.schedule.specs.Accepted.{IsAccepted}
 use Rattle.stage_loops.specs.declared.extents.Extents.{Extents}
 use Rattle.stage_loops.specs.Counts as loops
 use Rattle.stage_loops.specs.Reach.{wholes}
 use Rattle.stage_loops.specs.Visits.{upto, over_loops}
 use Rattle.stage_loops.proofs.Nesting.{nest-append}
 use Rattle.bounds.specs.declared.verdict.Boxes.{Boxes}
-use Rattle.box_laws.proofs.Callers.{or_right}
 use Rattle.loop_ir.specs.declared.statements.Stmt.{Stmt}
 use Rattle.loop_ir.specs.Buffers.{Points}
 use Rattle.loop_ir.specs.Counters.{Values, with}
 use Rattle.loop_ir.specs.Stores.{Trace, trace}
-use Rattle.loop_ir.proofs.Stored.{stored_stays_stored}
 use Rattle.nest_lowering.specs.Nests.{put_loops, all, AreFew, AreSmall, Repeats}
 use Rattle.nest_lowering.proofs.Few.{few_turns}
-use Rattle.lowering.specs.Hosting.{hosting, trace_first, HasNests, None_left, One_more, HasLoops, No_loops, One_outside}
+use Rattle.lowering.specs.Hosting.{hosting, IsNestOf, HasNests, None_left, One_more, HasLoops, No_loops, One_outside}
 use Rattle.lowering.specs.PurePhases.{HitsPure, whole_at}
-use Rattle.lowering.proofs.Filling.{loops_hosting}
+use Rattle.lowering.proofs.Facts.{hosted_before}
+use Rattle.lowering.proofs.Filling.{loops_hosting, no_other_loops}
 use Rattle.lowering.proofs.Lists.{all_upto}
 use Rattle.lowering.proofs.LoopTurns.{hosting_with, small_with}
-use Rattle.lowering.proofs.Marks.{Stays, Marks, list_marks, turns_mark, turn_passed}
+use Rattle.lowering.proofs.Marks.{Tells, list_tells, turns_tell}
 use Rattle.lowering.proofs.UpdateRuns.{all_so}
 
 -- the point at which values of loops over whole variables stand
@@ -52,23 +52,29 @@ whole_put : (place : ℕ) (inner : loops.Values) (values : Values) (v : Variable
 whole_put place inner values v small =
     ap (λ (b : Bool). cond b (inner (ids.Whole v)) (values (record { func = place; id = ids.Whole v })) % 2 ^ 32) (eq-eqb place place refl) ∙ mod-eq_of_lt {n = inner (ids.Whole v)} {m = 2 ^ 32} small
 
-module _ (pipeline : Pipeline) (schedule : Schedule) (boxes : Boxes) (points : Points) (inputs : Planes) (host x y : ℕ) where
+module _ (pipeline : Pipeline) (schedule : Schedule) (boxes : Boxes) (accepted : IsAccepted pipeline schedule) (points : Points) (inputs : Planes) (host x y : ℕ) where
   abbrev traced : Stmt → Values → Trace → Trace
   traced made values = trace points inputs host x y made values
 
-  -- under these values the statement stores at the point, whatever buffers hold
-  abbrev pub Always : Stmt → Values → Type 0
-  Always made values = Marks (traced made values)
+  -- whatever buffers hold, the statement stores at the point exactly if this holds, while the host's loops stand so
+  abbrev pub Told : Stmt → loops.Values → Bool → Type 0
+  Told made turned hit = Tells (traced made (hosting host turned)) hit
 
-  stays : (made : Stmt) (values : Values) → Stays (traced made values)
-  stays made values so_far is = stored_stays_stored points inputs host x y made values so_far is
+  module _ (at : LoopPlace) (same : at.func ≡ host) (turned : loops.Values) where
+    -- a nest in front stores elsewhere
+    before_alone : (place : ℕ) (first : Stmt) → IsNestOf pipeline schedule boxes at place first → (so_far : Trace) → (traced first (hosting host turned) so_far).is_stored ≡ so_far.is_stored
+    before_alone place first nest_of so_far =
+        let earlier : place < at.func = hosted_before pipeline schedule accepted place nest_of.parts.standing nest_of.parts.there at nest_of.parts.placed_is in
+        nest_of.alone points inputs host x y (λ e. omega (arith, e, earlier, same)) (hosting host turned)
+        (subst AreSmall (sym (no_other_loops host place turned (λ e. omega (arith, e, earlier, same)))) (λ id. omega arith)) so_far
 
-  -- nests in front of a statement take nothing away
-  pub nests : (at : LoopPlace) (from : ℕ) (inner body : Stmt) → HasNests pipeline schedule boxes at from inner body → (values : Values) → Always inner values → Always body values
-  nests at from inner _ (None_left _ _ all_seen) values stores so_far = stores so_far
-  nests at from inner body (One_more _ found _ rest _ nest_of more does) values stores so_far =
-      ap (λ (t : Trace). t.is_stored) (does.traces points inputs host x y values so_far)
-      ∙ nests at (suc from) inner rest more values stores (trace_first points inputs host x y found values so_far)
+    pub nests : (from : ℕ) (inner body : Stmt) → HasNests pipeline schedule boxes at from inner body → (hit : Bool) → Told inner turned hit → Told body turned hit
+    nests from inner _ (None_left _ _ all_seen) hit told so_far = told so_far
+    nests from inner body (One_more _ None _ rest _ none more does) hit told so_far =
+        ap (λ (t : Trace). t.is_stored) (does.traces points inputs host x y (hosting host turned) so_far) ∙ nests (suc from) inner rest more hit told so_far
+    nests from inner body (One_more _ (Some first) _ rest _ nest_of more does) hit told so_far =
+        ap (λ (t : Trace). t.is_stored) (does.traces points inputs host x y (hosting host turned) so_far)
+        ∙ nests (suc from) inner rest more hit told (traced first (hosting host turned) so_far) ∙ ap (λ (b : Bool). b || hit) (before_alone from first nest_of so_far)
 
   module _ (extents : Extents) (splits : List Split) (few : AreFew extents) (are_splits : loops.AreSplits splits) (store : Stmt) (hits : HitsPure host store) where
     abbrev counts : loops.Values
@@ -80,36 +86,34 @@ module _ (pipeline : Pipeline) (schedule : Schedule) (boxes : Boxes) (points : P
     abbrev step : loops.Values → loops.Values → Trace → Trace
     step turned inner = traced store (put_loops host inner (hosting host turned))
 
-    store_marks : (turned inner : loops.Values) → AreWords inner → is_at x y inner ≡ true → Marks (step turned inner)
-    store_marks turned inner small here so_far =
+    store_tells : (turned inner : loops.Values) → AreWords inner → Tells (step turned inner) (is_at x y inner)
+    store_tells turned inner small so_far =
         let values = put_loops host inner (hosting host turned) in
-        hits points inputs x y values so_far
-        ∙ or_right so_far.is_stored (whole_at values host variables.FirstArgument == x && whole_at values host variables.SecondArgument == y)
-        (ap (λ (n : ℕ). n == x && whole_at values host variables.SecondArgument == y) (whole_put host inner (hosting host turned) variables.FirstArgument small.0)
-        ∙ ap (λ (n : ℕ). x_of inner == x && n == y) (whole_put host inner (hosting host turned) variables.SecondArgument small.1) ∙ here)
+        hits points inputs host x y values so_far
+        ∙ ap (λ (b : Bool). so_far.is_stored || (b && (whole_at values host variables.FirstArgument == x && whole_at values host variables.SecondArgument == y))) (eq-eqb host host refl)
+        ∙ ap (λ (n : ℕ). so_far.is_stored || (n == x && whole_at values host variables.SecondArgument == y)) (whole_put host inner (hosting host turned) variables.FirstArgument small.0)
+        ∙ ap (λ (n : ℕ). so_far.is_stored || (x_of inner == x && n == y)) (whole_put host inner (hosting host turned) variables.SecondArgument small.1)
 
-    leaf_marks : (leaf : Stmt) → Repeats host leaf store (wholes extents splits []) → (turned : loops.Values) → AreSmall turned → AllByRecursion AreWords (listed [] turned) → list_any (is_at x y) (listed [] turned) ≡ true
-        → Always leaf (hosting host turned)
-    leaf_marks leaf bound turned small words any so_far =
+    leaf_tells : (leaf : Stmt) → Repeats host leaf store (wholes extents splits []) → (turned : loops.Values) → AreSmall turned → AllByRecursion AreWords (listed [] turned) → Told leaf turned (list_any (is_at x y) (listed [] turned))
+    leaf_tells leaf bound turned small words so_far =
         ap (λ (t : Trace). t.is_stored) (bound.traces points inputs host x y (hosting host turned) so_far (subst AreSmall (sym (loops_hosting host turned)) small))
         ∙ ap (λ (t : loops.Values). (all (step turned) (listed [] t) so_far).is_stored) (loops_hosting host turned)
-        ∙ list_marks (step turned) (λ inner. stays store (put_loops host inner (hosting host turned))) (is_at x y) (listed [] turned)
-        (all_so AreWords (λ inner. is_at x y inner ≡ true → Marks (step turned inner)) (λ inner w. store_marks turned inner w) (listed [] turned) words) any so_far
+        ∙ list_tells (step turned) (is_at x y) (listed [] turned) (all_so AreWords (λ inner. Tells (step turned inner) (is_at x y inner)) (λ inner w. store_tells turned inner w) (listed [] turned) words) so_far
 
     -- loops store where they list the point
-    pub loops_store : (leaf : Stmt) → Repeats host leaf store (wholes extents splits []) → (inside : List Loop) (made : Stmt) → HasLoops pipeline schedule boxes host counts leaf inside made
-        → (turned : loops.Values) → AreSmall turned → AllByRecursion AreWords (listed inside turned) → list_any (is_at x y) (listed inside turned) ≡ true → Always made (hosting host turned)
-    loops_store leaf bound _ _ No_loops turned small words any so_far = leaf_marks leaf bound turned small words any so_far
-    loops_store leaf bound _ made (One_outside inside mid inner body _ within nested does) turned small words any so_far =
+    pub loops_tell : (leaf : Stmt) → Repeats host leaf store (wholes extents splits []) → (inside : List Loop) (made : Stmt) → HasLoops pipeline schedule boxes host counts leaf inside made
+        → (turned : loops.Values) → AreSmall turned → AllByRecursion AreWords (listed inside turned) → Told made turned (list_any (is_at x y) (listed inside turned))
+    loops_tell leaf bound _ _ No_loops turned small words so_far = leaf_tells leaf bound turned small words so_far
+    loops_tell leaf bound _ made (One_outside inside mid inner body _ within nested does) turned small words so_far =
         let lists : ℕ → List loops.Values = λ turn. listed inside (loops.with mid.id turn turned) in
         let list_is : listed (inside ++ mid ∷ []) turned ≡ upto (counts mid.id) lists = nest-append counts inside (mid ∷ []) (over_loops extents splits (λ (whole : loops.Values). whole ∷ [])) turned in
-        let found = turn_passed (is_at x y) lists (counts mid.id) (ap (list_any (is_at x y)) (sym list_is) ∙ any) in
-        let small_at : AreSmall (loops.with mid.id found.turn turned) = small_with mid.id found.turn turned (omega (arith, found.below, few_turns extents splits few are_splits mid.id)) small in
+        let all_words : AllByRecursion AreWords (upto (counts mid.id) lists) = subst (λ (l : List loops.Values). AllByRecursion AreWords l) list_is words in
         ap (λ (t : Trace). t.is_stored) (does.traces points inputs host x y (hosting host turned) so_far)
-        ∙ turns_mark (counts mid.id) (λ turn. traced body (with (record { func = host; id = mid.id }) turn (hosting host turned)))
-        (λ turn. stays body (with (record { func = host; id = mid.id }) turn (hosting host turned))) found.turn found.below
-        (subst (λ (v : Values). Always body v) (sym (hosting_with host mid.id found.turn turned))
-        (nests (record { func = host; inside = mid.id }) 0 inner body nested (hosting host (loops.with mid.id found.turn turned))
-        (loops_store leaf bound inside inner within (loops.with mid.id found.turn turned) small_at
-        (all_upto AreWords lists (counts mid.id) (subst (λ (l : List loops.Values). AllByRecursion AreWords l) list_is words) found.turn found.below) found.passes)))
+        ∙ turns_tell (counts mid.id) (counts mid.id) (omega arith) (λ turn. traced body (with (record { func = host; id = mid.id }) turn (hosting host turned))) (is_at x y) lists
+        (λ turn below.
+        subst (λ (v : Values). Tells (traced body v) (list_any (is_at x y) (lists turn))) (sym (hosting_with host mid.id turn turned))
+        (nests (record { func = host; inside = mid.id }) refl (loops.with mid.id turn turned) 0 inner body nested (list_any (is_at x y) (lists turn))
+        (loops_tell leaf bound inside inner within (loops.with mid.id turn turned) (small_with mid.id turn turned (omega (arith, below, few_turns extents splits few are_splits mid.id)) small)
+        (all_upto AreWords lists (counts mid.id) all_words turn below))))
         so_far
+        ∙ ap (λ (l : List loops.Values). so_far.is_stored || list_any (is_at x y) l) (sym list_is)

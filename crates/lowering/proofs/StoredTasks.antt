@@ -1,5 +1,5 @@
--- Each task of a pure definition stores at the points that its iteration visits.
-use Rattle.std.proofs.Common.{◌≡◌, ℕ, ◌<◌, ◌^◌, true, false, List, map, Option, Some, None, refl, sym, ap, subst, ◌∙◌, arith}
+-- Each task of a pure definition stores at the points that its iteration visits, and at no other of its Func.
+use Rattle.std.proofs.Common.{◌≡◌, ℕ, ◌<◌, ◌^◌, false, List, map, Option, Some, None, refl, sym, ap, subst, ◌∙◌, arith}
 use Rattle.std.specs.Prelude.{Ok}
 use Rattle.std.specs.List.{AllByRecursion, list_any}
 use Rattle.halide_pipeline.specs.declared.definitions.Func.{Func}
@@ -31,14 +31,15 @@ use Rattle.loop_ir.specs.Counters.{Values}
 use Rattle.loop_ir.specs.Running.{task_values}
 use Rattle.loop_ir.specs.Stores.{is_stored_by, is_stored_by_task}
 use Rattle.nest_lowering.specs.Nests.{AreSmall}
-use Rattle.lowering.specs.Hosting.{hosting, HasLoops, HasOutermost, IsBody}
+use Rattle.lowering.specs.Hosting.{HasLoops, HasOutermost, IsBody}
 use Rattle.lowering.specs.Planes.{box_points, owns}
 use Rattle.lowering.specs.PurePhases.{IsAtRoot, IsStoreOf, inside_of, counter_of}
 use Rattle.lowering.specs.Stored.{StoresItsOwn}
 use Rattle.lowering.proofs.Covered.{parts_of}
 use Rattle.lowering.proofs.Facts.{staged, splits, few}
 use Rattle.lowering.proofs.Lists.{any_map, all_map}
-use Rattle.lowering.proofs.StoredHosts.{AreWords, is_at, Always, nests, loops_store}
+use Rattle.lowering.proofs.StoredHosts.{AreWords, is_at}
+use Rattle.lowering.proofs.StoredHosts as hosts
 use Rattle.lowering.proofs.Tasks.{turned_by, listed, before_by, small_by, all_visits}
 
 module _ (pipeline : Pipeline) (schedule : Schedule) (boxes : Boxes) (rules : IsWellFormed pipeline) (accepted : IsAccepted pipeline schedule) (is : inferred pipeline schedule ≡ Ok boxes)
@@ -90,24 +91,25 @@ module _ (pipeline : Pipeline) (schedule : Schedule) (boxes : Boxes) (rules : Is
     small found l =
         small_by func extents stage facts.0 facts.1 place (few pipeline schedule boxes place func plan own accepted is places.Root tt at) (splits pipeline schedule boxes place func plan own accepted is places.Root tt at) found number l
 
-    inner_stores : (found : Option Loop) → parallel stage ≡ found → number < count_of (loops.counts extents stage.splits) found → AllByRecursion AreWords (list found) → list_any (is_at x y) (list found) ≡ true
-        → Always pipeline schedule boxes points inputs place x y body.inner (hosting place (turned found))
-    inner_stores found e l words_so any =
-        loops_store pipeline schedule boxes points inputs place x y extents stage.splits (few pipeline schedule boxes place func plan own accepted is places.Root tt at) (splits pipeline schedule boxes place func plan own accepted is places.Root tt at)
-        store store_of.hits body.leaf body.bound (inside_of found stage.loops) body.inner
-        (subst (λ (o : Option Loop). HasLoops pipeline schedule boxes place (loops.counts extents stage.splits) body.leaf (inside_of o stage.loops) body.inner) e body.looped) (turned found) (small found l) words_so any
+    abbrev Told : Option Loop → Stmt → Type 0
+    Told found made = hosts.Told pipeline schedule boxes accepted points inputs place x y made (turned found) (list_any (is_at x y) (list found))
 
-    stored_by : (found : Option Loop) (made : Stmt) → HasOutermost pipeline schedule boxes place found body.inner made → Always pipeline schedule boxes points inputs place x y body.inner (hosting place (turned found))
-        → Always pipeline schedule boxes points inputs place x y made (hosting place (turned found))
-    stored_by None made same stores = subst (λ (s : Stmt). Always pipeline schedule boxes points inputs place x y s (hosting place (turned None))) (sym same) stores
-    stored_by (Some loop) made nested stores =
-        nests pipeline schedule boxes points inputs place x y (record { func = place; inside = loop.id }) 0 body.inner made nested (hosting place (turned (Some loop))) stores
+    inner_tells : (found : Option Loop) → parallel stage ≡ found → number < count_of (loops.counts extents stage.splits) found → AllByRecursion AreWords (list found) → Told found body.inner
+    inner_tells found e l words_so =
+        hosts.loops_tell pipeline schedule boxes accepted points inputs place x y extents stage.splits (few pipeline schedule boxes place func plan own accepted is places.Root tt at)
+        (splits pipeline schedule boxes place func plan own accepted is places.Root tt at) store store_of.hits body.leaf body.bound (inside_of found stage.loops) body.inner
+        (subst (λ (o : Option Loop). HasLoops pipeline schedule boxes place (loops.counts extents stage.splits) body.leaf (inside_of o stage.loops) body.inner) e body.looped) (turned found) (small found l) words_so
 
-    task_stores : owns extents stage number x y ≡ true → (funcs : Planes) → is_stored_by_task points inputs phase number place x y funcs ≡ true
-    task_stores owned funcs =
+    told_by : (found : Option Loop) (made : Stmt) → HasOutermost pipeline schedule boxes place found body.inner made → Told found body.inner → Told found made
+    told_by None made same told = subst (Told None) (sym same) told
+    told_by (Some loop) made nested told =
+        hosts.nests pipeline schedule boxes accepted points inputs place x y (record { func = place; inside = loop.id }) refl (turned (Some loop)) 0 body.inner made nested (list_any (is_at x y) (list (Some loop))) told
+
+    task_stores : (funcs : Planes) → is_stored_by_task points inputs phase number place x y funcs ≡ owns extents stage number x y
+    task_stores funcs =
         ap (λ (c : Option Counter). is_stored_by points inputs place x y phase.body (task_values c number) funcs) counter_is
         ∙ ap (λ (v : Values). is_stored_by points inputs place x y phase.body v funcs) (before_by func extents stage facts.0 facts.1 place (parallel stage) number)
-        ∙ stored_by (parallel stage) phase.body body.begun (inner_stores (parallel stage) refl below_count words (sym owned_is ∙ owned)) (record { funcs = funcs; is_stored = false })
+        ∙ told_by (parallel stage) phase.body body.begun (inner_tells (parallel stage) refl below_count words) (record { funcs = funcs; is_stored = false }) ∙ sym owned_is
 
   pub stores_its_own : StoresItsOwn boxes place (owns extents stage) phase
-  stores_its_own inputs funcs number below x y owned = task_stores inputs number below x y owned funcs
+  stores_its_own inputs funcs number below x y = task_stores inputs number below x y funcs

@@ -1,8 +1,8 @@
 -- The store of a pure definition.
-use Rattle.std.proofs.Common.{◌≡◌, ℕ, Bool, true, List, ◌++◌, refl, sym, ap, subst, ◌∙◌}
+use Rattle.std.proofs.Common.{◌≡◌, ℕ, Bool, true, List, ◌++◌, sym, ap, subst, ◌∙◌}
 use Rattle.std.specs.Prelude.{◌==◌, ◌&&◌, ◌||◌}
 use Rattle.std.specs.List.{list_all}
-use Rattle.std.proofs.lemmas.Bool.{and_from, eq-eqb}
+use Rattle.std.proofs.lemmas.Bool.{and_from}
 use Rattle.halide_pipeline.specs.declared.definitions.Func.{Func}
 use Rattle.halide_pipeline.specs.declared.expressions.Expr.{Expr}
 use Rattle.halide_pipeline.specs.declared.expressions.Variable.TheVariants as variables
@@ -65,12 +65,11 @@ stores_pure corners flags funcs place corner pure x y made arguments environment
 pub hits_pure : (place : ℕ) (x y : Linear) (made : expressions.Expr) → ((values : Values) → linear_value values x ≡ whole_at values place variables.FirstArgument)
     → ((values : Values) → linear_value values y ≡ whole_at values place variables.SecondArgument)
     → HitsPure place (s.Store (record { func = place; x = e.Linear x; y = e.Linear y; value = made }))
-hits_pure place x y made x_is y_is points inputs p q values so_far =
+hits_pure place x y made x_is y_is points inputs func p q values so_far =
     let reads = reads_of inputs so_far.funcs in
-    ap (λ (t : Trace). t.is_stored) (trace_store points inputs place p q (record { func = place; x = e.Linear x; y = e.Linear y; value = made }) values so_far)
-    ∙ ap (λ (b : Bool). so_far.is_stored || (b && (value reads values (e.Linear x) == p && value reads values (e.Linear y) == q))) (eq-eqb place place refl)
-    ∙ ap (λ (n : ℕ). so_far.is_stored || (n == p && value reads values (e.Linear y) == q)) (value_linear reads values x ∙ x_is values)
-    ∙ ap (λ (n : ℕ). so_far.is_stored || (whole_at values place variables.FirstArgument == p && n == q)) (value_linear reads values y ∙ y_is values)
+    ap (λ (t : Trace). t.is_stored) (trace_store points inputs func p q (record { func = place; x = e.Linear x; y = e.Linear y; value = made }) values so_far)
+    ∙ ap (λ (n : ℕ). so_far.is_stored || (place == func && (n == p && value reads values (e.Linear y) == q))) (value_linear reads values x ∙ x_is values)
+    ∙ ap (λ (n : ℕ). so_far.is_stored || (place == func && (whole_at values place variables.FirstArgument == p && n == q))) (value_linear reads values y ∙ y_is values)
 
 -- ---- what it touches
 

@@ -250,13 +250,19 @@ module _ (pipeline : Pipeline) (schedule : Schedule) (boxes : Boxes) (rules : Is
       target_on : is_visited update i_of j_of visit ≡ true
       target_on = on_slice written_column written_row target_stays
 
-      column_at : word.subtract (inlined (valuing found) (flags pipeline schedule) pipeline.funcs place (variable (visited_point now place corner update)) update.left_x) (linear_value now corner.x) ≡ i_of
+      abbrev column_now : ℕ
+      column_now = word.subtract (inlined (valuing found) (flags pipeline schedule) pipeline.funcs place (variable (visited_point now place corner update)) update.left_x) (linear_value now corner.x)
+
+      column_at : column_now ≡ i_of
       column_at =
           ap (λ (p : Environment). word.subtract (inlined (valuing found) (flags pipeline schedule) pipeline.funcs place (variable p) update.left_x) (linear_value now corner.x)) point_is
           ∙ ap (word.subtract (inlined (valuing found) (flags pipeline schedule) pipeline.funcs place (variable (at_reduction update visit.number x y)) update.left_x)) (corner_is inner).0
           ∙ ap (λ (n : ℕ). word.subtract n begin.x) (column_found pipeline schedule rules accepted place func func_is standing there computed at update update_is inputs begun visit.number x y found agree)
 
-      row_at : word.subtract (index_of (inlined (valuing found) (flags pipeline schedule) pipeline.funcs place (variable (visited_point now place corner update))) update.left_y) (linear_value now corner.y) ≡ j_of
+      abbrev row_now : ℕ
+      row_now = word.subtract (index_of (inlined (valuing found) (flags pipeline schedule) pipeline.funcs place (variable (visited_point now place corner update))) update.left_y) (linear_value now corner.y)
+
+      row_at : row_now ≡ j_of
       row_at =
           ap (λ (p : Environment). word.subtract (index_of (inlined (valuing found) (flags pipeline schedule) pipeline.funcs place (variable p)) update.left_y) (linear_value now corner.y)) point_is
           ∙ ap (word.subtract (index_of (inlined (valuing found) (flags pipeline schedule) pipeline.funcs place (variable (at_reduction update visit.number x y))) update.left_y)) (corner_is inner).1
@@ -356,8 +362,8 @@ module _ (pipeline : Pipeline) (schedule : Schedule) (boxes : Boxes) (rules : Is
           → ((trace boxed inputs place p q store now so_far).funcs ≡ step inner so_far.funcs) × ((trace boxed inputs place p q store now so_far).is_stored ≡ (so_far.is_stored || is_point p q corner_point))
       marks so_far ready holds = (
         traces_follow_runs boxed inputs place p q store now so_far,
-        hits boxed inputs p q now so_far
-            ∙ ap (λ (n : ℕ). so_far.is_stored || (n == p && word.subtract (index_of (inlined (valuing (found so_far.funcs ready holds)) (flags pipeline schedule) pipeline.funcs place (variable (visited_point now place corner update))) update.left_y) (linear_value now corner.y) == q))
-            (column_at so_far.funcs ready holds)
+        hits boxed inputs place p q now so_far
+            ∙ ap (λ (b : Bool). so_far.is_stored || (b && (column_now so_far.funcs ready holds == p && row_now so_far.funcs ready holds == q))) (eq-eqb place place refl)
+            ∙ ap (λ (n : ℕ). so_far.is_stored || (n == p && row_now so_far.funcs ready holds == q)) (column_at so_far.funcs ready holds)
             ∙ ap (λ (n : ℕ). so_far.is_stored || (i_of so_far.funcs ready holds == p && n == q)) (row_at so_far.funcs ready holds),
       )

@@ -1,7 +1,6 @@
 -- The store of an update.
 use Rattle.std.proofs.Common.{◌≡◌, ℕ, suc, ◌^◌, ◌<◌, Bool, List, refl, sym, ap, subst, ◌∙◌, arith}
 use Rattle.std.specs.Prelude.{◌==◌, ◌&&◌, ◌||◌}
-use Rattle.std.proofs.lemmas.Bool.{eq-eqb}
 use Rattle.halide_pipeline.specs.declared.definitions.Func.{Func}
 use Rattle.halide_pipeline.specs.declared.definitions.Update.{Update}
 use Rattle.halide_pipeline.specs.Words as word
@@ -86,15 +85,14 @@ module _ (corners : List Corner) (flags : ℕ → Bool) (funcs : List Func) (pla
       → ((reads : Reads) (values : Values) → value reads values x ≡ word.subtract (value reads values column) (linear_value values corner.x))
       → ((reads : Reads) (values : Values) → value reads values y ≡ word.subtract (value reads values row) (linear_value values corner.y))
       → HitsUpdate corners flags funcs place corner update (s.Store (record { func = place; x = x; y = y; value = made }))
-  hits_update column row x y made arguments environment_is column_is row_is x_is y_is points inputs p q values so_far =
+  hits_update column row x y made arguments environment_is column_is row_is x_is y_is points inputs func p q values so_far =
       let reads = reads_of inputs so_far.funcs in
       let answers = placed corners values reads in
       let point = visited_point values place corner update in
-      ap (λ (t : Trace). t.is_stored) (trace_store points inputs place p q (record { func = place; x = x; y = y; value = made }) values so_far)
-      ∙ ap (λ (b : Bool). so_far.is_stored || (b && (value reads values x == p && value reads values y == q))) (eq-eqb place place refl)
-      ∙ ap (λ (n : ℕ). so_far.is_stored || (n == p && value reads values y == q))
+      ap (λ (t : Trace). t.is_stored) (trace_store points inputs func p q (record { func = place; x = x; y = y; value = made }) values so_far)
+      ∙ ap (λ (n : ℕ). so_far.is_stored || (place == func && (n == p && value reads values y == q)))
       (x_is reads values ∙ ap (λ (n : ℕ). word.subtract n (linear_value values corner.x)) (column_is reads values ∙ ap (λ (v : Environment). inlined (valuing answers) flags funcs place (variable v) update.left_x) (environment_is values)))
-      ∙ ap (λ (n : ℕ). so_far.is_stored || (word.subtract (inlined (valuing answers) flags funcs place (variable point) update.left_x) (linear_value values corner.x) == p && n == q))
+      ∙ ap (λ (n : ℕ). so_far.is_stored || (place == func && (word.subtract (inlined (valuing answers) flags funcs place (variable point) update.left_x) (linear_value values corner.x) == p && n == q)))
       (y_is reads values ∙ ap (λ (n : ℕ). word.subtract n (linear_value values corner.y)) (row_is reads values ∙ ap (λ (v : Environment). index_of (inlined (valuing answers) flags funcs place (variable v)) update.left_y) (environment_is values)))
 
   -- ---- what it touches

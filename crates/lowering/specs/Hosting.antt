@@ -36,7 +36,7 @@ use Rattle.loop_ir.specs.Depths.{depth}
 use Rattle.loop_ir.specs.Running.{run, turns}
 use Rattle.loop_ir.specs.Soundness.{every, is_sound}
 use Rattle.loop_ir.specs.Stores.{Trace, trace}
-use Rattle.nest_lowering.specs.Nests.{loops_of, put_loops, Repeats}
+use Rattle.nest_lowering.specs.Nests.{loops_of, put_loops, AreSmall, Repeats}
 use Rattle.expression_lowering.specs.declared.calls.Corner.{Corner}
 use Rattle.expression_lowering.specs.Lowering.{placed, place as place_in}
 use Rattle.lowering.specs.Corners.{first_of, turns_for, AreCorners}
@@ -87,6 +87,12 @@ pub record DoesFirst (found : Option Stmt) (rest made : Stmt) : Type 0 where
   pub sound : (reads : Reads) (written : Points) (loaded : Point → Bool) (values : Values)
       → is_sound reads written loaded made values ≡ (is_sound_first reads written loaded found values && is_sound reads written loaded rest values)
   pub depth_is : depth made ≡ max (depth_first found) (depth rest)
+
+-- It stores in the buffer of one Func alone, while the Func's loops stand at small values.
+abbrev pub StoresInIt : ℕ → Stmt → Type 0
+StoresInIt place made =
+    (points : Points) (inputs : Planes) (func x y : ℕ) → (func ≡ place → ⊥) → (values : Values) → AreSmall (loops_of place values) → (so_far : Trace)
+    → (trace points inputs func x y made values so_far).is_stored ≡ so_far.is_stored
 
 -- It does another one in so many turns of a loop.
 pub record DoesTurns (host : ℕ) (id : LoopId) (count : ℕ) (body made : Stmt) : Type 0 where
@@ -173,6 +179,7 @@ module _ (pipeline : Pipeline) (schedule : Schedule) (boxes : Boxes) where
     pub own : SourceBox
     pub parts : IsComputedAt pipeline schedule boxes (places.At at) place func plan own
     pub does : DoesNests at place func own (length func.updates) made
+    pub alone : StoresInIt place made
     pub sound : IsSoundNest at place func own made
     -- under at most five loops and four values of split ones
     pub few : depth made ≤ 9

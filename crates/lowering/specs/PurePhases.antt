@@ -97,12 +97,12 @@ StoresPure corners flags funcs place corner pure made =
     (variable (at_point (word.add (whole_at values place variables.FirstArgument) (linear_value values corner.x)) (word.add (whole_at values place variables.SecondArgument) (linear_value values corner.y)))) pure)
     buffers
 
--- It stores at that point alone.
+-- It stores at that point alone, and in that buffer.
 abbrev pub HitsPure : ℕ → Stmt → Type 0
 HitsPure place made =
-    (points : Points) (inputs : Planes) (x y : ℕ) (values : Values) (so_far : Trace)
-    → (trace points inputs place x y made values so_far).is_stored
-    ≡ (so_far.is_stored || (whole_at values place variables.FirstArgument == x && whole_at values place variables.SecondArgument == y))
+    (points : Points) (inputs : Planes) (func x y : ℕ) (values : Values) (so_far : Trace)
+    → (trace points inputs func x y made values so_far).is_stored
+    ≡ (so_far.is_stored || (place == func && (whole_at values place variables.FirstArgument == x && whole_at values place variables.SecondArgument == y)))
 
 -- It is sound where that point may be written, and where all that the pure definition reads there may be loaded, counted from the corners.
 abbrev pub IsSoundPure : List Corner → (ℕ → Bool) → List Func → ℕ → Corner → Expr → Stmt → Type 0

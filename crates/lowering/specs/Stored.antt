@@ -3,7 +3,7 @@
 -- They are the points of the box that its iteration writes: of a pure definition those that the iteration visits; of an update those that the
 -- left side names at some reduction point, where arguments in place lie inside the iteration. Left sides read no pixel of their own Func.
 -- This project's own.
-use Rattle.std.specs.Prelude.{◌≡◌, ◌<◌, ℕ, suc, ◌==◌, ◌&&◌, Bool, true, Some}
+use Rattle.std.specs.Prelude.{◌≡◌, ◌<◌, ℕ, suc, ◌==◌, ◌&&◌, Bool, Some}
 use Rattle.std.specs.List.{list_any}
 use Rattle.halide_pipeline.specs.declared.definitions.Func.{Func}
 use Rattle.halide_pipeline.specs.declared.definitions.Update.{Update}
@@ -26,11 +26,11 @@ use Rattle.lowering.specs.Updates.{update_extents, owns_update}
 
 -- ---- pure definitions
 
--- Each task of the phase, of which each owns these points of the Func at a place, stores at all of them, whatever buffers hold.
+-- Each task of the phase, of which each owns these points of the Func at a place, stores at a point of the Func exactly if it owns it,
+-- whatever buffers hold.
 abbrev pub StoresItsOwn : Boxes → ℕ → (ℕ → ℕ → ℕ → Bool) → Phase → Type 0
 StoresItsOwn boxes place owned phase =
-    (inputs funcs : Planes) (task : ℕ) → task < phase.tasks → (x y : ℕ) → owned task x y ≡ true
-    → is_stored_by_task (box_points boxes.funcs) inputs phase task place x y funcs ≡ true
+    (inputs funcs : Planes) (task : ℕ) → task < phase.tasks → (x y : ℕ) → is_stored_by_task (box_points boxes.funcs) inputs phase task place x y funcs ≡ owned task x y
 
 -- ---- updates
 

@@ -103,14 +103,15 @@ StoresUpdate corners flags funcs place corner update made =
     (inlined (valuing (placed corners values (reads_of inputs buffers))) flags funcs (suc place) (variable (visited_point values place corner update)) update.right)
     buffers
 
--- It stores at that point alone.
+-- It stores at that point alone, and in that buffer.
 abbrev pub HitsUpdate : List Corner → (ℕ → Bool) → List Func → ℕ → Corner → Update → Stmt → Type 0
 HitsUpdate corners flags funcs place corner update made =
-    (points : Points) (inputs : Planes) (x y : ℕ) (values : Values) (so_far : Trace)
-    → (trace points inputs place x y made values so_far).is_stored
+    (points : Points) (inputs : Planes) (func x y : ℕ) (values : Values) (so_far : Trace)
+    → (trace points inputs func x y made values so_far).is_stored
     ≡ (so_far.is_stored
-    || (word.subtract (inlined (valuing (placed corners values (reads_of inputs so_far.funcs))) flags funcs place (variable (visited_point values place corner update)) update.left_x) (linear_value values corner.x) == x
-    && word.subtract (index_of (inlined (valuing (placed corners values (reads_of inputs so_far.funcs))) flags funcs place (variable (visited_point values place corner update))) update.left_y) (linear_value values corner.y) == y))
+    || (place == func
+    && (word.subtract (inlined (valuing (placed corners values (reads_of inputs so_far.funcs))) flags funcs place (variable (visited_point values place corner update)) update.left_x) (linear_value values corner.x) == x
+    && word.subtract (index_of (inlined (valuing (placed corners values (reads_of inputs so_far.funcs))) flags funcs place (variable (visited_point values place corner update))) update.left_y) (linear_value values corner.y) == y)))
 
 -- an index that isn't written reads nothing
 abbrev pub points_of_index : (Expr → List Point) → Option Expr → List Point

@@ -121,9 +121,11 @@ fn with_update(
     requires parts { IsComputedAt pipeline.now schedule.now boxes.now (places.At at) place of.now.func.now of.now.plan.now of.now.own.now }
     requires update { IsUpdateAt schedule.now place of.now.func.now of.now.plan.now of.now.at of.now.update.now of.now.stage.now }
     requires before { spec.DoesNests pipeline.now schedule.now boxes.now at place of.now.func.now of.now.own.now of.now.at before }
+    requires alone { spec.StoresInIt place before }
     requires sound { spec.IsSoundNest pipeline.now schedule.now boxes.now at place of.now.func.now of.now.own.now before }
     requires few { depth before ≤ 9 }
     ensures does { IfOk result (spec.DoesNests pipeline.now schedule.now boxes.now at place of.now.func.now of.now.own.now (suc of.now.at)) }
+    ensures alone { IfOk result (spec.StoresInIt place) }
     ensures sound { IfOk result (spec.IsSoundNest pipeline.now schedule.now boxes.now at place of.now.func.now of.now.own.now) }
     ensures few { IfOk result (λ made. depth made ≤ 9) }
 {
@@ -159,6 +161,7 @@ fn nests_upto(
     requires parts { IsComputedAt pipeline.now schedule.now boxes.now (places.At at) place func.now plan.now own.now }
     requires count { count ≤ length func.now.updates }
     ensures does { IfOk result (spec.DoesNests pipeline.now schedule.now boxes.now at place func.now own.now count) }
+    ensures alone { IfOk result (spec.StoresInIt place) }
     ensures sound { IfOk result (spec.IsSoundNest pipeline.now schedule.now boxes.now at place func.now own.now) }
     ensures few { IfOk result (λ made. depth made ≤ 9) }
 {

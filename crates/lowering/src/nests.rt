@@ -6,7 +6,7 @@ ghost use Rattle.schedule.specs.Accepted.{IsAccepted};
 ghost use Rattle.schedule.specs.declared.standings.Place.TheVariants as places;
 ghost use Rattle.bounds.specs.Verdict.{inferred};
 ghost use Rattle.loop_ir.specs.Depths.{depth};
-ghost use Rattle.lowering.specs.Hosting.{DoesNest, IsSoundNest};
+ghost use Rattle.lowering.specs.Hosting.{DoesNest, IsSoundNest, StoresInIt};
 ghost use Rattle.lowering.specs.PurePhases.{IsComputedAt, IsStoreOf};
 
 use crate::corners::{corner_of, corners_of};
@@ -73,6 +73,7 @@ pub fn pure_nest(
     requires boxes { inferred pipeline.now schedule.now ≡ Ok boxes.now }
     requires parts { IsComputedAt pipeline.now schedule.now boxes.now (places.At at) place func.now plan.now own.now }
     ensures does { IfOk result (λ made. DoesNest pipeline.now schedule.now boxes.now at place func.now own.now 0 made) }
+    ensures alone { IfOk result (StoresInIt place) }
     ensures sound { IfOk result (λ made. IsSoundNest pipeline.now schedule.now boxes.now at place func.now own.now made) }
     ensures few { IfOk result (λ made. depth made ≤ 9) }
 {

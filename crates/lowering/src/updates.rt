@@ -12,6 +12,7 @@ ghost use Rattle.bounds.specs.Boxes.{IsBox};
 ghost use Rattle.bounds.specs.Verdict.{inferred};
 ghost use Rattle.loop_ir.specs.Depths.{depth, task_depth};
 ghost use Rattle.nest_lowering.specs.Nests.{AreFew, Repeats};
+ghost use Rattle.lowering.specs.Hosting.{StoresInIt};
 ghost use Rattle.lowering.specs.PurePhases as pure;
 ghost use Rattle.lowering.specs.Stages.{DoesStage};
 ghost use Rattle.lowering.specs.Stored.{StoresWhatItNames};
@@ -242,6 +243,7 @@ pub fn update_nest(
     requires at { spec.IsUpdateAt schedule.now place of.now.func.now of.now.plan.now of.now.at of.now.update.now of.now.stage.now }
     requires corner { slice_get corners.now place ≡ Some corner.now }
     ensures does { IfOk result (spec.DoesUpdate pipeline.now schedule.now boxes.now corners.now place of.now.func.now corner.now of.now.own.now of.now.at of.now.update.now) }
+    ensures alone { IfOk result (StoresInIt place) }
     ensures sound { IfOk result (spec.AreSoundLoops pipeline.now schedule.now boxes.now corners.now place corner.now of.now.own.now of.now.update.now) }
     ensures few { IfOk result (λ made. depth made ≤ 9) }
 {

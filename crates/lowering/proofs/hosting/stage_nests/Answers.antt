@@ -9,6 +9,7 @@ returns c = record {
   own = c.args.own.now;
   parts = c.requires.parts;
   does = subst (λ (n : ℕ). DoesNests c.args.pipeline.now c.args.schedule.now c.args.boxes.now c.args.at c.args.place c.args.func.now c.args.own.now n c.in_ok-made.made) c.len-count.ensures c.in_ok-made.ensures.does;
+  alone = c.in_ok-made.ensures.alone;
   sound = c.in_ok-made.ensures.sound;
   few = c.in_ok-made.ensures.few;
 }

@@ -2,6 +2,7 @@ use Rattle.std.proofs.Common.{List, sym, ap, subst, ◌∙◌}
 use Rattle.std.specs.Prelude.{slice_get}
 use Rattle.expression_lowering.specs.declared.calls.Corner.{Corner}
 use Rattle.lowering.specs.Updates.{DoesUpdate, AreSoundLoops}
+use Rattle.lowering.proofs.Alone.{both_alone}
 use Rattle.lowering.proofs.UpdateFilling.{computed_in, corner_there, one_more_stage, one_more_sound, same_corners, nothing_there}
 use Rattle.lowering.proofs.hosting.with_update.Goals as goal
 
@@ -26,6 +27,9 @@ returns-clause-does c =
     c.in-Some.corner.now (ap (λ (l : List Corner). slice_get l c.args.place) (sym c.deref.ensures.value) ∙ sym c.in-Some.ensures)
     c.args.of.now.at c.args.of.now.update.now c.requires.update.update_is c.args.before c.in_ok-next.next c.in_ok-made.made c.in_ok-made.ensures c.requires.before
     (subst (λ (l : List Corner). DoesUpdate c.args.pipeline.now c.args.schedule.now c.args.boxes.now l c.args.place c.args.of.now.func.now c.in-Some.corner.now c.args.of.now.own.now c.args.of.now.at c.args.of.now.update.now c.in_ok-next.next) c.deref-2.ensures.value c.in_ok-next.ensures.does)
+
+pub returns-clause-alone : goal.returns-clause-alone
+returns-clause-alone c = both_alone c.args.place c.args.before c.in_ok-next.next c.in_ok-made.made c.in_ok-made.ensures c.requires.alone c.in_ok-next.ensures.alone
 
 pub returns-clause-sound : goal.returns-clause-sound
 returns-clause-sound c =

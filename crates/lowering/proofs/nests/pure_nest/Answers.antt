@@ -7,6 +7,7 @@ use Rattle.schedule.specs.declared.standings.Place.TheVariants as places
 use Rattle.stage_loops.specs.declared.extents.Extents.{Extents}
 use Rattle.stage_loops.specs.Reach.{wholes}
 use Rattle.nest_lowering.specs.Nests.{AreFew, Repeats}
+use Rattle.lowering.proofs.Alone.{pure_alone, nest_alone}
 use Rattle.lowering.proofs.Facts.{is_box, splits, few, few_loops, hosted_before}
 use Rattle.lowering.proofs.Filling.{fills, touches}
 use Rattle.lowering.proofs.nests.pure_nest.Goals as goal
@@ -38,6 +39,11 @@ returns-clause-does c =
     (subst (λ (l : List Loop). Repeats c.args.place c.in_ok-made.made c.in_ok-store.store (wholes (extents_of c.args.own.now) c.args.plan.now.pure.splits l)) c.as_slice-2.ensures
     (subst (λ (l : List Split). Repeats c.args.place c.in_ok-made.made c.in_ok-store.store (wholes (extents_of c.args.own.now) l c.as_slice-2.result.now)) c.as_slice.ensures
     (subst (λ (e : Extents). Repeats c.args.place c.in_ok-made.made c.in_ok-store.store (wholes e c.as_slice.result.now c.as_slice-2.result.now)) c.extents_of-extents.ensures c.in_ok-made.ensures.repeats)))
+
+pub returns-clause-alone : goal.returns-clause-alone
+returns-clause-alone c =
+    nest_alone c.args.place c.in_ok-made.made c.in_ok-store.store (wholes c.extents_of-extents.result c.as_slice.result.now c.as_slice-2.result.now) c.in_ok-made.ensures.repeats
+    (pure_alone c.args.place c.in_ok-store.store c.in_ok-store.ensures.stores.hits)
 
 pub returns-clause-sound : goal.returns-clause-sound
 returns-clause-sound c =

@@ -2,6 +2,9 @@ use Rattle.std.proofs.Common.{sym, subst, arith}
 use Rattle.stage_loops.specs.declared.extents.Extents.{Extents}
 use Rattle.stage_loops.specs.Reach.{wholes}
 use Rattle.nest_lowering.specs.Nests.{AreFew, Repeats}
+use Rattle.inlining.specs.Inlining.{flagged}
+use Rattle.weights.specs.Weight.{flags_of}
+use Rattle.lowering.proofs.Alone.{update_alone, nest_alone}
 use Rattle.lowering.proofs.UpdateNests.{does_nest, sound_nest}
 use Rattle.lowering.proofs.UpdateStages.{splits, few, few_loops, is_box, place_small}
 use Rattle.lowering.proofs.updates.update_nest.Goals as goal
@@ -30,6 +33,11 @@ returns-clause-does c =
     does_nest c.args.pipeline.now c.args.schedule.now c.args.boxes.now c.funcs-funcs.ensures.rules c.requires.accepted c.requires.boxes c.args.corners.now c.args.place c.args.of.now.func.now c.args.of.now.plan.now c.args.of.now.own.now
     c.requires.computed c.args.of.now.at c.args.of.now.update.now c.args.of.now.stage.now c.requires.at c.args.corner.now c.requires.corner c.in_ok-store.store c.in_ok-store.ensures.stores c.in_ok-made.made
     (subst (λ (e : Extents). Repeats c.args.place c.in_ok-made.made c.in_ok-store.store (wholes e c.args.of.now.stage.now.splits c.args.of.now.stage.now.loops)) c.update_extents-extents.ensures c.in_ok-made.ensures.repeats)
+
+pub returns-clause-alone : goal.returns-clause-alone
+returns-clause-alone c =
+    nest_alone c.args.place c.in_ok-made.made c.in_ok-store.store (wholes c.update_extents-extents.result c.args.of.now.stage.now.splits c.args.of.now.stage.now.loops) c.in_ok-made.ensures.repeats
+    (update_alone c.args.corners.now (flagged (flags_of c.args.schedule.now.standings)) c.args.pipeline.now.funcs c.args.place c.args.corner.now c.args.of.now.update.now c.in_ok-store.store c.in_ok-store.ensures.hits)
 
 pub returns-clause-sound : goal.returns-clause-sound
 returns-clause-sound c =
