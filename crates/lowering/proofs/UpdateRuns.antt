@@ -34,9 +34,9 @@ use Rattle.expression_lowering.specs.declared.calls.Corner.{Corner}
 use Rattle.lowering.specs.Planes.{BoxCorner, has_point, box_points}
 use Rattle.lowering.specs.Stored.{named_point, is_point}
 use Rattle.lowering.specs.Updates.{StoresUpdate, HitsUpdate, update_extents, is_visited, IsCornerAt, IsBegin, ReadsPixels, host_at, hosted_turns, stage_from}
-use Rattle.lowering.proofs.Lists.{all_map}
+use Rattle.lowering.proofs.Lists.{any_gives, all_map}
 use Rattle.lowering.proofs.Slices.{Goes, Gone, Marks, slices_go, slices_mark}
-use Rattle.lowering.proofs.UpdateSteps.{ReadsOwn, from_begin, column_in, row_in, step, goes, marks}
+use Rattle.lowering.proofs.UpdateSteps.{ReadsOwn, from_begin, column_in, row_in, step, goes, marks, named_inside}
 
 -- ---- lists
 
@@ -117,6 +117,18 @@ module _ (pipeline : Pipeline) (schedule : Schedule) (boxes : Boxes) (rules : Is
       inner p.0.0 p.1 p.0.1 in_box)
       list all_known
 
+  -- the left side names the point at the visit
+  abbrev pub is_hit : ℕ → ℕ → loops.Values → Bool
+  is_hit x y inner = is_point x y (named_point (reads_of inputs (pixels pipeline.funcs inputs place)) begin update (visit_of extents inner))
+
+  pub names_inside : (x y : ℕ) → list_any (is_hit x y) list ≡ true → inside x y ≡ true
+  names_inside x y e =
+      any_gives Known (inside x y ≡ true) (is_hit x y)
+      (λ inner p hit.
+      named_inside pipeline schedule boxes rules accepted is place func own func_is box_is standing there computed at update update_is inputs begun turns below begin begins corners before corner corner_is reads_own store stores funcs
+      reads_others inside inner p.0.0 p.1 p.0.1 in_box x y hit)
+      list all_known e
+
   -- before the first point
   at_first : (i j : ℕ) → stage_from pipeline inputs place func begin at i j ≡ stands_at 0 i j
   unfolding after
@@ -149,19 +161,16 @@ module _ (pipeline : Pipeline) (schedule : Schedule) (boxes : Boxes) (rules : Is
       abbrev traced : loops.Values → Trace → Trace
       traced inner = trace (box_points boxes.funcs) inputs place x y store (put_loops place inner before)
 
-      abbrev is_hit : loops.Values → Bool
-      is_hit inner = is_point x y (named_point (reads_of inputs (pixels pipeline.funcs inputs place)) begin update (visit_of extents inner))
-
-      all_mark : AllByRecursion (Marks place funcs inside columns rows stands_at (visit_of extents) steps traced is_hit) list
+      all_mark : AllByRecursion (Marks place funcs inside columns rows stands_at (visit_of extents) steps traced (is_hit x y)) list
       all_mark =
-          all_so Known (Marks place funcs inside columns rows stands_at (visit_of extents) steps traced is_hit)
+          all_so Known (Marks place funcs inside columns rows stands_at (visit_of extents) steps traced (is_hit x y))
           (λ inner p.
           marks pipeline schedule boxes rules accepted is place func own func_is box_is standing there computed at update update_is inputs begun turns below begin begins corners before corner corner_is reads_own store stores funcs reads_others
           inside inner p.0.0 p.1 p.0.1 in_box hits x y)
           list all_known
 
       -- the point is stored at if the left side names it at one of the visits
-      pub stores_named : (all traced list (record { funcs = funcs; is_stored = false })).is_stored ≡ list_any is_hit list
+      pub stores_named : (all traced list (record { funcs = funcs; is_stored = false })).is_stored ≡ list_any (is_hit x y) list
       stores_named =
-          slices_mark place funcs inside columns rows stands_at (visit_of extents) steps traced is_hit list (λ i j. 0) (λ i j. points update) (record { funcs = funcs; is_stored = false }) all_go all_mark in_order (λ k i j other. refl)
+          slices_mark place funcs inside columns rows stands_at (visit_of extents) steps traced (is_hit x y) list (λ i j. 0) (λ i j. points update) (record { funcs = funcs; is_stored = false }) all_go all_mark in_order (λ k i j other. refl)
           (λ i j e. holds i j e ∙ at_first i j)

@@ -149,6 +149,64 @@ module _ (pipeline : Pipeline) (schedule : Schedule) (boxes : Boxes) (rules : Is
     boxed_at : (a b : ℕ) → LiesIn values own a b → has_point (Some own) (word.subtract a begin.x) (word.subtract b begin.y) ≡ true
     boxed_at = visiting.boxed_at pipeline schedule boxes rules is place func own func_is box_is standing there computed at update update_is turns below begin begins before corner corner_is inner v reduced
 
+    -- ---- the point that the left side names
+
+    near : IsNear x × IsNear y
+    near = visiting.near pipeline schedule boxes rules is place func own func_is box_is standing there computed at update update_is turns below begin begins before corner corner_is inner v reduced
+
+    wanted_are : AnswerWords pipeline.inputs (answers visit.number)
+    wanted_are = wanted_words pipeline schedule rules accepted place func func_is standing there computed at update update_is inputs begun visit.number
+
+    abbrev all_read : List Point
+    all_read = update_points pipeline schedule (answers visit.number) place update visit.number x y
+
+    all_lie : AreBoxed values (sources.Func place) (Some (Some own)) all_read
+    all_lie =
+        own_points_lie pipeline schedule boxes rules is place func standing func_is there.standing there.reached computed (host_at schedule boxes standing) refl turns below own box_is at update update_is
+        (answers visit.number) wanted_are x y lies.first.word lies.second.word near.0 near.1 visit.number few_points (record { first = λ e. lies.first; second = λ e. lies.second })
+
+    all_stay : AllByRecursion (λ point. same_source point.source (sources.Func place) ≡ true → IsInPlace update x y point) all_read
+    all_stay = own_reads_stay pipeline schedule rules place func func_is at update update_is (answers visit.number) visit.number x y
+
+    abbrev written_column : ℕ
+    written_column = column pipeline schedule rules accepted place func func_is standing there computed at update update_is inputs begun visit.number x y
+
+    abbrev written_row : ℕ
+    written_row = row pipeline schedule rules accepted place func func_is standing there computed at update update_is inputs begun visit.number x y
+
+    abbrev written : ℕ
+    written = right pipeline schedule rules accepted place func func_is standing there computed at update update_is inputs begun visit.number x y
+
+    abbrev i_of : ℕ
+    i_of = word.subtract written_column begin.x
+
+    abbrev j_of : ℕ
+    j_of = word.subtract written_row begin.y
+
+    target_lies : LiesIn values own written_column written_row
+    target_lies =
+        of_target pipeline schedule rules accepted place func func_is standing there computed at update update_is inputs begun visit.number x y
+        (λ point. same_source point.source (sources.Func place) ≡ true → LiesIn values own point.x point.y) all_lie (eq-eqb place place refl)
+
+    target_stays : IsInPlace update x y (record { source = sources.Func place; x = written_column; y = written_row })
+    target_stays =
+        of_target pipeline schedule rules accepted place func func_is standing there computed at update update_is inputs begun visit.number x y
+        (λ point. same_source point.source (sources.Func place) ≡ true → IsInPlace update x y point) all_stay (eq-eqb place place refl)
+
+    target_there : has_point (Some own) i_of j_of ≡ true
+    target_there = boxed_at written_column written_row target_lies
+
+    target_on : is_visited update i_of j_of visit ≡ true
+    target_on = on_slice written_column written_row target_stays
+
+    abbrev named : ℕ × ℕ
+    named = named_point (reads_of inputs (pixels pipeline.funcs inputs place)) begin update visit
+
+    pub named_inside : (p q : ℕ) → is_point p q named ≡ true → inside p q ≡ true
+    named_inside p q e =
+        let s = and_parts (i_of == p) (j_of == q) e in
+        subst (λ (n : ℕ). inside n q ≡ true) (eqb-true i_of p s.0) (subst (λ (n : ℕ). inside i_of n ≡ true) (eqb-true j_of q s.1) (closed i_of j_of target_there target_on))
+
     -- ---- what is read
 
     module _ (buffers : Planes) (ready : Others place funcs0 inside column_in row_in from_begin buffers) (holds : HoldsAt place funcs0 inside column_in row_in from_begin visit visit.number buffers) where
@@ -197,58 +255,10 @@ module _ (pipeline : Pipeline) (schedule : Schedule) (boxes : Boxes) (rules : Is
       all_agree (point ∷ list) lie stay others =
           (one_agrees point.source point.x point.y (same_source point.source (sources.Func place)) refl lie.0 (λ e. let p = stay.0 e in record { first = p.first; second = p.second }) others.0, all_agree list lie.1 stay.1 others.1)
 
-      near : IsNear x × IsNear y
-      near = visiting.near pipeline schedule boxes rules is place func own func_is box_is standing there computed at update update_is turns below begin begins before corner corner_is inner v reduced
-
-      wanted_are : AnswerWords pipeline.inputs (answers visit.number)
-      wanted_are = wanted_words pipeline schedule rules accepted place func func_is standing there computed at update update_is inputs begun visit.number
-
-      abbrev all_read : List Point
-      all_read = update_points pipeline schedule (answers visit.number) place update visit.number x y
-
-      all_lie : AreBoxed values (sources.Func place) (Some (Some own)) all_read
-      all_lie =
-          own_points_lie pipeline schedule boxes rules is place func standing func_is there.standing there.reached computed (host_at schedule boxes standing) refl turns below own box_is at update update_is
-          (answers visit.number) wanted_are x y lies.first.word lies.second.word near.0 near.1 visit.number few_points (record { first = λ e. lies.first; second = λ e. lies.second })
-
-      all_stay : AllByRecursion (λ point. same_source point.source (sources.Func place) ≡ true → IsInPlace update x y point) all_read
-      all_stay = own_reads_stay pipeline schedule rules place func func_is at update update_is (answers visit.number) visit.number x y
-
       agree : Agree (answers visit.number) found all_read
       agree = all_agree all_read all_lie all_stay (reads_others inner visit.number x y few_points lies (standing_at visit.number) wanted_are)
 
       -- ---- what is written
-
-      abbrev written_column : ℕ
-      written_column = column pipeline schedule rules accepted place func func_is standing there computed at update update_is inputs begun visit.number x y
-
-      abbrev written_row : ℕ
-      written_row = row pipeline schedule rules accepted place func func_is standing there computed at update update_is inputs begun visit.number x y
-
-      abbrev written : ℕ
-      written = right pipeline schedule rules accepted place func func_is standing there computed at update update_is inputs begun visit.number x y
-
-      abbrev i_of : ℕ
-      i_of = word.subtract written_column begin.x
-
-      abbrev j_of : ℕ
-      j_of = word.subtract written_row begin.y
-
-      target_lies : LiesIn values own written_column written_row
-      target_lies =
-          of_target pipeline schedule rules accepted place func func_is standing there computed at update update_is inputs begun visit.number x y
-          (λ point. same_source point.source (sources.Func place) ≡ true → LiesIn values own point.x point.y) all_lie (eq-eqb place place refl)
-
-      target_stays : IsInPlace update x y (record { source = sources.Func place; x = written_column; y = written_row })
-      target_stays =
-          of_target pipeline schedule rules accepted place func func_is standing there computed at update update_is inputs begun visit.number x y
-          (λ point. same_source point.source (sources.Func place) ≡ true → IsInPlace update x y point) all_stay (eq-eqb place place refl)
-
-      target_there : has_point (Some own) i_of j_of ≡ true
-      target_there = boxed_at written_column written_row target_lies
-
-      target_on : is_visited update i_of j_of visit ≡ true
-      target_on = on_slice written_column written_row target_stays
 
       abbrev column_now : ℕ
       column_now = word.subtract (inlined (valuing found) (flags pipeline schedule) pipeline.funcs place (variable (visited_point now place corner update)) update.left_x) (linear_value now corner.x)
@@ -354,16 +364,13 @@ module _ (pipeline : Pipeline) (schedule : Schedule) (boxes : Boxes) (rules : Is
 
     -- ---- beside a trace
 
-    abbrev corner_point : ℕ × ℕ
-    corner_point = named_point (reads_of inputs (pixels pipeline.funcs inputs place)) begin update visit
-
     module _ (hits : HitsUpdate corners (flags pipeline schedule) pipeline.funcs place corner update store) (p q : ℕ) where
       pub marks : (so_far : Trace) → Others place funcs0 inside column_in row_in from_begin so_far.funcs → HoldsAt place funcs0 inside column_in row_in from_begin visit visit.number so_far.funcs
-          → ((trace boxed inputs place p q store now so_far).funcs ≡ step inner so_far.funcs) × ((trace boxed inputs place p q store now so_far).is_stored ≡ (so_far.is_stored || is_point p q corner_point))
+          → ((trace boxed inputs place p q store now so_far).funcs ≡ step inner so_far.funcs) × ((trace boxed inputs place p q store now so_far).is_stored ≡ (so_far.is_stored || is_point p q named))
       marks so_far ready holds = (
         traces_follow_runs boxed inputs place p q store now so_far,
         hits boxed inputs place p q now so_far
             ∙ ap (λ (b : Bool). so_far.is_stored || (b && (column_now so_far.funcs ready holds == p && row_now so_far.funcs ready holds == q))) (eq-eqb place place refl)
             ∙ ap (λ (n : ℕ). so_far.is_stored || (n == p && row_now so_far.funcs ready holds == q)) (column_at so_far.funcs ready holds)
-            ∙ ap (λ (n : ℕ). so_far.is_stored || (i_of so_far.funcs ready holds == p && n == q)) (row_at so_far.funcs ready holds),
+            ∙ ap (λ (n : ℕ). so_far.is_stored || (i_of == p && n == q)) (row_at so_far.funcs ready holds),
       )

@@ -71,7 +71,7 @@ use Rattle.lowering.proofs.RootFacts.{is_box, no_lasts, from_corner_on, root_cor
 use Rattle.lowering.proofs.SoundTasks.{own_writes, own_loads, roots_load}
 use Rattle.lowering.proofs.UpdateFacts.{has_reduction, points_are, first_extent, second_few}
 use Rattle.lowering.proofs.UpdateReads.{hosts_none, none_within, roots_are_shared, reads_pixels}
-use Rattle.lowering.proofs.UpdateRuns.{members, all_so, leaves, stays, stores_named}
+use Rattle.lowering.proofs.UpdateRuns.{members, all_so, leaves, stays, names_inside, stores_named}
 use Rattle.lowering.proofs.UpdateSteps.{ReadsOwn}
 use Rattle.lowering.proofs.UpdateSlices.{slice_there}
 use Rattle.lowering.proofs.UpdateStages.{staged, splits, few}
@@ -242,6 +242,12 @@ module _ (pipeline : Pipeline) (schedule : Schedule) (boxes : Boxes) (rules : Is
         ∙ task_in_order func update extents stage stage_facts.0 place stage_facts.1 number below_count c r (on_visited i j e)
         ∙ ap (rising c r 0) (points_are func update own)
 
+    names_are : (x y : ℕ) → names pipeline inputs place own update stage number x y ≡ list_any (λ inner. is_point x y (named_point (reads_of inputs (pixels pipeline.funcs inputs place)) begin update (visit_of extents inner))) list
+    names_are x y =
+        let left = named_point (reads_of inputs (pixels pipeline.funcs inputs place)) begin update in
+        any_map (is_point x y) left (iteration extents stage number)
+        ∙ ap (list_any (λ (visit : Visit). is_point x y (left visit))) visits_are ∙ any_map (λ (visit : Visit). is_point x y (left visit)) (visit_of extents) list
+
     module _ (funcs : Planes) (hold : Hold (box_points boxes.funcs) (is_private schedule.standings) place owned start funcs) where
       others : ReadsPixels pipeline schedule store_of.corners place update (hosted_turns schedule boxes root.standing no_loops) own inputs before funcs
       others =
@@ -267,14 +273,10 @@ module _ (pipeline : Pipeline) (schedule : Schedule) (boxes : Boxes) (rules : Is
 
       -- ---- where it stores
 
-      abbrev is_hit : ℕ → ℕ → loops.Values → Bool
-      is_hit x y inner = is_point x y (named_point (reads_of inputs (pixels pipeline.funcs inputs place)) begin update (visit_of extents inner))
-
-      names_are : (x y : ℕ) → names pipeline inputs place own update stage number x y ≡ list_any (is_hit x y) list
-      names_are x y =
-          let left = named_point (reads_of inputs (pixels pipeline.funcs inputs place)) begin update in
-          any_map (is_point x y) left (iteration extents stage number)
-          ∙ ap (list_any (λ (visit : Visit). is_point x y (left visit))) visits_are ∙ any_map (λ (visit : Visit). is_point x y (left visit)) (visit_of extents) list
+      inside_so : (x y : ℕ) → names pipeline inputs place own update stage number x y ≡ true → owned x y ≡ true
+      inside_so x y e =
+          names_inside pipeline schedule boxes rules accepted is place func own root.func_is root.box_is root.standing root.there computed at update it.update_is inputs begun no_loops below begin begins store_of.corners before store_of.corner corner_is reads_own
+          store store_of.stores funcs others list all_visits reduced owned in_box closed x y (sym (names_are x y) ∙ e)
 
       pub task_stores : (x y : ℕ) → is_stored_by_task (box_points boxes.funcs) inputs phase number place x y funcs ≡ names pipeline inputs place own update stage number x y
       task_stores x y =
@@ -284,6 +286,9 @@ module _ (pipeline : Pipeline) (schedule : Schedule) (boxes : Boxes) (rules : Is
           ∙ stores_named pipeline schedule boxes rules accepted is place func own root.func_is root.box_is root.standing root.there computed at update it.update_is inputs begun no_loops below begin begins store_of.corners before store_of.corner corner_is reads_own
           store store_of.stores funcs others list all_visits reduced owned in_box closed in_order holds store_of.hits x y
           ∙ sym (names_are x y)
+
+    pub names_owned : (x y : ℕ) → names pipeline inputs place own update stage number x y ≡ true → owned x y ≡ true
+    names_owned = inside_so start (λ other x y public_so boxed mine. refl)
 
     task : DoesTask (box_points boxes.funcs) (is_private schedule.standings) place start result owned (run_task (box_points boxes.funcs) inputs phase number)
     task = record { there = λ x y e. points_own x y ∙ in_box x y e; does = task_does; keeps = task_keeps }

@@ -3,7 +3,7 @@
 -- They are the points of the box that its iteration writes: of a pure definition those that the iteration visits; of an update those that the
 -- left side names at some reduction point, where arguments in place lie inside the iteration. Left sides read no pixel of their own Func.
 -- This project's own.
-use Rattle.std.specs.Prelude.{◌≡◌, ◌<◌, ℕ, suc, ◌==◌, ◌&&◌, Bool, Some}
+use Rattle.std.specs.Prelude.{◌≡◌, ◌<◌, ℕ, suc, ◌==◌, ◌&&◌, Bool, true, Some}
 use Rattle.std.specs.List.{list_any}
 use Rattle.halide_pipeline.specs.declared.definitions.Func.{Func}
 use Rattle.halide_pipeline.specs.declared.definitions.Update.{Update}
@@ -50,9 +50,10 @@ names pipeline inputs place own update stage number x y =
     list_any (is_point x y) (points_written (named_point (reads_of inputs (pixels pipeline.funcs inputs place)) (corner_of (Some own)) update) (update_extents own update) stage number)
 
 -- Each task stores at a point exactly if the left side names it, from buffers that hold the start, at the points of the own Func that the task
--- owns and at all points of others.
-abbrev pub StoresWhatItNames : Pipeline → Schedule → Boxes → ℕ → Func → ℕ → SourceBox → Update → Stage → Phase → Type 0
-StoresWhatItNames pipeline schedule boxes place func at own update stage phase =
-    (inputs : Planes) → AnswerWords pipeline.inputs (reads_of inputs (pixels pipeline.funcs inputs 0)) → (funcs : Planes) (task : ℕ) → task < phase.tasks
-    → Hold (box_points boxes.funcs) (is_private schedule.standings) place (owns_update own update stage task) (held boxes.funcs (after_stages pipeline.funcs inputs place func (suc at))) funcs
-    → (x y : ℕ) → is_stored_by_task (box_points boxes.funcs) inputs phase task place x y funcs ≡ names pipeline inputs place own update stage task x y
+-- owns and at all points of others; and it owns what the left side names.
+pub record StoresWhatItNames (pipeline : Pipeline) (schedule : Schedule) (boxes : Boxes) (place : ℕ) (func : Func) (at : ℕ) (own : SourceBox) (update : Update) (stage : Stage) (phase : Phase) : Type 0 where
+  pub owned : (inputs : Planes) → AnswerWords pipeline.inputs (reads_of inputs (pixels pipeline.funcs inputs 0)) → (task : ℕ) → task < phase.tasks
+      → (x y : ℕ) → names pipeline inputs place own update stage task x y ≡ true → owns_update own update stage task x y ≡ true
+  pub exactly : (inputs : Planes) → AnswerWords pipeline.inputs (reads_of inputs (pixels pipeline.funcs inputs 0)) → (funcs : Planes) (task : ℕ) → task < phase.tasks
+      → Hold (box_points boxes.funcs) (is_private schedule.standings) place (owns_update own update stage task) (held boxes.funcs (after_stages pipeline.funcs inputs place func (suc at))) funcs
+      → (x y : ℕ) → is_stored_by_task (box_points boxes.funcs) inputs phase task place x y funcs ≡ names pipeline inputs place own update stage task x y

@@ -12,7 +12,7 @@ use Rattle.lowering.proofs.RootFacts.{is_box}
 use Rattle.lowering.proofs.Depths.{update_few}
 use Rattle.lowering.proofs.UpdateStages.{splits, few, few_loops, place_small}
 use Rattle.lowering.proofs.SoundHosts.{dark, dark_words}
-use Rattle.lowering.proofs.UpdateTasks.{does_update, touches, task_stores}
+use Rattle.lowering.proofs.UpdateTasks.{does_update, touches, names_owned, task_stores}
 use Rattle.lowering.proofs.updates.update_phase.Goals as goal
 
 -- src/updates.rt:120:9
@@ -69,14 +69,24 @@ returns-clause-touches c =
     dark (dark_words c.args.pipeline.now) c.new-private.ensures
 
 pub returns-clause-stores : goal.returns-clause-stores
-returns-clause-stores c = λ inputs begun funcs task below hold x y.
-    task_stores c.args.pipeline.now c.args.schedule.now c.args.boxes.now c.inputs.ensures.rules c.requires.accepted c.requires.boxes c.args.place c.args.of.now.func.now c.args.of.now.plan.now c.args.of.now.own.now c.requires.root
-    c.args.of.now.at c.args.of.now.update.now c.args.of.now.stage.now c.requires.at c.in_ok-store.store c.in_ok-store.ensures.stores
-    (record { tasks = c.in_ok-tasks.tasks; counter = c.task_counter-counter.result; body = c.in_ok-body.body; private = c.new-private.result; bytes = c.in_ok-bytes.bytes })
-    (c.in_ok-tasks.ensures ∙ ap (λ (e : Extents). iterations.iteration_count e c.args.of.now.stage.now) c.update_extents-extents.ensures)
-    c.task_counter-counter.ensures
-    (subst (λ (e : Extents). Repeats c.args.place c.in_ok-body.body c.in_ok-store.store (wholes e c.args.of.now.stage.now.splits (pure.inside_of (iterations.parallel c.args.of.now.stage.now) c.args.of.now.stage.now.loops))) c.update_extents-extents.ensures c.in_ok-body.ensures.repeats)
-    inputs begun task below funcs hold x y
+returns-clause-stores c = record {
+  owned = λ inputs begun task below x y named.
+      names_owned c.args.pipeline.now c.args.schedule.now c.args.boxes.now c.inputs.ensures.rules c.requires.accepted c.requires.boxes c.args.place c.args.of.now.func.now c.args.of.now.plan.now c.args.of.now.own.now c.requires.root
+      c.args.of.now.at c.args.of.now.update.now c.args.of.now.stage.now c.requires.at c.in_ok-store.store c.in_ok-store.ensures.stores
+      (record { tasks = c.in_ok-tasks.tasks; counter = c.task_counter-counter.result; body = c.in_ok-body.body; private = c.new-private.result; bytes = c.in_ok-bytes.bytes })
+      (c.in_ok-tasks.ensures ∙ ap (λ (e : Extents). iterations.iteration_count e c.args.of.now.stage.now) c.update_extents-extents.ensures)
+      c.task_counter-counter.ensures
+      (subst (λ (e : Extents). Repeats c.args.place c.in_ok-body.body c.in_ok-store.store (wholes e c.args.of.now.stage.now.splits (pure.inside_of (iterations.parallel c.args.of.now.stage.now) c.args.of.now.stage.now.loops))) c.update_extents-extents.ensures c.in_ok-body.ensures.repeats)
+      inputs begun task below x y named;
+  exactly = λ inputs begun funcs task below hold x y.
+      task_stores c.args.pipeline.now c.args.schedule.now c.args.boxes.now c.inputs.ensures.rules c.requires.accepted c.requires.boxes c.args.place c.args.of.now.func.now c.args.of.now.plan.now c.args.of.now.own.now c.requires.root
+      c.args.of.now.at c.args.of.now.update.now c.args.of.now.stage.now c.requires.at c.in_ok-store.store c.in_ok-store.ensures.stores
+      (record { tasks = c.in_ok-tasks.tasks; counter = c.task_counter-counter.result; body = c.in_ok-body.body; private = c.new-private.result; bytes = c.in_ok-bytes.bytes })
+      (c.in_ok-tasks.ensures ∙ ap (λ (e : Extents). iterations.iteration_count e c.args.of.now.stage.now) c.update_extents-extents.ensures)
+      c.task_counter-counter.ensures
+      (subst (λ (e : Extents). Repeats c.args.place c.in_ok-body.body c.in_ok-store.store (wholes e c.args.of.now.stage.now.splits (pure.inside_of (iterations.parallel c.args.of.now.stage.now) c.args.of.now.stage.now.loops))) c.update_extents-extents.ensures c.in_ok-body.ensures.repeats)
+      inputs begun task below funcs hold x y;
+}
 
 pub returns-clause-few : goal.returns-clause-few
 returns-clause-few c =
