@@ -9,6 +9,9 @@
 //! - [`corners`]: corners of boxes, also of those that begin elsewhere in each iteration (`specs/Corners.antt`).
 //! - [`updates`]: **the phase of an update**, and its loops where the Func is computed at a loop (`specs/Updates.antt`).
 //! - [`stores`], [`update_stores`]: stores of definitions at the points where loops stand.
+//!
+//! Of each phase it is also said what its tasks may touch (`specs/Touching.antt`) and **at which points of their Func they
+//! store** (`specs/Stored.antt`).
 #![tactic(auto)]
 
 pub mod corners;

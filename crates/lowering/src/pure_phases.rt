@@ -77,7 +77,8 @@ pub(crate) fn task_count(alloc: Global, stage: &Stage, extents: Extents) -> Resu
 ///
 /// From buffers that hold the pixels of the Funcs before it, its tasks leave those of the definition
 /// (`specs/PurePhases.antt`): it is the phase of the Func's first stage (`specs/Stages.antt`). The buffers of the Funcs
-/// computed at its loops are private.
+/// computed at its loops are private. Each task stores at a point of its Func exactly if its iteration visits the point
+/// (`specs/Stored.antt`).
 ///
 /// # Errors
 ///

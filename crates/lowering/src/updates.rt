@@ -177,7 +177,8 @@ fn nest_of(
 /// parallel one visit.
 ///
 /// From buffers that hold what stands after the stages before it, its tasks leave what stands after it
-/// (`specs/Stages.antt`). A task owns the points of the box in the slices that it visits (`specs/Updates.antt`).
+/// (`specs/Stages.antt`). A task owns the points of the box in the slices that it visits (`specs/Updates.antt`), and stores
+/// at those that the left side names there (`specs/Stored.antt`).
 ///
 /// # Errors
 ///
