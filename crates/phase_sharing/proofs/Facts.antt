@@ -167,7 +167,7 @@ pub record KnownPhase (pipeline : Pipeline) (schedule : Schedule) (boxes : Boxes
 
 module _ (pipeline : Pipeline) (schedule : Schedule) (boxes : Boxes) (place : ℕ) (func : Func) (plan : FuncPlan) (own : SourceBox) (at : IsAtRoot pipeline schedule boxes place func plan own) where
   pub known_phase : (number : ℕ) (phase : Phase) → IsStagePhase pipeline schedule boxes place func plan own number phase → KnownPhase pipeline schedule boxes place func number phase
-  known_phase _ _ (Pure phase tasks private_is bytes does touches few) = record {
+  known_phase _ _ (Pure phase tasks private_is bytes does touches few stores) = record {
     owned = owns (extents_of own) plan.pure;
     known = record {
       func_is = at.func_is;
@@ -179,7 +179,7 @@ module _ (pipeline : Pipeline) (schedule : Schedule) (boxes : Boxes) (place : �
       touches = touches;
     };
   }
-  known_phase _ _ (Updating number update stage phase it tasks private_is bytes does touches few) = record {
+  known_phase _ _ (Updating number update stage phase it tasks private_is bytes does touches few stores) = record {
     owned = owns_update own update stage;
     known = record {
       func_is = at.func_is;
