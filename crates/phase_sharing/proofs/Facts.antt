@@ -3,7 +3,10 @@ use Rattle.std.proofs.Common.{◌≡◌, ℕ, suc, ◌+◌, ◌<◌, Bool, true,
 use Rattle.std.specs.Prelude.{◌&&◌, ◌||◌, nat_lt, slice_get, Ok}
 use Rattle.std.proofs.lemmas.Bool.{and_parts, and_from, cases_eq, ne_eqb, lt-ltb, ltb-true}
 use Rattle.halide_pipeline.specs.declared.definitions.Func.{Func}
+use Rattle.halide_pipeline.specs.declared.definitions.Update.{Update}
 use Rattle.halide_pipeline.specs.Pipelines.{Pipeline}
+use Rattle.halide_meaning.specs.Pixel.{Planes, reads_of, pixels}
+use Rattle.schedule_lines.specs.declared.stages.Stage.{Stage}
 use Rattle.schedule.specs.declared.plans.FuncPlan.{FuncPlan}
 use Rattle.schedule.specs.declared.schedules.Schedule.{Schedule}
 use Rattle.schedule.specs.declared.standings.LoopPlace.{LoopPlace}
@@ -12,6 +15,8 @@ use Rattle.schedule.specs.declared.standings.Place.TheVariants as standpoints
 use Rattle.schedule.specs.declared.standings.Standing.{Standing}
 use Rattle.schedule.specs.Accepted.{IsAccepted}
 use Rattle.schedule.specs.Legal.{is_root}
+use Rattle.stage_loops.specs.Iterations.{iteration_count}
+use Rattle.ranges.specs.Laws.{AnswerWords}
 use Rattle.bounds.specs.declared.boxes.SourceBox.{SourceBox}
 use Rattle.bounds.specs.declared.verdict.Boxes.{Boxes}
 use Rattle.bounds.specs.Boxes.{box_in, extent}
@@ -20,14 +25,18 @@ use Rattle.bounds.specs.Views.{extents_of}
 use Rattle.box_laws.specs.Laws.{IsComputed}
 use Rattle.box_laws.proofs.BoxFacts.{HasBox, has_box}
 use Rattle.loop_ir.specs.declared.statements.Phase.{Phase}
+use Rattle.loop_ir.specs.Stores.{is_stored_by_task}
 use Rattle.lowering.specs.HostedFuncs.{hosted_from, is_hosted, is_at_loop_of}
 use Rattle.lowering.specs.Lowered.{IsStagePhase, Pure, Updating}
-use Rattle.lowering.specs.Planes.{has_point, box_points, owns}
+use Rattle.lowering.specs.Phases.{Hold}
+use Rattle.lowering.specs.Planes.{held, has_point, box_points, owns}
 use Rattle.lowering.specs.PurePhases.{IsAtRoot}
-use Rattle.lowering.specs.Stages.{is_at_loop, is_private_in, is_private, DoesStage}
+use Rattle.lowering.specs.Stages.{is_at_loop, is_private_in, is_private, after_stages, DoesStage}
+use Rattle.lowering.specs.Stored.{names}
 use Rattle.lowering.specs.Touching.{is_listed, is_root_at, is_root_in, TouchesItsOwn}
-use Rattle.lowering.specs.Updates.{owns_update}
+use Rattle.lowering.specs.Updates.{IsUpdateAt, update_extents, owns_update}
 use Rattle.phase_memory.specs.Points.{RootPoint, PrivatePoint}
+use Rattle.phase_sharing.specs.Stages.{StagePlace, iterations, iterations_in, iterations_of, update_iterations, writes, writes_in, writes_of, update_writes}
 
 -- ---- points of a buffer
 
@@ -151,6 +160,10 @@ pub record Work : Type 0 where
   pub owned : ℕ → ℕ → ℕ → Bool
   pub phase : Phase
 
+-- its stage, by its place
+abbrev pub stage_of : Work → StagePlace
+stage_of work = record { func = work.place; number = work.number }
+
 pub record IsKnown (pipeline : Pipeline) (schedule : Schedule) (boxes : Boxes) (work : Work) : Type 0 where
   pub func_is : slice_get pipeline.funcs work.place ≡ Some work.func
   pub standing : Standing
@@ -160,12 +173,45 @@ pub record IsKnown (pipeline : Pipeline) (schedule : Schedule) (boxes : Boxes) (
   pub hosted : (func : ℕ) → is_listed work.phase.private func ≡ true → IsAtLoop schedule func
   pub does : DoesStage pipeline schedule boxes work.place work.func work.number work.owned work.phase
   pub touches : TouchesItsOwn pipeline schedule boxes work.place work.owned work.phase
+  pub tasks_are : work.phase.tasks ≡ iterations pipeline schedule boxes (stage_of work)
+  -- from what the stage begins with, a task stores at the points that its iteration writes, and owns them
+  pub stores : (inputs : Planes) → AnswerWords pipeline.inputs (reads_of inputs (pixels pipeline.funcs inputs 0)) → (funcs : Planes) (task : ℕ) → task < work.phase.tasks
+      → Hold (box_points boxes.funcs) (is_private schedule.standings) work.place (work.owned task) (held boxes.funcs (after_stages pipeline.funcs inputs work.place work.func work.number)) funcs
+      → (x y : ℕ) → is_stored_by_task (box_points boxes.funcs) inputs work.phase task work.place x y funcs ≡ writes pipeline schedule boxes inputs (stage_of work) task x y
+  pub owned_writes : (inputs : Planes) → AnswerWords pipeline.inputs (reads_of inputs (pixels pipeline.funcs inputs 0)) → (task : ℕ) → task < work.phase.tasks
+      → (x y : ℕ) → writes pipeline schedule boxes inputs (stage_of work) task x y ≡ true → work.owned task x y ≡ true
 
 pub record KnownPhase (pipeline : Pipeline) (schedule : Schedule) (boxes : Boxes) (place : ℕ) (func : Func) (number : ℕ) (phase : Phase) : Type 0 where
   pub owned : ℕ → ℕ → ℕ → Bool
   pub known : IsKnown pipeline schedule boxes (record { place = place; func = func; number = number; owned = owned; phase = phase })
 
 module _ (pipeline : Pipeline) (schedule : Schedule) (boxes : Boxes) (place : ℕ) (func : Func) (plan : FuncPlan) (own : SourceBox) (at : IsAtRoot pipeline schedule boxes place func plan own) where
+  iterations_are : (number : ℕ) → iterations pipeline schedule boxes (record { func = place; number = number }) ≡ iterations_of pipeline schedule boxes func plan own number
+  iterations_are number =
+      ap (λ (f : Option Func). iterations_in pipeline schedule boxes f (slice_get schedule.funcs place) (slice_get boxes.funcs place) number) at.func_is
+      ∙ (ap (λ (q : Option FuncPlan). iterations_in pipeline schedule boxes (Some func) q (slice_get boxes.funcs place) number) at.plan_is
+      ∙ ap (λ (b : Option (Option SourceBox)). iterations_in pipeline schedule boxes (Some func) (Some plan) b number) at.box_is)
+
+  writes_are : (inputs : Planes) (number task x y : ℕ)
+      → writes pipeline schedule boxes inputs (record { func = place; number = number }) task x y ≡ writes_of pipeline schedule boxes inputs place func plan own number task x y
+  writes_are inputs number task x y =
+      ap (λ (f : Option Func). writes_in pipeline schedule boxes inputs place f (slice_get schedule.funcs place) (slice_get boxes.funcs place) number task x y) at.func_is
+      ∙ (ap (λ (q : Option FuncPlan). writes_in pipeline schedule boxes inputs place (Some func) q (slice_get boxes.funcs place) number task x y) at.plan_is
+      ∙ ap (λ (b : Option (Option SourceBox)). writes_in pipeline schedule boxes inputs place (Some func) (Some plan) b number task x y) at.box_is)
+
+  module _ (number : ℕ) (update : Update) (stage : Stage) (it : IsUpdateAt schedule place func plan number update stage) where
+    update_iterations_are : iterations pipeline schedule boxes (record { func = place; number = suc number }) ≡ iteration_count (update_extents own update) stage
+    update_iterations_are =
+        iterations_are (suc number)
+        ∙ (ap (λ (u : Option Update). update_iterations pipeline schedule boxes own u (slice_get plan.updates number)) it.update_is
+        ∙ ap (λ (s : Option Stage). update_iterations pipeline schedule boxes own (Some update) s) it.stage_is)
+
+    update_writes_are : (inputs : Planes) (task x y : ℕ) → writes pipeline schedule boxes inputs (record { func = place; number = suc number }) task x y ≡ names pipeline inputs place own update stage task x y
+    update_writes_are inputs task x y =
+        writes_are inputs (suc number) task x y
+        ∙ (ap (λ (u : Option Update). update_writes pipeline schedule boxes inputs place own u (slice_get plan.updates number) task x y) it.update_is
+        ∙ ap (λ (s : Option Stage). update_writes pipeline schedule boxes inputs place own (Some update) s task x y) it.stage_is)
+
   pub known_phase : (number : ℕ) (phase : Phase) → IsStagePhase pipeline schedule boxes place func plan own number phase → KnownPhase pipeline schedule boxes place func number phase
   known_phase _ _ (Pure phase tasks private_is bytes does touches few stores) = record {
     owned = owns (extents_of own) plan.pure;
@@ -177,6 +223,9 @@ module _ (pipeline : Pipeline) (schedule : Schedule) (boxes : Boxes) (place : �
       hosted = λ k e. hosted_at_loop schedule place k (sym (ap (λ (l : List ℕ). is_listed l k) private_is) ∙ e);
       does = does;
       touches = touches;
+      tasks_are = tasks ∙ sym (iterations_are 0);
+      stores = λ inputs begun funcs task below holds x y. stores inputs funcs task below x y ∙ sym (writes_are inputs 0 task x y);
+      owned_writes = λ inputs begun task below x y written. sym (writes_are inputs 0 task x y) ∙ written;
     };
   }
   known_phase _ _ (Updating number update stage phase it tasks private_is bytes does touches few stores) = record {
@@ -189,5 +238,8 @@ module _ (pipeline : Pipeline) (schedule : Schedule) (boxes : Boxes) (place : �
       hosted = λ k e. absurd (true≢false (sym e ∙ ap (λ (l : List ℕ). is_listed l k) private_is));
       does = does;
       touches = touches;
+      tasks_are = tasks ∙ sym (update_iterations_are number update stage it);
+      stores = λ inputs begun funcs task below holds x y. stores.exactly inputs begun funcs task below holds x y ∙ sym (update_writes_are number update stage it inputs task x y);
+      owned_writes = λ inputs begun task below x y written. stores.owned inputs begun task below x y (sym (update_writes_are number update stage it inputs task x y) ∙ written);
     };
   }

@@ -1,5 +1,6 @@
 -- What each phase is about, and bytes of planes that agree at the points of Funcs at root.
 use Rattle.std.proofs.Common.{◌≡◌, ℕ, zero, suc, ◌/◌, ◌%◌, ◌<◌, Bool, true, false, cond, Some, None, refl, sym, ap, ◌∙◌, arith, inl, inr}
+use Rattle.std.specs.Prelude.{◌==◌}
 use Rattle.std.proofs.lemmas.Bool.{cases_Bool, cases_eq}
 use Rattle.halide_pipeline.specs.Pipelines.{Pipeline}
 use Rattle.halide_meaning.specs.Pixel.{Planes}
@@ -15,7 +16,8 @@ use Rattle.phase_memory.specs.Uses.{Owners, greatest, width_of, byte_of, byte_in
 use Rattle.phase_memory.specs.Points.{RootPoint, part}
 use Rattle.phase_memory.specs.Settings.{places, uses}
 use Rattle.phase_memory.proofs.Holding.{root-byte-point}
-use Rattle.phase_sharing.proofs.Facts.{Work}
+use Rattle.phase_sharing.specs.Stages.{writes}
+use Rattle.phase_sharing.proofs.Facts.{Work, stage_of}
 
 abbrev pub owners_of : Work → Owners
 owners_of work = record { func = work.place; tasks = work.phase.tasks; owns = work.owned }
@@ -57,10 +59,16 @@ module _ (pipeline : Pipeline) (schedule : Schedule) (boxes : Boxes) where
 
   -- ---- the matter
 
+  -- the byte is one of a point that the task's iteration writes
+  abbrev pub is_written : Planes → Work → ℕ → Part → Bool
+  is_written inputs work task (Root func offset) =
+      cond (func == work.place) (writes pipeline schedule boxes inputs (stage_of work) task (offset / 4 % width_of boxes.funcs func) (offset / 4 / width_of boxes.funcs func)) false
+  is_written inputs work task _ = false
+
   abbrev pub matter_of : Planes → (ℕ → Work) → ℕ → Matter
   matter_of inputs works k = record {
     uses = uses pipeline schedule boxes.funcs k (owners_of (works k));
-    writes = λ task address. false;
+    writes = λ task address. is_written inputs (works k) task (part pipeline schedule boxes.funcs address);
     rule = λ task places. true;
     turns = λ task. task_turns (works k).phase (places pipeline schedule boxes.funcs) (ticket_word k) task;
     start = λ address. byte_in pipeline.inputs boxes.funcs inputs (start_of inputs (works k)) (part pipeline schedule boxes.funcs address);

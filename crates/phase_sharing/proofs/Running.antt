@@ -188,7 +188,7 @@ module _ (pipeline : Pipeline) (schedule : Schedule) (boxes : Boxes) (rules : Is
       has_inputs address place offset e =
           given address (subst (λ u. Given task u) (sym (ap (use_of boxes.funcs k (owners_of work)) e)) tt) ∙ ap (byte_in pipeline.inputs boxes.funcs inputs start) e
 
-      abbrev funcs_found : Planes
+      abbrev pub funcs_found : Planes
       funcs_found = funcs_in pipeline schedule boxes.funcs text found hart
 
       holds_found : HoldsFuncs own found funcs_found
@@ -196,7 +196,7 @@ module _ (pipeline : Pipeline) (schedule : Schedule) (boxes : Boxes) (rules : Is
           memory-holds-funcs pipeline schedule boxes.funcs k (owners_of work) text found harts task hart inputs (pixels pipeline.funcs inputs 0) all_points written loaded task_is size_is bytes begun has_inputs
           touches.loads
 
-      finds : Hold all_points private work.place (work.owned task) start funcs_found
+      pub finds : Hold all_points private work.place (work.owned task) start funcs_found
       finds func x y shared there own_there =
           tasks-find-theirs pipeline schedule boxes.funcs k (owners_of work) text found task hart inputs start task_is given func x y (shared_point pipeline schedule boxes accepted is func x y shared there) own_there
           (start_word func x y)

@@ -1,8 +1,9 @@
 -- Phases of a pipeline share their work, and leave the pixels.
-use Rattle.std.proofs.Common.{◌≡◌, ℕ, zero, suc, ◌+◌, ◌*◌, ◌/◌, ◌%◌, ◌^◌, ◌<◌, ◌≤◌, Bool, cond, List, [], ◌∷◌, length, Some, refl, sym, ap, subst, ◌∙◌, arith, inl, inr}
+use Rattle.std.proofs.Common.{◌≡◌, ℕ, zero, suc, ◌+◌, ◌*◌, ◌/◌, ◌%◌, ◌^◌, ◌<◌, ◌≤◌, Bool, true, false, cond, List, [], ◌∷◌, length, Some, refl, sym, ap, subst, ◌∙◌, arith, inl, inr}
 use Rattle.std.specs.Prelude.{◌⊎◌, ◌-◌, slice_get, slice_index_or, Ok}
 use Rattle.std.specs.List.{AllByRecursion}
-use Rattle.std.proofs.lemmas.Bool.{cases_lt, lt-ltb, le-leb, lt-leb}
+use Rattle.std.proofs.lemmas.Bool.{cases_lt, eq-eqb, lt-ltb, le-leb, lt-leb}
+use Rattle.std.proofs.lemmas.Option.{slice_get_within}
 use Rattle.memory.specs.Addresses.{text_start, data_start, byte_at}
 use Rattle.memory.specs.Access.{word_at}
 use Rattle.hart_core.specs.HartState.{HartState}
@@ -22,9 +23,10 @@ use Rattle.bounds.specs.Verdict.{inferred}
 use Rattle.data_parts.specs.Parts.{Part, Control, Input as InputPart, Root, Copies, Frame, Outside, sizes_of, in_data}
 use Rattle.data_parts.proofs.Finding.{control-found}
 use Rattle.loop_ir.specs.declared.statements.Phase.{Phase}
-use Rattle.lowering.specs.Planes.{corner_of, held}
+use Rattle.loop_ir.specs.Stores.{is_stored_by_task}
+use Rattle.lowering.specs.Planes.{corner_of, held, box_points}
 use Rattle.lone_hart.specs.Uses.{Control as ForControl, Fixed, Owned, Shared, Task}
-use Rattle.lone_hart.specs.Paths.{Stand, Block}
+use Rattle.lone_hart.specs.Paths.{Stand, Block, Writes}
 use Rattle.work_sharing.specs.Phases.{Phase as SharedPhase}
 use Rattle.work_sharing.specs.Solo.{world, Begins}
 use Rattle.work_sharing.specs.Bridges.{numbers_of}
@@ -39,15 +41,17 @@ use Rattle.phase_memory.specs.Uses.{use_of, width_in, width_of, byte_of, byte_in
 use Rattle.phase_memory.specs.Held.{funcs_in}
 use Rattle.phase_memory.specs.Points.{RootPoint, part, address_at}
 use Rattle.phase_memory.specs.Settings.{places, size}
-use Rattle.phase_memory.proofs.Laying.{column-of, row-of}
+use Rattle.phase_memory.proofs.Holding.{OwnByte, own-byte, own-byte-lies, root-byte-point}
+use Rattle.phase_memory.proofs.Laying.{column-of, row-of, root-use, own-use}
 use Rattle.phase_memory.proofs.Numbers.{bytes-word}
 use Rattle.phase_memory.proofs.There.{roots-are-there}
 use Rattle.phase_sharing.specs.Sharing.{HasCode, parts, OpensWith, PhasesAreShared}
+use Rattle.phase_sharing.specs.Stages.{StagePlace, stages, iterations, writes}
 use Rattle.phase_sharing.proofs.Between.{Stays, HasOwner, root_use}
 use Rattle.phase_sharing.proofs.Chain.{left_by, Told, funcs_told, some_work}
 use Rattle.phase_sharing.proofs.Counting.{all_counted}
-use Rattle.phase_sharing.proofs.Facts.{Work, IsKnown}
-use Rattle.phase_sharing.proofs.Matters.{start_of, result_of, AgreeAtRoots, owners_of, byte_of_planes, same_bytes, matter_of}
+use Rattle.phase_sharing.proofs.Facts.{Work, stage_of, IsKnown, root_point}
+use Rattle.phase_sharing.proofs.Matters.{start_of, result_of, AgreeAtRoots, owners_of, byte_of_planes, same_bytes, is_written, matter_of}
 use Rattle.phase_sharing.proofs.Places.{size_fits}
 use Rattle.phase_sharing.proofs.Running as running
 use Rattle.phase_sharing.proofs.Words.{pixels_answer, held_word}
@@ -86,7 +90,7 @@ phases_fit pipeline schedule boxes = omega arith
 
 module _ (pipeline : Pipeline) (schedule : Schedule) (boxes : Boxes) (rules : IsWellFormed pipeline) (accepted : IsAccepted pipeline schedule) (is : inferred pipeline schedule ≡ Ok boxes)
     (inputs : Planes) (begun : AnswerWords pipeline.inputs (reads_of inputs (pixels pipeline.funcs inputs 0))) (list : List Phase) (planes : Planes)
-    (told : Told pipeline schedule boxes inputs list planes) (harts : ℕ) (few_harts : harts ≤ 8) (coded : AllByRecursion (HasCode (places pipeline schedule boxes.funcs) harts) list)
+    (told : Told pipeline schedule boxes inputs list (stages pipeline schedule boxes) planes) (harts : ℕ) (few_harts : harts ≤ 8) (coded : AllByRecursion (HasCode (places pipeline schedule boxes.funcs) harts) list)
     (last : ℕ) (count : length list ≡ suc last) (counted : length list ≤ phases schedule.standings pipeline.funcs boxes.funcs) (text : List ℕ) where
   abbrev all_places : Places
   all_places = places pipeline schedule boxes.funcs
@@ -199,6 +203,38 @@ module _ (pipeline : Pipeline) (schedule : Schedule) (boxes : Boxes) (rules : Is
         running.leaves pipeline schedule boxes rules accepted is inputs begun (work k) (known k l) k text harts task number below b.number_is few_harts found b.size b.bytes b.given (numbers_of hart) (code_at k l).fits low_ticket
         few_tasks drawn
 
+    -- ---- what is written
+
+    abbrev own_func : ℕ
+    own_func = (work k).place
+
+    stores : (x y : ℕ) → writes pipeline schedule boxes inputs (stage_of (work k)) task x y ≡ true
+        → is_stored_by_task (box_points boxes.funcs) inputs (work k).phase task own_func x y (funcs_in pipeline schedule boxes.funcs text found number) ≡ true
+    stores x y written =
+        (known k l).stores inputs begun (funcs_in pipeline schedule boxes.funcs text found number) task below
+        (running.finds pipeline schedule boxes rules accepted is inputs begun (work k) (known k l) k text harts task number below b.number_is few_harts found b.size b.bytes b.given) x y ∙ written
+
+    module _ (address : ℕ) (own : (matter k).uses address ≡ Owned task) (written : (matter k).writes task address ≡ true) where
+      own_here : OwnByte pipeline schedule boxes.funcs k (owners_of (work k)) task address
+      own_here = own-byte pipeline schedule boxes.funcs k (owners_of (work k)) task address own
+
+      abbrev x_of : ℕ → ℕ
+      x_of offset = offset / 4 % width_of boxes.funcs own_func
+
+      abbrev y_of : ℕ → ℕ
+      y_of offset = offset / 4 / width_of boxes.funcs own_func
+
+      writes_here : writes pipeline schedule boxes inputs (stage_of (work k)) task (x_of own_here.offset) (y_of own_here.offset) ≡ true
+      writes_here =
+          sym (ap (is_written pipeline schedule boxes inputs (work k) task) own_here.part_is
+          ∙ ap (λ (t : Bool). cond t (writes pipeline schedule boxes inputs (stage_of (work k)) task (x_of own_here.offset) (y_of own_here.offset)) false) (eq-eqb own_func own_func refl)) ∙ written
+
+      covered : (at : ℕ) → Stand text at (part_here k).insns → Writes (world (P k) (Task task) number) at ((matter k).turns task) (numbers_of hart) found address
+      covered at stands =
+          let lies = own-byte-lies pipeline schedule boxes.funcs k (owners_of (work k)) task number address own_here (root-byte-point pipeline schedule boxes.funcs address own_func own_here.offset own_here.part_is) in
+          ends.writes own_func (x_of own_here.offset) (y_of own_here.offset) address at (stores (x_of own_here.offset) (y_of own_here.offset) writes_here) (record { above = lies.0; below = lies.1 })
+          (subst (λ (p : CodePart). Stand text at p.insns) (is_part k l) stands)
+
     runs : Runs text bytes harts all_parts matter k task number hart found
     runs = record {
       after = ends.after;
@@ -214,8 +250,69 @@ module _ (pipeline : Pipeline) (schedule : Schedule) (boxes : Boxes) (rules : Is
       };
       does = leaves;
       size_stays = ends.holds.size;
-      covers = λ at address stands own written. absurd cc;
+      covers = λ at address stands own written. covered address own written at stands;
     }
+
+  -- ---- stages
+
+  module _ (k : ℕ) (stage : StagePlace) (e : slice_get (stages pipeline schedule boxes) k ≡ Some stage) where
+    there : k ≤ last
+    there =
+        let inside = slice_get_within (stages pipeline schedule boxes) k stage e in
+        let same = told.stages_are in
+        omega (arith, inside, same, count)
+
+    same_stage : stage_of (work k) ≡ stage
+    same_stage = let q = told.stage_is k (let l = there in omega (arith, l, count)) in cc
+
+    tasks_there : (part_here k).tasks ≡ iterations pipeline schedule boxes stage
+    tasks_there = tasks_are k there ∙ ((known k there).tasks_are ∙ ap (iterations pipeline schedule boxes) same_stage)
+
+    module _ (task : ℕ) (l : task < (work k).phase.tasks) (x y byte : ℕ) (written : writes pipeline schedule boxes inputs (stage_of (work k)) task x y ≡ true) (small : byte < 4) where
+      abbrev own_place : ℕ
+      own_place = (work k).place
+
+      owned : (work k).owned task x y ≡ true
+      owned = (known k there).owned_writes inputs begun task l x y written
+
+      point : RootPoint pipeline schedule boxes.funcs own_place x y
+      point =
+          root_point pipeline schedule boxes own_place x y (known k there).standing (known k there).standing_is (known k there).at_root
+          ((((known k there).does inputs begun).each task l).there x y owned)
+
+      abbrev byte_offset : ℕ
+      byte_offset = 4 * (y * extent point.own.x + x) + byte
+
+      part_there : part pipeline schedule boxes.funcs (address_at pipeline schedule boxes.funcs 0 (sources.Func own_place) x y + byte) ≡ Root own_place byte_offset
+      part_there = (roots-are-there pipeline schedule boxes.funcs 0 own_place x y point).parts byte small
+
+      wide : width_of boxes.funcs own_place ≡ extent point.own.x
+      wide = ap (λ e. width_in (box_in e)) point.box_is
+
+      used : (matter k).uses (address_at pipeline schedule boxes.funcs 0 (sources.Func own_place) x y + byte) ≡ Owned task
+      used =
+          ap (use_of boxes.funcs k (owners_of (work k))) part_there
+          ∙ (root-use boxes.funcs k (owners_of (work k)) own_place byte_offset x y (extent point.own.x) wide (column-of (extent point.own.x) x y byte point.column small) (row-of (extent point.own.x) x y byte point.column small)
+          ∙ own-use boxes.funcs k (owners_of (work k)) task own_place x y (running.one_owner pipeline schedule boxes rules accepted is inputs begun (work k) (known k there)) l refl owned)
+
+      written_there : (matter k).writes task (address_at pipeline schedule boxes.funcs 0 (sources.Func own_place) x y + byte) ≡ true
+      written_there =
+          let test : ℕ → ℕ → Bool = writes pipeline schedule boxes inputs (stage_of (work k)) task in
+          ap (is_written pipeline schedule boxes inputs (work k) task) part_there
+          ∙ (ap (λ (t : Bool). cond t (test (byte_offset / 4 % width_of boxes.funcs own_place) (byte_offset / 4 / width_of boxes.funcs own_place)) false) (eq-eqb own_place own_place refl)
+          ∙ (ap (λ (w : ℕ). test (byte_offset / 4 % w) (byte_offset / 4 / w)) wide
+          ∙ (ap (λ (n : ℕ). test n (byte_offset / 4 / extent point.own.x)) (column-of (extent point.own.x) x y byte point.column small)
+          ∙ (ap (test x) (row-of (extent point.own.x) x y byte point.column small) ∙ written))))
+
+    own_bytes : (task : ℕ) → task < iterations pipeline schedule boxes stage → (x y byte : ℕ) → writes pipeline schedule boxes inputs stage task x y ≡ true → byte < 4
+        → let address = address_at pipeline schedule boxes.funcs 0 (sources.Func stage.func) x y + byte in
+        ((matter k).uses address ≡ Owned task) × ((matter k).writes task address ≡ true)
+    own_bytes task l x y byte written small =
+        let below : task < (work k).phase.tasks = subst (λ (n : ℕ). task < n) (sym ((known k there).tasks_are ∙ ap (iterations pipeline schedule boxes) same_stage)) l in
+        let here = subst (λ (s : StagePlace). writes pipeline schedule boxes inputs s task x y ≡ true) (sym same_stage) written in
+        subst (λ (s : StagePlace). ((matter k).uses (address_at pipeline schedule boxes.funcs 0 (sources.Func s.func) x y + byte) ≡ Owned task)
+        × ((matter k).writes task (address_at pipeline schedule boxes.funcs 0 (sources.Func s.func) x y + byte) ≡ true)) same_stage
+        (used task below x y byte here small, written_there task below x y byte here small)
 
   -- ---- from phase to phase
 
@@ -343,6 +440,9 @@ phases-are-shared pipeline schedule boxes rules accepted is inputs begun list ar
     record {
       matter = matter pipeline schedule boxes rules accepted is inputs begun list planes told harts few_harts coded last count counted text;
       is_shared = shared pipeline schedule boxes rules accepted is inputs begun list planes told harts few_harts coded last count counted text memory opens some stands;
+      stages_are = told.stages_are ∙ count;
+      tasks_are = tasks_there pipeline schedule boxes rules accepted is inputs begun list planes told harts few_harts coded last count counted text;
+      own_bytes = own_bytes pipeline schedule boxes rules accepted is inputs begun list planes told harts few_harts coded last count counted text;
       ends = λ left done kept func x y p.
           pixel_is pipeline schedule boxes rules accepted is inputs begun list planes told harts few_harts coded last count counted text left done kept func x y p
           (held_word pipeline rules inputs begun boxes.funcs (pixels pipeline.funcs inputs (length pipeline.funcs)) (pixels_answer pipeline rules inputs begun (length pipeline.funcs)) func x y);

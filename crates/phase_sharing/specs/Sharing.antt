@@ -1,6 +1,6 @@
 -- The harts of an image share the tasks of a pipeline's phases, and leave the pixels of all Funcs at root.
 -- This project's own.
-use Rattle.std.specs.Prelude.{◌≡◌, ◌<◌, ◌≤◌, ℕ, suc, ◌+◌, ◌^◌, true, List, length, Ok}
+use Rattle.std.specs.Prelude.{◌≡◌, ◌<◌, ◌≤◌, ℕ, suc, ◌+◌, ◌^◌, true, List, length, slice_get, Some, Ok}
 use Rattle.std.specs.List.{AllByRecursion}
 use Rattle.memory.specs.Addresses.{text_start, data_start, byte_at, AreBytes}
 use Rattle.memory.specs.Access.{word_at}
@@ -26,6 +26,7 @@ use Rattle.program_code.specs.Programs.{parts_from}
 use Rattle.phase_memory.specs.Points.{RootPoint, part, address_at}
 use Rattle.phase_memory.specs.Settings.{places, size}
 use Rattle.phase_memory.specs.Uses.{byte_in}
+use Rattle.phase_sharing.specs.Stages.{StagePlace, stages, iterations, writes}
 
 -- The registers suffice for the phase's tasks, and so many harts count them in a word.
 pub record HasCode (places : Places) (harts : ℕ) (phase : Phase) : Type 0 where
@@ -55,6 +56,15 @@ module _ (pipeline : Pipeline) (schedule : Schedule) (boxes : Boxes) where
   pub record AreShared (harts : ℕ) (phases : List Phase) (last : ℕ) (text memory : List ℕ) (inputs : Planes) : Type 0 where
     pub matter : ℕ → Matter
     pub is_shared : IsShared text (size pipeline schedule boxes.funcs) harts (parts phases) matter last memory
+    -- the phases compute the stages, with a task for each iteration
+    pub stages_are : length (stages pipeline schedule boxes) ≡ suc last
+    pub tasks_are : (k : ℕ) (stage : StagePlace) → slice_get (stages pipeline schedule boxes) k ≡ Some stage
+        → (part_at text (size pipeline schedule boxes.funcs) harts (parts phases) matter k).tasks ≡ iterations pipeline schedule boxes stage
+    -- each byte of a point that an iteration writes is its task's own, and written
+    pub own_bytes : (k : ℕ) (stage : StagePlace) → slice_get (stages pipeline schedule boxes) k ≡ Some stage → (task : ℕ) → task < iterations pipeline schedule boxes stage
+        → (x y byte : ℕ) → writes pipeline schedule boxes inputs stage task x y ≡ true → byte < 4
+        → let address = address_at pipeline schedule boxes.funcs 0 (sources.Func stage.func) x y + byte in
+        ((matter k).uses address ≡ Owned task) × ((matter k).writes task address ≡ true)
     pub ends : (left : List ℕ)
         → ((address task : ℕ) → task < (part_at text (size pipeline schedule boxes.funcs) harts (parts phases) matter last).tasks
         → (matter last).uses address ≡ Owned task → byte_at text left address ≡ (matter last).result address)
