@@ -22,8 +22,9 @@ use Rattle.picture.specs.Evaluated.{judged}
 use Rattle.task_code.specs.declared.places.Places.{Places}
 use Rattle.work_sharing.specs.Phases.{Phase as SharedPhase}
 use Rattle.work_sharing.specs.Programs.{Program, Opens}
-use Rattle.work_sharing.specs.Promises.{OnlyBy, Waits}
+use Rattle.work_sharing.specs.Promises.{OnlyBy, Waits, WrittenAs as SharedWrittenAs}
 use Rattle.work_sharing.specs.Solo.{TaskWrites}
+use Rattle.work_sharing.proofs.Assignments.{every-assignment}
 use Rattle.work_sharing.proofs.Gates.{gate-once}
 use Rattle.work_sharing.proofs.Races.{never-races}
 use Rattle.work_sharing.proofs.Reach.{can-finish}
@@ -38,6 +39,8 @@ use Rattle.phase_memory.specs.Places.{places_of}
 use Rattle.phase_memory.specs.Settings.{places, size}
 use Rattle.phase_sharing.specs.Sharing.{HasCode, HoldsPixels, AreShared, parts}
 use Rattle.phase_sharing.proofs.Sharing.{phases-are-shared}
+use Rattle.phase_sharing.specs.Stages.{StagePlace, stages}
+use Rattle.compiler.specs.Assigned.{byte_of_point, WrittenAs, IsReached, IsAssigned}
 use Rattle.compiler.specs.Compiled.{CompiledContents, IsCompiled}
 use Rattle.compiler.specs.Correct.{opening, Race, ShowsOutput, IsCorrect, Correct}
 use Rattle.compiler.specs.Data.{image_data}
@@ -190,6 +193,44 @@ module _ (own : CompiledContents) (rules : IsCompiled own) (pictures : List Pict
             × (Waits n hart (opening image harts) (turns ++ more) ⊎ ((one : HartState) → slice_get (run (opening image harts) (turns ++ more)).harts hart ≡ Some one → one.status ≡ Finished))) last-is
             (alone-stops steps last text_start bytes turns goes begins hart l);
       }
+
+      -- ---- assignments
+
+      module _ (assigned : ℕ → ℕ → ℕ) (below : (number iteration : ℕ) → assigned number iteration < harts) where
+        stage_written : (number : ℕ) (stage : StagePlace) → slice_get (stages own.pipeline own.schedule own.boxes) number ≡ Some stage → (turns : List ℕ)
+            → SharedWrittenAs (steps number) (assigned number) (opening image harts) turns
+            → WrittenAs own.pipeline own.schedule own.boxes pictures stage (assigned number) (opening image harts) turns
+        stage_written number stage e turns written iteration x y byte l writes small =
+            let bytes_own = is.own_bytes number stage e iteration l x y byte writes small in
+            written iteration (byte_of_point own.pipeline own.schedule own.boxes pictures stage.func x y byte) (subst (λ (n : ℕ). iteration < n) (sym (is.tasks_are number stage e)) l)
+            bytes_own.0 bytes_own.1
+
+        reached : IsReached own.pipeline own.schedule own.boxes pictures image harts assigned
+        reached =
+            let all = every-assignment steps last text_start bytes assigned goes begins whole.1.1 (λ number task l k. below number task) in
+            let long = is.stages_are in
+            record {
+              turns = all.0;
+              named = all.1;
+              finished = all.2;
+              earlier = λ number stage e l.
+                  let done = all.3 number (omega (arith, l, long)) in
+                  record {
+                    before = done.before;
+                    after = done.after;
+                    split = done.split;
+                    full = done.full;
+                    first = done.first;
+                    writers = stage_written number stage e done.before done.writers;
+                  };
+              last = λ number stage e l.
+                  let here : last ≡ number = omega (arith, l, long) in
+                  stage_written number stage e all.0
+                  (subst (λ (n : ℕ). SharedWrittenAs (steps n) (assigned n) (opening image harts) all.0) here all.4);
+            }
+
+  pub is-assigned : IsAssigned own.pipeline own.schedule own.boxes pictures image
+  is-assigned harts some_harts few_harts assigned below = reached harts some_harts few_harts (shared harts some_harts few_harts) assigned below
 
   pub correct : Correct own.pipeline pictures own.boxes.layout.phases image
   correct harts some_harts few_harts = is-correct harts some_harts few_harts (shared harts some_harts few_harts)

@@ -1,4 +1,5 @@
 pub mod Addresses
+pub mod Assigned
 pub mod Compiled
 pub mod Correct
 pub mod Data

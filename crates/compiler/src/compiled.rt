@@ -9,6 +9,7 @@ ghost use Rattle.loader.specs.Image as images;
 ghost use Rattle.memory.specs.Addresses.{text_start};
 ghost use Rattle.picture.specs.Evaluated.{judged};
 ghost use Rattle.schedule.specs.Accepted.{IsAccepted};
+ghost use Rattle.compiler.specs.Assigned.{IsAssigned};
 ghost use Rattle.compiler.specs.Compiled.{output_in, output_of};
 ghost use Rattle.compiler.specs.Correct.{Correct};
 ghost use Rattle.compiler.specs.Images.{ArePictures, IsRefusedInput, control_words, image_of};
@@ -73,7 +74,8 @@ impl Compiled {
     /// (`specs/Images.antt`).
     ///
     /// On every list that says which hart makes the next turn, no hart traps, none race but on the words of
-    /// [`Compiled::control`], and wherever all have finished the output is the algorithm's (`specs/Correct.antt`).
+    /// [`Compiled::control`], and wherever all have finished the output is the algorithm's (`specs/Correct.antt`). Every
+    /// assignment of iterations to harts is reached by some list (`specs/Assigned.antt`).
     ///
     /// # Errors
     ///
@@ -84,6 +86,7 @@ impl Compiled {
         ensures pictures { IfOk result (λ image. ArePictures pictures.now) }
         ensures is { IfOk result (λ image. image ≡ image_of self.now pictures.now) }
         ensures correct { IfOk result (λ image. Correct self.now.pipeline pictures.now self.now.boxes.layout.phases image) }
+        ensures assigned { IfOk result (λ image. IsAssigned self.now.pipeline self.now.schedule self.now.boxes pictures.now image) }
         ensures err { IfErr result (IsRefusedInput (judged self.now.pipeline.inputs pictures.now)) }
     {
         if let Some(error) = judge(self.pipeline.inputs(), pictures) {

@@ -2,11 +2,12 @@ use Rattle.std.proofs.Common.{◌≡◌, ◌≤◌, ◌+◌, ◌*◌, ℕ, List,
 use Rattle.halide_pipeline.specs.declared.definitions.Input.{Input}
 use Rattle.bounds.specs.Layout.{input_bytes, total}
 use Rattle.picture.specs.Evaluated.{judged}
+use Rattle.compiler.specs.Assigned.{IsAssigned}
 use Rattle.compiler.specs.Compiled.{CompiledContents, IsCompiled, output_of}
 use Rattle.compiler.specs.Correct.{Correct}
 use Rattle.compiler.specs.Data.{image_data}
 use Rattle.compiler.specs.Images.{image_of}
-use Rattle.compiler.proofs.Correct.{correct}
+use Rattle.compiler.proofs.Correct.{correct, is-assigned}
 use Rattle.compiler.proofs.Images.{is_ok, ok_is, parts_pass}
 use Rattle.compiler.proofs.Low.{inputs_fit, lies_low}
 use Rattle.compiler.proofs.compiled.Compiled.image.Goals as goal
@@ -49,3 +50,12 @@ returns-clause-correct c =
     (ap (λ (inputs : List Input). judged inputs c.args.pictures.now) (sym c.inputs.ensures.value) ∙ (sym c.judge.ensures ∙ c.in_default.is)) in
     subst (Correct c.args.self.now.pipeline c.args.pictures.now c.args.self.now.boxes.layout.phases) (sym (returns-clause-is c))
     (correct c.args.self.now rules c.args.pictures.now none c.in_ok-data.ensures.rules)
+
+pub returns-clause-assigned : goal.returns-clause-assigned
+returns-clause-assigned c =
+    let rules = subst IsCompiled c.self.view_is c.self.invariant in
+    let none =
+    subst (λ (own : CompiledContents). judged own.pipeline.inputs c.args.pictures.now ≡ None) c.self.view_is
+    (ap (λ (inputs : List Input). judged inputs c.args.pictures.now) (sym c.inputs.ensures.value) ∙ (sym c.judge.ensures ∙ c.in_default.is)) in
+    subst (IsAssigned c.args.self.now.pipeline c.args.self.now.schedule c.args.self.now.boxes c.args.pictures.now) (sym (returns-clause-is c))
+    (is-assigned c.args.self.now rules c.args.pictures.now none c.in_ok-data.ensures.rules)
