@@ -23,14 +23,14 @@ use Rattle.task_code.proofs.Spelling.{emits_then}
 below : (a b : ℕ) → a < b → nat_lt a b ≡ true
 below a b l = grind (arith, nat_tests)
 
-has-room : (n k : ℕ) → k ≡ min n 100 → k ≤ 12 → nat_le (n + 20) 32 ≡ true
+pub has-room : (n k : ℕ) → k ≡ min n 100 → k ≤ 12 → nat_le (n + 20) 32 ≡ true
 has-room n k e l = let s : n + 20 ≤ 32 = omega (arith, e, l) in grind (arith, nat_tests, s)
 
-no-room : (n k : ℕ) → k ≡ min n 100 → 12 < k → nat_le (n + 20) 32 ≡ false
+pub no-room : (n k : ℕ) → k ≡ min n 100 → 12 < k → nat_le (n + 20) 32 ≡ false
 no-room n k e l = let s : 32 < n + 20 = omega (arith, e, l) in grind (arith, nat_tests, s)
 
 -- where the stack has room, its code alone
-record IsShort (d : Deep) : Type 0 where
+pub record IsShort (d : Deep) : Type 0 where
   pub depth_is : on_stack d.own ≡ true → d.depth ≡ 0
   pub code_is : on_stack d.own ≡ true → (word : ℕ) → d.code word ≡ d.own.code 20
 
@@ -43,7 +43,7 @@ short-or own depth code = record {
 short-leaf : (own : Made) → IsShort (deep_leaf own)
 short-leaf own = short-or own 0 (λ word. own.code 20)
 
-record IsDeep (d : Deep) (m : Made) : Type 0 where
+pub record IsDeep (d : Deep) (m : Made) : Type 0 where
   pub own_is : d.own ≡ m
   pub short : IsShort d
 
@@ -63,7 +63,7 @@ module _ (places : Places) (scope : List Counter) where
   is-level (layer.Load source x y) =
       record { own_is = ap (λ p. made_at places scope (layer.Load source p y.left.own)) x.is.own_is ∙ ap (λ p. made_at places scope (layer.Load source x.right p)) y.is.own_is; short = short-or _ _ _ }
 
-  is-deep : (own : Expr) → IsDeep (deep places scope own) (made places scope own)
+  pub is-deep : (own : Expr) → IsDeep (deep places scope own) (made places scope own)
   unfolding deep made
   is-deep own = folds_related IsDeep (deep_at places scope) (made_at places scope) is-level own
 

@@ -1,6 +1,7 @@
 pub mod Addresses
 pub mod Binding
 pub mod Deepening
+pub mod DeepRefusing
 pub mod Emission
 pub mod Evaluation
 pub mod ExampleTask
@@ -16,11 +17,13 @@ pub mod Numbers
 pub mod Placing
 pub mod Quotients
 pub mod Reaching
+pub mod Refusing
 pub mod Rooms
 pub mod Seating
 pub mod Seats
 pub mod Spelling
 pub mod Spilling
+pub mod StmtRefusing
 pub mod Storing
 pub mod Tracing
 pub mod Unrolled

@@ -2,6 +2,7 @@ pub mod Code
 pub mod Doing
 pub mod Evaluation
 pub mod Example
+pub mod Faults
 pub mod Fitting
 pub mod Layout
 pub mod Tasks

@@ -1,10 +1,11 @@
 //! The code of expressions.
 
-ghost use Rattle.std.specs.Prelude.{◌≡◌, ℕ, List, ◌+◌, ◌*◌, ◌^◌, ◌<◌, ◌≤◌, [], ◌∷◌, ◌++◌, length, slice_index_or, OnOk, IfOk, true};
+ghost use Rattle.std.specs.Prelude.{◌≡◌, ℕ, List, ◌+◌, ◌*◌, ◌^◌, ◌<◌, ◌≤◌, [], ◌∷◌, ◌++◌, length, slice_index_or, OnOk, IfErr, IfOk, true};
 ghost use Rattle.loop_ir.specs.declared.expressions.Counter.{Counter as Counts};
 ghost use Rattle.task_code.specs.declared.places.Places.{Places as AllPlaces};
 ghost use Rattle.task_code.specs.Code as spec;
 ghost use Rattle.task_code.specs.Code.{EmitsValue, made};
+ghost use Rattle.task_code.specs.Faults.{FitsStack, IsFault};
 ghost use Rattle.task_code.specs.Words.{Emits};
 
 use crate::CodeFault;
@@ -134,7 +135,8 @@ pub(crate) fn place_of(places: &Places, source: Source) -> Place
 /// The register so far above.
 fn above(r: u8, distance: u8) -> Result<u8, CodeFault>
     requires { (r < 32) × (distance < 32) }
-    ensures { IfOk result (λ s. (s ≡ r + distance) × (s < 32)) }
+    ensures ok { IfOk result (λ s. (s ≡ r + distance) × (s < 32)) }
+    ensures err { IfErr result (IsFault ⊥ (32 ≤ r + distance)) }
 {
     if r + distance < 32 {
         Ok(r + distance)
@@ -147,7 +149,8 @@ fn above(r: u8, distance: u8) -> Result<u8, CodeFault>
 #[tactic(auto, unfolding(crate::specs::Code::made))]
 fn beside(e: &Expr, r: u8) -> Result<u8, CodeFault>
     requires { r < 32 }
-    ensures { IfOk result (λ s. (s < 32) × ((places : AllPlaces) (scope : List Counts) → s ≡ spec.beside (made places scope e.now).is_leaf r)) }
+    ensures ok { IfOk result (λ s. (s < 32) × ((places : AllPlaces) (scope : List Counts) → s ≡ spec.beside (made places scope e.now).is_leaf r)) }
+    ensures err { IfErr result (IsFault ⊥ ((places : AllPlaces) (scope : List Counts) → 32 ≤ spec.beside (made places scope e.now).is_leaf r)) }
 {
     match e {
         Expr::Number(_) => Ok(14),
@@ -165,6 +168,7 @@ fn emit_divisor(code: &mut Vec<u32>, divisor: u32, r: u8) -> Result<u8, CodeFaul
     requires { r < 32 }
     ensures above { IfOk result (λ s. (s ≡ r + 1) × (s < 32)) }
     ensures emits { OnOk result (Emits code.old.items code.new.items (spec.literal (r + 1) divisor) × ((0 < divisor) × (divisor < 2 ^ 32))) }
+    ensures err { IfErr result (IsFault ⊥ (0 < divisor → 32 ≤ r + 1)) }
 {
     if divisor == 0 {
         return Err(CodeFault::TooDeep);
@@ -184,7 +188,8 @@ pub(crate) fn emit_value(
     r: u8,
 ) -> Result<(), CodeFault>
     requires { r < 32 }
-    ensures { OnOk result (EmitsValue code.old.items code.new.items (made places.now scope.now e.now) r) }
+    ensures ok { OnOk result (EmitsValue code.old.items code.new.items (made places.now scope.now e.now) r) }
+    ensures err { IfErr result (IsFault ⊥ (FitsStack (made places.now scope.now e.now) r → ⊥)) }
 {
     match e {
         Expr::Number(n) => {

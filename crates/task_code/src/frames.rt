@@ -1,10 +1,11 @@
 //! The code of expressions whose values may wait in a hart's frame.
 
-ghost use Rattle.std.specs.Prelude.{◌≡◌, ℕ, List, ◌+◌, ◌*◌, ◌^◌, ◌<◌, ◌≤◌, [], ◌∷◌, ◌++◌, length, OnOk, IfOk, max, min, true};
+ghost use Rattle.std.specs.Prelude.{◌≡◌, ℕ, List, ◌+◌, ◌*◌, ◌^◌, ◌<◌, ◌≤◌, [], ◌∷◌, ◌++◌, length, OnOk, IfErr, IfOk, max, min, true};
 ghost use Rattle.loop_ir.specs.declared.expressions.Counter.{Counter as Counts};
 ghost use Rattle.task_code.specs.declared.places.Places.{Places as AllPlaces};
 ghost use Rattle.task_code.specs.Code as spec;
 ghost use Rattle.task_code.specs.Code.{EmitsDeep, deep, frame_words, frames_of, made};
+ghost use Rattle.task_code.specs.Faults.{FitsFrame, IsFault, LieLow};
 ghost use Rattle.task_code.specs.Words.{Emits};
 
 use crate::CodeFault;
@@ -97,7 +98,8 @@ fn need(e: &Expr) -> u8
 
 /// The address of a word of hart 0's frame.
 fn frame_word(frames: Option<u32>, word: u32) -> Result<u32, CodeFault>
-    ensures { IfOk result (λ address. (address ≡ frames_of frames + 4 * word) × ((word < frame_words frames) × (word < 1024))) }
+    ensures ok { IfOk result (λ address. (address ≡ frames_of frames + 4 * word) × ((word < frame_words frames) × (word < 1024))) }
+    ensures err { IfErr result (IsFault ⊥ (LieLow frames → frame_words frames ≤ word)) }
 {
     match frames {
         Some(start) => {
@@ -122,7 +124,8 @@ fn emit_framed(code: &mut Vec<u32>, address: u32) -> Result<(), AllocError>
 
 /// Appends what keeps the first slot in a word of the frame.
 fn emit_spill(code: &mut Vec<u32>, frames: Option<u32>, word: u32) -> Result<(), CodeFault>
-    ensures { OnOk result (Emits code.old.items code.new.items (spec.spill (frames_of frames) word) × ((word < frame_words frames) × (word < 1024))) }
+    ensures ok { OnOk result (Emits code.old.items code.new.items (spec.spill (frames_of frames) word) × ((word < frame_words frames) × (word < 1024))) }
+    ensures err { IfErr result (IsFault ⊥ (LieLow frames → frame_words frames ≤ word)) }
 {
     let address = frame_word(frames, word)?;
     emit_framed(code, address)?;
@@ -133,7 +136,8 @@ fn emit_spill(code: &mut Vec<u32>, frames: Option<u32>, word: u32) -> Result<(),
 /// Appends what loads it again.
 fn emit_unspill(code: &mut Vec<u32>, frames: Option<u32>, word: u32, r: u8) -> Result<(), CodeFault>
     requires { r < 32 }
-    ensures { OnOk result (Emits code.old.items code.new.items (spec.unspill (frames_of frames) word r)) }
+    ensures ok { OnOk result (Emits code.old.items code.new.items (spec.unspill (frames_of frames) word r)) }
+    ensures err { IfErr result (IsFault ⊥ (LieLow frames → frame_words frames ≤ word)) }
 {
     let address = frame_word(frames, word)?;
     emit_framed(code, address)?;
@@ -152,7 +156,8 @@ pub(crate) fn emit_deep(
     word: u32,
 ) -> Result<(), CodeFault>
     requires { word ≤ frame_words places.now.frames }
-    ensures { OnOk result (EmitsDeep code.old.items code.new.items places.now.frames (deep places.now scope.now e.now) word) }
+    ensures ok { OnOk result (EmitsDeep code.old.items code.new.items places.now.frames (deep places.now scope.now e.now) word) }
+    ensures err { IfErr result (IsFault ⊥ (FitsFrame places.now.frames (deep places.now scope.now e.now) word → ⊥)) }
 {
     if need(e) <= 12 {
         emit_value(code, places, scope, e, 20)?;
@@ -210,7 +215,8 @@ pub(crate) fn emit_deep(
 
 /// Appends what leaves a divisor in the second slot.
 fn emit_divisor(code: &mut Vec<u32>, divisor: u32) -> Result<(), CodeFault>
-    ensures { OnOk result (Emits code.old.items code.new.items (spec.literal 21 divisor) × ((0 < divisor) × (divisor < 2 ^ 32))) }
+    ensures ok { OnOk result (Emits code.old.items code.new.items (spec.literal 21 divisor) × ((0 < divisor) × (divisor < 2 ^ 32))) }
+    ensures err { IfErr result (IsFault ⊥ (0 < divisor → ⊥)) }
 {
     if divisor == 0 {
         return Err(CodeFault::TooDeep);

@@ -1,12 +1,13 @@
 //! Single instructions as words.
 
-ghost use Rattle.std.specs.Prelude.{◌≡◌, ℕ, ◌+◌, ◌*◌, ◌-◌, ◌/◌, ◌%◌, ◌^◌, ◌<◌, ◌≤◌, [], ◌∷◌, ◌++◌, OnOk, pos};
+ghost use Rattle.std.specs.Prelude.{◌≡◌, ℕ, ◌+◌, ◌*◌, ◌-◌, ◌/◌, ◌%◌, ◌^◌, ◌<◌, ◌≤◌, [], ◌∷◌, ◌++◌, IfErr, OnOk, pos};
 ghost use Rattle.rv_insn.specs.declared.instructions.Insn.TheVariants.{Alu, AluImm, Branch, Jal, Load as Fetch, Lui, Shift, Store as Save};
 ghost use Rattle.rv_insn.specs.declared.operations.AluImmOp.TheVariants.{Addi};
 ghost use Rattle.rv_insn.specs.declared.operations.BranchOp.TheVariants.{Bltu};
 ghost use Rattle.rv_insn.specs.declared.operations.LoadOp.TheVariants.{Lw};
 ghost use Rattle.rv_insn.specs.declared.operations.StoreOp.TheVariants.{Sw};
 ghost use Rattle.task_code.specs.Code.{back, forth, literal, lower, upper};
+ghost use Rattle.task_code.specs.Faults.{IsFault};
 ghost use Rattle.task_code.specs.Words.{Emits};
 
 use crate::CodeFault;
@@ -239,7 +240,8 @@ pub(crate) fn branch_below(code: &mut Vec<u32>, r: u8, s: u8) -> Result<(), Allo
 /// Appends a jump over so many words, its own among them.
 pub fn jump_forth(code: &mut Vec<u32>, words: usize) -> Result<(), CodeFault>
     requires { words ≤ 2 ^ 40 }
-    ensures { OnOk result (Emits code.old.items code.new.items (Jal 0 (forth words) ∷ [])) }
+    ensures ok { OnOk result (Emits code.old.items code.new.items (Jal 0 (forth words) ∷ [])) }
+    ensures err { IfErr result (IsFault (2 ^ 18 ≤ words) ⊥) }
 {
     if words >= 1 << 18 {
         return Err(CodeFault::TooLong);
@@ -253,7 +255,8 @@ pub fn jump_forth(code: &mut Vec<u32>, words: usize) -> Result<(), CodeFault>
 /// Appends a jump back by so many words.
 pub fn jump_back(code: &mut Vec<u32>, words: usize) -> Result<(), CodeFault>
     requires { (1 ≤ words) × (words ≤ 2 ^ 40) }
-    ensures { OnOk result (Emits code.old.items code.new.items (Jal 0 (back words) ∷ [])) }
+    ensures ok { OnOk result (Emits code.old.items code.new.items (Jal 0 (back words) ∷ [])) }
+    ensures err { IfErr result (IsFault (2 ^ 18 ≤ words) ⊥) }
 {
     if words >= 1 << 18 {
         return Err(CodeFault::TooLong);

@@ -7,6 +7,9 @@
 //!   `specs/Tasks.antt`), where buffers lie so (`specs/Layout.antt`) and the registers suffice (`specs/Fitting.antt`).
 #![tactic(auto)]
 
+ghost use Rattle.std.specs.Prelude.{◌≡◌};
+ghost use Rattle.task_code.specs.declared.CodeFault.TheVariants as faults;
+
 mod expressions;
 mod frames;
 pub mod instructions;
@@ -18,11 +21,11 @@ mod statements;
 pub use crate::statements::{append, emit, emit_restored};
 use std::alloc::AllocError;
 
-/// Why no code is given.
+/// Why no code is given (`specs/Faults.antt`).
 #[derive(Debug, Drop)]
 pub enum CodeFault {
     OutOfMemory(AllocError),
-    /// The code is longer than a text may be.
+    /// The code has as many words as a text may have, or more.
     TooLong,
     /// An expression takes more registers than there are and more words than a hart's frame has, frames lie
     /// in the last 64 KiB of addresses, a divisor is 0, or more than 14 counters stand around a statement.
@@ -30,6 +33,8 @@ pub enum CodeFault {
 }
 
 impl From<AllocError> for CodeFault {
+    ghost from_gives = { λ error fault. fault ≡ faults.OutOfMemory error };
+
     fn from(error: AllocError) -> CodeFault {
         CodeFault::OutOfMemory(error)
     }

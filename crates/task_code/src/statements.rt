@@ -1,8 +1,9 @@
 //! The code of statements and of a task.
 
-ghost use Rattle.std.specs.Prelude.{◌≡◌, ℕ, List, ◌+◌, ◌^◌, ◌<◌, ◌≤◌, [], ◌∷◌, ◌++◌, length, OnErr, OnOk, IfOk, true};
+ghost use Rattle.std.specs.Prelude.{◌≡◌, ℕ, List, ◌+◌, ◌^◌, ◌<◌, ◌≤◌, [], ◌∷◌, ◌++◌, length, OnErr, OnOk, IfErr, IfOk, true};
 ghost use Rattle.rv_insn.specs.declared.instructions.Insn.{Insn as Instruction};
 ghost use Rattle.task_code.specs.Code as spec;
+ghost use Rattle.task_code.specs.Faults.{FitsStore, IsFault, IsStmtFault, IsTaskFault};
 ghost use Rattle.task_code.specs.Fitting.{fits_store, fits_whole, is_word_or_none};
 ghost use Rattle.task_code.specs.Tasks.{EmitsStmt, EmitsTask};
 ghost use Rattle.task_code.specs.Words.{Emits};
@@ -32,7 +33,8 @@ fn emit_move(code: &mut Vec<u32>, r: u8, s: u8) -> Result<(), AllocError>
 /// Appends a jump over so many words, made where the register isn't below the number.
 fn emit_test(code: &mut Vec<u32>, r: u8, number: u32, words: usize) -> Result<(), CodeFault>
     requires { (r < 32) × (words ≤ 2 ^ 40) }
-    ensures { OnOk result (Emits code.old.items code.new.items (spec.test r number words) × (number < 2 ^ 32)) }
+    ensures ok { OnOk result (Emits code.old.items code.new.items (spec.test r number words) × (number < 2 ^ 32)) }
+    ensures err { IfErr result (IsFault (2 ^ 18 ≤ words) ⊥) }
 {
     emit_number(code, 13, number)?;
     branch_below(code, r, 13)?;
@@ -55,7 +57,8 @@ fn emit_store(
     scope: &[Counter],
     store: &Store,
 ) -> Result<(), CodeFault>
-    ensures { OnOk result (Emits code.old.items code.new.items (spec.store_code places.now scope.now store.now) × (fits_store places.now scope.now store.now ≡ true)) }
+    ensures ok { OnOk result (Emits code.old.items code.new.items (spec.store_code places.now scope.now store.now) × (fits_store places.now scope.now store.now ≡ true)) }
+    ensures err { IfErr result (IsFault ⊥ (FitsStore places.now scope.now store.now → ⊥)) }
 {
     emit_deep(code, places, scope, &store.x, 0)?;
     emit_move(code, 15, 20)?;
@@ -69,7 +72,8 @@ fn emit_store(
 
 fn emit_loop(code: &mut Vec<u32>, r: u8, count: u32, body: &[u32]) -> Result<(), CodeFault>
     requires { r < 32 }
-    ensures { OnOk result (((insns : List Instruction) → Emits [] body.now insns → Emits code.old.items code.new.items (spec.loop_code r count insns)) × (count < 2 ^ 32)) }
+    ensures ok { OnOk result (((insns : List Instruction) → Emits [] body.now insns → Emits code.old.items code.new.items (spec.loop_code r count insns)) × (count < 2 ^ 32)) }
+    ensures err { IfErr result (IsFault (2 ^ 18 ≤ length body.now + 7) ⊥) }
 {
     let words = body.len();
     if words >= 1 << 18 {
@@ -118,7 +122,8 @@ fn emit_whole(
 
 fn emit_guarded(code: &mut Vec<u32>, r: u8, extent: u32, body: &[u32]) -> Result<(), CodeFault>
     requires { r < 32 }
-    ensures { OnOk result (((insns : List Instruction) → Emits [] body.now insns → Emits code.old.items code.new.items (spec.test r extent (length insns + 1) ++ insns)) × (extent < 2 ^ 32)) }
+    ensures ok { OnOk result (((insns : List Instruction) → Emits [] body.now insns → Emits code.old.items code.new.items (spec.test r extent (length insns + 1) ++ insns)) × (extent < 2 ^ 32)) }
+    ensures err { IfErr result (IsFault (2 ^ 18 ≤ length body.now + 4) ⊥) }
 {
     let words = body.len();
     if words >= 1 << 18 {
@@ -138,7 +143,8 @@ fn emit_bind(
     body: &[u32],
 ) -> Result<(), CodeFault>
     requires { r < 32 }
-    ensures { OnOk result (((insns : List Instruction) → Emits [] body.now insns → Emits code.old.items code.new.items (spec.bind_code scope.now whole.now extent r insns)) × ((fits_whole whole.now ≡ true) × (extent < 2 ^ 32))) }
+    ensures ok { OnOk result (((insns : List Instruction) → Emits [] body.now insns → Emits code.old.items code.new.items (spec.bind_code scope.now whole.now extent r insns)) × ((fits_whole whole.now ≡ true) × (extent < 2 ^ 32))) }
+    ensures err { IfErr result (IsFault (2 ^ 18 ≤ length body.now + 4) ⊥) }
 {
     emit_whole(code, scope, whole, r)?;
     emit_guarded(code, r, extent, body)?;
@@ -147,7 +153,8 @@ fn emit_bind(
 
 /// The register of the next counter.
 fn next_seat(scope: &[Counter]) -> Result<u8, CodeFault>
-    ensures { IfOk result (λ r. (r ≡ spec.seat (length scope.now)) × ((r < 32) × (length scope.now < 14))) }
+    ensures ok { IfOk result (λ r. (r ≡ spec.seat (length scope.now)) × ((r < 32) × (length scope.now < 14))) }
+    ensures err { IfErr result (IsFault ⊥ (14 ≤ length scope.now)) }
 {
     if scope.len() < 14 {
         Ok(seat(scope.len()))
@@ -178,7 +185,8 @@ fn emit_stmt(
     scope: &[Counter],
     stmt: &Stmt,
 ) -> Result<(), CodeFault>
-    ensures { OnOk result (EmitsStmt code.old.items code.new.items places.now stmt.now scope.now) }
+    ensures ok { OnOk result (EmitsStmt code.old.items code.new.items places.now stmt.now scope.now) }
+    ensures err { IfErr result (IsStmtFault places.now stmt.now scope.now) }
 {
     match stmt {
         Stmt::Store(store) => {
@@ -241,7 +249,8 @@ fn emit_task(
     code: &mut Vec<u32>,
 ) -> Result<(), CodeFault>
     requires { ticket + 4 < 2 ^ 32 }
-    ensures { OnOk result (EmitsTask code.old.items code.new.items phase.now places.now ticket) }
+    ensures ok { OnOk result (EmitsTask code.old.items code.new.items phase.now places.now ticket) }
+    ensures err { IfErr result (IsTaskFault phase.now places.now ticket) }
 {
     let scope = task_scope(alloc, phase.counter)?;
     emit_stmt(alloc, code, places, scope.as_slice(), &phase.body)?;
@@ -258,8 +267,8 @@ fn emit_task(
 ///
 /// # Errors
 ///
-/// Where memory runs out, the code is longer than a text may be, or an expression or a nest of loops has no registers left: then
-/// nothing was appended.
+/// Where memory runs out, the code has 2^18 words or more, or an expression or a nest of loops has no registers left: what stands
+/// then is in `specs/Faults.antt`, and nothing was appended.
 pub fn emit(
     alloc: Global,
     phase: &Phase,
@@ -270,6 +279,7 @@ pub fn emit(
     requires { ticket + 4 < 2 ^ 32 }
     ensures ok { OnOk result (EmitsTask code.old.items code.new.items phase.now places.now ticket) }
     ensures err { OnErr result (code.new.items ≡ code.old.items) }
+    ensures fault { IfErr result (IsTaskFault phase.now places.now ticket) }
 {
     let mut words = Vec::new(alloc);
     emit_task(alloc, phase, places, ticket, &mut words)?;

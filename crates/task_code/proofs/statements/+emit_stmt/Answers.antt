@@ -1,30 +1,78 @@
 use Rattle.std.proofs.Common.{◌∷◌}
 use Rattle.task_code.proofs.Nests.{store-emitted, sequence-emitted, inner-emitted, for-emitted, bind-emitted}
+use Rattle.task_code.proofs.Refusing.{passed}
+use Rattle.task_code.proofs.StmtRefusing.{part-passed, no-store, first-part, second-part, for-part, for-long, for-seatless, bind-part, bind-long, bind-seatless}
 use Rattle.task_code.proofs.statements.+emit_stmt.Goals as goal
 
-pub returns-in_ok-emit_store-in-Store : goal.returns-in_ok-emit_store-in-Store
-returns-in_ok-emit_store-in-Store t c =
-    store-emitted c.args.places.now c.args.scope.now c.args.stmt.now c.in-Store.store _ _ c.in-Store.is c.in_ok-emit_store-in-Store.ensures
+pub returns-in_ok-emit_store-in-Store-clause-ok : goal.returns-in_ok-emit_store-in-Store-clause-ok
+returns-in_ok-emit_store-in-Store-clause-ok t c =
+    store-emitted c.args.places.now c.args.scope.now c.args.stmt.now c.in-Store.store _ _ c.in-Store.is c.in_ok-emit_store-in-Store.ensures.ok
 
-pub returns-in_ok-emit_stmt-in-Sequence-2 : goal.returns-in_ok-emit_stmt-in-Sequence-2
-returns-in_ok-emit_stmt-in-Sequence-2 t c =
+pub returns-in_ok-emit_stmt-in-Sequence-2-clause-ok : goal.returns-in_ok-emit_stmt-in-Sequence-2-clause-ok
+returns-in_ok-emit_stmt-in-Sequence-2-clause-ok t c =
     sequence-emitted c.args.places.now c.args.scope.now c.args.stmt.now c.in-Sequence.first c.in-Sequence.second _ _ _ _ _ c.in-Sequence.is c.get.ensures c.get-in-Sequence.ensures
-    c.in_ok-emit_stmt-in-Sequence.ensures c.in_ok-emit_stmt-in-Sequence-2.ensures
+    c.in_ok-emit_stmt-in-Sequence.ensures.ok c.in_ok-emit_stmt-in-Sequence-2.ensures.ok
 
-pub returns-in_ok-emit_loop-in-For : goal.returns-in_ok-emit_loop-in-For
-returns-in_ok-emit_loop-in-For t c =
+pub returns-in_ok-emit_loop-in-For-clause-ok : goal.returns-in_ok-emit_loop-in-For-clause-ok
+returns-in_ok-emit_loop-in-For-clause-ok t c =
     for-emitted c.args.places.now c.args.scope.now c.args.stmt.now c.in-For.body c.in-For.counter c.in-For.count c.in_ok-r-in-For.r c.in-For.field-2 c.as_slice-in-For.result.now _ _ c.in-For.is
-    c.in_ok-r-in-For.ensures.0 c.in_ok-r-in-For.ensures.1.1
+    c.in_ok-r-in-For.ensures.ok.0 c.in_ok-r-in-For.ensures.ok.1.1
     (inner-emitted c.args.places.now c.new-inner.result.items c.emit_stmt-in-For.new.code.items c.as_slice-in-For.result.now c.as_slice.result.now c.in_ok-within-in-For.within.items
     (c.in-For.counter ∷ c.args.scope.now) c.get-in-For.result.now c.in-For.body
-    c.new-inner.ensures.items c.as_slice-in-For.ensures.value c.as_slice.ensures.value c.in_ok-within-in-For.ensures c.get-in-For.ensures c.in_ok-emit_stmt-in-For.ensures)
-    c.in_ok-emit_loop-in-For.ensures
+    c.new-inner.ensures.items c.as_slice-in-For.ensures.value c.as_slice.ensures.value c.in_ok-within-in-For.ensures c.get-in-For.ensures c.in_ok-emit_stmt-in-For.ensures.ok)
+    c.in_ok-emit_loop-in-For.ensures.ok
 
-pub returns-in_ok-emit_bind-in-Bind : goal.returns-in_ok-emit_bind-in-Bind
-returns-in_ok-emit_bind-in-Bind t c =
+pub returns-in_ok-emit_bind-in-Bind-clause-ok : goal.returns-in_ok-emit_bind-in-Bind-clause-ok
+returns-in_ok-emit_bind-in-Bind-clause-ok t c =
     bind-emitted c.args.places.now c.args.scope.now c.args.stmt.now c.in-Bind.body c.in-Bind.counter c.in-Bind.whole c.in-Bind.extent c.in_ok-r-in-Bind.r c.as_slice-in-Bind-2.result.now _ _ c.in-Bind.is
-    c.in_ok-r-in-Bind.ensures.0 c.in_ok-r-in-Bind.ensures.1.1
+    c.in_ok-r-in-Bind.ensures.ok.0 c.in_ok-r-in-Bind.ensures.ok.1.1
     (inner-emitted c.args.places.now c.new-inner-in-Bind.result.items c.emit_stmt-in-Bind.new.code.items c.as_slice-in-Bind-2.result.now c.as_slice-in-Bind.result.now c.in_ok-within-in-Bind.within.items
     (c.in-Bind.counter ∷ c.args.scope.now) c.get-in-Bind.result.now c.in-Bind.body
-    c.new-inner-in-Bind.ensures.items c.as_slice-in-Bind-2.ensures.value c.as_slice-in-Bind.ensures.value c.in_ok-within-in-Bind.ensures c.get-in-Bind.ensures c.in_ok-emit_stmt-in-Bind.ensures)
-    c.in_ok-emit_bind-in-Bind.ensures
+    c.new-inner-in-Bind.ensures.items c.as_slice-in-Bind-2.ensures.value c.as_slice-in-Bind.ensures.value c.in_ok-within-in-Bind.ensures c.get-in-Bind.ensures c.in_ok-emit_stmt-in-Bind.ensures.ok)
+    c.in_ok-emit_bind-in-Bind.ensures.ok
+
+pub returns-in_err-emit_store-in-Store-clause-err : goal.returns-in_err-emit_store-in-Store-clause-err
+returns-in_err-emit_store-in-Store-clause-err t c =
+    passed c.from_residual.result c.in_err-emit_store-in-Store.field-0.0 c.from_residual.ensures.1 (λ long. absurd long) (no-store c.args.places.now c.args.stmt.now c.in-Store.store c.args.scope.now c.in-Store.is) c.in_err-emit_store-in-Store.ensures.err
+
+pub returns-in_err-emit_stmt-in-Sequence-clause-err : goal.returns-in_err-emit_stmt-in-Sequence-clause-err
+returns-in_err-emit_stmt-in-Sequence-clause-err t c =
+    part-passed c.args.places.now c.from_residual-in_err-emit_stmt-in-Sequence.result c.in_err-emit_stmt-in-Sequence.field-0.0 c.from_residual-in_err-emit_stmt-in-Sequence.ensures.1 (first-part c.args.places.now c.args.stmt.now c.in-Sequence.first c.in-Sequence.second _ c.args.scope.now c.in-Sequence.is c.get.ensures) c.in_err-emit_stmt-in-Sequence.ensures.err
+
+pub returns-in_err-emit_stmt-in-Sequence-2-clause-err : goal.returns-in_err-emit_stmt-in-Sequence-2-clause-err
+returns-in_err-emit_stmt-in-Sequence-2-clause-err t c =
+    part-passed c.args.places.now c.from_residual-in_err-emit_stmt-in-Sequence-2.result c.in_err-emit_stmt-in-Sequence-2.field-0.0 c.from_residual-in_err-emit_stmt-in-Sequence-2.ensures.1 (second-part c.args.places.now c.args.stmt.now c.in-Sequence.first c.in-Sequence.second _ c.args.scope.now c.in-Sequence.is c.get-in-Sequence.ensures) c.in_err-emit_stmt-in-Sequence-2.ensures.err
+
+pub returns-in_err-r-in-For-clause-err : goal.returns-in_err-r-in-For-clause-err
+returns-in_err-r-in-For-clause-err t c =
+    passed c.from_residual-in_err-r-in-For.result c.in_err-r-in-For.field-0.0 c.from_residual-in_err-r-in-For.ensures.1 (λ long. absurd long) (for-seatless c.args.places.now c.args.stmt.now c.in-For.body c.in-For.counter c.in-For.count c.in-For.field-2 c.args.scope.now c.in-For.is) c.in_err-r-in-For.ensures.err
+
+pub returns-in_err-emit_stmt-in-For-clause-err : goal.returns-in_err-emit_stmt-in-For-clause-err
+returns-in_err-emit_stmt-in-For-clause-err t c =
+    part-passed c.args.places.now c.from_residual-in_err-emit_stmt-in-For.result c.in_err-emit_stmt-in-For.field-0.0 c.from_residual-in_err-emit_stmt-in-For.ensures.1 (for-part c.args.places.now c.args.stmt.now c.in-For.body _ c.in-For.counter c.in-For.count c.in-For.field-2 c.args.scope.now _ _ c.in-For.is c.get-in-For.ensures c.as_slice.ensures.value c.in_ok-within-in-For.ensures) c.in_err-emit_stmt-in-For.ensures.err
+
+pub returns-in_err-emit_loop-in-For-clause-err : goal.returns-in_err-emit_loop-in-For-clause-err
+returns-in_err-emit_loop-in-For-clause-err t c =
+    passed c.from_residual-in_err-emit_loop-in-For.result c.in_err-emit_loop-in-For.field-0.0 c.from_residual-in_err-emit_loop-in-For.ensures.1
+    (for-long c.args.places.now c.args.stmt.now c.in-For.body c.in-For.counter c.in-For.count c.in-For.field-2 c.args.scope.now c.as_slice-in-For.result.now c.in-For.is
+    (inner-emitted c.args.places.now c.new-inner.result.items c.emit_stmt-in-For.new.code.items c.as_slice-in-For.result.now c.as_slice.result.now c.in_ok-within-in-For.within.items
+    (c.in-For.counter ∷ c.args.scope.now) c.get-in-For.result.now c.in-For.body
+    c.new-inner.ensures.items c.as_slice-in-For.ensures.value c.as_slice.ensures.value c.in_ok-within-in-For.ensures c.get-in-For.ensures c.in_ok-emit_stmt-in-For.ensures.ok))
+    (λ deep. absurd deep) c.in_err-emit_loop-in-For.ensures.err
+
+pub returns-in_err-r-in-Bind-clause-err : goal.returns-in_err-r-in-Bind-clause-err
+returns-in_err-r-in-Bind-clause-err t c =
+    passed c.from_residual-in_err-r-in-Bind.result c.in_err-r-in-Bind.field-0.0 c.from_residual-in_err-r-in-Bind.ensures.1 (λ long. absurd long) (bind-seatless c.args.places.now c.args.stmt.now c.in-Bind.body c.in-Bind.counter c.in-Bind.whole c.in-Bind.extent c.args.scope.now c.in-Bind.is) c.in_err-r-in-Bind.ensures.err
+
+pub returns-in_err-emit_stmt-in-Bind-clause-err : goal.returns-in_err-emit_stmt-in-Bind-clause-err
+returns-in_err-emit_stmt-in-Bind-clause-err t c =
+    part-passed c.args.places.now c.from_residual-in_err-emit_stmt-in-Bind.result c.in_err-emit_stmt-in-Bind.field-0.0 c.from_residual-in_err-emit_stmt-in-Bind.ensures.1 (bind-part c.args.places.now c.args.stmt.now c.in-Bind.body _ c.in-Bind.counter c.in-Bind.whole c.in-Bind.extent c.args.scope.now _ _ c.in-Bind.is c.get-in-Bind.ensures c.as_slice-in-Bind.ensures.value c.in_ok-within-in-Bind.ensures) c.in_err-emit_stmt-in-Bind.ensures.err
+
+pub returns-in_err-emit_bind-in-Bind-clause-err : goal.returns-in_err-emit_bind-in-Bind-clause-err
+returns-in_err-emit_bind-in-Bind-clause-err t c =
+    passed c.from_residual-in_err-emit_bind-in-Bind.result c.in_err-emit_bind-in-Bind.field-0.0 c.from_residual-in_err-emit_bind-in-Bind.ensures.1
+    (bind-long c.args.places.now c.args.stmt.now c.in-Bind.body c.in-Bind.counter c.in-Bind.whole c.in-Bind.extent c.args.scope.now c.as_slice-in-Bind-2.result.now c.in-Bind.is
+    (inner-emitted c.args.places.now c.new-inner-in-Bind.result.items c.emit_stmt-in-Bind.new.code.items c.as_slice-in-Bind-2.result.now c.as_slice-in-Bind.result.now c.in_ok-within-in-Bind.within.items
+    (c.in-Bind.counter ∷ c.args.scope.now) c.get-in-Bind.result.now c.in-Bind.body
+    c.new-inner-in-Bind.ensures.items c.as_slice-in-Bind-2.ensures.value c.as_slice-in-Bind.ensures.value c.in_ok-within-in-Bind.ensures c.get-in-Bind.ensures c.in_ok-emit_stmt-in-Bind.ensures.ok))
+    (λ deep. absurd deep) c.in_err-emit_bind-in-Bind.ensures.err

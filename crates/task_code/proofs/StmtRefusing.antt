@@ -1,0 +1,165 @@
+-- What is too long or too deep in a part of a statement is so in the whole.
+use Rattle.std.proofs.Common.{◌≡◌, ℕ, ◌+◌, ◌^◌, ◌<◌, ◌≤◌, List, [], ◌∷◌, ◌++◌, length, true, refl, ap, ◌∙◌, sym, subst, arith, length-append}
+use Rattle.std.specs.Prelude.{nat_lt, Result, IfErr, IsErrAnd}
+use Rattle.std.proofs.lemmas.Bool.{and_parts}
+use Rattle.std.proofs.lemmas.Bool.Decides.{nat_tests}
+use Rattle.rv_insn.specs.declared.instructions.Insn.{Insn}
+use Rattle.loop_ir.specs.declared.expressions.Counter.{Counter}
+use Rattle.loop_ir.specs.declared.statements.LoopKind.{LoopKind}
+use Rattle.loop_ir.specs.declared.statements.Phase.{Phase}
+use Rattle.loop_ir.specs.declared.statements.Store.{Store}
+use Rattle.loop_ir.specs.declared.statements.Stmt.{Stmt}
+use Rattle.loop_ir.specs.declared.statements.Stmt.TheVariants as s
+use Rattle.loop_ir.specs.declared.statements.Whole.{Whole}
+use Rattle.task_code.specs.declared.CodeFault.{CodeFault}
+use Rattle.task_code.specs.declared.places.Places.{Places}
+use Rattle.task_code.specs.Code.{seat, loop_code, loop_tail, bind_code, test, whole_code, stmt_code, task_scope, restored}
+use Rattle.task_code.specs.Faults.{IsLong, IsStmtFault, IsTaskFault, FitsStore, FitsStmt}
+use Rattle.task_code.specs.Fitting.{is_word, has_seat, fits_whole, fits}
+use Rattle.task_code.specs.Tasks.{EmitsStmt}
+use Rattle.task_code.proofs.Refusing.{passed}
+use Rattle.task_code.proofs.Spelling.{emits-length}
+use Rattle.task_code.proofs.Unrolled.{code-sequence, code-for, code-bind, fits-store, fits-sequence, fits-for, fits-bind}
+
+-- ---- lengths
+
+long-is : (a b : List Insn) → a ≡ b → length b ≡ length a
+long-is a b e = ap length (sym e)
+
+loop-length : (r n : ℕ) (body : List Insn) → length (loop_code r n body) ≡ length body + 7
+loop-length r n body = omega (arith, length-append body (loop_tail r (length body)))
+
+bind-length : (scope : List Counter) (whole : Whole) (extent r : ℕ) (body : List Insn) → length body + 4 ≤ length (bind_code scope whole extent r body)
+bind-length scope whole extent r body =
+    let l : length (bind_code scope whole extent r body) ≡ length (whole_code scope whole r) + length (test r extent (length body + 1) ++ body) = length-append (whole_code scope whole r) _ in
+    omega (arith, l)
+
+grown : (a b : List Insn) → length a ≤ length b → IsLong a → IsLong b
+grown a b l is = omega (arith, l, is)
+
+few-seats : (n : ℕ) → 14 ≤ n → nat_lt n 14 ≡ true → ⊥
+few-seats n l t = let k : n < 14 = grind (arith, nat_tests, t) in omega (arith, l, k)
+
+module _ (places : Places) where
+  -- what is too long or too deep in the part is so in the whole
+  pub record IsPart (part : Stmt) (inner : List Counter) (own : Stmt) (scope : List Counter) : Type 0 where
+    pub long : IsLong (stmt_code places part inner) → IsLong (stmt_code places own scope)
+    pub room : FitsStmt places own scope → FitsStmt places part inner
+
+  pub part-passed : {T : Type 0} {part own : Stmt} {inner scope : List Counter} (r : Result T CodeFault) (fault : CodeFault) → IsErrAnd r (λ error. error ≡ fault) → IsPart part inner own scope
+      → IsStmtFault places part inner fault → IfErr r (IsStmtFault places own scope)
+  part-passed r fault from is stands = passed r fault from is.long (λ none own-fits. none (is.room own-fits)) stands
+
+  of-same : {part own : Stmt} {inner scope : List Counter} (x : Stmt) (view : List Counter) → x ≡ part → view ≡ inner → IsPart part inner own scope → IsPart x view own scope
+  of-same {part} {own} {inner} {scope} x view ex ev is =
+      subst (λ (y : Stmt). IsPart y view own scope) (sym ex) (subst (λ (v : List Counter). IsPart part v own scope) (sym ev) is)
+
+  whole-is : {part whole : Stmt} {inner scope : List Counter} (own : Stmt) → own ≡ whole → IsPart part inner whole scope → IsPart part inner own scope
+  whole-is {part} {whole} {inner} {scope} own e is = subst (λ (y : Stmt). IsPart part inner y scope) (sym e) is
+
+  pub no-store : (own : Stmt) (store : Store) (scope : List Counter) → own ≡ s.Store store → (FitsStore places scope store → ⊥) → FitsStmt places own scope → ⊥
+  no-store own store scope e none is =
+      none (is.0, sym (fits-store places store scope) ∙ sym (ap (λ (y : Stmt). fits places y scope) e) ∙ is.1)
+
+  first-is : (first second : Stmt) (scope : List Counter) → IsPart first scope (s.Sequence first second) scope
+  first-is first second scope = record {
+    long = let l : length (stmt_code places (s.Sequence first second) scope) ≡ length (stmt_code places first scope) + length (stmt_code places second scope)
+        = ap length (code-sequence places first second scope) ∙ length-append (stmt_code places first scope) (stmt_code places second scope) in
+        grown (stmt_code places first scope) (stmt_code places (s.Sequence first second) scope) (omega (arith, l));
+    room = λ is. (is.0, (and_parts (fits places first scope) (fits places second scope) (sym (fits-sequence places first second scope) ∙ is.1)).0);
+  }
+
+  second-is : (first second : Stmt) (scope : List Counter) → IsPart second scope (s.Sequence first second) scope
+  second-is first second scope = record {
+    long = let l : length (stmt_code places (s.Sequence first second) scope) ≡ length (stmt_code places first scope) + length (stmt_code places second scope)
+        = ap length (code-sequence places first second scope) ∙ length-append (stmt_code places first scope) (stmt_code places second scope) in
+        grown (stmt_code places second scope) (stmt_code places (s.Sequence first second) scope) (omega (arith, l));
+    room = λ is. (is.0, (and_parts (fits places first scope) (fits places second scope) (sym (fits-sequence places first second scope) ∙ is.1)).1);
+  }
+
+  pub first-part : (own first second x : Stmt) (scope : List Counter) → own ≡ s.Sequence first second → x ≡ first → IsPart x scope own scope
+  first-part own first second x scope e ex = whole-is own e (of-same x scope ex refl (first-is first second scope))
+
+  pub second-part : (own first second x : Stmt) (scope : List Counter) → own ≡ s.Sequence first second → x ≡ second → IsPart x scope own scope
+  second-part own first second x scope e ex = whole-is own e (of-same x scope ex refl (second-is first second scope))
+
+  -- ---- loops
+
+  for-length : (counter : Counter) (count : ℕ) (kind : LoopKind) (body : Stmt) (scope : List Counter)
+      → length (stmt_code places (s.For counter count kind body) scope) ≡ length (stmt_code places body (counter ∷ scope)) + 7
+  for-length counter count kind body scope =
+      ap length (code-for places counter count kind body scope) ∙ loop-length (seat (length scope)) count (stmt_code places body (counter ∷ scope))
+
+  for-is : (counter : Counter) (count : ℕ) (kind : LoopKind) (body : Stmt) (scope : List Counter) → IsPart body (counter ∷ scope) (s.For counter count kind body) scope
+  for-is counter count kind body scope = record {
+    long = let l = for-length counter count kind body scope in
+        grown (stmt_code places body (counter ∷ scope)) (stmt_code places (s.For counter count kind body) scope) (omega (arith, l));
+    room = λ is.
+        let k = and_parts (has_seat scope) _ (sym (fits-for places counter count kind body scope) ∙ is.1) in
+        (is.0, (and_parts (is_word count) (fits places body (counter ∷ scope)) k.1).1);
+  }
+
+  pub for-part : (own body x : Stmt) (counter : Counter) (count : ℕ) (kind : LoopKind) (scope view items : List Counter) → own ≡ s.For counter count kind body → x ≡ body → view ≡ items
+      → items ≡ counter ∷ scope → IsPart x view own scope
+  for-part own body x counter count kind scope view items e ex ev ei = whole-is own e (of-same x view ex (ev ∙ ei) (for-is counter count kind body scope))
+
+  pub for-long : (own body : Stmt) (counter : Counter) (count : ℕ) (kind : LoopKind) (scope : List Counter) (inner : List ℕ) → own ≡ s.For counter count kind body
+      → EmitsStmt [] inner places body (counter ∷ scope) → 2 ^ 18 ≤ length inner + 7 → IsLong (stmt_code places own scope)
+  for-long own body counter count kind scope inner e part long =
+      let n = emits-length inner (stmt_code places body (counter ∷ scope)) part.emits in
+      let l = ap (λ (y : Stmt). length (stmt_code places y scope)) e ∙ for-length counter count kind body scope in
+      omega (arith, n, l, long)
+
+  pub for-seatless : (own body : Stmt) (counter : Counter) (count : ℕ) (kind : LoopKind) (scope : List Counter) → own ≡ s.For counter count kind body → 14 ≤ length scope
+      → FitsStmt places own scope → ⊥
+  for-seatless own body counter count kind scope e many is =
+      few-seats (length scope) many
+      (and_parts (has_seat scope) _ (sym (fits-for places counter count kind body scope) ∙ sym (ap (λ (y : Stmt). fits places y scope) e) ∙ is.1)).0
+
+  -- ---- values of split loops
+
+  bind-grown : (counter : Counter) (whole : Whole) (extent : ℕ) (body : Stmt) (scope : List Counter)
+      → length (stmt_code places body (counter ∷ scope)) + 4 ≤ length (stmt_code places (s.Bind counter whole extent body) scope)
+  bind-grown counter whole extent body scope =
+      let e = ap length (code-bind places counter whole extent body scope) in
+      let l = bind-length scope whole extent (seat (length scope)) (stmt_code places body (counter ∷ scope)) in
+      omega (arith, e, l)
+
+  bind-is : (counter : Counter) (whole : Whole) (extent : ℕ) (body : Stmt) (scope : List Counter) → IsPart body (counter ∷ scope) (s.Bind counter whole extent body) scope
+  bind-is counter whole extent body scope = record {
+    long = let l = bind-grown counter whole extent body scope in
+        grown (stmt_code places body (counter ∷ scope)) (stmt_code places (s.Bind counter whole extent body) scope) (omega (arith, l));
+    room = λ is.
+        let k = and_parts (has_seat scope) _ (sym (fits-bind places counter whole extent body scope) ∙ is.1) in
+        let j = and_parts (fits_whole whole) _ k.1 in
+        (is.0, (and_parts (is_word extent) (fits places body (counter ∷ scope)) j.1).1);
+  }
+
+  pub bind-part : (own body x : Stmt) (counter : Counter) (whole : Whole) (extent : ℕ) (scope view items : List Counter) → own ≡ s.Bind counter whole extent body → x ≡ body → view ≡ items
+      → items ≡ counter ∷ scope → IsPart x view own scope
+  bind-part own body x counter whole extent scope view items e ex ev ei = whole-is own e (of-same x view ex (ev ∙ ei) (bind-is counter whole extent body scope))
+
+  pub bind-long : (own body : Stmt) (counter : Counter) (whole : Whole) (extent : ℕ) (scope : List Counter) (inner : List ℕ) → own ≡ s.Bind counter whole extent body
+      → EmitsStmt [] inner places body (counter ∷ scope) → 2 ^ 18 ≤ length inner + 4 → IsLong (stmt_code places own scope)
+  bind-long own body counter whole extent scope inner e part long =
+      let n = emits-length inner (stmt_code places body (counter ∷ scope)) part.emits in
+      let is = ap (λ (y : Stmt). length (stmt_code places y scope)) e in
+      let l = bind-grown counter whole extent body scope in
+      omega (arith, n, is, l, long)
+
+  pub bind-seatless : (own body : Stmt) (counter : Counter) (whole : Whole) (extent : ℕ) (scope : List Counter) → own ≡ s.Bind counter whole extent body → 14 ≤ length scope
+      → FitsStmt places own scope → ⊥
+  bind-seatless own body counter whole extent scope e many is =
+      few-seats (length scope) many
+      (and_parts (has_seat scope) _ (sym (fits-bind places counter whole extent body scope) ∙ sym (ap (λ (y : Stmt). fits places y scope) e) ∙ is.1)).0
+
+  -- ---- a task
+
+  pub task-passed : {T : Type 0} (r : Result T CodeFault) (fault : CodeFault) (phase : Phase) (ticket : ℕ) (scope items : List Counter) → IsErrAnd r (λ error. error ≡ fault)
+      → scope ≡ items → items ≡ task_scope phase.counter → IsStmtFault places phase.body scope fault → IfErr r (IsTaskFault phase places ticket)
+  task-passed r fault phase ticket scope items from e f is =
+      let own = subst (λ (z : List Counter). IsStmtFault places phase.body z fault) (e ∙ f) is in
+      let code = stmt_code places phase.body (task_scope phase.counter) in
+      let l = length-append code (restored ticket phase.tasks) in
+      passed r fault from (grown code (code ++ restored ticket phase.tasks) (omega (arith, l)))
+      (λ none own-fits. none (own-fits.0, (and_parts (fits places phase.body (task_scope phase.counter)) (is_word phase.tasks) own-fits.1).0)) own
