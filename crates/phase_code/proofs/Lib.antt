@@ -1,3 +1,4 @@
+pub mod Refusing
 pub mod Standing
 pub mod Setting
 pub mod Sharing

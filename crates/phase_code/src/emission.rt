@@ -1,10 +1,12 @@
 //! The code of a phase around that of its tasks.
 
-ghost use Rattle.std.specs.Prelude.{◌≡◌, ◌+◌, ◌-◌, ◌<◌, ◌≤◌, ◌^◌, ◌∷◌, List, OnOk, [], false, length, negsuc, pos};
+ghost use Rattle.std.specs.Prelude.{◌≡◌, ◌+◌, ◌-◌, ◌<◌, ◌≤◌, ◌^◌, ◌∷◌, IfErr, List, OnOk, [], false, length, negsuc, pos};
 ghost use Rattle.rv_insn.specs.declared.instructions.Insn.{Insn as Instruction};
 ghost use Rattle.rv_insn.specs.declared.instructions.Insn.TheVariants as insns;
 ghost use Rattle.rv_insn.specs.declared.operations.BranchOp.TheVariants.{Bgeu, Bne};
 ghost use Rattle.rv_insn.specs.declared.operations.LoadOp.TheVariants.{Lw};
+ghost use Rattle.memory.specs.Addresses.{most_words};
+ghost use Rattle.task_code.specs.Faults.{IsFault};
 ghost use Rattle.task_code.specs.Words.{Emits};
 ghost use Rattle.phase_code.specs.Code as spec;
 
@@ -82,7 +84,8 @@ fn look(code: &mut Vec<u32>) -> Result<(), AllocError>
 /// Appends the gate, and the way over so many words that follow.
 fn emit_gate(code: &mut Vec<u32>, words: usize) -> Result<(), CodeFault>
     requires { words ≤ 2 ^ 30 }
-    ensures { OnOk result (Emits code.old.items code.new.items (spec.door_code false words)) }
+    ensures ok { OnOk result (Emits code.old.items code.new.items (spec.door_code false words)) }
+    ensures err { IfErr result (IsFault (2 ^ 18 ≤ words + 1) ⊥) }
 {
     count_up(code, 0, 14)?;
     look(code)?;
@@ -94,7 +97,8 @@ fn emit_gate(code: &mut Vec<u32>, words: usize) -> Result<(), CodeFault>
 /// Appends the door of a phase: its end, or its gate and the way over so many words that follow.
 fn emit_door(code: &mut Vec<u32>, is_last: bool, words: usize) -> Result<(), CodeFault>
     requires { words ≤ 2 ^ 30 }
-    ensures { OnOk result (Emits code.old.items code.new.items (spec.door_code is_last words)) }
+    ensures ok { OnOk result (Emits code.old.items code.new.items (spec.door_code is_last words)) }
+    ensures err { IfErr result (IsFault (2 ^ 18 ≤ words + 1) ⊥) }
 {
     if is_last {
         put(code, &Insn::Ecall)?;
@@ -133,7 +137,8 @@ fn emit_draw(code: &mut Vec<u32>, is_last: bool) -> Result<(), AllocError>
 /// Appends the code of tasks, and the way back to the draw.
 fn emit_tasks(code: &mut Vec<u32>, words: &[u32]) -> Result<(), CodeFault>
     requires { length words.now < 2 ^ 20 }
-    ensures { OnOk result ((made : List Instruction) → Emits [] words.now made → Emits code.old.items code.new.items (spec.tasks_code made)) }
+    ensures ok { OnOk result ((made : List Instruction) → Emits [] words.now made → Emits code.old.items code.new.items (spec.tasks_code made)) }
+    ensures err { IfErr result (IsFault (2 ^ 18 ≤ length words.now + 2) ⊥) }
 {
     append(code, words)?;
     jump_back(code, words.len() + 2)?;
@@ -144,7 +149,7 @@ fn emit_tasks(code: &mut Vec<u32>, words: &[u32]) -> Result<(), CodeFault>
 ///
 /// # Errors
 ///
-/// Memory ran out, or the words are more than a text may have. Part of the code may then have been appended.
+/// Memory ran out, or the phase has more words than a text may have. Part of the code may then have been appended.
 pub fn emit_phase(
     code: &mut Vec<u32>,
     is_last: bool,
@@ -153,8 +158,10 @@ pub fn emit_phase(
     words: &[u32],
 ) -> Result<(), CodeFault>
     requires { ticket + 4 < 2 ^ 32 }
-    ensures { OnOk result ((made : List Instruction) → Emits [] words.now made
+    ensures ok { OnOk result ((made : List Instruction) → Emits [] words.now made
         → Emits code.old.items code.new.items (spec.phase_code is_last ticket (record { tasks = tasks; insns = made }))) }
+    ensures err { IfErr result (IsFault ((made : List Instruction) → Emits [] words.now made
+        → most_words < length (spec.phase_code is_last ticket (record { tasks = tasks; insns = made }))) ⊥) }
 {
     if words.len() >= 1 << 18 {
         return Err(CodeFault::TooLong);

@@ -5,8 +5,8 @@ use Rattle.task_code.specs.Words.{Emits}
 use Rattle.task_code.proofs.Spelling.{emits_then, emits-apart, emits-length}
 use Rattle.phase_code.proofs.emission.emit_tasks.Goals as goal
 
-pub returns : goal.returns
-returns c = λ is x.
+pub returns-clause-ok : goal.returns-clause-ok
+returns-clause-ok c = λ is x.
     let e : length c.args.words.now ≡ length is = emits-length c.args.words.now is x in
     subst (λ k. Emits c.args.code.now.items c.jump_back.new.code.items (is ++ (Jal 0 (back (k + 2)) ∷ []))) e
-    (emits_then (emits-apart _ _ _ is x c.in_ok-append.ensures.ok) c.in_ok-jump_back.ensures)
+    (emits_then (emits-apart _ _ _ is x c.in_ok-append.ensures.ok) c.in_ok-jump_back.ensures.ok)
