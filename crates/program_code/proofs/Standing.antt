@@ -16,12 +16,12 @@ use Rattle.program_code.specs.Programs.{part_of, parts_from, ProgramsStand}
 -- ---- one phase in front of others
 
 module _ (places : Places) where
-  in-front : (number : ℕ) (part : Part) (others : List Phase)
+  pub in-front : (number : ℕ) (part : Part) (others : List Phase)
       → program number (part ∷ parts_from places (suc number) others) ≡ phase_code (length others == 0) (ticket_word number) part ++ program (suc number) (parts_from places (suc number) others)
   in-front number part [] = sym (append-nil (phase_code true (ticket_word number) part))
   in-front number part (other ∷ others) = let e : (length (other ∷ others) == 0) ≡ false = grind (arith, nat_tests) in rw e refl
 
-  rest-of : (first : Phase) (others : List Phase) → take (length (first ∷ others) - 1) (drop 1 (first ∷ others)) ≡ others
+  pub rest-of : (first : Phase) (others : List Phase) → take (length (first ∷ others) - 1) (drop 1 (first ∷ others)) ≡ others
   rest-of first others = let e : length (first ∷ others) - 1 ≡ length others = omega arith in rw e (take-length others)
 
   pub emits-phases : {old mid new : List ℕ} → (number : ℕ) (phases : List Phase) (phase : Phase) (last : Bool) → 1 ≤ length phases → phase ≡ get_or phases 0 phase

@@ -1,16 +1,18 @@
 -- The words of a program: its phases one behind the other, each around the code of its tasks.
 -- This project's own.
-use Rattle.std.specs.Prelude.{◌≡◌, ◌≤◌, ◌^◌, ℕ, suc, true, List, [], ◌∷◌, length}
+use Rattle.std.specs.Prelude.{◌≡◌, ◌<◌, ◌≤◌, ◌^◌, ℕ, suc, Bool, true, List, [], ◌∷◌, length}
 use Rattle.std.specs.List.{AllByRecursion}
 use Rattle.memory.specs.Addresses.{most_words, text_start}
 use Rattle.lone_hart.specs.Paths.{Stand}
 use Rattle.loop_ir.specs.declared.statements.Phase.{Phase}
 use Rattle.work_sharing.specs.Programs.{ticket_word}
+use Rattle.task_code.specs.declared.CodeFault.{CodeFault}
 use Rattle.task_code.specs.declared.places.Places.{Places}
 use Rattle.task_code.specs.Code.{task_code}
+use Rattle.task_code.specs.Faults.{IsFault, LieLow}
 use Rattle.task_code.specs.Fitting.{fits_task}
 use Rattle.task_code.specs.Words.{Emits}
-use Rattle.phase_code.specs.Code.{Part, program}
+use Rattle.phase_code.specs.Code.{Part, phase_code, program}
 
 -- the phase with this number, where buffers lie so
 abbrev pub part_of : Places → ℕ → Phase → Part
@@ -35,6 +37,25 @@ pub record IsProgram (places : Places) (phases : List Phase) (words : List ℕ) 
   pub fit : AllByRecursion (Fits places) phases
   pub few_tasks : AllByRecursion HasFewTasks phases
   pub few : length words ≤ most_words
+
+-- ---- why there is no program
+
+-- it has more words than a text may have, or a phase has too many tasks
+abbrev pub IsTooLong : Places → ℕ → List Phase → Type 0
+IsTooLong places number phases = AllByRecursion HasFewTasks phases → most_words < length (program number (parts_from places number phases))
+
+-- where frames lie low, the registers and frames don't suffice for each task
+abbrev pub IsTooDeep : Places → List Phase → Type 0
+IsTooDeep places phases = LieLow places.frames → AllByRecursion (Fits places) phases → ⊥
+
+-- of phases, the first of which has this number
+abbrev pub ArePhasesAtFault : Places → ℕ → List Phase → CodeFault → Type 0
+ArePhasesAtFault places number phases = IsFault (IsTooLong places number phases) (IsTooDeep places phases)
+
+-- of one phase
+abbrev pub IsPhaseAtFault : Places → ℕ → Bool → Phase → CodeFault → Type 0
+IsPhaseAtFault places number is_last phase =
+    IsFault (HasFewTasks phase → most_words < length (phase_code is_last (ticket_word number) (part_of places number phase))) (LieLow places.frames → Fits places phase → ⊥)
 
 -- ---- laws
 

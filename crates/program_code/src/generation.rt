@@ -1,6 +1,6 @@
 //! The words of phases, one behind the other.
 
-ghost use Rattle.std.specs.Prelude.{◌≡◌, ◌+◌, ◌<◌, ◌≤◌, ◌==◌, OnOk, IfOk, length};
+ghost use Rattle.std.specs.Prelude.{◌≡◌, ◌+◌, ◌<◌, ◌≤◌, ◌==◌, OnOk, IfErr, IfOk, length};
 ghost use Rattle.std.specs.List.{AllByRecursion};
 ghost use Rattle.task_code.specs.Words.{Emits};
 ghost use Rattle.phase_code.specs.Code.{phase_code, program};
@@ -42,6 +42,7 @@ fn push_phase(
     ensures emits { OnOk result (Emits code.old.items code.new.items (phase_code is_last (ticket_word number) (spec.part_of places.now number phase.now))) }
     ensures fits { OnOk result (spec.Fits places.now phase.now) }
     ensures few { OnOk result (spec.HasFewTasks phase.now) }
+    ensures err { IfErr result (spec.IsPhaseAtFault places.now number is_last phase.now) }
 {
     if phase.tasks > MOST_TASKS {
         return Err(CodeFault::TooLong);
@@ -65,6 +66,7 @@ fn push_phases(
     ensures emits { OnOk result (Emits code.old.items code.new.items (program number (spec.parts_from places.now number phases.now))) }
     ensures fit { OnOk result (AllByRecursion (spec.Fits places.now) phases.now) }
     ensures few { OnOk result (AllByRecursion spec.HasFewTasks phases.now) }
+    ensures err { IfErr result (spec.ArePhasesAtFault places.now number phases.now) }
 {
     let [phase, others @ ..] = phases else {
         return Ok(());
@@ -78,10 +80,11 @@ fn push_phases(
 ///
 /// # Errors
 ///
-/// Memory ran out, the program is longer than a text may be, a phase has more than 2^31 tasks, or an expression or a nest of
+/// Memory ran out; the program is longer than a text may be, or a phase has more than 2^31 tasks; or an expression or a nest of
 /// loops has no registers left.
 pub fn generate(alloc: Global, phases: &[Phase], places: &Places) -> Result<Vec<u32>, CodeFault>
-    ensures { IfOk result (λ words. spec.IsProgram places.now phases.now words.items) }
+    ensures ok { IfOk result (λ words. spec.IsProgram places.now phases.now words.items) }
+    ensures err { IfErr result (spec.ArePhasesAtFault places.now 0 phases.now) }
 {
     if phases.len() > MOST_PHASES {
         return Err(CodeFault::TooLong);
