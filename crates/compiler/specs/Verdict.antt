@@ -1,7 +1,7 @@
 -- Why an algorithm under a schedule isn't compiled: the first fault that stands. The algorithm's text is judged first, then the schedule's,
 -- how heavy the schedule is, the boxes, and how many registers expressions need.
 -- This project's own.
-use Rattle.std.specs.Prelude.{◌≡◌, ◌⊎◌, ℕ, nat_lt, if◌then◌else◌, List, Option, Some, None, Result, Ok, Err}
+use Rattle.std.specs.Prelude.{◌≡◌, ◌⊎◌, ℕ, nat_lt, if◌then◌else◌, List, length, Option, Some, None, Result, Ok, Err}
 use Rattle.std.specs.declared.alloc.Global.{Global}
 use Rattle.halide_pipeline.specs.Pipelines.{Pipeline}
 use Rattle.halide_syntax.specs.declared.faults.ParseFault.{ParseFault}
@@ -16,6 +16,12 @@ use Rattle.weights.specs.Weight.{weight, most_weight}
 use Rattle.bounds.specs.declared.faults.BoundsFault.{BoundsFault}
 use Rattle.bounds.specs.declared.verdict.Boxes.{Boxes}
 use Rattle.bounds.specs.Verdict.{inferred}
+use Rattle.loop_ir.specs.declared.statements.Phase.{Phase}
+use Rattle.lowering.specs.Lowered.{AreLowered, HaveFewCounters}
+use Rattle.task_code.specs.declared.CodeFault.{CodeFault}
+use Rattle.task_code.specs.declared.CodeFault.TheVariants as codes
+use Rattle.phase_memory.specs.Places.{places_of}
+use Rattle.program_code.specs.Programs.{ArePhasesAtFault}
 use Rattle.compiler.specs.declared.faults.CompileFault.{CompileFault}
 use Rattle.compiler.specs.declared.faults.CompileFault.TheVariants as faults
 
@@ -41,17 +47,40 @@ by_algorithm schedule (Err fault) = Some (faults.Parse fault.0 fault.1)
 unfoldable pub refusal_of : Global → List ℕ → List ℕ → Option CompileFault
 refusal_of alloc algorithm schedule = by_algorithm schedule (parsed alloc algorithm)
 
--- The code is more than a machine's text may have, or its loops are more than there are registers for. (No accepted texts are known that
--- come to either, but that none do isn't proved.)
-abbrev pub IsLimit : CompileFault → Type 0
-IsLimit fault = (fault ≡ faults.TooLong) ⊎ (fault ≡ faults.TooManyLoops)
+-- The phases of a pipeline under an accepted schedule have no program, and this stands of them.
+pub record HasNoProgram (pipeline : Pipeline) (schedule : Schedule) (fault : CodeFault) : Type 0 where
+  pub boxes : Boxes
+  pub inferred_is : inferred pipeline schedule ≡ Ok boxes
+  pub phases : List Phase
+  pub are_lowered : AreLowered pipeline schedule boxes (length pipeline.funcs) phases
+  pub few_counters : HaveFewCounters phases
+  pub stands : ArePhasesAtFault (places_of pipeline schedule boxes.funcs boxes.layout) 0 phases fault
 
-abbrev pub IsLimitOrMemory : CompileFault → Type 0
-IsLimitOrMemory fault = (fault ≡ faults.Memory) ⊎ IsLimit fault
+-- They have more words than a machine's text may have, or they need more registers than there are. (No accepted texts are known that come
+-- to either, but that none do isn't proved.)
+abbrev pub IsLimit : Pipeline → Schedule → CompileFault → Type 0
+IsLimit pipeline schedule fault =
+    ((fault ≡ faults.TooLong) × HasNoProgram pipeline schedule codes.TooLong) ⊎ ((fault ≡ faults.TooManyLoops) × HasNoProgram pipeline schedule codes.TooDeep)
 
--- The fault is the first that stands. Where none does, memory ran out, or the code is more than fits.
-abbrev pub IsRefusal : Option CompileFault → CompileFault → Type 0
-IsRefusal wanted fault = (wanted ≡ Some fault) ⊎ ((fault ≡ faults.Memory) ⊎ ((wanted ≡ None) × IsLimit fault))
+abbrev pub IsLimitOrMemory : Pipeline → Schedule → CompileFault → Type 0
+IsLimitOrMemory pipeline schedule fault = (fault ≡ faults.Memory) ⊎ IsLimit pipeline schedule fault
+
+-- The fault is the first that stands. Where none does, memory ran out, or the phases have no program.
+abbrev pub IsRefusal : Pipeline → Schedule → Option CompileFault → CompileFault → Type 0
+IsRefusal pipeline schedule wanted fault = (wanted ≡ Some fault) ⊎ ((fault ≡ faults.Memory) ⊎ ((wanted ≡ None) × IsLimit pipeline schedule fault))
+
+-- what two texts mean, and no program of it
+pub record IsLimitOf (alloc : Global) (algorithm schedule : List ℕ) (fault : CompileFault) : Type 0 where
+  pub pipeline : Pipeline
+  pub algorithm_is : parsed alloc algorithm ≡ Ok pipeline
+  pub own : Schedule
+  pub schedule_is : read pipeline schedule ≡ Ok own
+  pub limit : IsLimit pipeline own fault
+
+-- The fault is the first that stands of two texts. Where none does, memory ran out, or the phases that they mean have no program.
+abbrev pub IsRefusalOf : Global → List ℕ → List ℕ → CompileFault → Type 0
+IsRefusalOf alloc algorithm schedule fault =
+    (refusal_of alloc algorithm schedule ≡ Some fault) ⊎ ((fault ≡ faults.Memory) ⊎ ((refusal_of alloc algorithm schedule ≡ None) × IsLimitOf alloc algorithm schedule fault))
 
 -- The fault stands first, or memory ran out.
 abbrev pub IsFirst : Option CompileFault → CompileFault → Type 0

@@ -44,7 +44,7 @@ fn words_of(
     requires accepted { IsAccepted pipeline.now schedule.now }
     requires boxes { inferred pipeline.now schedule.now ≡ Ok boxes.now }
     ensures ok { IfOk result (λ words. AreWordsOf pipeline.now schedule.now boxes.now words.items) }
-    ensures err { IfErr result spec.IsLimitOrMemory }
+    ensures err { IfErr result (spec.IsLimitOrMemory pipeline.now schedule.now) }
 {
     let phases = lower(alloc, pipeline, schedule, boxes)?;
     let places = places(alloc, pipeline, schedule, boxes)?;
@@ -59,7 +59,7 @@ fn built(alloc: Global, pipeline: Pipeline, schedule: Schedule) -> Result<Compil
     ensures pipeline { IfOk result (λ own. own.pipeline ≡ pipeline) }
     ensures schedule { IfOk result (λ own. own.schedule ≡ schedule) }
     ensures passed { IfOk result (λ own. spec.by_weight pipeline schedule (weight pipeline schedule) ≡ None) }
-    ensures err { IfErr result (spec.IsRefusal (spec.by_weight pipeline schedule (weight pipeline schedule))) }
+    ensures err { IfErr result (spec.IsRefusal pipeline schedule (spec.by_weight pipeline schedule (weight pipeline schedule))) }
 {
     let boxes = judged(alloc, &pipeline, &schedule)?;
     let words = words_of(alloc, &pipeline, &schedule, &boxes)?;
@@ -83,7 +83,7 @@ pub fn compile(algorithm: &str, schedule: &str, alloc: Global) -> Result<Compile
     ensures means { IfOk result (Means alloc algorithm.now schedule.now) }
     ensures passed { IfOk result (λ compiled. spec.refusal_of alloc algorithm.now schedule.now ≡ None) }
     ensures rules { IfOk result IsCompiled }
-    ensures err { IfErr result (spec.IsRefusal (spec.refusal_of alloc algorithm.now schedule.now)) }
+    ensures err { IfErr result (spec.IsRefusalOf alloc algorithm.now schedule.now) }
 {
     let pipeline = parse(algorithm, alloc)?;
     let schedule = read(schedule, &pipeline, alloc)?;
