@@ -1,6 +1,7 @@
 pub mod Depths
 pub mod Folds
 pub mod Loads
+pub mod Needs
 pub mod Points
 pub mod Sound
 pub mod Stored
