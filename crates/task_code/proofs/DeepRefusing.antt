@@ -1,28 +1,40 @@
 -- What has no room in a part of an expression whose values may wait in the frame has none in the whole.
-use Rattle.std.proofs.Common.{◌≡◌, ℕ, ◌+◌, ◌<◌, ◌≤◌, ◌^◌, List, Bool, true, false, ap, ◌∙◌, sym, subst, arith}
-use Rattle.std.specs.Prelude.{◌&&◌, nat_lt, max, min, if◌then◌else◌}
-use Rattle.std.proofs.lemmas.Bool.{and_parts}
-use Rattle.std.proofs.lemmas.Bool.Decides.{nat_tests}
-use Rattle.rv_insn.specs.declared.instructions.Insn.{Insn}
+use Rattle.std.proofs.Common.{◌≡◌, ℕ, ◌+◌, ◌<◌, ◌≤◌, ◌^◌, Bool, true, false, List, Option, Some, None, refl, ap, ◌∙◌, sym, subst, arith, inl, inr}
+use Rattle.std.specs.Prelude.{max, min, if◌then◌else◌}
 use Rattle.halide_pipeline.specs.declared.expressions.Operation.{Operation}
 use Rattle.halide_pipeline.specs.declared.expressions.Source.{Source}
 use Rattle.loop_ir.specs.declared.expressions.Counter.{Counter}
 use Rattle.loop_ir.specs.declared.expressions.Expr.{Expr}
 use Rattle.loop_ir.specs.declared.expressions.Expr.TheVariants as e
 use Rattle.loop_ir.specs.declared.expressions.Linear.{Linear}
-use Rattle.loop_ir.proofs.Folds.{at_number, at_linear, at_binary, at_divide, at_remainder, at_select, at_load}
+use Rattle.loop_ir.specs.Needs.{Need, beside_first, divisor_need, need_of, need}
+use Rattle.loop_ir.proofs.Folds.{at_number, at_linear}
+use Rattle.loop_ir.proofs.Needs.{need_binary, need_divide, need_remainder, need_select, need_load}
 use Rattle.task_code.specs.declared.places.Places.{Places}
-use Rattle.task_code.specs.Code.{Made, Deep, on_stack, deep_or, deep_at, deep, made, made_at, frame_words}
-use Rattle.task_code.specs.Faults.{FitsStack, FitsFrame, LieLow}
-use Rattle.task_code.proofs.Deepening.{no-room, is-deep}
+use Rattle.task_code.specs.Code.{Made, made, made_at, frame_words}
+use Rattle.task_code.specs.Faults.{FitsStack, FitsFrame, HasRoom, LieLow}
+use Rattle.task_code.proofs.Refusing.{sized, divisor-some}
+
+few-words : (frames : Option ℕ) → frame_words frames ≤ 1024
+few-words None = omega arith
+few-words (Some start) = omega arith
 
 module _ (places : Places) (scope : List Counter) where
   abbrev pub Fits : Expr → ℕ → Type 0
-  Fits own word = FitsFrame places.frames (deep places scope own) word
+  Fits own word = FitsFrame places.frames own word
 
-  pub no-stack : (own : Expr) (k word : ℕ) → k ≡ min (made places scope own).need 100 → k ≤ 12 → (FitsStack (made places scope own) 20 → ⊥) → Fits own word → ⊥
-  no-stack own k word ek few none fits =
-      none (omega (arith, ek, few), ap (λ (m : Made). m.is_word) (sym (is-deep places scope own).own_is) ∙ fits.1.1)
+  -- what has room is no quotient by 0
+  small : (n word : ℕ) → HasRoom places.frames n word → n < 2 ^ 32
+  small n word room = let w = few-words places.frames in elim room [
+    | inl few ↦ omega (arith, few)
+    | inr fits ↦ omega (arith, fits, w)
+  ]
+
+  made-is : (own : Expr) (word : ℕ) → HasRoom places.frames (need own) word → (made places scope own).need ≡ need own
+  made-is own word room = (sized places scope own).same (small (need own) word room)
+
+  pub no-stack : (own : Expr) (k word : ℕ) → k ≡ min (made places scope own).need 100 → k ≤ 12 → (FitsStack own 20 → ⊥) → Fits own word → ⊥
+  no-stack own k word ek few none fits = let is = made-is own word fits.1 in none (omega (arith, ek, few, is))
 
   -- a leaf needs one register
   pub no-number : (own : Expr) (k n : ℕ) → k ≡ min (made places scope own).need 100 → 12 < k → own ≡ e.Number n → ⊥
@@ -37,13 +49,16 @@ module _ (places : Places) (scope : List Counter) where
       let is : (made places scope own).need ≡ 1 = ap (λ (x : Expr). (made places scope x).need) eo ∙ ap (λ (m : Made). m.need) (at_linear Made (made_at places scope) linear) in
       omega (arith, ek, many, is)
 
-  -- what stands where the frame serves
-  through : (own : Expr) (k word : ℕ) (m : Made) (depth : ℕ) (code : ℕ → List Insn) → k ≡ min (made places scope own).need 100 → 12 < k → deep places scope own ≡ deep_or m depth code
-      → Fits own word → LieLow places.frames × ((depth + word ≤ frame_words places.frames) × (m.is_word ≡ true))
-  through own k word m depth code ek many is fits =
-      let t : on_stack m ≡ false = ap (λ (d : Deep). on_stack d.own) (sym is) ∙ ap on_stack (is-deep places scope own).own_is ∙ no-room (made places scope own).need k ek many in
-      let at = subst (λ (d : Deep). FitsFrame places.frames d word) is fits in
-      (at.0, (subst (λ (n : ℕ). n + word ≤ frame_words places.frames) (ap (λ (b : Bool). if b then 0 else depth) t) at.1.0, at.1.1))
+  -- where the stack has no room the frame has
+  framed : (own : Expr) (k word : ℕ) → k ≡ min (made places scope own).need 100 → 12 < k → Fits own word → need own + word ≤ frame_words places.frames
+  framed own k word ek many fits = let is = made-is own word fits.1 in elim fits.1 [
+    | inl few ↦ absurd (omega (arith, ek, many, is, few))
+    | inr room ↦ room
+  ]
+
+  through : (own whole : Expr) (k word : ℕ) (n : Need) → k ≡ min (made places scope own).need 100 → 12 < k → own ≡ whole → need_of whole ≡ n → Fits own word → n.count + word ≤ frame_words places.frames
+  through own whole k word n ek many eo en fits =
+      subst (λ (y : Need). y.count + word ≤ frame_words places.frames) (ap need_of eo ∙ en) (framed own k word ek many fits)
 
   part : (x a : Expr) (word : ℕ) → x ≡ a → Fits a word → Fits x word
   part x a word ex fits = subst (λ (y : Expr). Fits y word) (sym ex) fits
@@ -54,45 +69,36 @@ module _ (places : Places) (scope : List Counter) where
     pub low : LieLow places.frames
     pub room : word < frame_words places.frames
 
-  pair-fits : (a b : Expr) (word : ℕ) → LieLow places.frames
-      × ((max (deep places scope a).depth (1 + (deep places scope b).depth) + word ≤ frame_words places.frames) × (((deep places scope a).own.is_word && (deep places scope b).own.is_word) ≡ true)) → PairFits a b word
-  pair-fits a b word is =
-      let words = and_parts (deep places scope a).own.is_word (deep places scope b).own.is_word is.1.1 in
-      let room = is.1.0 in
+  pair-fits : (a b : Expr) (word : ℕ) → LieLow places.frames → max (need a) (beside_first (need_of b)) + word ≤ frame_words places.frames → PairFits a b word
+  pair-fits a b word low room =
+      let s = (sized places scope a).some in
       record {
-        first = (is.0, (omega (arith, room), words.0));
-        second = (is.0, (omega (arith, room), words.1));
-        low = is.0;
-        room = omega (arith, room);
+        first = (low, inr (omega (arith, room)));
+        second = (low, by-leaf (need_of b).is_leaf (sized places scope b).one room);
+        low = low;
+        room = omega (arith, room, s);
       }
+    where
+      by-leaf : (t : Bool) → (t ≡ true → need b ≡ 1) → max (need a) (if t then 0 else 1 + need b) + word ≤ frame_words places.frames → HasRoom places.frames (need b) (word + 1)
+      by-leaf true one l = let is = one refl in inl (omega (arith, is))
+      by-leaf false one l = inr (omega (arith, l))
 
   pub binary-fits : (own : Expr) (k word : ℕ) (o : Operation) (a b : Expr) → k ≡ min (made places scope own).need 100 → 12 < k → own ≡ e.Binary o a b → Fits own word → PairFits a b word
-  unfolding deep
-  binary-fits own k word o a b ek many eo fits =
-      pair-fits a b word (through own k word _ _ _ ek many (ap (deep places scope) eo ∙ at_binary Deep (deep_at places scope) o a b) fits)
+  binary-fits own k word o a b ek many eo fits = pair-fits a b word fits.0 (through own (e.Binary o a b) k word _ ek many eo (need_binary o a b) fits)
 
   pub load-fits : (own : Expr) (k word : ℕ) (source : Source) (a b : Expr) → k ≡ min (made places scope own).need 100 → 12 < k → own ≡ e.Load source a b → Fits own word → PairFits a b word
-  unfolding deep
-  load-fits own k word source a b ek many eo fits =
-      pair-fits a b word (through own k word _ _ _ ek many (ap (deep places scope) eo ∙ at_load Deep (deep_at places scope) source a b) fits)
+  load-fits own k word source a b ek many eo fits = pair-fits a b word fits.0 (through own (e.Load source a b) k word _ ek many eo (need_load source a b) fits)
 
-  divided-fits : (a : Expr) (c word : ℕ) → LieLow places.frames
-      × (((deep places scope a).depth + word ≤ frame_words places.frames) × (((deep places scope a).own.is_word && (nat_lt 0 c && nat_lt c (2 ^ 32))) ≡ true)) → Fits a word × (0 < c)
-  divided-fits a c word is =
-      let words = and_parts (deep places scope a).own.is_word (nat_lt 0 c && nat_lt c (2 ^ 32)) is.1.1 in
-      let some = and_parts (nat_lt 0 c) (nat_lt c (2 ^ 32)) words.1 in
-      let t = some.0 in
-      ((is.0, (is.1.0, words.0)), grind (arith, nat_tests, t))
+  divided-fits : (a : Expr) (c word : ℕ) → LieLow places.frames → max (need a) (divisor_need c) + word ≤ frame_words places.frames → Fits a word × (0 < c)
+  divided-fits a c word low room =
+      let w = few-words places.frames in
+      ((low, inr (omega (arith, room))), (divisor-some c (omega (arith, room, w))).0)
 
   pub divide-fits : (own : Expr) (k word : ℕ) (a : Expr) (c : ℕ) → k ≡ min (made places scope own).need 100 → 12 < k → own ≡ e.Divide a c → Fits own word → Fits a word × (0 < c)
-  unfolding deep
-  divide-fits own k word a c ek many eo fits =
-      divided-fits a c word (through own k word _ _ _ ek many (ap (deep places scope) eo ∙ at_divide Deep (deep_at places scope) a c) fits)
+  divide-fits own k word a c ek many eo fits = divided-fits a c word fits.0 (through own (e.Divide a c) k word _ ek many eo (need_divide a c) fits)
 
   pub remainder-fits : (own : Expr) (k word : ℕ) (a : Expr) (c : ℕ) → k ≡ min (made places scope own).need 100 → 12 < k → own ≡ e.Remainder a c → Fits own word → Fits a word × (0 < c)
-  unfolding deep
-  remainder-fits own k word a c ek many eo fits =
-      divided-fits a c word (through own k word _ _ _ ek many (ap (deep places scope) eo ∙ at_remainder Deep (deep_at places scope) a c) fits)
+  remainder-fits own k word a c ek many eo fits = divided-fits a c word fits.0 (through own (e.Remainder a c) k word _ ek many eo (need_remainder a c) fits)
 
   pub record TripleFits (c a b : Expr) (word : ℕ) : Type 0 where
     pub first : Fits c word
@@ -102,18 +108,15 @@ module _ (places : Places) (scope : List Counter) where
     pub room : word + 1 < frame_words places.frames
 
   pub select-fits : (own : Expr) (k word : ℕ) (c a b : Expr) → k ≡ min (made places scope own).need 100 → 12 < k → own ≡ e.Select c a b → Fits own word → TripleFits c a b word
-  unfolding deep
   select-fits own k word c a b ek many eo fits =
-      let is = through own k word _ _ _ ek many (ap (deep places scope) eo ∙ at_select Deep (deep_at places scope) c a b) fits in
-      let words = and_parts (deep places scope c).own.is_word _ is.1.1 in
-      let others = and_parts (deep places scope a).own.is_word (deep places scope b).own.is_word words.1 in
-      let room = is.1.0 in
+      let room = through own (e.Select c a b) k word _ ek many eo (need_select c a b) fits in
+      let s = (sized places scope b).some in
       record {
-        first = (is.0, (omega (arith, room), words.0));
-        second = (is.0, (omega (arith, room), others.0));
-        third = (is.0, (omega (arith, room), others.1));
-        low = is.0;
-        room = omega (arith, room);
+        first = (fits.0, inr (omega (arith, room)));
+        second = (fits.0, inr (omega (arith, room)));
+        third = (fits.0, inr (omega (arith, room)));
+        low = fits.0;
+        room = omega (arith, room, s);
       }
 
   -- no part fits, or no word is left

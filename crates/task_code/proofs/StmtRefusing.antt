@@ -1,8 +1,6 @@
 -- What is too long or too deep in a part of a statement is so in the whole.
-use Rattle.std.proofs.Common.{◌≡◌, ℕ, ◌+◌, ◌^◌, ◌<◌, ◌≤◌, List, [], ◌∷◌, ◌++◌, length, true, refl, ap, ◌∙◌, sym, subst, arith, length-append}
-use Rattle.std.specs.Prelude.{nat_lt, Result, IfErr, IsErrAnd}
-use Rattle.std.proofs.lemmas.Bool.{and_parts}
-use Rattle.std.proofs.lemmas.Bool.Decides.{nat_tests}
+use Rattle.std.proofs.Common.{◌≡◌, ℕ, ◌+◌, ◌^◌, ◌<◌, ◌≤◌, List, [], ◌∷◌, ◌++◌, length, Option, Some, None, inl, inr, refl, ap, ◌∙◌, sym, subst, arith, length-append}
+use Rattle.std.specs.Prelude.{max, Result, IfErr, IsErrAnd}
 use Rattle.rv_insn.specs.declared.instructions.Insn.{Insn}
 use Rattle.loop_ir.specs.declared.expressions.Counter.{Counter}
 use Rattle.loop_ir.specs.declared.statements.LoopKind.{LoopKind}
@@ -11,15 +9,18 @@ use Rattle.loop_ir.specs.declared.statements.Store.{Store}
 use Rattle.loop_ir.specs.declared.statements.Stmt.{Stmt}
 use Rattle.loop_ir.specs.declared.statements.Stmt.TheVariants as s
 use Rattle.loop_ir.specs.declared.statements.Whole.{Whole}
+use Rattle.loop_ir.specs.Depths.{depth, count_of}
+use Rattle.loop_ir.specs.Needs.{store_need, greatest_need}
+use Rattle.loop_ir.proofs.Depths.{depth_sequence, depth_for, depth_bind}
+use Rattle.loop_ir.proofs.Needs.{greatest_store, greatest_sequence, greatest_for, greatest_bind}
 use Rattle.task_code.specs.declared.CodeFault.{CodeFault}
 use Rattle.task_code.specs.declared.places.Places.{Places}
 use Rattle.task_code.specs.Code.{seat, loop_code, loop_tail, bind_code, test, whole_code, stmt_code, task_scope, restored}
-use Rattle.task_code.specs.Faults.{IsLong, IsStmtFault, IsTaskFault, FitsStore, FitsStmt}
-use Rattle.task_code.specs.Fitting.{is_word, has_seat, fits_whole, fits}
+use Rattle.task_code.specs.Faults.{IsLong, IsStmtFault, IsTaskFault, HasRoom, FitsStore, FitsStmt, FitsTask}
 use Rattle.task_code.specs.Tasks.{EmitsStmt}
 use Rattle.task_code.proofs.Refusing.{passed}
 use Rattle.task_code.proofs.Spelling.{emits-length}
-use Rattle.task_code.proofs.Unrolled.{code-sequence, code-for, code-bind, fits-store, fits-sequence, fits-for, fits-bind}
+use Rattle.task_code.proofs.Unrolled.{code-sequence, code-for, code-bind}
 
 -- ---- lengths
 
@@ -37,14 +38,18 @@ bind-length scope whole extent r body =
 grown : (a b : List Insn) → length a ≤ length b → IsLong a → IsLong b
 grown a b l is = omega (arith, l, is)
 
-few-seats : (n : ℕ) → 14 ≤ n → nat_lt n 14 ≡ true → ⊥
-few-seats n l t = let k : n < 14 = grind (arith, nat_tests, t) in omega (arith, l, k)
+-- what needs less has room too
+pub less-room : (frames : Option ℕ) (m n word : ℕ) → n ≤ m → HasRoom frames m word → HasRoom frames n word
+less-room frames m n word l room = elim room [
+  | inl few ↦ inl (omega (arith, l, few))
+  | inr fits ↦ inr (omega (arith, l, fits))
+]
 
 module _ (places : Places) where
   -- what is too long or too deep in the part is so in the whole
   pub record IsPart (part : Stmt) (inner : List Counter) (own : Stmt) (scope : List Counter) : Type 0 where
     pub long : IsLong (stmt_code places part inner) → IsLong (stmt_code places own scope)
-    pub room : FitsStmt places own scope → FitsStmt places part inner
+    pub room : FitsStmt places own (length scope) → FitsStmt places part (length inner)
 
   pub part-passed : {T : Type 0} {part own : Stmt} {inner scope : List Counter} (r : Result T CodeFault) (fault : CodeFault) → IsErrAnd r (λ error. error ≡ fault) → IsPart part inner own scope
       → IsStmtFault places part inner fault → IfErr r (IsStmtFault places own scope)
@@ -57,16 +62,23 @@ module _ (places : Places) where
   whole-is : {part whole : Stmt} {inner scope : List Counter} (own : Stmt) → own ≡ whole → IsPart part inner whole scope → IsPart part inner own scope
   whole-is {part} {whole} {inner} {scope} own e is = subst (λ (y : Stmt). IsPart part inner y scope) (sym e) is
 
-  pub no-store : (own : Stmt) (store : Store) (scope : List Counter) → own ≡ s.Store store → (FitsStore places scope store → ⊥) → FitsStmt places own scope → ⊥
+  pub no-store : (own : Stmt) (store : Store) (scope : List Counter) → own ≡ s.Store store → (FitsStore places store → ⊥) → FitsStmt places own (length scope) → ⊥
   no-store own store scope e none is =
-      none (is.0, sym (fits-store places store scope) ∙ sym (ap (λ (y : Stmt). fits places y scope) e) ∙ is.1)
+      none (is.0, subst (λ (n : ℕ). HasRoom places.frames n 0) (ap greatest_need e ∙ greatest_store store) is.1.0)
+
+  -- a part that needs no more, among no more counters
+  less-fits : (part own : Stmt) (inner outer : ℕ) → greatest_need part ≤ greatest_need own → inner + depth part ≤ outer + depth own → FitsStmt places own outer → FitsStmt places part inner
+  less-fits part own inner outer few flat is =
+      let seats = is.1.1 in
+      (is.0, (less-room places.frames (greatest_need own) (greatest_need part) 0 few is.1.0, omega (arith, flat, seats)))
 
   first-is : (first second : Stmt) (scope : List Counter) → IsPart first scope (s.Sequence first second) scope
   first-is first second scope = record {
     long = let l : length (stmt_code places (s.Sequence first second) scope) ≡ length (stmt_code places first scope) + length (stmt_code places second scope)
         = ap length (code-sequence places first second scope) ∙ length-append (stmt_code places first scope) (stmt_code places second scope) in
         grown (stmt_code places first scope) (stmt_code places (s.Sequence first second) scope) (omega (arith, l));
-    room = λ is. (is.0, (and_parts (fits places first scope) (fits places second scope) (sym (fits-sequence places first second scope) ∙ is.1)).0);
+    room = let g = greatest_sequence first second in let d = depth_sequence first second in
+        less-fits first (s.Sequence first second) (length scope) (length scope) (omega (arith, g)) (omega (arith, d));
   }
 
   second-is : (first second : Stmt) (scope : List Counter) → IsPart second scope (s.Sequence first second) scope
@@ -74,7 +86,8 @@ module _ (places : Places) where
     long = let l : length (stmt_code places (s.Sequence first second) scope) ≡ length (stmt_code places first scope) + length (stmt_code places second scope)
         = ap length (code-sequence places first second scope) ∙ length-append (stmt_code places first scope) (stmt_code places second scope) in
         grown (stmt_code places second scope) (stmt_code places (s.Sequence first second) scope) (omega (arith, l));
-    room = λ is. (is.0, (and_parts (fits places first scope) (fits places second scope) (sym (fits-sequence places first second scope) ∙ is.1)).1);
+    room = let g = greatest_sequence first second in let d = depth_sequence first second in
+        less-fits second (s.Sequence first second) (length scope) (length scope) (omega (arith, g)) (omega (arith, d));
   }
 
   pub first-part : (own first second x : Stmt) (scope : List Counter) → own ≡ s.Sequence first second → x ≡ first → IsPart x scope own scope
@@ -94,9 +107,8 @@ module _ (places : Places) where
   for-is counter count kind body scope = record {
     long = let l = for-length counter count kind body scope in
         grown (stmt_code places body (counter ∷ scope)) (stmt_code places (s.For counter count kind body) scope) (omega (arith, l));
-    room = λ is.
-        let k = and_parts (has_seat scope) _ (sym (fits-for places counter count kind body scope) ∙ is.1) in
-        (is.0, (and_parts (is_word count) (fits places body (counter ∷ scope)) k.1).1);
+    room = let g = greatest_for counter count kind body in let d = depth_for counter count kind body in
+        less-fits body (s.For counter count kind body) (length (counter ∷ scope)) (length scope) (omega (arith, g)) (omega (arith, d));
   }
 
   pub for-part : (own body x : Stmt) (counter : Counter) (count : ℕ) (kind : LoopKind) (scope view items : List Counter) → own ≡ s.For counter count kind body → x ≡ body → view ≡ items
@@ -111,10 +123,9 @@ module _ (places : Places) where
       omega (arith, n, l, long)
 
   pub for-seatless : (own body : Stmt) (counter : Counter) (count : ℕ) (kind : LoopKind) (scope : List Counter) → own ≡ s.For counter count kind body → 14 ≤ length scope
-      → FitsStmt places own scope → ⊥
+      → FitsStmt places own (length scope) → ⊥
   for-seatless own body counter count kind scope e many is =
-      few-seats (length scope) many
-      (and_parts (has_seat scope) _ (sym (fits-for places counter count kind body scope) ∙ sym (ap (λ (y : Stmt). fits places y scope) e) ∙ is.1)).0
+      let d = ap depth e ∙ depth_for counter count kind body in let seats = is.1.1 in omega (arith, d, many, seats)
 
   -- ---- values of split loops
 
@@ -129,10 +140,8 @@ module _ (places : Places) where
   bind-is counter whole extent body scope = record {
     long = let l = bind-grown counter whole extent body scope in
         grown (stmt_code places body (counter ∷ scope)) (stmt_code places (s.Bind counter whole extent body) scope) (omega (arith, l));
-    room = λ is.
-        let k = and_parts (has_seat scope) _ (sym (fits-bind places counter whole extent body scope) ∙ is.1) in
-        let j = and_parts (fits_whole whole) _ k.1 in
-        (is.0, (and_parts (is_word extent) (fits places body (counter ∷ scope)) j.1).1);
+    room = let g = greatest_bind counter whole extent body in let d = depth_bind counter whole extent body in
+        less-fits body (s.Bind counter whole extent body) (length (counter ∷ scope)) (length scope) (omega (arith, g)) (omega (arith, d));
   }
 
   pub bind-part : (own body x : Stmt) (counter : Counter) (whole : Whole) (extent : ℕ) (scope view items : List Counter) → own ≡ s.Bind counter whole extent body → x ≡ body → view ≡ items
@@ -148,10 +157,9 @@ module _ (places : Places) where
       omega (arith, n, is, l, long)
 
   pub bind-seatless : (own body : Stmt) (counter : Counter) (whole : Whole) (extent : ℕ) (scope : List Counter) → own ≡ s.Bind counter whole extent body → 14 ≤ length scope
-      → FitsStmt places own scope → ⊥
+      → FitsStmt places own (length scope) → ⊥
   bind-seatless own body counter whole extent scope e many is =
-      few-seats (length scope) many
-      (and_parts (has_seat scope) _ (sym (fits-bind places counter whole extent body scope) ∙ sym (ap (λ (y : Stmt). fits places y scope) e) ∙ is.1)).0
+      let d = ap depth e ∙ depth_bind counter whole extent body in let seats = is.1.1 in omega (arith, d, many, seats)
 
   -- ---- a task
 
@@ -162,4 +170,8 @@ module _ (places : Places) where
       let code = stmt_code places phase.body (task_scope phase.counter) in
       let l = length-append code (restored ticket phase.tasks) in
       passed r fault from (grown code (code ++ restored ticket phase.tasks) (omega (arith, l)))
-      (λ none own-fits. none (own-fits.0, (and_parts (fits places phase.body (task_scope phase.counter)) (is_word phase.tasks) own-fits.1).0)) own
+      (λ none own-fits. none (own-fits.0, (own-fits.1.0, seats phase.counter own-fits.1.1))) own
+    where
+      seats : (counter : Option Counter) → count_of counter + depth phase.body ≤ 14 → length (task_scope counter) + depth phase.body ≤ 14
+      seats None few = few
+      seats (Some own) few = few

@@ -189,7 +189,7 @@ pub(crate) fn emit_value(
 ) -> Result<(), CodeFault>
     requires { r < 32 }
     ensures ok { OnOk result (EmitsValue code.old.items code.new.items (made places.now scope.now e.now) r) }
-    ensures err { IfErr result (IsFault ⊥ (FitsStack (made places.now scope.now e.now) r → ⊥)) }
+    ensures err { IfErr result (IsFault ⊥ (FitsStack e.now r → ⊥)) }
 {
     match e {
         Expr::Number(n) => {

@@ -157,7 +157,7 @@ pub(crate) fn emit_deep(
 ) -> Result<(), CodeFault>
     requires { word ≤ frame_words places.now.frames }
     ensures ok { OnOk result (EmitsDeep code.old.items code.new.items places.now.frames (deep places.now scope.now e.now) word) }
-    ensures err { IfErr result (IsFault ⊥ (FitsFrame places.now.frames (deep places.now scope.now e.now) word → ⊥)) }
+    ensures err { IfErr result (IsFault ⊥ (FitsFrame places.now.frames e.now word → ⊥)) }
 {
     if need(e) <= 12 {
         emit_value(code, places, scope, e, 20)?;

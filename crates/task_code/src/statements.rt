@@ -58,7 +58,7 @@ fn emit_store(
     store: &Store,
 ) -> Result<(), CodeFault>
     ensures ok { OnOk result (Emits code.old.items code.new.items (spec.store_code places.now scope.now store.now) × (fits_store places.now scope.now store.now ≡ true)) }
-    ensures err { IfErr result (IsFault ⊥ (FitsStore places.now scope.now store.now → ⊥)) }
+    ensures err { IfErr result (IsFault ⊥ (FitsStore places.now store.now → ⊥)) }
 {
     emit_deep(code, places, scope, &store.x, 0)?;
     emit_move(code, 15, 20)?;

@@ -1,5 +1,6 @@
+use Rattle.std.proofs.Common.{◌+◌}
 use Rattle.task_code.proofs.Emission.{binary-emitted, divide-emitted, remainder-emitted, select-emitted, load-emitted}
-use Rattle.task_code.proofs.Refusing.{passed, binary-parts, load-parts, no-beside, no-second, divide-parts, remainder-parts, no-first, no-divisor, no-third}
+use Rattle.task_code.proofs.Refusing.{passed, binary-parts, load-parts, no-beside, no-second, divide-parts, remainder-parts, no-first, no-divisor, no-above, select-parts, no-third, no-upper}
 use Rattle.task_code.proofs.expressions.+emit_value.Goals as goal
 
 pub returns-in_ok-emit_operation-in-Binary-clause-ok : goal.returns-in_ok-emit_operation-in-Binary-clause-ok
@@ -76,3 +77,33 @@ pub returns-in_err-t-in-Select-clause-err : goal.returns-in_err-t-in-Select-clau
 returns-in_err-t-in-Select-clause-err t c =
     passed c.from_residual-in_err-t-in-Select.result c.in_err-t-in-Select.field-0.0 c.from_residual-in_err-t-in-Select.ensures.1 (λ long. long)
     (λ deep fits. no-third c.args.places.now c.args.scope.now c.args.e.now c.in-Select.c c.in-Select.a c.in-Select.b c.args.r c.in-Select.is deep fits) c.in_err-t-in-Select.ensures.err
+
+pub returns-in_err-emit_value-in-Binary-clause-err : goal.returns-in_err-emit_value-in-Binary-clause-err
+returns-in_err-emit_value-in-Binary-clause-err t c =
+    passed c.from_residual-in_err-emit_value-in-Binary.result c.in_err-emit_value-in-Binary.field-0.0 c.from_residual-in_err-emit_value-in-Binary.ensures.1 (λ long. long)
+    (λ deep fits. no-first c.args.places.now c.args.scope.now _ c.in-Binary.a c.args.r c.get.ensures deep (binary-parts c.args.places.now c.args.scope.now c.args.e.now c.in-Binary.operation c.in-Binary.a c.in-Binary.b c.args.r c.in-Binary.is c.requires fits).0) c.in_err-emit_value-in-Binary.ensures.err
+
+pub returns-in_err-emit_value-in-Load-clause-err : goal.returns-in_err-emit_value-in-Load-clause-err
+returns-in_err-emit_value-in-Load-clause-err t c =
+    passed c.from_residual-in_err-emit_value-in-Load.result c.in_err-emit_value-in-Load.field-0.0 c.from_residual-in_err-emit_value-in-Load.ensures.1 (λ long. long)
+    (λ deep fits. no-first c.args.places.now c.args.scope.now _ c.in-Load.x c.args.r c.get-in-Load.ensures deep (load-parts c.args.places.now c.args.scope.now c.args.e.now c.in-Load.source c.in-Load.x c.in-Load.y c.args.r c.in-Load.is c.requires fits).0) c.in_err-emit_value-in-Load.ensures.err
+
+pub returns-in_err-emit_value-in-Select-clause-err : goal.returns-in_err-emit_value-in-Select-clause-err
+returns-in_err-emit_value-in-Select-clause-err t c =
+    passed c.from_residual-in_err-emit_value-in-Select.result c.in_err-emit_value-in-Select.field-0.0 c.from_residual-in_err-emit_value-in-Select.ensures.1 (λ long. long)
+    (λ deep fits. no-first c.args.places.now c.args.scope.now _ c.in-Select.c c.args.r c.get-in-Select.ensures deep (select-parts c.args.places.now c.args.scope.now c.args.e.now c.in-Select.c c.in-Select.a c.in-Select.b c.args.r c.in-Select.is fits).first) c.in_err-emit_value-in-Select.ensures.err
+
+pub returns-in_err-emit_value-in-Select-2-clause-err : goal.returns-in_err-emit_value-in-Select-2-clause-err
+returns-in_err-emit_value-in-Select-2-clause-err t c =
+    passed c.from_residual-in_err-emit_value-in-Select-2.result c.in_err-emit_value-in-Select-2.field-0.0 c.from_residual-in_err-emit_value-in-Select-2.ensures.1 (λ long. long)
+    (λ deep fits. no-above c.args.places.now c.args.scope.now _ c.in-Select.a (c.args.r + 1) c.in_ok-s-in-Select.s c.get-in-Select-2.ensures c.in_ok-s-in-Select.ensures.ok.0 deep (select-parts c.args.places.now c.args.scope.now c.args.e.now c.in-Select.c c.in-Select.a c.in-Select.b c.args.r c.in-Select.is fits).second) c.in_err-emit_value-in-Select-2.ensures.err
+
+pub returns-in_err-emit_value-in-Select-3-clause-err : goal.returns-in_err-emit_value-in-Select-3-clause-err
+returns-in_err-emit_value-in-Select-3-clause-err t c =
+    passed c.from_residual-in_err-emit_value-in-Select-3.result c.in_err-emit_value-in-Select-3.field-0.0 c.from_residual-in_err-emit_value-in-Select-3.ensures.1 (λ long. long)
+    (λ deep fits. no-above c.args.places.now c.args.scope.now _ c.in-Select.b (c.args.r + 2) c.in_ok-t-in-Select.t c.get-in-Select-3.ensures c.in_ok-t-in-Select.ensures.ok.0 deep (select-parts c.args.places.now c.args.scope.now c.args.e.now c.in-Select.c c.in-Select.a c.in-Select.b c.args.r c.in-Select.is fits).third) c.in_err-emit_value-in-Select-3.ensures.err
+
+pub returns-in_err-s-in-Select-clause-err : goal.returns-in_err-s-in-Select-clause-err
+returns-in_err-s-in-Select-clause-err t c =
+    passed c.from_residual-in_err-s-in-Select.result c.in_err-s-in-Select.field-0.0 c.from_residual-in_err-s-in-Select.ensures.1 (λ long. long)
+    (λ deep fits. no-upper c.args.places.now c.args.scope.now c.args.e.now c.in-Select.c c.in-Select.a c.in-Select.b c.args.r c.in-Select.is deep fits) c.in_err-s-in-Select.ensures.err
