@@ -5,11 +5,13 @@ use Rattle.std.specs.List.{AllByRecursion}
 use Rattle.memory.specs.Addresses.{most_words, text_start}
 use Rattle.lone_hart.specs.Paths.{Stand}
 use Rattle.loop_ir.specs.declared.statements.Phase.{Phase}
+use Rattle.loop_ir.specs.Depths.{task_depth}
+use Rattle.loop_ir.specs.Needs.{greatest_need}
 use Rattle.work_sharing.specs.Programs.{ticket_word}
 use Rattle.task_code.specs.declared.CodeFault.{CodeFault}
 use Rattle.task_code.specs.declared.places.Places.{Places}
 use Rattle.task_code.specs.Code.{task_code}
-use Rattle.task_code.specs.Faults.{IsFault, LieLow}
+use Rattle.task_code.specs.Faults.{IsFault, LieLow, HasRoom}
 use Rattle.task_code.specs.Fitting.{fits_task}
 use Rattle.task_code.specs.Words.{Emits}
 use Rattle.phase_code.specs.Code.{Part, phase_code, program}
@@ -44,9 +46,13 @@ pub record IsProgram (places : Places) (phases : List Phase) (words : List ℕ) 
 abbrev pub IsTooLong : Places → ℕ → List Phase → Type 0
 IsTooLong places number phases = AllByRecursion HasFewTasks phases → most_words < length (program number (parts_from places number phases))
 
--- where frames lie low, the registers and frames don't suffice for each task
+-- the expressions of a phase have room on the stack or in a frame, and all counters around a store have registers
+abbrev pub HasRegisters : Places → Phase → Type 0
+HasRegisters places phase = HasRoom places.frames (greatest_need phase.body) 0 × (task_depth phase ≤ 14)
+
+-- frames lie too high, or some phase hasn't
 abbrev pub IsTooDeep : Places → List Phase → Type 0
-IsTooDeep places phases = LieLow places.frames → AllByRecursion (Fits places) phases → ⊥
+IsTooDeep places phases = LieLow places.frames → AllByRecursion (HasRegisters places) phases → ⊥
 
 -- of phases, the first of which has this number
 abbrev pub ArePhasesAtFault : Places → ℕ → List Phase → CodeFault → Type 0
@@ -55,7 +61,7 @@ ArePhasesAtFault places number phases = IsFault (IsTooLong places number phases)
 -- of one phase
 abbrev pub IsPhaseAtFault : Places → ℕ → Bool → Phase → CodeFault → Type 0
 IsPhaseAtFault places number is_last phase =
-    IsFault (HasFewTasks phase → most_words < length (phase_code is_last (ticket_word number) (part_of places number phase))) (LieLow places.frames → Fits places phase → ⊥)
+    IsFault (HasFewTasks phase → most_words < length (phase_code is_last (ticket_word number) (part_of places number phase))) (LieLow places.frames → HasRegisters places phase → ⊥)
 
 -- ---- laws
 
