@@ -1,5 +1,5 @@
 //! Statements with the loops of a stage around them, whose contracts say what the loops do and not what they look like, but
-//! for how many counters they add.
+//! for how many counters they add and that expressions need no more registers.
 //!
 //! - [`nests`]: **a body under each of the values that a stage's loops visit, in order** (`specs/Nests.antt`).
 //! - [`splits`]: the values of loops that are split.

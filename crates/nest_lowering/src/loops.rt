@@ -6,6 +6,7 @@ ghost use Rattle.reads.specs.Points.{Point};
 ghost use Rattle.loop_ir.specs.Buffers.{Points};
 ghost use Rattle.loop_ir.specs.Counters.{Values, with};
 ghost use Rattle.loop_ir.specs.Depths.{depth};
+ghost use Rattle.loop_ir.specs.Needs.{greatest_need};
 ghost use Rattle.loop_ir.specs.Running.{run, turns};
 ghost use Rattle.loop_ir.specs.Soundness.{every, is_sound};
 ghost use Rattle.loop_ir.specs.Stores.{Trace, trace};
@@ -50,6 +51,7 @@ fn looped(
     ensures sound { IfOk result (λ made. (reads : Reads) (written : Points) (loaded : Point → Bool) (values : Values)
         → is_sound reads written loaded made values ≡ every count (λ turn. is_sound reads written loaded body (with counter turn values))) }
     ensures depth { IfOk result (λ made. depth made ≡ suc (depth body)) }
+    ensures needs { IfOk result (λ made. greatest_need made ≡ greatest_need body) }
 {
     let body = Boxed::new(alloc, body)?;
     Ok(Stmt::For(counter, count, kind, body))
@@ -78,6 +80,7 @@ pub fn loop_once(
     ensures repeats { IfOk result (λ made. (leaf : Stmt) (list : counts.Values → List counts.Values) → Repeats func body leaf list
         → Repeats func made leaf (λ outer. upto (counts.counts sizes.now.extents sizes.now.splits own.now.id) (λ turn. list (counts.with own.now.id turn outer)))) }
     ensures depth { IfOk result (λ made. depth made ≡ suc (depth body)) }
+    ensures needs { IfOk result (λ made. greatest_need made ≡ greatest_need body) }
 {
     let counter = Counter { func, id: own.id };
     let count = extent_of(sizes, own.id);
@@ -102,6 +105,7 @@ pub fn with_loops(
     ensures repeats { IfOk result (λ made. (leaf : Stmt) (list : counts.Values → List counts.Values) → Repeats func body leaf list
         → Repeats func made leaf (nest (counts.counts sizes.now.extents sizes.now.splits) loops.now list)) }
     ensures depth { IfOk result (λ made. depth made ≡ length loops.now + depth body) }
+    ensures needs { IfOk result (λ made. greatest_need made ≡ greatest_need body) }
 {
     match loops {
         [] => Ok(body),

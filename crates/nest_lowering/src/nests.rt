@@ -2,6 +2,7 @@
 
 ghost use Rattle.std.specs.Prelude.{◌≡◌, ◌+◌, IfOk, length};
 ghost use Rattle.loop_ir.specs.Depths.{depth};
+ghost use Rattle.loop_ir.specs.Needs.{greatest_need};
 ghost use Rattle.nest_lowering.specs.Nests.{AreFew, Repeats};
 ghost use Rattle.stage_loops.specs.Counts as counts;
 ghost use Rattle.stage_loops.specs.Reach.{wholes};
@@ -31,6 +32,7 @@ pub fn with_nest(
     requires few { AreFew extents }
     ensures repeats { IfOk result (λ made. Repeats func made body (wholes extents splits.now loops.now)) }
     ensures depth { IfOk result (λ made. depth made ≡ length loops.now + (length splits.now + depth body)) }
+    ensures needs { IfOk result (λ made. greatest_need made ≡ greatest_need body) }
 {
     let sizes = LoopSizes::new(alloc, extents, splits)?;
     let inner = with_splits(alloc, func, extents, splits, body)?;

@@ -6,6 +6,7 @@ ghost use Rattle.reads.specs.Points.{Point};
 ghost use Rattle.loop_ir.specs.Buffers.{Points};
 ghost use Rattle.loop_ir.specs.Counters.{Values, with};
 ghost use Rattle.loop_ir.specs.Depths.{depth};
+ghost use Rattle.loop_ir.specs.Needs.{greatest_need};
 ghost use Rattle.loop_ir.specs.Running.{run, whole_value};
 ghost use Rattle.loop_ir.specs.Soundness.{is_sound};
 ghost use Rattle.loop_ir.specs.Stores.{Trace, trace};
@@ -61,6 +62,7 @@ fn bound(
     ensures sound { IfOk result (λ made. (reads : Reads) (written : Points) (loaded : Point → Bool) (values : Values) → is_sound reads written loaded made values
         ≡ (if nat_lt (whole_value whole values) extent then is_sound reads written loaded body (with counter (whole_value whole values) values) else true)) }
     ensures depth { IfOk result (λ made. depth made ≡ suc (depth body)) }
+    ensures needs { IfOk result (λ made. greatest_need made ≡ greatest_need body) }
 {
     let body = Boxed::new(alloc, body)?;
     Ok(Stmt::Bind(counter, whole, extent, body))
@@ -80,6 +82,7 @@ fn split_once(
     ensures repeats { IfOk result (λ made. (before : counts.Values) → before split.of ≡ extent
         → (leaf : Stmt) (list : counts.Values → List counts.Values) → Repeats func body leaf list → Repeats func made leaf (split_body before place split list)) }
     ensures depth { IfOk result (λ made. depth made ≡ suc (depth body)) }
+    ensures needs { IfOk result (λ made. greatest_need made ≡ greatest_need body) }
 {
     let whole = whole_of(func, place, split, extent);
     let counter = Counter { func, id: split.of };
@@ -114,6 +117,7 @@ pub fn with_splits(
     requires few { AreFew extents }
     ensures repeats { IfOk result (λ made. (leaf : Stmt) (list : counts.Values → List counts.Values) → Repeats func body leaf list → Repeats func made leaf (over_loops extents splits.now list)) }
     ensures depth { IfOk result (λ made. depth made ≡ length splits.now + depth body) }
+    ensures needs { IfOk result (λ made. greatest_need made ≡ greatest_need body) }
 {
     match splits {
         [] => Ok(body),

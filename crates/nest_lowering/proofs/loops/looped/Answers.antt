@@ -2,10 +2,12 @@ use Rattle.std.proofs.Common.{suc, ap, ◌∙◌}
 use Rattle.loop_ir.specs.declared.statements.Stmt.{Stmt}
 use Rattle.loop_ir.specs.Counters.{with}
 use Rattle.loop_ir.specs.Depths.{depth}
+use Rattle.loop_ir.specs.Needs.{greatest_need}
 use Rattle.loop_ir.specs.Running.{run, turns}
 use Rattle.loop_ir.specs.Soundness.{every, is_sound}
 use Rattle.loop_ir.specs.Stores.{trace}
 use Rattle.loop_ir.proofs.Depths.{depth_for}
+use Rattle.loop_ir.proofs.Needs.{greatest_for}
 use Rattle.loop_ir.proofs.Sound.{sound_for}
 use Rattle.loop_ir.proofs.Traces.{trace_for}
 use Rattle.loop_ir.proofs.Trees.{run_for}
@@ -28,3 +30,6 @@ returns-clause-sound c = λ reads written loaded values.
 
 pub returns-clause-depth : goal.returns-clause-depth
 returns-clause-depth c = depth_for c.args.counter c.args.count c.args.kind c.in_ok-body.body ∙ ap (λ (own : Stmt). suc (depth own)) c.in_ok-body.ensures
+
+pub returns-clause-needs : goal.returns-clause-needs
+returns-clause-needs c = greatest_for c.args.counter c.args.count c.args.kind c.in_ok-body.body ∙ ap greatest_need c.in_ok-body.ensures

@@ -3,10 +3,12 @@ use Rattle.std.specs.Prelude.{nat_lt}
 use Rattle.loop_ir.specs.declared.statements.Stmt.{Stmt}
 use Rattle.loop_ir.specs.Counters.{with}
 use Rattle.loop_ir.specs.Depths.{depth}
+use Rattle.loop_ir.specs.Needs.{greatest_need}
 use Rattle.loop_ir.specs.Running.{run, whole_value}
 use Rattle.loop_ir.specs.Soundness.{is_sound}
 use Rattle.loop_ir.specs.Stores.{trace}
 use Rattle.loop_ir.proofs.Depths.{depth_bind}
+use Rattle.loop_ir.proofs.Needs.{greatest_bind}
 use Rattle.loop_ir.proofs.Sound.{sound_bind}
 use Rattle.loop_ir.proofs.Traces.{trace_bind}
 use Rattle.loop_ir.proofs.Trees.{run_bind}
@@ -32,3 +34,6 @@ returns-clause-sound c = λ reads written loaded values.
 
 pub returns-clause-depth : goal.returns-clause-depth
 returns-clause-depth c = depth_bind c.args.counter c.args.whole c.args.extent c.in_ok-body.body ∙ ap (λ (own : Stmt). suc (depth own)) c.in_ok-body.ensures
+
+pub returns-clause-needs : goal.returns-clause-needs
+returns-clause-needs c = greatest_bind c.args.counter c.args.whole c.args.extent c.in_ok-body.body ∙ ap greatest_need c.in_ok-body.ensures
