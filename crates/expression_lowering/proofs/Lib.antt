@@ -1,4 +1,5 @@
 pub mod Following
 pub mod Calling
+pub mod Taking
 pub mod Walking
 pub mod Public

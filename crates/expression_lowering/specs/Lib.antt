@@ -1,2 +1,3 @@
 pub mod Lowering
+pub mod Needing
 pub mod inner

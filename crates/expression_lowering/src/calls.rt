@@ -1,6 +1,6 @@
 //! Loads of buffers.
 
-ghost use Rattle.std.specs.Prelude.{◌≡◌, Bool, List, IfOk};
+ghost use Rattle.std.specs.Prelude.{◌≡◌, ◌≤◌, ◌+◌, ℕ, Bool, List, IfOk, max};
 ghost use Rattle.std.specs.Option.{option_copied};
 ghost use Rattle.halide_pipeline.specs.Words as word;
 ghost use Rattle.halide_pipeline.specs.declared.expressions.Expr.TheOpen as layer;
@@ -8,6 +8,7 @@ ghost use Rattle.halide_meaning.specs.Pixel.{Reads};
 ghost use Rattle.reads.specs.Points.{Point, Seen, Hold};
 ghost use Rattle.loop_ir.specs.Counters.{Values};
 ghost use Rattle.loop_ir.specs.Expressions.{value, loads, linear_value};
+ghost use Rattle.loop_ir.specs.Needs.{leaf, need, need_of};
 ghost use Rattle.expression_lowering.specs.Lowering as spec;
 ghost use Rattle.expression_lowering.specs.inner.Following.{Follows, algebra};
 
@@ -43,6 +44,8 @@ pub fn counted_from(alloc: Global, coordinate: Expr, corner: &Linear) -> Result<
         → value reads values made ≡ word.subtract (value reads values coordinate) (linear_value values corner.now)) }
     ensures loads { IfOk result (λ made. (reads : Reads) (values : Values) (test : Point → Bool)
         → Hold test (loads reads values coordinate) → Hold test (loads reads values made)) }
+    ensures needs { IfOk result (λ made. need made ≡ need coordinate) }
+    ensures leaf { IfOk result (λ made. (n : ℕ) → coordinate ≡ Expr.Number n → need_of made ≡ leaf) }
 {
     match coordinate {
         Expr::Number(number) => {
@@ -69,9 +72,11 @@ pub(crate) fn load(
     x: Expr,
     y: Expr,
 ) -> Result<Expr, AllocError>
-    ensures { IfOk result (λ made. (values : Values) (reads : Reads) (given : List Point) (left right : Seen)
+    ensures follows { IfOk result (λ made. (values : Values) (reads : Reads) (given : List Point) (left right : Seen)
         → Follows corners.now values reads given x left → Follows corners.now values reads given y right
         → Follows corners.now values reads given made ((algebra corners.now values reads).level (layer.Call2 source left right))) }
+    ensures needs { IfOk result (λ made. need made ≤ max (need x) (1 + need y)) }
+    ensures alone { IfOk result (λ made. (n : ℕ) → y ≡ Expr.Number n → need made ≤ need x) }
 {
     match corner_of(corners, source) {
         None => {

@@ -1,7 +1,8 @@
 //! Definitions with their inlined Funcs put in place.
 
-ghost use Rattle.std.specs.Prelude.{◌≡◌, Bool, List, Some, IfOk};
+ghost use Rattle.std.specs.Prelude.{◌≡◌, ◌≤◌, ℕ, Bool, List, Option, Some, IfOk};
 ghost use Rattle.halide_pipeline.specs.declared.expressions.Expr.TheOpen as layer;
+ghost use Rattle.halide_pipeline.specs.declared.expressions.Variable.{Variable as Variables};
 ghost use Rattle.halide_meaning.specs.Pixel.{Reads, variable as variable_in};
 ghost use Rattle.reads.specs.Points.{Point, Seen, Hold};
 ghost use Rattle.inlining.specs.Inlining.{answer, answered, flagged, inlined, inside};
@@ -9,8 +10,11 @@ ghost use Rattle.inlining.specs.Laws.{seen_variable};
 ghost use Rattle.inlining.specs.Values.{values as valuing, seeing};
 ghost use Rattle.loop_ir.specs.Counters.{Values};
 ghost use Rattle.loop_ir.specs.Expressions.{value, loads};
+ghost use Rattle.loop_ir.specs.Needs.{need};
 ghost use Rattle.expression_lowering.specs.Lowering.{environment, place, placed};
+ghost use Rattle.expression_lowering.specs.Needing.{taking};
 ghost use Rattle.expression_lowering.specs.inner.Following.{Follows, algebra, variable_terms, term_loads};
+ghost use Rattle.expression_lowering.specs.inner.Taking.{AreTaken, IsSecond, call_need, term_need};
 
 use crate::calls::{Corner, load};
 use crate::parts::{binary, copy, divide, number, remainder, select};
@@ -44,8 +48,9 @@ fn variable_of(
     variables: &Terms<'_>,
     variable: Variable,
 ) -> Result<terms::Expr, AllocError>
-    ensures { IfOk result (λ made. (corners : List Corner) (values : Values) (reads : Reads)
+    ensures follows { IfOk result (λ made. (corners : List Corner) (values : Values) (reads : Reads)
         → Follows corners values reads (term_loads reads values variables.now) made (variable_terms reads values variables.now variable)) }
+    ensures needs { IfOk result (λ made. need made ≡ term_need variables.now variable) }
 {
     match variable {
         Variable::FirstArgument => {
@@ -78,8 +83,9 @@ fn lowered_in(
     variables: &Terms<'_>,
     expr: &Expr,
 ) -> Result<terms::Expr, AllocError>
-    ensures { IfOk result (λ made. (values : Values) (reads : Reads) → Follows corners.now values reads (term_loads reads values variables.now) made
+    ensures follows { IfOk result (λ made. (values : Values) (reads : Reads) → Follows corners.now values reads (term_loads reads values variables.now) made
         (inlined (algebra corners.now values reads) (flagged flags.now) funcs.now count (variable_terms reads values variables.now) expr.now)) }
+    ensures needs { IfOk result (λ made. (most : Variables → ℕ) → AreTaken variables.now most → need made ≤ inlined taking (flagged flags.now) funcs.now count most expr.now) }
 {
     match expr {
         Expr::Number(own) => Ok(number(*own)),
@@ -136,10 +142,12 @@ fn called(
     x: terms::Expr,
     y: terms::Expr,
 ) -> Result<terms::Expr, AllocError>
-    ensures { IfOk result (λ made. (values : Values) (reads : Reads) (given : List Point) (left right : Seen)
+    ensures follows { IfOk result (λ made. (values : Values) (reads : Reads) (given : List Point) (left right : Seen)
         → Follows corners.now values reads given x left → Follows corners.now values reads given y right
         → Follows corners.now values reads given made
         (answered ((algebra corners.now values reads).level (layer.Call2 source left right)) left (Some right) (answer (inside (algebra corners.now values reads) (flagged flags.now) funcs.now count) source))) }
+    ensures needs { IfOk result (λ made. (left : ℕ) (right : Option ℕ) → need x ≤ left → IsSecond y right
+        → need made ≤ answered (call_need left right) left right (answer (inside taking (flagged flags.now) funcs.now count) source)) }
 {
     match source {
         Source::Input(_) => {
@@ -186,6 +194,7 @@ pub fn lowered(
     ensures loads { IfOk result (λ made. (reads : Reads) (values : Values) (test : Point → Bool)
         → Hold (λ point. test (place corners.now values point)) (inlined (seeing (placed corners.now values reads)) (flagged flags.now) funcs.now count (seen_variable (environment values variables.now)) expr.now).points
         → Hold test (loads reads values made)) }
+    ensures needs { IfOk result (λ made. need made ≤ inlined taking (flagged flags.now) funcs.now count (λ v. 1) expr.now) }
 {
     let first_argument = terms::Expr::Linear(variables.first_argument.copy(alloc)?);
     let second_argument = terms::Expr::Linear(variables.second_argument.copy(alloc)?);

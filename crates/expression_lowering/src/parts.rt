@@ -1,12 +1,13 @@
 //! Expressions from their parts: each follows what is seen of a definition if its parts do.
 
-ghost use Rattle.std.specs.Prelude.{◌≡◌, ℕ, Bool, List, IfOk, IfSome};
+ghost use Rattle.std.specs.Prelude.{◌≡◌, ◌≤◌, ◌+◌, ℕ, Bool, List, IfOk, IfSome, max};
 ghost use Rattle.halide_pipeline.specs.Words as word;
 ghost use Rattle.halide_pipeline.specs.declared.expressions.Expr.TheOpen as layer;
 ghost use Rattle.halide_meaning.specs.Pixel.{Reads};
 ghost use Rattle.reads.specs.Points.{Hold, Point, Seen};
 ghost use Rattle.loop_ir.specs.Counters.{Values};
 ghost use Rattle.loop_ir.specs.Expressions.{loads, value};
+ghost use Rattle.loop_ir.specs.Needs.{divisor_need, need};
 ghost use Rattle.expression_lowering.specs.declared.calls.Corner.{Corner};
 ghost use Rattle.expression_lowering.specs.inner.Following.{Follows, algebra};
 
@@ -90,7 +91,8 @@ pub(crate) fn new_load(alloc: Global, source: Source, x: Expr, y: Expr) -> Resul
 
 /// A number.
 pub(crate) fn number(number: u32) -> Expr
-    ensures { (corners : List Corner) (values : Values) (reads : Reads) (given : List Point)
+    ensures is { result ≡ Expr.Number number }
+    ensures follows { (corners : List Corner) (values : Values) (reads : Reads) (given : List Point)
         → Follows corners values reads given result ((algebra corners values reads).level (layer.Number number)) }
 {
     Expr::Number(number)
@@ -103,9 +105,10 @@ pub(crate) fn binary(
     a: Expr,
     b: Expr,
 ) -> Result<Expr, AllocError>
-    ensures { IfOk result (λ made. (corners : List Corner) (values : Values) (reads : Reads) (given : List Point) (left right : Seen)
+    ensures follows { IfOk result (λ made. (corners : List Corner) (values : Values) (reads : Reads) (given : List Point) (left right : Seen)
         → Follows corners values reads given a left → Follows corners values reads given b right
         → Follows corners values reads given made ((algebra corners values reads).level (layer.Binary operation left right))) }
+    ensures needs { IfOk result (λ made. need made ≤ max (need a) (1 + need b)) }
 {
     match shift_of(operation, &b) {
         None => {
@@ -137,6 +140,7 @@ fn shift_of(operation: Operation, right: &Expr) -> Option<u32>
 fn shifted(alloc: Global, own: Expr, number: u32) -> Result<Expr, AllocError>
     ensures value { IfOk result (λ made. (reads : Reads) (values : Values) → value reads values made ≡ word.add (value reads values own) number) }
     ensures loads { IfOk result (λ made. (reads : Reads) (values : Values) (test : Point → Bool) → Hold test (loads reads values own) → Hold test (loads reads values made)) }
+    ensures needs { IfOk result (λ made. need made ≤ need own) }
 {
     match own {
         Expr::Linear(linear) => Ok(Expr::Linear(linear.plus_number(number))),
@@ -149,8 +153,9 @@ fn shifted(alloc: Global, own: Expr, number: u32) -> Result<Expr, AllocError>
 
 /// A quotient.
 pub(crate) fn divide(alloc: Global, a: Expr, divisor: u32) -> Result<Expr, AllocError>
-    ensures { IfOk result (λ made. (corners : List Corner) (values : Values) (reads : Reads) (given : List Point) (own : Seen)
+    ensures follows { IfOk result (λ made. (corners : List Corner) (values : Values) (reads : Reads) (given : List Point) (own : Seen)
         → Follows corners values reads given a own → Follows corners values reads given made ((algebra corners values reads).level (layer.Divide own divisor))) }
+    ensures needs { IfOk result (λ made. need made ≤ max (need a) (divisor_need divisor)) }
 {
     let own = Boxed::new(alloc, a)?;
     Ok(Expr::Divide(own, divisor))
@@ -158,8 +163,9 @@ pub(crate) fn divide(alloc: Global, a: Expr, divisor: u32) -> Result<Expr, Alloc
 
 /// A remainder.
 pub(crate) fn remainder(alloc: Global, a: Expr, divisor: u32) -> Result<Expr, AllocError>
-    ensures { IfOk result (λ made. (corners : List Corner) (values : Values) (reads : Reads) (given : List Point) (own : Seen)
+    ensures follows { IfOk result (λ made. (corners : List Corner) (values : Values) (reads : Reads) (given : List Point) (own : Seen)
         → Follows corners values reads given a own → Follows corners values reads given made ((algebra corners values reads).level (layer.Remainder own divisor))) }
+    ensures needs { IfOk result (λ made. need made ≤ max (need a) (divisor_need divisor)) }
 {
     let own = Boxed::new(alloc, a)?;
     Ok(Expr::Remainder(own, divisor))
@@ -167,9 +173,10 @@ pub(crate) fn remainder(alloc: Global, a: Expr, divisor: u32) -> Result<Expr, Al
 
 /// A choice.
 pub(crate) fn select(alloc: Global, c: Expr, a: Expr, b: Expr) -> Result<Expr, AllocError>
-    ensures { IfOk result (λ made. (corners : List Corner) (values : Values) (reads : Reads) (given : List Point) (test left right : Seen)
+    ensures follows { IfOk result (λ made. (corners : List Corner) (values : Values) (reads : Reads) (given : List Point) (test left right : Seen)
         → Follows corners values reads given c test → Follows corners values reads given a left → Follows corners values reads given b right
         → Follows corners values reads given made ((algebra corners values reads).level (layer.Select test left right))) }
+    ensures needs { IfOk result (λ made. need made ≤ max (need c) (max (1 + need a) (2 + need b))) }
 {
     let made = new_select(alloc, c, a, b)?;
     Ok(made)

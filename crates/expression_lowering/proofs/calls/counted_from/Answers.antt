@@ -1,9 +1,10 @@
-use Rattle.std.proofs.Common.{ℕ, ap, sym, ◌∙◌}
+use Rattle.std.proofs.Common.{ℕ, refl, ap, sym, ◌∙◌}
 use Rattle.halide_pipeline.specs.declared.expressions.Operation.TheVariants as operations
 use Rattle.halide_pipeline.specs.Words as word
 use Rattle.loop_ir.specs.declared.expressions.Expr.TheVariants as e
 use Rattle.loop_ir.specs.Expressions.{value, linear_value}
 use Rattle.expression_lowering.proofs.Following.{number_value, linear_is, linear_loads, binary_value, linear_passes, left_passes}
+use Rattle.expression_lowering.proofs.Taking.{beside_leaf, leaf_need, linear_leaf, number_need}
 use Rattle.expression_lowering.proofs.calls.counted_from.Goals as goal
 
 pub returns-in_ok-made-in-Number-clause-value : goal.returns-in_ok-made-in-Number-clause-value
@@ -32,4 +33,20 @@ returns-in_ok-made-in_default c =
           ∙ ap (word.subtract (value reads values c.args.coordinate)) (linear_is reads values begin ∙ ap (linear_value values) c.in_ok-begin-in_default.ensures);
       loads = λ reads values test h.
           left_passes reads values operations.Subtract c.in_ok-made-in_default.made c.args.coordinate (e.Linear begin) c.in_ok-made-in_default.ensures (linear_loads reads values begin) test h;
+      needs = beside_leaf operations.Subtract c.in_ok-made-in_default.made c.args.coordinate (e.Linear begin) c.in_ok-made-in_default.ensures (linear_leaf (e.Linear begin) begin refl);
+      leaf = λ n is. absurd (c.in_default.not-Number n is);
     }
+
+pub returns-in_ok-made-in-Number-clause-needs : goal.returns-in_ok-made-in-Number-clause-needs
+returns-in_ok-made-in-Number-clause-needs c =
+    leaf_need (e.Linear c.in_ok-made-in-Number.made) (linear_leaf (e.Linear c.in_ok-made-in-Number.made) c.in_ok-made-in-Number.made refl) ∙ sym (number_need c.args.coordinate c.in-Number.number c.in-Number.is)
+
+pub returns-in_ok-made-in-Number-clause-leaf : goal.returns-in_ok-made-in-Number-clause-leaf
+returns-in_ok-made-in-Number-clause-leaf c = λ n is. linear_leaf (e.Linear c.in_ok-made-in-Number.made) c.in_ok-made-in-Number.made refl
+
+pub returns-in_ok-made-in-Linear-clause-needs : goal.returns-in_ok-made-in-Linear-clause-needs
+returns-in_ok-made-in-Linear-clause-needs c =
+    leaf_need (e.Linear c.in_ok-made-in-Linear.made) (linear_leaf (e.Linear c.in_ok-made-in-Linear.made) c.in_ok-made-in-Linear.made refl) ∙ sym (leaf_need c.args.coordinate (linear_leaf c.args.coordinate c.in-Linear.own c.in-Linear.is))
+
+pub returns-in_ok-made-in-Linear-clause-leaf : goal.returns-in_ok-made-in-Linear-clause-leaf
+returns-in_ok-made-in-Linear-clause-leaf c = λ n is. linear_leaf (e.Linear c.in_ok-made-in-Linear.made) c.in_ok-made-in-Linear.made refl

@@ -1,4 +1,5 @@
 use Rattle.inlining.specs.Inlining.{flagged}
+use Rattle.expression_lowering.proofs.Taking.{all_ones, linear_need}
 use Rattle.expression_lowering.proofs.Public.{lowered_value, lowered_loads}
 use Rattle.expression_lowering.proofs.lowering.lowered.Goals as goal
 
@@ -6,10 +7,15 @@ pub returns-clause-value : goal.returns-clause-value
 returns-clause-value c = λ reads values.
     lowered_value c.args.corners.now values reads c.args.variables.now c.in_ok-copy.field-0 c.in_ok-copy-2.field-0 c.in_ok-copy-3.field-0 c.in_ok-copy-4.field-0
     c.in_ok-copy.ensures c.in_ok-copy-2.ensures c.in_ok-copy-3.ensures c.in_ok-copy-4.ensures (flagged c.args.flags.now) c.args.funcs.now c.args.count c.args.expr.now c.in_ok-made.made
-    (c.in_ok-made.ensures values reads)
+    (c.in_ok-made.ensures.follows values reads)
 
 pub returns-clause-loads : goal.returns-clause-loads
 returns-clause-loads c = λ reads values.
     lowered_loads c.args.corners.now values reads c.args.variables.now c.in_ok-copy.field-0 c.in_ok-copy-2.field-0 c.in_ok-copy-3.field-0 c.in_ok-copy-4.field-0
     c.in_ok-copy.ensures c.in_ok-copy-2.ensures c.in_ok-copy-3.ensures c.in_ok-copy-4.ensures (flagged c.args.flags.now) c.args.funcs.now c.args.count c.args.expr.now c.in_ok-made.made
-    (c.in_ok-made.ensures values reads)
+    (c.in_ok-made.ensures.follows values reads)
+
+pub returns-clause-needs : goal.returns-clause-needs
+returns-clause-needs c =
+    c.in_ok-made.ensures.needs (λ v. 1)
+    (all_ones _ (linear_need c.in_ok-copy.field-0) (linear_need c.in_ok-copy-2.field-0) (linear_need c.in_ok-copy-3.field-0) (linear_need c.in_ok-copy-4.field-0))

@@ -1,9 +1,17 @@
-use Rattle.std.proofs.Common.{sym, subst}
+use Rattle.std.proofs.Common.{◌≡◌, refl, sym, ap, subst, arith}
 use Rattle.loop_ir.specs.declared.expressions.Expr.{Expr}
 use Rattle.expression_lowering.specs.inner.Following.{Follows}
 use Rattle.expression_lowering.proofs.Following.{remainder_follows}
+use Rattle.loop_ir.specs.Needs.{need}
+use Rattle.expression_lowering.proofs.Taking.{remainder_need}
 use Rattle.expression_lowering.proofs.parts.remainder.Goals as goal
 
-pub returns : goal.returns
-returns c = λ corners values reads given own fa.
+pub returns-clause-follows : goal.returns-clause-follows
+returns-clause-follows c = λ corners values reads given own fa.
     remainder_follows corners values reads given c.in_ok-own.own c.args.divisor own (subst (λ (m : Expr). Follows corners values reads given m own) (sym c.in_ok-own.ensures) fa)
+
+pub returns-clause-needs : goal.returns-clause-needs
+returns-clause-needs c =
+    let i = remainder_need _ c.in_ok-own.own c.args.divisor refl in
+    let j : need c.in_ok-own.own ≡ need c.args.a = ap need c.in_ok-own.ensures in
+    omega (arith, i, j)

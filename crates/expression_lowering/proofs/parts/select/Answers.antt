@@ -1,11 +1,15 @@
-use Rattle.std.proofs.Common.{sym, subst}
+use Rattle.std.proofs.Common.{sym, subst, arith}
 use Rattle.halide_pipeline.specs.declared.expressions.Expr.TheOpen as layer
 use Rattle.loop_ir.specs.declared.expressions.Expr.{Expr}
 use Rattle.expression_lowering.specs.inner.Following.{Follows, algebra}
 use Rattle.expression_lowering.proofs.Following.{select_follows}
+use Rattle.expression_lowering.proofs.Taking.{select_need}
 use Rattle.expression_lowering.proofs.parts.select.Goals as goal
 
-pub returns : goal.returns
-returns c = λ corners values reads given test left right fc fa fb.
+pub returns-clause-follows : goal.returns-clause-follows
+returns-clause-follows c = λ corners values reads given test left right fc fa fb.
     subst (λ (m : Expr). Follows corners values reads given m ((algebra corners values reads).level (layer.Select test left right))) (sym c.in_ok-made.ensures)
     (select_follows corners values reads given c.args.c c.args.a c.args.b test left right fc fa fb)
+
+pub returns-clause-needs : goal.returns-clause-needs
+returns-clause-needs c = let i = select_need c.in_ok-made.made c.args.c c.args.a c.args.b c.in_ok-made.ensures in omega (arith, i)

@@ -1,9 +1,11 @@
-use Rattle.std.proofs.Common.{ℕ, ap, sym, ◌∙◌}
+use Rattle.std.proofs.Common.{ℕ, refl, ap, sym, ◌∙◌, arith}
 use Rattle.halide_pipeline.specs.declared.expressions.Operation.TheVariants as operations
 use Rattle.halide_pipeline.specs.Words as word
 use Rattle.loop_ir.specs.declared.expressions.Expr.TheVariants as e
 use Rattle.loop_ir.specs.Expressions.{value}
 use Rattle.expression_lowering.proofs.Following.{number_value, number_loads, linear_is, binary_value, linear_passes, left_passes}
+use Rattle.loop_ir.proofs.Needs.{need_number}
+use Rattle.expression_lowering.proofs.Taking.{beside_leaf, leaf_need, linear_leaf}
 use Rattle.expression_lowering.proofs.parts.shifted.Goals as goal
 
 pub returns-in-Linear-clause-value : goal.returns-in-Linear-clause-value
@@ -21,4 +23,11 @@ returns-in_ok-made-in_default c = record {
       ∙ ap (word.add (value reads values c.args.own)) (number_value reads values c.args.number);
   loads = λ reads values test h.
       left_passes reads values operations.Add c.in_ok-made-in_default.made c.args.own (e.Number c.args.number) c.in_ok-made-in_default.ensures (number_loads reads values c.args.number) test h;
+  needs = let n = beside_leaf operations.Add c.in_ok-made-in_default.made c.args.own (e.Number c.args.number) c.in_ok-made-in_default.ensures (need_number c.args.number) in omega (arith, n);
 }
+
+pub returns-in-Linear-clause-needs : goal.returns-in-Linear-clause-needs
+returns-in-Linear-clause-needs c =
+    let i = leaf_need (e.Linear c.plus_number.result) (linear_leaf (e.Linear c.plus_number.result) c.plus_number.result refl) in
+    let j = leaf_need c.args.own (linear_leaf c.args.own c.in-Linear.linear c.in-Linear.is) in
+    omega (arith, i, j)
