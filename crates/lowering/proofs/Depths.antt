@@ -1,4 +1,4 @@
--- How many counters stand around the stores of nests and hosts.
+-- How many counters stand around the stores of nests and hosts, and how many registers their expressions need.
 use Rattle.std.proofs.Common.{◌≡◌, ℕ, suc, ◌+◌, ◌-◌, ◌≤◌, List, [], ◌∷◌, ◌++◌, length, Option, Some, None, ap, arith, length-append, length-take}
 use Rattle.std.specs.Prelude.{max}
 use Rattle.halide_pipeline.specs.declared.definitions.Func.{Func}
@@ -15,10 +15,12 @@ use Rattle.bounds.specs.declared.boxes.SourceBox.{SourceBox}
 use Rattle.bounds.specs.declared.verdict.Boxes.{Boxes}
 use Rattle.loop_ir.specs.declared.statements.Phase.{Phase}
 use Rattle.loop_ir.specs.declared.statements.Stmt.{Stmt}
-use Rattle.loop_ir.specs.Depths.{depth, count_of, task_depth}
-use Rattle.lowering.specs.Hosting.{IsNestAt, HasNests, None_left, One_more, HasLoops, No_loops, One_outside, HasOutermost, IsBody, depth_first}
+use Rattle.loop_ir.specs.Depths.{depth, count_of}
+use Rattle.loop_ir.specs.Needs.{greatest_need}
+use Rattle.lowering.specs.Hosting.{IsNestAt, HasNests, None_left, One_more, HasLoops, No_loops, One_outside, HasOutermost, IsBody, depth_first, need_first}
 use Rattle.lowering.specs.Lowered as lowered
 use Rattle.lowering.specs.PurePhases.{inside_of, counter_of}
+use Rattle.lowering.specs.Registers.{TakesFew, TakeFew, most_need}
 
 -- loops inside a parallel one, with its own counter, are no more than all
 inside_few : (host : ℕ) (own : Option Loop) (all : List Loop) → length all ≤ 5 → count_of (counter_of host own) + length (inside_of own all) ≤ 5
@@ -65,16 +67,54 @@ module _ (pipeline : Pipeline) (schedule : Schedule) (boxes : Boxes) where
       let l = inside_few host (parallel stage) stage.loops few in
       omega (arith, e, none, few_splits, i, o, l)
 
+  -- ---- registers
+
+  abbrev most : ℕ
+  most = most_need pipeline schedule
+
+  found_need : (at : LoopPlace) (place : ℕ) (found : Option Stmt) → IsNestAt pipeline schedule boxes at place found → need_first found ≤ most
+  found_need at place None is = omega arith
+  found_need at place (Some made) is = is.needs
+
+  nests_need : (at : LoopPlace) (from : ℕ) (inside made : Stmt) → HasNests pipeline schedule boxes at from inside made → greatest_need made ≤ max most (greatest_need inside)
+  nests_need at _ inside _ (None_left from _ past) = omega arith
+  nests_need at _ _ _ (One_more from found inside rest made is others first) =
+      let e = first.need_is in
+      let f = found_need at from found is in
+      let r = nests_need at (suc from) inside rest others in
+      omega (arith, e, f, r)
+
+  loops_need : (host : ℕ) (counts : loops.Values) (leaf : Stmt) (own : List Loop) (made : Stmt) → HasLoops pipeline schedule boxes host counts leaf own made
+      → greatest_need made ≤ max most (greatest_need leaf)
+  loops_need host counts leaf _ _ No_loops = omega arith
+  loops_need host counts leaf _ _ (One_outside inside own inner body made has nests does) =
+      let e = does.need_is in
+      let n = nests_need (record { func = host; inside = own.id }) 0 inner body nests in
+      let i = loops_need host counts leaf inside inner has in
+      omega (arith, e, n, i)
+
+  outermost_need : (host : ℕ) (own : Option Loop) (inner body : Stmt) → HasOutermost pipeline schedule boxes host own inner body → greatest_need body ≤ max most (greatest_need inner)
+  outermost_need host None inner body same = let e : greatest_need body ≡ greatest_need inner = ap greatest_need same in omega (arith, e)
+  outermost_need host (Some own) inner body nests = nests_need (record { func = host; inside = own.id }) 0 inner body nests
+
+  pub body_need : (host : ℕ) (stage : Stage) (extents : Extents) (store body : Stmt) → IsBody pipeline schedule boxes host stage extents store body → greatest_need store ≤ most
+      → greatest_need body ≤ most
+  body_need host stage extents store body is few =
+      let e = is.need_is in
+      let i = loops_need host (loops.counts extents stage.splits) is.leaf (inside_of (parallel stage) stage.loops) is.inner is.looped in
+      let o = outermost_need host (parallel stage) is.inner body is.begun in
+      omega (arith, e, few, i, o)
+
   -- ---- phases
 
   abbrev Few : List Phase → Type 0
-  Few phases = lowered.HaveFewCounters phases
+  Few phases = TakeFew pipeline schedule phases
 
-  one_behind : (phases : List Phase) (phase : Phase) → Few phases → task_depth phase ≤ 14 → Few (phases ++ phase ∷ [])
+  one_behind : (phases : List Phase) (phase : Phase) → Few phases → TakesFew pipeline schedule phase → Few (phases ++ phase ∷ [])
   one_behind [] phase few own = (own, tt)
   one_behind (first ∷ phases) phase few own = (few.0, one_behind phases phase few.1 own)
 
-  stage_few : (place : ℕ) (func : Func) (plan : FuncPlan) (own : SourceBox) (number : ℕ) (phase : Phase) → lowered.IsStagePhase pipeline schedule boxes place func plan own number phase → task_depth phase ≤ 14
+  stage_few : (place : ℕ) (func : Func) (plan : FuncPlan) (own : SourceBox) (number : ℕ) (phase : Phase) → lowered.IsStagePhase pipeline schedule boxes place func plan own number phase → TakesFew pipeline schedule phase
   stage_few place func plan own _ _ (lowered.Pure phase tasks private_is bytes does touches few stores) = few
   stage_few place func plan own _ _ (lowered.Updating at update stage phase it tasks private_is bytes does touches few stores) = few
 

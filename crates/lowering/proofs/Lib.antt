@@ -17,6 +17,7 @@ pub mod Offsets
 pub mod Painting
 pub mod Parts
 pub mod PureStage
+pub mod Registers
 pub mod RootFacts
 pub mod SoundHosts
 pub mod SoundTasks

@@ -33,6 +33,7 @@ use Rattle.loop_ir.specs.declared.statements.Stmt.{Stmt}
 use Rattle.loop_ir.specs.Buffers.{Points}
 use Rattle.loop_ir.specs.Counters.{Values, no_values, with}
 use Rattle.loop_ir.specs.Depths.{depth}
+use Rattle.loop_ir.specs.Needs.{greatest_need}
 use Rattle.loop_ir.specs.Running.{run, turns}
 use Rattle.loop_ir.specs.Soundness.{every, is_sound}
 use Rattle.loop_ir.specs.Stores.{Trace, trace}
@@ -42,6 +43,7 @@ use Rattle.expression_lowering.specs.Lowering.{placed, place as place_in}
 use Rattle.lowering.specs.Corners.{first_of, turns_for, AreCorners}
 use Rattle.lowering.specs.Planes.{has_point, box_points}
 use Rattle.lowering.specs.PurePhases.{IsComputedAt, inside_of}
+use Rattle.lowering.specs.Registers.{most_need}
 
 -- ---- what a nest does
 
@@ -78,6 +80,10 @@ abbrev pub depth_first : Option Stmt → ℕ
 depth_first None = 0
 depth_first (Some first) = depth first
 
+abbrev pub need_first : Option Stmt → ℕ
+need_first None = 0
+need_first (Some first) = greatest_need first
+
 -- A statement does this first, and then another one.
 pub record DoesFirst (found : Option Stmt) (rest made : Stmt) : Type 0 where
   pub runs : (points : Points) (inputs : Planes) (values : Values) (funcs : Planes)
@@ -87,6 +93,7 @@ pub record DoesFirst (found : Option Stmt) (rest made : Stmt) : Type 0 where
   pub sound : (reads : Reads) (written : Points) (loaded : Point → Bool) (values : Values)
       → is_sound reads written loaded made values ≡ (is_sound_first reads written loaded found values && is_sound reads written loaded rest values)
   pub depth_is : depth made ≡ max (depth_first found) (depth rest)
+  pub need_is : greatest_need made ≡ max (need_first found) (greatest_need rest)
 
 -- It stores in the buffer of one Func alone, while the Func's loops stand at small values.
 abbrev pub StoresInIt : ℕ → Stmt → Type 0
@@ -103,6 +110,7 @@ pub record DoesTurns (host : ℕ) (id : LoopId) (count : ℕ) (body made : Stmt)
   pub sound : (reads : Reads) (written : Points) (loaded : Point → Bool) (values : Values)
       → is_sound reads written loaded made values ≡ every count (λ turn. is_sound reads written loaded body (with (record { func = host; id = id }) turn values))
   pub depth_is : depth made ≡ suc (depth body)
+  pub need_is : greatest_need made ≡ greatest_need body
 
 module _ (pipeline : Pipeline) (schedule : Schedule) (boxes : Boxes) where
   -- What the pure definition reads of other Funcs, wherever its arguments lie in its box, is answered as by their pixels, while the loops
@@ -183,6 +191,7 @@ module _ (pipeline : Pipeline) (schedule : Schedule) (boxes : Boxes) where
     pub sound : IsSoundNest at place func own made
     -- under at most five loops and four values of split ones
     pub few : depth made ≤ 9
+    pub needs : greatest_need made ≤ most_need pipeline schedule
 
   -- There are some exactly if it is computed there.
   abbrev pub IsNestAt : LoopPlace → ℕ → Option Stmt → Type 0
@@ -214,5 +223,6 @@ module _ (pipeline : Pipeline) (schedule : Schedule) (boxes : Boxes) where
     pub inner : Stmt
     pub bound : Repeats host leaf store (wholes extents stage.splits [])
     pub depth_is : depth leaf ≡ length stage.splits + depth store
+    pub need_is : greatest_need leaf ≡ greatest_need store
     pub looped : HasLoops host (loops.counts extents stage.splits) leaf (inside_of (parallel stage) stage.loops) inner
     pub begun : HasOutermost host (parallel stage) inner body

@@ -2,7 +2,6 @@
 -- of the text. They leave the pipeline's pixels.
 -- This project's own.
 use Rattle.std.specs.Prelude.{◌≡◌, ◌<◌, ◌≤◌, ℕ, suc, Bool, true, List, [], ◌∷◌, ◌++◌, map, length, slice_get, Option, Some, None, Ok}
-use Rattle.std.specs.List.{AllByRecursion}
 use Rattle.halide_pipeline.specs.declared.definitions.Func.{Func}
 use Rattle.halide_pipeline.specs.declared.definitions.Update.{Update}
 use Rattle.halide_pipeline.specs.Pipelines.{Pipeline}
@@ -21,12 +20,12 @@ use Rattle.bounds.specs.Boxes.{box_in}
 use Rattle.bounds.specs.Verdict.{inferred}
 use Rattle.bounds.specs.Views.{extents_of}
 use Rattle.loop_ir.specs.declared.statements.Phase.{Phase}
-use Rattle.loop_ir.specs.Depths.{task_depth}
 use Rattle.loop_ir.specs.Running.{run_task}
 use Rattle.lowering.specs.Order.{Tasks, DoneInOrder, DoPhases, AgreeThere}
 use Rattle.lowering.specs.HostedFuncs.{hosted_from}
 use Rattle.lowering.specs.Planes.{corner_of, held, box_points, owns}
 use Rattle.lowering.specs.PurePhases.{IsAtRoot, byte_places}
+use Rattle.lowering.specs.Registers.{TakesFew}
 use Rattle.lowering.specs.Stages.{is_private, DoesStage}
 use Rattle.lowering.specs.Stored.{StoresItsOwn, StoresWhatItNames}
 use Rattle.lowering.specs.Touching.{TouchesItsOwn}
@@ -36,17 +35,17 @@ use Rattle.lowering.specs.Updates.{IsUpdateAt, update_extents, owns_update}
 
 module _ (pipeline : Pipeline) (schedule : Schedule) (boxes : Boxes) where
   -- The phase of the stage with this number of a Func: how many tasks it has, which points each owns, which buffers are private, which
-  -- inputs are bytes, what its tasks touch, that at most 14 counters stand around a store, and which points its tasks store at.
+  -- inputs are bytes, what its tasks touch, that they take few registers, and which points its tasks store at.
   pub data IsStagePhase (place : ℕ) (func : Func) (plan : FuncPlan) (own : SourceBox) : ℕ → Phase → Type 0 where
     Pure : (phase : Phase) → phase.tasks ≡ iteration_count (extents_of own) plan.pure → phase.private ≡ hosted_from place 0 schedule.standings
         → phase.bytes ≡ byte_places 0 pipeline.inputs
         → DoesStage pipeline schedule boxes place func 0 (owns (extents_of own) plan.pure) phase
-        → TouchesItsOwn pipeline schedule boxes place (owns (extents_of own) plan.pure) phase → task_depth phase ≤ 14
+        → TouchesItsOwn pipeline schedule boxes place (owns (extents_of own) plan.pure) phase → TakesFew pipeline schedule phase
         → StoresItsOwn boxes place (owns (extents_of own) plan.pure) phase → IsStagePhase place func plan own 0 phase
     Updating : (at : ℕ) (update : Update) (stage : Stage) (phase : Phase) → IsUpdateAt schedule place func plan at update stage
         → phase.tasks ≡ iteration_count (update_extents own update) stage → phase.private ≡ [] → phase.bytes ≡ byte_places 0 pipeline.inputs
         → DoesStage pipeline schedule boxes place func (suc at) (owns_update own update stage) phase
-        → TouchesItsOwn pipeline schedule boxes place (owns_update own update stage) phase → task_depth phase ≤ 14
+        → TouchesItsOwn pipeline schedule boxes place (owns_update own update stage) phase → TakesFew pipeline schedule phase
         → StoresWhatItNames pipeline schedule boxes place func at own update stage phase → IsStagePhase place func plan own (suc at) phase
 
   -- There is one exactly if there is the stage.
@@ -104,11 +103,6 @@ module _ (pipeline : Pipeline) (schedule : Schedule) (boxes : Boxes) where
       → DoneInOrder (is_private schedule.standings) (map (tasks_of inputs) phases) funcs after
       → (x y : ℕ) → x < pipeline.output.width → y < pipeline.output.height
       → (has_output_at x y ≡ true) × (output_at after x y ≡ pixels pipeline.funcs inputs (length pipeline.funcs) pipeline.output.func x y)
-
--- at most so many counters stand around a store, the task's own among them: five loops of a host, and five loops and four values of
--- split ones of a Func at the innermost
-abbrev pub HaveFewCounters : List Phase → Type 0
-HaveFewCounters phases = AllByRecursion (λ phase. task_depth phase ≤ 14) phases
 
 -- ---- laws
 

@@ -9,10 +9,12 @@ ghost use Rattle.stage_loops.specs.Iterations.{parallel};
 ghost use Rattle.bounds.specs.Boxes.{box_in};
 ghost use Rattle.bounds.specs.Verdict.{inferred};
 ghost use Rattle.loop_ir.specs.Depths.{depth};
+ghost use Rattle.loop_ir.specs.Needs.{greatest_need};
 ghost use Rattle.nest_lowering.specs.Nests.{AreFew};
 ghost use Rattle.lowering.specs.HostedFuncs as hosted;
 ghost use Rattle.lowering.specs.Hosting as spec;
 ghost use Rattle.lowering.specs.PurePhases.{IsComputedAt, inside_of};
+ghost use Rattle.lowering.specs.Registers.{most_need};
 ghost use Rattle.lowering.specs.Updates.{IsUpdateAt};
 
 use crate::corners::{corner_at, corners_of};
@@ -124,10 +126,12 @@ fn with_update(
     requires alone { spec.StoresInIt place before }
     requires sound { spec.IsSoundNest pipeline.now schedule.now boxes.now at place of.now.func.now of.now.own.now before }
     requires few { depth before ≤ 9 }
+    requires needs { greatest_need before ≤ most_need pipeline.now schedule.now }
     ensures does { IfOk result (spec.DoesNests pipeline.now schedule.now boxes.now at place of.now.func.now of.now.own.now (suc of.now.at)) }
     ensures alone { IfOk result (spec.StoresInIt place) }
     ensures sound { IfOk result (spec.IsSoundNest pipeline.now schedule.now boxes.now at place of.now.func.now of.now.own.now) }
     ensures few { IfOk result (λ made. depth made ≤ 9) }
+    ensures needs { IfOk result (λ made. greatest_need made ≤ most_need pipeline.now schedule.now) }
 {
     let plans = schedule.funcs.as_slice();
     let standings = schedule.standings.as_slice();
@@ -164,6 +168,7 @@ fn nests_upto(
     ensures alone { IfOk result (spec.StoresInIt place) }
     ensures sound { IfOk result (spec.IsSoundNest pipeline.now schedule.now boxes.now at place func.now own.now) }
     ensures few { IfOk result (λ made. depth made ≤ 9) }
+    ensures needs { IfOk result (λ made. greatest_need made ≤ most_need pipeline.now schedule.now) }
 {
     let Some(number) = count.checked_sub(1) else {
         let made = pure_nest(alloc, pipeline, schedule, boxes, at, place, func, plan, own)?;

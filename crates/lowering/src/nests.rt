@@ -1,13 +1,16 @@
 //! Nests of stages: stores under their loops.
 
-ghost use Rattle.std.specs.Prelude.{◌≡◌, ◌≤◌, IfOk, Ok};
+ghost use Rattle.std.specs.Prelude.{◌≡◌, ◌≤◌, IfOk, Ok, max};
 ghost use Rattle.halide_pipeline.specs.WellFormed.{IsWellFormed};
 ghost use Rattle.schedule.specs.Accepted.{IsAccepted};
 ghost use Rattle.schedule.specs.declared.standings.Place.TheVariants as places;
 ghost use Rattle.bounds.specs.Verdict.{inferred};
+ghost use Rattle.weights.specs.Weight.{flags_of};
 ghost use Rattle.loop_ir.specs.Depths.{depth};
+ghost use Rattle.loop_ir.specs.Needs.{greatest_need};
 ghost use Rattle.lowering.specs.Hosting.{DoesNest, IsSoundNest, StoresInIt};
 ghost use Rattle.lowering.specs.PurePhases.{IsComputedAt, IsStoreOf};
+ghost use Rattle.lowering.specs.Registers.{most_need, taken};
 
 use crate::corners::{corner_of, corners_of};
 use crate::stores::pure_store;
@@ -34,6 +37,7 @@ pub(crate) fn store_of(
     ensures rules { IsWellFormed pipeline.now }
     ensures stores { IfOk result (λ made. IsStoreOf pipeline.now schedule.now boxes.now placed place func.now own.now made) }
     ensures depth { IfOk result (λ made. depth made ≡ 0) }
+    ensures needs { IfOk result (λ made. greatest_need made ≤ max 1 (taken (flags_of schedule.now.standings) pipeline.now.funcs place func.now.pure)) }
 {
     let funcs = pipeline.funcs();
     let plans = schedule.funcs.as_slice();
@@ -76,6 +80,7 @@ pub fn pure_nest(
     ensures alone { IfOk result (StoresInIt place) }
     ensures sound { IfOk result (λ made. IsSoundNest pipeline.now schedule.now boxes.now at place func.now own.now made) }
     ensures few { IfOk result (λ made. depth made ≤ 9) }
+    ensures needs { IfOk result (λ made. greatest_need made ≤ most_need pipeline.now schedule.now) }
 {
     let placed = Place::At(at);
     let extents = extents_of(own);

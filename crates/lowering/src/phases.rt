@@ -6,6 +6,7 @@ ghost use Rattle.bounds.specs.Verdict.{inferred};
 ghost use Rattle.loop_ir.specs.declared.statements.Phase.{Phase as MadePhase};
 ghost use Rattle.lowering.specs.Lowered as spec;
 ghost use Rattle.lowering.specs.PurePhases.{IsAtRoot};
+ghost use Rattle.lowering.specs.Registers.{TakeFew};
 
 use crate::hosting::box_at;
 use crate::pure_phases::{is_at_root, pure_phase};
@@ -178,7 +179,7 @@ fn lower_first(
 ///
 /// Done one after the other from buffers of zeros, the tasks of each in any order and whatever private buffers hold
 /// before each, they leave the output's pixels (`specs/Lowered.antt`). No more than 14 counters stand around a store, a
-/// task's own among them.
+/// task's own among them, and expressions need no more registers than weights count (`specs/Registers.antt`).
 ///
 /// # Errors
 ///
@@ -192,7 +193,7 @@ pub fn lower(
     requires accepted { IsAccepted pipeline.now schedule.now }
     requires boxes { inferred pipeline.now schedule.now ≡ Ok boxes.now }
     ensures phases { IfOk result (λ phases. spec.AreLowered pipeline.now schedule.now boxes.now (length pipeline.now.funcs) phases.items) }
-    ensures few { IfOk result (λ phases. spec.HaveFewCounters phases.items) }
+    ensures few { IfOk result (λ phases. TakeFew pipeline.now schedule.now phases.items) }
     ensures pixels { IfOk result (λ phases. spec.DoPixels pipeline.now schedule.now boxes.now phases.items) }
     ensures output { IfOk result (λ phases. spec.LeaveOutput pipeline.now schedule.now boxes.now phases.items) }
 {

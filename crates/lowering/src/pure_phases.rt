@@ -7,9 +7,11 @@ ghost use Rattle.stage_loops.specs.Iterations as iterations;
 ghost use Rattle.bounds.specs.Verdict.{inferred};
 ghost use Rattle.bounds.specs.Views as views;
 ghost use Rattle.loop_ir.specs.Depths.{task_depth};
+ghost use Rattle.loop_ir.specs.Needs.{greatest_need};
 ghost use Rattle.lowering.specs.HostedFuncs.{hosted_from};
 ghost use Rattle.lowering.specs.Planes.{owns};
 ghost use Rattle.lowering.specs.PurePhases as spec;
+ghost use Rattle.lowering.specs.Registers.{most_need};
 ghost use Rattle.lowering.specs.Stages.{DoesStage};
 ghost use Rattle.lowering.specs.Stored.{StoresItsOwn};
 ghost use Rattle.lowering.specs.Touching.{TouchesItsOwn};
@@ -103,6 +105,7 @@ pub fn pure_phase(
     ensures stage { IfOk result (DoesStage pipeline.now schedule.now boxes.now place func.now 0 (owns (views.extents_of own.now) plan.now.pure)) }
     ensures touches { IfOk result (TouchesItsOwn pipeline.now schedule.now boxes.now place (owns (views.extents_of own.now) plan.now.pure)) }
     ensures few { IfOk result (λ phase. task_depth phase ≤ 14) }
+    ensures needs { IfOk result (λ phase. greatest_need phase.body ≤ most_need pipeline.now schedule.now) }
     ensures stores { IfOk result (StoresItsOwn boxes.now place (owns (views.extents_of own.now) plan.now.pure)) }
 {
     let stage = &plan.pure;

@@ -1,14 +1,16 @@
 //! Stores of definitions at the points where loops stand.
 
-ghost use Rattle.std.specs.Prelude.{◌≡◌, ◌%◌, ◌^◌, IfOk, List};
+ghost use Rattle.std.specs.Prelude.{◌≡◌, ◌≤◌, ◌%◌, ◌^◌, IfOk, List, max};
 ghost use Rattle.halide_pipeline.specs.Words as word;
 ghost use Rattle.halide_meaning.specs.Pixel.{at_point};
 ghost use Rattle.inlining.specs.Inlining.{flagged};
 ghost use Rattle.loop_ir.specs.Counters.{Values};
 ghost use Rattle.loop_ir.specs.Depths.{depth};
 ghost use Rattle.loop_ir.specs.Expressions.{linear_value};
+ghost use Rattle.loop_ir.specs.Needs.{greatest_need};
 ghost use Rattle.expression_lowering.specs.Lowering.{environment};
 ghost use Rattle.lowering.specs.PurePhases.{HitsPure, IsSoundPure, StoresPure, whole_at};
+ghost use Rattle.lowering.specs.Registers.{taken};
 
 use expression_lowering::{Arguments, Corner, lowered};
 use halide_pipeline::{Expr, Func, Variable};
@@ -81,6 +83,7 @@ pub fn pure_store(
     ensures hits { IfOk result (HitsPure place) }
     ensures sound { IfOk result (λ made. IsSoundPure corners.now (flagged flags.now) funcs.now place corner.now pure.now made) }
     ensures depth { IfOk result (λ made. depth made ≡ 0) }
+    ensures needs { IfOk result (λ made. greatest_need made ≤ max 1 (taken flags.now funcs.now place pure.now)) }
 {
     let arguments = arguments_of(alloc, place, corner)?;
     let value = lowered(alloc, funcs, flags, place, corners, &arguments, pure)?;

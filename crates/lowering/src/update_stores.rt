@@ -1,6 +1,6 @@
 //! Stores of updates at the points where loops stand.
 
-ghost use Rattle.std.specs.Prelude.{◌≡◌, ◌+◌, ◌<◌, ◌^◌, Bool, IfOk, List};
+ghost use Rattle.std.specs.Prelude.{◌≡◌, ◌+◌, ◌<◌, ◌≤◌, ◌^◌, Bool, IfOk, List};
 ghost use Rattle.halide_pipeline.specs.Words as word;
 ghost use Rattle.halide_meaning.specs.Pixel.{Reads, variable as variable_in};
 ghost use Rattle.reads.specs.Points.{Hold, Point};
@@ -10,7 +10,9 @@ ghost use Rattle.inlining.specs.Values.{values as valuing, seeing};
 ghost use Rattle.loop_ir.specs.Counters.{Values};
 ghost use Rattle.loop_ir.specs.Depths.{depth};
 ghost use Rattle.loop_ir.specs.Expressions.{linear_value, loads, value};
+ghost use Rattle.loop_ir.specs.Needs.{greatest_need, need};
 ghost use Rattle.expression_lowering.specs.Lowering.{environment, place as place_in, placed};
+ghost use Rattle.lowering.specs.Registers.{second_taken, update_taken};
 ghost use Rattle.lowering.specs.Updates as spec;
 
 use crate::stores::whole_of;
@@ -84,6 +86,7 @@ fn second_index(
     ensures loads { IfOk result (λ made. (reads : Reads) (values : Values) (test : Point → Bool)
         → Hold (λ point. test (place_in corners.now values point)) (spec.points_of_index (λ e. (inlined (seeing (placed corners.now values reads)) (flagged flags.now) funcs.now place (seen_variable (environment values arguments.now)) e).points) index.now)
         → Hold test (loads reads values made)) }
+    ensures needs { IfOk result (λ made. need made ≤ second_taken flags.now funcs.now place index.now) }
 {
     match index {
         None => Ok(terms::Expr::Number(0)),
@@ -114,6 +117,7 @@ pub fn update_store(
     ensures hits { IfOk result (λ made. spec.HitsUpdate corners.now (flagged flags.now) funcs.now place corner.now update.now made) }
     ensures sound { IfOk result (λ made. spec.IsSoundUpdate corners.now (flagged flags.now) funcs.now place corner.now update.now made) }
     ensures depth { IfOk result (λ made. depth made ≡ 0) }
+    ensures needs { IfOk result (λ made. greatest_need made ≤ update_taken flags.now funcs.now place update.now) }
 {
     let arguments = arguments_of(alloc, place, corner, update)?;
     let column = lowered(

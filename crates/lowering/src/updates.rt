@@ -11,9 +11,11 @@ ghost use Rattle.weights.specs.Weight.{flags_of};
 ghost use Rattle.bounds.specs.Boxes.{IsBox};
 ghost use Rattle.bounds.specs.Verdict.{inferred};
 ghost use Rattle.loop_ir.specs.Depths.{depth, task_depth};
+ghost use Rattle.loop_ir.specs.Needs.{greatest_need};
 ghost use Rattle.nest_lowering.specs.Nests.{AreFew, Repeats};
 ghost use Rattle.lowering.specs.Hosting.{StoresInIt};
 ghost use Rattle.lowering.specs.PurePhases as pure;
+ghost use Rattle.lowering.specs.Registers.{most_need, update_taken};
 ghost use Rattle.lowering.specs.Stages.{DoesStage};
 ghost use Rattle.lowering.specs.Stored.{StoresWhatItNames};
 ghost use Rattle.lowering.specs.Touching.{TouchesItsOwn};
@@ -87,6 +89,7 @@ fn store_at(
     ensures hits { IfOk result (λ made. spec.HitsUpdate corners.now (flagged (flags_of schedule.now.standings)) pipeline.now.funcs place corner.now update.now made) }
     ensures sound { IfOk result (λ made. spec.IsSoundUpdate corners.now (flagged (flags_of schedule.now.standings)) pipeline.now.funcs place corner.now update.now made) }
     ensures depth { IfOk result (λ made. depth made ≡ 0) }
+    ensures needs { IfOk result (λ made. greatest_need made ≤ update_taken (flags_of schedule.now.standings) pipeline.now.funcs place update.now) }
 {
     let flags = inlined_flags(alloc, schedule.standings.as_slice())?;
     let made = update_store(
@@ -114,6 +117,7 @@ fn root_store(
     requires { place + 1 < 2 ^ 64 }
     ensures stores { IfOk result (λ made. spec.IsUpdateStoreOf pipeline.now schedule.now boxes.now place own.now update.now made) }
     ensures depth { IfOk result (λ made. depth made ≡ 0) }
+    ensures needs { IfOk result (λ made. greatest_need made ≤ update_taken (flags_of schedule.now.standings) pipeline.now.funcs place update.now) }
 {
     let plans = schedule.funcs.as_slice();
     let standings = schedule.standings.as_slice();
@@ -143,6 +147,7 @@ fn body_of(
     requires few { AreFew extents }
     ensures repeats { IfOk result (λ made. Repeats place made store (wholes extents stage.now.splits (pure.inside_of (iterations.parallel stage.now) stage.now.loops))) }
     ensures depth { IfOk result (λ made. depth made ≡ length (pure.inside_of (iterations.parallel stage.now) stage.now.loops) + (length stage.now.splits + depth store)) }
+    ensures needs { IfOk result (λ made. greatest_need made ≡ greatest_need store) }
 {
     let splits = stage.splits.as_slice();
     let made = with_nest(alloc, place, extents, splits, inside_parallel(stage), store)?;
@@ -161,6 +166,7 @@ fn nest_of(
     requires few { AreFew extents }
     ensures repeats { IfOk result (λ made. Repeats place made store (wholes extents stage.now.splits stage.now.loops)) }
     ensures depth { IfOk result (λ made. depth made ≡ length stage.now.loops + (length stage.now.splits + depth store)) }
+    ensures needs { IfOk result (λ made. greatest_need made ≡ greatest_need store) }
 {
     let made = with_nest(
         alloc,
@@ -201,6 +207,7 @@ pub fn update_phase(
     ensures does { IfOk result (DoesStage pipeline.now schedule.now boxes.now place of.now.func.now (suc of.now.at) (spec.owns_update of.now.own.now of.now.update.now of.now.stage.now)) }
     ensures touches { IfOk result (TouchesItsOwn pipeline.now schedule.now boxes.now place (spec.owns_update of.now.own.now of.now.update.now of.now.stage.now)) }
     ensures few { IfOk result (λ phase. task_depth phase ≤ 14) }
+    ensures needs { IfOk result (λ phase. greatest_need phase.body ≤ most_need pipeline.now schedule.now) }
     ensures stores { IfOk result (StoresWhatItNames pipeline.now schedule.now boxes.now place of.now.func.now of.now.at of.now.own.now of.now.update.now of.now.stage.now) }
 {
     let bytes = byte_inputs(alloc, pipeline.inputs())?;
@@ -247,6 +254,7 @@ pub fn update_nest(
     ensures alone { IfOk result (StoresInIt place) }
     ensures sound { IfOk result (spec.AreSoundLoops pipeline.now schedule.now boxes.now corners.now place corner.now of.now.own.now of.now.update.now) }
     ensures few { IfOk result (λ made. depth made ≤ 9) }
+    ensures needs { IfOk result (λ made. greatest_need made ≤ most_need pipeline.now schedule.now) }
 {
     // What every pipeline keeps is known once its parts are read.
     let _funcs = pipeline.funcs();

@@ -2,14 +2,16 @@ use Rattle.std.proofs.Common.{◌≡◌, ℕ, Option, sym, ap, ◌∙◌, arith}
 use Rattle.std.specs.Prelude.{◌&&◌, max}
 use Rattle.loop_ir.specs.declared.statements.Stmt.{Stmt}
 use Rattle.loop_ir.specs.Depths.{depth}
+use Rattle.loop_ir.specs.Needs.{greatest_need}
 use Rattle.loop_ir.specs.Running.{run}
 use Rattle.loop_ir.specs.Soundness.{is_sound}
 use Rattle.loop_ir.proofs.Depths.{depth_sequence}
+use Rattle.loop_ir.proofs.Needs.{greatest_sequence}
 use Rattle.loop_ir.specs.Stores.{trace}
 use Rattle.loop_ir.proofs.Sound.{sound_sequence}
 use Rattle.loop_ir.proofs.Traces.{trace_sequence}
 use Rattle.loop_ir.proofs.Trees.{run_sequence}
-use Rattle.lowering.specs.Hosting.{run_first, trace_first, is_sound_first, depth_first}
+use Rattle.lowering.specs.Hosting.{run_first, trace_first, is_sound_first, depth_first, need_first}
 use Rattle.lowering.proofs.hosting.in_order.Goals as goal
 
 without : (n : ℕ) → n ≡ max 0 n
@@ -21,6 +23,7 @@ returns-in-None c = record {
   traces = λ points inputs place x y values so_far. ap (λ (o : Option Stmt). trace points inputs place x y c.args.rest values (trace_first points inputs place x y o values so_far)) (sym c.in-None.is);
   sound = λ reads written loaded values. ap (λ (o : Option Stmt). is_sound_first reads written loaded o values && is_sound reads written loaded c.args.rest values) (sym c.in-None.is);
   depth_is = without (depth c.args.rest) ∙ ap (λ (o : Option Stmt). max (depth_first o) (depth c.args.rest)) (sym c.in-None.is);
+  need_is = without (greatest_need c.args.rest) ∙ ap (λ (o : Option Stmt). max (need_first o) (greatest_need c.args.rest)) (sym c.in-None.is);
 }
 
 -- src/hosting.rt:161:1
@@ -45,4 +48,8 @@ returns-in_ok-rest-in-Some c = record {
       ∙ ap (λ (s : Stmt). max (depth c.in_ok-first-in-Some.first) (depth s)) c.in_ok-rest-in-Some.ensures
       ∙ ap (λ (s : Stmt). max (depth s) (depth c.args.rest)) c.in_ok-first-in-Some.ensures
       ∙ ap (λ (o : Option Stmt). max (depth_first o) (depth c.args.rest)) (sym c.in-Some.is);
+  need_is = greatest_sequence c.in_ok-first-in-Some.first c.in_ok-rest-in-Some.rest
+      ∙ ap (λ (s : Stmt). max (greatest_need c.in_ok-first-in-Some.first) (greatest_need s)) c.in_ok-rest-in-Some.ensures
+      ∙ ap (λ (s : Stmt). max (greatest_need s) (greatest_need c.args.rest)) c.in_ok-first-in-Some.ensures
+      ∙ ap (λ (o : Option Stmt). max (need_first o) (greatest_need c.args.rest)) (sym c.in-Some.is);
 }

@@ -12,4 +12,5 @@ returns c = record {
   alone = c.in_ok-made.ensures.alone;
   sound = c.in_ok-made.ensures.sound;
   few = c.in_ok-made.ensures.few;
+  needs = c.in_ok-made.ensures.needs;
 }

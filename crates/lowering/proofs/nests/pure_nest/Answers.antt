@@ -10,6 +10,9 @@ use Rattle.nest_lowering.specs.Nests.{AreFew, Repeats}
 use Rattle.lowering.proofs.Alone.{pure_alone, nest_alone}
 use Rattle.lowering.proofs.Facts.{is_box, splits, few, few_loops, hosted_before}
 use Rattle.lowering.proofs.Filling.{fills, touches}
+use Rattle.box_laws.specs.Laws.{IsComputed}
+use Rattle.schedule.specs.declared.standings.Place.{Place}
+use Rattle.lowering.proofs.Registers.{pure-most}
 use Rattle.lowering.proofs.nests.pure_nest.Goals as goal
 
 -- src/nests.rt:76:9
@@ -63,3 +66,11 @@ returns-clause-few c =
     let d = c.in_ok-made.ensures.depth in
     let z = c.in_ok-store.ensures.depth in
     omega (arith, l, s, el, es, d, z)
+
+pub returns-clause-needs : goal.returns-clause-needs
+returns-clause-needs c =
+    let hosted = hosted_before c.args.pipeline.now c.args.schedule.now c.requires.accepted c.args.place c.requires.parts.standing c.requires.parts.there c.args.at c.requires.parts.placed_is in
+    let computed = subst (λ (p : Place). IsComputed c.args.place p) (sym c.requires.parts.placed_is) hosted in
+    let same = c.in_ok-made.ensures.needs in
+    let few = c.in_ok-store.ensures.needs in
+    pure-most c.args.pipeline.now c.args.schedule.now c.store_of.ensures.rules c.args.place c.args.func.now c.args.plan.now c.requires.parts.standing c.requires.parts.func_is c.requires.parts.plan_is c.requires.parts.there computed _ (omega (arith, same, few))

@@ -1,18 +1,21 @@
 use Rattle.std.proofs.Common.{◌≤◌, ◌+◌, Option, sym, ap, subst, ◌∙◌}
+use Rattle.schedule.specs.declared.standings.Place.{Place}
 use Rattle.schedule.specs.declared.standings.Place.TheVariants as places
 use Rattle.stage_loops.specs.declared.extents.Extents.{Extents}
 use Rattle.stage_loops.specs.Iterations as iterations
+use Rattle.box_laws.specs.Laws.{IsComputed}
 use Rattle.loop_ir.specs.declared.expressions.Counter.{Counter}
 use Rattle.loop_ir.specs.Depths.{depth, count_of}
 use Rattle.nest_lowering.specs.Nests.{AreFew}
 use Rattle.lowering.specs.HostedFuncs.{hosted_from}
 use Rattle.lowering.specs.Hosting.{IsBody}
-use Rattle.lowering.proofs.Depths.{body_few}
+use Rattle.lowering.proofs.Depths.{body_few, body_need}
 use Rattle.lowering.proofs.Facts.{is_box, splits, few, few_loops}
 use Rattle.lowering.proofs.PureStage.{does_stage}
 use Rattle.lowering.proofs.SoundTasks.{touches}
 use Rattle.lowering.proofs.StoredTasks.{stores_its_own}
 use Rattle.lowering.proofs.Tasks.{does_phase}
+use Rattle.lowering.proofs.Registers.{pure-most}
 use Rattle.lowering.proofs.pure_phases.pure_phase.Goals as goal
 
 -- src/pure_phases.rt:159:9
@@ -83,3 +86,9 @@ returns-clause-few c =
     (body_few c.args.pipeline.now c.args.schedule.now c.args.boxes.now c.args.place c.args.plan.now.pure c.extents_of-extents.result c.in_ok-store.store c.in_ok-body.body c.in_ok-body.ensures c.in_ok-store.ensures.depth
     (few_loops c.args.pipeline.now c.args.schedule.now c.args.boxes.now c.args.place c.args.func.now c.args.plan.now c.args.own.now c.requires.accepted c.requires.boxes places.Root tt c.requires.at)
     (splits c.args.pipeline.now c.args.schedule.now c.args.boxes.now c.args.place c.args.func.now c.args.plan.now c.args.own.now c.requires.accepted c.requires.boxes places.Root tt c.requires.at).few)
+
+pub returns-clause-needs : goal.returns-clause-needs
+returns-clause-needs c =
+    let computed = subst (λ (p : Place). IsComputed c.args.place p) (sym c.requires.at.placed_is) tt in
+    body_need c.args.pipeline.now c.args.schedule.now c.args.boxes.now c.args.place c.args.plan.now.pure c.extents_of-extents.result c.in_ok-store.store c.in_ok-body.body c.in_ok-body.ensures
+    (pure-most c.args.pipeline.now c.args.schedule.now c.inputs.ensures.rules c.args.place c.args.func.now c.args.plan.now c.requires.at.standing c.requires.at.func_is c.requires.at.plan_is c.requires.at.there computed _ c.in_ok-store.ensures.needs)

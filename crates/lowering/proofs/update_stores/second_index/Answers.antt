@@ -1,4 +1,4 @@
-use Rattle.std.proofs.Common.{Option, ap, ◌∙◌, subst, sym}
+use Rattle.std.proofs.Common.{◌≤◌, Option, refl, ap, ◌∙◌, subst, sym, arith}
 use Rattle.halide_pipeline.specs.declared.expressions.Expr.{Expr}
 use Rattle.halide_meaning.specs.Pixel.{variable as variable_in}
 use Rattle.reads.specs.Points.{Hold}
@@ -7,6 +7,10 @@ use Rattle.inlining.specs.Laws.{seen_variable}
 use Rattle.inlining.specs.Values.{values as valuing, seeing}
 use Rattle.expression_lowering.specs.Lowering.{environment, place as place_in, placed}
 use Rattle.expression_lowering.proofs.Following.{number_loads, number_value}
+use Rattle.loop_ir.specs.declared.expressions.Expr.TheVariants as terms
+use Rattle.loop_ir.specs.Needs.{need}
+use Rattle.expression_lowering.proofs.Taking.{number_need}
+use Rattle.lowering.specs.Registers.{second_taken}
 use Rattle.lowering.specs.Updates as spec
 use Rattle.lowering.proofs.update_stores.second_index.Goals as goal
 
@@ -19,6 +23,11 @@ returns-in-None-clause-value c = λ reads values.
 
 pub returns-in-None-clause-loads : goal.returns-in-None-clause-loads
 returns-in-None-clause-loads c = λ reads values test h. subst (Hold test) (sym (number_loads reads values 0)) tt
+
+pub returns-in-None-clause-needs : goal.returns-in-None-clause-needs
+returns-in-None-clause-needs c =
+    let one = number_need (terms.Number 0) 0 refl in
+    subst (λ (o : Option Expr). need (terms.Number 0) ≤ second_taken c.args.flags.now c.args.funcs.now c.args.place o) (sym c.in-None.is) (omega (arith, one))
 
 pub returns-in_ok-made-in-Some-clause-loads : goal.returns-in_ok-made-in-Some-clause-loads
 returns-in_ok-made-in-Some-clause-loads c = λ reads values test h.

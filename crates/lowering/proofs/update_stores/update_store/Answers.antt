@@ -1,6 +1,7 @@
 use Rattle.std.proofs.Common.{◌≡◌, suc, ◌+◌, arith}
 use Rattle.inlining.specs.Inlining.{flagged}
 use Rattle.loop_ir.proofs.Depths.{depth_store}
+use Rattle.lowering.proofs.Registers.{store-need}
 use Rattle.lowering.proofs.UpdateStoring.{stores_update, hits_update, sound_update}
 use Rattle.lowering.proofs.update_stores.update_store.Goals as goal
 
@@ -26,3 +27,9 @@ returns-clause-sound c =
 
 pub returns-clause-depth : goal.returns-clause-depth
 returns-clause-depth c = depth_store _
+
+pub returns-clause-needs : goal.returns-clause-needs
+returns-clause-needs c =
+    let x = c.in_ok-x.ensures.needs in let column = c.in_ok-column.ensures.needs in
+    let y = c.in_ok-y.ensures.needs in let row = c.in_ok-row.ensures.needs in
+    store-need (record { func = c.args.place; x = c.in_ok-x.x; y = c.in_ok-y.y; value = c.in_ok-value.value }) _ _ _ (omega (arith, x, column)) (omega (arith, y, row)) c.in_ok-value.ensures.needs

@@ -16,3 +16,9 @@ returns-clause-sound c =
     subst (λ (l : List Func). spec.IsSoundUpdate c.args.corners.now (flagged (flags_of c.args.schedule.now.standings)) l c.args.place c.args.corner.now c.args.update.now c.in_ok-made.made) c.funcs.ensures.value
     (subst (λ (f : List Bool). spec.IsSoundUpdate c.args.corners.now (flagged f) c.funcs.result.now c.args.place c.args.corner.now c.args.update.now c.in_ok-made.made)
     (c.as_slice-2.ensures.value ∙ (c.in_ok-flags.ensures ∙ ap flags_of c.as_slice.ensures)) c.in_ok-made.ensures.sound)
+
+pub returns-clause-stores : goal.returns-clause-stores
+returns-clause-stores c =
+    subst (λ (l : List Func). spec.StoresUpdate c.args.corners.now (flagged (flags_of c.args.schedule.now.standings)) l c.args.place c.args.corner.now c.args.update.now c.in_ok-made.made) c.funcs.ensures.value
+    (subst (λ (f : List Bool). spec.StoresUpdate c.args.corners.now (flagged f) c.funcs.result.now c.args.place c.args.corner.now c.args.update.now c.in_ok-made.made)
+    (c.as_slice-2.ensures.value ∙ (c.in_ok-flags.ensures ∙ ap flags_of c.as_slice.ensures)) c.in_ok-made.ensures.stores)

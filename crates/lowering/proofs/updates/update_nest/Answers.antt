@@ -7,6 +7,7 @@ use Rattle.weights.specs.Weight.{flags_of}
 use Rattle.lowering.proofs.Alone.{update_alone, nest_alone}
 use Rattle.lowering.proofs.UpdateNests.{does_nest, sound_nest}
 use Rattle.lowering.proofs.UpdateStages.{splits, few, few_loops, is_box, place_small}
+use Rattle.lowering.proofs.Registers.{update-most}
 use Rattle.lowering.proofs.updates.update_nest.Goals as goal
 
 pub store_at-requires : goal.store_at-requires
@@ -53,3 +54,10 @@ returns-clause-few c =
     let d = c.in_ok-made.ensures.depth in
     let z = c.in_ok-store.ensures.depth in
     omega (arith, l, s, d, z)
+
+pub returns-clause-needs : goal.returns-clause-needs
+returns-clause-needs c =
+    let same = c.in_ok-made.ensures.needs in
+    let few = c.in_ok-store.ensures.needs in
+    update-most c.args.pipeline.now c.args.schedule.now c.funcs-funcs.ensures.rules c.args.place c.args.of.now.func.now c.args.of.now.plan.now c.requires.computed.standing c.requires.computed.func_is c.requires.computed.plan_is c.requires.computed.there c.requires.computed.computed
+    c.args.of.now.at c.args.of.now.update.now c.args.of.now.stage.now c.requires.at _ (omega (arith, same, few))

@@ -1,4 +1,4 @@
-use Rattle.std.proofs.Common.{length, ◌≤◌, ◌+◌, Option, sym, ap, subst, ◌∙◌}
+use Rattle.std.proofs.Common.{length, ◌≤◌, ◌+◌, Option, sym, ap, subst, ◌∙◌, arith}
 use Rattle.schedule.specs.declared.standings.Place.{Place}
 use Rattle.stage_loops.specs.declared.extents.Extents.{Extents}
 use Rattle.stage_loops.specs.Iterations as iterations
@@ -13,6 +13,7 @@ use Rattle.lowering.proofs.Depths.{update_few}
 use Rattle.lowering.proofs.UpdateStages.{splits, few, few_loops, place_small}
 use Rattle.lowering.proofs.SoundHosts.{dark, dark_words}
 use Rattle.lowering.proofs.UpdateTasks.{does_update, touches, names_owned, task_stores}
+use Rattle.lowering.proofs.Registers.{update-most}
 use Rattle.lowering.proofs.updates.update_phase.Goals as goal
 
 -- src/updates.rt:120:9
@@ -94,3 +95,11 @@ returns-clause-few c =
     (update_few c.args.place (iterations.parallel c.args.of.now.stage.now) c.args.of.now.stage.now.loops (length c.args.of.now.stage.now.splits) (depth c.in_ok-store.store) (depth c.in_ok-body.body)
     (few_loops c.args.pipeline.now c.args.schedule.now c.requires.accepted c.args.place c.args.of.now.func.now c.args.of.now.plan.now c.requires.root.standing c.requires.root.func_is c.requires.root.there c.args.of.now.at c.args.of.now.update.now c.args.of.now.stage.now c.requires.at)
     (splits c.args.pipeline.now c.args.schedule.now c.requires.accepted c.args.place c.args.of.now.func.now c.args.of.now.plan.now c.requires.root.standing c.requires.root.func_is c.requires.root.there c.args.of.now.at c.args.of.now.update.now c.args.of.now.stage.now c.requires.at).few c.in_ok-store.ensures.depth c.in_ok-body.ensures.depth)
+
+pub returns-clause-needs : goal.returns-clause-needs
+returns-clause-needs c =
+    let computed = subst (λ (p : Place). IsComputed c.args.place p) (sym c.requires.root.placed_is) tt in
+    let same = c.in_ok-body.ensures.needs in
+    let few = c.in_ok-store.ensures.needs in
+    update-most c.args.pipeline.now c.args.schedule.now c.inputs.ensures.rules c.args.place c.args.of.now.func.now c.args.of.now.plan.now c.requires.root.standing c.requires.root.func_is c.requires.root.plan_is c.requires.root.there computed
+    c.args.of.now.at c.args.of.now.update.now c.args.of.now.stage.now c.requires.at _ (omega (arith, same, few))

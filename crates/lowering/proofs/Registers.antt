@@ -1,0 +1,213 @@
+-- Expressions of phases need no more registers than the judgement of weights counts.
+use Rattle.std.proofs.Common.{◌≡◌, ℕ, zero, suc, ◌+◌, ◌^◌, ◌<◌, ◌≤◌, Bool, true, false, List, [], ◌∷◌, length, Option, Some, None, refl, sym, ap, subst, ◌∙◌, arith}
+use Rattle.std.specs.Prelude.{◌==◌, ◌&&◌, nat_le, nat_lt, max, slice_get, if◌then◌else◌, not}
+use Rattle.std.proofs.lemmas.Bool.{and_parts, leb-true, ltb-true, lt-ltb}
+use Rattle.std.proofs.lemmas.Bool.Decides.{nat_tests}
+use Rattle.halide_pipeline.specs.declared.definitions.Func.{Func}
+use Rattle.halide_pipeline.specs.declared.definitions.Input.{Input}
+use Rattle.halide_pipeline.specs.declared.definitions.Update.{Update}
+use Rattle.halide_pipeline.specs.declared.expressions.Expr.{Expr}
+use Rattle.halide_pipeline.specs.declared.expressions.Expr.TheOpen.{Expr-F}
+use Rattle.halide_pipeline.specs.declared.expressions.Expr.TheOpen as layer
+use Rattle.halide_pipeline.specs.declared.expressions.Source.{Source}
+use Rattle.halide_pipeline.specs.declared.expressions.Source.TheVariants as sources
+use Rattle.halide_pipeline.specs.declared.expressions.Variable.{Variable}
+use Rattle.halide_pipeline.specs.Definitions.{dimensions}
+use Rattle.halide_pipeline.specs.Pipelines.{Pipeline}
+use Rattle.halide_pipeline.specs.WellFormed.{IsWellFormed, keeps, keeps_index, is_read, is_func_of, is_divisor, is_argument, is_update_variable, most_number}
+use Rattle.reads.specs.Levels.{Both, left_of, right_of}
+use Rattle.inlining.specs.Inlining.{Algebra, answer, answered, flagged, func_in, inside, inlined, made_in, through, through_at}
+use Rattle.inlining.specs.Laws.{RelatesLevels}
+use Rattle.inlining.specs.Weights.{needing}
+use Rattle.inlining.proofs.Kept.{folds_are_related}
+use Rattle.inlining.proofs.KeptFolds.{KeptLevels, kept_folds_related}
+use Rattle.inlining.proofs.Steps.{inside_is}
+use Rattle.schedule.specs.declared.plans.FuncPlan.{FuncPlan}
+use Rattle.schedule.specs.declared.schedules.Schedule.{Schedule}
+use Rattle.schedule.specs.declared.standings.Place.{Place}
+use Rattle.schedule.specs.declared.standings.Place.TheVariants as places
+use Rattle.schedule.specs.declared.standings.Standing.{Standing}
+use Rattle.schedule.specs.Legal.{is_inlined}
+use Rattle.schedule.specs.Uses.{IsReached}
+use Rattle.schedule_lines.specs.declared.stages.Stage.{Stage}
+use Rattle.weights.specs.Need.{need_in, second_need, update_need, updates_needs, func_needs, computed_needs, funcs_needs, needs, no_needs}
+use Rattle.weights.specs.Weight.{flags_of, is_computed}
+use Rattle.box_laws.specs.Laws.{IsComputed}
+use Rattle.loop_ir.specs.declared.expressions.Expr as loop
+use Rattle.loop_ir.specs.declared.expressions.Expr.TheVariants as e
+use Rattle.loop_ir.specs.declared.expressions.Linear.{Linear}
+use Rattle.loop_ir.specs.declared.statements.Store.{Store}
+use Rattle.loop_ir.specs.declared.statements.Stmt.TheVariants as s
+use Rattle.loop_ir.specs.Needs.{divisor_need, greatest_need, need}
+use Rattle.loop_ir.proofs.Needs.{greatest_store}
+use Rattle.expression_lowering.specs.Needing.{taking}
+use Rattle.expression_lowering.proofs.Taking.{linear_need}
+use Rattle.lowering.specs.Registers.{taken, second_taken, update_taken, most_need}
+use Rattle.lowering.specs.Updates.{IsUpdateAt}
+
+-- ---- divisors of a pipeline aren't 0
+
+divisor-two : (c : ℕ) → is_divisor c ≡ true → divisor_need c ≡ 2
+divisor-two zero is = absurd (omega (arith, leb-true 1 0 (and_parts (nat_le 1 0) (nat_le 0 most_number) is).0))
+divisor-two (suc c) is = let some : (suc c == 0) ≡ false = grind (arith, nat_tests) in ap (λ (t : Bool). if t then 2 ^ 32 else 2) some
+
+abbrev AtMost : ℕ → ℕ → Type 0
+AtMost m n = m ≤ n
+
+levels : (is_inlined : ℕ → Bool) → RelatesLevels AtMost is_inlined taking needing
+unfolding taking needing
+levels is_inlined (layer.Number n) kept = omega arith
+levels is_inlined (layer.Variable v) kept = omega arith
+levels is_inlined (layer.Binary op a b) kept = let l = a.is in let k = b.is in omega (arith, l, k)
+levels is_inlined (layer.Divide a c) kept = let l = a.is in let d = divisor-two c kept in omega (arith, l, d)
+levels is_inlined (layer.Remainder a c) kept = let l = a.is in let d = divisor-two c kept in omega (arith, l, d)
+levels is_inlined (layer.Select c a b) kept = let j = c.is in let l = a.is in let k = b.is in omega (arith, j, l, k)
+levels is_inlined (layer.Call1 s a) kept = a.is
+levels is_inlined (layer.Call2 s a b) kept = let l = a.is in let k = b.is in omega (arith, l, k)
+
+-- ---- how many Funcs may be called makes no difference
+
+module _ {A : Type 0} (algebra : Algebra A) (is_inlined : ℕ → Bool) (inputs : List Input) (funcs : List Func) (m n : ℕ) (fewer : m ≤ n) (has : Variable → Bool) (vars : Variable → A) where
+  inside-same : (place : ℕ) → place < m → inside algebra is_inlined funcs m place ≡ inside algebra is_inlined funcs n place
+  inside-same place below =
+      let here : func_in funcs is_inlined m place ≡ func_in funcs is_inlined n place
+      = ap (λ (t : Bool). if t && is_inlined place then slice_get funcs place else None) (lt-ltb place m below ∙ sym (lt-ltb place n (omega (arith, below, fewer)))) in
+      inside_is algebra is_inlined funcs m place ∙ ap (made_in algebra (inside algebra is_inlined funcs place)) here ∙ sym (inside_is algebra is_inlined funcs n place)
+
+  answer-same : (s : Source) (count : ℕ) → is_read inputs funcs m s count ≡ true → answer (inside algebra is_inlined funcs m) s ≡ answer (inside algebra is_inlined funcs n) s
+  answer-same (sources.Input place) count read = refl
+  answer-same (sources.Func place) count read = inside-same place (ltb-true place m (and_parts (nat_lt place m) (is_func_of (slice_get funcs place) count) read).0)
+
+  abbrev Same : A → A → Type 0
+  Same a b = a ≡ b
+
+  same-levels : KeptLevels Same (is_read inputs funcs m) has (through_at algebra (inside algebra is_inlined funcs m) vars) (through_at algebra (inside algebra is_inlined funcs n) vars)
+  same-levels (layer.Number n) kept = refl
+  same-levels (layer.Variable v) kept = refl
+  same-levels (layer.Binary op a b) kept = ap (λ (x : A). algebra.level (layer.Binary op x b.left)) a.is ∙ ap (λ (x : A). algebra.level (layer.Binary op a.right x)) b.is
+  same-levels (layer.Divide a c) kept = ap (λ (x : A). algebra.level (layer.Divide x c)) a.is
+  same-levels (layer.Remainder a c) kept = ap (λ (x : A). algebra.level (layer.Remainder x c)) a.is
+  same-levels (layer.Select c a b) kept =
+      ap (λ (x : A). algebra.level (layer.Select x a.left b.left)) c.is ∙ ap (λ (x : A). algebra.level (layer.Select c.right x b.left)) a.is ∙ ap (λ (x : A). algebra.level (layer.Select c.right a.right x)) b.is
+  same-levels (layer.Call1 s a) kept =
+      ap (λ (x : A). answered (algebra.level (layer.Call1 s x)) x None (answer (inside algebra is_inlined funcs m) s)) a.is
+      ∙ ap (answered (algebra.level (layer.Call1 s a.right)) a.right None) (answer-same s 1 kept)
+  same-levels (layer.Call2 s a b) kept =
+      ap (λ (x : A). answered (algebra.level (layer.Call2 s x b.left)) x (Some b.left) (answer (inside algebra is_inlined funcs m) s)) a.is
+      ∙ ap (λ (x : A). answered (algebra.level (layer.Call2 s a.right x)) a.right (Some x) (answer (inside algebra is_inlined funcs m) s)) b.is
+      ∙ ap (answered (algebra.level (layer.Call2 s a.right b.right)) a.right (Some b.right)) (answer-same s 2 kept)
+
+  count-same : (e : Expr) → keeps (is_read inputs funcs m) has e ≡ true → inlined algebra is_inlined funcs m vars e ≡ inlined algebra is_inlined funcs n vars e
+  unfolding through
+  count-same e kept = kept_folds_related Same (is_read inputs funcs m) has _ _ same-levels e kept
+
+-- ---- definitions
+
+at-most : (funcs : List Func) (place : ℕ) (func : Func) → slice_get funcs place ≡ Some func → place < length funcs
+at-most [] place func is = absurd cc
+at-most (first ∷ funcs) zero func is = omega arith
+at-most (first ∷ funcs) (suc place) func is = let l = at-most funcs place func is in omega (arith, l)
+
+module _ (pipeline : Pipeline) (rules : IsWellFormed pipeline) (flags : List Bool) where
+  few : (count : ℕ) (has : Variable → Bool) (e : Expr) → count ≤ length pipeline.funcs → keeps (is_read pipeline.inputs pipeline.funcs count) has e ≡ true
+      → taken flags pipeline.funcs count e ≤ need_in flags pipeline.funcs e
+  unfolding taking needing
+  few count has e within kept =
+      subst (λ (n : ℕ). taken flags pipeline.funcs count e ≤ n) (count-same needing (flagged flags) pipeline.inputs pipeline.funcs count (length pipeline.funcs) within has (λ v. 1) e kept)
+      (folds_are_related AtMost taking needing (flagged flags) pipeline.inputs pipeline.funcs rules.funcs (levels (flagged flags)) (λ x z r. r) (λ func v x y w z u rv rx ry. rv)
+      count has (λ v. 1) (λ v. 1) (λ v h. omega arith) e kept)
+
+  pub pure-taken : (place : ℕ) (func : Func) → slice_get pipeline.funcs place ≡ Some func → taken flags pipeline.funcs place func.pure ≤ need_in flags pipeline.funcs func.pure
+  pure-taken place func is = let l = at-most pipeline.funcs place func is in few place (is_argument (dimensions func)) func.pure (omega (arith, l)) (rules.funcs place func is).pure
+
+  second-few : (place : ℕ) (has : Variable → Bool) (count : ℕ) (index : Option Expr) → place ≤ length pipeline.funcs → keeps_index (is_read pipeline.inputs pipeline.funcs place) has count index ≡ true
+      → second_taken flags pipeline.funcs place index ≤ max 1 (second_need flags pipeline.funcs index)
+  second-few place has count None within kept = omega arith
+  second-few place has count (Some e) within kept = let l = few place has e within (and_parts _ _ kept).1 in omega (arith, l)
+
+  pub update-taken : (place at : ℕ) (func : Func) (update : Update) → slice_get pipeline.funcs place ≡ Some func → slice_get func.updates at ≡ Some update
+      → update_taken flags pipeline.funcs place update ≤ max 1 (update_need flags pipeline.funcs update)
+  update-taken place at func update is there =
+      let own = (rules.funcs place func is).updates at update there in
+      let has = is_update_variable (dimensions func) update.second in
+      let l = at-most pipeline.funcs place func is in
+      let x = few place has update.left_x (omega (arith, l)) own.left_x in
+      let y = second-few place has (dimensions func) update.left_y (omega (arith, l)) own.left_y in
+      let right : taken flags pipeline.funcs (suc place) update.right ≤ need_in flags pipeline.funcs update.right = few (suc place) has update.right (omega (arith, l)) own.right in
+      let more : place + 1 ≡ suc place = omega arith in
+      let r = subst (λ (n : ℕ). taken flags pipeline.funcs n update.right ≤ need_in flags pipeline.funcs update.right) (sym more) right in
+      omega (arith, x, y, r)
+
+-- ---- stores
+
+pub store-need : (store : Store) (x y value : ℕ) → need store.x ≤ x → need store.y ≤ y → need store.value ≤ value → greatest_need (s.Store store) ≤ max x (max y value)
+store-need store x y value few_x few_y few_value = let e = greatest_store store in omega (arith, e, few_x, few_y, few_value)
+
+-- at a point of sums
+pub pure-store : (place : ℕ) (x y : Linear) (value : loop.Expr) (most : ℕ) → need value ≤ most
+    → greatest_need (s.Store (record { func = place; x = e.Linear x; y = e.Linear y; value = value })) ≤ max 1 most
+pure-store place x y value most few_value =
+    let own : Store = record { func = place; x = e.Linear x; y = e.Linear y; value = value } in
+    let i = linear_need x in let j = linear_need y in
+    let l = store-need own 1 1 most (omega (arith, i)) (omega (arith, j)) few_value in
+    omega (arith, l)
+
+-- ---- what is counted of all stages
+
+module _ (flags : List Bool) (all : List Func) where
+  counted : (funcs : List Func) (plans : List FuncPlan) (standings : List Standing) (place : ℕ) (func : Func) (plan : FuncPlan) (own : Standing)
+      → slice_get funcs place ≡ Some func → slice_get plans place ≡ Some plan → slice_get standings place ≡ Some own → is_computed own ≡ true
+      → (func_needs flags all func plan).greatest ≤ (funcs_needs flags all funcs plans standings).greatest
+  counted [] plans standings place func plan own f p s is = absurd cc
+  counted (first ∷ funcs) [] standings place func plan own f p s is = absurd cc
+  counted (first ∷ funcs) (one ∷ plans) [] place func plan own f p s is = absurd cc
+  counted (first ∷ funcs) (one ∷ plans) (other ∷ standings) zero func plan own f p s is =
+      let ef : first ≡ func = cc in
+      let ep : one ≡ plan = cc in
+      let es : other ≡ own = cc in
+      let whole : computed_needs flags all first one other ≡ func_needs flags all func plan
+      = ap (λ (t : Bool). if t then func_needs flags all first one else no_needs) (ap is_computed es ∙ is) ∙ ap (λ (x : Func). func_needs flags all x one) ef ∙ ap (func_needs flags all func) ep in
+      let g : (computed_needs flags all first one other).greatest ≡ (func_needs flags all func plan).greatest = ap (λ n. n.greatest) whole in
+      omega (arith, g)
+  counted (first ∷ funcs) (one ∷ plans) (other ∷ standings) (suc place) func plan own f p s is =
+      let l = counted funcs plans standings place func plan own f p s is in omega (arith, l)
+
+  update-counted : (updates : List Update) (stages : List Stage) (at : ℕ) (update : Update) (stage : Stage) → slice_get updates at ≡ Some update → slice_get stages at ≡ Some stage
+      → update_need flags all update ≤ (updates_needs flags all updates stages).greatest
+  update-counted [] stages at update stage u s = absurd cc
+  update-counted (first ∷ updates) [] at update stage u s = absurd cc
+  update-counted (first ∷ updates) (one ∷ stages) zero update stage u s =
+      let e : first ≡ update = cc in
+      let n : update_need flags all first ≡ update_need flags all update = ap (update_need flags all) e in
+      omega (arith, n)
+  update-counted (first ∷ updates) (one ∷ stages) (suc at) update stage u s = let l = update-counted updates stages at update stage u s in omega (arith, l)
+
+not-inlined : (place : ℕ) (own : Place) → IsComputed place own → is_inlined own ≡ false
+not-inlined place places.Root here = refl
+not-inlined place (places.At at) here = refl
+not-inlined place places.Inlined here = absurd here
+not-inlined place places.Nowhere here = absurd here
+
+module _ (pipeline : Pipeline) (schedule : Schedule) (rules : IsWellFormed pipeline) (place : ℕ) (func : Func) (plan : FuncPlan) (own : Standing) (func_is : slice_get pipeline.funcs place ≡ Some func)
+    (plan_is : slice_get schedule.funcs place ≡ Some plan) (there : IsReached schedule.standings place own) (here : IsComputed place own.place) where
+  is-computed : is_computed own ≡ true
+  is-computed = ap (λ (t : Bool). t && not (is_inlined own.place)) there.reached ∙ ap (λ (t : Bool). true && not t) (not-inlined place own.place here)
+
+  all-counted : (func_needs (flags_of schedule.standings) pipeline.funcs func plan).greatest ≤ (needs pipeline schedule).greatest
+  unfolding needs
+  all-counted = counted (flags_of schedule.standings) pipeline.funcs pipeline.funcs schedule.funcs schedule.standings place func plan own func_is plan_is there.standing is-computed
+
+  -- the store of the pure definition, and that of an update
+  pub pure-most : (n : ℕ) → n ≤ max 1 (taken (flags_of schedule.standings) pipeline.funcs place func.pure) → n ≤ most_need pipeline schedule
+  pure-most n few =
+      let t = pure-taken pipeline rules (flags_of schedule.standings) place func func_is in
+      let l = all-counted in
+      omega (arith, few, t, l)
+
+  pub update-most : (at : ℕ) (update : Update) (stage : Stage) → IsUpdateAt schedule place func plan at update stage → (n : ℕ) → n ≤ update_taken (flags_of schedule.standings) pipeline.funcs place update
+      → n ≤ most_need pipeline schedule
+  update-most at update stage is n few =
+      let t = update-taken pipeline rules (flags_of schedule.standings) place at func update func_is is.update_is in
+      let u = update-counted (flags_of schedule.standings) pipeline.funcs func.updates plan.updates at update stage is.update_is is.stage_is in
+      let l = all-counted in
+      omega (arith, few, t, u, l)
