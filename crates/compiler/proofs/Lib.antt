@@ -5,6 +5,7 @@ pub mod Nonempty
 pub mod OutputBox
 pub mod Outputs
 pub mod Refusals
+pub mod Rooms
 pub mod Asked
 pub mod Control
 pub mod Opening

@@ -8,8 +8,6 @@ use Rattle.weights.specs.declared.faults.WeightError.{WeightError}
 use Rattle.weights.specs.declared.faults.WeightError.TheVariants as weights
 use Rattle.bounds.specs.declared.faults.BoundsFault.{BoundsFault}
 use Rattle.bounds.specs.declared.faults.BoundsFault.TheVariants as bounds
-use Rattle.task_code.specs.declared.CodeFault.{CodeFault}
-use Rattle.task_code.specs.declared.CodeFault.TheVariants as codes
 use Rattle.compiler.specs.declared.faults.CompileFault.{CompileFault}
 use Rattle.compiler.specs.declared.faults.CompileFault.TheVariants as faults
 
@@ -28,8 +26,3 @@ fault_of_weight weights.TooHeavy = faults.Lower weights.TooHeavy
 abbrev pub fault_of_bounds : BoundsFault → CompileFault
 fault_of_bounds bounds.OutOfMemory = faults.Memory
 fault_of_bounds fault = faults.Bounds fault
-
-abbrev pub fault_of_code : CodeFault → CompileFault
-fault_of_code (codes.OutOfMemory error) = faults.Memory
-fault_of_code codes.TooLong = faults.TooLong
-fault_of_code codes.TooDeep = faults.TooManyLoops

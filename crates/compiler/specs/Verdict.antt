@@ -17,11 +17,9 @@ use Rattle.bounds.specs.declared.faults.BoundsFault.{BoundsFault}
 use Rattle.bounds.specs.declared.verdict.Boxes.{Boxes}
 use Rattle.bounds.specs.Verdict.{inferred}
 use Rattle.loop_ir.specs.declared.statements.Phase.{Phase}
-use Rattle.lowering.specs.Lowered.{AreLowered, HaveFewCounters}
-use Rattle.task_code.specs.declared.CodeFault.{CodeFault}
-use Rattle.task_code.specs.declared.CodeFault.TheVariants as codes
+use Rattle.lowering.specs.Lowered.{AreLowered}
 use Rattle.phase_memory.specs.Places.{places_of}
-use Rattle.program_code.specs.Programs.{ArePhasesAtFault}
+use Rattle.program_code.specs.Programs.{IsTooLong}
 use Rattle.compiler.specs.declared.faults.CompileFault.{CompileFault}
 use Rattle.compiler.specs.declared.faults.CompileFault.TheVariants as faults
 
@@ -47,40 +45,37 @@ by_algorithm schedule (Err fault) = Some (faults.Parse fault.0 fault.1)
 unfoldable pub refusal_of : Global → List ℕ → List ℕ → Option CompileFault
 refusal_of alloc algorithm schedule = by_algorithm schedule (parsed alloc algorithm)
 
--- The phases of a pipeline under an accepted schedule have no program, and this stands of them.
-pub record HasNoProgram (pipeline : Pipeline) (schedule : Schedule) (fault : CodeFault) : Type 0 where
+-- The phases of a pipeline under an accepted schedule have more words than a machine's text may have. (No accepted texts are known of which
+-- they have, but that none have isn't proved.)
+pub record HasLongPhases (pipeline : Pipeline) (schedule : Schedule) : Type 0 where
   pub boxes : Boxes
   pub inferred_is : inferred pipeline schedule ≡ Ok boxes
   pub phases : List Phase
   pub are_lowered : AreLowered pipeline schedule boxes (length pipeline.funcs) phases
-  pub few_counters : HaveFewCounters phases
-  pub stands : ArePhasesAtFault (places_of pipeline schedule boxes.funcs boxes.layout) 0 phases fault
+  pub long : IsTooLong (places_of pipeline schedule boxes.funcs boxes.layout) 0 phases
 
--- They have more words than a machine's text may have, or they need more registers than there are. (No accepted texts are known that come
--- to either, but that none do isn't proved.)
-abbrev pub IsLimit : Pipeline → Schedule → CompileFault → Type 0
-IsLimit pipeline schedule fault =
-    ((fault ≡ faults.TooLong) × HasNoProgram pipeline schedule codes.TooLong) ⊎ ((fault ≡ faults.TooManyLoops) × HasNoProgram pipeline schedule codes.TooDeep)
+abbrev pub IsLong : Pipeline → Schedule → CompileFault → Type 0
+IsLong pipeline schedule fault = (fault ≡ faults.TooLong) × HasLongPhases pipeline schedule
 
-abbrev pub IsLimitOrMemory : Pipeline → Schedule → CompileFault → Type 0
-IsLimitOrMemory pipeline schedule fault = (fault ≡ faults.Memory) ⊎ IsLimit pipeline schedule fault
+abbrev pub IsLongOrMemory : Pipeline → Schedule → CompileFault → Type 0
+IsLongOrMemory pipeline schedule fault = (fault ≡ faults.Memory) ⊎ IsLong pipeline schedule fault
 
--- The fault is the first that stands. Where none does, memory ran out, or the phases have no program.
+-- The fault is the first that stands. Where none does, memory ran out, or the phases are too long.
 abbrev pub IsRefusal : Pipeline → Schedule → Option CompileFault → CompileFault → Type 0
-IsRefusal pipeline schedule wanted fault = (wanted ≡ Some fault) ⊎ ((fault ≡ faults.Memory) ⊎ ((wanted ≡ None) × IsLimit pipeline schedule fault))
+IsRefusal pipeline schedule wanted fault = (wanted ≡ Some fault) ⊎ ((fault ≡ faults.Memory) ⊎ ((wanted ≡ None) × IsLong pipeline schedule fault))
 
--- what two texts mean, and no program of it
-pub record IsLimitOf (alloc : Global) (algorithm schedule : List ℕ) (fault : CompileFault) : Type 0 where
+-- the phases of what two texts mean are too long
+pub record IsLongOf (alloc : Global) (algorithm schedule : List ℕ) (fault : CompileFault) : Type 0 where
   pub pipeline : Pipeline
   pub algorithm_is : parsed alloc algorithm ≡ Ok pipeline
   pub own : Schedule
   pub schedule_is : read pipeline schedule ≡ Ok own
-  pub limit : IsLimit pipeline own fault
+  pub long : IsLong pipeline own fault
 
--- The fault is the first that stands of two texts. Where none does, memory ran out, or the phases that they mean have no program.
+-- The fault is the first that stands of two texts. Where none does, memory ran out, or the phases that they mean are too long.
 abbrev pub IsRefusalOf : Global → List ℕ → List ℕ → CompileFault → Type 0
 IsRefusalOf alloc algorithm schedule fault =
-    (refusal_of alloc algorithm schedule ≡ Some fault) ⊎ ((fault ≡ faults.Memory) ⊎ ((refusal_of alloc algorithm schedule ≡ None) × IsLimitOf alloc algorithm schedule fault))
+    (refusal_of alloc algorithm schedule ≡ Some fault) ⊎ ((fault ≡ faults.Memory) ⊎ ((refusal_of alloc algorithm schedule ≡ None) × IsLongOf alloc algorithm schedule fault))
 
 -- The fault stands first, or memory ran out.
 abbrev pub IsFirst : Option CompileFault → CompileFault → Type 0

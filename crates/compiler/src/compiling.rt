@@ -1,9 +1,14 @@
 //! From two texts to a program.
 
-ghost use Rattle.std.specs.Prelude.{◌≡◌, IfErr, IfOk, None, Ok};
+ghost use Rattle.std.specs.Prelude.{◌≡◌, ◌⊎◌, IfErr, IfOk, None, Ok, false};
+ghost use Rattle.std.specs.List.{AllByRecursion};
 ghost use Rattle.schedule.specs.Accepted.{IsAccepted};
+ghost use Rattle.weights.specs.Need.{is_too_deep, needs as needed};
 ghost use Rattle.weights.specs.Weight.{weight};
 ghost use Rattle.bounds.specs.Verdict.{inferred};
+ghost use Rattle.task_code.specs.Faults.{LieLow};
+ghost use Rattle.program_code.specs.Programs.{HasRegisters, IsProgram, IsTooLong};
+ghost use Rattle.compiler.specs.declared.faults.CompileFault.TheVariants as faults;
 ghost use Rattle.compiler.specs.Compiled.{AreWordsOf, IsCompiled, Means};
 ghost use Rattle.compiler.specs.Verdict as spec;
 
@@ -13,10 +18,13 @@ use crate::places::places;
 use bounds::{Boxes, infer};
 use halide_parser::parse;
 use halide_pipeline::Pipeline;
+use loop_ir::statements::Phase;
 use lowering::phases::lower;
 use program_code::generate;
 use schedule::{Schedule, read};
 use std::alloc::Global;
+use task_code::CodeFault;
+use task_code::places::Places;
 use weights::{needs, weigh};
 
 /// The boxes of a pipeline under a schedule, or the first fault that stands.
@@ -24,6 +32,7 @@ fn judged(alloc: Global, pipeline: &Pipeline, schedule: &Schedule) -> Result<Box
     requires { IsAccepted pipeline.now schedule.now }
     ensures ok { IfOk result (λ boxes. inferred pipeline.now schedule.now ≡ Ok boxes) }
     ensures passed { IfOk result (λ boxes. spec.by_weight pipeline.now schedule.now (weight pipeline.now schedule.now) ≡ None) }
+    ensures shallow { IfOk result (λ boxes. is_too_deep (needed pipeline.now schedule.now) ≡ false) }
     ensures err { IfErr result (spec.IsFirst (spec.by_weight pipeline.now schedule.now (weight pipeline.now schedule.now))) }
 {
     weigh(pipeline, schedule, alloc)?;
@@ -34,7 +43,22 @@ fn judged(alloc: Global, pipeline: &Pipeline, schedule: &Schedule) -> Result<Box
     Ok(boxes)
 }
 
-/// The words of the phases of a pipeline under a schedule.
+/// The words of phases that there are registers for.
+fn generated(alloc: Global, phases: &[Phase], places: &Places) -> Result<Vec<u32>, CompileFault>
+    requires low { LieLow places.now.frames }
+    requires registers { AllByRecursion (HasRegisters places.now) phases.now }
+    ensures ok { IfOk result (λ words. IsProgram places.now phases.now words.items) }
+    ensures err { IfErr result (λ fault. (fault ≡ faults.Memory) ⊎ ((fault ≡ faults.TooLong) × IsTooLong places.now 0 phases.now)) }
+{
+    match generate(alloc, phases, places) {
+        Ok(words) => Ok(words),
+        Err(CodeFault::OutOfMemory(_)) => Err(CompileFault::Memory),
+        Err(CodeFault::TooLong) => Err(CompileFault::TooLong),
+        Err(CodeFault::TooDeep) => unreachable!(),
+    }
+}
+
+/// The words of the phases of a pipeline under a schedule whose expressions need no more registers than code is made for.
 fn words_of(
     alloc: Global,
     pipeline: &Pipeline,
@@ -43,17 +67,18 @@ fn words_of(
 ) -> Result<Vec<u32>, CompileFault>
     requires accepted { IsAccepted pipeline.now schedule.now }
     requires boxes { inferred pipeline.now schedule.now ≡ Ok boxes.now }
+    requires shallow { is_too_deep (needed pipeline.now schedule.now) ≡ false }
     ensures ok { IfOk result (λ words. AreWordsOf pipeline.now schedule.now boxes.now words.items) }
-    ensures err { IfErr result (spec.IsLimitOrMemory pipeline.now schedule.now) }
+    ensures err { IfErr result (spec.IsLongOrMemory pipeline.now schedule.now) }
 {
     let phases = lower(alloc, pipeline, schedule, boxes)?;
     let places = places(alloc, pipeline, schedule, boxes)?;
-    let words = generate(alloc, phases.as_slice(), &places)?;
+    let words = generated(alloc, phases.as_slice(), &places)?;
     Ok(words)
 }
 
 /// The program of a pipeline under a schedule, or the first fault that stands.
-#[tactic(auto, using(crate::proofs::Refusals::limit_refused))]
+#[tactic(auto, using(crate::proofs::Refusals::long_refused))]
 fn built(alloc: Global, pipeline: Pipeline, schedule: Schedule) -> Result<Compiled, CompileFault>
     requires { IsAccepted pipeline schedule }
     ensures pipeline { IfOk result (λ own. own.pipeline ≡ pipeline) }
@@ -77,7 +102,7 @@ fn built(alloc: Global, pipeline: Pipeline, schedule: Schedule) -> Result<Compil
 /// # Errors
 ///
 /// In this order: the algorithm's text, the schedule's, its weight, its boxes, an expression that needs more than 64
-/// registers. Memory ran out; or the code is longer than a machine's text, or its nests have more loops than registers.
+/// registers. Memory ran out; or the code is longer than a machine's text.
 #[tactic(auto, unfolding(crate::specs::Verdict::refusal_of))]
 pub fn compile(algorithm: &str, schedule: &str, alloc: Global) -> Result<Compiled, CompileFault>
     ensures means { IfOk result (Means alloc algorithm.now schedule.now) }

@@ -2,14 +2,13 @@
 
 ghost use Rattle.std.specs.Prelude.{◌≡◌};
 ghost use Rattle.compiler.specs.declared.faults.CompileFault.TheVariants as faults;
-ghost use Rattle.compiler.specs.Faults.{fault_of_bounds, fault_of_code, fault_of_parse, fault_of_schedule, fault_of_weight};
+ghost use Rattle.compiler.specs.Faults.{fault_of_bounds, fault_of_parse, fault_of_schedule, fault_of_weight};
 
 use bounds::BoundsFault;
 use halide_syntax::ParseFault;
 use line_text::LocatedError;
 use schedule_lines::faults::ScheduleFault;
 use std::alloc::AllocError;
-use task_code::CodeFault;
 use thiserror::Error;
 use weights::WeightError;
 
@@ -34,9 +33,6 @@ pub enum CompileFault {
     /// The code is more than a machine's text may have.
     #[error("code 2")]
     TooLong,
-    /// More loops stand around a definition than there are registers for.
-    #[error("code 3")]
-    TooManyLoops,
     /// Memory ran out.
     #[error("memory")]
     Memory,
@@ -90,18 +86,6 @@ impl From<BoundsFault> for CompileFault {
         match error {
             BoundsFault::OutOfMemory => CompileFault::Memory,
             _ => CompileFault::Bounds(error),
-        }
-    }
-}
-
-impl From<CodeFault> for CompileFault {
-    ghost from_gives = { λ error fault. fault ≡ fault_of_code error };
-
-    fn from(error: CodeFault) -> CompileFault {
-        match error {
-            CodeFault::OutOfMemory(_) => CompileFault::Memory,
-            CodeFault::TooLong => CompileFault::TooLong,
-            CodeFault::TooDeep => CompileFault::TooManyLoops,
         }
     }
 }
