@@ -1,6 +1,6 @@
 -- What is too long or too deep in a part of a statement is so in the whole.
-use Rattle.std.proofs.Common.{◌≡◌, ℕ, ◌+◌, ◌^◌, ◌<◌, ◌≤◌, List, [], ◌∷◌, ◌++◌, length, Option, Some, None, inl, inr, refl, ap, ◌∙◌, sym, subst, arith, length-append}
-use Rattle.std.specs.Prelude.{max, Result, IfErr, IsErrAnd}
+use Rattle.std.proofs.Common.{◌≡◌, ℕ, ◌+◌, ◌^◌, ◌≤◌, List, [], ◌∷◌, ◌++◌, length, Option, Some, None, inl, inr, refl, ap, ◌∙◌, sym, subst, arith, length-append}
+use Rattle.std.specs.Prelude.{Result, IfErr, IsErrAnd}
 use Rattle.rv_insn.specs.declared.instructions.Insn.{Insn}
 use Rattle.loop_ir.specs.declared.expressions.Counter.{Counter}
 use Rattle.loop_ir.specs.declared.statements.LoopKind.{LoopKind}
@@ -10,13 +10,13 @@ use Rattle.loop_ir.specs.declared.statements.Stmt.{Stmt}
 use Rattle.loop_ir.specs.declared.statements.Stmt.TheVariants as s
 use Rattle.loop_ir.specs.declared.statements.Whole.{Whole}
 use Rattle.loop_ir.specs.Depths.{depth, count_of}
-use Rattle.loop_ir.specs.Needs.{store_need, greatest_need}
+use Rattle.loop_ir.specs.Needs.{greatest_need}
 use Rattle.loop_ir.proofs.Depths.{depth_sequence, depth_for, depth_bind}
 use Rattle.loop_ir.proofs.Needs.{greatest_store, greatest_sequence, greatest_for, greatest_bind}
 use Rattle.task_code.specs.declared.CodeFault.{CodeFault}
 use Rattle.task_code.specs.declared.places.Places.{Places}
 use Rattle.task_code.specs.Code.{seat, loop_code, loop_tail, bind_code, test, whole_code, stmt_code, task_scope, restored}
-use Rattle.task_code.specs.Faults.{IsLong, IsStmtFault, IsTaskFault, HasRoom, FitsStore, FitsStmt, FitsTask}
+use Rattle.task_code.specs.Faults.{IsLong, IsStmtFault, IsTaskFault, HasRoom, FitsStore, FitsStmt}
 use Rattle.task_code.specs.Tasks.{EmitsStmt}
 use Rattle.task_code.proofs.Refusing.{passed}
 use Rattle.task_code.proofs.Spelling.{emits-length}

@@ -1,5 +1,5 @@
 -- Why no code is given: for each fault what stands then. This project's own.
-use Rattle.std.specs.Prelude.{◌≡◌, ◌≤◌, ◌⊎◌, ℕ, ◌+◌, ◌^◌, List, length, Option, Some, None}
+use Rattle.std.specs.Prelude.{◌≤◌, ◌⊎◌, ℕ, ◌+◌, ◌^◌, List, length, Option, Some, None}
 use Rattle.rv_insn.specs.declared.instructions.Insn.{Insn}
 use Rattle.loop_ir.specs.declared.expressions.Counter.{Counter}
 use Rattle.loop_ir.specs.declared.expressions.Expr.{Expr}
