@@ -1,5 +1,5 @@
 -- Phases that are lowered have registers, where no expression needs more than code is made for.
-use Rattle.std.proofs.Common.{◌≡◌, ℕ, ◌+◌, ◌≤◌, Bool, true, false, List, [], ◌∷◌, map, Option, Some, None, refl, sym, ap, subst, ◌∙◌, arith, inl, inr}
+use Rattle.std.proofs.Common.{◌≡◌, ℕ, ◌≤◌, Bool, true, false, List, [], ◌∷◌, map, Some, None, refl, sym, ap, subst, arith, inl, inr}
 use Rattle.std.specs.Prelude.{◌||◌, nat_lt, if◌then◌else◌, Ok}
 use Rattle.std.specs.List.{AllByRecursion}
 use Rattle.std.proofs.lemmas.Bool.{leb-true, ltb-false}
@@ -8,7 +8,7 @@ use Rattle.schedule.specs.declared.schedules.Schedule.{Schedule}
 use Rattle.weights.specs.Need.{needs, has_frames, is_too_deep}
 use Rattle.bounds.specs.declared.layout.Layout.{Layout}
 use Rattle.bounds.specs.declared.verdict.Boxes.{Boxes}
-use Rattle.bounds.specs.Layout.{data_start, laid_in, laid_out, phases as phase_count, input_bytes, root_sizes, private_sizes}
+use Rattle.bounds.specs.Layout.{laid_in, phases as phase_count, input_bytes, root_sizes, private_sizes}
 use Rattle.bounds.specs.Verdict.{inferred}
 use Rattle.loop_ir.specs.declared.statements.Phase.{Phase}
 use Rattle.lowering.specs.Registers.{TakeFew, most_need}

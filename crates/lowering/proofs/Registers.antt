@@ -15,7 +15,6 @@ use Rattle.halide_pipeline.specs.declared.expressions.Variable.{Variable}
 use Rattle.halide_pipeline.specs.Definitions.{dimensions}
 use Rattle.halide_pipeline.specs.Pipelines.{Pipeline}
 use Rattle.halide_pipeline.specs.WellFormed.{IsWellFormed, keeps, keeps_index, is_read, is_func_of, is_divisor, is_argument, is_update_variable, most_number}
-use Rattle.reads.specs.Levels.{Both, left_of, right_of}
 use Rattle.inlining.specs.Inlining.{Algebra, answer, answered, flagged, func_in, inside, inlined, made_in, through, through_at}
 use Rattle.inlining.specs.Laws.{RelatesLevels}
 use Rattle.inlining.specs.Weights.{needing}

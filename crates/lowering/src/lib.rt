@@ -10,8 +10,8 @@
 //! - [`updates`]: **the phase of an update**, and its loops where the Func is computed at a loop (`specs/Updates.antt`).
 //! - [`stores`], [`update_stores`]: stores of definitions at the points where loops stand.
 //!
-//! Of each phase it is also said what its tasks may touch (`specs/Touching.antt`) and **at which points of their Func they
-//! store** (`specs/Stored.antt`).
+//! Of each phase it is also said what its tasks may touch (`specs/Touching.antt`), **at which points of their Func they
+//! store** (`specs/Stored.antt`), and how many registers they take (`specs/Registers.antt`).
 #![tactic(auto)]
 
 pub mod corners;
