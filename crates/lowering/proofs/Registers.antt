@@ -28,7 +28,14 @@ use Rattle.schedule.specs.declared.standings.Place.TheVariants as places
 use Rattle.schedule.specs.declared.standings.Standing.{Standing}
 use Rattle.schedule.specs.Legal.{is_inlined}
 use Rattle.schedule.specs.Uses.{IsReached}
+use Rattle.schedule_lines.specs.declared.stages.Loop.{Loop}
+use Rattle.schedule_lines.specs.declared.stages.Split.{Split}
 use Rattle.schedule_lines.specs.declared.stages.Stage.{Stage}
+use Rattle.stage_loops.specs.declared.extents.Extents.{Extents}
+use Rattle.stage_loops.specs.Counts.{counts, AreSplits}
+use Rattle.stage_loops.specs.Iterations as iterations
+use Rattle.nest_lowering.specs.Nests.{AreFew}
+use Rattle.nest_lowering.proofs.Few.{few_turns}
 use Rattle.weights.specs.Need.{need_in, second_need, update_need, updates_needs, func_needs, computed_needs, funcs_needs, needs, no_needs}
 use Rattle.weights.specs.Weight.{flags_of, is_computed}
 use Rattle.box_laws.specs.Laws.{IsComputed}
@@ -150,6 +157,15 @@ pure-store place x y value most few_value =
     let i = linear_need x in let j = linear_need y in
     let l = store-need own 1 1 most (omega (arith, i)) (omega (arith, j)) few_value in
     omega (arith, l)
+
+-- ---- tasks
+
+few-turns : (extents : Extents) (splits : List Split) (own : Option Loop) → AreFew extents → AreSplits splits → iterations.count_of (counts extents splits) own ≤ 2 ^ 31
+few-turns extents splits None few fit = omega arith
+few-turns extents splits (Some own) few fit = let l = few_turns extents splits few fit own.id in omega (arith, l)
+
+pub few_iterations : (extents : Extents) (stage : Stage) → AreFew extents → AreSplits stage.splits → iterations.iteration_count extents stage ≤ 2 ^ 31
+few_iterations extents stage few fit = few-turns extents stage.splits (iterations.parallel stage) few fit
 
 -- ---- what is counted of all stages
 

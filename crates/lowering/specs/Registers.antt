@@ -1,6 +1,6 @@
 -- How many registers the tasks of phases take: no more than the judgement of weights counts.
 -- This project's own.
-use Rattle.std.specs.Prelude.{ℕ, ◌+◌, ◌≤◌, Bool, max, List, Option, Some, None}
+use Rattle.std.specs.Prelude.{ℕ, ◌+◌, ◌≤◌, ◌^◌, Bool, max, List, Option, Some, None}
 use Rattle.std.specs.List.{AllByRecursion}
 use Rattle.halide_pipeline.specs.declared.definitions.Func.{Func}
 use Rattle.halide_pipeline.specs.declared.definitions.Update.{Update}
@@ -36,9 +36,9 @@ abbrev pub most_need : Pipeline → Schedule → ℕ
 most_need pipeline schedule = max 1 (needs pipeline schedule).greatest
 
 -- At most so many counters stand around a store, the task's own among them: five loops of a host, and five loops and four values of split
--- ones of a Func at the innermost. Its expressions need no more than the most.
+-- ones of a Func at the innermost. Its expressions need no more than the most, and harts can count its tasks in a word.
 abbrev pub TakesFew : Pipeline → Schedule → Phase → Type 0
-TakesFew pipeline schedule phase = (task_depth phase ≤ 14) × (greatest_need phase.body ≤ most_need pipeline schedule)
+TakesFew pipeline schedule phase = (task_depth phase ≤ 14) × ((greatest_need phase.body ≤ most_need pipeline schedule) × (phase.tasks ≤ 2 ^ 31))
 
 abbrev pub TakeFew : Pipeline → Schedule → List Phase → Type 0
 TakeFew pipeline schedule phases = AllByRecursion (TakesFew pipeline schedule) phases

@@ -8,6 +8,7 @@ ghost use Rattle.bounds.specs.Verdict.{inferred};
 ghost use Rattle.bounds.specs.Views as views;
 ghost use Rattle.loop_ir.specs.Depths.{task_depth};
 ghost use Rattle.loop_ir.specs.Needs.{greatest_need};
+ghost use Rattle.nest_lowering.specs.Nests.{AreFew};
 ghost use Rattle.lowering.specs.HostedFuncs.{hosted_from};
 ghost use Rattle.lowering.specs.Planes.{owns};
 ghost use Rattle.lowering.specs.PurePhases as spec;
@@ -67,8 +68,10 @@ pub(crate) fn byte_inputs(alloc: Global, inputs: &[Input]) -> Result<Items<usize
 
 /// How many tasks a stage has.
 pub(crate) fn task_count(alloc: Global, stage: &Stage, extents: Extents) -> Result<u32, AllocError>
-    requires { AreSplits stage.now.splits }
-    ensures { IfOk result (λ count. count ≡ iterations.iteration_count extents stage.now) }
+    requires splits { AreSplits stage.now.splits }
+    requires few { AreFew extents }
+    ensures is { IfOk result (λ count. count ≡ iterations.iteration_count extents stage.now) }
+    ensures few { IfOk result (λ count. count ≤ 2 ^ 31) }
 {
     let sizes = LoopSizes::new(alloc, extents, stage.splits.as_slice())?;
     Ok(sizes.iterations(stage))
@@ -106,6 +109,7 @@ pub fn pure_phase(
     ensures touches { IfOk result (TouchesItsOwn pipeline.now schedule.now boxes.now place (owns (views.extents_of own.now) plan.now.pure)) }
     ensures few { IfOk result (λ phase. task_depth phase ≤ 14) }
     ensures needs { IfOk result (λ phase. greatest_need phase.body ≤ most_need pipeline.now schedule.now) }
+    ensures few_tasks { IfOk result (λ phase. phase.tasks ≤ 2 ^ 31) }
     ensures stores { IfOk result (StoresItsOwn boxes.now place (owns (views.extents_of own.now) plan.now.pure)) }
 {
     let stage = &plan.pure;

@@ -35,13 +35,18 @@ body_of-requires-clause-few c =
     (few c.args.pipeline.now c.args.schedule.now c.args.boxes.now c.args.place c.args.func.now c.args.plan.now c.args.own.now c.requires.accepted c.requires.boxes places.Root tt c.requires.at)
 
 -- src/pure_phases.rt:162:17
-pub task_count-requires : goal.task_count-requires
-task_count-requires c =
+pub task_count-requires-clause-few : goal.task_count-requires-clause-few
+task_count-requires-clause-few c =
+    subst AreFew (sym c.extents_of-extents.ensures)
+    (few c.args.pipeline.now c.args.schedule.now c.args.boxes.now c.args.place c.args.func.now c.args.plan.now c.args.own.now c.requires.accepted c.requires.boxes places.Root tt c.requires.at)
+
+pub task_count-requires-clause-splits : goal.task_count-requires-clause-splits
+task_count-requires-clause-splits c =
     splits c.args.pipeline.now c.args.schedule.now c.args.boxes.now c.args.place c.args.func.now c.args.plan.now c.args.own.now c.requires.accepted c.requires.boxes places.Root tt c.requires.at
 
 -- src/pure_phases.rt:139:1
 pub returns-clause-tasks : goal.returns-clause-tasks
-returns-clause-tasks c = c.in_ok-tasks.ensures ∙ ap (λ (e : Extents). iterations.iteration_count e c.args.plan.now.pure) c.extents_of-extents.ensures
+returns-clause-tasks c = c.in_ok-tasks.ensures.is ∙ ap (λ (e : Extents). iterations.iteration_count e c.args.plan.now.pure) c.extents_of-extents.ensures
 
 -- src/pure_phases.rt:139:1
 pub returns-clause-does : goal.returns-clause-does
@@ -49,7 +54,7 @@ returns-clause-does c = λ is_private shared hosted_private inputs begun.
     does_phase c.args.pipeline.now c.args.schedule.now c.args.boxes.now c.inputs.ensures.rules c.requires.accepted c.requires.boxes c.args.place c.args.func.now c.args.plan.now c.args.own.now c.requires.at
     c.in_ok-store.store c.in_ok-store.ensures.stores
     (record { tasks = c.in_ok-tasks.tasks; counter = c.task_counter-counter.result; body = c.in_ok-body.body; private = c.in_ok-private.private; bytes = c.in_ok-bytes.bytes })
-    (c.in_ok-tasks.ensures ∙ ap (λ (e : Extents). iterations.iteration_count e c.args.plan.now.pure) c.extents_of-extents.ensures)
+    (c.in_ok-tasks.ensures.is ∙ ap (λ (e : Extents). iterations.iteration_count e c.args.plan.now.pure) c.extents_of-extents.ensures)
     c.task_counter-counter.ensures
     (subst (λ (e : Extents). IsBody c.args.pipeline.now c.args.schedule.now c.args.boxes.now c.args.place c.args.plan.now.pure e c.in_ok-store.store c.in_ok-body.body) c.extents_of-extents.ensures c.in_ok-body.ensures)
     is_private shared hosted_private inputs begun
@@ -67,7 +72,7 @@ returns-clause-touches c =
     touches c.args.pipeline.now c.args.schedule.now c.args.boxes.now c.inputs.ensures.rules c.requires.accepted c.requires.boxes c.args.place c.args.func.now c.args.plan.now c.args.own.now c.requires.at
     c.in_ok-store.store c.in_ok-store.ensures.stores
     (record { tasks = c.in_ok-tasks.tasks; counter = c.task_counter-counter.result; body = c.in_ok-body.body; private = c.in_ok-private.private; bytes = c.in_ok-bytes.bytes })
-    (c.in_ok-tasks.ensures ∙ ap (λ (e : Extents). iterations.iteration_count e c.args.plan.now.pure) c.extents_of-extents.ensures)
+    (c.in_ok-tasks.ensures.is ∙ ap (λ (e : Extents). iterations.iteration_count e c.args.plan.now.pure) c.extents_of-extents.ensures)
     c.task_counter-counter.ensures (c.in_ok-private.ensures ∙ ap (hosted_from c.args.place 0) c.as_slice.ensures)
     (subst (λ (e : Extents). IsBody c.args.pipeline.now c.args.schedule.now c.args.boxes.now c.args.place c.args.plan.now.pure e c.in_ok-store.store c.in_ok-body.body) c.extents_of-extents.ensures c.in_ok-body.ensures)
 
@@ -76,7 +81,7 @@ returns-clause-stores c =
     stores_its_own c.args.pipeline.now c.args.schedule.now c.args.boxes.now c.inputs.ensures.rules c.requires.accepted c.requires.boxes c.args.place c.args.func.now c.args.plan.now c.args.own.now c.requires.at
     c.in_ok-store.store c.in_ok-store.ensures.stores
     (record { tasks = c.in_ok-tasks.tasks; counter = c.task_counter-counter.result; body = c.in_ok-body.body; private = c.in_ok-private.private; bytes = c.in_ok-bytes.bytes })
-    (c.in_ok-tasks.ensures ∙ ap (λ (e : Extents). iterations.iteration_count e c.args.plan.now.pure) c.extents_of-extents.ensures)
+    (c.in_ok-tasks.ensures.is ∙ ap (λ (e : Extents). iterations.iteration_count e c.args.plan.now.pure) c.extents_of-extents.ensures)
     c.task_counter-counter.ensures
     (subst (λ (e : Extents). IsBody c.args.pipeline.now c.args.schedule.now c.args.boxes.now c.args.place c.args.plan.now.pure e c.in_ok-store.store c.in_ok-body.body) c.extents_of-extents.ensures c.in_ok-body.ensures)
 

@@ -39,14 +39,20 @@ body_of-requires-clause-few c =
     c.args.of.now.at c.args.of.now.update.now c.requires.at.update_is c.requires.root.standing c.requires.root.there (subst (λ (p : Place). IsComputed c.args.place p) (sym c.requires.root.placed_is) tt))
 
 -- src/updates.rt:123:17
-pub task_count-requires : goal.task_count-requires
-task_count-requires c =
+pub task_count-requires-clause-few : goal.task_count-requires-clause-few
+task_count-requires-clause-few c =
+    subst AreFew (sym c.update_extents-extents.ensures)
+    (few c.args.pipeline.now c.args.schedule.now c.args.boxes.now c.inputs.ensures.rules c.requires.accepted c.requires.boxes c.args.place c.args.of.now.func.now c.args.of.now.own.now c.requires.root.func_is c.requires.root.box_is
+    c.args.of.now.at c.args.of.now.update.now c.requires.at.update_is c.requires.root.standing c.requires.root.there (subst (λ (p : Place). IsComputed c.args.place p) (sym c.requires.root.placed_is) tt))
+
+pub task_count-requires-clause-splits : goal.task_count-requires-clause-splits
+task_count-requires-clause-splits c =
     splits c.args.pipeline.now c.args.schedule.now c.requires.accepted c.args.place c.args.of.now.func.now c.args.of.now.plan.now c.requires.root.standing c.requires.root.func_is c.requires.root.there
     c.args.of.now.at c.args.of.now.update.now c.args.of.now.stage.now c.requires.at
 
 -- src/updates.rt:102:1
 pub returns-clause-tasks : goal.returns-clause-tasks
-returns-clause-tasks c = c.in_ok-tasks.ensures ∙ ap (λ (e : Extents). iterations.iteration_count e c.args.of.now.stage.now) c.update_extents-extents.ensures
+returns-clause-tasks c = c.in_ok-tasks.ensures.is ∙ ap (λ (e : Extents). iterations.iteration_count e c.args.of.now.stage.now) c.update_extents-extents.ensures
 
 -- src/updates.rt:102:1
 pub returns-clause-does : goal.returns-clause-does
@@ -54,7 +60,7 @@ returns-clause-does c = λ inputs begun.
     does_update c.args.pipeline.now c.args.schedule.now c.args.boxes.now c.inputs.ensures.rules c.requires.accepted c.requires.boxes c.args.place c.args.of.now.func.now c.args.of.now.plan.now c.args.of.now.own.now c.requires.root
     c.args.of.now.at c.args.of.now.update.now c.args.of.now.stage.now c.requires.at c.in_ok-store.store c.in_ok-store.ensures.stores
     (record { tasks = c.in_ok-tasks.tasks; counter = c.task_counter-counter.result; body = c.in_ok-body.body; private = c.new-private.result; bytes = c.in_ok-bytes.bytes })
-    (c.in_ok-tasks.ensures ∙ ap (λ (e : Extents). iterations.iteration_count e c.args.of.now.stage.now) c.update_extents-extents.ensures)
+    (c.in_ok-tasks.ensures.is ∙ ap (λ (e : Extents). iterations.iteration_count e c.args.of.now.stage.now) c.update_extents-extents.ensures)
     c.task_counter-counter.ensures
     (subst (λ (e : Extents). Repeats c.args.place c.in_ok-body.body c.in_ok-store.store (wholes e c.args.of.now.stage.now.splits (pure.inside_of (iterations.parallel c.args.of.now.stage.now) c.args.of.now.stage.now.loops))) c.update_extents-extents.ensures c.in_ok-body.ensures.repeats)
     inputs begun
@@ -64,7 +70,7 @@ returns-clause-touches c =
     touches c.args.pipeline.now c.args.schedule.now c.args.boxes.now c.inputs.ensures.rules c.requires.accepted c.requires.boxes c.args.place c.args.of.now.func.now c.args.of.now.plan.now c.args.of.now.own.now c.requires.root
     c.args.of.now.at c.args.of.now.update.now c.args.of.now.stage.now c.requires.at c.in_ok-store.store c.in_ok-store.ensures.stores
     (record { tasks = c.in_ok-tasks.tasks; counter = c.task_counter-counter.result; body = c.in_ok-body.body; private = c.new-private.result; bytes = c.in_ok-bytes.bytes })
-    (c.in_ok-tasks.ensures ∙ ap (λ (e : Extents). iterations.iteration_count e c.args.of.now.stage.now) c.update_extents-extents.ensures)
+    (c.in_ok-tasks.ensures.is ∙ ap (λ (e : Extents). iterations.iteration_count e c.args.of.now.stage.now) c.update_extents-extents.ensures)
     c.task_counter-counter.ensures
     (subst (λ (e : Extents). Repeats c.args.place c.in_ok-body.body c.in_ok-store.store (wholes e c.args.of.now.stage.now.splits (pure.inside_of (iterations.parallel c.args.of.now.stage.now) c.args.of.now.stage.now.loops))) c.update_extents-extents.ensures c.in_ok-body.ensures.repeats)
     dark (dark_words c.args.pipeline.now) c.new-private.ensures
@@ -75,7 +81,7 @@ returns-clause-stores c = record {
       names_owned c.args.pipeline.now c.args.schedule.now c.args.boxes.now c.inputs.ensures.rules c.requires.accepted c.requires.boxes c.args.place c.args.of.now.func.now c.args.of.now.plan.now c.args.of.now.own.now c.requires.root
       c.args.of.now.at c.args.of.now.update.now c.args.of.now.stage.now c.requires.at c.in_ok-store.store c.in_ok-store.ensures.stores
       (record { tasks = c.in_ok-tasks.tasks; counter = c.task_counter-counter.result; body = c.in_ok-body.body; private = c.new-private.result; bytes = c.in_ok-bytes.bytes })
-      (c.in_ok-tasks.ensures ∙ ap (λ (e : Extents). iterations.iteration_count e c.args.of.now.stage.now) c.update_extents-extents.ensures)
+      (c.in_ok-tasks.ensures.is ∙ ap (λ (e : Extents). iterations.iteration_count e c.args.of.now.stage.now) c.update_extents-extents.ensures)
       c.task_counter-counter.ensures
       (subst (λ (e : Extents). Repeats c.args.place c.in_ok-body.body c.in_ok-store.store (wholes e c.args.of.now.stage.now.splits (pure.inside_of (iterations.parallel c.args.of.now.stage.now) c.args.of.now.stage.now.loops))) c.update_extents-extents.ensures c.in_ok-body.ensures.repeats)
       inputs begun task below x y named;
@@ -83,7 +89,7 @@ returns-clause-stores c = record {
       task_stores c.args.pipeline.now c.args.schedule.now c.args.boxes.now c.inputs.ensures.rules c.requires.accepted c.requires.boxes c.args.place c.args.of.now.func.now c.args.of.now.plan.now c.args.of.now.own.now c.requires.root
       c.args.of.now.at c.args.of.now.update.now c.args.of.now.stage.now c.requires.at c.in_ok-store.store c.in_ok-store.ensures.stores
       (record { tasks = c.in_ok-tasks.tasks; counter = c.task_counter-counter.result; body = c.in_ok-body.body; private = c.new-private.result; bytes = c.in_ok-bytes.bytes })
-      (c.in_ok-tasks.ensures ∙ ap (λ (e : Extents). iterations.iteration_count e c.args.of.now.stage.now) c.update_extents-extents.ensures)
+      (c.in_ok-tasks.ensures.is ∙ ap (λ (e : Extents). iterations.iteration_count e c.args.of.now.stage.now) c.update_extents-extents.ensures)
       c.task_counter-counter.ensures
       (subst (λ (e : Extents). Repeats c.args.place c.in_ok-body.body c.in_ok-store.store (wholes e c.args.of.now.stage.now.splits (pure.inside_of (iterations.parallel c.args.of.now.stage.now) c.args.of.now.stage.now.loops))) c.update_extents-extents.ensures c.in_ok-body.ensures.repeats)
       inputs begun task below funcs hold x y;
