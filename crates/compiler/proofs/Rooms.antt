@@ -14,7 +14,7 @@ use Rattle.loop_ir.specs.declared.statements.Phase.{Phase}
 use Rattle.lowering.specs.Registers.{TakeFew, most_need}
 use Rattle.phase_memory.specs.Places.{places_of}
 use Rattle.task_code.specs.Faults.{HasRoom, LieLow}
-use Rattle.program_code.specs.Programs.{HasRegisters}
+use Rattle.program_code.specs.Programs.{HasFewTasks, HasRegisters}
 use Rattle.compiler.proofs.Low.{layout_is, own_few}
 
 frames_at : (count : ℕ) (inputs roots privates : List ℕ) (framed : Bool) → (laid_in count inputs roots privates framed).size ≤ 33554432 → (laid_in count inputs roots privates framed).frames ≤ 4294901760
@@ -61,4 +61,8 @@ module _ (pipeline : Pipeline) (schedule : Schedule) (boxes : Boxes) (is : infer
 
     pub have_registers : (phases : List Phase) → TakeFew pipeline schedule phases → AllByRecursion (HasRegisters (places_of pipeline schedule boxes.funcs boxes.layout)) phases
     have_registers [] take = tt
-    have_registers (phase ∷ phases) take = ((room _ take.0.1, take.0.0), have_registers phases take.1)
+    have_registers (phase ∷ phases) take = ((room _ take.0.1.0, take.0.0), have_registers phases take.1)
+
+pub have_few_tasks : (pipeline : Pipeline) (schedule : Schedule) (phases : List Phase) → TakeFew pipeline schedule phases → AllByRecursion HasFewTasks phases
+have_few_tasks pipeline schedule [] take = tt
+have_few_tasks pipeline schedule (phase ∷ phases) take = (take.0.1.1, have_few_tasks pipeline schedule phases take.1)

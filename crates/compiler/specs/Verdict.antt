@@ -1,7 +1,7 @@
 -- Why an algorithm under a schedule isn't compiled: the first fault that stands. The algorithm's text is judged first, then the schedule's,
 -- how heavy the schedule is, the boxes, and how many registers expressions need.
 -- This project's own.
-use Rattle.std.specs.Prelude.{◌≡◌, ◌⊎◌, ℕ, nat_lt, if◌then◌else◌, List, length, Option, Some, None, Result, Ok, Err}
+use Rattle.std.specs.Prelude.{◌≡◌, ◌<◌, ◌⊎◌, ℕ, nat_lt, if◌then◌else◌, List, length, Option, Some, None, Result, Ok, Err}
 use Rattle.std.specs.declared.alloc.Global.{Global}
 use Rattle.halide_pipeline.specs.Pipelines.{Pipeline}
 use Rattle.halide_syntax.specs.declared.faults.ParseFault.{ParseFault}
@@ -18,8 +18,12 @@ use Rattle.bounds.specs.declared.verdict.Boxes.{Boxes}
 use Rattle.bounds.specs.Verdict.{inferred}
 use Rattle.loop_ir.specs.declared.statements.Phase.{Phase}
 use Rattle.lowering.specs.Lowered.{AreLowered}
+use Rattle.memory.specs.Addresses.{most_words}
+use Rattle.rv_insn.specs.declared.instructions.Insn.{Insn}
+use Rattle.task_code.specs.declared.places.Places.{Places}
+use Rattle.phase_code.specs.Code.{program}
 use Rattle.phase_memory.specs.Places.{places_of}
-use Rattle.program_code.specs.Programs.{IsTooLong}
+use Rattle.program_code.specs.Programs.{parts_from}
 use Rattle.compiler.specs.declared.faults.CompileFault.{CompileFault}
 use Rattle.compiler.specs.declared.faults.CompileFault.TheVariants as faults
 
@@ -45,6 +49,10 @@ by_algorithm schedule (Err fault) = Some (faults.Parse fault.0 fault.1)
 unfoldable pub refusal_of : Global → List ℕ → List ℕ → Option CompileFault
 refusal_of alloc algorithm schedule = by_algorithm schedule (parsed alloc algorithm)
 
+-- the program that phases make
+abbrev pub program_of : Places → List Phase → List Insn
+program_of places phases = program 0 (parts_from places 0 phases)
+
 -- The phases of a pipeline under an accepted schedule have more words than a machine's text may have. (No accepted texts are known of which
 -- they have, but that none have isn't proved.)
 pub record HasLongPhases (pipeline : Pipeline) (schedule : Schedule) : Type 0 where
@@ -52,7 +60,7 @@ pub record HasLongPhases (pipeline : Pipeline) (schedule : Schedule) : Type 0 wh
   pub inferred_is : inferred pipeline schedule ≡ Ok boxes
   pub phases : List Phase
   pub are_lowered : AreLowered pipeline schedule boxes (length pipeline.funcs) phases
-  pub long : IsTooLong (places_of pipeline schedule boxes.funcs boxes.layout) 0 phases
+  pub long : most_words < length (program_of (places_of pipeline schedule boxes.funcs boxes.layout) phases)
 
 abbrev pub IsLong : Pipeline → Schedule → CompileFault → Type 0
 IsLong pipeline schedule fault = (fault ≡ faults.TooLong) × HasLongPhases pipeline schedule

@@ -1,13 +1,14 @@
 //! From two texts to a program.
 
-ghost use Rattle.std.specs.Prelude.{◌≡◌, ◌⊎◌, IfErr, IfOk, None, Ok, false};
+ghost use Rattle.std.specs.Prelude.{◌≡◌, ◌<◌, ◌⊎◌, IfErr, IfOk, None, Ok, false, length};
 ghost use Rattle.std.specs.List.{AllByRecursion};
 ghost use Rattle.schedule.specs.Accepted.{IsAccepted};
 ghost use Rattle.weights.specs.Need.{is_too_deep, needs as needed};
 ghost use Rattle.weights.specs.Weight.{weight};
 ghost use Rattle.bounds.specs.Verdict.{inferred};
+ghost use Rattle.memory.specs.Addresses.{most_words};
 ghost use Rattle.task_code.specs.Faults.{LieLow};
-ghost use Rattle.program_code.specs.Programs.{HasRegisters, IsProgram, IsTooLong};
+ghost use Rattle.program_code.specs.Programs.{HasFewTasks, HasRegisters, IsProgram};
 ghost use Rattle.compiler.specs.declared.faults.CompileFault.TheVariants as faults;
 ghost use Rattle.compiler.specs.Compiled.{AreWordsOf, IsCompiled, Means};
 ghost use Rattle.compiler.specs.Verdict as spec;
@@ -47,8 +48,9 @@ fn judged(alloc: Global, pipeline: &Pipeline, schedule: &Schedule) -> Result<Box
 fn generated(alloc: Global, phases: &[Phase], places: &Places) -> Result<Vec<u32>, CompileFault>
     requires low { LieLow places.now.frames }
     requires registers { AllByRecursion (HasRegisters places.now) phases.now }
+    requires tasks { AllByRecursion HasFewTasks phases.now }
     ensures ok { IfOk result (λ words. IsProgram places.now phases.now words.items) }
-    ensures err { IfErr result (λ fault. (fault ≡ faults.Memory) ⊎ ((fault ≡ faults.TooLong) × IsTooLong places.now 0 phases.now)) }
+    ensures err { IfErr result (λ fault. (fault ≡ faults.Memory) ⊎ ((fault ≡ faults.TooLong) × (most_words < length (spec.program_of places.now phases.now)))) }
 {
     match generate(alloc, phases, places) {
         Ok(words) => Ok(words),

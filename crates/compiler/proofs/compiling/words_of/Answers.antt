@@ -3,8 +3,8 @@ use Rattle.std.specs.List.{AllByRecursion}
 use Rattle.loop_ir.specs.declared.statements.Phase.{Phase}
 use Rattle.task_code.specs.declared.places.Places.{Places}
 use Rattle.task_code.specs.Faults.{LieLow}
-use Rattle.program_code.specs.Programs.{HasRegisters}
-use Rattle.compiler.proofs.Rooms.{lie_low, have_registers}
+use Rattle.program_code.specs.Programs.{HasFewTasks, HasRegisters}
+use Rattle.compiler.proofs.Rooms.{lie_low, have_few_tasks, have_registers}
 use Rattle.compiler.proofs.compiling.words_of.Goals as goal
 
 pub generated-requires-clause-low : goal.generated-requires-clause-low
@@ -16,3 +16,8 @@ generated-requires-clause-registers c =
     subst (λ (l : List Phase). AllByRecursion (HasRegisters c.in_ok-places.places) l) (sym c.as_slice.ensures.value)
     (subst (λ (p : Places). AllByRecursion (HasRegisters p) c.in_ok-phases.phases.items) (sym c.in_ok-places.ensures)
     (have_registers c.args.pipeline.now c.args.schedule.now c.args.boxes.now c.requires.boxes c.requires.shallow c.in_ok-phases.phases.items c.in_ok-phases.ensures.few))
+
+pub generated-requires-clause-tasks : goal.generated-requires-clause-tasks
+generated-requires-clause-tasks c =
+    subst (λ (l : List Phase). AllByRecursion HasFewTasks l) (sym c.as_slice.ensures.value)
+    (have_few_tasks c.args.pipeline.now c.args.schedule.now c.in_ok-phases.phases.items c.in_ok-phases.ensures.few)
