@@ -9,3 +9,4 @@ pub mod Sums
 pub mod Traces
 pub mod Trees
 pub mod Turns
+pub mod Rounds

@@ -6,3 +6,4 @@ pub mod Needs
 pub mod Running
 pub mod Soundness
 pub mod Stores
+pub mod Rounds

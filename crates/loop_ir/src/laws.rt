@@ -1,6 +1,7 @@
 //! Laws of the definitions, each the contract of a function that does nothing.
 
 ghost use Rattle.loop_ir.specs.Expressions.{SeesValues, ValuesDependOnLoads};
+ghost use Rattle.loop_ir.specs.Rounds.{RoundsTouchWhatIsSound};
 ghost use Rattle.loop_ir.specs.Soundness.{SoundStatementsWriteWhatIsThere};
 ghost use Rattle.loop_ir.specs.Stores.{OtherPointsStay, StoredStaysStored, TracesFollowRuns};
 
@@ -32,4 +33,9 @@ pub fn stored_stays_stored()
 /// A point at which a statement doesn't store holds what it held.
 pub fn other_points_stay()
     ensures { OtherPointsStay }
+{}
+
+/// What is looked at of a statement to see whether rounds may be done at once is what soundness looks at.
+pub fn rounds_touch_what_is_sound()
+    ensures { RoundsTouchWhatIsSound }
 {}

@@ -7,7 +7,8 @@
 //! - [`running`]: **what a statement and a phase do to the buffers** (`specs/Running.antt`).
 //! - [`linear`]: sums of counters times strides, and what is made of them.
 //! - [`laws`]: what an expression loads decides its value, sound statements only write points that are there
-//!   (`specs/Soundness.antt`), and a point stays where nothing is stored at it (`specs/Stores.antt`).
+//!   (`specs/Soundness.antt`), and a point stays where nothing is stored at it (`specs/Stores.antt`). Whether the rounds of vectorized
+//!   loops may be done at once: `specs/Rounds.antt`.
 #![tactic(auto)]
 
 pub mod buffers;

@@ -2,3 +2,4 @@ pub mod Repeating
 pub mod Few
 pub mod Wholes
 pub mod Nesting
+pub mod Rounds

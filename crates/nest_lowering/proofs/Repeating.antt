@@ -119,7 +119,7 @@ module _ (func : ℕ) where
         ∙ ap (λ (at : loops.Values). all (λ (inner : loops.Values). trace points inputs place x y leaf (put_loops func inner (with (counter id) n values))) (list at) so_far) (loops_with id n values)
         ∙ ap (λ (put : loops.Values → Values). all (λ (inner : loops.Values). trace points inputs place x y leaf (put inner)) (list (loops.with id n (loops_of func values))) so_far) same_puts
 
-    sound_with : (reads : Reads) (written : Points) (loaded : Point → Bool) → is_sound reads written loaded body (with (counter id) n values)
+    pub sound_with : (reads : Reads) (written : Points) (loaded : Point → Bool) → is_sound reads written loaded body (with (counter id) n values)
         ≡ list_all (λ inner. is_sound reads written loaded leaf (put_loops func inner values)) (list (loops.with id n (loops_of func values)))
     sound_with reads written loaded =
         repeats.sound reads written loaded (with (counter id) n values) still

@@ -1,7 +1,8 @@
 //! Statements with the loops of a stage around them, whose contracts say what the loops do and not what they look like, but
 //! for how many counters they add and that expressions need no more registers.
 //!
-//! - [`nests`]: **a body under each of the values that a stage's loops visit, in order** (`specs/Nests.antt`).
+//! - [`nests`]: **a body under each of the values that a stage's loops visit, in order** (`specs/Nests.antt`). Whether the rounds
+//!   of a vectorized loop may be done at once: `specs/Rounds.antt`.
 //! - [`splits`]: the values of loops that are split.
 //! - [`loops`]: loops around a body.
 //! - [`laws`]: a statement repeats itself.

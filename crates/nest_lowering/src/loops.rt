@@ -1,17 +1,21 @@
 //! Loops around a body.
 
-ghost use Rattle.std.specs.Prelude.{◌≡◌, ◌+◌, ℕ, Bool, List, IfOk, length, suc};
+ghost use Rattle.std.specs.Prelude.{◌≡◌, ◌+◌, ◌++◌, ℕ, Bool, List, IfOk, length, suc};
 ghost use Rattle.halide_meaning.specs.Pixel.{Planes, Reads};
 ghost use Rattle.reads.specs.Points.{Point};
 ghost use Rattle.loop_ir.specs.Buffers.{Points};
 ghost use Rattle.loop_ir.specs.Counters.{Values, with};
 ghost use Rattle.loop_ir.specs.Depths.{depth};
 ghost use Rattle.loop_ir.specs.Needs.{greatest_need};
+ghost use Rattle.loop_ir.specs.Rounds.{is_vectorized, rounds, rounds_at};
 ghost use Rattle.loop_ir.specs.Running.{run, turns};
 ghost use Rattle.loop_ir.specs.Soundness.{every, is_sound};
 ghost use Rattle.loop_ir.specs.Stores.{Trace, trace};
+ghost use Rattle.loop_ir.specs.declared.statements.Stmt.TheOpen as layer;
 ghost use Rattle.loop_ir.specs.declared.statements.Stmt.{Stmt};
 ghost use Rattle.nest_lowering.specs.Nests.{AreFew, Repeats};
+ghost use Rattle.nest_lowering.specs.Rounds.{GoesAround, MayBeAround, MayBeAtOnce, is_vectorized_loop};
+ghost use Rattle.schedule_lines.specs.declared.stages.Loop.{Loop};
 ghost use Rattle.stage_loops.specs.Counts as counts;
 ghost use Rattle.stage_loops.specs.Visits.{nest, upto};
 
@@ -25,7 +29,9 @@ use std::alloc::{AllocError, Global};
 
 /// How the rounds of a loop are to be made. Those of the parallel loop are tasks of their own where it is not among
 /// the loops of a nest.
-fn kind_of(own: &Loop) -> LoopKind {
+fn kind_of(own: &Loop) -> LoopKind
+    ensures { is_vectorized result ≡ is_vectorized_loop own.now }
+{
     match own.marked {
         Some(marked) => match marked.mark {
             Mark::Unrolled => LoopKind::Unrolled,
@@ -52,6 +58,7 @@ fn looped(
         → is_sound reads written loaded made values ≡ every count (λ turn. is_sound reads written loaded body (with counter turn values))) }
     ensures depth { IfOk result (λ made. depth made ≡ suc (depth body)) }
     ensures needs { IfOk result (λ made. greatest_need made ≡ greatest_need body) }
+    ensures rounds { IfOk result (λ made. (reads : Reads) → rounds reads made ≡ rounds_at reads (layer.For counter count kind (rounds reads body))) }
 {
     let body = Boxed::new(alloc, body)?;
     Ok(Stmt::For(counter, count, kind, body))
@@ -81,10 +88,12 @@ pub fn loop_once(
         → Repeats func made leaf (λ outer. upto (counts.counts sizes.now.extents sizes.now.splits own.now.id) (λ turn. list (counts.with own.now.id turn outer)))) }
     ensures depth { IfOk result (λ made. depth made ≡ suc (depth body)) }
     ensures needs { IfOk result (λ made. greatest_need made ≡ greatest_need body) }
+    ensures rounds { IfOk result (GoesAround func (counts.counts sizes.now.extents sizes.now.splits) own.now body) }
 {
     let counter = Counter { func, id: own.id };
     let count = extent_of(sizes, own.id);
-    let made = looped(alloc, counter, count, kind_of(own), body)?;
+    let kind = kind_of(own);
+    let made = looped(alloc, counter, count, kind, body)?;
     Ok(made)
 }
 
@@ -106,6 +115,9 @@ pub fn with_loops(
         → Repeats func made leaf (nest (counts.counts sizes.now.extents sizes.now.splits) loops.now list)) }
     ensures depth { IfOk result (λ made. depth made ≡ length loops.now + depth body) }
     ensures needs { IfOk result (λ made. greatest_need made ≡ greatest_need body) }
+    ensures rounds { IfOk result (λ made. (outside : List Loop) → MayBeAtOnce func (counts.counts sizes.now.extents sizes.now.splits) (loops.now ++ outside) body
+        → MayBeAround func (counts.counts sizes.now.extents sizes.now.splits) loops.now outside body
+        → MayBeAtOnce func (counts.counts sizes.now.extents sizes.now.splits) outside made) }
 {
     match loops {
         [] => Ok(body),

@@ -1,9 +1,11 @@
 //! Bodies under the loops of a stage.
 
-ghost use Rattle.std.specs.Prelude.{◌≡◌, ◌+◌, IfOk, length};
+ghost use Rattle.std.specs.Prelude.{◌≡◌, ◌+◌, List, IfOk, length};
 ghost use Rattle.loop_ir.specs.Depths.{depth};
 ghost use Rattle.loop_ir.specs.Needs.{greatest_need};
 ghost use Rattle.nest_lowering.specs.Nests.{AreFew, Repeats};
+ghost use Rattle.nest_lowering.specs.Rounds.{IsLeaf, MayBeAtOnce, MayBeUnder};
+ghost use Rattle.schedule_lines.specs.declared.stages.Loop.{Loop};
 ghost use Rattle.stage_loops.specs.Counts as counts;
 ghost use Rattle.stage_loops.specs.Reach.{wholes};
 
@@ -33,6 +35,8 @@ pub fn with_nest(
     ensures repeats { IfOk result (λ made. Repeats func made body (wholes extents splits.now loops.now)) }
     ensures depth { IfOk result (λ made. depth made ≡ length loops.now + (length splits.now + depth body)) }
     ensures needs { IfOk result (λ made. greatest_need made ≡ greatest_need body) }
+    ensures rounds { IfOk result (λ made. (outside : List Loop) → IsLeaf body → MayBeUnder func extents splits.now loops.now outside body
+        → MayBeAtOnce func (counts.counts extents splits.now) outside made) }
 {
     let sizes = LoopSizes::new(alloc, extents, splits)?;
     let inner = with_splits(alloc, func, extents, splits, body)?;

@@ -7,11 +7,14 @@ ghost use Rattle.loop_ir.specs.Buffers.{Points};
 ghost use Rattle.loop_ir.specs.Counters.{Values, with};
 ghost use Rattle.loop_ir.specs.Depths.{depth};
 ghost use Rattle.loop_ir.specs.Needs.{greatest_need};
+ghost use Rattle.loop_ir.specs.Rounds.{rounds, rounds_at};
 ghost use Rattle.loop_ir.specs.Running.{run, whole_value};
 ghost use Rattle.loop_ir.specs.Soundness.{is_sound};
 ghost use Rattle.loop_ir.specs.Stores.{Trace, trace};
+ghost use Rattle.loop_ir.specs.declared.statements.Stmt.TheOpen as layer;
 ghost use Rattle.loop_ir.specs.declared.statements.Stmt.{Stmt};
 ghost use Rattle.nest_lowering.specs.Nests.{AreFew, AreSmall, Repeats, loops_of};
+ghost use Rattle.nest_lowering.specs.Rounds.{IsLeaf};
 ghost use Rattle.stage_loops.specs.Counts as counts;
 ghost use Rattle.stage_loops.specs.Visits.{begin_of, over_loops, split_body};
 
@@ -63,6 +66,7 @@ fn bound(
         ≡ (if nat_lt (whole_value whole values) extent then is_sound reads written loaded body (with counter (whole_value whole values) values) else true)) }
     ensures depth { IfOk result (λ made. depth made ≡ suc (depth body)) }
     ensures needs { IfOk result (λ made. greatest_need made ≡ greatest_need body) }
+    ensures rounds { IfOk result (λ made. (reads : Reads) → rounds reads made ≡ rounds_at reads (layer.Bind counter whole extent (rounds reads body))) }
 {
     let body = Boxed::new(alloc, body)?;
     Ok(Stmt::Bind(counter, whole, extent, body))
@@ -83,6 +87,7 @@ fn split_once(
         → (leaf : Stmt) (list : counts.Values → List counts.Values) → Repeats func body leaf list → Repeats func made leaf (split_body before place split list)) }
     ensures depth { IfOk result (λ made. depth made ≡ suc (depth body)) }
     ensures needs { IfOk result (λ made. greatest_need made ≡ greatest_need body) }
+    ensures leaf { IfOk result (λ made. IsLeaf body → IsLeaf made) }
 {
     let whole = whole_of(func, place, split, extent);
     let counter = Counter { func, id: split.of };
@@ -118,6 +123,7 @@ pub fn with_splits(
     ensures repeats { IfOk result (λ made. (leaf : Stmt) (list : counts.Values → List counts.Values) → Repeats func body leaf list → Repeats func made leaf (over_loops extents splits.now list)) }
     ensures depth { IfOk result (λ made. depth made ≡ length splits.now + depth body) }
     ensures needs { IfOk result (λ made. greatest_need made ≡ greatest_need body) }
+    ensures leaf { IfOk result (λ made. IsLeaf body → IsLeaf made) }
 {
     match splits {
         [] => Ok(body),

@@ -3,9 +3,15 @@ use Rattle.stage_loops.specs.Counts as loops
 use Rattle.stage_loops.specs.Visits.{upto}
 use Rattle.nest_lowering.specs.Nests.{Repeats}
 use Rattle.nest_lowering.proofs.Repeating.{loop_repeats}
+use Rattle.nest_lowering.proofs.Rounds.{goes_around}
 use Rattle.nest_lowering.proofs.loops.loop_once.Goals as goal
 
 pub returns-clause-repeats : goal.returns-clause-repeats
 returns-clause-repeats c = λ leaf list repeats.
     subst (λ (n : ℕ). Repeats c.args.func c.in_ok-made.made leaf (λ (outer : loops.Values). upto n (λ (turn : ℕ). list (loops.with c.args.own.now.id turn outer)))) c.extent_of-count.ensures.is
     (loop_repeats c.args.func c.in_ok-made.made c.args.body c.args.own.now.id c.extent_of-count.result c.extent_of-count.ensures.few c.in_ok-made.ensures.runs c.in_ok-made.ensures.traces c.in_ok-made.ensures.sound leaf list repeats)
+
+pub returns-clause-rounds : goal.returns-clause-rounds
+returns-clause-rounds c =
+    goes_around c.args.func (loops.counts c.args.sizes.now.extents c.args.sizes.now.splits) c.args.own.now c.args.body c.in_ok-made.made c.kind_of-kind.result c.kind_of-kind.ensures
+    c.extent_of-count.result c.extent_of-count.ensures.is c.extent_of-count.ensures.few c.in_ok-made.ensures.rounds

@@ -1,13 +1,16 @@
 use Rattle.std.proofs.Common.{suc, ap, ◌∙◌}
 use Rattle.loop_ir.specs.declared.statements.Stmt.{Stmt}
+use Rattle.loop_ir.specs.declared.statements.Stmt.TheOpen as layer
 use Rattle.loop_ir.specs.Counters.{with}
 use Rattle.loop_ir.specs.Depths.{depth}
 use Rattle.loop_ir.specs.Needs.{greatest_need}
+use Rattle.loop_ir.specs.Rounds.{rounds, rounds_at}
 use Rattle.loop_ir.specs.Running.{run, turns}
 use Rattle.loop_ir.specs.Soundness.{every, is_sound}
 use Rattle.loop_ir.specs.Stores.{trace}
 use Rattle.loop_ir.proofs.Depths.{depth_for}
 use Rattle.loop_ir.proofs.Needs.{greatest_for}
+use Rattle.loop_ir.proofs.Rounds.{rounds_for}
 use Rattle.loop_ir.proofs.Sound.{sound_for}
 use Rattle.loop_ir.proofs.Traces.{trace_for}
 use Rattle.loop_ir.proofs.Trees.{run_for}
@@ -33,3 +36,8 @@ returns-clause-depth c = depth_for c.args.counter c.args.count c.args.kind c.in_
 
 pub returns-clause-needs : goal.returns-clause-needs
 returns-clause-needs c = greatest_for c.args.counter c.args.count c.args.kind c.in_ok-body.body ∙ ap greatest_need c.in_ok-body.ensures
+
+pub returns-clause-rounds : goal.returns-clause-rounds
+returns-clause-rounds c = λ reads.
+    rounds_for reads c.args.counter c.args.count c.args.kind c.in_ok-body.body
+    ∙ ap (λ (own : Stmt). rounds_at reads (layer.For c.args.counter c.args.count c.args.kind (rounds reads own))) c.in_ok-body.ensures

@@ -1,14 +1,17 @@
 use Rattle.std.proofs.Common.{suc, true, cond, ap, ◌∙◌}
 use Rattle.std.specs.Prelude.{nat_lt}
 use Rattle.loop_ir.specs.declared.statements.Stmt.{Stmt}
+use Rattle.loop_ir.specs.declared.statements.Stmt.TheOpen as layer
 use Rattle.loop_ir.specs.Counters.{with}
 use Rattle.loop_ir.specs.Depths.{depth}
 use Rattle.loop_ir.specs.Needs.{greatest_need}
+use Rattle.loop_ir.specs.Rounds.{rounds, rounds_at}
 use Rattle.loop_ir.specs.Running.{run, whole_value}
 use Rattle.loop_ir.specs.Soundness.{is_sound}
 use Rattle.loop_ir.specs.Stores.{trace}
 use Rattle.loop_ir.proofs.Depths.{depth_bind}
 use Rattle.loop_ir.proofs.Needs.{greatest_bind}
+use Rattle.loop_ir.proofs.Rounds.{rounds_bind}
 use Rattle.loop_ir.proofs.Sound.{sound_bind}
 use Rattle.loop_ir.proofs.Traces.{trace_bind}
 use Rattle.loop_ir.proofs.Trees.{run_bind}
@@ -37,3 +40,8 @@ returns-clause-depth c = depth_bind c.args.counter c.args.whole c.args.extent c.
 
 pub returns-clause-needs : goal.returns-clause-needs
 returns-clause-needs c = greatest_bind c.args.counter c.args.whole c.args.extent c.in_ok-body.body ∙ ap greatest_need c.in_ok-body.ensures
+
+pub returns-clause-rounds : goal.returns-clause-rounds
+returns-clause-rounds c = λ reads.
+    rounds_bind reads c.args.counter c.args.whole c.args.extent c.in_ok-body.body
+    ∙ ap (λ (own : Stmt). rounds_at reads (layer.Bind c.args.counter c.args.whole c.args.extent (rounds reads own))) c.in_ok-body.ensures
