@@ -34,11 +34,11 @@ use Rattle.box_laws.specs.Laws.{seen_in, second_seen, update_points}
 use Rattle.bounds.specs.Sources.{same_source}
 
 -- a point of an input or of one of the first so many Funcs
-abbrev IsBelow : ℕ → Source → Type 0
+abbrev pub IsBelow : ℕ → Source → Type 0
 IsBelow count (sources.Input place) = Unit {0}
 IsBelow count (sources.Func place) = place < count
 
-abbrev AreBelow : ℕ → List Point → Type 0
+abbrev pub AreBelow : ℕ → List Point → Type 0
 AreBelow count points = AllByRecursion (λ (point : Point). IsBelow count point.source) points
 
 still_below : (count more : ℕ) → count ≤ more → (s : Source) → IsBelow count s → IsBelow more s
@@ -66,7 +66,7 @@ module _ (P : Point → Type 0) where
 
 module _ (reads : Reads) (is_inlined : ℕ → Bool) (inputs : List Input) (funcs : List Func) (are : AreFuncs inputs funcs) where
   -- what expressions read that call the first so many Funcs
-  abbrev Within : ℕ → Type 0
+  abbrev pub Within : ℕ → Type 0
   Within count = (has : Variable → Bool) (vars : Variable → Seen) → ((v : Variable) → AreBelow count (vars v).points)
       → (e : Expr) → keeps (is_read inputs funcs count) has e ≡ true → AreBelow count (inlined (seeing reads) is_inlined funcs count vars e).points
 
@@ -136,7 +136,7 @@ module _ (reads : Reads) (is_inlined : ℕ → Bool) (inputs : List Input) (func
     below_in e kept =
         kept_folds_related ReadsBelow (is_read inputs funcs count) has (through_at (seeing reads) (inside (seeing reads) is_inlined funcs count) vars) (λ level. tt) below_levels e kept
 
-  within : (bound count : ℕ) → count ≤ bound → Within count
+  pub within : (bound count : ℕ) → count ≤ bound → Within count
   within zero count few = below_in count (λ place l. absurd (omega (arith, few, l)))
   within (suc bound) count few = below_in count (λ place l. within bound place (omega (arith, few, l)))
 

@@ -53,7 +53,7 @@ whole_small second width first height some few low inside =
 abbrev point_of : ℕ → ℕ → ℕ → ℕ → Environment
 point_of a b c d = record { first_argument = a; second_argument = b; first_reduction = c; second_reduction = d }
 
-same_point : (a b c d x y z w : ℕ) → a ≡ x → b ≡ y → c ≡ z → d ≡ w → point_of a b c d ≡ point_of x y z w
+pub same_point : (a b c d x y z w : ℕ) → a ≡ x → b ≡ y → c ≡ z → d ≡ w → point_of a b c d ≡ point_of x y z w
 same_point a b c d x y z w ea eb ec ed =
     ap (λ (n : ℕ). point_of n b c d) ea ∙ ap (λ (n : ℕ). point_of x n c d) eb ∙ ap (λ (n : ℕ). point_of x y n d) ec ∙ ap (λ (n : ℕ). point_of x y z n) ed
 

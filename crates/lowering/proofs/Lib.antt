@@ -45,3 +45,9 @@ pub mod UpdateTasks
 pub mod UpdateTouches
 pub mod UpdateSlices
 pub mod UpdateNests
+pub mod VectorLoops
+pub mod UpdateRounds
+pub mod RoundsApart
+pub mod PureRounds
+pub mod TaskRounds
+pub mod HostRounds

@@ -104,7 +104,7 @@ module _ (pipeline : Pipeline) (schedule : Schedule) (boxes : Boxes) (accepted :
     pub loops_tell : (leaf : Stmt) → Repeats host leaf store (wholes extents splits []) → (inside : List Loop) (made : Stmt) → HasLoops pipeline schedule boxes host counts leaf inside made
         → (turned : loops.Values) → AreSmall turned → AllByRecursion AreWords (listed inside turned) → Told made turned (list_any (is_at x y) (listed inside turned))
     loops_tell leaf bound _ _ No_loops turned small words so_far = leaf_tells leaf bound turned small words so_far
-    loops_tell leaf bound _ made (One_outside inside mid inner body _ within nested does) turned small words so_far =
+    loops_tell leaf bound _ made (One_outside inside mid inner body _ within nested does around) turned small words so_far =
         let lists : ℕ → List loops.Values = λ turn. listed inside (loops.with mid.id turn turned) in
         let list_is : listed (inside ++ mid ∷ []) turned ≡ upto (counts mid.id) lists = nest-append counts inside (mid ∷ []) (over_loops extents splits (λ (whole : loops.Values). whole ∷ [])) turned in
         let all_words : AllByRecursion AreWords (upto (counts mid.id) lists) = subst (λ (l : List loops.Values). AllByRecursion AreWords l) list_is words in

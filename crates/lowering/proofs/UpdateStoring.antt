@@ -28,7 +28,7 @@ use Rattle.lowering.proofs.Storing.{store_sound}
 
 -- ---- sums
 
-linear_small : (values : Values) (own : Linear) → linear_value values own < 2 ^ 32
+pub linear_small : (values : Values) (own : Linear) → linear_value values own < 2 ^ 32
 unfolding linear_value
 linear_small values own = omega arith
 

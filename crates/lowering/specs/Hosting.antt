@@ -44,6 +44,9 @@ use Rattle.lowering.specs.Corners.{first_of, turns_for, AreCorners}
 use Rattle.lowering.specs.Planes.{has_point, box_points}
 use Rattle.lowering.specs.PurePhases.{IsComputedAt, inside_of}
 use Rattle.lowering.specs.Registers.{most_need}
+use Rattle.lowering.specs.Rounds.{MayAlwaysBeAtOnce, at_once_first}
+use Rattle.nest_lowering.specs.Rounds.{GoesAround, IsLeaf}
+use Rattle.loop_ir.specs.Rounds.{may_be_at_once}
 
 -- ---- what a nest does
 
@@ -94,6 +97,8 @@ pub record DoesFirst (found : Option Stmt) (rest made : Stmt) : Type 0 where
       → is_sound reads written loaded made values ≡ (is_sound_first reads written loaded found values && is_sound reads written loaded rest values)
   pub depth_is : depth made ≡ max (depth_first found) (depth rest)
   pub need_is : greatest_need made ≡ max (need_first found) (greatest_need rest)
+  pub at_once : (reads : Reads) (values : Values) → may_be_at_once reads made values ≡ (at_once_first reads found values && may_be_at_once reads rest values)
+  pub alone_is : found ≡ None → made ≡ rest
 
 -- It stores in the buffer of one Func alone, while the Func's loops stand at small values.
 abbrev pub StoresInIt : ℕ → Stmt → Type 0
@@ -192,6 +197,7 @@ module _ (pipeline : Pipeline) (schedule : Schedule) (boxes : Boxes) where
     -- under at most five loops and four values of split ones
     pub few : depth made ≤ 9
     pub needs : greatest_need made ≤ most_need pipeline schedule
+    pub at_once : MayAlwaysBeAtOnce made
 
   -- There are some exactly if it is computed there.
   abbrev pub IsNestAt : LoopPlace → ℕ → Option Stmt → Type 0
@@ -211,6 +217,7 @@ module _ (pipeline : Pipeline) (schedule : Schedule) (boxes : Boxes) where
     No_loops : HasLoops host counts leaf [] leaf
     One_outside : (inside : List Loop) (own : Loop) (inner body made : Stmt) → HasLoops host counts leaf inside inner
         → HasNests (record { func = host; inside = own.id }) 0 inner body → DoesTurns host own.id (counts own.id) body made
+        → GoesAround host counts own body made
         → HasLoops host counts leaf (inside ++ own ∷ []) made
 
   -- What a task does: the loops inside the parallel one, and before them the nests of the Funcs that are computed at the parallel one.
@@ -224,5 +231,6 @@ module _ (pipeline : Pipeline) (schedule : Schedule) (boxes : Boxes) where
     pub bound : Repeats host leaf store (wholes extents stage.splits [])
     pub depth_is : depth leaf ≡ length stage.splits + depth store
     pub need_is : greatest_need leaf ≡ greatest_need store
+    pub leaf_is : IsLeaf store → IsLeaf leaf
     pub looped : HasLoops host (loops.counts extents stage.splits) leaf (inside_of (parallel stage) stage.loops) inner
     pub begun : HasOutermost host (parallel stage) inner body

@@ -12,3 +12,4 @@ pub mod Hosting
 pub mod Updates
 pub mod Lowered
 pub mod Using
+pub mod Rounds

@@ -15,6 +15,7 @@ ghost use Rattle.lowering.specs.HostedFuncs as hosted;
 ghost use Rattle.lowering.specs.Hosting as spec;
 ghost use Rattle.lowering.specs.PurePhases.{IsComputedAt, inside_of};
 ghost use Rattle.lowering.specs.Registers.{most_need};
+ghost use Rattle.lowering.specs.Rounds.{MayAlwaysBeAtOnce};
 ghost use Rattle.lowering.specs.Updates.{IsUpdateAt};
 
 use crate::corners::{corner_at, corners_of};
@@ -24,7 +25,7 @@ use bounds::{Boxes, SourceBox};
 use halide_pipeline::{Func, Pipeline};
 use loop_ir::statements::Stmt;
 use nest_lowering::loops::loop_once;
-use nest_lowering::nests::with_nest;
+use nest_lowering::splits::with_splits;
 use schedule::{FuncPlan, LoopPlace, Place, Schedule, Standing};
 use schedule_lines::stages::same_id;
 use schedule_lines::{Loop, Stage};
@@ -127,11 +128,13 @@ fn with_update(
     requires sound { spec.IsSoundNest pipeline.now schedule.now boxes.now at place of.now.func.now of.now.own.now before }
     requires few { depth before ≤ 9 }
     requires needs { greatest_need before ≤ most_need pipeline.now schedule.now }
+    requires at_once { MayAlwaysBeAtOnce before }
     ensures does { IfOk result (spec.DoesNests pipeline.now schedule.now boxes.now at place of.now.func.now of.now.own.now (suc of.now.at)) }
     ensures alone { IfOk result (spec.StoresInIt place) }
     ensures sound { IfOk result (spec.IsSoundNest pipeline.now schedule.now boxes.now at place of.now.func.now of.now.own.now) }
     ensures few { IfOk result (λ made. depth made ≤ 9) }
     ensures needs { IfOk result (λ made. greatest_need made ≤ most_need pipeline.now schedule.now) }
+    ensures at_once { IfOk result MayAlwaysBeAtOnce }
 {
     let plans = schedule.funcs.as_slice();
     let standings = schedule.standings.as_slice();
@@ -169,6 +172,7 @@ fn nests_upto(
     ensures sound { IfOk result (spec.IsSoundNest pipeline.now schedule.now boxes.now at place func.now own.now) }
     ensures few { IfOk result (λ made. depth made ≤ 9) }
     ensures needs { IfOk result (λ made. greatest_need made ≤ most_need pipeline.now schedule.now) }
+    ensures at_once { IfOk result MayAlwaysBeAtOnce }
 {
     let Some(number) = count.checked_sub(1) else {
         let made = pure_nest(alloc, pipeline, schedule, boxes, at, place, func, plan, own)?;
@@ -386,7 +390,7 @@ pub fn body_of(
 {
     let splits = stage.splits.as_slice();
     let sizes = LoopSizes::new(alloc, extents, splits)?;
-    let leaf = with_nest(alloc, host, extents, splits, &[], store)?;
+    let leaf = with_splits(alloc, host, extents, splits, store)?;
     let inside = inside_parallel(stage);
     let inner = loops_around(alloc, pipeline, schedule, boxes, host, &sizes, inside, leaf)?;
     let made = outermost(alloc, pipeline, schedule, boxes, host, stage, inner)?;

@@ -10,6 +10,8 @@ ghost use Rattle.loop_ir.specs.Depths.{depth};
 ghost use Rattle.loop_ir.specs.Needs.{greatest_need};
 ghost use Rattle.lowering.specs.Hosting.{DoesNest, IsSoundNest, StoresInIt};
 ghost use Rattle.lowering.specs.PurePhases.{IsComputedAt, IsStoreOf};
+ghost use Rattle.lowering.specs.Rounds.{MayAlwaysBeAtOnce};
+ghost use Rattle.nest_lowering.specs.Rounds.{IsLeaf};
 ghost use Rattle.lowering.specs.Registers.{most_need, taken};
 
 use crate::corners::{corner_of, corners_of};
@@ -36,6 +38,7 @@ pub(crate) fn store_of(
 ) -> Result<Stmt, AllocError>
     ensures rules { IsWellFormed pipeline.now }
     ensures stores { IfOk result (λ made. IsStoreOf pipeline.now schedule.now boxes.now placed place func.now own.now made) }
+    ensures leaf { IfOk result IsLeaf }
     ensures depth { IfOk result (λ made. depth made ≡ 0) }
     ensures needs { IfOk result (λ made. greatest_need made ≤ max 1 (taken (flags_of schedule.now.standings) pipeline.now.funcs place func.now.pure)) }
 {
@@ -80,6 +83,7 @@ pub fn pure_nest(
     ensures alone { IfOk result (StoresInIt place) }
     ensures sound { IfOk result (λ made. IsSoundNest pipeline.now schedule.now boxes.now at place func.now own.now made) }
     ensures few { IfOk result (λ made. depth made ≤ 9) }
+    ensures at_once { IfOk result MayAlwaysBeAtOnce }
     ensures needs { IfOk result (λ made. greatest_need made ≤ most_need pipeline.now schedule.now) }
 {
     let placed = Place::At(at);

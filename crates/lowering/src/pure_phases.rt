@@ -13,6 +13,7 @@ ghost use Rattle.lowering.specs.HostedFuncs.{hosted_from};
 ghost use Rattle.lowering.specs.Planes.{owns};
 ghost use Rattle.lowering.specs.PurePhases as spec;
 ghost use Rattle.lowering.specs.Registers.{most_need};
+ghost use Rattle.lowering.specs.Rounds.{RoundsMayBeAtOnce};
 ghost use Rattle.lowering.specs.Stages.{DoesStage};
 ghost use Rattle.lowering.specs.Stored.{StoresItsOwn};
 ghost use Rattle.lowering.specs.Touching.{TouchesItsOwn};
@@ -110,6 +111,7 @@ pub fn pure_phase(
     ensures few { IfOk result (λ phase. task_depth phase ≤ 14) }
     ensures needs { IfOk result (λ phase. greatest_need phase.body ≤ most_need pipeline.now schedule.now) }
     ensures few_tasks { IfOk result (λ phase. phase.tasks ≤ 2 ^ 31) }
+    ensures rounds { IfOk result RoundsMayBeAtOnce }
     ensures stores { IfOk result (StoresItsOwn boxes.now place (owns (views.extents_of own.now) plan.now.pure)) }
 {
     let stage = &plan.pure;

@@ -9,6 +9,7 @@ ghost use Rattle.loop_ir.specs.Depths.{depth};
 ghost use Rattle.loop_ir.specs.Expressions.{linear_value};
 ghost use Rattle.loop_ir.specs.Needs.{greatest_need};
 ghost use Rattle.expression_lowering.specs.Lowering.{environment};
+ghost use Rattle.nest_lowering.specs.Rounds.{IsLeaf};
 ghost use Rattle.lowering.specs.PurePhases.{HitsPure, IsSoundPure, StoresPure, whole_at};
 ghost use Rattle.lowering.specs.Registers.{taken};
 
@@ -81,6 +82,7 @@ pub fn pure_store(
 ) -> Result<Stmt, AllocError>
     ensures stores { IfOk result (λ made. StoresPure corners.now (flagged flags.now) funcs.now place corner.now pure.now made) }
     ensures hits { IfOk result (HitsPure place) }
+    ensures leaf { IfOk result IsLeaf }
     ensures sound { IfOk result (λ made. IsSoundPure corners.now (flagged flags.now) funcs.now place corner.now pure.now made) }
     ensures depth { IfOk result (λ made. depth made ≡ 0) }
     ensures needs { IfOk result (λ made. greatest_need made ≤ max 1 (taken flags.now funcs.now place pure.now)) }

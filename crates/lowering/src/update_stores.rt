@@ -14,6 +14,7 @@ ghost use Rattle.loop_ir.specs.Needs.{greatest_need, need};
 ghost use Rattle.expression_lowering.specs.Lowering.{environment, place as place_in, placed};
 ghost use Rattle.lowering.specs.Registers.{second_taken, update_taken};
 ghost use Rattle.lowering.specs.Updates as spec;
+ghost use Rattle.nest_lowering.specs.Rounds.{IsLeaf};
 
 use crate::stores::whole_of;
 use expression_lowering::calls::counted_from;
@@ -115,6 +116,7 @@ pub fn update_store(
     requires { place + 1 < 2 ^ 64 }
     ensures stores { IfOk result (λ made. spec.StoresUpdate corners.now (flagged flags.now) funcs.now place corner.now update.now made) }
     ensures hits { IfOk result (λ made. spec.HitsUpdate corners.now (flagged flags.now) funcs.now place corner.now update.now made) }
+    ensures leaf { IfOk result IsLeaf }
     ensures sound { IfOk result (λ made. spec.IsSoundUpdate corners.now (flagged flags.now) funcs.now place corner.now update.now made) }
     ensures depth { IfOk result (λ made. depth made ≡ 0) }
     ensures needs { IfOk result (λ made. greatest_need made ≤ update_taken flags.now funcs.now place update.now) }

@@ -1,9 +1,9 @@
 //! Phases of updates, and their loops where the Func is computed at a loop.
 
-ghost use Rattle.std.specs.Prelude.{◌≡◌, ◌+◌, ◌<◌, ◌≤◌, ◌^◌, [], IfOk, Ok, Some, length, slice_get, suc};
+ghost use Rattle.std.specs.Prelude.{◌≡◌, ◌+◌, ◌<◌, ◌≤◌, ◌^◌, List, [], IfOk, Ok, Some, length, slice_get, suc};
 ghost use Rattle.halide_meaning.specs.Pixel as meaning;
 ghost use Rattle.schedule.specs.Accepted.{IsAccepted};
-ghost use Rattle.stage_loops.specs.Counts.{AreSplits};
+ghost use Rattle.stage_loops.specs.Counts.{AreSplits, counts};
 ghost use Rattle.stage_loops.specs.Iterations as iterations;
 ghost use Rattle.stage_loops.specs.Reach.{wholes};
 ghost use Rattle.inlining.specs.Inlining.{flagged};
@@ -13,9 +13,12 @@ ghost use Rattle.bounds.specs.Verdict.{inferred};
 ghost use Rattle.loop_ir.specs.Depths.{depth, task_depth};
 ghost use Rattle.loop_ir.specs.Needs.{greatest_need};
 ghost use Rattle.nest_lowering.specs.Nests.{AreFew, Repeats};
+ghost use Rattle.nest_lowering.specs.Rounds.{IsLeaf, MayBeAtOnce, MayBeUnder};
+ghost use Rattle.schedule_lines.specs.declared.stages.Loop.{Loop};
 ghost use Rattle.lowering.specs.Hosting.{StoresInIt};
 ghost use Rattle.lowering.specs.PurePhases as pure;
 ghost use Rattle.lowering.specs.Registers.{most_need, update_taken};
+ghost use Rattle.lowering.specs.Rounds.{MayAlwaysBeAtOnce, RoundsMayBeAtOnce};
 ghost use Rattle.lowering.specs.Stages.{DoesStage};
 ghost use Rattle.lowering.specs.Stored.{StoresWhatItNames};
 ghost use Rattle.lowering.specs.Touching.{TouchesItsOwn};
@@ -86,6 +89,7 @@ fn store_at(
 ) -> Result<Stmt, AllocError>
     requires { place + 1 < 2 ^ 64 }
     ensures stores { IfOk result (λ made. spec.StoresUpdate corners.now (flagged (flags_of schedule.now.standings)) pipeline.now.funcs place corner.now update.now made) }
+    ensures leaf { IfOk result IsLeaf }
     ensures hits { IfOk result (λ made. spec.HitsUpdate corners.now (flagged (flags_of schedule.now.standings)) pipeline.now.funcs place corner.now update.now made) }
     ensures sound { IfOk result (λ made. spec.IsSoundUpdate corners.now (flagged (flags_of schedule.now.standings)) pipeline.now.funcs place corner.now update.now made) }
     ensures depth { IfOk result (λ made. depth made ≡ 0) }
@@ -115,6 +119,7 @@ fn root_store(
     update: &Update,
 ) -> Result<Stmt, AllocError>
     requires { place + 1 < 2 ^ 64 }
+    ensures leaf { IfOk result IsLeaf }
     ensures stores { IfOk result (λ made. spec.IsUpdateStoreOf pipeline.now schedule.now boxes.now place own.now update.now made) }
     ensures depth { IfOk result (λ made. depth made ≡ 0) }
     ensures needs { IfOk result (λ made. greatest_need made ≤ update_taken (flags_of schedule.now.standings) pipeline.now.funcs place update.now) }
@@ -145,6 +150,8 @@ fn body_of(
 ) -> Result<Stmt, AllocError>
     requires splits { AreSplits stage.now.splits }
     requires few { AreFew extents }
+    ensures rounds { IfOk result (λ made. (outside : List Loop) → IsLeaf store → MayBeUnder place extents stage.now.splits (pure.inside_of (iterations.parallel stage.now) stage.now.loops) outside store
+        → MayBeAtOnce place (counts extents stage.now.splits) outside made) }
     ensures repeats { IfOk result (λ made. Repeats place made store (wholes extents stage.now.splits (pure.inside_of (iterations.parallel stage.now) stage.now.loops))) }
     ensures depth { IfOk result (λ made. depth made ≡ length (pure.inside_of (iterations.parallel stage.now) stage.now.loops) + (length stage.now.splits + depth store)) }
     ensures needs { IfOk result (λ made. greatest_need made ≡ greatest_need store) }
@@ -164,6 +171,8 @@ fn nest_of(
 ) -> Result<Stmt, AllocError>
     requires splits { AreSplits stage.now.splits }
     requires few { AreFew extents }
+    ensures rounds { IfOk result (λ made. (outside : List Loop) → IsLeaf store → MayBeUnder place extents stage.now.splits stage.now.loops outside store
+        → MayBeAtOnce place (counts extents stage.now.splits) outside made) }
     ensures repeats { IfOk result (λ made. Repeats place made store (wholes extents stage.now.splits stage.now.loops)) }
     ensures depth { IfOk result (λ made. depth made ≡ length stage.now.loops + (length stage.now.splits + depth store)) }
     ensures needs { IfOk result (λ made. greatest_need made ≡ greatest_need store) }
@@ -209,6 +218,7 @@ pub fn update_phase(
     ensures few { IfOk result (λ phase. task_depth phase ≤ 14) }
     ensures needs { IfOk result (λ phase. greatest_need phase.body ≤ most_need pipeline.now schedule.now) }
     ensures few_tasks { IfOk result (λ phase. phase.tasks ≤ 2 ^ 31) }
+    ensures rounds { IfOk result RoundsMayBeAtOnce }
     ensures stores { IfOk result (StoresWhatItNames pipeline.now schedule.now boxes.now place of.now.func.now of.now.at of.now.own.now of.now.update.now of.now.stage.now) }
 {
     let bytes = byte_inputs(alloc, pipeline.inputs())?;
@@ -255,6 +265,7 @@ pub fn update_nest(
     ensures alone { IfOk result (StoresInIt place) }
     ensures sound { IfOk result (spec.AreSoundLoops pipeline.now schedule.now boxes.now corners.now place corner.now of.now.own.now of.now.update.now) }
     ensures few { IfOk result (λ made. depth made ≤ 9) }
+    ensures at_once { IfOk result MayAlwaysBeAtOnce }
     ensures needs { IfOk result (λ made. greatest_need made ≤ most_need pipeline.now schedule.now) }
 {
     // What every pipeline keeps is known once its parts are read.

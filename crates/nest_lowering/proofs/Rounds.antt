@@ -43,7 +43,7 @@ and_true false = refl
 
 -- ---- counters that stay small, and turns
 
-small_with : (own : Counter) (n : ℕ) (values : Values) → n < 2 ^ 25 → AllAreSmall values → AllAreSmall (with own n values)
+pub small_with : (own : Counter) (n : ℕ) (values : Values) → n < 2 ^ 25 → AllAreSmall values → AllAreSmall (with own n values)
 small_with own n values few are counter = by_test (same_counter counter own)
   where
     by_test : (b : Bool) → cond b n (values counter) < 2 ^ 25
@@ -59,7 +59,7 @@ module _ (counts : loops.Values) where
       by_test true e = subst (λ (i : LoopId). n < counts i) (sym (same_id-true first.id id e)) below
       by_test false e = are.0
 
-  turns_more : (own : Loop) (n : ℕ) → n < counts own.id → (outside : List Loop) (turns : loops.Values) → AreTurns counts outside turns → AreTurns counts (own ∷ outside) (loops.with own.id n turns)
+  pub turns_more : (own : Loop) (n : ℕ) → n < counts own.id → (outside : List Loop) (turns : loops.Values) → AreTurns counts outside turns → AreTurns counts (own ∷ outside) (loops.with own.id n turns)
   turns_more own n below outside turns are =
       (subst (λ (b : Bool). cond b n (turns own.id) < counts own.id) (sym (same_id-self own.id)) below, turns_with own.id n below outside turns are)
 

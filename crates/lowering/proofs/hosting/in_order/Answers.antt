@@ -1,8 +1,11 @@
-use Rattle.std.proofs.Common.{◌≡◌, ℕ, Option, sym, ap, ◌∙◌, arith}
+use Rattle.std.proofs.Common.{◌≡◌, ℕ, Option, Some, None, refl, sym, ap, ◌∙◌, arith}
 use Rattle.std.specs.Prelude.{◌&&◌, max}
 use Rattle.loop_ir.specs.declared.statements.Stmt.{Stmt}
 use Rattle.loop_ir.specs.Depths.{depth}
 use Rattle.loop_ir.specs.Needs.{greatest_need}
+use Rattle.loop_ir.specs.Rounds.{Rounds, may_be_at_once}
+use Rattle.loop_ir.proofs.Rounds.{rounds_sequence}
+use Rattle.lowering.specs.Rounds.{at_once_first}
 use Rattle.loop_ir.specs.Running.{run}
 use Rattle.loop_ir.specs.Soundness.{is_sound}
 use Rattle.loop_ir.proofs.Depths.{depth_sequence}
@@ -17,6 +20,9 @@ use Rattle.lowering.proofs.hosting.in_order.Goals as goal
 without : (n : ℕ) → n ≡ max 0 n
 without n = omega arith
 
+some_there : {own : Stmt} (found : Option Stmt) → found ≡ None → found ≡ Some own → ⊥
+some_there found e f = cc
+
 pub returns-in-None : goal.returns-in-None
 returns-in-None c = record {
   runs = λ points inputs values funcs. ap (λ (o : Option Stmt). run points inputs c.args.rest values (run_first points inputs o values funcs)) (sym c.in-None.is);
@@ -24,6 +30,8 @@ returns-in-None c = record {
   sound = λ reads written loaded values. ap (λ (o : Option Stmt). is_sound_first reads written loaded o values && is_sound reads written loaded c.args.rest values) (sym c.in-None.is);
   depth_is = without (depth c.args.rest) ∙ ap (λ (o : Option Stmt). max (depth_first o) (depth c.args.rest)) (sym c.in-None.is);
   need_is = without (greatest_need c.args.rest) ∙ ap (λ (o : Option Stmt). max (need_first o) (greatest_need c.args.rest)) (sym c.in-None.is);
+  at_once = λ reads values. ap (λ (o : Option Stmt). at_once_first reads o values && may_be_at_once reads c.args.rest values) (sym c.in-None.is);
+  alone_is = λ e. refl;
 }
 
 -- src/hosting.rt:161:1
@@ -52,4 +60,10 @@ returns-in_ok-rest-in-Some c = record {
       ∙ ap (λ (s : Stmt). max (greatest_need c.in_ok-first-in-Some.first) (greatest_need s)) c.in_ok-rest-in-Some.ensures
       ∙ ap (λ (s : Stmt). max (greatest_need s) (greatest_need c.args.rest)) c.in_ok-first-in-Some.ensures
       ∙ ap (λ (o : Option Stmt). max (need_first o) (greatest_need c.args.rest)) (sym c.in-Some.is);
+  at_once = λ reads values.
+      ap (λ (own : Rounds). own.may_be_at_once values) (rounds_sequence reads c.in_ok-first-in-Some.first c.in_ok-rest-in-Some.rest)
+      ∙ ap (λ (s : Stmt). may_be_at_once reads c.in_ok-first-in-Some.first values && may_be_at_once reads s values) c.in_ok-rest-in-Some.ensures
+      ∙ ap (λ (s : Stmt). may_be_at_once reads s values && may_be_at_once reads c.args.rest values) c.in_ok-first-in-Some.ensures
+      ∙ ap (λ (o : Option Stmt). at_once_first reads o values && may_be_at_once reads c.args.rest values) (sym c.in-Some.is);
+  alone_is = λ e. absurd (some_there c.args.first e c.in-Some.is);
 }

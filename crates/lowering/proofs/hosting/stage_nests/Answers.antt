@@ -13,4 +13,5 @@ returns c = record {
   sound = c.in_ok-made.ensures.sound;
   few = c.in_ok-made.ensures.few;
   needs = c.in_ok-made.ensures.needs;
+  at_once = c.in_ok-made.ensures.at_once;
 }

@@ -4,6 +4,8 @@ use Rattle.expression_lowering.specs.declared.calls.Corner.{Corner}
 use Rattle.lowering.specs.Updates.{DoesUpdate, AreSoundLoops}
 use Rattle.lowering.proofs.Alone.{both_alone}
 use Rattle.lowering.proofs.UpdateFilling.{computed_in, corner_there, one_more_stage, one_more_sound, same_corners, nothing_there}
+use Rattle.std.proofs.lemmas.Bool.{and_from}
+use Rattle.loop_ir.specs.Rounds.{may_be_at_once}
 use Rattle.lowering.proofs.hosting.with_update.Goals as goal
 
 pub returns-in_default : goal.returns-in_default
@@ -38,3 +40,8 @@ returns-clause-sound c =
     c.in-Some.corner.now (ap (λ (l : List Corner). slice_get l c.args.place) (sym c.deref.ensures.value) ∙ sym c.in-Some.ensures)
     c.args.of.now.at c.args.of.now.update.now c.requires.update.update_is c.args.before c.in_ok-next.next c.in_ok-made.made c.in_ok-made.ensures c.requires.sound
     (subst (λ (l : List Corner). AreSoundLoops c.args.pipeline.now c.args.schedule.now c.args.boxes.now l c.args.place c.in-Some.corner.now c.args.of.now.own.now c.args.of.now.update.now c.in_ok-next.next) c.deref-2.ensures.value c.in_ok-next.ensures.sound)
+
+pub returns-clause-at_once : goal.returns-clause-at_once
+returns-clause-at_once c = λ reads values small.
+    c.in_ok-made.ensures.at_once reads values
+    ∙ and_from (may_be_at_once reads c.args.before values) (may_be_at_once reads c.in_ok-next.next values) (c.requires.at_once reads values small) (c.in_ok-next.ensures.at_once reads values small)

@@ -1,4 +1,4 @@
-use Rattle.std.proofs.Common.{List, length, ap, subst, sym, arith}
+use Rattle.std.proofs.Common.{List, length, ap, subst, sym, arith, [], append-nil}
 use Rattle.schedule_lines.specs.declared.stages.Loop.{Loop}
 use Rattle.schedule_lines.specs.declared.stages.Split.{Split}
 use Rattle.stage_loops.specs.Counts.{AreSplits}
@@ -8,11 +8,13 @@ use Rattle.stage_loops.specs.declared.extents.Extents.{Extents}
 use Rattle.stage_loops.specs.Reach.{wholes}
 use Rattle.nest_lowering.specs.Nests.{AreFew, Repeats}
 use Rattle.lowering.proofs.Alone.{pure_alone, nest_alone}
-use Rattle.lowering.proofs.Facts.{is_box, splits, few, few_loops, hosted_before}
+use Rattle.lowering.proofs.Facts.{is_box, splits, few, few_loops, hosted_before, staged}
 use Rattle.lowering.proofs.Filling.{fills, touches}
 use Rattle.box_laws.specs.Laws.{IsComputed}
 use Rattle.schedule.specs.declared.standings.Place.{Place}
 use Rattle.lowering.proofs.Registers.{pure-most}
+use Rattle.nest_lowering.specs.Rounds.{MayBeUnder}
+use Rattle.lowering.proofs.PureRounds.{pure_under}
 use Rattle.lowering.proofs.nests.pure_nest.Goals as goal
 
 -- src/nests.rt:76:9
@@ -74,3 +76,15 @@ returns-clause-needs c =
     let same = c.in_ok-made.ensures.needs in
     let few = c.in_ok-store.ensures.needs in
     pure-most c.args.pipeline.now c.args.schedule.now c.store_of.ensures.rules c.args.place c.args.func.now c.args.plan.now c.requires.parts.standing c.requires.parts.func_is c.requires.parts.plan_is c.requires.parts.there computed _ (omega (arith, same, few))
+
+pub returns-clause-at_once : goal.returns-clause-at_once
+returns-clause-at_once c = λ reads values small.
+    let hosted = hosted_before c.args.pipeline.now c.args.schedule.now c.requires.accepted c.args.place c.requires.parts.standing c.requires.parts.there c.args.at c.requires.parts.placed_is in
+    let facts = staged c.args.pipeline.now c.args.schedule.now c.args.boxes.now c.args.place c.args.func.now c.args.plan.now c.args.own.now c.requires.accepted c.requires.boxes (places.At c.args.at) hosted c.requires.parts in
+    let store = c.in_ok-store.ensures.stores in
+    c.in_ok-made.ensures.rounds [] c.in_ok-store.ensures.leaf
+    (subst (λ (ls : List Loop). MayBeUnder c.args.place c.extents_of-extents.result c.as_slice.result.now ls [] c.in_ok-store.store) (sym c.as_slice-2.ensures)
+    (subst (λ (l : List Split). MayBeUnder c.args.place c.extents_of-extents.result l c.args.plan.now.pure.loops [] c.in_ok-store.store) (sym c.as_slice.ensures)
+    (pure_under c.args.pipeline.now c.args.schedule.now c.store_of.ensures.rules c.args.place c.args.func.now c.requires.parts.func_is store.corners store.corner c.in_ok-store.store store.sound
+    c.extents_of-extents.result c.args.plan.now.pure facts.0 facts.1 c.args.plan.now.pure.loops [] (sym (append-nil c.args.plan.now.pure.loops)))))
+    reads values small tt

@@ -1,4 +1,4 @@
-use Rattle.std.proofs.Common.{◌≤◌, ◌+◌, Option, sym, ap, subst, ◌∙◌}
+use Rattle.std.proofs.Common.{◌≤◌, ◌+◌, Option, sym, ap, subst, ◌∙◌, refl}
 use Rattle.schedule.specs.declared.standings.Place.{Place}
 use Rattle.schedule.specs.declared.standings.Place.TheVariants as places
 use Rattle.stage_loops.specs.declared.extents.Extents.{Extents}
@@ -9,6 +9,7 @@ use Rattle.loop_ir.specs.Depths.{depth, count_of}
 use Rattle.nest_lowering.specs.Nests.{AreFew}
 use Rattle.lowering.specs.HostedFuncs.{hosted_from}
 use Rattle.lowering.specs.Hosting.{IsBody}
+use Rattle.lowering.specs.PurePhases.{inside_of}
 use Rattle.lowering.proofs.Depths.{body_few, body_need}
 use Rattle.lowering.proofs.Facts.{is_box, splits, few, few_loops}
 use Rattle.lowering.proofs.PureStage.{does_stage}
@@ -16,6 +17,11 @@ use Rattle.lowering.proofs.SoundTasks.{touches}
 use Rattle.lowering.proofs.StoredTasks.{stores_its_own}
 use Rattle.lowering.proofs.Tasks.{does_phase}
 use Rattle.lowering.proofs.Registers.{pure-most}
+use Rattle.nest_lowering.proofs.Few.{few_turns}
+use Rattle.lowering.proofs.HostRounds.{body_at_once}
+use Rattle.lowering.proofs.PureRounds.{pure_under}
+use Rattle.lowering.proofs.TaskRounds.{outside_of, loops_by, tasks_at_once}
+use Rattle.lowering.proofs.Facts.{staged}
 use Rattle.lowering.proofs.pure_phases.pure_phase.Goals as goal
 
 -- src/pure_phases.rt:159:9
@@ -97,3 +103,22 @@ returns-clause-needs c =
     let computed = subst (λ (p : Place). IsComputed c.args.place p) (sym c.requires.at.placed_is) tt in
     body_need c.args.pipeline.now c.args.schedule.now c.args.boxes.now c.args.place c.args.plan.now.pure c.extents_of-extents.result c.in_ok-store.store c.in_ok-body.body c.in_ok-body.ensures
     (pure-most c.args.pipeline.now c.args.schedule.now c.inputs.ensures.rules c.args.place c.args.func.now c.args.plan.now c.requires.at.standing c.requires.at.func_is c.requires.at.plan_is c.requires.at.there computed _ c.in_ok-store.ensures.needs)
+
+pub returns-clause-rounds : goal.returns-clause-rounds
+returns-clause-rounds c =
+    let facts = staged c.args.pipeline.now c.args.schedule.now c.args.boxes.now c.args.place c.args.func.now c.args.plan.now c.args.own.now c.requires.accepted c.requires.boxes places.Root tt c.requires.at in
+    let some = splits c.args.pipeline.now c.args.schedule.now c.args.boxes.now c.args.place c.args.func.now c.args.plan.now c.args.own.now c.requires.accepted c.requires.boxes places.Root tt c.requires.at in
+    let small = few c.args.pipeline.now c.args.schedule.now c.args.boxes.now c.args.place c.args.func.now c.args.plan.now c.args.own.now c.requires.accepted c.requires.boxes places.Root tt c.requires.at in
+    let extents = c.extents_of-extents.result in
+    let turns = few_turns extents c.args.plan.now.pure.splits (subst AreFew (sym c.extents_of-extents.ensures) small) some in
+    let store = c.in_ok-store.ensures.stores in
+    let body = c.in_ok-body.ensures in
+    let stage = c.args.plan.now.pure in
+    let outside = outside_of c.args.place extents stage facts.1 (iterations.parallel stage) in
+    tasks_at_once c.args.place extents stage facts.1 turns
+    (record { tasks = c.in_ok-tasks.tasks; counter = c.task_counter-counter.result; body = c.in_ok-body.body; private = c.in_ok-private.private; bytes = c.in_ok-bytes.bytes })
+    c.in_ok-tasks.ensures c.task_counter-counter.ensures
+    (body_at_once c.args.pipeline.now c.args.schedule.now c.args.boxes.now c.requires.accepted c.args.place c.args.func.now c.args.plan.now c.requires.at.plan_is extents facts.0 facts.1 turns
+    body.leaf c.in_ok-store.store body.bound c.in_ok-store.ensures.leaf (body.leaf_is c.in_ok-store.ensures.leaf)
+    (λ inside around loops_are. pure_under c.args.pipeline.now c.args.schedule.now c.inputs.ensures.rules c.args.place c.args.func.now c.requires.at.func_is store.corners store.corner c.in_ok-store.store store.sound extents stage facts.0 facts.1 inside around loops_are)
+    (inside_of (iterations.parallel stage) stage.loops) outside body.inner c.in_ok-body.body (loops_by c.args.place extents stage facts.1 (iterations.parallel stage) refl) body.looped body.begun)

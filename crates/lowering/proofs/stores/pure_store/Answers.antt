@@ -2,6 +2,7 @@ use Rattle.inlining.specs.Inlining.{flagged}
 use Rattle.loop_ir.proofs.Depths.{depth_store}
 use Rattle.lowering.proofs.Registers.{pure-store}
 use Rattle.lowering.proofs.Storing.{stores_pure, hits_pure, sound_pure}
+use Rattle.lowering.proofs.PureRounds.{store_leaf}
 use Rattle.lowering.proofs.stores.pure_store.Goals as goal
 
 -- src/stores.rt:56:1
@@ -24,3 +25,6 @@ returns-clause-depth c = depth_store _
 
 pub returns-clause-needs : goal.returns-clause-needs
 returns-clause-needs c = pure-store c.args.place c.in_ok-x.x c.in_ok-y.y c.in_ok-value.value _ c.in_ok-value.ensures.needs
+
+pub returns-clause-leaf : goal.returns-clause-leaf
+returns-clause-leaf c = store_leaf _

@@ -3,6 +3,7 @@ use Rattle.inlining.specs.Inlining.{flagged}
 use Rattle.loop_ir.proofs.Depths.{depth_store}
 use Rattle.lowering.proofs.Registers.{store-need}
 use Rattle.lowering.proofs.UpdateStoring.{stores_update, hits_update, sound_update}
+use Rattle.lowering.proofs.PureRounds.{store_leaf}
 use Rattle.lowering.proofs.update_stores.update_store.Goals as goal
 
 -- src/update_stores.rt:101:1
@@ -33,3 +34,6 @@ returns-clause-needs c =
     let x = c.in_ok-x.ensures.needs in let column = c.in_ok-column.ensures.needs in
     let y = c.in_ok-y.ensures.needs in let row = c.in_ok-row.ensures.needs in
     store-need (record { func = c.args.place; x = c.in_ok-x.x; y = c.in_ok-y.y; value = c.in_ok-value.value }) _ _ _ (omega (arith, x, column)) (omega (arith, y, row)) c.in_ok-value.ensures.needs
+
+pub returns-clause-leaf : goal.returns-clause-leaf
+returns-clause-leaf c = store_leaf _

@@ -1,4 +1,4 @@
-use Rattle.std.proofs.Common.{sym, subst, arith}
+use Rattle.std.proofs.Common.{sym, subst, arith, [], append-nil, refl}
 use Rattle.stage_loops.specs.declared.extents.Extents.{Extents}
 use Rattle.stage_loops.specs.Reach.{wholes}
 use Rattle.nest_lowering.specs.Nests.{AreFew, Repeats}
@@ -8,6 +8,10 @@ use Rattle.lowering.proofs.Alone.{update_alone, nest_alone}
 use Rattle.lowering.proofs.UpdateNests.{does_nest, sound_nest}
 use Rattle.lowering.proofs.UpdateStages.{splits, few, few_loops, is_box, place_small}
 use Rattle.lowering.proofs.Registers.{update-most}
+use Rattle.stage_loops.specs.declared.extents.Extents.{Extents}
+use Rattle.nest_lowering.specs.Rounds.{MayBeUnder}
+use Rattle.lowering.proofs.RoundsApart.{update_under}
+use Rattle.lowering.proofs.UpdateStages.{staged}
 use Rattle.lowering.proofs.updates.update_nest.Goals as goal
 
 pub store_at-requires : goal.store_at-requires
@@ -61,3 +65,15 @@ returns-clause-needs c =
     let few = c.in_ok-store.ensures.needs in
     update-most c.args.pipeline.now c.args.schedule.now c.funcs-funcs.ensures.rules c.args.place c.args.of.now.func.now c.args.of.now.plan.now c.requires.computed.standing c.requires.computed.func_is c.requires.computed.plan_is c.requires.computed.there c.requires.computed.computed
     c.args.of.now.at c.args.of.now.update.now c.args.of.now.stage.now c.requires.at _ (omega (arith, same, few))
+
+pub returns-clause-at_once : goal.returns-clause-at_once
+returns-clause-at_once c = λ reads values small.
+    let facts = staged c.args.pipeline.now c.args.schedule.now c.requires.accepted c.args.place c.args.of.now.func.now c.args.of.now.plan.now c.requires.computed.standing c.requires.computed.func_is c.requires.computed.there c.args.of.now.at c.args.of.now.update.now c.args.of.now.stage.now c.requires.at in
+    c.in_ok-made.ensures.rounds [] c.in_ok-store.ensures.leaf
+    (subst (λ (e : Extents). MayBeUnder c.args.place e c.args.of.now.stage.now.splits c.args.of.now.stage.now.loops [] c.in_ok-store.store) (sym c.update_extents-extents.ensures)
+    (update_under c.args.pipeline.now c.args.schedule.now c.funcs-funcs.ensures.rules c.args.place c.args.of.now.func.now c.requires.computed.func_is c.args.of.now.at c.args.of.now.update.now c.requires.at.update_is c.args.of.now.own.now
+    (few c.args.pipeline.now c.args.schedule.now c.args.boxes.now c.funcs-funcs.ensures.rules c.requires.accepted c.requires.boxes c.args.place c.args.of.now.func.now c.args.of.now.own.now c.requires.computed.func_is c.requires.computed.box_is
+    c.args.of.now.at c.args.of.now.update.now c.requires.at.update_is c.requires.computed.standing c.requires.computed.there c.requires.computed.computed)
+    c.args.of.now.stage.now facts.0 c.args.corners.now c.args.corner.now (λ now a b. rw c.requires.corner refl) c.in_ok-store.store c.in_ok-store.ensures.sound
+    facts.1 c.args.of.now.stage.now.loops [] (sym (append-nil c.args.of.now.stage.now.loops))))
+    reads values small tt

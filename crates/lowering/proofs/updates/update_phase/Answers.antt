@@ -1,4 +1,4 @@
-use Rattle.std.proofs.Common.{length, ◌≤◌, ◌+◌, Option, sym, ap, subst, ◌∙◌, arith}
+use Rattle.std.proofs.Common.{length, ◌≤◌, ◌+◌, Option, sym, ap, subst, ◌∙◌, arith, refl}
 use Rattle.schedule.specs.declared.standings.Place.{Place}
 use Rattle.stage_loops.specs.declared.extents.Extents.{Extents}
 use Rattle.stage_loops.specs.Iterations as iterations
@@ -14,6 +14,11 @@ use Rattle.lowering.proofs.UpdateStages.{splits, few, few_loops, place_small}
 use Rattle.lowering.proofs.SoundHosts.{dark, dark_words}
 use Rattle.lowering.proofs.UpdateTasks.{does_update, touches, names_owned, task_stores}
 use Rattle.lowering.proofs.Registers.{update-most}
+use Rattle.nest_lowering.specs.Rounds.{MayBeUnder}
+use Rattle.nest_lowering.proofs.Few.{few_turns}
+use Rattle.lowering.proofs.RoundsApart.{update_under, counted_at_root}
+use Rattle.lowering.proofs.TaskRounds.{outside_of, loops_by, tasks_at_once}
+use Rattle.lowering.proofs.UpdateStages.{staged}
 use Rattle.lowering.proofs.updates.update_phase.Goals as goal
 
 -- src/updates.rt:120:9
@@ -109,3 +114,24 @@ returns-clause-needs c =
     let few = c.in_ok-store.ensures.needs in
     update-most c.args.pipeline.now c.args.schedule.now c.inputs.ensures.rules c.args.place c.args.of.now.func.now c.args.of.now.plan.now c.requires.root.standing c.requires.root.func_is c.requires.root.plan_is c.requires.root.there computed
     c.args.of.now.at c.args.of.now.update.now c.args.of.now.stage.now c.requires.at _ (omega (arith, same, few))
+
+pub returns-clause-rounds : goal.returns-clause-rounds
+returns-clause-rounds c =
+    let facts = staged c.args.pipeline.now c.args.schedule.now c.requires.accepted c.args.place c.args.of.now.func.now c.args.of.now.plan.now c.requires.root.standing c.requires.root.func_is c.requires.root.there c.args.of.now.at c.args.of.now.update.now c.args.of.now.stage.now c.requires.at in
+    let some = splits c.args.pipeline.now c.args.schedule.now c.requires.accepted c.args.place c.args.of.now.func.now c.args.of.now.plan.now c.requires.root.standing c.requires.root.func_is c.requires.root.there c.args.of.now.at c.args.of.now.update.now c.args.of.now.stage.now c.requires.at in
+    let small = few c.args.pipeline.now c.args.schedule.now c.args.boxes.now c.inputs.ensures.rules c.requires.accepted c.requires.boxes c.args.place c.args.of.now.func.now c.args.of.now.own.now c.requires.root.func_is c.requires.root.box_is
+    c.args.of.now.at c.args.of.now.update.now c.requires.at.update_is c.requires.root.standing c.requires.root.there (subst (λ (p : Place). IsComputed c.args.place p) (sym c.requires.root.placed_is) tt) in
+    let store = c.in_ok-store.ensures.stores in
+    let is = c.update_extents-extents.ensures in
+    let extents = c.update_extents-extents.result in
+    let stage = c.args.of.now.stage.now in
+    let outside = outside_of c.args.place extents stage facts.1 (iterations.parallel stage) in
+    tasks_at_once c.args.place extents stage facts.1 (few_turns extents stage.splits (subst AreFew (sym is) small) some)
+    (record { tasks = c.in_ok-tasks.tasks; counter = c.task_counter-counter.result; body = c.in_ok-body.body; private = c.new-private.result; bytes = c.in_ok-bytes.bytes })
+    c.in_ok-tasks.ensures c.task_counter-counter.ensures
+    (c.in_ok-body.ensures.rounds outside c.in_ok-store.ensures.leaf
+    (subst (λ (e : Extents). MayBeUnder c.args.place e stage.splits (pure.inside_of (iterations.parallel stage) stage.loops) outside c.in_ok-store.store) (sym is)
+    (update_under c.args.pipeline.now c.args.schedule.now c.inputs.ensures.rules c.args.place c.args.of.now.func.now c.requires.root.func_is c.args.of.now.at c.args.of.now.update.now c.requires.at.update_is c.args.of.now.own.now small
+    stage facts.0 store.corners store.corner
+    (counted_at_root c.args.schedule.now c.args.boxes.now store.corners store.corner c.args.place c.args.of.now.own.now c.requires.root.standing store.are_corners c.requires.root.box_is c.requires.root.there.standing c.requires.root.placed_is store.is_corner)
+    c.in_ok-store.store store.sound facts.1 (pure.inside_of (iterations.parallel stage) stage.loops) outside (loops_by c.args.place extents stage facts.1 (iterations.parallel stage) refl))))

@@ -1,0 +1,318 @@
+-- What is known of a vectorized loop of a stage: it has as many rounds as its split has a factor, each round takes its variable further, and
+-- loops of updates take it as far in each turn.
+use Rattle.std.proofs.Common.{◌≡◌, ℕ, zero, suc, ◌*◌, ◌≤◌, Bool, true, false, not, cond, List, [], ◌∷◌, ◌++◌, length, Option, Some, None, refl, sym, ap, subst, ◌∙◌, arith, eq-eqb, true≢false}
+use Rattle.std.specs.Prelude.{◌==◌, ◌&&◌, ◌||◌, nat_le, is_some}
+use Rattle.std.specs.List.{AllByRecursion}
+use Rattle.std.proofs.lemmas.Bool.{and_parts, and_from, eqb-true, leb-true, le-leb}
+use Rattle.halide_pipeline.specs.declared.definitions.Func.{Func}
+use Rattle.halide_pipeline.specs.declared.definitions.Reduction.{Reduction}
+use Rattle.halide_pipeline.specs.declared.definitions.Update.{Update}
+use Rattle.halide_pipeline.specs.declared.expressions.Variable.{Variable}
+use Rattle.halide_pipeline.specs.declared.expressions.Variable.TheVariants as variables
+use Rattle.halide_pipeline.specs.Expressions.{same_variable}
+use Rattle.halide_pipeline.specs.Definitions.{is_first_in_place, is_second_in_place}
+use Rattle.schedule_lines.specs.declared.lines.SplitLine.{SplitLine}
+use Rattle.schedule_lines.specs.declared.stages.Loop.{Loop}
+use Rattle.schedule_lines.specs.declared.stages.LoopId.{LoopId}
+use Rattle.schedule_lines.specs.declared.stages.LoopId.TheVariants as ids
+use Rattle.schedule_lines.specs.declared.stages.Split.{Split}
+use Rattle.schedule_lines.specs.declared.stages.Stage.{Stage}
+use Rattle.schedule_lines.specs.Directives.{is_shift, parts}
+use Rattle.schedule_lines.specs.Loops.{is_reduction, same_id}
+use Rattle.schedule_lines.specs.Making.{IsSplit, total}
+use Rattle.schedule.specs.declared.legality.LoopRule.TheVariants as rules_of
+use Rattle.schedule.specs.Accepted.{keeps}
+use Rattle.schedule.specs.Plans.{with_loop, with_second, with_reduction, reduction_loops, with_first_in_place}
+use Rattle.schedule.specs.Legal.{is_vector_length, is_empty, breaks}
+use Rattle.stage_loops.specs.declared.extents.Extents.{Extents}
+use Rattle.stage_loops.specs.Counts.{Values, counts, more_counts, whole_counts, strides, more_strides, whole_strides, is_uneven, more_uneven}
+use Rattle.stage_loops.specs.Stages.{IsStageOf, KeepsRules, first_loops, has_variable}
+use Rattle.stage_loops.proofs.FirstLoops.{plain, sound}
+use Rattle.stage_loops.proofs.Ids.{is_old, same_variable-self, old_apart, inner_new, outer_new, same_id-self}
+use Rattle.stage_loops.proofs.Linear.{uneven-more, strides-more}
+use Rattle.stage_loops.proofs.Making.{Sound, Stays, by_making, sound_stays, split_by, total-append, total_parts, bare_total, counts-more}
+use Rattle.stage_loops.proofs.Nesting.{has_id, has_same}
+use Rattle.box_laws.proofs.Callers.{or_right}
+use Rattle.stage_loops.proofs.Selecting.{Unique}
+use Rattle.loop_ir.specs.Rounds.{is_round_count}
+use Rattle.nest_lowering.specs.Rounds.{is_vectorized_loop}
+
+-- ---- what is asked of loops
+
+-- an inner loop has as many turns as the factor of its split
+abbrev fits : Values → Loop → Option ℕ → Bool
+fits counted own None = true
+fits counted own (Some factor) = counted own.id == factor
+
+abbrev is_fine : Values → Values → List Loop → Loop → Bool
+is_fine strided counted start own = nat_le 1 (strided own.id) && (fits counted own own.inner_of && has_variable own.variable start)
+
+abbrev flaw : Values → Values → List Loop → Loop → ℕ
+flaw strided counted start own = cond (is_fine strided counted start own) 0 1
+
+same_total : (f g : Loop → ℕ) (loops : List Loop) → ((own : Loop) → 1 ≤ total (has_id own.id) loops → f own ≡ g own) → total f loops ≡ total g loops
+same_total f g [] each = refl
+same_total f g (own ∷ others) each = omega (arith, each own (omega (arith, has_same own)), same_total f g others (λ o there. each o (omega (arith, there))))
+
+same_fits : (one other : Values) (own : Loop) (factor : Option ℕ) → one own.id ≡ other own.id → fits one own factor ≡ fits other own factor
+same_fits one other own None e = refl
+same_fits one other own (Some factor) e = ap (λ (n : ℕ). n == factor) e
+
+module _ (extents : Extents) (is_update : Bool) (start : List Loop) where
+  abbrev counted : List Split → Values
+  counted splits = counts extents splits
+
+  pub record Fine (loops : List Loop) (splits : List Split) : Type 0 where
+    pub is_sound : Sound loops splits
+    pub flawless : total (flaw (strides splits) (counted splits) start) loops ≡ 0
+    pub even : is_update ≡ true → (id : LoopId) → is_uneven splits id ≡ false
+
+  -- ---- one more split
+
+  module _ (before : List Loop) (own : Loop) (after : List Loop) (splits : List Split) (line : SplitLine) (is : IsSplit is_update line) (begun : Sound start []) (fine : Fine (before ++ own ∷ after) splits) where
+    abbrev place : ℕ
+    place = length splits
+
+    abbrev new : Split
+    new = split_by own line
+
+    abbrev more : List Split
+    more = splits ++ new ∷ []
+
+    strides_are : strides more ≡ more_strides (strides splits) place new
+    strides_are = strides-more splits whole_strides 0 place new (omega arith)
+
+    counts_are : counted more ≡ more_counts (counted splits) place new
+    counts_are = counts-more splits (whole_counts extents) 0 place new (omega arith)
+
+    uneven_is : is_uneven more ≡ more_uneven (is_uneven splits) place new
+    uneven_is = uneven-more splits (λ id. false) 0 place new (omega arith)
+
+    module _ (id : LoopId) (old : is_old place id ≡ true) where
+      no_inner : same_id id (ids.Inner place) ≡ false
+      no_inner = old_apart place id (ids.Inner place) old (inner_new place)
+
+      no_outer : same_id id (ids.Outer place) ≡ false
+      no_outer = old_apart place id (ids.Outer place) old (outer_new place)
+
+      old_stride : strides more id ≡ strides splits id
+      old_stride = ap (λ (v : Values). v id) strides_are ∙ rw (no_inner, no_outer) refl
+
+      old_count : counted more id ≡ counted splits id
+      old_count = ap (λ (v : Values). v id) counts_are ∙ rw (no_inner, no_outer) refl
+
+    old_flaw : (other : Loop) → is_old place other.id ≡ true → flaw (strides more) (counted more) start other ≡ flaw (strides splits) (counted splits) start other
+    old_flaw other old =
+        ap (λ (n : ℕ). cond {A = ℕ} (nat_le 1 n && (fits (counted more) other other.inner_of && has_variable other.variable start)) 0 1) (old_stride other.id old)
+        ∙ ap (λ (b : Bool). cond {A = ℕ} (nat_le 1 (strides splits other.id) && (b && has_variable other.variable start)) 0 1) (same_fits (counted more) (counted splits) other other.inner_of (old_count other.id old))
+
+    old_total : total (flaw (strides more) (counted more) start) (before ++ own ∷ after) ≡ 0
+    old_total =
+        same_total (flaw (strides more) (counted more) start) (flaw (strides splits) (counted splits) start) (before ++ own ∷ after) (λ other there. old_flaw other (fine.is_sound.old other.id there))
+        ∙ fine.flawless
+
+    own_there : 1 ≤ total (has_id own.id) (before ++ own ∷ after)
+    own_there = omega (arith, total-append (has_id own.id) before (own ∷ after), has_same own)
+
+    own_fine : is_fine (strides splits) (counted splits) start own ≡ true
+    own_fine = by_test (is_fine (strides splits) (counted splits) start own) refl
+      where
+        by_test : (b : Bool) → is_fine (strides splits) (counted splits) start own ≡ b → b ≡ true
+        by_test true e = refl
+        by_test false e =
+            let one : flaw (strides splits) (counted splits) start own ≡ 1 = ap (λ (t : Bool). cond {A = ℕ} t 0 1) e in
+            absurd (omega (arith, fine.flawless, one, total-append (flaw (strides splits) (counted splits) start) before (own ∷ after)))
+
+    own_parts : (1 ≤ strides splits own.id) × (has_variable own.variable start ≡ true)
+    own_parts =
+        let p = and_parts (nat_le 1 (strides splits own.id)) (fits (counted splits) own own.inner_of && has_variable own.variable start) own_fine in
+        (leb-true 1 (strides splits own.id) p.0, (and_parts (fits (counted splits) own own.inner_of) (has_variable own.variable start) p.1).1)
+
+    abbrev inner : Loop
+    inner = record { id = ids.Inner place; name = line.inner; variable = own.variable; inner_of = Some line.factor; is_from_shift = own.is_from_shift || is_shift line.tail; marked = None }
+
+    abbrev outer : Loop
+    outer = record { id = ids.Outer place; name = line.outer; variable = own.variable; inner_of = None; is_from_shift = own.is_from_shift || is_shift line.tail; marked = None }
+
+    inner_stride : strides more (ids.Inner place) ≡ strides splits own.id
+    inner_stride = ap (λ (v : Values). v (ids.Inner place)) strides_are ∙ rw (same_id-self (ids.Inner place)) refl
+
+    inner_count : counted more (ids.Inner place) ≡ line.factor
+    inner_count = ap (λ (v : Values). v (ids.Inner place)) counts_are ∙ rw (same_id-self (ids.Inner place)) refl
+
+    outer_stride : strides more (ids.Outer place) ≡ strides splits own.id * line.factor
+    outer_stride = ap (λ (v : Values). v (ids.Outer place)) strides_are ∙ rw (same_id-self (ids.Outer place)) refl
+
+    fine_by : (b : Bool) → b ≡ true → cond {A = ℕ} b 0 1 ≡ 0
+    fine_by b e = ap (λ (t : Bool). cond {A = ℕ} t 0 1) e
+
+    inner_flaw : flaw (strides more) (counted more) start inner ≡ 0
+    inner_flaw =
+        fine_by (is_fine (strides more) (counted more) start inner)
+        (and_from (nat_le 1 (strides more (ids.Inner place))) (counted more (ids.Inner place) == line.factor && has_variable own.variable start)
+        (le-leb 1 (strides more (ids.Inner place)) (omega (arith, own_parts.0, inner_stride)))
+        (and_from (counted more (ids.Inner place) == line.factor) (has_variable own.variable start) (eq-eqb (counted more (ids.Inner place)) line.factor inner_count) own_parts.1))
+
+    product_some : (a b : ℕ) → 1 ≤ a → 1 ≤ b → 1 ≤ a * b
+    product_some zero b l m = absurd (omega (arith, l))
+    product_some (suc a) zero l m = absurd (omega (arith, m))
+    product_some (suc a) (suc b) l m = omega arith
+
+    outer_flaw : flaw (strides more) (counted more) start outer ≡ 0
+    outer_flaw =
+        fine_by (is_fine (strides more) (counted more) start outer)
+        (and_from (nat_le 1 (strides more (ids.Outer place))) (true && has_variable own.variable start)
+        (le-leb 1 (strides more (ids.Outer place)) (omega (arith, product_some (strides splits own.id) line.factor own_parts.0 is.some, outer_stride))) own_parts.1)
+
+    more_fine : Fine (before ++ (parts own (length splits) line ++ after)) (splits ++ split_by own line ∷ [])
+    more_fine = record {
+      is_sound = (sound_stays is_update start begun).parted before own after splits line is fine.is_sound;
+      flawless = omega (arith, total_parts (flaw (strides more) (counted more) start) before own after place line, old_total, inner_flaw, outer_flaw);
+      even = λ update id. ap (λ (u : LoopId → Bool). u id) uneven_is ∙ even_by update (same_id id (ids.Inner place)) (same_id id (ids.Outer place)) id;
+    }
+      where
+        even_by : is_update ≡ true → (a b : Bool) (id : LoopId) → cond a (is_uneven splits own.id) (cond b (is_uneven splits own.id || is_shift line.tail) (is_uneven splits id)) ≡ false
+        even_by update true b id = fine.even update own.id
+        even_by update false true id = rw (fine.even update own.id) (ap (λ (u : Bool). u && is_shift line.tail) (sym update) ∙ is.unshifted)
+        even_by update false false id = fine.even update id
+
+  fine_stays : Fine start [] → Stays is_update start Fine
+  fine_stays begun = record {
+    begun = begun;
+    parted = λ before own after splits line is fine. more_fine before own after splits line is begun.is_sound fine;
+    marked = λ loops new splits same fine. record {
+      is_sound = (sound_stays is_update start begun.is_sound).marked loops new splits same fine.is_sound;
+      flawless = bare_total (flaw (strides splits) (counted splits) start) (λ own. refl) new loops same ∙ fine.flawless;
+      even = fine.even;
+    };
+    moved = λ loops new splits same order fine. record {
+      is_sound = (sound_stays is_update start begun.is_sound).moved loops new splits same order fine.is_sound;
+      flawless = same (flaw (strides splits) (counted splits) start) ∙ fine.flawless;
+      even = fine.even;
+    };
+  }
+
+-- ---- first loops
+
+AreBare : List Loop → Type 0
+AreBare loops = AllByRecursion (λ own. (own.id ≡ ids.Whole own.variable) × (own.inner_of ≡ None)) loops
+
+loop_bare : (loops : List Loop) (name : List ℕ) (v : Variable) → AreBare loops → AreBare (with_loop loops name v)
+unfolding AreBare
+loop_bare [] name v are = ((refl, refl), tt)
+loop_bare (own ∷ loops) name v are = (are.0, loop_bare loops name v are.1)
+
+second_bare : (loops : List Loop) (name : Option (List ℕ)) (v : Variable) → AreBare loops → AreBare (with_second loops name v)
+second_bare loops None v are = are
+second_bare loops (Some name) v are = loop_bare loops name v are
+
+reduction_bare : (loops : List Loop) (second : Option Reduction) → AreBare loops → AreBare (with_reduction loops second)
+reduction_bare loops None are = are
+reduction_bare loops (Some second) are = loop_bare loops second.name variables.SecondReduction are
+
+none_bare : AreBare []
+unfolding AreBare
+none_bare = tt
+
+by_test_bare : (test : Bool) (one other : List Loop) → AreBare one → AreBare other → AreBare (cond test one other)
+by_test_bare true one other are there = are
+by_test_bare false one other are there = there
+
+first_bare : (func : Func) (update : Option Update) → AreBare (first_loops func update)
+first_bare func None = second_bare (with_loop [] func.first_argument variables.FirstArgument) func.second_argument variables.SecondArgument (loop_bare [] func.first_argument variables.FirstArgument none_bare)
+first_bare func (Some update) =
+    let reductions = reduction_bare (with_loop [] update.first.name variables.FirstReduction) update.second (loop_bare [] update.first.name variables.FirstReduction none_bare) in
+    let first = by_test_bare (is_first_in_place update) (with_loop (reduction_loops update) func.first_argument variables.FirstArgument) (reduction_loops update)
+    (loop_bare (reduction_loops update) func.first_argument variables.FirstArgument reductions) reductions in
+    let before = with_first_in_place func update (reduction_loops update) in
+    by_test_bare (is_second_in_place update) (with_second before func.second_argument variables.SecondArgument) before (second_bare before func.second_argument variables.SecondArgument first) first
+
+module _ (extents : Extents) (start : List Loop) where
+  one_begun : (own : Loop) → own.id ≡ ids.Whole own.variable → own.inner_of ≡ None → has_variable own.variable start ≡ true → flaw (strides []) (counts extents []) start own ≡ 0
+  one_begun own id_is inner_is there =
+      ap (λ (i : LoopId). cond {A = ℕ} (nat_le 1 (strides [] i) && (fits (counts extents []) own own.inner_of && has_variable own.variable start)) 0 1) id_is
+      ∙ ap (λ (o : Option ℕ). cond {A = ℕ} (fits (counts extents []) own o && has_variable own.variable start) 0 1) inner_is
+      ∙ ap (λ (b : Bool). cond {A = ℕ} b 0 1) there
+
+  all_begun : (loops : List Loop) → AreBare loops → ((v : Variable) → has_variable v loops ≡ true → has_variable v start ≡ true) → total (flaw (strides []) (counts extents []) start) loops ≡ 0
+  unfolding AreBare
+  all_begun [] are there = refl
+  all_begun (own ∷ loops) are there =
+      let one = one_begun own are.0.0 are.0.1 (there own.variable (ap (λ (b : Bool). b || has_variable own.variable loops) (same_variable-self own.variable))) in
+      omega (arith, one, all_begun loops are.1 (λ v e. there v (or_right (same_variable own.variable v) (has_variable v loops) e)))
+
+-- ---- loops of stages
+
+module _ (func : Func) (update : Option Update) (extents : Extents) (stage : Stage) (is : IsStageOf func update stage) where
+  abbrev pub start : List Loop
+  start = first_loops func update
+
+  stage_fine : Fine extents (is_some update) start stage.loops stage.splits
+  stage_fine =
+      by_making (Fine extents (is_some update) start)
+      (fine_stays extents (is_some update) start
+      (record { is_sound = sound start (plain func update); flawless = all_begun extents start start (first_bare func update) (λ v e. e); even = λ e id. refl }))
+      is.made
+
+  pub all_even : is_some update ≡ true → (id : LoopId) → is_uneven stage.splits id ≡ false
+  all_even = stage_fine.even
+
+  pub unique_loops : Unique stage.loops
+  unique_loops = stage_fine.is_sound.unique
+
+  pub record IsVectorized (own : Loop) (outside : List Loop) : Type 0 where
+    pub count : is_round_count (counts extents stage.splits own.id) ≡ true
+    pub stride : 1 ≤ strides stage.splits own.id
+    pub argument : is_reduction own.variable ≡ false
+    pub there : has_variable own.variable start ≡ true
+
+  -- outside of the innermost loop, none is vectorized
+  none_outside : (at_root : Bool) (outside : List Loop) → keeps rules_of.VectorizedInnermost at_root false outside ≡ true → AllByRecursion (λ other. is_vectorized_loop other ≡ false) outside
+  none_outside at_root [] kept = tt
+  none_outside at_root (own ∷ outside) kept =
+      let p = and_parts (not (breaks rules_of.VectorizedInnermost at_root false (is_empty outside) own)) (keeps rules_of.VectorizedInnermost at_root false outside) kept in
+      (by_test (is_vectorized_loop own) p.0, none_outside at_root outside p.1)
+    where
+      by_test : (b : Bool) → not (b && true) ≡ true → b ≡ false
+      by_test true e = cc
+      by_test false e = refl
+
+  module _ (rules : KeepsRules stage) (own : Loop) (outside : List Loop) (loops_are : stage.loops ≡ own ∷ outside) where
+    kept : keeps rules_of.VectorizedInnermost rules.0 true (own ∷ outside) ≡ true
+    kept = subst (λ (ls : List Loop). keeps rules_of.VectorizedInnermost rules.0 true ls ≡ true) loops_are (rules.1 rules_of.VectorizedInnermost)
+
+    pub others_are : AllByRecursion (λ other. is_vectorized_loop other ≡ false) outside
+    others_are = none_outside rules.0 outside (and_parts (not (breaks rules_of.VectorizedInnermost rules.0 true (is_empty outside) own)) (keeps rules_of.VectorizedInnermost rules.0 false outside) kept).1
+
+    own_is : is_fine (strides stage.splits) (counts extents stage.splits) start own ≡ true
+    own_is = by_test (is_fine (strides stage.splits) (counts extents stage.splits) start own) refl
+      where
+        by_test : (b : Bool) → is_fine (strides stage.splits) (counts extents stage.splits) start own ≡ b → b ≡ true
+        by_test true e = refl
+        by_test false e =
+            let one : flaw (strides stage.splits) (counts extents stage.splits) start own ≡ 1 = ap (λ (t : Bool). cond {A = ℕ} t 0 1) e in
+            let all : total (flaw (strides stage.splits) (counts extents stage.splits) start) (own ∷ outside) ≡ 0 =
+            subst (λ (ls : List Loop). total (flaw (strides stage.splits) (counts extents stage.splits) start) ls ≡ 0) loops_are stage_fine.flawless in
+            absurd (omega (arith, all, one))
+
+    vector_by : (b r : Bool) → is_vectorized_loop own ≡ true → not (is_vectorized_loop own && (false || not b || r)) ≡ true → (b ≡ true) × (r ≡ false)
+    vector_by true false e k = (refl, refl)
+    vector_by true true e k = absurd (true≢false (sym k ∙ ap (λ (t : Bool). not (t && true)) e))
+    vector_by false r e k = absurd (true≢false (sym k ∙ ap (λ (t : Bool). not (t && true)) e))
+
+    count_by : (factor : Option ℕ) → is_vector_length factor ≡ true → fits (counts extents stage.splits) own factor ≡ true → is_round_count (counts extents stage.splits own.id) ≡ true
+    count_by None long fit = cc
+    count_by (Some factor) long fit = ap is_round_count (eqb-true (counts extents stage.splits own.id) factor fit) ∙ turned (factor == 4) (factor == 8) (factor == 16) long
+      where
+        turned : (a b c : Bool) → (a || b || c) ≡ true → (a || (b || c)) ≡ true
+        turned true b c e = refl
+        turned false true c e = refl
+        turned false false c e = e
+
+    pub vectorized : is_vectorized_loop own ≡ true → IsVectorized own outside
+    vectorized e =
+        let k = vector_by (is_vector_length own.inner_of) (is_reduction own.variable) e
+        (and_parts (not (breaks rules_of.VectorizedInnermost rules.0 true (is_empty outside) own)) (keeps rules_of.VectorizedInnermost rules.0 false outside) kept).0 in
+        let p = and_parts (nat_le 1 (strides stage.splits own.id)) (fits (counts extents stage.splits) own own.inner_of && has_variable own.variable start) own_is in
+        let q = and_parts (fits (counts extents stage.splits) own own.inner_of) (has_variable own.variable start) p.1 in
+        record { count = count_by own.inner_of k.0 q.0; stride = leb-true 1 (strides stage.splits own.id) p.0; argument = k.1; there = q.1 }

@@ -1,0 +1,15 @@
+use Rattle.std.proofs.Common.{List, subst}
+use Rattle.schedule_lines.specs.declared.stages.Loop.{Loop}
+use Rattle.schedule_lines.specs.declared.stages.Split.{Split}
+use Rattle.stage_loops.specs.Counts.{counts}
+use Rattle.stage_loops.specs.Iterations as iterations
+use Rattle.nest_lowering.specs.Rounds.{IsLeaf, MayBeAtOnce, MayBeUnder}
+use Rattle.lowering.specs.PurePhases as pure
+use Rattle.lowering.proofs.updates.body_of.Goals as goal
+
+pub returns-clause-rounds : goal.returns-clause-rounds
+returns-clause-rounds c =
+    subst (λ (l : List Split). (outside : List Loop) → IsLeaf c.args.store → MayBeUnder c.args.place c.args.extents l (pure.inside_of (iterations.parallel c.args.stage.now) c.args.stage.now.loops) outside c.args.store
+    → MayBeAtOnce c.args.place (counts c.args.extents l) outside c.in_ok-made.made) c.as_slice-splits.ensures
+    (subst (λ (ls : List Loop). (outside : List Loop) → IsLeaf c.args.store → MayBeUnder c.args.place c.args.extents c.as_slice-splits.result.now ls outside c.args.store
+    → MayBeAtOnce c.args.place (counts c.args.extents c.as_slice-splits.result.now) outside c.in_ok-made.made) c.inside_parallel.ensures c.in_ok-made.ensures.rounds)

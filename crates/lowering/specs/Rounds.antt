@@ -1,0 +1,25 @@
+-- Vectorized loops of phases: their rounds may be done at once.
+--
+-- Each has 4, 8 or 16 rounds of one store at most, and no round loads a point at which an earlier round of the same run stores
+-- (`loop_ir/specs/Rounds.antt`): so code may load for all rounds before it stores for any.
+-- This project's own.
+use Rattle.std.specs.Prelude.{◌≡◌, ◌<◌, ℕ, Bool, true, Option, Some, None}
+use Rattle.halide_meaning.specs.Pixel.{Reads}
+use Rattle.loop_ir.specs.declared.statements.Phase.{Phase}
+use Rattle.loop_ir.specs.declared.statements.Stmt.{Stmt}
+use Rattle.loop_ir.specs.Counters.{Values}
+use Rattle.loop_ir.specs.Rounds.{may_be_at_once}
+use Rattle.loop_ir.specs.Running.{task_values}
+use Rattle.nest_lowering.specs.Rounds.{AllAreSmall}
+
+-- in each task, however loads are answered
+abbrev pub RoundsMayBeAtOnce : Phase → Type 0
+RoundsMayBeAtOnce phase = (task : ℕ) → task < phase.tasks → (reads : Reads) → may_be_at_once reads phase.body (task_values phase.counter task) ≡ true
+
+-- of a statement, wherever all counters are small
+abbrev pub MayAlwaysBeAtOnce : Stmt → Type 0
+MayAlwaysBeAtOnce made = (reads : Reads) (values : Values) → AllAreSmall values → may_be_at_once reads made values ≡ true
+
+abbrev pub at_once_first : Reads → Option Stmt → Values → Bool
+at_once_first reads None values = true
+at_once_first reads (Some first) values = may_be_at_once reads first values
