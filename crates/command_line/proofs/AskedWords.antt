@@ -8,15 +8,17 @@ use Rattle.clap.specs.Walk.{Row, Text, rows_after}
 use Rattle.clap.specs.Simple.{subcommand_of}
 use Rattle.clap.specs.Kinds.{Kinds}
 use Rattle.clap.specs.Faults.{fault_of}
-use Rattle.command_line.specs.CommandLine.{Asked, Assembles, Debugs, Draws, IsPlainWord, IsSpelled, Lists, Renews, Replays, asked_of, asm_of, debug_of, dis_of, hrv_app, named, picture_of, renew_of, replay_of, unless_fault, unmarked}
+use Rattle.command_line.specs.CommandLine.{Asked, Assembles, Compiles, Debugs, Draws, IsPlainWord, IsSpelled, IsWithinLimits, Lists, Renews, Replays, Runs, asked_of, asm_of, compile_of, debug_of, dis_of, hrv_app, named, picture_of, renew_of, replay_of, unless_fault, unmarked}
 use Rattle.command_line.proofs.Positionals.{ArePlain, marked, none, passes_all, plain, takes_all, unmarked-plain}
-use Rattle.command_line.proofs.Subcommands.{IsName, first_is_name, is_asm, is_debug, is_dis, is_picture, is_renew, is_replay, name_free, name_given, name_passes}
+use Rattle.command_line.proofs.Subcommands.{IsName, first_is_name, is_asm, is_compile, is_debug, is_dis, is_picture, is_renew, is_replay, is_run, name_free, name_given, name_passes}
 use Rattle.command_line.proofs.ReplayWords as replay
 use Rattle.command_line.proofs.DebugWords as debug
 use Rattle.command_line.proofs.AsmWords as asm
 use Rattle.command_line.proofs.DisWords as dis
 use Rattle.command_line.proofs.RenewWords as renew
 use Rattle.command_line.proofs.PictureWords as picture
+use Rattle.command_line.proofs.CompileWords as compile
+use Rattle.command_line.proofs.RunWords as run
 
 -- what words with no fault ask for
 pub record Asks (words : List Text) : Type 0 where
@@ -26,6 +28,7 @@ pub record Asks (words : List Text) : Type 0 where
   pub met : subcommand_of hrv_app words ≡ Some (name, rows)
   pub asks : asked_of (name, rows) ≡ Some asked
   pub spelled : IsSpelled words asked
+  pub limits : IsWithinLimits asked
 
 asks_replay : (words rest : List Text) → fault_of hrv_app words ≡ [] → words ≡ codes "replay" ∷ rest → Asks words
 unfolding replay.takes_two
@@ -39,6 +42,7 @@ asks_replay words rest e split =
       met = ap (subcommand_of hrv_app) split ∙ name_given replay.replay_command rest;
       asks = ap replay_of all.0 ∙ both.3;
       spelled = ap unmarked split ∙ ap (λ ws. codes "replay" ∷ ws) both.2;
+      limits = tt;
     }
 
 asks_debug : (words rest : List Text) → fault_of hrv_app words ≡ [] → words ≡ codes "debug" ∷ rest → Asks words
@@ -53,6 +57,7 @@ asks_debug words rest e split =
       met = ap (subcommand_of hrv_app) split ∙ name_given debug.debug_command rest;
       asks = ap debug_of all.0 ∙ both.3;
       spelled = ap unmarked split ∙ ap (λ ws. codes "debug" ∷ ws) both.2;
+      limits = tt;
     }
 
 asks_asm : (words rest : List Text) → fault_of hrv_app words ≡ [] → words ≡ codes "asm" ∷ rest → Asks words
@@ -67,6 +72,7 @@ asks_asm words rest e split =
       met = ap (subcommand_of hrv_app) split ∙ name_given asm.asm_command rest;
       asks = ap asm_of all.0 ∙ both.3;
       spelled = ap unmarked split ∙ ap (λ ws. codes "asm" ∷ ws) both.2;
+      limits = tt;
     }
 
 asks_dis : (words rest : List Text) → fault_of hrv_app words ≡ [] → words ≡ codes "dis" ∷ rest → Asks words
@@ -81,6 +87,7 @@ asks_dis words rest e split =
       met = ap (subcommand_of hrv_app) split ∙ name_given dis.dis_command rest;
       asks = ap dis_of all.0 ∙ one.2;
       spelled = ap unmarked split ∙ ap (λ ws. codes "dis" ∷ ws) one.1;
+      limits = tt;
     }
 
 asks_renew : (words rest : List Text) → fault_of hrv_app words ≡ [] → words ≡ codes "renew" ∷ rest → Asks words
@@ -95,6 +102,7 @@ asks_renew words rest e split =
       met = ap (subcommand_of hrv_app) split ∙ name_given renew.renew_command rest;
       asks = ap renew_of all.0 ∙ both.3;
       spelled = ap unmarked split ∙ ap (λ ws. codes "renew" ∷ ws) both.2;
+      limits = tt;
     }
 
 asks_picture : (words rest : List Text) → fault_of hrv_app words ≡ [] → words ≡ codes "picture" ∷ rest → Asks words
@@ -109,6 +117,36 @@ asks_picture words rest e split =
       met = ap (subcommand_of hrv_app) split ∙ name_given picture.picture_command rest;
       asks = ap picture_of all.0 ∙ found.3;
       spelled = ap unmarked split ∙ ap (λ ws. codes "picture" ∷ ws) found.2;
+      limits = tt;
+    }
+
+asks_compile : (words rest : List Text) → fault_of hrv_app words ≡ [] → words ≡ codes "compile" ∷ rest → Asks words
+unfolding compile.takes_rest
+asks_compile words rest e split =
+    let all = takes_all compile.takes_rest rest (name_passes compile.compile_command rest (subst (λ ws. fault_of hrv_app ws ≡ []) split e)) in
+    let found = compile.all_values (unmarked rest) all.1 in
+    record {
+      asked = compile.asked found;
+      name = codes "compile";
+      rows = rows_after compile.leaf.rules [] rest;
+      met = ap (subcommand_of hrv_app) split ∙ name_given compile.compile_command rest;
+      asks = ap compile_of all.0 ∙ found.is_asked;
+      spelled = ap unmarked split ∙ ap (λ ws. codes "compile" ∷ ws) found.split;
+      limits = tt;
+    }
+
+asks_run : (words rest : List Text) → fault_of hrv_app words ≡ [] → words ≡ codes "run" ∷ rest → Asks words
+asks_run words rest e split =
+    let own = run.run_asked rest (name_passes run.run_command rest (subst (λ ws. fault_of hrv_app ws ≡ []) split e)) in
+    let rows = rows_after run.leaf.rules [] rest in
+    record {
+      asked = Runs own.image own.log own.harts own.turns;
+      name = codes "run";
+      rows = rows;
+      met = ap (subcommand_of hrv_app) split ∙ name_given run.run_command rest;
+      asks = own.is_asked;
+      spelled = (rest, split);
+      limits = run.within_limits rows own.image own.log own.harts own.turns own.is_asked;
     }
 
 pub words_ask : (words : List Text) → fault_of hrv_app words ≡ [] → Asks words
@@ -123,6 +161,8 @@ words_ask words e =
     by_name _ is_dis rest split = asks_dis words rest e split
     by_name _ is_renew rest split = asks_renew words rest e split
     by_name _ is_picture rest split = asks_picture words rest e split
+    by_name _ is_compile rest split = asks_compile words rest e split
+    by_name _ is_run rest split = asks_run words rest e split
 
 -- and they name it
 pub asked_named : (words : List Text) (pass : fault_of hrv_app words ≡ []) (asks : Asks words) → named words ≡ Some asks.asked
@@ -326,3 +366,35 @@ pub marked_picture : (algorithm : Text) (inputs : List Text) → length inputs �
     → named (codes "picture" ∷ codes "--" ∷ algorithm ∷ inputs) ≡ Some (Draws algorithm inputs)
 marked_picture algorithm inputs fit =
     values_picture (codes "--" ∷ algorithm ∷ inputs) algorithm inputs (marked (algorithm ∷ inputs)) refl fit
+
+-- and for a compilation
+abbrev compiled_in : List Text → Asked
+compiled_in (algorithm ∷ schedule ∷ image ∷ inputs) = Compiles algorithm schedule image inputs
+compiled_in _ = Compiles [] [] [] []
+
+-- an algorithm, a schedule, an image and inputs, of which those before a first `--` are plain, name a compilation
+pub values_compile : (words : List Text) (algorithm schedule image : Text) (inputs : List Text) → ArePlain words
+    → unmarked words ≡ algorithm ∷ schedule ∷ image ∷ inputs → length inputs ≤ usize_max
+    → named (codes "compile" ∷ words) ≡ Some (Compiles algorithm schedule image inputs)
+unfolding compile.takes_rest
+values_compile words algorithm schedule image inputs are_plain split fit =
+    let enough : compile.takes_rest.is_enough (unmarked words) ≡ true = ap compile.takes_rest.is_enough split ∙ ap not (le-ltb usize_max (length inputs) fit) in
+    let free = passes_all compile.takes_rest words are_plain enough in
+    let pass = name_free compile.compile_command words free in
+    let all = takes_all compile.takes_rest words free in
+    let found = compile.all_values (unmarked words) enough in
+    let rows = ap compile_of all.0 ∙ found.is_asked in
+    let same : compile.asked found ≡ Compiles algorithm schedule image inputs = ap compiled_in (sym found.split ∙ split) in
+    ap (λ kinds. unless_fault kinds (option_and_then asked_of (subcommand_of hrv_app (codes "compile" ∷ words)))) pass
+    ∙ ap (option_and_then asked_of) (name_given compile.compile_command words) ∙ rows ∙ ap (λ a. Some a) same
+
+pub plain_compile : (algorithm schedule image : Text) (inputs : List Text) → AllByRecursion IsPlainWord (algorithm ∷ schedule ∷ image ∷ inputs)
+    → length inputs ≤ usize_max → named (codes "compile" ∷ algorithm ∷ schedule ∷ image ∷ inputs) ≡ Some (Compiles algorithm schedule image inputs)
+plain_compile algorithm schedule image inputs plains fit =
+    let whole = all_plain (algorithm ∷ schedule ∷ image ∷ inputs) plains in
+    values_compile (algorithm ∷ schedule ∷ image ∷ inputs) algorithm schedule image inputs whole.0 whole.1 fit
+
+pub marked_compile : (algorithm schedule image : Text) (inputs : List Text) → length inputs ≤ usize_max
+    → named (codes "compile" ∷ codes "--" ∷ algorithm ∷ schedule ∷ image ∷ inputs) ≡ Some (Compiles algorithm schedule image inputs)
+marked_compile algorithm schedule image inputs fit =
+    values_compile (codes "--" ∷ algorithm ∷ schedule ∷ image ∷ inputs) algorithm schedule image inputs (marked (algorithm ∷ schedule ∷ image ∷ inputs)) refl fit

@@ -1,5 +1,5 @@
 -- The words of a command whose only option is `--help`, and what `clap` finds wrong with them.
-use Rattle.std.proofs.Common.{◌≡◌, ◌||◌, ℕ, Bool, cond, codes, true, false, ne_eqb, refl, ap, subst, List, [], ◌∷◌, length, Option, Some, None}
+use Rattle.std.proofs.Common.{◌≡◌, ◌∙◌, ◌||◌, ℕ, Bool, cond, codes, true, false, ne_eqb, refl, ap, subst, List, [], ◌∷◌, length, Option, Some, None}
 use Rattle.std.specs.Prelude.{◌==◌, ◌&&◌, option_and_then, drop, encode_utf8, slice_get}
 use Rattle.std.specs.Option.{option_map_or}
 use Rattle.std.specs.Str.{bytes_eq, chars}
@@ -26,6 +26,10 @@ pub record HasHelpOnly (rules : List Rule) : Type 0 where
   pub long : (name : Text) → arg_by_long rules name ≡ cond (bytes_eq (codes "help") name || false) (Some (filled help_rule)) None
   pub short : (x : ℕ) → arg_by_short rules x ≡ cond ((104 == x) || false) (Some (filled help_rule)) None
 
+-- the same of short forms alone
+abbrev pub HasHelpShort : List Rule → Type 0
+HasHelpShort rules = (x : ℕ) → arg_by_short rules x ≡ cond ((104 == x) || false) (Some (filled help_rule)) None
+
 -- nothing is held over from an earlier flag
 abbrev pub held : List Row → Option (Text × List Text) → Held
 held rows pending = record { rows = rows; pending = pending; skip = 0 }
@@ -43,7 +47,7 @@ pub free_unnamed : (waiting : Waiting) (word : Text) → IsFree waiting → subc
 free_unnamed _ word is_idle = refl
 free_unnamed _ word is_positional = refl
 
-help_called : (rules : List Rule) (again : Bool) (v : Option Text) (h : Held) → long_fault rules again (Some (filled help_rule)) v h ≡ [] → ⊥
+pub help_called : (rules : List Rule) (again : Bool) (v : Option Text) (h : Held) → long_fault rules again (Some (filled help_rule)) v h ≡ [] → ⊥
 help_called rules again None h e = some_fault _ _ (both_pass (settle_fault rules again h) (kind.DisplayHelp ∷ []) e).1
 help_called rules again (Some v) h e = some_fault _ _ e
 
@@ -55,9 +59,9 @@ long_refused rules only again name v h e = go (bytes_eq (codes "help") name || f
     go true bad = help_called rules again v h bad
     go false bad = some_fault _ _ bad
 
-short_refused : (rules : List Rule) → HasHelpOnly rules → (again : Bool) (x : ℕ) (rest : Text) (h : Held) (next : Held → Kinds)
+short_refused : (rules : List Rule) → HasHelpShort rules → (again : Bool) (x : ℕ) (rest : Text) (h : Held) (next : Held → Kinds)
     → short_fault rules again (arg_by_short rules x) rest h next ≡ [] → ⊥
-short_refused rules only again x rest h next e = go ((104 == x) || false) (subst (λ a. short_fault rules again a rest h next ≡ []) (only.short x) e)
+short_refused rules only again x rest h next e = go ((104 == x) || false) (subst (λ a. short_fault rules again a rest h next ≡ []) (only x) e)
   where
     go : (b : Bool) → short_fault rules again (cond b (Some (filled help_rule)) None) rest h next ≡ [] → ⊥
     go true bad =
@@ -65,23 +69,23 @@ short_refused rules only again x rest h next e = go ((104 == x) || false) (subst
         help_called rules again None h first.0
     go false bad = some_fault _ _ bad
 
--- a word whose flags are none is a value
-none_met : (shape : Shape) → HasHelpOnly shape.rules → (waiting : Waiting) → IsFree waiting → (word : Text) (rows : List Row) (pending : Option (Text × List Text)) (x : ℕ) (xs : Text) (o : Option ℕ)
+-- a word whose flags are none is plain
+none_met : (shape : Shape) → HasHelpShort shape.rules → (waiting : Waiting) (word : Text) (rows : List Row) (pending : Option (Text × List Text)) (x : ℕ) (xs : Text) (o : Option ℕ)
     → bundle_step_fault shape.rules shape.args_override_self o (x ∷ xs) 0 (held rows pending) (flags_fault shape.rules shape.args_override_self (length xs)) ≡ []
     → after_flag shape.rules waiting word (bundle_step shape.rules o (x ∷ xs) 0 plain (held rows pending) (bundle_met shape.rules (length xs))).0
-    (bundle_step shape.rules o (x ∷ xs) 0 plain (held rows pending) (bundle_met shape.rules (length xs))).1 ≡ (held rows pending, value)
-none_met shape only waiting free word rows pending x xs None e = free_plain shape.rules waiting word (held rows pending) free
-none_met shape only waiting free word rows pending x xs (Some c) e =
+    (bundle_step shape.rules o (x ∷ xs) 0 plain (held rows pending) (bundle_met shape.rules (length xs))).1 ≡ plain_word shape.rules waiting word (held rows pending)
+none_met shape only waiting word rows pending x xs None e = refl
+none_met shape only waiting word rows pending x xs (Some c) e =
     let rest = drop (length (encode_utf8 c)) (x ∷ xs) in
     absurd (short_refused shape.rules only shape.args_override_self c rest (held rows pending) (flags_fault shape.rules shape.args_override_self (length xs) rest 0) e)
 
-short_met_value : (shape : Shape) → HasHelpOnly shape.rules → (waiting : Waiting) → IsFree waiting → (word : Text) (rows : List Row) (pending : Option (Text × List Text)) (o : Option Text)
+pub short_met_plain : (shape : Shape) → HasHelpShort shape.rules → (waiting : Waiting) (word : Text) (rows : List Row) (pending : Option (Text × List Text)) (o : Option Text)
     → option_map_or (λ flags. bundle_fault shape.rules shape.args_override_self flags (held rows pending)) o [] ≡ []
-    → short_or_plain shape.rules waiting word o (held rows pending) ≡ (held rows pending, value)
+    → short_or_plain shape.rules waiting word o (held rows pending) ≡ plain_word shape.rules waiting word (held rows pending)
 unfolding bundle_met flags_fault
-short_met_value shape only waiting free word rows pending None e = free_plain shape.rules waiting word (held rows pending) free
-short_met_value shape only waiting free word rows pending (Some []) e = free_plain shape.rules waiting word (held rows pending) free
-short_met_value shape only waiting free word rows pending (Some (x ∷ xs)) e = none_met shape only waiting free word rows pending x xs (slice_get (chars (x ∷ xs)) 0) e
+short_met_plain shape only waiting word rows pending None e = refl
+short_met_plain shape only waiting word rows pending (Some []) e = refl
+short_met_plain shape only waiting word rows pending (Some (x ∷ xs)) e = none_met shape only waiting word rows pending x xs (slice_get (chars (x ∷ xs)) 0) e
 
 -- a word that is no option, no `--` and no subcommand is a value
 pub value_met : (shape : Shape) (names : Names) → HasHelpOnly shape.rules → (waiting : Waiting) → IsFree waiting → (position : ℕ) (word : Text) (rows : List Row) (pending : Option (Text × List Text))
@@ -94,7 +98,7 @@ value_met shape names only waiting free position word rows pending unnamed unmar
     go : (o : Option (Text × Option Text)) → flag_word_fault shape.rules shape.args_override_self o word (held rows pending) ≡ []
         → long_or_other shape.rules waiting word o (held rows pending) ≡ (held rows pending, value)
     go (Some p) bad = absurd (long_refused shape.rules only shape.args_override_self p.0 p.1 (held rows pending) bad)
-    go None bad = short_met_value shape only waiting free word rows pending (short_of word) bad
+    go None bad = short_met_plain shape only.short waiting word rows pending (short_of word) bad ∙ free_plain shape.rules waiting word (held rows pending) free
 
 -- how a plain word looks
 pub record LooksPlain (word : Text) : Type 0 where

@@ -1,5 +1,6 @@
 mod AskedWords
 mod AsmWords
+mod CompileWords
 mod DebugWords
 mod DisWords
 mod HelpOnly
@@ -8,4 +9,6 @@ mod PictureWords
 mod Positionals
 mod RenewWords
 mod ReplayWords
+mod RunForms
+mod RunWords
 mod Subcommands

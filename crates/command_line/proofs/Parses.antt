@@ -1,12 +1,16 @@
 -- What a parse of the program's command line gives.
-use Rattle.std.proofs.Common.{true≢false, ◌≡◌, ◌∙◌, ◌⊎◌, codes, true, refl, sym, ap, ap₂, subst, List, [], Option, Some, None, IsSome, inl, inr}
-use Rattle.std.specs.Prelude.{is_some, map, option_and_then, option_map, unwrap_or}
+use Rattle.std.proofs.Common.{true≢false, ◌≡◌, ◌∙◌, ◌⊎◌, ℕ, Bool, codes, true, false, refl, sym, ap, ap₂, subst, List, [], Option, Some, None, IsSome, inl, inr}
+use Rattle.std.specs.Prelude.{if◌then◌else◌, is_some, map, option_and_then, option_map, unwrap_or}
 use Rattle.std.specs.Borrow.{Bor}
+use Rattle.std.specs.Str.Parse.{ParsesUnsigned, digits_value, without_leading_plus}
+use Rattle.clap.proofs.ValueTestLemmas.{accepts-Accepts}
+use Rattle.clap.specs.ValueTests.{accepts}
+use Rattle.clap.specs.declared.builder.value_parser.ValueParser.TheVariants.{Unsigned}
 use Rattle.clap.proofs.CallerLemmas.{some_of_text}
-use Rattle.clap.proofs.WalkLemmas.{first_value-rows, raw_values-rows}
-use Rattle.clap.specs.Walk.{Row, Text, all_of, first_of, rows_of, texts}
+use Rattle.clap.proofs.WalkLemmas.{first_value-rows, one_text-rows, raw_values-rows}
+use Rattle.clap.specs.Walk.{Row, Text, all_of, first_of, one_of, rows_of, texts}
 use Rattle.clap.specs.Simple.{HasMatchesOf, app_of, is_simple, subcommand_of, subcommand_rows_of}
-use Rattle.clap.specs.Matches.{first_value, found_of, matched_of, raw_values, subcommand_name_of}
+use Rattle.clap.specs.Matches.{ReadsOne, first_value, found_of, matched_of, one_text, raw_values, subcommand_name_of}
 use Rattle.clap.specs.declared.parser.matches.Found.{Found}
 use Rattle.clap.specs.Faults.{fault_of, is_simple_and_free}
 use Rattle.clap.specs.declared.builder.command.Command.{Command}
@@ -27,8 +31,9 @@ use Rattle.command_line.specs.Faults.{fault_for}
 use Rattle.command_line.specs.declared.command_lines.Invocation.{Invocation}
 use Rattle.command_line.specs.declared.faults.CommandLineFault.{CommandLineFault}
 use Rattle.command_line.specs.declared.faults.CommandLineFault.TheVariants.{Refused, Memory}
-use Rattle.command_line.specs.CommandLine.{Asked, Assembles, Debugs, Draws, IsRefusal, IsSpelled, Lists, Makes, Renews, Replays, asked_of, asm_of, debug_of, dis_of, hrv_app, named, picture_of, renew_of, replay_of}
+use Rattle.command_line.specs.CommandLine.{Asked, Assembles, Compiles, Debugs, Draws, IsRefusal, IsSpelled, IsWithinLimits, Lists, Makes, Renews, Replays, Runs, asked_of, asm_of, compile_of, debug_of, dis_of, hrv_app, most_harts, most_turns, named, number_or, picture_of, renew_of, replay_of, run_of}
 use Rattle.command_line.proofs.AskedWords.{Asks, asked_named, fault_of-named, words_ask}
+use Rattle.command_line.proofs.RunWords.{run_needs}
 
 -- the program's command is one that `clap` gives the matches and the faults of
 pub simple : is_simple_and_free hrv_app ≡ true
@@ -126,6 +131,25 @@ pub picture_read : (rows : List Row) (algorithm : Text) (inputs : List Text) →
     → inputs ≡ unwrap_or (all_of (codes "INPUT") rows) [] → picture_of rows ≡ Some (Draws algorithm inputs)
 picture_read rows algorithm inputs first rest = ap₂ (λ a is. option_map (λ x. Draws x is) a) first (sym rest)
 
+three_given : (make : Text → Text → Text → Asked) (first second third : Option Text)
+    → IsSome (option_and_then (λ a. option_and_then (λ b. option_map (λ c. make a b c) third) second) first) → IsSome first × IsSome second × IsSome third
+three_given make None second third e = absurd (true≢false (sym e))
+three_given make (Some a) None third e = absurd (true≢false (sym e))
+three_given make (Some a) (Some b) None e = absurd (true≢false (sym e))
+three_given make (Some a) (Some b) (Some c) e = (refl, refl, refl)
+
+-- the algorithm, the schedule and the image of a compilation are there
+pub compile_given : (rows : List Row) → IsSome (compile_of rows)
+    → IsSome (first_of (codes "ALGORITHM") rows) × IsSome (first_of (codes "SCHEDULE") rows) × IsSome (first_of (codes "IMAGE") rows)
+compile_given rows some =
+    three_given (λ a s i. Compiles a s i (unwrap_or (all_of (codes "INPUT") rows) [])) (first_of (codes "ALGORITHM") rows) (first_of (codes "SCHEDULE") rows)
+    (first_of (codes "IMAGE") rows) some
+
+pub compile_read : (rows : List Row) (algorithm schedule image : Text) (inputs : List Text) → first_of (codes "ALGORITHM") rows ≡ Some algorithm
+    → first_of (codes "SCHEDULE") rows ≡ Some schedule → first_of (codes "IMAGE") rows ≡ Some image
+    → inputs ≡ unwrap_or (all_of (codes "INPUT") rows) [] → compile_of rows ≡ Some (Compiles algorithm schedule image inputs)
+compile_read rows algorithm schedule image inputs first second third rest = rw (first, second, third, ← rest) refl
+
 -- the values of an argument that takes the words left over
 rest_values : (f : Found) (id : Text) (o : Option (Bor (List (Bor Text)))) → option_map (λ s. map (λ v. v.now) s.now) o ≡ option_map raw_values (matched_of f id)
     → unwrap_or (all_of id (rows_of f)) [] ≡ unwrap_or (option_map (λ s. texts s.now) o) []
@@ -169,6 +193,9 @@ pub asked_here : (words : List Text) (m : ArgMatches) (t : Taken words m) (o : O
     → asked_of (x.0.now, rows_of (found_of x.1.now)) ≡ Some t.asks.asked
 asked_here words m t o x is names gives = met_as m t.asks.name t.asks.rows o x is names gives t.met ∙ t.asks.asks
 
+pub limited_as : (words : List Text) (m : ArgMatches) (t : Taken words m) (asked : Asked) → Some t.asks.asked ≡ Some asked → IsWithinLimits asked
+limited_as words m t asked same = subst IsWithinLimits (ap (λ o. unwrap_or o asked) same) t.asks.limits
+
 pub spelled_as : (words : List Text) (m : ArgMatches) (t : Taken words m) (asked : Asked) → Some t.asks.asked ≡ Some asked → IsSpelled words asked
 spelled_as words m t asked same = subst (IsSpelled words) (ap (λ o. unwrap_or o asked) same) t.asks.spelled
 
@@ -201,3 +228,52 @@ memory_alone words f some (inr kept) = absurd (subst (IsAmong (kind_of kept.0)) 
 pub refused_named : (r : Result Invocation CommandLineFault) (words : List Text) → IfErr r (IsRefusal words) → IfErr r (λ f. IsSome (named words) → f ≡ Memory)
 refused_named (Ok i) words h = tt
 refused_named (Err f) words h = λ some. memory_alone words f some h
+
+-- ---- numbers
+
+-- what `get_one` gives of an option that takes a number
+pub number_read : {E : Type 0} (gives : Text → Result ℕ E → Type 0) (f : Found) (id : Text) (o : Option ℕ) (none most asked : ℕ)
+    → ((text : Text) (r : Result ℕ E) → gives text r → ParsesUnsigned 64 10 text r)
+    → (one_text f id ≡ None → o ≡ None) → ((text : Text) → one_text f id ≡ Some text → ReadsOne gives text o)
+    → number_or none most (one_of id (rows_of f)) ≡ Some asked → unwrap_or o none ≡ asked
+number_read {E} gives f id o none most asked parses no_text text is =
+    by_text (one_text f id) refl (subst (λ t. number_or none most t ≡ Some asked) (sym (one_text-rows f id)) is)
+  where
+    by_answer : (t : Text) (answer : Option ℕ) → ReadsOne gives t answer → accepts false (Unsigned 1 most) t ≡ true → unwrap_or answer none ≡ digits_value 10 (without_leading_plus t)
+    by_answer t None refused accepted =
+        let fits = accepts-Accepts false (Unsigned 1 most) t accepted in
+        absurd (parses t (Err refused.0) refused.1 (fits.0, fits.1))
+    by_answer t (Some n) given accepted = (parses t (Ok n) given).1
+
+    by_test : (t : Text) (b : Bool) → accepts false (Unsigned 1 most) t ≡ b → one_text f id ≡ Some t
+        → (if b then Some (digits_value 10 (without_leading_plus t)) else None) ≡ Some asked → unwrap_or o none ≡ asked
+    by_test t true accepted there e = by_answer t o (text t there) accepted ∙ ap (λ n. unwrap_or n none) e
+    by_test t false refused there e = absurd (true≢false (sym (ap is_some e)))
+
+    by_text : (t : Option Text) → one_text f id ≡ t → number_or none most t ≡ Some asked → unwrap_or o none ≡ asked
+    by_text None missing e = ap (λ n. unwrap_or n none) (no_text missing) ∙ ap (λ n. unwrap_or n none) e
+    by_text (Some t) there e = by_test t (accepts false (Unsigned 1 most) t) refl there e
+
+-- the files of a run are there
+pub run_given : (rows : List Row) → IsSome (run_of rows) → IsSome (first_of (codes "IMAGE") rows) × IsSome (first_of (codes "LOG") rows)
+run_given rows some = go (run_of rows) refl some
+  where
+    go : (o : Option Asked) → run_of rows ≡ o → IsSome o → IsSome (first_of (codes "IMAGE") rows) × IsSome (first_of (codes "LOG") rows)
+    go None is there = absurd (true≢false (sym there))
+    go (Some asked) is there =
+        let needs = run_needs rows asked is in
+        (ap is_some needs.image_is, ap is_some needs.log_is)
+
+pub run_read : (rows : List Row) (image log : Text) (harts turns : ℕ) → IsSome (run_of rows) → first_of (codes "IMAGE") rows ≡ Some image → first_of (codes "LOG") rows ≡ Some log
+    → ((most asked : ℕ) → number_or 1 most (one_of (codes "harts") rows) ≡ Some asked → harts ≡ asked)
+    → ((most asked : ℕ) → number_or most_turns most (one_of (codes "turns") rows) ≡ Some asked → turns ≡ asked)
+    → run_of rows ≡ Some (Runs image log harts turns)
+run_read rows image log harts turns some image_is log_is harts_are turns_are = go (run_of rows) refl some
+  where
+    go : (o : Option Asked) → run_of rows ≡ o → IsSome o → run_of rows ≡ Some (Runs image log harts turns)
+    go None is there = absurd (true≢false (sym there))
+    go (Some asked) is there =
+        let needs = run_needs rows asked is in
+        let h = harts_are most_harts _ needs.harts_are in
+        let t = turns_are most_turns _ needs.turns_are in
+        rw (image_is, log_is, needs.harts_are, needs.turns_are, h, t) refl

@@ -69,20 +69,20 @@ moves true (algorithm ∷ input ∷ others) word more = refl
 moves false (algorithm ∷ input ∷ others) word more = refl
 
 -- any text is a value
-texts_pass : (values : List Text) → values_kinds false parser.String values ≡ []
+pub texts_pass : (values : List Text) → values_kinds false parser.String values ≡ []
 texts_pass [] = refl
 texts_pass (v ∷ values) = texts_pass values
 
 -- a test that fails
-negated : (b : Bool) → not b ≡ false → b ≡ true
+pub negated : (b : Bool) → not b ≡ false → b ≡ true
 negated true e = refl
 negated false e = absurd (true≢false e)
 
-affirmed : (b : Bool) → not b ≡ true → b ≡ false
+pub affirmed : (b : Bool) → not b ≡ true → b ≡ false
 affirmed false e = refl
 affirmed true e = absurd (true≢false (sym e))
 
-not_below_none : (n : ℕ) → nat_lt n 0 ≡ false
+pub not_below_none : (n : ℕ) → nat_lt n 0 ≡ false
 not_below_none n = le-ltb n 0 (omega arith)
 
 pub lacks : (values : List Text) → is_enough values ≡ false → end_fault leaf (given values) ≡ [] → ⊥

@@ -23,6 +23,8 @@ pub data IsName : Text → Type 0 where
   is_dis : IsName (codes "dis")
   is_renew : IsName (codes "renew")
   is_picture : IsName (codes "picture")
+  is_compile : IsName (codes "compile")
+  is_run : IsName (codes "run")
 
 -- past the subcommand, the words are its own
 abbrev pub stopped : Held → Text → List Text → Walk
@@ -90,17 +92,31 @@ first_is_name (word ∷ rest) e = by_replay (bytes_eq (codes "replay") word) ref
 
     by_help : (b : Bool) → bytes_eq (codes "help") word ≡ b → bytes_eq (codes "replay") word ≡ false → bytes_eq (codes "debug") word ≡ false
         → bytes_eq (codes "asm") word ≡ false → bytes_eq (codes "dis") word ≡ false → bytes_eq (codes "renew") word ≡ false → bytes_eq (codes "picture") word ≡ false
+        → bytes_eq (codes "compile") word ≡ false → bytes_eq (codes "run") word ≡ false → Named (word ∷ rest)
+    by_help true help no_replay no_debug no_asm no_dis no_renew no_picture no_compile no_run =
+        absurd (some_fault _ _ (rw (no_replay, no_debug, no_asm, no_dis, no_renew, no_picture, no_compile, no_run, help) at first))
+    by_help false help no_replay no_debug no_asm no_dis no_renew no_picture no_compile no_run =
+        by_mark (bytes_eq word (codes "--")) refl (rw (no_replay, no_debug, no_asm, no_dis, no_renew, no_picture, no_compile, no_run, help) refl)
+
+    by_run : (b : Bool) → bytes_eq (codes "run") word ≡ b → bytes_eq (codes "replay") word ≡ false → bytes_eq (codes "debug") word ≡ false
+        → bytes_eq (codes "asm") word ≡ false → bytes_eq (codes "dis") word ≡ false → bytes_eq (codes "renew") word ≡ false → bytes_eq (codes "picture") word ≡ false
+        → bytes_eq (codes "compile") word ≡ false → Named (word ∷ rest)
+    by_run true same no_replay no_debug no_asm no_dis no_renew no_picture no_compile = begins word rest (codes "run") is_run same
+    by_run false other no_replay no_debug no_asm no_dis no_renew no_picture no_compile =
+        by_help (bytes_eq (codes "help") word) refl no_replay no_debug no_asm no_dis no_renew no_picture no_compile other
+
+    by_compile : (b : Bool) → bytes_eq (codes "compile") word ≡ b → bytes_eq (codes "replay") word ≡ false → bytes_eq (codes "debug") word ≡ false
+        → bytes_eq (codes "asm") word ≡ false → bytes_eq (codes "dis") word ≡ false → bytes_eq (codes "renew") word ≡ false → bytes_eq (codes "picture") word ≡ false
         → Named (word ∷ rest)
-    by_help true help no_replay no_debug no_asm no_dis no_renew no_picture =
-        absurd (some_fault _ _ (rw (no_replay, no_debug, no_asm, no_dis, no_renew, no_picture, help) at first))
-    by_help false help no_replay no_debug no_asm no_dis no_renew no_picture =
-        by_mark (bytes_eq word (codes "--")) refl (rw (no_replay, no_debug, no_asm, no_dis, no_renew, no_picture, help) refl)
+    by_compile true same no_replay no_debug no_asm no_dis no_renew no_picture = begins word rest (codes "compile") is_compile same
+    by_compile false other no_replay no_debug no_asm no_dis no_renew no_picture =
+        by_run (bytes_eq (codes "run") word) refl no_replay no_debug no_asm no_dis no_renew no_picture other
 
     by_picture : (b : Bool) → bytes_eq (codes "picture") word ≡ b → bytes_eq (codes "replay") word ≡ false → bytes_eq (codes "debug") word ≡ false
         → bytes_eq (codes "asm") word ≡ false → bytes_eq (codes "dis") word ≡ false → bytes_eq (codes "renew") word ≡ false → Named (word ∷ rest)
     by_picture true same no_replay no_debug no_asm no_dis no_renew = begins word rest (codes "picture") is_picture same
     by_picture false other no_replay no_debug no_asm no_dis no_renew =
-        by_help (bytes_eq (codes "help") word) refl no_replay no_debug no_asm no_dis no_renew other
+        by_compile (bytes_eq (codes "compile") word) refl no_replay no_debug no_asm no_dis no_renew other
 
     by_renew : (b : Bool) → bytes_eq (codes "renew") word ≡ b → bytes_eq (codes "replay") word ≡ false → bytes_eq (codes "debug") word ≡ false
         → bytes_eq (codes "asm") word ≡ false → bytes_eq (codes "dis") word ≡ false → Named (word ∷ rest)

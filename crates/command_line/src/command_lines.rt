@@ -2,10 +2,10 @@
 ghost use Rattle.std.specs.Prelude.{◌≡◌, ◌≤◌, ℕ, List, [], ◌∷◌, codes, false, length, unwrap_or, IfOk, IfErr, Some, IsSome};
 ghost use Rattle.std.specs.List.{AllByRecursion};
 ghost use Rattle.clap.specs.Lexer.{usize_max};
-ghost use Rattle.clap.specs.Words.{all_of, found_of, rows_of, rule_of};
+ghost use Rattle.clap.specs.Words.{all_of, found_of, rows_of, rule_of, one_of};
 ghost use Rattle.clap.specs.Walk.{texts};
-ghost use Rattle.command_line.specs.CommandLine.{Asked, Assembles, Debugs, Draws, IsPlainWord, IsRefusal, IsSpelled, Lists, Makes, Renews, Replays};
-ghost use Rattle.command_line.specs.CommandLine.{asked_by, asked_of, asm_app, asm_of, debug_app, debug_of, dis_app, dis_of, hrv_app, log_app, named, picture_app, picture_of, renew_app, renew_of, replay_app, replay_of, rest_rule, text_app};
+ghost use Rattle.command_line.specs.CommandLine.{Asked, Assembles, Compiles, Debugs, Draws, IsPlainWord, IsRefusal, IsSpelled, IsWithinLimits, Lists, Makes, Renews, Replays, Runs};
+ghost use Rattle.command_line.specs.CommandLine.{algorithm_app, asked_by, asked_of, asm_app, asm_of, compile_app, compile_of, compile_texts_app, debug_app, debug_of, dis_app, dis_of, hrv_app, log_app, most_harts, most_turns, named, number_or, number_rule, picture_app, picture_of, renew_app, renew_of, replay_app, replay_of, rest_rule, run_app, run_files_app, run_of, text_app};
 
 use crate::faults::CommandLineFault;
 use clap::{Arg, ArgMatches, Command};
@@ -43,6 +43,20 @@ pub enum Invocation<'a> {
         algorithm: &'a str,
         inputs: Vec<&'a str>,
     },
+    /// `compile ALGORITHM SCHEDULE IMAGE [INPUT..]`
+    Compile {
+        algorithm: &'a str,
+        schedule: &'a str,
+        image: &'a str,
+        inputs: Vec<&'a str>,
+    },
+    /// `run IMAGE LOG --harts N --turns L`
+    Run {
+        image: &'a str,
+        log: &'a str,
+        harts: u64,
+        turns: u64,
+    },
 }
 
 /// Reads the words of a command line, the program's own name left out.
@@ -51,6 +65,7 @@ pub fn command<'a>(alloc: Global, words: &'a [&'a str]) -> Result<Invocation<'a>
         named (texts words.now) ≡ Some (asked_by invocation)) }
     ensures spelled { IfOk result (λ invocation.
         IsSpelled (texts words.now) (asked_by invocation)) }
+    ensures limits { IfOk result (λ invocation. IsWithinLimits (asked_by invocation)) }
     ensures refused { IfErr result (IsRefusal (texts words.now)) }
     ensures memory { IfErr result (λ fault.
         IsSome (named (texts words.now)) → fault ≡ CommandLineFault.Memory) }
@@ -77,6 +92,8 @@ fn asked_for<'a>(
         "dis" => Ok(dis_asked(given)),
         "renew" => Ok(renew_asked(given)),
         "picture" => picture_asked(alloc, given),
+        "compile" => compile_asked(alloc, given),
+        "run" => Ok(run_asked(given)),
         _ => unreachable!(),
     }
 }
@@ -141,7 +158,51 @@ fn picture_asked<'a>(alloc: Global, given: &ArgMatches<'a>) -> Result<Invocation
     Ok(Invocation::Picture { algorithm, inputs })
 }
 
-// The words for the inputs of a picture, in their order.
+// What the arguments of `compile` ask for.
+fn compile_asked<'a>(alloc: Global, given: &ArgMatches<'a>) -> Result<Invocation<'a>, AllocError>
+    requires { IsSome (compile_of (rows_of (found_of given.now))) }
+    ensures { IfOk result (λ invocation. compile_of (rows_of (found_of given.now)) ≡ Some (asked_by invocation)) }
+{
+    let algorithm = given.get_str("ALGORITHM").unwrap();
+    let schedule = given.get_str("SCHEDULE").unwrap();
+    let image = given.get_str("IMAGE").unwrap();
+    let inputs = inputs_of(alloc, given)?;
+    Ok(Invocation::Compile {
+        algorithm,
+        schedule,
+        image,
+        inputs,
+    })
+}
+
+// What the arguments of `run` ask for: one hart, and all turns that a log may have, where no option says another number.
+fn run_asked<'a>(given: &ArgMatches<'a>) -> Invocation<'a>
+    requires { IsSome (run_of (rows_of (found_of given.now))) }
+    ensures { run_of (rows_of (found_of given.now)) ≡ Some (asked_by result) }
+{
+    let image = given.get_str("IMAGE").unwrap();
+    let log = given.get_str("LOG").unwrap();
+    let harts = number_asked(given, "harts", 1);
+    let turns = number_asked(given, "turns", MOST_TURNS);
+    Invocation::Run {
+        image,
+        log,
+        harts,
+        turns,
+    }
+}
+
+// How many turns a hart has at most in a log.
+const MOST_TURNS: u64 = 1 << 40;
+
+// The number of an option, whatever the greatest one is, or the one that stands for none.
+fn number_asked(given: &ArgMatches, id: &str, none: u64) -> u64
+    ensures { (most asked : ℕ) → number_or none most (one_of id.now (rows_of (found_of given.now))) ≡ Some asked → result ≡ asked }
+{
+    given.get_one::<u64>(id).unwrap_or(none)
+}
+
+// The words for input pictures, in their order.
 fn inputs_of<'a>(alloc: Global, given: &ArgMatches<'a>) -> Result<Vec<&'a str>, AllocError>
     ensures { IfOk result (λ inputs. texts inputs.items ≡ unwrap_or (all_of (codes "INPUT") (rows_of (found_of given.now))) []) }
 {
@@ -199,11 +260,41 @@ pub fn picture_is_named()
         → named (codes "picture" ∷ codes "--" ∷ algorithm ∷ inputs) ≡ Some (Draws algorithm inputs) }
 {}
 
+/// Which words name a compilation: `compile`, an algorithm, a schedule, an image and any number of inputs, after `--` where one begins
+/// with `-`.
+pub fn compile_is_named()
+    ensures plain { (algorithm schedule image : List ℕ) (inputs : List (List ℕ)) → AllByRecursion IsPlainWord (algorithm ∷ schedule ∷ image ∷ inputs)
+        → length inputs ≤ usize_max → named (codes "compile" ∷ algorithm ∷ schedule ∷ image ∷ inputs) ≡ Some (Compiles algorithm schedule image inputs) }
+    ensures marked { (algorithm schedule image : List ℕ) (inputs : List (List ℕ)) → length inputs ≤ usize_max
+        → named (codes "compile" ∷ codes "--" ∷ algorithm ∷ schedule ∷ image ∷ inputs) ≡ Some (Compiles algorithm schedule image inputs) }
+{}
+
+/// Which words name a run: `run` and two names, after `--` where one begins with `-`; with options behind them, whose texts are
+/// numbers within the limits.
+pub fn run_is_named()
+    ensures plain { (image log : List ℕ) → IsPlainWord image → IsPlainWord log
+        → named (codes "run" ∷ image ∷ log ∷ []) ≡ Some (Runs image log 1 most_turns) }
+    ensures marked { (image log : List ℕ)
+        → named (codes "run" ∷ codes "--" ∷ image ∷ log ∷ []) ≡ Some (Runs image log 1 most_turns) }
+    ensures options { (image log harts turns : List ℕ) (h t : ℕ) → IsPlainWord image → IsPlainWord log
+        → number_or 1 most_harts (Some harts) ≡ Some h → number_or 1 most_turns (Some turns) ≡ Some t
+        → named (codes "run" ∷ image ∷ log ∷ codes "--harts" ∷ harts ∷ codes "--turns" ∷ turns ∷ []) ≡ Some (Runs image log h t) }
+{}
+
 // The program's command.
 fn program<'a>(alloc: Global) -> Result<Command<'a>, AllocError>
     ensures { IfOk result (Makes hrv_app) }
 {
-    text_program(alloc)?.subcommand(picture_command(alloc)?)
+    algorithm_program(alloc)?.subcommand(run_command(alloc)?)
+}
+
+// The program's command with the subcommands that have no option.
+fn algorithm_program<'a>(alloc: Global) -> Result<Command<'a>, AllocError>
+    ensures { IfOk result (Makes algorithm_app) }
+{
+    text_program(alloc)?
+        .subcommand(picture_command(alloc)?)?
+        .subcommand(compile_command(alloc)?)
 }
 
 // The program's command with the subcommands that take a log, an assembly text or an image alone.
@@ -286,6 +377,70 @@ fn picture_command<'a>(alloc: Global) -> Result<Command<'a>, AllocError>
         .about("Draws the picture that an algorithm defines")
         .arg(Arg::new(alloc, "ALGORITHM").required(true))?
         .arg(rest_arg(alloc, "INPUT"))
+}
+
+// `compile ALGORITHM SCHEDULE IMAGE [INPUT..]`
+fn compile_command<'a>(alloc: Global) -> Result<Command<'a>, AllocError>
+    ensures { IfOk result (Makes compile_app) }
+{
+    compile_texts_command(alloc)?
+        .arg(Arg::new(alloc, "IMAGE").required(true))?
+        .arg(rest_arg(alloc, "INPUT"))
+}
+
+// `compile` with its texts alone.
+fn compile_texts_command<'a>(alloc: Global) -> Result<Command<'a>, AllocError>
+    ensures { IfOk result (Makes compile_texts_app) }
+{
+    Command::new(alloc, "compile")
+        .about("Compiles an algorithm under a schedule and stores the image")
+        .arg(Arg::new(alloc, "ALGORITHM").required(true))?
+        .arg(Arg::new(alloc, "SCHEDULE").required(true))
+}
+
+// `run IMAGE LOG --harts N --turns L`
+fn run_command<'a>(alloc: Global) -> Result<Command<'a>, AllocError>
+    ensures { IfOk result (Makes run_app) }
+{
+    run_files_command(alloc)?
+        .arg(harts_arg(alloc))?
+        .arg(turns_arg(alloc))
+}
+
+// `run` with its files alone.
+fn run_files_command<'a>(alloc: Global) -> Result<Command<'a>, AllocError>
+    ensures { IfOk result (Makes run_files_app) }
+{
+    Command::new(alloc, "run")
+        .about("Runs an image by threads, a thread a hart, and stores the log of their turns")
+        .arg(Arg::new(alloc, "IMAGE").required(true))?
+        .arg(Arg::new(alloc, "LOG").required(true))
+}
+
+// How many harts there are.
+fn harts_arg<'a>(alloc: Global) -> Arg<'a>
+    ensures rule { rule_of result ≡ number_rule (codes "harts") most_harts }
+    ensures local { result.global ≡ false }
+{
+    Arg::new(alloc, "harts")
+        .long("harts")
+        .value_name("N")
+        .help("How many harts run, 1 to 8: one where it isn't given")
+        .value_parser(clap::value_parser!(u64).range(1..=8))
+}
+
+// How many turns each hart makes at most.
+fn turns_arg<'a>(alloc: Global) -> Arg<'a>
+    ensures rule { rule_of result ≡ number_rule (codes "turns") most_turns }
+    ensures local { result.global ≡ false }
+{
+    Arg::new(alloc, "turns")
+        .long("turns")
+        .value_name("L")
+        .help(
+            "How many turns each hart makes at most, 1 to 1099511627776: that many where it isn't given",
+        )
+        .value_parser(clap::value_parser!(u64).range(1..=1_099_511_627_776))
 }
 
 // An argument that takes the words left over.

@@ -41,6 +41,12 @@ BLUR = "input in 8\nfunc b(x) = (in(clamp(x-1,0,7)) + in(x) + in(clamp(x+1,0,7))
 BLUR_INPUT = "picture 8 1\n0 3 6 9 12 15 18 21\n"
 BLUR_OUTPUT = "picture 8 1\n1 3 6 9 12 15 18 20\n"
 
+BLUR_SCHEDULE = "b split x xo xi 4 guard\nb parallel xo\n"
+
+# Two words and two pictures of eight words; what is stored ends with the last byte that isn't zero.
+BLUR_COMPILED = ["data 72", "0000000000000000" + "00000000" "03000000" "06000000" "09000000" "0c000000" "0f000000", "1200000015",
+                 "output 0x00200028 8 1 32"] + BLUR_OUTPUT.split("\n")[:-1]
+
 TALK = [("next", "at 1\n"), ("next", "at 2\n"),
         ("status", "at 2 of 8\nhart 0 running pc 0x00010004\nhart 1 running pc 0x00010004\n"), ("back", "at 1\n")]
 
@@ -149,6 +155,21 @@ def drawings(file, _):
              ([("algorithm", no_text), ("picture", no_text)], "file algorithm"), ([("algorithm", no_text)], "file algorithm")]
     for number, (files, why) in enumerate(cases):
         Command("draw", files, None).case(file, f"refused {number}", ["algorithm 7", "picture 7"], [f"refused {why}"])
+
+
+def compilations(file, _):
+    files = [("algorithm", BLUR), ("schedule", BLUR_SCHEDULE), ("picture", BLUR_INPUT)]
+    compilation = Command("compile", files, None)
+    compilation.case(file, "a few bytes at a time", ["algorithm 7", "schedule 7", "picture 7", "page 9"], BLUR_COMPILED)
+    for name, _ in files:
+        compilation.failing_reads(file, name)
+    # Of the header the letters and the entry are the same for all programs.
+    for calls in range(2):
+        start = bytes.fromhex("4852563200000100")[:8 * calls]
+        compilation.case(file, f"write {calls} fails", [f"page 8 {calls}"], digits(start) + ["refused file page"])
+    faulty = Command("compile", [("algorithm", "x\n"), ("schedule", "x\n"), ("picture", "x\n")], None)
+    faulty.case(file, "nothing is judged where a file can't be read", ["picture 7 0", "page 8 0"], ["refused file picture"])
+    faulty.case(file, "nothing is written where a text is refused", ["page 8 0"], ["refused parse 1 line 1"])
 
 
 def talks(file, _):

@@ -112,7 +112,7 @@ pub fn push_drawing(
 }
 
 /// The bytes of each picture.
-fn texts_of(alloc: Global, inputs: &[Part]) -> Result<Vec<Vec<u8>>, Failure> {
+pub fn texts_of(alloc: Global, inputs: &[Part]) -> Result<Vec<Vec<u8>>, Failure> {
     let mut texts = Vec::new(alloc);
     for input in inputs {
         texts.push(input.bytes(alloc, "picture")?)?;
@@ -121,7 +121,7 @@ fn texts_of(alloc: Global, inputs: &[Part]) -> Result<Vec<Vec<u8>>, Failure> {
 }
 
 /// Each input in memory.
-fn pictures_of<'a>(
+pub fn pictures_of<'a>(
     alloc: Global,
     devices: &Devices,
     texts: &'a [Vec<u8>],
@@ -147,7 +147,7 @@ fn push_answer(answered: Result<(), Fault>, page: &Page, out: &mut String) -> Re
 }
 
 /// The bytes that the command wrote, 32 a line, or why it refused.
-fn push_stored(answered: Result<(), Fault>, page: &Page, out: &mut String) -> Result<(), Failure> {
+pub fn push_stored(answered: Result<(), Fault>, page: &Page, out: &mut String) -> Result<(), Failure> {
     for line in page.bytes.chunks(32) {
         push_digits(line, out)?;
     }
@@ -155,7 +155,7 @@ fn push_stored(answered: Result<(), Fault>, page: &Page, out: &mut String) -> Re
 }
 
 /// A line with the digits of bytes.
-fn push_digits(bytes: &[u8], out: &mut String) -> Result<(), AllocError> {
+pub fn push_digits(bytes: &[u8], out: &mut String) -> Result<(), AllocError> {
     for byte in bytes {
         write!(out, "{byte:02x}")?;
     }

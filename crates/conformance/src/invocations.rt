@@ -40,12 +40,35 @@ fn push_asked(invocation: &Invocation, out: &mut String) -> Result<(), AllocErro
         Invocation::Debug { image, log } => writeln!(out, "debug of {image} by {log}"),
         Invocation::Picture { algorithm, inputs } => {
             write!(out, "picture by {algorithm} of")?;
-            for input in inputs {
-                write!(out, " {input}")?;
-            }
-            out.push_str("\n")
+            push_inputs(inputs, out)
         }
+        Invocation::Compile {
+            algorithm,
+            schedule,
+            image,
+            inputs,
+        } => {
+            write!(out, "compile {algorithm} by {schedule} to {image} with")?;
+            push_inputs(inputs, out)
+        }
+        Invocation::Run {
+            image,
+            log,
+            harts,
+            turns,
+        } => writeln!(
+            out,
+            "run of {image} to {log} by {harts} harts of {turns} turns"
+        ),
     }
+}
+
+/// The rest of a line: the files of inputs.
+fn push_inputs(inputs: &[&str], out: &mut String) -> Result<(), AllocError> {
+    for input in inputs {
+        write!(out, " {input}")?;
+    }
+    out.push_str("\n")
 }
 
 fn push_first_line(text: &str, out: &mut String) -> Result<(), AllocError> {

@@ -23,17 +23,18 @@
 //! | `renew` | `image` | the renewed image's bytes, in hexadecimal |
 //! | `replay` | `image`, `log`: lines in hexadecimal | the dump |
 //! | `debug` | `image`, `log`: lines in hexadecimal; `lines` | the talk |
+//! | `compile` | `algorithm`, `schedule`, any number of `picture` | the image without its words, and the picture that one hart leaves |
 //! | `words` | `words`: a word of a command line each line | the command and its files, or the refusal's first line |
 //!
 //! A text may stand in hexadecimal too, with `in hexadecimal` behind the part's name. Images and logs always do. The cases of `draw`
-//! and of those from `asm` to `debug` go through the engines; a last part `devices` says how their files give and take bytes: a line
+//! and of those from `asm` to `compile` go through the engines; a last part `devices` says how their files give and take bytes: a line
 //! `NAME STEP` for at most so many bytes a call, `NAME STEP CALLS` where the call behind so many fails. What is written is `page`.
 //!
 //! A refusal stands in place of an answer, or behind what was written before, as `hrv` prints it; a backslash ends a text without a
 //! last line feed there. A case that isn't one of these is answered `malformed: ` and why.
 //!
 //! - [`cases`]: the cases of a file.
-//! - [`algorithms`], [`schedules`], [`boxes`], [`assemblies`], [`turns`], [`commands`], [`invocations`]: the answers, a module each for one family.
+//! - [`algorithms`], [`schedules`], [`boxes`], [`assemblies`], [`turns`], [`commands`], [`compilations`], [`invocations`]: the answers, a module each for one family.
 //! - [`devices`]: files in memory.
 //! - [`harts`]: what a hart holds, as lines.
 //! - [`failures`]: what stands in place of an answer.
@@ -44,6 +45,7 @@ mod assemblies;
 mod boxes;
 mod cases;
 mod commands;
+mod compilations;
 mod devices;
 mod failures;
 mod harts;
@@ -56,6 +58,7 @@ use crate::assemblies::{push_listing, push_object};
 use crate::boxes::push_boxes;
 use crate::cases::{Case, read_cases};
 use crate::commands::{push_drawing, push_image, push_lines, push_renewal, push_replay, push_talk};
+use crate::compilations::push_compilation;
 use crate::failures::Failure;
 use crate::invocations::push_invocation;
 use crate::schedules::push_schedule;
@@ -128,6 +131,7 @@ fn push_answer(
         "renew" => push_renewal(alloc, parts, out),
         "replay" => push_replay(alloc, parts, out),
         "debug" => push_talk(alloc, parts, out),
+        "compile" => push_compilation(alloc, parts, out),
         "words" => push_invocation(alloc, parts, out),
         _ => Err(Failure::Malformed("an unknown kind of case")),
     }

@@ -1,3 +1,4 @@
+pub mod Compilations
 pub mod Drawings
 pub mod Numbers
 pub mod Pixels

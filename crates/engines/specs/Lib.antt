@@ -1,5 +1,6 @@
 pub mod Asm
 pub mod Commands
+pub mod Compile
 pub mod Debug
 pub mod Devices
 pub mod Dis

@@ -1,6 +1,6 @@
 -- A lower crate's fault as an engine's: want of memory is one fault for all.
 -- This project's own.
-use Rattle.engines.specs.declared.faults.Refusal.TheVariants.{Load, Log, Asm, Parse, Picture, Input}
+use Rattle.engines.specs.declared.faults.Refusal.TheVariants.{Load, Log, Asm, Parse, Picture, Input, Compile}
 use Rattle.engines.specs.declared.faults.Fault.{Fault}
 use Rattle.engines.specs.declared.faults.Fault.TheVariants.{Refused, Memory, Thread}
 use Rattle.loader.specs.declared.faults.LoadFault.{LoadFault}
@@ -15,6 +15,8 @@ use Rattle.line_text.specs.declared.read_errors.ReadError.{ReadError}
 use Rattle.line_text.specs.declared.read_errors.ReadError.TheVariants as read
 use Rattle.assembler.specs.declared.faults.AsmFault.{AsmFault}
 use Rattle.halide_syntax.specs.declared.faults.ParseFault.{ParseFault}
+use Rattle.compiler.specs.declared.faults.CompileFault.{CompileFault}
+use Rattle.compiler.specs.declared.faults.CompileFault.TheVariants as compile
 use Rattle.picture.specs.declared.faults.PictureFault.{PictureFault}
 use Rattle.picture.specs.declared.faults.EvalError.{EvalError}
 use Rattle.picture.specs.declared.faults.EvalError.TheVariants as eval
@@ -46,3 +48,7 @@ fault_of_picture (read.Fault fault) = Refused (Picture fault)
 abbrev pub fault_of_input : EvalError → Fault
 fault_of_input eval.OutOfMemory = Memory
 fault_of_input fault = Refused (Input fault)
+
+abbrev pub fault_of_compile : CompileFault → Fault
+fault_of_compile compile.Memory = Memory
+fault_of_compile fault = Refused (Compile fault)

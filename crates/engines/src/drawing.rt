@@ -37,7 +37,7 @@ pub fn picture_bytes<A: Source, I: Source, O: Sink>(
 }
 
 /// Reads all that each source has left, as texts, in their order.
-fn read_texts<S: Source>(alloc: Global, sources: &mut [S]) -> Result<Vec<String>, Fault>
+pub(crate) fn read_texts<S: Source>(alloc: Global, sources: &mut [S]) -> Result<Vec<String>, Fault>
     requires { All (λ source. S.failed source + 1 < 2 ^ 64) sources.old }
     ensures { Reads (λ texts. map string_bytes texts.items) (texts_of S.place S.failed S.gave S.ended sources.old sources.new) result }
 {
@@ -51,7 +51,7 @@ fn read_texts<S: Source>(alloc: Global, sources: &mut [S]) -> Result<Vec<String>
 
 /// The pictures that texts spell.
 #[tactic(auto, using(crate::proofs::Drawings::front_moved))]
-fn read_pictures(alloc: Global, texts: &[String]) -> Result<Vec<Picture>, Fault>
+pub(crate) fn read_pictures(alloc: Global, texts: &[String]) -> Result<Vec<Picture>, Fault>
     ensures ok { IfOk result (λ pictures. pictures_of (map string_bytes texts.now) ≡ Ok pictures.items) }
     ensures err { IfErr result (Unmeant RefusesPictures (map string_bytes texts.now)) }
 {

@@ -3,6 +3,7 @@
 ghost use Rattle.std.specs.Prelude.{◌≡◌};
 
 use assembler::AsmFault;
+use compiler::CompileFault;
 use halide_syntax::ParseFault;
 use line_text::{LocatedError, ReadError};
 use loader::LoadFault;
@@ -33,6 +34,9 @@ pub enum Refusal {
     /// The input pictures are not those that the algorithm asks for.
     #[error("input {}", .0.number().unwrap_or(0))]
     Input(EvalError),
+    /// An algorithm under a schedule, which aren't compiled.
+    #[error("{0}")]
+    Compile(CompileFault),
 }
 
 /// Why an engine gives no answer. Its text is the one line that the program prints.
@@ -168,6 +172,19 @@ impl From<EvalError> for Fault {
         match error {
             EvalError::OutOfMemory => Fault::Memory,
             _ => Fault::Refused(Refusal::Input(error)),
+        }
+    }
+}
+
+impl From<CompileFault> for Fault {
+    ghost use Rattle.engines.specs.Refusals.{fault_of_compile};
+
+    ghost from_gives = { λ fault answered. answered ≡ fault_of_compile fault };
+
+    fn from(fault: CompileFault) -> Fault {
+        match fault {
+            CompileFault::Memory => Fault::Memory,
+            _ => Fault::Refused(Refusal::Compile(fault)),
         }
     }
 }

@@ -7,6 +7,7 @@
 //! - [`run`]: an image becomes a log of turns that threads made, and a dump; [`run_bytes`], over `specs/Run.antt`.
 //! - [`debug`]: an image, a log of turns and lines of commands become a talk; [`debug_bytes`], over `specs/Debug.antt` and `Talk.antt`.
 //! - [`drawing`]: an algorithm and input pictures become the reference picture; [`picture_bytes`], over `specs/Drawing.antt`.
+//! - [`compiling`]: an algorithm, a schedule and input pictures become an image; [`compile_bytes`], over `specs/Compile.antt`.
 //! - [`devices`]: what is read from and written to ([`Source`], [`Sink`]).
 //! - [`faults`]: why an engine gives no answer ([`Fault`]).
 //!
@@ -16,6 +17,7 @@
 
 pub mod asm;
 mod commands;
+pub mod compiling;
 mod cuts;
 pub mod debug;
 pub mod devices;
@@ -30,6 +32,7 @@ pub mod run;
 mod talks;
 
 pub use crate::asm::asm_bytes;
+pub use crate::compiling::compile_bytes;
 pub use crate::debug::debug_bytes;
 pub use crate::devices::{Sink, Source};
 pub use crate::dis::dis_bytes;

@@ -5,6 +5,7 @@ use Rattle.std.specs.declared.alloc.Global.{Global}
 use Rattle.engines.specs.declared.faults.Fault.{Fault}
 use Rattle.engines.specs.declared.faults.Fault.TheVariants.{Memory}
 use Rattle.engines.specs.Asm.{IsAssembly, IsRefusedAssembly}
+use Rattle.engines.specs.Compile.{IsCompilation, IsRefusedCompilation}
 use Rattle.engines.specs.Debug.{Talks}
 use Rattle.engines.specs.Devices.{both, bytes_of, pieces_of, sink_of, text_of, texts_of}
 use Rattle.engines.specs.Dis.{IsListing, IsRefusedImage}
@@ -12,7 +13,8 @@ use Rattle.engines.specs.Drawing.{IsDrawing, IsRefusedDrawing}
 use Rattle.engines.specs.Engine.{Performs}
 use Rattle.engines.specs.Renew.{IsRenewal}
 use Rattle.engines.specs.Replay.{IsRefusedReplay, IsReplay}
-use Rattle.command_line.specs.CommandLine.{Asked, Replays, Debugs, Assembles, Lists, Renews, Draws}
+use Rattle.engines.specs.Run as run
+use Rattle.command_line.specs.CommandLine.{Asked, Replays, Debugs, Assembles, Lists, Renews, Draws, Compiles, Runs}
 
 -- a fact of some device at this place, by its state before and after
 abbrev pub At : {S : Type 0} → (S → List ℕ) → List ℕ → (S → S → Type 0) → Type 0
@@ -62,3 +64,12 @@ module _ {R W T P : Type 0}
       Performs (IsDrawing alloc) (IsRefusedDrawing alloc)
       (both (text_of read_at read_failed gave ended s t) (texts_of read_at read_failed gave ended u v))
       (sink_of printed_at print_failed printed o p) result))))
+  Does alloc (Compiles algorithm schedule image inputs) result =
+      OrMemory result (At read_at algorithm (λ s t. At read_at schedule (λ u v. AtEach read_at inputs (λ x y. At written_at image (λ o p.
+      Performs (IsCompilation alloc) (IsRefusedCompilation alloc)
+      (both (both (text_of read_at read_failed gave ended s t) (text_of read_at read_failed gave ended u v)) (texts_of read_at read_failed gave ended x y))
+      (sink_of written_at write_failed stored o p) result)))))
+  Does alloc (Runs image log harts turns) result =
+      At read_at image (λ s t. At written_at log (λ u v. At printed_at dash (λ o p.
+      run.Runs harts turns (bytes_of read_at read_failed gave ended s t) (sink_of written_at write_failed stored u v)
+      (sink_of printed_at print_failed printed o p) result)))

@@ -3,15 +3,16 @@
 ghost use Rattle.std.specs.Prelude.{◌≡◌, codes, map, IfOk};
 ghost use Rattle.std.specs.List.{All};
 ghost use Rattle.clap.specs.Walk.{texts};
-ghost use Rattle.command_line.specs.CommandLine.{Assembles, Debugs, Draws, Lists, Renews, Replays, asked_by};
+ghost use Rattle.command_line.specs.CommandLine.{AreWithinLimits, Assembles, Compiles, Debugs, Draws, IsWithinLimits, Lists, Renews, Replays, Runs, asked_by};
 ghost use Rattle.hrv.specs.Dispatch.{Does};
 
 use command_line::Invocation;
 use engines::{
-    Fault, Sink, Source, asm_bytes, debug_bytes, dis_bytes, picture_bytes, renew_bytes,
-    replay_bytes,
+    Fault, Sink, Source, asm_bytes, compile_bytes, debug_bytes, dis_bytes, picture_bytes,
+    renew_bytes, replay_bytes, run_bytes,
 };
 use std::alloc::{AllocError, Global};
+use std::sync::Wait;
 use std::thread::Threads;
 
 /// Where the devices of a command come from. Paths live as long as `'a`.
@@ -48,11 +49,12 @@ pub trait Devices<'a> {
 
 /// Does what an invocation asks for.
 pub fn obey<'a, D: Devices<'a>>(
-    threads: &(impl Threads + Sync),
+    threads: &(impl Threads + Wait + Sync),
     alloc: Global,
     devices: &D,
     invocation: Invocation<'a>,
 ) -> Result<(), Fault>
+    requires { IsWithinLimits (asked_by invocation) }
     ensures { Does D.Read.place D.Read.failed D.Read.gave D.Read.ended
         D.Written.place D.Written.failed D.Written.took
         D.Typed.place D.Typed.failed D.Typed.gave D.Typed.ended
@@ -67,6 +69,18 @@ pub fn obey<'a, D: Devices<'a>>(
         Invocation::Picture { algorithm, inputs } => {
             draw(threads, alloc, devices, algorithm, inputs)
         }
+        Invocation::Compile {
+            algorithm,
+            schedule,
+            image,
+            inputs,
+        } => compile(alloc, devices, algorithm, schedule, image, inputs),
+        Invocation::Run {
+            image,
+            log,
+            harts,
+            turns,
+        } => run(threads, alloc, devices, image, log, harts, turns),
     }
 }
 
@@ -174,6 +188,60 @@ fn draw<'a, D: Devices<'a>>(
         &mut devices.read(algorithm),
         sources.as_mut_slice(),
         &mut devices.printed(),
+    )
+}
+
+/// `compile ALGORITHM SCHEDULE IMAGE [INPUT..]`
+fn compile<'a, D: Devices<'a>>(
+    alloc: Global,
+    devices: &D,
+    algorithm: &'a str,
+    schedule: &'a str,
+    image: &'a str,
+    inputs: Vec<&'a str>,
+) -> Result<(), Fault>
+    ensures { Does D.Read.place D.Read.failed D.Read.gave D.Read.ended
+        D.Written.place D.Written.failed D.Written.took
+        D.Typed.place D.Typed.failed D.Typed.gave D.Typed.ended
+        D.Printed.place D.Printed.failed D.Printed.took alloc
+        (Compiles algorithm.entry.now schedule.entry.now image.entry.now (texts inputs.entry.items)) result }
+{
+    let mut sources = sources_of(alloc, devices, inputs.as_slice())?;
+    let mut algorithm = devices.read(algorithm);
+    let mut schedule = devices.read(schedule);
+    compile_bytes(
+        alloc,
+        &mut algorithm,
+        &mut schedule,
+        sources.as_mut_slice(),
+        &mut devices.written(image),
+    )
+}
+
+/// `run IMAGE LOG --harts N --turns L`
+fn run<'a, D: Devices<'a>>(
+    threads: &(impl Threads + Wait + Sync),
+    alloc: Global,
+    devices: &D,
+    image: &'a str,
+    log: &'a str,
+    harts: u64,
+    turns: u64,
+) -> Result<(), Fault>
+    requires { AreWithinLimits harts turns }
+    ensures { Does D.Read.place D.Read.failed D.Read.gave D.Read.ended
+        D.Written.place D.Written.failed D.Written.took
+        D.Typed.place D.Typed.failed D.Typed.gave D.Typed.ended
+        D.Printed.place D.Printed.failed D.Printed.took alloc (Runs image.entry.now log.entry.now harts turns) result }
+{
+    run_bytes(
+        threads,
+        alloc,
+        &mut devices.read(image),
+        &mut devices.written(log),
+        &mut devices.printed(),
+        harts as usize,
+        turns,
     )
 }
 

@@ -18,6 +18,7 @@ use crate::files::System;
 use command_line::{CommandLineFault, command};
 use std::process::ExitCode;
 use std::rt::{Env, Files};
+use std::sync::Wait;
 use std::thread::Threads;
 use std::{env, io};
 
@@ -33,7 +34,7 @@ fn main(rt: HostRuntime) -> ExitCode {
 }
 
 /// Does what the command line asks for.
-fn run<R: Files + Env + Input + Print + AllocGlobal + Threads + Sync>(
+fn run<R: Files + Env + Input + Print + AllocGlobal + Threads + Wait + Sync>(
     rt: &R,
 ) -> Result<(), Failure> {
     let alloc = rt.alloc();

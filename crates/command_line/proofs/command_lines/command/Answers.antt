@@ -1,7 +1,7 @@
 use Rattle.std.proofs.Common.{◌∙◌, ap, sym}
 use Rattle.std.specs.Prelude.{is_some}
 use Rattle.clap.specs.Walk.{texts}
-use Rattle.command_line.proofs.Parses.{asked_here, kinds_of, refused, refused_named, spelled_as, taken}
+use Rattle.command_line.proofs.Parses.{asked_here, kinds_of, limited_as, refused, refused_named, spelled_as, taken}
 use Rattle.command_line.proofs.command_lines.command.Goals as goal
 
 pub returns-in_err-matches-clause-refused : goal.returns-in_err-matches-clause-refused
@@ -29,3 +29,9 @@ returns-clause-spelled c =
     let t = taken c.in_ok-program.field-0 (texts c.args.words.now) c.in_ok-matches.matches c.in_ok-program.ensures c.in_ok-matches.ensures.kinds c.in_ok-matches.ensures.matches in
     let here = asked_here _ _ t c.subcommand.result c.unwrap.result c.unwrap.ensures c.subcommand.ensures.name c.subcommand.ensures.rows in
     spelled_as _ _ t _ (sym here ∙ c.in_ok-invocation.ensures)
+
+pub returns-clause-limits : goal.returns-clause-limits
+returns-clause-limits c =
+    let t = taken c.in_ok-program.field-0 (texts c.args.words.now) c.in_ok-matches.matches c.in_ok-program.ensures c.in_ok-matches.ensures.kinds c.in_ok-matches.ensures.matches in
+    let here = asked_here _ _ t c.subcommand.result c.unwrap.result c.unwrap.ensures c.subcommand.ensures.name c.subcommand.ensures.rows in
+    limited_as _ _ t _ (sym here ∙ c.in_ok-invocation.ensures)

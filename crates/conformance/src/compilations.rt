@@ -1,0 +1,82 @@
+//! Compiled images: what the rules say of their bytes, and the pictures that they leave.
+
+use crate::algorithms::push_bytes;
+use crate::cases::Part;
+use crate::commands::{pictures_of, push_digits, push_stored, texts_of};
+use crate::devices::devices_of;
+use crate::failures::Failure;
+use engines::{compile_bytes, replay_bytes};
+use loader::{Image, read_image};
+use std::alloc::{AllocError, Global};
+use tapes::{empty_page, tape_of};
+
+/// An image that is stored without its words, and the picture that one hart leaves; or the bytes up to a refusal.
+pub fn push_compilation(alloc: Global, parts: &[Part], out: &mut String) -> Result<(), Failure> {
+    let (parts, devices) = devices_of(parts);
+    let [algorithm, schedule, inputs @ ..] = parts else {
+        return Err(Failure::Malformed("not two parts"));
+    };
+    let algorithm = algorithm.bytes(alloc, "algorithm")?;
+    let schedule = schedule.bytes(alloc, "schedule")?;
+    let texts = texts_of(alloc, inputs)?;
+    let mut pictures = pictures_of(alloc, &devices, &texts)?;
+    let mut page = devices.page(alloc)?;
+    let answered = compile_bytes(
+        alloc,
+        &mut devices.tape("algorithm", &algorithm)?,
+        &mut devices.tape("schedule", &schedule)?,
+        pictures.as_mut_slice(),
+        &mut page,
+    );
+    if answered.is_err() {
+        return push_stored(answered, &page, out);
+    }
+    let image = read_image(alloc, &page.bytes)?;
+    push_data(&page.bytes, &image, out)?;
+    push_left(alloc, &page.bytes, out)
+}
+
+/// How many bytes the data have, those that are stored, and where the output lies.
+fn push_data(bytes: &[u8], image: &Image, out: &mut String) -> Result<(), AllocError> {
+    let size = image.data().len();
+    writeln!(out, "data {size}")?;
+    let words = 4_usize.wrapping_mul(image.words().len());
+    let (_, stored) = bytes.split_at(words.wrapping_add(36).min(bytes.len()));
+    for line in stored.chunks(32) {
+        push_digits(line, out)?;
+    }
+    match image.output() {
+        Some(output) => {
+            let (address, stride) = (output.address, output.stride);
+            let (width, height) = (output.width, output.height);
+            writeln!(out, "output 0x{address:08x} {width} {height} {stride}")
+        }
+        None => Ok(()),
+    }
+}
+
+/// A log of 2^40 turns of one hart.
+static LONGEST: [u8; 25] =
+    *b"HRL1\x01\0\0\0\x01\0\0\0\0\0\0\0\0\0\0\0\0\0\x01\0\0";
+
+/// The picture behind all turns of one hart.
+fn push_left(alloc: Global, image: &[u8], out: &mut String) -> Result<(), Failure> {
+    let mut page = empty_page(alloc);
+    let log = LONGEST.as_slice();
+    replay_bytes(
+        alloc,
+        &mut tape_of("image", image),
+        &mut tape_of("log", log),
+        &mut page,
+    )?;
+    let Ok(dump) = str::from_utf8(&page.bytes) else {
+        return Err(Failure::Malformed("the answer is no text"));
+    };
+    match dump.split_once("picture ") {
+        Some((_, picture)) => {
+            out.push_str("picture ")?;
+            push_bytes(picture.as_bytes(), out)
+        }
+        None => Err(Failure::Malformed("the image leaves no picture")),
+    }
+}
