@@ -48,8 +48,8 @@ pub trait Devices<'a> {
 }
 
 /// Does what an invocation asks for.
-pub fn obey<'a, D: Devices<'a>>(
-    threads: &(impl Threads + Wait + Sync),
+pub fn obey<'a, R: Threads + Wait + Sync, D: Devices<'a>>(
+    threads: &R,
     alloc: Global,
     devices: &D,
     invocation: Invocation<'a>,
@@ -169,8 +169,8 @@ fn debug<'a, D: Devices<'a>>(
 }
 
 /// `picture ALGORITHM [INPUT..]`
-fn draw<'a, D: Devices<'a>>(
-    threads: &(impl Threads + Sync),
+fn draw<'a, R: Threads + Sync, D: Devices<'a>>(
+    threads: &R,
     alloc: Global,
     devices: &D,
     algorithm: &'a str,
@@ -219,8 +219,8 @@ fn compile<'a, D: Devices<'a>>(
 }
 
 /// `run IMAGE LOG --harts N --turns L`
-fn run<'a, D: Devices<'a>>(
-    threads: &(impl Threads + Wait + Sync),
+fn run<'a, R: Threads + Wait + Sync, D: Devices<'a>>(
+    threads: &R,
     alloc: Global,
     devices: &D,
     image: &'a str,
