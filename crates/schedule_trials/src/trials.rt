@@ -1,0 +1,34 @@
+//! One case: the image and the picture, and the ways that compute it.
+
+use crate::failures::Failure;
+use crate::images::{build, push_image};
+use crate::nests::push_nests;
+use crate::pictures::{inputs_of, text_of};
+use crate::runs::push_runs;
+use case_files::Part;
+use halide_parser::parse;
+use picture::evaluate;
+use std::alloc::Global;
+use std::thread::Threads;
+
+/// Appends what the image is, the picture, and a line for each way that computes it.
+pub fn push_trial(
+    rt: &(impl Threads + Sync),
+    alloc: Global,
+    parts: &[Part],
+    out: &mut String,
+) -> Result<(), Failure> {
+    let [algorithm, schedule, pictures @ ..] = parts else {
+        return Err(Failure::Malformed("not two parts"));
+    };
+    let algorithm = algorithm.named("algorithm")?;
+    let schedule = schedule.named("schedule")?;
+    let inputs = inputs_of(alloc, pictures)?;
+    let built = build(alloc, algorithm, schedule, &inputs)?;
+    push_image(&built.image, out)?;
+    let pipeline = parse(algorithm, alloc)?;
+    let wanted = text_of(alloc, &evaluate(rt, alloc, &pipeline, &inputs)?)?;
+    out.push_str(wanted.as_str())?;
+    push_nests(alloc, &pipeline, schedule, &inputs, wanted.as_str(), out)?;
+    push_runs(alloc, &built, wanted.as_str(), out)
+}
