@@ -4,7 +4,7 @@ use crate::failures::Failure;
 use compiler::compile;
 use loader::{Image, Output};
 use picture::Picture;
-use std::alloc::Global;
+use std::alloc::{AllocError, Global};
 
 /// The image of an algorithm under a schedule with these inputs, and the words by which its harts share their work.
 #[derive(Drop)]
@@ -46,4 +46,13 @@ pub fn push_image(image: &Image, out: &mut String) -> Result<(), Failure> {
     } = output_of(image)?;
     writeln!(out, "output 0x{address:08x} {width} {height} {stride}")?;
     Ok(())
+}
+
+/// Appends the addresses of the words by which harts share their work.
+pub fn push_control(control: &[u32], out: &mut String) -> Result<(), AllocError> {
+    out.push_str("control")?;
+    for address in control {
+        write!(out, " 0x{address:08x}")?;
+    }
+    out.push_str("\n")
 }

@@ -6,7 +6,7 @@
 //! | Kind | Parts | Answer |
 //! |---|---|---|
 //! | `boxes` | `algorithm`, `schedule` | the image's data and output, the phases with their tasks, each address and box |
-//! | `trial` | `algorithm`, `schedule`, a `picture` for each input | the image's data and output, the reference picture, and a line for each other way |
+//! | `trial` | `algorithm`, `schedule`, a `picture` for each input | the image's data, output and control words, the reference picture, and a line for each other way |
 //! | `assign` | `algorithm`, `schedule`, `assignment`, a `picture` for each input | for each row of the output which harts changed it |
 //!
 //! The other ways are loop nests, with the tasks of each phase in rising order, in falling order and from both ends, and anything in

@@ -5,6 +5,7 @@ ghost use Rattle.schedule.specs.Accepted.{IsAccepted};
 use crate::failures::Failure;
 use crate::pictures::picture_text;
 use bounds::{Boxes, SourceBox, infer};
+use halide_parser::parse;
 use halide_pipeline::Pipeline;
 use loop_ir::buffers::Buffer;
 use loop_ir::running::run_task;
@@ -49,19 +50,20 @@ impl Order {
 /// Appends a line for each order of tasks: whether the phases leave the wanted picture.
 pub fn push_nests(
     alloc: Global,
-    pipeline: &Pipeline,
+    algorithm: &str,
     schedule: &str,
     pictures: &[Picture],
     wanted: &str,
     out: &mut String,
 ) -> Result<(), Failure> {
-    let schedule = read(schedule, pipeline, alloc)?;
+    let pipeline = parse(algorithm, alloc)?;
+    let schedule = read(schedule, &pipeline, alloc)?;
     let mut inputs = Vec::new(alloc);
     for picture in pictures {
         let pixels = picture.pixels().to_vec(alloc)?;
         inputs.push(buffer(picture.width(), picture.height(), pixels)?)?;
     }
-    push_lowered(alloc, pipeline, &schedule, &inputs, wanted, out)
+    push_lowered(alloc, &pipeline, &schedule, &inputs, wanted, out)
 }
 
 /// The same of a schedule that was accepted for its pipeline.

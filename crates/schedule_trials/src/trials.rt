@@ -1,13 +1,13 @@
 //! One case: the image and the picture, and the ways that compute it.
 
 use crate::failures::Failure;
-use crate::images::{build, push_image};
+use crate::images::{build, push_control, push_image};
 use crate::nests::push_nests;
 use crate::pictures::{inputs_of, text_of};
 use crate::runs::push_runs;
 use case_files::Part;
 use halide_parser::parse;
-use picture::evaluate;
+use picture::{Picture, evaluate};
 use std::alloc::Global;
 use std::thread::Threads;
 
@@ -26,9 +26,21 @@ pub fn push_trial(
     let inputs = inputs_of(alloc, pictures)?;
     let built = build(alloc, algorithm, schedule, &inputs)?;
     push_image(&built.image, out)?;
-    let pipeline = parse(algorithm, alloc)?;
-    let wanted = text_of(alloc, &evaluate(rt, alloc, &pipeline, &inputs)?)?;
+    push_control(&built.control, out)?;
+    let wanted = reference(rt, alloc, algorithm, &inputs)?;
     out.push_str(wanted.as_str())?;
-    push_nests(alloc, &pipeline, schedule, &inputs, wanted.as_str(), out)?;
+    push_nests(alloc, algorithm, schedule, &inputs, wanted.as_str(), out)?;
     push_runs(alloc, &built, wanted.as_str(), out)
+}
+
+/// The text of the reference picture.
+fn reference(
+    rt: &(impl Threads + Sync),
+    alloc: Global,
+    algorithm: &str,
+    inputs: &[Picture],
+) -> Result<String, Failure> {
+    let pipeline = parse(algorithm, alloc)?;
+    let picture = evaluate(rt, alloc, &pipeline, inputs)?;
+    text_of(alloc, &picture)
 }
