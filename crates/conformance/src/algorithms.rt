@@ -1,7 +1,7 @@
 //! Algorithm texts and picture texts.
 
-use crate::cases::Part;
 use crate::failures::Failure;
+use case_files::Part;
 use halide_parser::parse;
 use picture::Picture;
 use std::alloc::Global;

@@ -1,9 +1,9 @@
 //! Assembly texts, and the lines of words.
 
 use crate::algorithms::push_bytes;
-use crate::cases::Part;
 use crate::failures::Failure;
 use assembler::assemble;
+use case_files::Part;
 use disassembler::write_line;
 use loader::Output;
 use std::alloc::{AllocError, Global};

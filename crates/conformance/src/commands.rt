@@ -4,9 +4,9 @@ ghost use Rattle.std.specs.Prelude.{◌≡◌, IfOk};
 ghost use Rattle.std.specs.List.{All};
 
 use crate::algorithms::push_bytes;
-use crate::cases::{Part, bytes_of};
 use crate::devices::{Devices, devices_of};
 use crate::failures::Failure;
+use case_files::{Part, bytes_of};
 use engines::{Fault, asm_bytes, debug_bytes, dis_bytes, picture_bytes, renew_bytes, replay_bytes};
 use std::alloc::{AllocError, Global};
 use std::thread::Threads;

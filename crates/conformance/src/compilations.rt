@@ -1,10 +1,10 @@
 //! Compiled images: what the rules say of their bytes, and the pictures that they leave.
 
 use crate::algorithms::push_bytes;
-use crate::cases::Part;
 use crate::commands::{pictures_of, push_digits, push_stored, texts_of};
 use crate::devices::devices_of;
 use crate::failures::Failure;
+use case_files::Part;
 use engines::{compile_bytes, replay_bytes};
 use loader::{Image, read_image};
 use std::alloc::{AllocError, Global};

@@ -2,8 +2,8 @@
 
 ghost use Rattle.std.specs.Prelude.{◌≡◌, IfOk};
 
-use crate::cases::Part;
 use crate::failures::Failure;
+use case_files::Part;
 use std::alloc::Global;
 use tapes::{Page, Tape, empty_page, tape_of};
 

@@ -1,7 +1,7 @@
 //! Why a case has no answer but a refusal.
 
 use assembler::AsmFault;
-use bounds::BoundsFault;
+use case_files::CaseFault;
 use engines::Fault;
 use halide_syntax::ParseFault;
 use line_text::{LocatedError, ReadError};
@@ -10,7 +10,6 @@ use picture::PictureFault;
 use schedule_lines::ScheduleFault;
 use std::alloc::{AllocError, AllocFailed};
 use std::fmt;
-use weights::WeightError;
 
 /// What stands in place of an answer.
 #[derive(Debug, Drop)]
@@ -97,6 +96,15 @@ impl<T: Drop> From<AllocFailed<T>> for Failure {
     }
 }
 
+impl From<CaseFault> for Failure {
+    fn from(fault: CaseFault) -> Failure {
+        match fault {
+            CaseFault::Memory => Failure::Memory,
+            CaseFault::Malformed(why) => Failure::Malformed(why),
+        }
+    }
+}
+
 impl From<LocatedError<ParseFault>> for Failure {
     fn from(error: LocatedError<ParseFault>) -> Failure {
         match error {
@@ -138,18 +146,6 @@ impl From<ReadError<PictureFault>> for Failure {
 impl From<LoadFault> for Failure {
     fn from(fault: LoadFault) -> Failure {
         Failure::numbered("load", fault.number())
-    }
-}
-
-impl From<WeightError> for Failure {
-    fn from(error: WeightError) -> Failure {
-        Failure::numbered("lower", error.number())
-    }
-}
-
-impl From<BoundsFault> for Failure {
-    fn from(fault: BoundsFault) -> Failure {
-        Failure::numbered("bounds", fault.number())
     }
 }
 

@@ -1,7 +1,7 @@
 //! Command lines.
 
-use crate::cases::Part;
 use crate::failures::Failure;
+use case_files::Part;
 use command_line::{Invocation, command};
 use std::alloc::{AllocError, Global};
 

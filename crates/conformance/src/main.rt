@@ -1,12 +1,8 @@
 //! `conformance`: what the libraries and the engines answer to cases that lie in files.
 //!
-//! The program reads the files that its arguments name, and prints each case's kind and name and below it the answer. `stdout` holds
-//! what the rules say of the cases in `data/`; none of it was copied from this program.
-//!
-//! A file is a text of lines. A case begins at `== KIND NAME`; before the first one stand comments (`#`) and empty lines. A part of a
-//! case begins at `-- NAME`, and its text is all lines up to the next part or case, each with its line feed. Where `in pieces` stands
-//! behind the part's name, each line is `COUNT TEXT` and means the text so many times, without a line feed; in the text `\n`, `\r`,
-//! `\t`, `\s`, `\0` and `\\` stand for a line feed, a carriage return, a tab, a space, a zero byte and a backslash.
+//! The program reads the files that its arguments name (`case_files`), and prints each case's kind and name and below it the answer.
+//! `stdout` holds what the rules say of the cases in `data/`; none of it was copied from this program. What algorithms under schedules come
+//! to stands beside it (`schedule_trials`).
 //!
 //! | Kind | Parts | Answer |
 //! |---|---|---|
@@ -14,7 +10,6 @@
 //! | `draw` | `algorithm`, any number of `picture` | the picture that is drawn |
 //! | `read` | `picture` | the picture's text |
 //! | `schedule` | `algorithm`, `schedule` | each Func's standing, loops and splits |
-//! | `boxes` | `algorithm`, `schedule` | the data of the compiled image: their size, the output, the phases with their tasks, each address and box |
 //! | `assemble` | `text` | the object |
 //! | `list` | `words`: a word in hexadecimal each line | the line of each |
 //! | `turn` | `before`: an assembly text; `instructions`: one each line | each line, and what it changes behind the text before |
@@ -26,15 +21,14 @@
 //! | `compile` | `algorithm`, `schedule`, any number of `picture` | the image without its words, and the picture that one hart leaves |
 //! | `words` | `words`: a word of a command line each line | the command and its files, or the refusal's first line |
 //!
-//! A text may stand in hexadecimal too, with `in hexadecimal` behind the part's name. Images and logs always do. The cases of `draw`
-//! and of those from `asm` to `compile` go through the engines; a last part `devices` says how their files give and take bytes: a line
-//! `NAME STEP` for at most so many bytes a call, `NAME STEP CALLS` where the call behind so many fails. What is written is `page`.
+//! Images and logs always stand in hexadecimal. The cases of `draw` and of those from `asm` to `compile` go through the engines; a last part
+//! `devices` says how their files give and take bytes: a line `NAME STEP` for at most so many bytes a call, `NAME STEP CALLS` where the
+//! call behind so many fails. What is written is `page`.
 //!
 //! A refusal stands in place of an answer, or behind what was written before, as `hrv` prints it; a backslash ends a text without a
 //! last line feed there. A case that isn't one of these is answered `malformed: ` and why.
 //!
-//! - [`cases`]: the cases of a file.
-//! - [`algorithms`], [`schedules`], [`boxes`], [`assemblies`], [`turns`], [`commands`], [`compilations`], [`invocations`]: the answers, a module each for one family.
+//! - [`algorithms`], [`schedules`], [`assemblies`], [`turns`], [`commands`], [`compilations`], [`invocations`]: the answers, a module each for one family.
 //! - [`devices`]: files in memory.
 //! - [`harts`]: what a hart holds, as lines.
 //! - [`failures`]: what stands in place of an answer.
@@ -42,8 +36,6 @@
 
 mod algorithms;
 mod assemblies;
-mod boxes;
-mod cases;
 mod commands;
 mod compilations;
 mod devices;
@@ -55,14 +47,13 @@ mod turns;
 
 use crate::algorithms::{push_reading, push_verdict};
 use crate::assemblies::{push_listing, push_object};
-use crate::boxes::push_boxes;
-use crate::cases::{Case, read_cases};
 use crate::commands::{push_drawing, push_image, push_lines, push_renewal, push_replay, push_talk};
 use crate::compilations::push_compilation;
 use crate::failures::Failure;
 use crate::invocations::push_invocation;
 use crate::schedules::push_schedule;
 use crate::turns::push_changes;
+use case_files::{Case, read_cases};
 use std::alloc::{AllocError, Global};
 use std::rt::{Env, Files};
 use std::thread::Threads;
@@ -85,7 +76,7 @@ fn print_file<R: Files + Print + AllocGlobal + Threads + Sync>(
     println!(rt; "file {path}")?;
     match read_cases(alloc, text.as_str()) {
         Ok(cases) => print_cases(rt, &cases),
-        Err(failure) => println!(rt; "{failure}"),
+        Err(fault) => println!(rt; "{fault}"),
     }
 }
 
@@ -122,7 +113,6 @@ fn push_answer(
         "draw" => push_drawing(rt, alloc, parts, out),
         "read" => push_reading(alloc, parts, out),
         "schedule" => push_schedule(alloc, parts, out),
-        "boxes" => push_boxes(alloc, parts, out),
         "assemble" => push_object(alloc, parts, out),
         "list" => push_listing(alloc, parts, out),
         "turn" => push_changes(alloc, parts, out),

@@ -1,8 +1,8 @@
 //! Schedules: the loops of each stage, and where each Func is computed.
 
 use crate::algorithms::push_bytes;
-use crate::cases::Part;
 use crate::failures::Failure;
+use case_files::Part;
 use halide_parser::parse;
 use halide_pipeline::Variable;
 use schedule::{FuncPlan, Place, Schedule, Standing, read};

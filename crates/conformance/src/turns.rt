@@ -2,12 +2,12 @@
 
 ghost use Rattle.std.specs.Prelude.{◌≡◌, IfOk, length};
 
-use crate::cases::Part;
 use crate::failures::Failure;
 use crate::harts::{
     HartState, push_configuration, push_registers, push_status, push_vectors, state_of,
 };
 use assembler::{Object, assemble};
+use case_files::Part;
 use hart_core::Status;
 use loader::Image;
 use memory::DATA_START;
