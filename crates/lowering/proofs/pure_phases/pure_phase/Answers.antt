@@ -117,7 +117,7 @@ returns-clause-rounds c =
     let outside = outside_of c.args.place extents stage facts.1 (iterations.parallel stage) in
     tasks_at_once c.args.place extents stage facts.1 turns
     (record { tasks = c.in_ok-tasks.tasks; counter = c.task_counter-counter.result; body = c.in_ok-body.body; private = c.in_ok-private.private; bytes = c.in_ok-bytes.bytes })
-    c.in_ok-tasks.ensures c.task_counter-counter.ensures
+    c.in_ok-tasks.ensures.is c.task_counter-counter.ensures
     (body_at_once c.args.pipeline.now c.args.schedule.now c.args.boxes.now c.requires.accepted c.args.place c.args.func.now c.args.plan.now c.requires.at.plan_is extents facts.0 facts.1 turns
     body.leaf c.in_ok-store.store body.bound c.in_ok-store.ensures.leaf (body.leaf_is c.in_ok-store.ensures.leaf)
     (λ inside around loops_are. pure_under c.args.pipeline.now c.args.schedule.now c.inputs.ensures.rules c.args.place c.args.func.now c.requires.at.func_is store.corners store.corner c.in_ok-store.store store.sound extents stage facts.0 facts.1 inside around loops_are)

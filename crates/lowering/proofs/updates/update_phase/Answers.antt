@@ -128,7 +128,7 @@ returns-clause-rounds c =
     let outside = outside_of c.args.place extents stage facts.1 (iterations.parallel stage) in
     tasks_at_once c.args.place extents stage facts.1 (few_turns extents stage.splits (subst AreFew (sym is) small) some)
     (record { tasks = c.in_ok-tasks.tasks; counter = c.task_counter-counter.result; body = c.in_ok-body.body; private = c.new-private.result; bytes = c.in_ok-bytes.bytes })
-    c.in_ok-tasks.ensures c.task_counter-counter.ensures
+    c.in_ok-tasks.ensures.is c.task_counter-counter.ensures
     (c.in_ok-body.ensures.rounds outside c.in_ok-store.ensures.leaf
     (subst (λ (e : Extents). MayBeUnder c.args.place e stage.splits (pure.inside_of (iterations.parallel stage) stage.loops) outside c.in_ok-store.store) (sym is)
     (update_under c.args.pipeline.now c.args.schedule.now c.inputs.ensures.rules c.args.place c.args.of.now.func.now c.requires.root.func_is c.args.of.now.at c.args.of.now.update.now c.requires.at.update_is c.args.of.now.own.now small
