@@ -12,7 +12,7 @@ use Rattle.loader.specs.declared.formats.Format.TheVariants.{Hrv2}
 use Rattle.compiler.specs.declared.faults.CompileFault.{CompileFault}
 use Rattle.compiler.specs.Compiled.{CompiledContents, IsCompiled, Means}
 use Rattle.compiler.specs.Images.{image_of}
-use Rattle.compiler.specs.Verdict.{IsLimit, refusal_of}
+use Rattle.compiler.specs.Verdict.{IsLongOf, refusal_of}
 use Rattle.engines.specs.declared.faults.Refusal.{Refusal}
 use Rattle.engines.specs.declared.faults.Refusal.TheVariants.{Compile}
 use Rattle.engines.specs.Drawing.{pictures_of, with_pictures}
@@ -42,9 +42,9 @@ pub record IsCompilation (alloc : Global) (texts : Texts) (bytes : List ℕ) : T
 
 -- ---- what is refused
 
--- The fault of an algorithm and a schedule is the first that stands, or a limit of the code where none does.
-abbrev pub IsFault : Option CompileFault → CompileFault → Type 0
-IsFault wanted fault = (wanted ≡ Some fault) ⊎ ((wanted ≡ None) × IsLimit fault)
+-- The fault of an algorithm and a schedule is the first that stands; or where none does, the phases that they mean are too long.
+abbrev pub IsFault : Global → Texts → CompileFault → Type 0
+IsFault alloc texts fault = (first_fault alloc texts ≡ Some fault) ⊎ ((first_fault alloc texts ≡ None) × IsLongOf alloc texts.0.0 texts.0.1 fault)
 
 -- No fault stands in an algorithm and a schedule, and the inputs are refused: one is no picture, or they aren't what is asked for.
 pub record RefusesInputs (alloc : Global) (texts : Texts) (refusal : Refusal) : Type 0 where
@@ -56,4 +56,4 @@ pub record RefusesInputs (alloc : Global) (texts : Texts) (refusal : Refusal) : 
 -- Both texts are judged first, then each input as a picture, then whether the inputs are what is asked for.
 abbrev pub IsRefusedCompilation : Global → Texts → Refusal → Type 0
 IsRefusedCompilation alloc texts refusal =
-    ((fault : CompileFault) × (refusal ≡ Compile fault) × IsFault (first_fault alloc texts) fault) ⊎ RefusesInputs alloc texts refusal
+    ((fault : CompileFault) × (refusal ≡ Compile fault) × IsFault alloc texts fault) ⊎ RefusesInputs alloc texts refusal
