@@ -147,7 +147,11 @@ fn push_answer(answered: Result<(), Fault>, page: &Page, out: &mut String) -> Re
 }
 
 /// The bytes that the command wrote, 32 a line, or why it refused.
-pub fn push_stored(answered: Result<(), Fault>, page: &Page, out: &mut String) -> Result<(), Failure> {
+pub fn push_stored(
+    answered: Result<(), Fault>,
+    page: &Page,
+    out: &mut String,
+) -> Result<(), Failure> {
     for line in page.bytes.chunks(32) {
         push_digits(line, out)?;
     }

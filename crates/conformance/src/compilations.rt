@@ -56,8 +56,7 @@ fn push_data(bytes: &[u8], image: &Image, out: &mut String) -> Result<(), AllocE
 }
 
 /// A log of 2^40 turns of one hart.
-static LONGEST: [u8; 25] =
-    *b"HRL1\x01\0\0\0\x01\0\0\0\0\0\0\0\0\0\0\0\0\0\x01\0\0";
+static LONGEST: [u8; 25] = *b"HRL1\x01\0\0\0\x01\0\0\0\0\0\0\0\0\0\0\0\0\0\x01\0\0";
 
 /// The picture behind all turns of one hart.
 fn push_left(alloc: Global, image: &[u8], out: &mut String) -> Result<(), Failure> {
