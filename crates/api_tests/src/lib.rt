@@ -11,6 +11,7 @@
 //! - [`schedules`]: a small schedule, and its stages.
 //! - [`weighing`]: what small schedules weigh and need.
 //! - [`faults`]: the lines of the commands' faults.
+//! - [`runs`]: images that are run by threads.
 #![tactic(auto)]
 
 #[cfg(test)]
@@ -23,6 +24,8 @@ mod logs;
 mod machines;
 #[cfg(test)]
 mod memories;
+#[cfg(test)]
+mod runs;
 #[cfg(test)]
 mod schedules;
 #[cfg(test)]
