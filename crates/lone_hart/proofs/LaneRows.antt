@@ -86,25 +86,25 @@ take-length zero xs = omega arith
 take-length (suc k) [] = omega arith
 take-length (suc k) (x ∷ xs) = let l = take-length k xs in omega (arith, l)
 
-element-below : (bytes : List ℕ) (i : ℕ) → AreBytes bytes → element 32 bytes i < 2 ^ 32
+pub element-below : (bytes : List ℕ) (i : ℕ) → AreBytes bytes → element 32 bytes i < 2 ^ 32
 element-below bytes i b = let rest = drop (i * 4) bytes in endian-four (take 4 rest) (take-length 4 rest) (take-bytes 4 rest (drop-bytes (i * 4) bytes b))
 
 -- which of two defaults is taken beyond the end is no matter within
-or-either : {X : Type 0} (xs : List X) (v : ℕ) (d e : X) → v < length xs → slice_index_or xs v d ≡ slice_index_or xs v e
+pub or-either : {X : Type 0} (xs : List X) (v : ℕ) (d e : X) → v < length xs → slice_index_or xs v d ≡ slice_index_or xs v e
 or-either [] v d e l = absurd (omega (arith, l))
 or-either (x ∷ xs) zero d e l = refl
 or-either (x ∷ xs) (suc v) d e l = or-either xs v d e (omega (arith, l))
 
 -- ---- merged lists
 
-merged-length : (bs : List Bool) (xs ys : List ℕ) (n : ℕ) → length bs ≡ n → length xs ≡ n → length ys ≡ n → length (merged bs xs ys) ≡ n
+pub merged-length : (bs : List Bool) (xs ys : List ℕ) (n : ℕ) → length bs ≡ n → length xs ≡ n → length ys ≡ n → length (merged bs xs ys) ≡ n
 merged-length [] xs ys n a b c = a
 merged-length (t ∷ bs) [] ys n a b c = absurd (omega (arith, a, b))
 merged-length (t ∷ bs) (x ∷ xs) [] n a b c = absurd (omega (arith, a, c))
 merged-length (t ∷ bs) (x ∷ xs) (y ∷ ys) zero a b c = absurd (omega (arith, a))
 merged-length (t ∷ bs) (x ∷ xs) (y ∷ ys) (suc n) a b c = ap suc (merged-length bs xs ys n (omega (arith, a)) (omega (arith, b)) (omega (arith, c)))
 
-merged-get : (bs : List Bool) (xs ys : List ℕ) (n k : ℕ) → length bs ≡ n → length xs ≡ n → length ys ≡ n → k < n → get_or (merged bs xs ys) k 0 ≡ cond (get_or bs k false) (get_or xs k 0) (get_or ys k 0)
+pub merged-get : (bs : List Bool) (xs ys : List ℕ) (n k : ℕ) → length bs ≡ n → length xs ≡ n → length ys ≡ n → k < n → get_or (merged bs xs ys) k 0 ≡ cond (get_or bs k false) (get_or xs k 0) (get_or ys k 0)
 merged-get [] xs ys n k a b c l = absurd (omega (arith, a, l))
 merged-get (t ∷ bs) [] ys n k a b c l = absurd (omega (arith, a, b))
 merged-get (t ∷ bs) (x ∷ xs) [] n k a b c l = absurd (omega (arith, a, c))
@@ -114,7 +114,7 @@ merged-get (t ∷ bs) (x ∷ xs) (y ∷ ys) (suc n) (suc k) a b c l = merged-get
 
 -- ---- numbers after lanes were written
 
-lanes-new : (f : ℕ → ℕ) (d n : ℕ) (new : ℕ → ℕ) (q k : ℕ) → q ≡ lane d k → k < n → write_lanes f d n new q ≡ new k
+pub lanes-new : (f : ℕ → ℕ) (d n : ℕ) (new : ℕ → ℕ) (q k : ℕ) → q ≡ lane d k → k < n → write_lanes f d n new q ≡ new k
 unfolding write_lanes
 lanes-new f d n new q k e l =
     let t : nat_le (lane d 0) q ≡ true = grind (arith, nat_tests, e) in
@@ -122,11 +122,11 @@ lanes-new f d n new q k e l =
     let s : q - lane d 0 ≡ k = omega (arith, e) in
     rw t (rw u (ap new s))
 
-lanes-below : (f : ℕ → ℕ) (d n : ℕ) (new : ℕ → ℕ) (q : ℕ) → q < lane d 0 → write_lanes f d n new q ≡ f q
+pub lanes-below : (f : ℕ → ℕ) (d n : ℕ) (new : ℕ → ℕ) (q : ℕ) → q < lane d 0 → write_lanes f d n new q ≡ f q
 unfolding write_lanes
 lanes-below f d n new q l = let t : nat_le (lane d 0) q ≡ false = grind (arith, nat_tests, l) in rw t refl
 
-lanes-above : (f : ℕ → ℕ) (d n : ℕ) (new : ℕ → ℕ) (q : ℕ) → lane d n ≤ q → write_lanes f d n new q ≡ f q
+pub lanes-above : (f : ℕ → ℕ) (d n : ℕ) (new : ℕ → ℕ) (q : ℕ) → lane d n ≤ q → write_lanes f d n new q ≡ f q
 unfolding write_lanes
 lanes-above f d n new q l =
     let u : nat_lt q (lane d n) ≡ false = grind (arith, nat_tests, l) in
@@ -135,7 +135,7 @@ lanes-above f d n new q l =
       | inr b ↦ let t : nat_le (lane d 0) q ≡ true = grind (arith, nat_tests, b) in rw t (rw u refl)
     ]
 
-module _ (at d g : ℕ) (f : ℕ → ℕ) (h : HartState) (news : List ℕ) (small : at + 4 < 2 ^ 32) (a : At at f h) (c : LanesConfigured f g) (from-one : 1 ≤ d) (fits : d + g ≤ 32) (length-is : length news ≡ 4 * g) (below : (i : ℕ) → slice_index news i < 2 ^ 32) where
+module _ (at d g : ℕ) (f : ℕ → ℕ) (h : HartState) (news : List ℕ) (small : at + 4 < 2 ^ 32) (a : At at f h) (c : LanesConfigured f g) (from-one : 1 ≤ d) (fits : d + g ≤ 32) (length-is : length news ≡ 4 * g) (below : (i : ℕ) → i < f 32 → slice_index news i < 2 ^ 32) where
   abbrev state : Vectors
   state = vectors_of h
 
@@ -205,7 +205,7 @@ module _ (at d g : ℕ) (f : ℕ → ℕ) (h : HartState) (news : List ℕ) (sma
         | inl s ↦
             let t : nat_lt k h.vl ≡ true = let e = a.vl in grind (arith, nat_tests, e, s) in
             first ∙ ap (λ n. n % 2 ^ 32) (mixed-get k l ∙ ap (λ b. cond (b && true) (get_or news k 0) (element_from state 32 d k)) t)
-            ∙ mod-eq_of_lt (below k) ∙ sym (lanes-new f d (f 32) (slice_index news) (lane u i) k (omega (arith, lo)) s)
+            ∙ mod-eq_of_lt (below k s) ∙ sym (lanes-new f d (f 32) (slice_index news) (lane u i) k (omega (arith, lo)) s)
         | inr s ↦
             let t : nat_lt k h.vl ≡ false = let e = a.vl in grind (arith, nat_tests, e, s) in
             let q : d + k / 4 ≡ u = omega (arith, lo, few) in

@@ -5,3 +5,5 @@ pub mod Jumps
 pub mod Configurations
 pub mod Groups
 pub mod LaneRows
+pub mod LaneWords
+pub mod VectorRows

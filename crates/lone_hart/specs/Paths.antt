@@ -1,6 +1,6 @@
 -- Code that stands in the text, and what it does with all that a hart holds: from one address, numbers and memory to others, in so
 -- many turns of the hart alone. This project's own.
-use Rattle.std.specs.Prelude.{◌≡◌, ◌<◌, ◌≤◌, ℕ, ◌+◌, ◌*◌, ◌%◌, ◌^◌, ◌==◌, ◌-◌, ◌&&◌, nat_le, nat_lt, if◌then◌else◌, List, [], ◌∷◌, length}
+use Rattle.std.specs.Prelude.{◌≡◌, ◌<◌, ◌≤◌, ℕ, ◌+◌, ◌*◌, ◌%◌, ◌^◌, ◌==◌, ◌-◌, ◌&&◌, nat_le, nat_lt, if◌then◌else◌, List, [], ◌∷◌, length, true}
 use Rattle.rv_insn.specs.declared.instructions.Insn.{Insn}
 use Rattle.memory.specs.Addresses.{data_start, AreBytes, put}
 use Rattle.memory.specs.Access.{Size, bytes_in, touched, spread}
@@ -11,7 +11,7 @@ use Rattle.hart_core.specs.HartState.{HartState, register, vector}
 use Rattle.hart_core.specs.Alu.{one_if}
 use Rattle.hart_core.specs.Scalar.{one_access}
 use Rattle.multi_hart.specs.Frame.{Within}
-use Rattle.vector_unit.specs.VectorState.{width_of, group_of, most_elements}
+use Rattle.vector_unit.specs.VectorState.{width_of, group_of, most_elements, is_supported}
 use Rattle.lone_hart.specs.Uses.{MayRead, MayWrite}
 use Rattle.lone_hart.specs.Alone.{World, Says, Keeps, Soon, Covers}
 
@@ -59,12 +59,19 @@ configure f length vtype = update (update f vl_number length) vtype_number vtype
 unfoldable pub write_lanes : (ℕ → ℕ) → ℕ → ℕ → (ℕ → ℕ) → ℕ → ℕ
 write_lanes f d n new q = if nat_le (lane d 0) q && nat_lt q (lane d n) then new (q - lane d 0) else f q
 
--- the configuration is one of lanes of 32 bits, in groups of so many registers
+-- the configuration is a supported one of lanes of 32 bits, in groups of so many registers
 pub record LanesConfigured (f : ℕ → ℕ) (registers : ℕ) : Type 0 where
+  pub supported : is_supported (f vtype_number) ≡ true
   pub width : width_of (f vtype_number) ≡ 32
   pub group : group_of (f vtype_number) ≡ registers
   pub most : most_elements (f vtype_number) ≡ 4 * registers
   pub fits : f vl_number ≤ 4 * registers
+
+-- a group of so many registers may begin at this one; what begins at v0 holds the mask
+pub record IsGroup (registers v : ℕ) : Type 0 where
+  pub above_mask : 1 ≤ v
+  pub fits : v + registers ≤ 32
+  pub placed : v % registers ≡ 0
 
 -- the hart runs, and stands at an address with these numbers
 pub record At (at : ℕ) (f : ℕ → ℕ) (hart : HartState) : Type 0 where

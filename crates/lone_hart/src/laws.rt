@@ -3,7 +3,14 @@
 ghost use Rattle.std.specs.Prelude.{◌≡◌, ◌<◌, ◌≤◌, ◌+◌, ◌*◌, ◌%◌, ◌^◌, ◌++◌, ◌∷◌, [], ℕ, suc, ℤ, List, Some, length, slice_get, min, true, false};
 ghost use Rattle.rv_insn.specs.declared.instructions.Insn.{Insn};
 ghost use Rattle.rv_insn.specs.declared.instructions.Insn.TheVariants.{Lui, AluImm, Shift, Alu, Load, Store, Jal, Branch, Vector};
-ghost use Rattle.rv_insn.specs.declared.vector_instructions.VectorInsn.TheVariants.{Vsetvli, Vsetivli};
+ghost use Rattle.rv_insn.specs.declared.vector_instructions.VectorInsn.TheVariants.{Vsetvli, Vsetivli, ArithmeticVv, ArithmeticVx, ArithmeticVi, ShiftVi, MultiplyVv, MultiplyVx, MoveVv, MoveVx, MoveVi, ElementNumbers};
+ghost use Rattle.rv_insn.specs.declared.vector_operations.ArithmeticVvOp.{ArithmeticVvOp};
+ghost use Rattle.rv_insn.specs.declared.vector_operations.ArithmeticVxOp.{ArithmeticVxOp};
+ghost use Rattle.rv_insn.specs.declared.vector_operations.ArithmeticViOp.{ArithmeticViOp};
+ghost use Rattle.rv_insn.specs.declared.vector_operations.ShiftViOp.{ShiftViOp};
+ghost use Rattle.rv_insn.specs.declared.vector_operations.MultiplyOp.{MultiplyOp};
+ghost use Rattle.vector_unit.specs.Operations.{arithmetic_vv, arithmetic_vx, arithmetic_vi, shift_vi, multiply};
+ghost use Rattle.lanes.specs.Words.{wrapped};
 ghost use Rattle.vector_unit.specs.VectorState.{is_supported, most_elements};
 ghost use Rattle.rv_insn.specs.declared.operations.AluImmOp.{AluImmOp};
 ghost use Rattle.rv_insn.specs.declared.operations.ShiftOp.{ShiftOp};
@@ -18,7 +25,7 @@ ghost use Rattle.hart_core.specs.Alu.{extended, plus, computed, computed_with_im
 ghost use Rattle.hart_core.specs.Scalar.{one_access, offset_from};
 ghost use Rattle.lone_hart.specs.Groups.{GroupHolds, OthersStay, SizeStays, LanesGiven};
 ghost use Rattle.lone_hart.specs.Alone.{World, Says, is_in};
-ghost use Rattle.lone_hart.specs.Paths.{update, Path, Block, Line, Writes, Readable, Writable, stored_at, configure};
+ghost use Rattle.lone_hart.specs.Paths.{update, Path, Block, Line, Writes, Readable, Writable, stored_at, configure, lane, vl_number, write_lanes, LanesConfigured, IsGroup};
 
 /// A word of a text of any length stands at its address.
 pub fn words_stand()
@@ -75,4 +82,26 @@ pub fn groups_hold_lanes()
 /// of the numbers that a hart holds.
 pub fn lanes_are_given()
     ensures { LanesGiven }
+{}
+
+/// Operations on each lane of a group and the lane of another one.
+pub fn lanes_are_paired()
+    ensures arithmetic { (w : World) (f : ℕ → ℕ) (m : List ℕ) → length m ≡ w.size → (g : ℕ) → LanesConfigured f g → (o : ArithmeticVvOp) (d a b : ℕ) → IsGroup g d → IsGroup g a → IsGroup g b → Line w (Vector (ArithmeticVv o d a b true) ∷ []) f m (write_lanes f d (f vl_number) (λ k. arithmetic_vv o 32 (f (lane a k)) (f (lane b k)))) m }
+    ensures multiplication { (w : World) (f : ℕ → ℕ) (m : List ℕ) → length m ≡ w.size → (g : ℕ) → LanesConfigured f g → (o : MultiplyOp) (d a b : ℕ) → IsGroup g d → IsGroup g a → IsGroup g b → Line w (Vector (MultiplyVv o d a b true) ∷ []) f m (write_lanes f d (f vl_number) (λ k. multiply o 32 (f (lane a k)) (f (lane b k)))) m }
+{}
+
+/// Operations on each lane of a group and one number: of a register, or of the word.
+pub fn lanes_meet_a_number()
+    ensures arithmetic { (w : World) (f : ℕ → ℕ) (m : List ℕ) → length m ≡ w.size → (g : ℕ) → LanesConfigured f g → (o : ArithmeticVxOp) (d a r : ℕ) → IsGroup g d → IsGroup g a → r < 32 → Line w (Vector (ArithmeticVx o d a r true) ∷ []) f m (write_lanes f d (f vl_number) (λ k. arithmetic_vx o 32 (f (lane a k)) (f r % 2 ^ 32))) m }
+    ensures multiplication { (w : World) (f : ℕ → ℕ) (m : List ℕ) → length m ≡ w.size → (g : ℕ) → LanesConfigured f g → (o : MultiplyOp) (d a r : ℕ) → IsGroup g d → IsGroup g a → r < 32 → Line w (Vector (MultiplyVx o d a r true) ∷ []) f m (write_lanes f d (f vl_number) (λ k. multiply o 32 (f (lane a k)) (f r % 2 ^ 32))) m }
+    ensures immediate { (w : World) (f : ℕ → ℕ) (m : List ℕ) → length m ≡ w.size → (g : ℕ) → LanesConfigured f g → (o : ArithmeticViOp) (d a : ℕ) (z : ℤ) → IsGroup g d → IsGroup g a → Line w (Vector (ArithmeticVi o d a z true) ∷ []) f m (write_lanes f d (f vl_number) (λ k. arithmetic_vi o 32 (f (lane a k)) (wrapped 32 z))) m }
+    ensures shift { (w : World) (f : ℕ → ℕ) (m : List ℕ) → length m ≡ w.size → (g : ℕ) → LanesConfigured f g → (o : ShiftViOp) (d a n : ℕ) → IsGroup g d → IsGroup g a → Line w (Vector (ShiftVi o d a n true) ∷ []) f m (write_lanes f d (f vl_number) (λ k. shift_vi o 32 (f (lane a k)) n)) m }
+{}
+
+/// Lanes that are copied, lanes that all get one number, and lanes that get their own.
+pub fn lanes_are_copied()
+    ensures lanes { (w : World) (f : ℕ → ℕ) (m : List ℕ) → length m ≡ w.size → (g : ℕ) → LanesConfigured f g → (d a : ℕ) → IsGroup g d → IsGroup g a → Line w (Vector (MoveVv d a) ∷ []) f m (write_lanes f d (f vl_number) (λ k. f (lane a k))) m }
+    ensures number { (w : World) (f : ℕ → ℕ) (m : List ℕ) → length m ≡ w.size → (g : ℕ) → LanesConfigured f g → (d r : ℕ) → IsGroup g d → r < 32 → Line w (Vector (MoveVx d r) ∷ []) f m (write_lanes f d (f vl_number) (λ k. f r % 2 ^ 32)) m }
+    ensures immediate { (w : World) (f : ℕ → ℕ) (m : List ℕ) → length m ≡ w.size → (g : ℕ) → LanesConfigured f g → (d : ℕ) (z : ℤ) → IsGroup g d → Line w (Vector (MoveVi d z) ∷ []) f m (write_lanes f d (f vl_number) (λ k. wrapped 32 z)) m }
+    ensures numbers { (w : World) (f : ℕ → ℕ) (m : List ℕ) → length m ≡ w.size → (g : ℕ) → LanesConfigured f g → (d : ℕ) → IsGroup g d → Line w (Vector (ElementNumbers d true) ∷ []) f m (write_lanes f d (f vl_number) (λ k. k)) m }
 {}
