@@ -7,3 +7,4 @@ pub mod Groups
 pub mod LaneRows
 pub mod LaneWords
 pub mod VectorRows
+pub mod MaskRows

@@ -59,6 +59,10 @@ configure f length vtype = update (update f vl_number length) vtype_number vtype
 unfoldable pub write_lanes : (ℕ → ℕ) → ℕ → ℕ → (ℕ → ℕ) → ℕ → ℕ
 write_lanes f d n new q = if nat_le (lane d 0) q && nat_lt q (lane d n) then new (q - lane d 0) else f q
 
+-- other mask bits, as many as are given: they stand where lanes of a register behind v31 would
+abbrev pub write_bits : (ℕ → ℕ) → ℕ → (ℕ → ℕ) → ℕ → ℕ
+write_bits f n new = write_lanes f 32 n new
+
 -- the configuration is a supported one of lanes of 32 bits, in groups of so many registers
 pub record LanesConfigured (f : ℕ → ℕ) (registers : ℕ) : Type 0 where
   pub supported : is_supported (f vtype_number) ≡ true

@@ -1,15 +1,18 @@
 //! Laws of a hart that runs alone, each the contract of a function that does nothing.
 
-ghost use Rattle.std.specs.Prelude.{◌≡◌, ◌<◌, ◌≤◌, ◌+◌, ◌*◌, ◌%◌, ◌^◌, ◌++◌, ◌∷◌, [], ℕ, suc, ℤ, List, Some, length, slice_get, min, true, false};
+ghost use Rattle.std.specs.Prelude.{◌≡◌, ◌==◌, if◌then◌else◌, ◌<◌, ◌≤◌, ◌+◌, ◌*◌, ◌%◌, ◌^◌, ◌++◌, ◌∷◌, [], ℕ, suc, ℤ, List, Some, length, slice_get, min, true, false};
 ghost use Rattle.rv_insn.specs.declared.instructions.Insn.{Insn};
 ghost use Rattle.rv_insn.specs.declared.instructions.Insn.TheVariants.{Lui, AluImm, Shift, Alu, Load, Store, Jal, Branch, Vector};
-ghost use Rattle.rv_insn.specs.declared.vector_instructions.VectorInsn.TheVariants.{Vsetvli, Vsetivli, ArithmeticVv, ArithmeticVx, ArithmeticVi, ShiftVi, MultiplyVv, MultiplyVx, MoveVv, MoveVx, MoveVi, ElementNumbers};
+ghost use Rattle.rv_insn.specs.declared.vector_instructions.VectorInsn.TheVariants.{Vsetvli, Vsetivli, ArithmeticVv, ArithmeticVx, ArithmeticVi, ShiftVi, MultiplyVv, MultiplyVx, MoveVv, MoveVx, MoveVi, ElementNumbers, CompareVv, CompareVx, CompareVi, MergeVv, MergeVx, MergeVi};
+ghost use Rattle.rv_insn.specs.declared.vector_operations.CompareVvOp.{CompareVvOp};
+ghost use Rattle.rv_insn.specs.declared.vector_operations.CompareVxOp.{CompareVxOp};
+ghost use Rattle.rv_insn.specs.declared.vector_operations.CompareViOp.{CompareViOp};
 ghost use Rattle.rv_insn.specs.declared.vector_operations.ArithmeticVvOp.{ArithmeticVvOp};
 ghost use Rattle.rv_insn.specs.declared.vector_operations.ArithmeticVxOp.{ArithmeticVxOp};
 ghost use Rattle.rv_insn.specs.declared.vector_operations.ArithmeticViOp.{ArithmeticViOp};
 ghost use Rattle.rv_insn.specs.declared.vector_operations.ShiftViOp.{ShiftViOp};
 ghost use Rattle.rv_insn.specs.declared.vector_operations.MultiplyOp.{MultiplyOp};
-ghost use Rattle.vector_unit.specs.Operations.{arithmetic_vv, arithmetic_vx, arithmetic_vi, shift_vi, multiply};
+ghost use Rattle.vector_unit.specs.Operations.{arithmetic_vv, arithmetic_vx, arithmetic_vi, shift_vi, multiply, compare_vv, compare_vx, compare_vi};
 ghost use Rattle.lanes.specs.Words.{wrapped};
 ghost use Rattle.vector_unit.specs.VectorState.{is_supported, most_elements};
 ghost use Rattle.rv_insn.specs.declared.operations.AluImmOp.{AluImmOp};
@@ -21,11 +24,11 @@ ghost use Rattle.rv_insn.specs.declared.operations.StoreOp.{StoreOp};
 ghost use Rattle.rv_encoding.specs.Decoding.{decoded};
 ghost use Rattle.memory.specs.Addresses.{text_start};
 ghost use Rattle.memory.specs.Access.{touched, number_in};
-ghost use Rattle.hart_core.specs.Alu.{extended, plus, computed, computed_with_immediate, shifted, is_taken, load_size, loaded, store_size, kept};
+ghost use Rattle.hart_core.specs.Alu.{one_if, extended, plus, computed, computed_with_immediate, shifted, is_taken, load_size, loaded, store_size, kept};
 ghost use Rattle.hart_core.specs.Scalar.{one_access, offset_from};
 ghost use Rattle.lone_hart.specs.Groups.{GroupHolds, OthersStay, SizeStays, LanesGiven};
 ghost use Rattle.lone_hart.specs.Alone.{World, Says, is_in};
-ghost use Rattle.lone_hart.specs.Paths.{update, Path, Block, Line, Writes, Readable, Writable, stored_at, configure, lane, vl_number, write_lanes, LanesConfigured, IsGroup};
+ghost use Rattle.lone_hart.specs.Paths.{update, Path, Block, Line, Writes, Readable, Writable, stored_at, configure, lane, bit, vl_number, write_lanes, write_bits, LanesConfigured, IsGroup};
 
 /// A word of a text of any length stands at its address.
 pub fn words_stand()
@@ -104,4 +107,18 @@ pub fn lanes_are_copied()
     ensures number { (w : World) (f : ℕ → ℕ) (m : List ℕ) → length m ≡ w.size → (g : ℕ) → LanesConfigured f g → (d r : ℕ) → IsGroup g d → r < 32 → Line w (Vector (MoveVx d r) ∷ []) f m (write_lanes f d (f vl_number) (λ k. f r % 2 ^ 32)) m }
     ensures immediate { (w : World) (f : ℕ → ℕ) (m : List ℕ) → length m ≡ w.size → (g : ℕ) → LanesConfigured f g → (d : ℕ) (z : ℤ) → IsGroup g d → Line w (Vector (MoveVi d z) ∷ []) f m (write_lanes f d (f vl_number) (λ k. wrapped 32 z)) m }
     ensures numbers { (w : World) (f : ℕ → ℕ) (m : List ℕ) → length m ≡ w.size → (g : ℕ) → LanesConfigured f g → (d : ℕ) → IsGroup g d → Line w (Vector (ElementNumbers d true) ∷ []) f m (write_lanes f d (f vl_number) (λ k. k)) m }
+{}
+
+/// Tests of lanes, into the mask: each is a bit that is 1 where it holds.
+pub fn lanes_are_compared()
+    ensures lanes { (w : World) (f : ℕ → ℕ) (m : List ℕ) → length m ≡ w.size → (g : ℕ) → LanesConfigured f g → (o : CompareVvOp) (a b : ℕ) → IsGroup g a → IsGroup g b → Line w (Vector (CompareVv o 0 a b true) ∷ []) f m (write_bits f (f vl_number) (λ k. one_if (compare_vv o 32 (f (lane a k)) (f (lane b k))))) m }
+    ensures number { (w : World) (f : ℕ → ℕ) (m : List ℕ) → length m ≡ w.size → (g : ℕ) → LanesConfigured f g → (o : CompareVxOp) (a r : ℕ) → IsGroup g a → r < 32 → Line w (Vector (CompareVx o 0 a r true) ∷ []) f m (write_bits f (f vl_number) (λ k. one_if (compare_vx o 32 (f (lane a k)) (f r % 2 ^ 32)))) m }
+    ensures immediate { (w : World) (f : ℕ → ℕ) (m : List ℕ) → length m ≡ w.size → (g : ℕ) → LanesConfigured f g → (o : CompareViOp) (a : ℕ) (z : ℤ) → IsGroup g a → Line w (Vector (CompareVi o 0 a z true) ∷ []) f m (write_bits f (f vl_number) (λ k. one_if (compare_vi o 32 (f (lane a k)) (wrapped 32 z)))) m }
+{}
+
+/// Lanes that are chosen by the mask: the second where its bit isn't 0.
+pub fn lanes_are_chosen()
+    ensures lanes { (w : World) (f : ℕ → ℕ) (m : List ℕ) → length m ≡ w.size → (g : ℕ) → LanesConfigured f g → (d a b : ℕ) → IsGroup g d → IsGroup g a → IsGroup g b → Line w (Vector (MergeVv d a b) ∷ []) f m (write_lanes f d (f vl_number) (λ k. if f (bit k) == 0 then f (lane a k) else f (lane b k))) m }
+    ensures number { (w : World) (f : ℕ → ℕ) (m : List ℕ) → length m ≡ w.size → (g : ℕ) → LanesConfigured f g → (d a r : ℕ) → IsGroup g d → IsGroup g a → r < 32 → Line w (Vector (MergeVx d a r) ∷ []) f m (write_lanes f d (f vl_number) (λ k. if f (bit k) == 0 then f (lane a k) else f r % 2 ^ 32)) m }
+    ensures immediate { (w : World) (f : ℕ → ℕ) (m : List ℕ) → length m ≡ w.size → (g : ℕ) → LanesConfigured f g → (d a : ℕ) (z : ℤ) → IsGroup g d → IsGroup g a → Line w (Vector (MergeVi d a z) ∷ []) f m (write_lanes f d (f vl_number) (λ k. if f (bit k) == 0 then f (lane a k) else wrapped 32 z)) m }
 {}
