@@ -6,7 +6,7 @@ use Rattle.std.proofs.lemmas.List.Folds.{list_any-append}
 use Rattle.memory.specs.Addresses.{data_start}
 use Rattle.work_sharing.specs.Programs.{ticket_word, gate_word}
 use Rattle.compiler.specs.Correct.{is_byte_of}
-use Rattle.compiler.specs.Images.{control_words}
+use Rattle.compiler.specs.ControlWords.{control_words}
 
 left-true : (a b : Bool) → a ≡ true → (a || b) ≡ true
 left-true true b e = refl

@@ -44,7 +44,8 @@ use Rattle.compiler.specs.Assigned.{byte_of_point, WrittenAs, IsReached, IsAssig
 use Rattle.compiler.specs.Compiled.{CompiledContents, IsCompiled}
 use Rattle.compiler.specs.Correct.{opening, Race, ShowsOutput, IsCorrect, Correct}
 use Rattle.compiler.specs.Data.{image_data}
-use Rattle.compiler.specs.Images.{ArePictures, image_of, control_words}
+use Rattle.compiler.specs.ControlWords.{control_words}
+use Rattle.compiler.specs.Images.{ArePictures, image_of}
 use Rattle.compiler.proofs.Asked.{answer-words}
 use Rattle.compiler.proofs.Control.{control-byte}
 use Rattle.compiler.proofs.Low.{layout_is}

@@ -21,7 +21,7 @@ use Rattle.halide_meaning.specs.Picture.{PictureContents}
 use Rattle.halide_meaning.specs.Pixel.{output_pixel}
 use Rattle.loader.specs.Image.{ImageContents}
 use Rattle.loader.specs.declared.outputs.Output.{Output}
-use Rattle.compiler.specs.Images.{control_words}
+use Rattle.compiler.specs.ControlWords.{control_words}
 
 -- ---- pixels
 

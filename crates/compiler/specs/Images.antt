@@ -1,13 +1,12 @@
 -- The images of a compiled program, one for all input pictures that it asks for.
 -- This project's own.
-use Rattle.std.specs.Prelude.{◌≡◌, ◌⊎◌, ℕ, zero, suc, List, [], ◌∷◌, ◌++◌, Option, Some}
+use Rattle.std.specs.Prelude.{◌≡◌, ◌⊎◌, List, Option, Some}
 use Rattle.std.specs.List.{AllByRecursion}
 use Rattle.memory.specs.Addresses.{text_start}
 use Rattle.halide_meaning.specs.Picture.{PictureContents, IsPicture}
 use Rattle.loader.specs.Image.{ImageContents}
 use Rattle.picture.specs.declared.faults.EvalError.{EvalError}
 use Rattle.picture.specs.declared.faults.EvalError.TheVariants as errors
-use Rattle.work_sharing.specs.Programs.{ticket_word, gate_word}
 use Rattle.compiler.specs.Compiled.{CompiledContents, output_of}
 use Rattle.compiler.specs.Data.{image_data}
 
@@ -27,8 +26,3 @@ ArePictures pictures = AllByRecursion IsPicture pictures
 -- why there is no image: the pictures aren't those that are asked for, or memory ran out
 abbrev pub IsRefusedInput : Option EvalError → EvalError → Type 0
 IsRefusedInput wanted error = (wanted ≡ Some error) ⊎ (error ≡ errors.OutOfMemory)
-
--- the words by which harts share their work: of each phase one to draw tasks and one to wait at
-abbrev pub control_words : ℕ → List ℕ
-control_words zero = []
-control_words (suc phases) = control_words phases ++ (ticket_word phases ∷ gate_word phases ∷ [])

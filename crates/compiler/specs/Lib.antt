@@ -1,6 +1,7 @@
 pub mod Addresses
 pub mod Assigned
 pub mod Compiled
+pub mod ControlWords
 pub mod Correct
 pub mod Data
 pub mod Faults

@@ -12,7 +12,8 @@ ghost use Rattle.schedule.specs.Accepted.{IsAccepted};
 ghost use Rattle.compiler.specs.Assigned.{IsAssigned};
 ghost use Rattle.compiler.specs.Compiled.{output_in, output_of};
 ghost use Rattle.compiler.specs.Correct.{Correct};
-ghost use Rattle.compiler.specs.Images.{ArePictures, IsRefusedInput, control_words, image_of};
+ghost use Rattle.compiler.specs.ControlWords.{control_words};
+ghost use Rattle.compiler.specs.Images.{ArePictures, IsRefusedInput, image_of};
 ghost use Rattle.compiler.specs.Outputs.{Holds};
 
 use crate::data::image_data;

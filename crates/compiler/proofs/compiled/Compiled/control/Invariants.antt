@@ -1,5 +1,5 @@
 use Rattle.std.proofs.Common.{◌≡◌}
-use Rattle.compiler.specs.Images.{control_words}
+use Rattle.compiler.specs.ControlWords.{control_words}
 use Rattle.compiler.proofs.compiled.Compiled.control.Given as goal
 
 abbrev pub invariant-loop-phase : goal.invariant-loop-phase
