@@ -21,12 +21,12 @@ use Rattle.lone_hart.proofs.Rules.{next-by, in-front}
 use Rattle.lone_hart.proofs.Paths.{spot, at-given, at-to}
 use Rattle.lone_hart.proofs.Rows.{keeps-none}
 
-load-free : (size : Size) (words n a : ℕ) → a % bytes_in size ≡ 0 → data_start ≤ a → a + bytes_in size ≤ data_start + n → or_else (first_fault words n Reads (one_access size a)) None ≡ None
+pub load-free : (size : Size) (words n a : ℕ) → a % bytes_in size ≡ 0 → data_start ≤ a → a + bytes_in size ≤ data_start + n → or_else (first_fault words n Reads (one_access size a)) None ≡ None
 load-free Byte words n a e l h = grind (arith, nat_tests)
 load-free Half words n a e l h = grind (arith, nat_tests)
 load-free Word words n a e l h = grind (arith, nat_tests)
 
-store-free : (size : Size) (words n a : ℕ) → a % bytes_in size ≡ 0 → data_start ≤ a → a + bytes_in size ≤ data_start + n → or_else (first_fault words n WritesKind (one_access size a)) None ≡ None
+pub store-free : (size : Size) (words n a : ℕ) → a % bytes_in size ≡ 0 → data_start ≤ a → a + bytes_in size ≤ data_start + n → or_else (first_fault words n WritesKind (one_access size a)) None ≡ None
 store-free Byte words n a e l h = grind (arith, nat_tests)
 store-free Half words n a e l h = grind (arith, nat_tests)
 store-free Word words n a e l h = grind (arith, nat_tests)

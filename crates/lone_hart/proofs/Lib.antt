@@ -7,4 +7,6 @@ pub mod Groups
 pub mod LaneRows
 pub mod LaneWords
 pub mod VectorRows
+pub mod Flags
 pub mod MaskRows
+pub mod LaneStores

@@ -10,7 +10,7 @@ use Rattle.memory.specs.Addresses.{AreBytes}
 use Rattle.memory.proofs.StaysBytes.{more-bytes}
 use Rattle.lanes.specs.Words as word
 use Rattle.lanes.specs.Registers.{element}
-use Rattle.lanes.specs.Masks.{mask_bit, mask_bits, active, is_active, with_bit, with_mask_bit, with_mask_bits_from}
+use Rattle.lanes.specs.Masks.{mask_bit, mask_bits, active, with_bit, with_mask_bit, with_mask_bits_from}
 use Rattle.lanes.specs.Elementwise.{zip_with}
 use Rattle.lanes.proofs.MaskReadings.{mask_bits_back}
 use Rattle.rv_insn.specs.declared.outcomes.Trap.TheVariants.{IllegalInstruction}
@@ -34,6 +34,7 @@ use Rattle.lone_hart.specs.Paths.{lane, bit, vl_number, vtype_number, write_lane
 use Rattle.lone_hart.proofs.Groups.{index-same, index-other}
 use Rattle.lone_hart.proofs.LaneRows.{lanes-new, lanes-below, lanes-above, or-either, merged-length, merged-get}
 use Rattle.lone_hart.proofs.LaneWords.{rest-below, wrapped-below, one-of}
+use Rattle.lone_hart.proofs.Flags.{flags-length, flag-on, flag-off}
 use Rattle.lone_hart.proofs.VectorRows.{Lists, zipped-length, zipped-get, width-is, count-is, of-group, of-scalar, of-immediate, lane-below, allowed, untrapped, leaves, sets}
 
 -- ---- the bytes of a mask
@@ -62,11 +63,6 @@ mask-length i (t ∷ flags) [] bytes = refl
 mask-length i (true ∷ flags) (s ∷ bits) bytes = mask-length (i + 1) flags bits (with_mask_bit bytes i s) ∙ length-set bytes (i / 8) _
 mask-length i (false ∷ flags) (s ∷ bits) bytes = mask-length (i + 1) flags bits bytes
 
-beyond : (bs : List Bool) (k : ℕ) → length bs ≤ k → get_or bs k false ≡ false
-beyond [] k l = refl
-beyond (b ∷ bs) zero l = absurd (omega (arith, l))
-beyond (b ∷ bs) (suc k) l = beyond bs k (omega (arith, l))
-
 -- ---- a hart whose mask bits were written
 
 module _ (at g : ℕ) (f : ℕ → ℕ) (h : HartState) (tests : List Bool) (T : ℕ → Bool) (small : at + 4 < 2 ^ 32) (a : At at f h) (c : LanesConfigured f g) (fits : 4 * g ≤ 128) (size : length tests ≡ 4 * g) (get : (k : ℕ) → k < 4 * g → get_or tests k false ≡ T k) where
@@ -88,40 +84,16 @@ module _ (at g : ℕ) (f : ℕ → ℕ) (h : HartState) (tests : List Bool) (T :
   old-length : length old ≡ 16
   old-length = ap length old-is ∙ a.whole 0 (omega arith)
 
-  flags-length : length flags ≡ 4 * g
-  unfolding active
-  flags-length = length-map-range_with_len (λ i. is_active h.vl true old (0 + i)) 0 (count (vectors_of h)) ∙ count-is at g f h a c
-
-  flag : (k : ℕ) → k < 4 * g → get_or flags k false ≡ nat_lt k h.vl && true
-  unfolding active
-  flag k l =
-      let q : k < count (vectors_of h) = (let e = count-is at g f h a c in omega (arith, e, l)) in
-      get_or-map-range_with_len (λ i. is_active h.vl true old (0 + i)) 0 (count (vectors_of h)) k k false q (omega arith) ∙ (let e : 0 + k ≡ k = omega arith in ap (is_active h.vl true old) e)
-
-  flag-on : (k : ℕ) → k < f 32 → get_or flags k false ≡ true
-  flag-on k s =
-      let l : k < 4 * g = (let q = c.fits in omega (arith, s, q)) in
-      let t : nat_lt k h.vl ≡ true = (let e = a.vl in grind (arith, nat_tests, e, s)) in
-      flag k l ∙ ap (λ b. b && true) t
-
-  flag-off : (k : ℕ) → f 32 ≤ k → get_or flags k false ≡ false
-  flag-off k s = elim (cases_lt k (4 * g)) [
-    | inl l ↦
-        let t : nat_lt k h.vl ≡ false = (let e = a.vl in grind (arith, nat_tests, e, s)) in
-        flag k l ∙ ap (λ b. b && true) t
-    | inr l ↦ beyond flags k (let q = flags-length in omega (arith, q, l))
-  ]
-
   bits-after : (i : ℕ) → i < 16 → one_if (mask_bit mask i) ≡ after-bits (bit i)
   bits-after i few =
-      let back = mask_bits_back flags tests old i old-length (flags-length ∙ sym size) (omega (arith, size, fits)) in
+      let back = mask_bits_back flags tests old i old-length (flags-length at g f h a c ∙ sym size) (omega (arith, size, fits)) in
       elim (cases_lt i (f 32)) [
         | inl s ↦
             let l : i < 4 * g = (let q = c.fits in omega (arith, s, q)) in
-            ap one_if (back ∙ ap (λ b. if b then get_or tests i false else mask_bit old i) (flag-on i s) ∙ get i l)
+            ap one_if (back ∙ ap (λ b. if b then get_or tests i false else mask_bit old i) (flag-on at g f h a c i s) ∙ get i l)
             ∙ sym (lanes-new f 32 (f 32) (λ k. one_if (T k)) (bit i) i (omega arith) s)
         | inr s ↦
-            ap one_if (back ∙ ap (λ b. if b then get_or tests i false else mask_bit old i) (flag-off i s) ∙ ap (λ r. mask_bit r i) old-is)
+            ap one_if (back ∙ ap (λ b. if b then get_or tests i false else mask_bit old i) (flag-off at g f h a c i s) ∙ ap (λ r. mask_bit r i) old-is)
             ∙ a.bits i few ∙ sym (lanes-above f 32 (f 32) (λ k. one_if (T k)) (bit i) (omega (arith, s)))
       ]
 

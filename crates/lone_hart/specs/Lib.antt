@@ -2,3 +2,4 @@ pub mod Uses
 pub mod Alone
 pub mod Paths
 pub mod Groups
+pub mod LaneMemory

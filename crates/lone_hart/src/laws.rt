@@ -3,7 +3,10 @@
 ghost use Rattle.std.specs.Prelude.{◌≡◌, ◌==◌, if◌then◌else◌, ◌<◌, ◌≤◌, ◌+◌, ◌*◌, ◌%◌, ◌^◌, ◌++◌, ◌∷◌, [], ℕ, suc, ℤ, List, Some, length, slice_get, min, true, false};
 ghost use Rattle.rv_insn.specs.declared.instructions.Insn.{Insn};
 ghost use Rattle.rv_insn.specs.declared.instructions.Insn.TheVariants.{Lui, AluImm, Shift, Alu, Load, Store, Jal, Branch, Vector};
-ghost use Rattle.rv_insn.specs.declared.vector_instructions.VectorInsn.TheVariants.{Vsetvli, Vsetivli, ArithmeticVv, ArithmeticVx, ArithmeticVi, ShiftVi, MultiplyVv, MultiplyVx, MoveVv, MoveVx, MoveVi, ElementNumbers, CompareVv, CompareVx, CompareVi, MergeVv, MergeVx, MergeVi};
+ghost use Rattle.rv_insn.specs.declared.vector_instructions.VectorInsn.TheVariants.{Vsetvli, Vsetivli, ArithmeticVv, ArithmeticVx, ArithmeticVi, ShiftVi, MultiplyVv, MultiplyVx, MoveVv, MoveVx, MoveVi, ElementNumbers, CompareVv, CompareVx, CompareVi, MergeVv, MergeVx, MergeVi, LoadElements, StoreElements, ExtendBytes};
+ghost use Rattle.rv_insn.specs.declared.vector_instructions.Addressing.{Addressing};
+ghost use Rattle.rv_insn.specs.declared.vector_operations.ElementWidth.TheVariants.{Bits8, Bits32};
+ghost use Rattle.lone_hart.specs.LaneMemory.{AllReadable, AllWritable, accesses_to, stored_lanes, offset_at, OffsetsFit};
 ghost use Rattle.rv_insn.specs.declared.vector_operations.CompareVvOp.{CompareVvOp};
 ghost use Rattle.rv_insn.specs.declared.vector_operations.CompareVxOp.{CompareVxOp};
 ghost use Rattle.rv_insn.specs.declared.vector_operations.CompareViOp.{CompareViOp};
@@ -13,7 +16,7 @@ ghost use Rattle.rv_insn.specs.declared.vector_operations.ArithmeticViOp.{Arithm
 ghost use Rattle.rv_insn.specs.declared.vector_operations.ShiftViOp.{ShiftViOp};
 ghost use Rattle.rv_insn.specs.declared.vector_operations.MultiplyOp.{MultiplyOp};
 ghost use Rattle.vector_unit.specs.Operations.{arithmetic_vv, arithmetic_vx, arithmetic_vi, shift_vi, multiply, compare_vv, compare_vx, compare_vi};
-ghost use Rattle.lanes.specs.Words.{wrapped};
+ghost use Rattle.lanes.specs.Words.{wrapped, add};
 ghost use Rattle.vector_unit.specs.VectorState.{is_supported, most_elements};
 ghost use Rattle.rv_insn.specs.declared.operations.AluImmOp.{AluImmOp};
 ghost use Rattle.rv_insn.specs.declared.operations.ShiftOp.{ShiftOp};
@@ -23,7 +26,7 @@ ghost use Rattle.rv_insn.specs.declared.operations.LoadOp.{LoadOp};
 ghost use Rattle.rv_insn.specs.declared.operations.StoreOp.{StoreOp};
 ghost use Rattle.rv_encoding.specs.Decoding.{decoded};
 ghost use Rattle.memory.specs.Addresses.{text_start};
-ghost use Rattle.memory.specs.Access.{touched, number_in};
+ghost use Rattle.memory.specs.Access.{Byte, Word, touched, number_in};
 ghost use Rattle.hart_core.specs.Alu.{one_if, extended, plus, computed, computed_with_immediate, shifted, is_taken, load_size, loaded, store_size, kept};
 ghost use Rattle.hart_core.specs.Scalar.{one_access, offset_from};
 ghost use Rattle.lone_hart.specs.Groups.{GroupHolds, OthersStay, SizeStays, LanesGiven};
@@ -121,4 +124,10 @@ pub fn lanes_are_chosen()
     ensures lanes { (w : World) (f : ℕ → ℕ) (m : List ℕ) → length m ≡ w.size → (g : ℕ) → LanesConfigured f g → (d a b : ℕ) → IsGroup g d → IsGroup g a → IsGroup g b → Line w (Vector (MergeVv d a b) ∷ []) f m (write_lanes f d (f vl_number) (λ k. if f (bit k) == 0 then f (lane a k) else f (lane b k))) m }
     ensures number { (w : World) (f : ℕ → ℕ) (m : List ℕ) → length m ≡ w.size → (g : ℕ) → LanesConfigured f g → (d a r : ℕ) → IsGroup g d → IsGroup g a → r < 32 → Line w (Vector (MergeVx d a r) ∷ []) f m (write_lanes f d (f vl_number) (λ k. if f (bit k) == 0 then f (lane a k) else f r % 2 ^ 32)) m }
     ensures immediate { (w : World) (f : ℕ → ℕ) (m : List ℕ) → length m ≡ w.size → (g : ℕ) → LanesConfigured f g → (d a : ℕ) (z : ℤ) → IsGroup g d → IsGroup g a → Line w (Vector (MergeVi d a z) ∷ []) f m (write_lanes f d (f vl_number) (λ k. if f (bit k) == 0 then f (lane a k) else wrapped 32 z)) m }
+{}
+
+/// Lanes that are stored: word after word, a number of bytes apart, or by offsets.
+pub fn lanes_are_stored()
+    ensures memory { (w : World) (f : ℕ → ℕ) (m : List ℕ) → length m ≡ w.size → (g : ℕ) → LanesConfigured f g → (addressing : Addressing) (u b : ℕ) (a : ℕ → ℕ) → IsGroup g u → b < 32 → OffsetsFit g addressing → ((k : ℕ) → k < f vl_number → add 32 (f b) (offset_at f addressing k) ≡ a k) → AllWritable w Word (f vl_number) a → Line w (Vector (StoreElements Bits32 u b addressing true) ∷ []) f m f (stored_lanes m Word (f vl_number) a (λ k. f (lane u k))) }
+    ensures writes { (w : World) (f : ℕ → ℕ) (m : List ℕ) → length m ≡ w.size → (g : ℕ) → LanesConfigured f g → (addressing : Addressing) (u b : ℕ) (a : ℕ → ℕ) → IsGroup g u → b < 32 → OffsetsFit g addressing → ((k : ℕ) → k < f vl_number → add 32 (f b) (offset_at f addressing k) ≡ a k) → AllWritable w Word (f vl_number) a → (at y : ℕ) → Says w.text at (Vector (StoreElements Bits32 u b addressing true)) → is_in y (touched (accesses_to Word (f vl_number) a)) ≡ true → Writes w at 1 f m y }
 {}
