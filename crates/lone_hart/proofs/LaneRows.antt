@@ -24,7 +24,7 @@ use Rattle.lone_hart.proofs.Groups.{group-holds, others-stay, size-stays, index-
 low : (n : ℕ) → n % 256 < 256
 low n = omega arith
 
-lowest-bytes : (count n : ℕ) → AreBytes (lowest_bytes count n)
+pub lowest-bytes : (count n : ℕ) → AreBytes (lowest_bytes count n)
 lowest-bytes zero n = none-bytes
 lowest-bytes (suc count) n = more-bytes (n % 256) (lowest_bytes count (n / 256)) (low n) (lowest-bytes count (n / 256))
 
@@ -71,12 +71,12 @@ endian-four (x ∷ y ∷ z ∷ []) l b = let p = b 0 in let q = b 1 in let r = b
 endian-four (x ∷ y ∷ z ∷ w ∷ []) l b = let p = b 0 in let q = b 1 in let r = b 2 in let s = b 3 in omega (arith, p, q, r, s)
 endian-four (x ∷ y ∷ z ∷ w ∷ v ∷ xs) l b = absurd (omega (arith, l))
 
-drop-bytes : (k : ℕ) (xs : List ℕ) → AreBytes xs → AreBytes (drop k xs)
+pub drop-bytes : (k : ℕ) (xs : List ℕ) → AreBytes xs → AreBytes (drop k xs)
 drop-bytes zero xs b = b
 drop-bytes (suc k) [] b = b
 drop-bytes (suc k) (x ∷ xs) b = drop-bytes k xs (λ i. b (suc i))
 
-take-bytes : (k : ℕ) (xs : List ℕ) → AreBytes xs → AreBytes (take k xs)
+pub take-bytes : (k : ℕ) (xs : List ℕ) → AreBytes xs → AreBytes (take k xs)
 take-bytes zero xs b = none-bytes
 take-bytes (suc k) [] b = none-bytes
 take-bytes (suc k) (x ∷ xs) b = more-bytes x (take k xs) (b 0) (take-bytes k xs (λ i. b (suc i)))

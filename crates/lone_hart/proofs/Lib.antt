@@ -10,3 +10,4 @@ pub mod VectorRows
 pub mod Flags
 pub mod MaskRows
 pub mod LaneStores
+pub mod LaneLoads

@@ -131,3 +131,8 @@ pub fn lanes_are_stored()
     ensures memory { (w : World) (f : ℕ → ℕ) (m : List ℕ) → length m ≡ w.size → (g : ℕ) → LanesConfigured f g → (addressing : Addressing) (u b : ℕ) (a : ℕ → ℕ) → IsGroup g u → b < 32 → OffsetsFit g addressing → ((k : ℕ) → k < f vl_number → add 32 (f b) (offset_at f addressing k) ≡ a k) → AllWritable w Word (f vl_number) a → Line w (Vector (StoreElements Bits32 u b addressing true) ∷ []) f m f (stored_lanes m Word (f vl_number) a (λ k. f (lane u k))) }
     ensures writes { (w : World) (f : ℕ → ℕ) (m : List ℕ) → length m ≡ w.size → (g : ℕ) → LanesConfigured f g → (addressing : Addressing) (u b : ℕ) (a : ℕ → ℕ) → IsGroup g u → b < 32 → OffsetsFit g addressing → ((k : ℕ) → k < f vl_number → add 32 (f b) (offset_at f addressing k) ≡ a k) → AllWritable w Word (f vl_number) a → (at y : ℕ) → Says w.text at (Vector (StoreElements Bits32 u b addressing true)) → is_in y (touched (accesses_to Word (f vl_number) a)) ≡ true → Writes w at 1 f m y }
 {}
+
+/// Lanes that are loaded: word after word, a number of bytes apart, or by offsets.
+pub fn lanes_are_loaded()
+    ensures { (w : World) (f : ℕ → ℕ) (m : List ℕ) → length m ≡ w.size → (g : ℕ) → LanesConfigured f g → (addressing : Addressing) (d b : ℕ) (a : ℕ → ℕ) → IsGroup g d → b < 32 → OffsetsFit g addressing → ((k : ℕ) → k < f vl_number → add 32 (f b) (offset_at f addressing k) ≡ a k) → AllReadable w Word (f vl_number) a → Line w (Vector (LoadElements Bits32 d b addressing true) ∷ []) f m (write_lanes f d (f vl_number) (λ k. number_in w.text m Word (a k) % 2 ^ 32)) m }
+{}
