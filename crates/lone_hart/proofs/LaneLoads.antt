@@ -97,8 +97,11 @@ empty : (xs : List ℕ) → length xs ≡ 0 → xs ≡ []
 empty [] e = refl
 empty (x ∷ xs) e = absurd (omega (arith, e))
 
+chain : (p q r s : ℕ) {xs ys : List ℕ} → xs ≡ ys → p ∷ q ∷ r ∷ s ∷ xs ≡ p ∷ q ∷ r ∷ s ∷ ys
+chain p q r s e = ap (λ z. p ∷ q ∷ r ∷ s ∷ z) e
+
 -- what holds of any 16 bytes holds of a list of 16
-sixteen : (P : List ℕ → Type 0) (xs : List ℕ) → length xs ≡ 16 → ((b0 b1 b2 b3 b4 b5 b6 b7 b8 b9 b10 b11 b12 b13 b14 b15 : ℕ) → P (b0 ∷ b1 ∷ b2 ∷ b3 ∷ b4 ∷ b5 ∷ b6 ∷ b7 ∷ b8 ∷ b9 ∷ b10 ∷ b11 ∷ b12 ∷ b13 ∷ b14 ∷ b15 ∷ [])) → P xs
+pub sixteen : (P : List ℕ → Type 0) (xs : List ℕ) → length xs ≡ 16 → ((b0 b1 b2 b3 b4 b5 b6 b7 b8 b9 b10 b11 b12 b13 b14 b15 : ℕ) → P (b0 ∷ b1 ∷ b2 ∷ b3 ∷ b4 ∷ b5 ∷ b6 ∷ b7 ∷ b8 ∷ b9 ∷ b10 ∷ b11 ∷ b12 ∷ b13 ∷ b14 ∷ b15 ∷ [])) → P xs
 sixteen P xs e all =
     let a = four xs (omega (arith, e)) in
     let ea : length xs ≡ suc (suc (suc (suc (length a.rest)))) = ap length a.is in
@@ -109,7 +112,7 @@ sixteen P xs e all =
     let d = four c.rest (omega (arith, e, ea, eb, ec)) in
     let ed : length c.rest ≡ suc (suc (suc (suc (length d.rest)))) = ap length d.is in
     let none : d.rest ≡ [] = empty d.rest (omega (arith, e, ea, eb, ec, ed)) in
-    let whole : xs ≡ a.p ∷ a.q ∷ a.r ∷ a.s ∷ b.p ∷ b.q ∷ b.r ∷ b.s ∷ c.p ∷ c.q ∷ c.r ∷ c.s ∷ d.p ∷ d.q ∷ d.r ∷ d.s ∷ [] = a.is ∙ ap (λ z. a.p ∷ a.q ∷ a.r ∷ a.s ∷ z) (b.is ∙ ap (λ z. b.p ∷ b.q ∷ b.r ∷ b.s ∷ z) (c.is ∙ ap (λ z. c.p ∷ c.q ∷ c.r ∷ c.s ∷ z) (d.is ∙ ap (λ z. d.p ∷ d.q ∷ d.r ∷ d.s ∷ z) none))) in
+    let whole : xs ≡ a.p ∷ a.q ∷ a.r ∷ a.s ∷ b.p ∷ b.q ∷ b.r ∷ b.s ∷ c.p ∷ c.q ∷ c.r ∷ c.s ∷ d.p ∷ d.q ∷ d.r ∷ d.s ∷ [] = a.is ∙ chain a.p a.q a.r a.s (b.is ∙ chain b.p b.q b.r b.s (c.is ∙ chain c.p c.q c.r c.s (d.is ∙ chain d.p d.q d.r d.s none))) in
     subst P (sym whole) (all a.p a.q a.r a.s b.p b.q b.r b.s c.p c.q c.r c.s d.p d.q d.r d.s)
 
 written-length : (xs : List ℕ) (j n : ℕ) → length xs ≡ 16 → j < 4 → length (with_element 32 xs j n) ≡ 16

@@ -11,3 +11,4 @@ pub mod Flags
 pub mod MaskRows
 pub mod LaneStores
 pub mod LaneLoads
+pub mod ByteRows

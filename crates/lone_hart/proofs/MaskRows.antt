@@ -238,20 +238,20 @@ module _ (w : World) (f : ℕ → ℕ) (m : List ℕ) (l : length m ≡ w.size) 
   pub merge-vv : (d a b : ℕ) → IsGroup g d → IsGroup g a → IsGroup g b → Line w (Vector (v.MergeVv d a b) ∷ []) f m (write_lanes f d (f vl_number) (λ k. if f (bit k) == 0 then f (lane a k) else f (lane b k))) m
   merge-vv d a b id ia ib =
       sets w f m l g c (v.MergeVv d a b) d (λ h. merged_by_mask (vectors_of h) (of_group (vectors_of h) b) (of_group (vectors_of h) a)) (λ k. if f (bit k) == 0 then f (lane a k) else f (lane b k)) id
-      refl (off-mask d id) (λ h. refl) (id, (ia, (ib, tt))) refl (λ h. refl) (λ h read. refl)
+      refl (off-mask d id) (λ at h s. refl) (id, (ia, (ib, tt))) refl (λ h. refl) (λ h read. refl)
       (λ at h s. chosen at h _ _ _ _ s (of-group at g f h s c b ib) (of-group at g f h s c a ia))
       (λ at h s k lk. one-of _ _ _ (lane-below at g f h s c a k ia lk) (lane-below at g f h s c b k ib lk))
 
   pub merge-vx : (d a r : ℕ) → IsGroup g d → IsGroup g a → r < 32 → Line w (Vector (v.MergeVx d a r) ∷ []) f m (write_lanes f d (f vl_number) (λ k. if f (bit k) == 0 then f (lane a k) else f r % 2 ^ 32)) m
   merge-vx d a r id ia lr =
       sets w f m l g c (v.MergeVx d a r) d (λ h. merged_by_mask (vectors_of h) (of_scalar (vectors_of h) (register h r)) (of_group (vectors_of h) a)) (λ k. if f (bit k) == 0 then f (lane a k) else f r % 2 ^ 32) id
-      refl (off-mask d id) (λ h. refl) (id, (ia, tt)) refl (λ h. refl) (λ h read. refl)
+      refl (off-mask d id) (λ at h s. refl) (id, (ia, tt)) refl (λ h. refl) (λ h read. refl)
       (λ at h s. chosen at h _ _ _ _ s (of-scalar at g f h s c r lr) (of-group at g f h s c a ia))
       (λ at h s k lk. one-of _ _ _ (lane-below at g f h s c a k ia lk) (rest-below (f r)))
 
   pub merge-vi : (d a : ℕ) (z : ℤ) → IsGroup g d → IsGroup g a → Line w (Vector (v.MergeVi d a z) ∷ []) f m (write_lanes f d (f vl_number) (λ k. if f (bit k) == 0 then f (lane a k) else word.wrapped 32 z)) m
   merge-vi d a z id ia =
       sets w f m l g c (v.MergeVi d a z) d (λ h. merged_by_mask (vectors_of h) (of_immediate (vectors_of h) z) (of_group (vectors_of h) a)) (λ k. if f (bit k) == 0 then f (lane a k) else word.wrapped 32 z) id
-      refl (off-mask d id) (λ h. refl) (id, (ia, tt)) refl (λ h. refl) (λ h read. refl)
+      refl (off-mask d id) (λ at h s. refl) (id, (ia, tt)) refl (λ h. refl) (λ h read. refl)
       (λ at h s. chosen at h _ _ _ _ s (of-immediate at g f h s c z) (of-group at g f h s c a ia))
       (λ at h s k lk. one-of _ _ _ (lane-below at g f h s c a k ia lk) (wrapped-below z))

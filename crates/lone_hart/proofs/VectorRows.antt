@@ -187,7 +187,7 @@ module _ (w : World) (f : ℕ → ℕ) (m : List ℕ) (l : length m ≡ w.size) 
     pub sets : (i : VectorInsn) (d : ℕ) (news : HartState → List ℕ) (new : ℕ → ℕ) → IsGroup g d
         → kind_of (Vector i) ≡ NoAccess
         → overwrites_mask i ≡ false
-        → ((h : HartState) → is_other_width (vectors_of h) (fixed_width i) ≡ false)
+        → ((at : ℕ) (h : HartState) → At at f h → is_other_width (vectors_of h) (fixed_width i) ≡ false)
         → Within (IsGroup g) (groups_in i)
         → moved_in i ≡ None
         → ((h : HartState) → fault (length w.text) w.size (Vector i) h ≡ or_else (cond (is_refused i (vectors_of h)) (Some IllegalInstruction) None) None)
@@ -197,7 +197,7 @@ module _ (w : World) (f : ℕ → ℕ) (m : List ℕ) (l : length m ≡ w.size) 
         → Line w (Vector i ∷ []) f m (write_lanes f d (f vl_number) new) m
     sets i d news new seat none keeps same placed moved is-fault is-after lists small =
         leaves i (write_lanes f d (f vl_number) new) (λ h. advanced (with_vectors h (with_elements (vectors_of h) d true (news h)))) none
-        (λ at h a. untrapped at g f h a c (length w.text) w.size i (is-fault h) (allowed at g f h a c i keeps (same h) placed (ap (is_unfit (vectors_of h)) moved)))
+        (λ at h a. untrapped at g f h a c (length w.text) w.size i (is-fault h) (allowed at g f h a c i keeps (same at h a) placed (ap (is_unfit (vectors_of h)) moved)))
         is-after
         (λ at h low a.
         let p = lists at h a in
@@ -211,7 +211,7 @@ module _ (w : World) (f : ℕ → ℕ) (m : List ℕ) (l : length m ≡ w.size) 
     pub arithmetic-vv : (o : ArithmeticVvOp) (d a b : ℕ) → IsGroup g d → IsGroup g a → IsGroup g b → Line w (Vector (v.ArithmeticVv o d a b true) ∷ []) f m (write_lanes f d (f vl_number) (λ k. op.arithmetic_vv o 32 (f (lane a k)) (f (lane b k)))) m
     arithmetic-vv o d a b id ia ib =
         sets (v.ArithmeticVv o d a b true) d (λ h. zip_with (op.arithmetic_vv o (width (vectors_of h))) (of_group (vectors_of h) a) (of_group (vectors_of h) b)) (λ k. op.arithmetic_vv o 32 (f (lane a k)) (f (lane b k))) id
-        refl refl (λ h. refl) (id, (ia, (ib, tt))) refl (λ h. refl) (λ h read. refl)
+        refl refl (λ at h s. refl) (id, (ia, (ib, tt))) refl (λ h. refl) (λ h read. refl)
         (λ at h s. subst (λ x. Lists (4 * g) (zip_with (op.arithmetic_vv o x) (of_group (vectors_of h) a) (of_group (vectors_of h) b)) (λ k. op.arithmetic_vv o 32 (f (lane a k)) (f (lane b k)))) (sym (width-is at g f h s c))
         (zipped (op.arithmetic_vv o 32) (4 * g) _ _ _ _ (of-group at g f h s c a ia) (of-group at g f h s c b ib)))
         (λ at h s k lk. vv-below o _ _ (lane-below at g f h s c a k ia lk) (lane-below at g f h s c b k ib lk))
@@ -219,7 +219,7 @@ module _ (w : World) (f : ℕ → ℕ) (m : List ℕ) (l : length m ≡ w.size) 
     pub multiply-vv : (o : MultiplyOp) (d a b : ℕ) → IsGroup g d → IsGroup g a → IsGroup g b → Line w (Vector (v.MultiplyVv o d a b true) ∷ []) f m (write_lanes f d (f vl_number) (λ k. op.multiply o 32 (f (lane a k)) (f (lane b k)))) m
     multiply-vv o d a b id ia ib =
         sets (v.MultiplyVv o d a b true) d (λ h. zip_with (op.multiply o (width (vectors_of h))) (of_group (vectors_of h) a) (of_group (vectors_of h) b)) (λ k. op.multiply o 32 (f (lane a k)) (f (lane b k))) id
-        refl refl (λ h. refl) (id, (ia, (ib, tt))) refl (λ h. refl) (λ h read. refl)
+        refl refl (λ at h s. refl) (id, (ia, (ib, tt))) refl (λ h. refl) (λ h read. refl)
         (λ at h s. subst (λ x. Lists (4 * g) (zip_with (op.multiply o x) (of_group (vectors_of h) a) (of_group (vectors_of h) b)) (λ k. op.multiply o 32 (f (lane a k)) (f (lane b k)))) (sym (width-is at g f h s c))
         (zipped (op.multiply o 32) (4 * g) _ _ _ _ (of-group at g f h s c a ia) (of-group at g f h s c b ib)))
         (λ at h s k lk. multiply-below o _ _ (lane-below at g f h s c a k ia lk) (lane-below at g f h s c b k ib lk))
@@ -227,7 +227,7 @@ module _ (w : World) (f : ℕ → ℕ) (m : List ℕ) (l : length m ≡ w.size) 
     pub arithmetic-vx : (o : ArithmeticVxOp) (d a r : ℕ) → IsGroup g d → IsGroup g a → r < 32 → Line w (Vector (v.ArithmeticVx o d a r true) ∷ []) f m (write_lanes f d (f vl_number) (λ k. op.arithmetic_vx o 32 (f (lane a k)) (f r % 2 ^ 32))) m
     arithmetic-vx o d a r id ia lr =
         sets (v.ArithmeticVx o d a r true) d (λ h. zip_with (op.arithmetic_vx o (width (vectors_of h))) (of_group (vectors_of h) a) (of_scalar (vectors_of h) (register h r))) (λ k. op.arithmetic_vx o 32 (f (lane a k)) (f r % 2 ^ 32)) id
-        refl refl (λ h. refl) (id, (ia, tt)) refl (λ h. refl) (λ h read. refl)
+        refl refl (λ at h s. refl) (id, (ia, tt)) refl (λ h. refl) (λ h read. refl)
         (λ at h s. subst (λ x. Lists (4 * g) (zip_with (op.arithmetic_vx o x) (of_group (vectors_of h) a) (of_scalar (vectors_of h) (register h r))) (λ k. op.arithmetic_vx o 32 (f (lane a k)) (f r % 2 ^ 32))) (sym (width-is at g f h s c))
         (zipped (op.arithmetic_vx o 32) (4 * g) _ _ _ _ (of-group at g f h s c a ia) (of-scalar at g f h s c r lr)))
         (λ at h s k lk. vx-below o _ _ (lane-below at g f h s c a k ia lk) (rest-below (f r)))
@@ -235,7 +235,7 @@ module _ (w : World) (f : ℕ → ℕ) (m : List ℕ) (l : length m ≡ w.size) 
     pub multiply-vx : (o : MultiplyOp) (d a r : ℕ) → IsGroup g d → IsGroup g a → r < 32 → Line w (Vector (v.MultiplyVx o d a r true) ∷ []) f m (write_lanes f d (f vl_number) (λ k. op.multiply o 32 (f (lane a k)) (f r % 2 ^ 32))) m
     multiply-vx o d a r id ia lr =
         sets (v.MultiplyVx o d a r true) d (λ h. zip_with (op.multiply o (width (vectors_of h))) (of_group (vectors_of h) a) (of_scalar (vectors_of h) (register h r))) (λ k. op.multiply o 32 (f (lane a k)) (f r % 2 ^ 32)) id
-        refl refl (λ h. refl) (id, (ia, tt)) refl (λ h. refl) (λ h read. refl)
+        refl refl (λ at h s. refl) (id, (ia, tt)) refl (λ h. refl) (λ h read. refl)
         (λ at h s. subst (λ x. Lists (4 * g) (zip_with (op.multiply o x) (of_group (vectors_of h) a) (of_scalar (vectors_of h) (register h r))) (λ k. op.multiply o 32 (f (lane a k)) (f r % 2 ^ 32))) (sym (width-is at g f h s c))
         (zipped (op.multiply o 32) (4 * g) _ _ _ _ (of-group at g f h s c a ia) (of-scalar at g f h s c r lr)))
         (λ at h s k lk. multiply-below o _ _ (lane-below at g f h s c a k ia lk) (rest-below (f r)))
@@ -243,7 +243,7 @@ module _ (w : World) (f : ℕ → ℕ) (m : List ℕ) (l : length m ≡ w.size) 
     pub arithmetic-vi : (o : ArithmeticViOp) (d a : ℕ) (z : ℤ) → IsGroup g d → IsGroup g a → Line w (Vector (v.ArithmeticVi o d a z true) ∷ []) f m (write_lanes f d (f vl_number) (λ k. op.arithmetic_vi o 32 (f (lane a k)) (word.wrapped 32 z))) m
     arithmetic-vi o d a z id ia =
         sets (v.ArithmeticVi o d a z true) d (λ h. zip_with (op.arithmetic_vi o (width (vectors_of h))) (of_group (vectors_of h) a) (of_immediate (vectors_of h) z)) (λ k. op.arithmetic_vi o 32 (f (lane a k)) (word.wrapped 32 z)) id
-        refl refl (λ h. refl) (id, (ia, tt)) refl (λ h. refl) (λ h read. refl)
+        refl refl (λ at h s. refl) (id, (ia, tt)) refl (λ h. refl) (λ h read. refl)
         (λ at h s. subst (λ x. Lists (4 * g) (zip_with (op.arithmetic_vi o x) (of_group (vectors_of h) a) (of_immediate (vectors_of h) z)) (λ k. op.arithmetic_vi o 32 (f (lane a k)) (word.wrapped 32 z))) (sym (width-is at g f h s c))
         (zipped (op.arithmetic_vi o 32) (4 * g) _ _ _ _ (of-group at g f h s c a ia) (of-immediate at g f h s c z)))
         (λ at h s k lk. vi-below o _ _ (lane-below at g f h s c a k ia lk) (wrapped-below z))
@@ -251,7 +251,7 @@ module _ (w : World) (f : ℕ → ℕ) (m : List ℕ) (l : length m ≡ w.size) 
     pub shift-vi : (o : ShiftViOp) (d a n : ℕ) → IsGroup g d → IsGroup g a → Line w (Vector (v.ShiftVi o d a n true) ∷ []) f m (write_lanes f d (f vl_number) (λ k. op.shift_vi o 32 (f (lane a k)) n)) m
     shift-vi o d a n id ia =
         sets (v.ShiftVi o d a n true) d (λ h. zip_with (op.shift_vi o (width (vectors_of h))) (of_group (vectors_of h) a) (replicate (count (vectors_of h)) n)) (λ k. op.shift_vi o 32 (f (lane a k)) n) id
-        refl refl (λ h. refl) (id, (ia, tt)) refl (λ h. refl) (λ h read. refl)
+        refl refl (λ at h s. refl) (id, (ia, tt)) refl (λ h. refl) (λ h read. refl)
         (λ at h s. subst (λ x. Lists (4 * g) (zip_with (op.shift_vi o x) (of_group (vectors_of h) a) (replicate (count (vectors_of h)) n)) (λ k. op.shift_vi o 32 (f (lane a k)) n)) (sym (width-is at g f h s c))
         (zipped (op.shift_vi o 32) (4 * g) _ _ _ _ (of-group at g f h s c a ia) (alike (4 * g) (count (vectors_of h)) n (count-is at g f h s c))))
         (λ at h s k lk. shift-below o _ _ (lane-below at g f h s c a k ia lk))
@@ -261,25 +261,25 @@ module _ (w : World) (f : ℕ → ℕ) (m : List ℕ) (l : length m ≡ w.size) 
     pub move-vv : (d a : ℕ) → IsGroup g d → IsGroup g a → Line w (Vector (v.MoveVv d a) ∷ []) f m (write_lanes f d (f vl_number) (λ k. f (lane a k))) m
     move-vv d a id ia =
         sets (v.MoveVv d a) d (λ h. of_group (vectors_of h) a) (λ k. f (lane a k)) id
-        refl refl (λ h. refl) (id, (ia, tt)) refl (λ h. refl) (λ h read. refl)
+        refl refl (λ at h s. refl) (id, (ia, tt)) refl (λ h. refl) (λ h read. refl)
         (λ at h s. of-group at g f h s c a ia) (λ at h s k lk. lane-below at g f h s c a k ia lk)
 
     pub move-vx : (d r : ℕ) → IsGroup g d → r < 32 → Line w (Vector (v.MoveVx d r) ∷ []) f m (write_lanes f d (f vl_number) (λ k. f r % 2 ^ 32)) m
     move-vx d r id lr =
         sets (v.MoveVx d r) d (λ h. of_scalar (vectors_of h) (register h r)) (λ k. f r % 2 ^ 32) id
-        refl refl (λ h. refl) (id, tt) refl (λ h. refl) (λ h read. refl)
+        refl refl (λ at h s. refl) (id, tt) refl (λ h. refl) (λ h read. refl)
         (λ at h s. of-scalar at g f h s c r lr) (λ at h s k lk. rest-below (f r))
 
     pub move-vi : (d : ℕ) (z : ℤ) → IsGroup g d → Line w (Vector (v.MoveVi d z) ∷ []) f m (write_lanes f d (f vl_number) (λ k. word.wrapped 32 z)) m
     move-vi d z id =
         sets (v.MoveVi d z) d (λ h. of_immediate (vectors_of h) z) (λ k. word.wrapped 32 z) id
-        refl refl (λ h. refl) (id, tt) refl (λ h. refl) (λ h read. refl)
+        refl refl (λ at h s. refl) (id, tt) refl (λ h. refl) (λ h read. refl)
         (λ at h s. of-immediate at g f h s c z) (λ at h s k lk. wrapped-below z)
 
     pub lane-numbers : (d : ℕ) → IsGroup g d → Line w (Vector (v.ElementNumbers d true) ∷ []) f m (write_lanes f d (f vl_number) (λ k. k)) m
     lane-numbers d id =
         sets (v.ElementNumbers d true) d (λ h. range_with_len 0 (count (vectors_of h))) (λ k. k) id
-        refl refl (λ h. refl) (id, tt) refl (λ h. refl) (λ h read. refl)
+        refl refl (λ at h s. refl) (id, tt) refl (λ h. refl) (λ h read. refl)
         (λ at h s. subst (λ n. Lists (4 * g) (range_with_len 0 n) (λ k. k)) (sym (count-is at g f h s c)) (record {
           size = length-range_with_len 0 (4 * g);
           get = λ k lk. get_or-range_with_len 0 (4 * g) k 0 lk ∙ (let e : 0 + k ≡ k = omega arith in e);

@@ -1,6 +1,6 @@
 //! Laws of a hart that runs alone, each the contract of a function that does nothing.
 
-ghost use Rattle.std.specs.Prelude.{◌≡◌, ◌==◌, if◌then◌else◌, ◌<◌, ◌≤◌, ◌+◌, ◌*◌, ◌%◌, ◌^◌, ◌++◌, ◌∷◌, [], ℕ, suc, ℤ, List, Some, length, slice_get, min, true, false};
+ghost use Rattle.std.specs.Prelude.{◌≡◌, ◌==◌, if◌then◌else◌, ◌<◌, ◌≤◌, ◌+◌, ◌*◌, ◌/◌, ◌%◌, ◌^◌, ◌++◌, ◌∷◌, [], ℕ, suc, ℤ, List, Some, length, slice_get, min, true, false};
 ghost use Rattle.rv_insn.specs.declared.instructions.Insn.{Insn};
 ghost use Rattle.rv_insn.specs.declared.instructions.Insn.TheVariants.{Lui, AluImm, Shift, Alu, Load, Store, Jal, Branch, Vector};
 ghost use Rattle.rv_insn.specs.declared.vector_instructions.VectorInsn.TheVariants.{Vsetvli, Vsetivli, ArithmeticVv, ArithmeticVx, ArithmeticVi, ShiftVi, MultiplyVv, MultiplyVx, MoveVv, MoveVx, MoveVi, ElementNumbers, CompareVv, CompareVx, CompareVi, MergeVv, MergeVx, MergeVi, LoadElements, StoreElements, ExtendBytes};
@@ -135,4 +135,9 @@ pub fn lanes_are_stored()
 /// Lanes that are loaded: word after word, a number of bytes apart, or by offsets.
 pub fn lanes_are_loaded()
     ensures { (w : World) (f : ℕ → ℕ) (m : List ℕ) → length m ≡ w.size → (g : ℕ) → LanesConfigured f g → (addressing : Addressing) (d b : ℕ) (a : ℕ → ℕ) → IsGroup g d → b < 32 → OffsetsFit g addressing → ((k : ℕ) → k < f vl_number → add 32 (f b) (offset_at f addressing k) ≡ a k) → AllReadable w Word (f vl_number) a → Line w (Vector (LoadElements Bits32 d b addressing true) ∷ []) f m (write_lanes f d (f vl_number) (λ k. number_in w.text m Word (a k) % 2 ^ 32)) m }
+{}
+
+/// Bytes of a register that become lanes: byte k is a part of its lane k / 4.
+pub fn bytes_are_extended()
+    ensures { (w : World) (f : ℕ → ℕ) (m : List ℕ) → length m ≡ w.size → (g : ℕ) → LanesConfigured f g → (d u : ℕ) → IsGroup g d → 1 ≤ u → u < 32 → Line w (Vector (ExtendBytes d u true) ∷ []) f m (write_lanes f d (f vl_number) (λ k. f (lane u (k / 4)) / 256 ^ (k % 4) % 256)) m }
 {}

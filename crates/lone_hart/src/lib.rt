@@ -6,13 +6,14 @@
 //! (`specs/Paths.antt`): from one address, numbers and memory to others, whatever stands around.
 //!
 //! - [`laws`]: words that stand in a text, paths one after the other, and what each kind of scalar
-//!   instruction leaves.
+//!   instruction leaves, and each kind of vector row on lanes of 32 bits, in groups of up to four registers.
 #![tactic(auto)]
 
 pub mod laws;
 
 pub use crate::laws::{
-    groups_hold_lanes, jumps_lead_on, lanes_are_chosen, lanes_are_compared, lanes_are_copied,
-    lanes_are_given, lanes_are_loaded, lanes_are_paired, lanes_are_stored, lanes_meet_a_number,
-    lengths_are_set, numbers_are_moved, paths_follow, registers_are_given, words_stand,
+    bytes_are_extended, groups_hold_lanes, jumps_lead_on, lanes_are_chosen, lanes_are_compared,
+    lanes_are_copied, lanes_are_given, lanes_are_loaded, lanes_are_paired, lanes_are_stored,
+    lanes_meet_a_number, lengths_are_set, numbers_are_moved, paths_follow, registers_are_given,
+    words_stand,
 };
