@@ -78,42 +78,26 @@ module _ (b0 b1 b2 b3 b4 b5 b6 b7 b8 b9 b10 b11 b12 b13 b14 b15 : ℕ) where
   sixteen-old (suc (suc (suc zero))) (suc (suc (suc (suc k)))) n l q e = absurd (omega (arith, q))
   sixteen-old (suc (suc (suc (suc j)))) k n l q e = absurd (omega (arith, l))
 
-record Four (xs : List ℕ) : Type 0 where
-  p : ℕ
-  q : ℕ
-  r : ℕ
-  s : ℕ
-  rest : List ℕ
-  is : xs ≡ p ∷ q ∷ r ∷ s ∷ rest
-
-four : (xs : List ℕ) → 4 ≤ length xs → Four xs
-four [] l = absurd (omega (arith, l))
-four (a ∷ []) l = absurd (omega (arith, l))
-four (a ∷ b ∷ []) l = absurd (omega (arith, l))
-four (a ∷ b ∷ c ∷ []) l = absurd (omega (arith, l))
-four (a ∷ b ∷ c ∷ d ∷ xs) l = record { p = a; q = b; r = c; s = d; rest = xs; is = refl }
-
 empty : (xs : List ℕ) → length xs ≡ 0 → xs ≡ []
 empty [] e = refl
 empty (x ∷ xs) e = absurd (omega (arith, e))
 
-chain : (p q r s : ℕ) {xs ys : List ℕ} → xs ≡ ys → p ∷ q ∷ r ∷ s ∷ xs ≡ p ∷ q ∷ r ∷ s ∷ ys
-chain p q r s e = ap (λ z. p ∷ q ∷ r ∷ s ∷ z) e
+-- what holds of four numbers and any so many others holds of a list that is four longer
+peeled : (P : List ℕ → Type 0) (n : ℕ) (xs : List ℕ) → length xs ≡ n + 4 → ((p q r s : ℕ) (rest : List ℕ) → length rest ≡ n → P (p ∷ q ∷ r ∷ s ∷ rest)) → P xs
+peeled P n [] e all = absurd (omega (arith, e))
+peeled P n (a ∷ []) e all = absurd (omega (arith, e))
+peeled P n (a ∷ b ∷ []) e all = absurd (omega (arith, e))
+peeled P n (a ∷ b ∷ c ∷ []) e all = absurd (omega (arith, e))
+peeled P n (a ∷ b ∷ c ∷ d ∷ xs) e all = all a b c d xs (omega (arith, e))
 
 -- what holds of any 16 bytes holds of a list of 16
 pub sixteen : (P : List ℕ → Type 0) (xs : List ℕ) → length xs ≡ 16 → ((b0 b1 b2 b3 b4 b5 b6 b7 b8 b9 b10 b11 b12 b13 b14 b15 : ℕ) → P (b0 ∷ b1 ∷ b2 ∷ b3 ∷ b4 ∷ b5 ∷ b6 ∷ b7 ∷ b8 ∷ b9 ∷ b10 ∷ b11 ∷ b12 ∷ b13 ∷ b14 ∷ b15 ∷ [])) → P xs
 sixteen P xs e all =
-    let a = four xs (omega (arith, e)) in
-    let ea : length xs ≡ suc (suc (suc (suc (length a.rest)))) = ap length a.is in
-    let b = four a.rest (omega (arith, e, ea)) in
-    let eb : length a.rest ≡ suc (suc (suc (suc (length b.rest)))) = ap length b.is in
-    let c = four b.rest (omega (arith, e, ea, eb)) in
-    let ec : length b.rest ≡ suc (suc (suc (suc (length c.rest)))) = ap length c.is in
-    let d = four c.rest (omega (arith, e, ea, eb, ec)) in
-    let ed : length c.rest ≡ suc (suc (suc (suc (length d.rest)))) = ap length d.is in
-    let none : d.rest ≡ [] = empty d.rest (omega (arith, e, ea, eb, ec, ed)) in
-    let whole : xs ≡ a.p ∷ a.q ∷ a.r ∷ a.s ∷ b.p ∷ b.q ∷ b.r ∷ b.s ∷ c.p ∷ c.q ∷ c.r ∷ c.s ∷ d.p ∷ d.q ∷ d.r ∷ d.s ∷ [] = a.is ∙ chain a.p a.q a.r a.s (b.is ∙ chain b.p b.q b.r b.s (c.is ∙ chain c.p c.q c.r c.s (d.is ∙ chain d.p d.q d.r d.s none))) in
-    subst P (sym whole) (all a.p a.q a.r a.s b.p b.q b.r b.s c.p c.q c.r c.s d.p d.q d.r d.s)
+    peeled P 12 xs e (λ b0 b1 b2 b3 ys l.
+    peeled (λ z. P (b0 ∷ b1 ∷ b2 ∷ b3 ∷ z)) 8 ys l (λ b4 b5 b6 b7 ys' l'.
+    peeled (λ z. P (b0 ∷ b1 ∷ b2 ∷ b3 ∷ b4 ∷ b5 ∷ b6 ∷ b7 ∷ z)) 4 ys' l' (λ b8 b9 b10 b11 ys'' l''.
+    peeled (λ z. P (b0 ∷ b1 ∷ b2 ∷ b3 ∷ b4 ∷ b5 ∷ b6 ∷ b7 ∷ b8 ∷ b9 ∷ b10 ∷ b11 ∷ z)) 0 ys'' l'' (λ b12 b13 b14 b15 none l3.
+    subst (λ z. P (b0 ∷ b1 ∷ b2 ∷ b3 ∷ b4 ∷ b5 ∷ b6 ∷ b7 ∷ b8 ∷ b9 ∷ b10 ∷ b11 ∷ b12 ∷ b13 ∷ b14 ∷ b15 ∷ z)) (sym (empty none l3)) (all b0 b1 b2 b3 b4 b5 b6 b7 b8 b9 b10 b11 b12 b13 b14 b15)))))
 
 written-length : (xs : List ℕ) (j n : ℕ) → length xs ≡ 16 → j < 4 → length (with_element 32 xs j n) ≡ 16
 written-length xs j n e l = sixteen (λ z. length (with_element 32 z j n) ≡ 16) xs e (λ b0 b1 b2 b3 b4 b5 b6 b7 b8 b9 b10 b11 b12 b13 b14 b15. sixteen-length b0 b1 b2 b3 b4 b5 b6 b7 b8 b9 b10 b11 b12 b13 b14 b15 j n l)
