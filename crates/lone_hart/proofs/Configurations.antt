@@ -1,5 +1,5 @@
 -- Configurations of the vector unit.
-use Rattle.std.proofs.Common.{◌≡◌, ℕ, zero, suc, ◌+◌, ◌%◌, ◌^◌, ◌<◌, ◌≤◌, List, [], ◌∷◌, length, Some, None, true, false, refl, ap, ◌∙◌, sym, subst, arith}
+use Rattle.std.proofs.Common.{◌≡◌, ℕ, zero, suc, ◌+◌, ◌*◌, ◌/◌, ◌%◌, ◌^◌, ◌<◌, ◌≤◌, List, [], ◌∷◌, length, Some, None, true, false, refl, ap, ◌∙◌, sym, subst, arith}
 use Rattle.std.specs.Prelude.{◌≢◌, ◌==◌, not, min, cond}
 use Rattle.std.proofs.lemmas.Bool.Decides.{nat_tests}
 use Rattle.rv_insn.specs.declared.outcomes.Trap.TheVariants.{IllegalInstruction}
@@ -10,10 +10,10 @@ use Rattle.rv_insn.specs.declared.instructions.Insn.TheVariants.{Vector}
 use Rattle.rv_insn.specs.declared.vector_instructions.VectorInsn.TheVariants.{Vsetvli, Vsetivli}
 use Rattle.hart_core.specs.HartState.{HartState, register, vectors_of, with_vectors, given}
 use Rattle.hart_core.specs.VectorRows.{configured_by}
-use Rattle.vector_unit.specs.VectorState.{Vectors, is_supported, most_elements, asked_by, is_illegal_configuration, configured}
+use Rattle.vector_unit.specs.VectorState.{Vectors, width_of, group_of, is_supported, most_elements, asked_by, is_illegal_configuration, configured}
 use Rattle.vector_unit.specs.declared.configuration.Asked.TheVariants.{AtMost, AsBefore}
 use Rattle.lone_hart.specs.Alone.{World}
-use Rattle.lone_hart.specs.Paths.{lane, bit, update, At, Comes, Line, configure}
+use Rattle.lone_hart.specs.Paths.{lane, bit, update, At, Comes, Line, configure, LanesConfigured}
 use Rattle.lone_hart.proofs.Rules.{in-front}
 use Rattle.lone_hart.proofs.Paths.{spot, update-same, update-other}
 use Rattle.lone_hart.proofs.Rows.{keeps-none}
@@ -67,3 +67,18 @@ module _ (w : World) (f : ℕ → ℕ) (m : List ℕ) (l : length m ≡ w.size) 
       ap (λ c. given (with_vectors h c) 0 c.vl) (configured-is (vectors_of h) vtype (register h (suc b)) ok ∙ ap (λ r. record (vectors_of h) { vl = min r (most_elements vtype); vtype = vtype }) (a.same (suc b) high)) in
       in-front w (Comes (at + 4) (configure f n vtype) m) 0 at (Vector (Vsetvli 0 (suc b) vtype)) h m l a.running a.pc s.0 (never-illegal (length w.text) w.size b vtype h) tt tt (keeps-none w)
       (subst (λ x. Comes (at + 4) (configure f n vtype) m x m) (sym (ap (configured_by h 0 vtype) (asked-is b (register h (suc b))) ∙ e)) (at-configured at n vtype f h (spot w.text (at + 4) [] s.1).low a, refl))
+
+-- a supported configuration of lanes of 32 bits is what rows on lanes ask for
+pub configured-lanes : (f : ℕ → ℕ) (n vtype : ℕ) → is_supported vtype ≡ true → width_of vtype ≡ 32 → n ≤ most_elements vtype → LanesConfigured (configure f n vtype) (group_of vtype)
+configured-lanes f n vtype ok wide few =
+    let g = group_of vtype in
+    let e : configure f n vtype 33 ≡ vtype = update-same (update f 32 n) 33 vtype in
+    let el : configure f n vtype 32 ≡ n = update-other (update f 32 n) 33 vtype 32 (λ q. omega (arith, q)) ∙ update-same f 32 n in
+    let most : most_elements vtype ≡ 4 * g = ap (λ x. 128 * g / x) wide ∙ (let q : 128 * g / 32 ≡ 4 * g = omega arith in q) in
+    record {
+      supported = ap is_supported e ∙ ok;
+      width = ap width_of e ∙ wide;
+      group = ap group_of e;
+      most = ap most_elements e ∙ most;
+      fits = omega (arith, el, few, most);
+    }

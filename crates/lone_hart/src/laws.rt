@@ -17,7 +17,7 @@ ghost use Rattle.rv_insn.specs.declared.vector_operations.ShiftViOp.{ShiftViOp};
 ghost use Rattle.rv_insn.specs.declared.vector_operations.MultiplyOp.{MultiplyOp};
 ghost use Rattle.vector_unit.specs.Operations.{arithmetic_vv, arithmetic_vx, arithmetic_vi, shift_vi, multiply, compare_vv, compare_vx, compare_vi};
 ghost use Rattle.lanes.specs.Words.{wrapped, add};
-ghost use Rattle.vector_unit.specs.VectorState.{is_supported, most_elements};
+ghost use Rattle.vector_unit.specs.VectorState.{is_supported, most_elements, width_of, group_of};
 ghost use Rattle.rv_insn.specs.declared.operations.AluImmOp.{AluImmOp};
 ghost use Rattle.rv_insn.specs.declared.operations.ShiftOp.{ShiftOp};
 ghost use Rattle.rv_insn.specs.declared.operations.AluOp.{AluOp};
@@ -75,6 +75,7 @@ pub fn jumps_lead_on()
 pub fn lengths_are_set()
     ensures at { (w : World) (f : ℕ → ℕ) (m : List ℕ) → length m ≡ w.size → (count vtype : ℕ) → is_supported vtype ≡ true → Line w (Vector (Vsetivli 0 count vtype) ∷ []) f m (configure f (min count (most_elements vtype)) vtype) m }
     ensures by { (w : World) (f : ℕ → ℕ) (m : List ℕ) → length m ≡ w.size → (b vtype : ℕ) → 1 ≤ b → b < 32 → is_supported vtype ≡ true → Line w (Vector (Vsetvli 0 b vtype) ∷ []) f m (configure f (min (f b) (most_elements vtype)) vtype) m }
+    ensures lanes { (f : ℕ → ℕ) (n vtype : ℕ) → is_supported vtype ≡ true → width_of vtype ≡ 32 → n ≤ most_elements vtype → LanesConfigured (configure f n vtype) (group_of vtype) }
 {}
 
 /// A group of vector registers holds the numbers of 32 bits that were written to it; all others stay.

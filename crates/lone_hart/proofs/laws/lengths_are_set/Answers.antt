@@ -1,4 +1,4 @@
-use Rattle.lone_hart.proofs.Configurations.{configure-at, configure-by}
+use Rattle.lone_hart.proofs.Configurations.{configure-at, configure-by, configured-lanes}
 use Rattle.lone_hart.proofs.laws.lengths_are_set.Goals as goal
 
 pub returns-clause-at : goal.returns-clause-at
@@ -6,3 +6,6 @@ returns-clause-at c = configure-at
 
 pub returns-clause-by : goal.returns-clause-by
 returns-clause-by c = configure-by
+
+pub returns-clause-lanes : goal.returns-clause-lanes
+returns-clause-lanes c = configured-lanes
