@@ -53,8 +53,8 @@ refusal_of alloc algorithm schedule = by_algorithm schedule (parsed alloc algori
 abbrev pub program_of : Places → List Phase → List Insn
 program_of places phases = program 0 (parts_from places 0 phases)
 
--- The phases of a pipeline under an accepted schedule have more words than a machine's text may have. (No accepted texts are known of which
--- they have, but that none have isn't proved.)
+-- Phases of a pipeline under an accepted schedule have more words than a machine's text may have. (They are known by what they do, which
+-- bounds no size: needlessly long ones may be too long where others aren't. No accepted texts are known for which those of `lower` are.)
 pub record HasLongPhases (pipeline : Pipeline) (schedule : Schedule) : Type 0 where
   pub boxes : Boxes
   pub inferred_is : inferred pipeline schedule ≡ Ok boxes

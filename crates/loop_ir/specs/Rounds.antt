@@ -1,7 +1,8 @@
 -- Vectorized loops whose rounds may be done at once.
 --
--- Vector code loads for all rounds of a loop before it stores for any. So it does what the loop does where each round stores once at most, and
--- no round loads a point at which an earlier round of the same run of the loop stores.
+-- Vector code loads for all rounds of a loop before it stores for any. What it asks for is that each round stores once at most, and that no
+-- round loads a point at which an earlier round of the same run of the loop stores. That rounds at once then leave what rounds in turn do is not
+-- a law yet.
 -- This project's own.
 use Rattle.std.specs.Prelude.{◌≡◌, ℕ, ◌==◌, ◌&&◌, ◌||◌, nat_lt, not, if◌then◌else◌, Bool, true, false}
 use Rattle.halide_pipeline.specs.declared.expressions.Source.{Source}
