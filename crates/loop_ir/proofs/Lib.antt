@@ -1,3 +1,4 @@
+pub mod AtOnce
 pub mod Depths
 pub mod Folds
 pub mod Loads

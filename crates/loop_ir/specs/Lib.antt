@@ -1,3 +1,4 @@
+pub mod AtOnce
 pub mod Buffers
 pub mod Counters
 pub mod Depths

@@ -1,5 +1,6 @@
 //! Laws of the definitions, each the contract of a function that does nothing.
 
+ghost use Rattle.loop_ir.specs.AtOnce.{RoundsAtOnceDoWhatTurnsDo};
 ghost use Rattle.loop_ir.specs.Expressions.{SeesValues, ValuesDependOnLoads};
 ghost use Rattle.loop_ir.specs.Rounds.{RoundsTouchWhatIsSound};
 ghost use Rattle.loop_ir.specs.Soundness.{SoundStatementsWriteWhatIsThere};
@@ -38,4 +39,9 @@ pub fn other_points_stay()
 /// What is looked at of a statement to see whether rounds may be done at once is what soundness looks at.
 pub fn rounds_touch_what_is_sound()
     ensures { RoundsTouchWhatIsSound }
+{}
+
+/// Rounds of one store at most, of which none loads what an earlier one stores, leave at once what they leave in turn.
+pub fn rounds_at_once_do_what_turns_do()
+    ensures { RoundsAtOnceDoWhatTurnsDo }
 {}

@@ -1,0 +1,49 @@
+-- What rounds of a loop do at once: all load from buffers as they were before the first, and then store, in the order of rounds.
+--
+-- A round is a statement that stores once at most, without a loop: a store, behind the values of split loops and their guards.
+-- This project's own.
+use Rattle.std.specs.Prelude.{◌≡◌, ℕ, nat_lt, if◌then◌else◌, true, Option, Some, None}
+use Rattle.halide_meaning.specs.Pixel.{Planes, Reads, reads_of}
+use Rattle.loop_ir.specs.declared.statements.Stmt.{Stmt, fold-Stmt}
+use Rattle.loop_ir.specs.declared.statements.Stmt.TheOpen.{Stmt-F}
+use Rattle.loop_ir.specs.declared.statements.Stmt.TheOpen as layer
+use Rattle.loop_ir.specs.Buffers.{Points, put}
+use Rattle.loop_ir.specs.Counters.{Values, with}
+use Rattle.loop_ir.specs.Expressions.{value}
+use Rattle.loop_ir.specs.Rounds.{rounds, are_apart}
+use Rattle.loop_ir.specs.Running.{turns, whole_value, run}
+
+-- a pixel that is stored, and where
+pub record Effect : Type 0 where
+  pub func : ℕ
+  pub x : ℕ
+  pub y : ℕ
+  pub pixel : ℕ
+
+abbrev pub effect_at : Reads → Stmt-F (Values → Option Effect) → Values → Option Effect
+effect_at reads (layer.Store store) values =
+    Some (record { func = store.func; x = value reads values store.x; y = value reads values store.y; pixel = value reads values store.value })
+effect_at reads (layer.Sequence first second) values = None
+effect_at reads (layer.For counter count kind body) values = None
+effect_at reads (layer.Bind counter whole extent body) values =
+    if nat_lt (whole_value whole values) extent then body (with counter (whole_value whole values) values) else None
+
+-- what one round stores where loads are answered so; none where a guard forbids it
+unfoldable pub effect : Reads → Stmt → Values → Option Effect
+effect reads statement = fold-Stmt (Values → Option Effect) (effect_at reads) statement
+
+abbrev pub put_effect : Points → Option Effect → Planes → Planes
+put_effect points None funcs = funcs
+put_effect points (Some own) funcs = put points own.func own.x own.y own.pixel funcs
+
+-- so many rounds, of which each has its own values of counters
+abbrev pub at_once : Points → Planes → Stmt → (ℕ → Values) → ℕ → Planes → Planes
+at_once points inputs body at count funcs = turns count (λ round. put_effect points (effect (reads_of inputs funcs) body (at round))) funcs
+
+-- ---- laws
+
+-- Rounds of one store at most, of which none loads a point at which an earlier one stores, leave at once what they leave in turn.
+abbrev pub RoundsAtOnceDoWhatTurnsDo : Type 0
+RoundsAtOnceDoWhatTurnsDo = (points : Points) (inputs : Planes) (body : Stmt) (at : ℕ → Values) (count : ℕ) (funcs : Planes)
+    → (rounds (reads_of inputs funcs) body).is_one_store ≡ true → are_apart (rounds (reads_of inputs funcs) body) at count ≡ true
+    → turns count (λ turn. run points inputs body (at turn)) funcs ≡ at_once points inputs body at count funcs
