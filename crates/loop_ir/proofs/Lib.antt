@@ -11,3 +11,4 @@ pub mod Traces
 pub mod Trees
 pub mod Turns
 pub mod Rounds
+pub mod Runs

@@ -8,3 +8,4 @@ pub mod Running
 pub mod Soundness
 pub mod Stores
 pub mod Rounds
+pub mod Runs

@@ -3,6 +3,7 @@
 ghost use Rattle.loop_ir.specs.AtOnce.{RoundsAtOnceDoWhatTurnsDo};
 ghost use Rattle.loop_ir.specs.Expressions.{SeesValues, ValuesDependOnLoads};
 ghost use Rattle.loop_ir.specs.Rounds.{RoundsTouchWhatIsSound};
+ghost use Rattle.loop_ir.specs.Runs.{OthersStoreInNoRun, RunsMissWhatIsSound};
 ghost use Rattle.loop_ir.specs.Soundness.{SoundStatementsWriteWhatIsThere};
 ghost use Rattle.loop_ir.specs.Stores.{OtherPointsStay, StoredStaysStored, TracesFollowRuns};
 
@@ -44,4 +45,14 @@ pub fn rounds_touch_what_is_sound()
 /// Rounds of one store at most, of which none loads what an earlier one stores, leave at once what they leave in turn.
 pub fn rounds_at_once_do_what_turns_do()
     ensures { RoundsAtOnceDoWhatTurnsDo }
+{}
+
+/// What is looked at of a statement to see at which points a run stores is what soundness looks at.
+pub fn runs_miss_what_is_sound()
+    ensures { RunsMissWhatIsSound }
+{}
+
+/// A statement of one Func stores in no run of another.
+pub fn others_store_in_no_run()
+    ensures { OthersStoreInNoRun }
 {}
