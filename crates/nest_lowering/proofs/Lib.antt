@@ -3,3 +3,4 @@ pub mod Few
 pub mod Wholes
 pub mod Nesting
 pub mod Rounds
+pub mod Runs

@@ -1,2 +1,3 @@
 pub mod Nests
 pub mod Rounds
+pub mod Runs

@@ -9,12 +9,14 @@ ghost use Rattle.loop_ir.specs.Depths.{depth};
 ghost use Rattle.loop_ir.specs.Needs.{greatest_need};
 ghost use Rattle.loop_ir.specs.Rounds.{is_vectorized, rounds, rounds_at};
 ghost use Rattle.loop_ir.specs.Running.{run, turns};
+ghost use Rattle.loop_ir.specs.Runs.{is_about, is_about_at, runs, runs_at};
 ghost use Rattle.loop_ir.specs.Soundness.{every, is_sound};
 ghost use Rattle.loop_ir.specs.Stores.{Trace, trace};
 ghost use Rattle.loop_ir.specs.declared.statements.Stmt.TheOpen as layer;
 ghost use Rattle.loop_ir.specs.declared.statements.Stmt.{Stmt};
 ghost use Rattle.nest_lowering.specs.Nests.{AreFew, Repeats};
 ghost use Rattle.nest_lowering.specs.Rounds.{GoesAround, MayBeAround, MayBeAtOnce, is_vectorized_loop};
+ghost use Rattle.nest_lowering.specs.Runs.{RunsAround};
 ghost use Rattle.schedule_lines.specs.declared.stages.Loop.{Loop};
 ghost use Rattle.stage_loops.specs.Counts as counts;
 ghost use Rattle.stage_loops.specs.Visits.{nest, upto};
@@ -59,6 +61,9 @@ fn looped(
     ensures depth { IfOk result (λ made. depth made ≡ suc (depth body)) }
     ensures needs { IfOk result (λ made. greatest_need made ≡ greatest_need body) }
     ensures rounds { IfOk result (λ made. (reads : Reads) → rounds reads made ≡ rounds_at reads (layer.For counter count kind (rounds reads body))) }
+    ensures about { IfOk result (λ made. (place : ℕ) → is_about place made ≡ is_about_at place (layer.For counter count kind (is_about place body))) }
+    ensures in_runs { IfOk result (λ made. (reads : Reads) (place x y : ℕ) (expected : Values → Bool)
+        → runs reads place x y expected made ≡ runs_at reads place x y expected (layer.For counter count kind (runs reads place x y expected body))) }
 {
     let body = Boxed::new(alloc, body)?;
     Ok(Stmt::For(counter, count, kind, body))
@@ -89,6 +94,8 @@ pub fn loop_once(
     ensures depth { IfOk result (λ made. depth made ≡ suc (depth body)) }
     ensures needs { IfOk result (λ made. greatest_need made ≡ greatest_need body) }
     ensures rounds { IfOk result (GoesAround func (counts.counts sizes.now.extents sizes.now.splits) own.now body) }
+    ensures about { IfOk result (λ made. is_about func made ≡ is_about func body) }
+    ensures in_runs { IfOk result (RunsAround func (counts.counts sizes.now.extents sizes.now.splits) own.now body) }
 {
     let counter = Counter { func, id: own.id };
     let count = extent_of(sizes, own.id);
@@ -118,6 +125,7 @@ pub fn with_loops(
     ensures rounds { IfOk result (λ made. (outside : List Loop) → MayBeAtOnce func (counts.counts sizes.now.extents sizes.now.splits) (loops.now ++ outside) body
         → MayBeAround func (counts.counts sizes.now.extents sizes.now.splits) loops.now outside body
         → MayBeAtOnce func (counts.counts sizes.now.extents sizes.now.splits) outside made) }
+    ensures about { IfOk result (λ made. is_about func made ≡ is_about func body) }
 {
     match loops {
         [] => Ok(body),

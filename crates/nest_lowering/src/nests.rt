@@ -3,6 +3,7 @@
 ghost use Rattle.std.specs.Prelude.{◌≡◌, ◌+◌, List, IfOk, length};
 ghost use Rattle.loop_ir.specs.Depths.{depth};
 ghost use Rattle.loop_ir.specs.Needs.{greatest_need};
+ghost use Rattle.loop_ir.specs.Runs.{is_about};
 ghost use Rattle.nest_lowering.specs.Nests.{AreFew, Repeats};
 ghost use Rattle.nest_lowering.specs.Rounds.{IsLeaf, MayBeAtOnce, MayBeUnder};
 ghost use Rattle.schedule_lines.specs.declared.stages.Loop.{Loop};
@@ -37,6 +38,7 @@ pub fn with_nest(
     ensures needs { IfOk result (λ made. greatest_need made ≡ greatest_need body) }
     ensures rounds { IfOk result (λ made. (outside : List Loop) → IsLeaf body → MayBeUnder func extents splits.now loops.now outside body
         → MayBeAtOnce func (counts.counts extents splits.now) outside made) }
+    ensures about { IfOk result (λ made. is_about func made ≡ is_about func body) }
 {
     let sizes = LoopSizes::new(alloc, extents, splits)?;
     let inner = with_splits(alloc, func, extents, splits, body)?;

@@ -9,6 +9,7 @@ ghost use Rattle.loop_ir.specs.Depths.{depth};
 ghost use Rattle.loop_ir.specs.Needs.{greatest_need};
 ghost use Rattle.loop_ir.specs.Rounds.{rounds, rounds_at};
 ghost use Rattle.loop_ir.specs.Running.{run, whole_value};
+ghost use Rattle.loop_ir.specs.Runs.{is_about};
 ghost use Rattle.loop_ir.specs.Soundness.{is_sound};
 ghost use Rattle.loop_ir.specs.Stores.{Trace, trace};
 ghost use Rattle.loop_ir.specs.declared.statements.Stmt.TheOpen as layer;
@@ -67,6 +68,7 @@ fn bound(
     ensures depth { IfOk result (λ made. depth made ≡ suc (depth body)) }
     ensures needs { IfOk result (λ made. greatest_need made ≡ greatest_need body) }
     ensures rounds { IfOk result (λ made. (reads : Reads) → rounds reads made ≡ rounds_at reads (layer.Bind counter whole extent (rounds reads body))) }
+    ensures about { IfOk result (λ made. (of : ℕ) → is_about of made ≡ is_about of body) }
 {
     let body = Boxed::new(alloc, body)?;
     Ok(Stmt::Bind(counter, whole, extent, body))
@@ -88,6 +90,7 @@ fn split_once(
     ensures depth { IfOk result (λ made. depth made ≡ suc (depth body)) }
     ensures needs { IfOk result (λ made. greatest_need made ≡ greatest_need body) }
     ensures leaf { IfOk result (λ made. IsLeaf body → IsLeaf made) }
+    ensures about { IfOk result (λ made. (of : ℕ) → is_about of made ≡ is_about of body) }
 {
     let whole = whole_of(func, place, split, extent);
     let counter = Counter { func, id: split.of };
@@ -124,6 +127,7 @@ pub fn with_splits(
     ensures depth { IfOk result (λ made. depth made ≡ length splits.now + depth body) }
     ensures needs { IfOk result (λ made. greatest_need made ≡ greatest_need body) }
     ensures leaf { IfOk result (λ made. IsLeaf body → IsLeaf made) }
+    ensures about { IfOk result (λ made. (of : ℕ) → is_about of made ≡ is_about of body) }
 {
     match splits {
         [] => Ok(body),

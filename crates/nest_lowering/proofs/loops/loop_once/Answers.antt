@@ -4,6 +4,7 @@ use Rattle.stage_loops.specs.Visits.{upto}
 use Rattle.nest_lowering.specs.Nests.{Repeats}
 use Rattle.nest_lowering.proofs.Repeating.{loop_repeats}
 use Rattle.nest_lowering.proofs.Rounds.{goes_around}
+use Rattle.nest_lowering.proofs.Runs.{loop_about, loop_runs}
 use Rattle.nest_lowering.proofs.loops.loop_once.Goals as goal
 
 pub returns-clause-repeats : goal.returns-clause-repeats
@@ -15,3 +16,13 @@ pub returns-clause-rounds : goal.returns-clause-rounds
 returns-clause-rounds c =
     goes_around c.args.func (loops.counts c.args.sizes.now.extents c.args.sizes.now.splits) c.args.own.now c.args.body c.in_ok-made.made c.kind_of-kind.result c.kind_of-kind.ensures
     c.extent_of-count.result c.extent_of-count.ensures.is c.extent_of-count.ensures.few c.in_ok-made.ensures.rounds
+
+pub returns-clause-about : goal.returns-clause-about
+returns-clause-about c =
+    loop_about c.args.func (loops.counts c.args.sizes.now.extents c.args.sizes.now.splits) c.args.own.now c.args.body c.in_ok-made.made c.kind_of-kind.result c.kind_of-kind.ensures
+    c.extent_of-count.result c.extent_of-count.ensures.is c.in_ok-made.ensures.about
+
+pub returns-clause-in_runs : goal.returns-clause-in_runs
+returns-clause-in_runs c =
+    loop_runs c.args.func (loops.counts c.args.sizes.now.extents c.args.sizes.now.splits) c.args.own.now c.args.body c.in_ok-made.made c.kind_of-kind.result c.kind_of-kind.ensures
+    c.extent_of-count.result c.extent_of-count.ensures.is c.in_ok-made.ensures.in_runs

@@ -6,11 +6,13 @@ use Rattle.loop_ir.specs.Depths.{depth}
 use Rattle.loop_ir.specs.Needs.{greatest_need}
 use Rattle.loop_ir.specs.Rounds.{rounds, rounds_at}
 use Rattle.loop_ir.specs.Running.{run, turns}
+use Rattle.loop_ir.specs.Runs.{is_about, is_about_at, runs, runs_at}
 use Rattle.loop_ir.specs.Soundness.{every, is_sound}
 use Rattle.loop_ir.specs.Stores.{trace}
 use Rattle.loop_ir.proofs.Depths.{depth_for}
 use Rattle.loop_ir.proofs.Needs.{greatest_for}
 use Rattle.loop_ir.proofs.Rounds.{rounds_for}
+use Rattle.loop_ir.proofs.Runs.{about_for, runs_for}
 use Rattle.loop_ir.proofs.Sound.{sound_for}
 use Rattle.loop_ir.proofs.Traces.{trace_for}
 use Rattle.loop_ir.proofs.Trees.{run_for}
@@ -41,3 +43,13 @@ pub returns-clause-rounds : goal.returns-clause-rounds
 returns-clause-rounds c = λ reads.
     rounds_for reads c.args.counter c.args.count c.args.kind c.in_ok-body.body
     ∙ ap (λ (own : Stmt). rounds_at reads (layer.For c.args.counter c.args.count c.args.kind (rounds reads own))) c.in_ok-body.ensures
+
+pub returns-clause-about : goal.returns-clause-about
+returns-clause-about c = λ place.
+    about_for place c.args.counter c.args.count c.args.kind c.in_ok-body.body
+    ∙ ap (λ (own : Stmt). is_about_at place (layer.For c.args.counter c.args.count c.args.kind (is_about place own))) c.in_ok-body.ensures
+
+pub returns-clause-in_runs : goal.returns-clause-in_runs
+returns-clause-in_runs c = λ reads place x y expected.
+    runs_for reads place x y expected c.args.counter c.args.count c.args.kind c.in_ok-body.body
+    ∙ ap (λ (own : Stmt). runs_at reads place x y expected (layer.For c.args.counter c.args.count c.args.kind (runs reads place x y expected own))) c.in_ok-body.ensures
