@@ -4,7 +4,7 @@ ghost use Rattle.std.specs.Prelude.{◌≡◌, None, Some, length, IfOk, OnOk, I
 ghost use Rattle.hart_core.specs.Alu.{extended, plus};
 ghost use Rattle.hart_core.specs.Scalar.{jump_fault, linked};
 ghost use Rattle.hart_core.specs.HartState.{register, at_pc};
-ghost use Rattle.hart_core.specs.Turn.{step, fault, IsDone};
+ghost use Rattle.hart_core.specs.Turn.{step, step_with, fault, IsDone};
 
 use crate::accesses::{load, store};
 use crate::alu::{computed, computed_with_immediate, is_taken, shifted};
@@ -28,7 +28,21 @@ impl Hart {
         let Some(word) = memory.fetch(self.pc()) else {
             return self.trap(Trap::FetchOutside);
         };
-        let Some(insn) = decode(word) else {
+        self.step_with(memory, decode(word))
+    }
+
+    /// One turn of the hart, its program counter taken as in text and the given value as what the word there
+    /// means, which isn't read: so a word that was decoded once serves every turn.
+    pub fn step_with<M: Bytes>(&mut self, memory: &mut M, insn: Option<Insn>) -> Outcome
+        ensures hart { self.new ≡ (step_with (M.text memory.old) (M.memory memory.old) self.old insn).hart }
+        ensures memory { M.memory memory.new ≡ (step_with (M.text memory.old) (M.memory memory.old) self.old insn).memory }
+        ensures text { M.text memory.new ≡ M.text memory.old }
+        ensures outcome { result ≡ (step_with (M.text memory.old) (M.memory memory.old) self.old insn).outcome }
+    {
+        if self.status() != Status::Running {
+            return Outcome::Idle;
+        }
+        let Some(insn) = insn else {
             return self.trap(Trap::IllegalInstruction);
         };
         match self.execute(insn, memory) {
