@@ -1,14 +1,16 @@
 //! Harts over one memory, stepped one at a time.
 
-ghost use Rattle.std.specs.Prelude.{◌≡◌, ◌-◌, ◌<◌, ◌≤◌, length, take, replicate, slice_index, OnOk, IfOk, IfErr, All, IsTrue};
-ghost use Rattle.memory.specs.Addresses.{most_words, most_bytes, is_text_word};
+ghost use Rattle.std.specs.Prelude.{◌≡◌, ◌-◌, ◌<◌, ◌≤◌, ℕ, List, length, map, option_map, take, replicate, slice_index, OnOk, IfOk, IfErr, All, IsTrue};
+ghost use Rattle.memory.specs.Addresses.{most_words, most_bytes, is_text_word, fetched};
+ghost use Rattle.rv_encoding.specs.Decoding.{decoded};
 ghost use Rattle.hart_core.specs.HartState.{register, vector};
 ghost use Rattle.multi_hart.specs.Finished.{all_finished};
 ghost use Rattle.multi_hart.specs.Run.{opened, turn, outcome, run, KeepsShape, hart_at, word_in};
 
 use hart_core::{Hart, Status};
-use memory::{Bytes, Memory, read_u32};
-use rv_insn::{Outcome, Reg, VReg};
+use memory::{Bytes, Memory, TEXT_START, read_u32};
+use rv_encoding::decode;
+use rv_insn::{Insn, Outcome, Reg, VReg};
 use std::alloc::{AllocError, Global};
 use std::boxed::BoxedSlice;
 use std::marker::Model;
@@ -26,15 +28,21 @@ pub struct UnknownHart {
 pub struct Machine {
     memory: Memory,
     harts: BoxedSlice<Hart>,
+    /// What each word of text means, found once, so that a turn decodes nothing.
+    meanings: BoxedSlice<Option<Insn>>,
 }
 
 impl Model for Machine {
+    ghost use Rattle.std.specs.Prelude.{◌≡◌, map};
     ghost use Rattle.std.specs.Box.{boxed_slice_items};
+    ghost use Rattle.rv_encoding.specs.Decoding.{decoded};
     ghost use Rattle.multi_hart.specs.Run.{State};
 
     ghost Value = { State };
 
     ghost view = { λ m. record { text = m.memory.text; memory = m.memory.memory; harts = boxed_slice_items m.harts } };
+
+    ghost invariant = { λ m. boxed_slice_items m.meanings ≡ map decoded m.memory.text };
 }
 
 impl Machine {
@@ -55,6 +63,7 @@ impl Machine {
         ensures opened { IfOk result (λ machine. machine ≡ opened entry words.items bytes.items harts) }
         ensures harts { IfOk result (λ machine. length machine.harts ≡ harts) }
     {
+        let meanings = meanings_of(alloc, words.as_slice())?;
         let mut all = Vec::new(alloc);
         for number in 0..harts {
             all.push(Hart::new(entry, harts as u32, number as u32))?;
@@ -62,6 +71,7 @@ impl Machine {
         Ok(Machine {
             memory: Memory::new(words, bytes),
             harts: all.into_boxed_slice(),
+            meanings: meanings.into_boxed_slice(),
         })
     }
 
@@ -72,7 +82,10 @@ impl Machine {
         ensures outcome { result ≡ outcome self.old hart }
     {
         let one = &mut self.harts[hart];
-        one.step(&mut self.memory)
+        match meaning_at(&self.meanings, one.pc()) {
+            Some(insn) => one.step_with(&mut self.memory, insn),
+            None => one.step(&mut self.memory),
+        }
     }
 
     /// The turns, one after the other, up to the first that names a hart which isn't there. Takes no
@@ -186,4 +199,22 @@ impl Machine {
             Err(_) => None,
         }
     }
+}
+
+/// What each of the words means.
+fn meanings_of(alloc: Global, words: &[u32]) -> Result<Vec<Option<Insn>>, AllocError>
+    ensures { IfOk result (λ meanings. meanings.items ≡ map decoded words.now) }
+{
+    words.iter().map(|word| decode(*word)).collect(alloc)
+}
+
+/// What the word at an address of text means, found among what all words of the text mean, and `None` where no word
+/// begins there.
+fn meaning_at(meanings: &[Option<Insn>], pc: u32) -> Option<Option<Insn>>
+    ensures { (text : List ℕ) → meanings.now ≡ map decoded text → result ≡ option_map decoded (fetched text pc) }
+{
+    if pc < TEXT_START || pc % 4 != 0 {
+        return None;
+    }
+    meanings.get(((pc - TEXT_START) / 4) as usize).copied()
 }
