@@ -7,6 +7,7 @@ use lanes::LaneKind;
 use rv_insn::{AluImmOp, AluOp, BranchOp, ShiftOp};
 
 /// The result of an operation on the numbers of `rs1` and `rs2`.
+#[inline(always)]
 pub fn computed(op: AluOp, a: u32, b: u32) -> u32
     ensures { result ≡ computed_of op a b }
 {

@@ -47,6 +47,7 @@ fn write_number<M: Bytes>(width: ElementWidth, memory: &mut M, address: u32, num
 }
 
 /// The numbers of a width at addresses, or the trap of the first that can't be loaded.
+#[inline(always)]
 pub fn read_numbers<M: Bytes>(
     width: ElementWidth,
     memory: &M,
@@ -67,6 +68,7 @@ pub fn read_numbers<M: Bytes>(
 }
 
 /// Whether numbers of a width may be stored at addresses: the trap of the first that can't.
+#[inline(always)]
 pub fn check_stores<M: Bytes>(
     width: ElementWidth,
     memory: &M,
@@ -86,6 +88,7 @@ pub fn check_stores<M: Bytes>(
 /// Puts the low bits of numbers at addresses that stores of their width may touch, one after the other, as far as there
 /// are both.
 #[tactic(auto, using(crate::proofs::Puts::nothing_put))]
+#[inline(always)]
 pub fn write_numbers<M: Bytes>(
     width: ElementWidth,
     memory: &mut M,

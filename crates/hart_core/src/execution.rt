@@ -16,6 +16,7 @@ use rv_insn::{Imm12, Insn, Outcome, Reg, Trap};
 impl Hart {
     /// One turn of the hart: the instruction that stands at the program counter, or nothing where the
     /// hart has finished or trapped. A trap changes nothing but the hart's status.
+    #[inline(never)]
     pub fn step<M: Bytes>(&mut self, memory: &mut M) -> Outcome
         ensures hart { self.new ≡ (step (M.text memory.old) (M.memory memory.old) self.old).hart }
         ensures memory { M.memory memory.new ≡ (step (M.text memory.old) (M.memory memory.old) self.old).memory }
@@ -33,6 +34,7 @@ impl Hart {
 
     /// One turn of the hart, its program counter taken as in text and the given value as what the word there
     /// means, which isn't read: so a word that was decoded once serves every turn.
+    #[inline(always)]
     pub fn step_with<M: Bytes>(&mut self, memory: &mut M, insn: Option<Insn>) -> Outcome
         ensures hart { self.new ≡ (step_with (M.text memory.old) (M.memory memory.old) self.old insn).hart }
         ensures memory { M.memory memory.new ≡ (step_with (M.text memory.old) (M.memory memory.old) self.old insn).memory }
@@ -52,6 +54,7 @@ impl Hart {
     }
 
     /// Executes an instruction, or says which trap it makes and changes nothing.
+    #[inline(always)]
     fn execute<M: Bytes>(&mut self, insn: Insn, memory: &mut M) -> Result<Outcome, Trap>
         ensures ok { IfOk result (λ outcome. IsDone (M.text memory.old) (M.memory memory.old) self.old insn self.new (M.memory memory.new) outcome) }
         ensures trap { IfErr result (λ trap. fault (length (M.text memory.old)) (length (M.memory memory.old)) insn self.old ≡ Some trap) }

@@ -19,6 +19,7 @@ use vector_unit::{Asked, Numbers, Spacing};
 
 impl Hart {
     /// Executes a vector instruction, or says which trap it makes and changes nothing.
+    #[inline(never)]
     pub(crate) fn execute_vector<M: Bytes>(
         &mut self,
         insn: &VectorInsn,

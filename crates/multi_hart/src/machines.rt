@@ -76,6 +76,7 @@ impl Machine {
     }
 
     /// One turn of a hart, as the instruction table has it. Takes no memory.
+    #[inline(always)]
     pub fn turn(&mut self, hart: usize) -> Outcome
         requires { hart < length self.old.harts }
         ensures state { self.new ≡ turn self.old hart }

@@ -63,6 +63,7 @@ impl VectorState {
     }
 
     /// How many bytes from the base an element lies, modulo 2^32.
+    #[inline(always)]
     pub fn offset(&self, spacing: Spacing, index: u32) -> u32
         requires configured { has_vill self.now ≡ false }
         requires index { index < 64 }
@@ -76,6 +77,7 @@ impl VectorState {
     }
 
     /// The number that an element of a width is, of those of the registers from one on, read as unsigned.
+    #[inline(always)]
     pub fn element(&self, width: ElementWidth, v: VReg, index: u32) -> u32
         requires { index < 64 }
         ensures { result ≡ element_from self.now (spec.bits_of width) v index }
@@ -89,6 +91,7 @@ impl VectorState {
     }
 
     /// Whether an instruction with this mask bit works on an element.
+    #[inline(always)]
     pub fn is_active(&self, vm: bool, index: u32) -> bool
         requires { index < 128 }
         ensures { result ≡ is_active self.now.vl vm (register self.now 0) index }
@@ -98,6 +101,7 @@ impl VectorState {
 
     /// The addresses of the active elements, element by element.
     #[tactic(auto, unfolding(crate::specs::Accesses::addresses_by))]
+    #[inline(always)]
     pub fn addresses(&self, spacing: Spacing, vm: bool, base: u32) -> Numbers
         requires { has_vill self.now ≡ false }
         ensures { result ≡ addresses_by self.now spacing vm base }
@@ -114,6 +118,7 @@ impl VectorState {
     }
 
     /// The numbers of the active elements of a width, element by element.
+    #[inline(always)]
     pub fn active_numbers(&self, width: ElementWidth, v: VReg, vm: bool) -> Numbers
         requires { has_vill self.now ≡ false }
         ensures { result ≡ active_numbers self.now width v vm }

@@ -23,6 +23,7 @@ impl Model for Numbers {
 
 impl Numbers {
     /// No number.
+    #[inline(always)]
     pub fn new() -> Numbers
         ensures { result ≡ [] }
     {
@@ -33,6 +34,7 @@ impl Numbers {
     }
 
     /// Appends a number.
+    #[inline(always)]
     pub fn push(&mut self, number: u32)
         requires { length self.old < 64 }
         ensures { self.new ≡ self.old ++ number ∷ [] }
@@ -42,6 +44,7 @@ impl Numbers {
     }
 
     /// The numbers, the first one first.
+    #[inline(always)]
     pub fn as_slice(&self) -> &[u32]
         ensures { result.now ≡ self.now }
     {
