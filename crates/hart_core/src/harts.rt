@@ -56,6 +56,18 @@ impl Hart {
         }
     }
 
+    /// The same hart once more.
+    pub fn duplicate(&self) -> Hart
+        ensures { result ≡ self.now }
+    {
+        Hart {
+            pc: self.pc,
+            registers: self.registers,
+            unit: self.unit.duplicate(),
+            status: self.status,
+        }
+    }
+
     /// The address of the instruction that is due.
     pub fn pc(&self) -> u32
         ensures { result ≡ self.now.pc }

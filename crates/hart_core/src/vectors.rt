@@ -49,6 +49,7 @@ impl Hart {
     }
 
     /// Executes a vector instruction that doesn't configure the unit, or says which trap it makes and changes nothing.
+    #[inline(always)]
     fn execute_configured<M: Bytes>(
         &mut self,
         insn: &VectorInsn,
@@ -157,6 +158,7 @@ impl Hart {
     }
 
     /// The addresses of the active elements of an access from the address in `rs1` on.
+    #[inline(always)]
     fn addresses(&self, spacing: Spacing, vm: bool, rs1: Reg) -> Numbers
         requires { has_vill (vectors_of self.now) ≡ false }
         ensures { result ≡ addresses_by (vectors_of self.now) spacing vm (register self.now rs1) }
@@ -165,6 +167,7 @@ impl Hart {
     }
 
     /// Loads the active elements of a register, or says which trap the first that can't be loaded makes.
+    #[inline(always)]
     fn load_vector<M: Bytes>(
         &mut self,
         memory: &M,
@@ -190,6 +193,7 @@ impl Hart {
 
     /// Stores the active elements of a register, or says which trap the first that can't be stored makes and
     /// writes nothing.
+    #[inline(always)]
     fn store_vector<M: Bytes>(
         &mut self,
         memory: &mut M,

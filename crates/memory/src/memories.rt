@@ -40,6 +40,22 @@ impl Memory {
             bytes: bytes.into_boxed_slice(),
         }
     }
+
+    /// All bytes of data.
+    pub fn bytes(&self) -> &[u8]
+        ensures { result.now ≡ self.now.memory }
+    {
+        &self.bytes
+    }
+
+    /// Puts other bytes in the place of all data. Takes no memory.
+    pub fn set_bytes(&mut self, bytes: &[u8])
+        requires { length bytes.now ≡ length self.old.memory }
+        ensures text { self.new.text ≡ self.old.text }
+        ensures memory { self.new.memory ≡ bytes.now }
+    {
+        self.bytes.copy_from_slice(bytes);
+    }
 }
 
 impl Bytes for Memory {

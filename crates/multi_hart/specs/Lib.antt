@@ -1,3 +1,4 @@
 pub mod Finished
 pub mod Frame
 pub mod Run
+pub mod Snapshots

@@ -26,8 +26,8 @@ pub struct UnknownHart {
 /// so that no turn takes memory.
 #[derive(Drop)]
 pub struct Machine {
-    memory: Memory,
-    harts: BoxedSlice<Hart>,
+    pub(crate) memory: Memory,
+    pub(crate) harts: BoxedSlice<Hart>,
     /// What each word of text means, found once, so that a turn decodes nothing.
     meanings: BoxedSlice<Option<Insn>>,
 }

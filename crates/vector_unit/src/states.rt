@@ -40,6 +40,17 @@ impl VectorState {
         }
     }
 
+    /// The same state once more.
+    pub fn duplicate(&self) -> VectorState
+        ensures { result ≡ self.now }
+    {
+        VectorState {
+            registers: self.registers,
+            vl: self.vl,
+            vtype: self.vtype,
+        }
+    }
+
     /// The 16 bytes of a register, byte 0 first.
     pub fn register(&self, v: VReg) -> [u8; 16]
         ensures value { result ≡ register self.now v }
