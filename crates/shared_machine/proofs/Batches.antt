@@ -32,7 +32,7 @@ begins-whole turns first is = subst (λ xs. take (length first) xs ≡ first) (s
     whole [] = refl
     whole (x ∷ xs) = ap (λ ys. x ∷ ys) (whole xs)
 
-count-one : (one hart : ℕ) (turns : List ℕ) → count_of (one ∷ turns) hart ≡ (if one == hart then 1 else 0) + count_of turns hart
+pub count-one : (one hart : ℕ) (turns : List ℕ) → count_of (one ∷ turns) hart ≡ (if one == hart then 1 else 0) + count_of turns hart
 count-one one hart turns = let h = sum_by-append (λ turn. cond (turn == hart) 1 0) (one ∷ []) turns in omega (arith, h)
 
 count-same : (hart made : ℕ) → count_of (replicate made hart) hart ≡ made

@@ -5,3 +5,4 @@ pub mod Seating
 pub mod Stopping
 pub mod Batches
 pub mod RunningOut
+pub mod MadeAgain

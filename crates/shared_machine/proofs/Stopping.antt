@@ -120,7 +120,7 @@ does Ecall hart read runs = inr (record { some = omega (arith); few = omega (ari
 does Ebreak hart read runs = stepped _ _ refl runs
 does (Vector insn) hart read runs = stepped _ _ refl (vector-status insn hart read ∙ runs)
 
-trap-few : (trap : Trap) → trap_number trap ≤ 8
+pub trap-few : (trap : Trap) → trap_number trap ≤ 8
 trap-few IllegalInstruction = omega (arith)
 trap-few FetchOutside = omega (arith)
 trap-few MisalignedTarget = omega (arith)
@@ -173,11 +173,11 @@ turn-other state one hart apart = go (slice_get state.harts one)
 tally-here : (state : State) (one hart : ℕ) (turns : List ℕ) → one ≡ hart → tally_from state (one ∷ turns) hart ≡ code_of (outcome state one) + tally_from (turn state one) turns hart
 tally-here state one hart turns e = ap (λ (b : Bool). (if b then code_of (outcome state one) else 0) + tally_from (turn state one) turns hart) (eq-eqb one hart e)
 
-tally-apart : (state : State) (one hart : ℕ) (turns : List ℕ) → one ≢ hart → tally_from state (one ∷ turns) hart ≡ tally_from (turn state one) turns hart
+pub tally-apart : (state : State) (one hart : ℕ) (turns : List ℕ) → one ≢ hart → tally_from state (one ∷ turns) hart ≡ tally_from (turn state one) turns hart
 tally-apart state one hart turns n = let e = ap (λ (b : Bool). (if b then code_of (outcome state one) else 0) + tally_from (turn state one) turns hart) (ne_eqb one hart n) in omega (arith, e)
 
 -- a hart that has stopped adds nothing more, and stays as it is
-stopped-adds : (state : State) (turns : List ℕ) (hart : ℕ) → hart < length state.harts → (hart_at state hart).status ≢ Running → (tally_from state turns hart ≡ 0) × ((hart_at (run state turns) hart).status ≢ Running)
+pub stopped-adds : (state : State) (turns : List ℕ) (hart : ℕ) → hart < length state.harts → (hart_at state hart).status ≢ Running → (tally_from state turns hart ≡ 0) × ((hart_at (run state turns) hart).status ≢ Running)
 stopped-adds state [] hart below halted = (refl, halted)
 stopped-adds state (one ∷ turns) hart below halted =
     let below' : hart < length (turn state one).harts = let l = length-turn state one in omega (arith, l) in

@@ -3,7 +3,7 @@
 use Rattle.std.specs.Prelude.{◌≡◌, ◌≢◌, ℕ, ◌+◌, ◌%◌, ◌<◌, ◌≤◌, ◌==◌, Bool, true, false, Option, Some, None, List, length, slice_index_or}
 use Rattle.std.specs.List.{list_any}
 use Rattle.turn_log.specs.TurnLog.{most_turns}
-use Rattle.board.specs.Tokens.{BoardId, has_asked}
+use Rattle.board.specs.Tokens.{BoardId, has_asked, has_seen_stop}
 use Rattle.shared_machine.specs.declared.origins.Origin.{Ghosts}
 use Rattle.shared_machine.specs.declared.seats.Seat.{Seat}
 use Rattle.shared_machine.specs.declared.seats.Ended.{Ended}
@@ -13,11 +13,11 @@ use Rattle.shared_machine.specs.declared.refusals.Refusal.TheVariants.{OutOfMemo
 use Rattle.shared_machine.specs.Refusals.{number_of}
 use Rattle.shared_machine.specs.Seats.{IsSeatOf, hart, number, tally}
 
--- a seat whose turns are spent has made 2^40
+-- a seat whose turns are spent has made 2^40, and one that was told of a stop has found it
 abbrev pub RefusedSo : {O F : Type 0} {G : Ghosts O} → Seat O F G → Refusal → Type 0
 RefusedSo seat OutOfMemory = Unit {0}
 RefusedSo seat TurnsSpent = most_turns ≤ number seat
-RefusedSo seat StopAsked = Unit {0}
+RefusedSo seat StopAsked = has_seen_stop seat.glance ≡ true
 
 -- Why a thread ended that was to make so many turns at most, where the seat had made this number before: the hart doesn't run
 -- any more, all of them were made, the gate isn't always open, or a turn was refused
@@ -50,18 +50,23 @@ pub record IsDriven {O F : Type 0} {G : Ghosts O} (name : BoardId) (always : Boo
   pub some : number old ≤ number new
   pub few : number new ≤ number old + limit
   pub ended : HasEndedSo always limit (number old) new new.ended
+  -- one that had asked for a stop made no turn, and says so where it was to make one
+  pub asked : has_asked new.glance ≡ has_asked old.glance
+  pub stopped : has_asked old.glance ≡ true → number new ≡ number old
+  pub told : has_asked old.glance ≡ true → always ≡ true → 1 ≤ limit → number old < most_turns → new.ended ≡ Some (Refused StopAsked)
 
 -- each of the seats
 abbrev pub AreDriven : {O F : Type 0} {G : Ghosts O} → BoardId → Bool → ℕ → List (Seat O F G) → List (Seat O F G) → Type 0
 AreDriven {O} {F} {G} name always limit olds news = (k : ℕ) (d : Seat O F G) → k < length olds → IsDriven name always limit (slice_index_or olds k d) (slice_index_or news k d)
 
--- a seat before and after a drive that was not made: it has asked for a stop
+-- a seat before and after a drive that was not made: it has asked for a stop, and no thread has run it
 pub record IsStopped {O F : Type 0} {G : Ghosts O} (name : BoardId) (old new : Seat O F G) : Type 0 where
   pub of : IsSeatOf name new
   pub same : hart new ≡ hart old
   pub number : number new ≡ number old
   pub tally : tally new ≡ tally old
   pub asked : has_asked new.glance ≡ true
+  pub ended : new.ended ≡ old.ended
 
 -- each of the seats
 abbrev pub AreStopped : {O F : Type 0} {G : Ghosts O} → BoardId → List (Seat O F G) → List (Seat O F G) → Type 0

@@ -46,6 +46,10 @@ with_turn log hart = with_turns log hart 1
 abbrev pub after_turns : State → ℕ → ℕ → State
 after_turns state hart made = run state (replicate made hart)
 
+-- the sum of the codes of so many turns of one hart
+abbrev pub tally_more : State → ℕ → ℕ → ℕ
+tally_more state hart made = tally_from state (replicate made hart) hart
+
 -- each of so many turns of a hart steps
 abbrev pub StepsOn : State → ℕ → ℕ → Type 0
 StepsOn state hart made = (k : ℕ) → k < made → outcome (after_turns state hart k) hart ≡ Stepped

@@ -1,6 +1,6 @@
 -- What is known of a machine's seats.
 -- This project's own.
-use Rattle.std.specs.Prelude.{◌≡◌, ℕ, zero, suc, ◌==◌, ◌&&◌, Bool, true, List, [], ◌∷◌}
+use Rattle.std.specs.Prelude.{◌≡◌, ℕ, zero, suc, ◌==◌, ◌&&◌, Bool, true, None, List, [], ◌∷◌}
 use Rattle.std.specs.List.{list_any}
 use Rattle.board.specs.Tokens.{BoardId}
 use Rattle.board.specs.Tokens as board
@@ -22,12 +22,13 @@ tally seat = tally_in seat.shares
 abbrev pub IsSeatOf : {O F : Type 0} {G : Ghosts O} → BoardId → Seat O F G → Type 0
 IsSeatOf name seat = board.IsSeatOf name seat.place × board.IsGlanceOf name seat.glance
 
--- the seat of a hart that has made so many turns, with this tally
+-- the seat of a hart that has made so many turns, with this tally, before any thread has run it
 pub record IsSeatAt {O F : Type 0} {G : Ghosts O} (name : BoardId) (turns sum which : ℕ) (seat : Seat O F G) : Type 0 where
   pub of : IsSeatOf name seat
   pub is : hart seat ≡ which
   pub made : number seat ≡ turns
   pub tallied : tally seat ≡ sum
+  pub fresh : seat.ended ≡ None
 
 -- the seats of the harts from one on, where these are the harts' numbers and tallies
 abbrev pub AreSeatsAt : {O F : Type 0} {G : Ghosts O} → BoardId → (ℕ → ℕ) → (ℕ → ℕ) → ℕ → List (Seat O F G) → Type 0

@@ -1,10 +1,13 @@
 //! Turns made by threads.
 
-ghost use Rattle.std.specs.Prelude.{◌≡◌, ◌+◌, ◌≤◌, All, OnOk, OnErr};
-ghost use Rattle.board.specs.Tokens.{name_of};
+ghost use Rattle.std.specs.Prelude.{◌≡◌, ◌+◌, ◌<◌, ◌≤◌, true, All, length, OnOk, OnErr};
+ghost use Rattle.turn_log.specs.TurnLog.{most_turns};
+ghost use Rattle.board.specs.Tokens.{name_of, has_asked};
 ghost use Rattle.shared_machine.specs.Driving.{IsDriven, AreDriven, IsStopped, AreStopped, EndedSo};
 ghost use Rattle.shared_machine.specs.Log.{most_batch};
 ghost use Rattle.shared_machine.specs.Seats.{IsSeatOf, hart, number};
+ghost use Rattle.shared_machine.specs.declared.refusals.Refusal.TheVariants.{StopAsked};
+ghost use Rattle.shared_machine.specs.declared.seats.Ended.TheVariants.{Refused};
 
 use crate::gates::Gate;
 use crate::ledgers::Ledgers;
@@ -35,6 +38,7 @@ pub fn drive<
     ensures of { All (IsSeatOf (name_of shared.now.board)) seats.new }
     ensures driven { OnOk result (AreDriven (name_of shared.now.board) G.OPEN limit seats.old seats.new) }
     ensures stopped { OnErr result (AreStopped (name_of shared.now.board) seats.old seats.new) }
+    ensures some { OnErr result (1 ≤ length seats.old) }
 {
     drive_batched(rt, alloc, shared, seats, limit, 1, gate)
 }
@@ -43,7 +47,8 @@ pub fn drive<
 /// step (a hart that has stopped makes one that is idle), after `limit` turns, where the gate doesn't let it go on, or where a
 /// turn is refused; [`Seat::ended`] says which. The gate is asked about the first turn under a lock, and told of the last.
 ///
-/// Threads are tried first, one for each seat. Where they can't be had, a stop is asked and no turn is made.
+/// Threads are tried first, one for each seat. Where they can't be had, each seat asks for a stop and no turn is made, nor later by a
+/// seat that asked.
 /// Where a thread doesn't start later, the seats that are left are driven one after the other.
 pub fn drive_batched<
     O: Origin + Send + Sync,
@@ -65,6 +70,7 @@ pub fn drive_batched<
     ensures of { All (IsSeatOf (name_of shared.now.board)) seats.new }
     ensures driven { OnOk result (AreDriven (name_of shared.now.board) G.OPEN limit seats.old seats.new) }
     ensures stopped { OnErr result (AreStopped (name_of shared.now.board) seats.old seats.new) }
+    ensures some { OnErr result (1 ≤ length seats.old) }
 {
     match start_threads(rt, alloc, seats.len()) {
         Ok(()) => {
@@ -79,7 +85,9 @@ pub fn drive_batched<
 }
 
 /// Starts so many threads, which end at once.
-fn start_threads<R: Threads>(rt: &R, alloc: Global, count: usize) -> Result<(), DriveFault> {
+fn start_threads<R: Threads>(rt: &R, alloc: Global, count: usize) -> Result<(), DriveFault>
+    ensures { OnErr result (1 ≤ count) }
+{
     let mut started = Vec::new(alloc);
     for _thread in 0..count {
         let Ok(thread) = spawn(rt, || {}) else {
@@ -169,6 +177,9 @@ fn make_turns<O: Origin, F: Ledgers, G: Gate, R: Wait>(
     ensures of { IsSeatOf (name_of shared.now.board) seat.new × (hart seat.new ≡ hart seat.old) }
     ensures made { (number seat.old ≤ number seat.new) × (number seat.new ≤ number seat.old + limit) }
     ensures ended { EndedSo G.OPEN limit (number seat.old) seat.new result }
+    ensures asked { has_asked seat.new.glance ≡ has_asked seat.old.glance }
+    ensures stopped { has_asked seat.old.glance ≡ true → number seat.new ≡ number seat.old }
+    ensures told { has_asked seat.old.glance ≡ true → G.OPEN ≡ true → 1 ≤ limit → number seat.old < most_turns → result ≡ Refused StopAsked }
 {
     let mut left = limit;
     while left > 0 {

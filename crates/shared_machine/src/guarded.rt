@@ -87,7 +87,7 @@ impl<O: Origin, F: Ledgers> Guarded<O, F> {
 }
 
 /// The code of an outcome. Codes of a hart's turns add up to its tally.
-fn code(outcome: Outcome) -> u64
+pub(crate) fn code(outcome: Outcome) -> u64
     ensures { result ≡ code_of outcome }
 {
     match outcome {

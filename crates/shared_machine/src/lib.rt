@@ -20,6 +20,7 @@ pub mod locked;
 mod opening;
 pub mod origins;
 pub mod refusals;
+mod replaying;
 pub mod running;
 pub mod seats;
 pub mod shared;

@@ -1,6 +1,6 @@
 //! A machine that runs until its harts stop.
 
-ghost use Rattle.std.specs.Prelude.{◌≡◌, ◌≤◌, [], All, length, true, false, OnOk, IfOk};
+ghost use Rattle.std.specs.Prelude.{◌≡◌, All, length, true, false, OnOk, IfOk};
 ghost use Rattle.board.specs.Tokens.{name_of};
 ghost use Rattle.turn_log.specs.TurnLog.{count_of};
 ghost use Rattle.shared_machine.specs.Driving.{AreDriven, has_refused, refused_by};
@@ -25,47 +25,43 @@ use std::sync::Wait;
 use std::thread::Threads;
 use turn_log::TurnLog;
 
-/// How many turns are made under one lock.
+/// How many turns are made under one lock at most.
 const BATCH: u64 = 64;
 
-/// Runs the machine of an image, of 1 to 8 harts, in a thread for each hart, until each has stopped or has made so many turns. The
-/// machine at the end, and the log of its turns.
+/// Runs the machine of an image on from a log of its turns, in a thread for each of the log's harts, until each has stopped or has made so
+/// many turns more. The machine at the end, and the log of all turns, which begins with the one given.
 ///
 /// Where a turn is refused memory, none comes out; nor where threads can't be had.
 pub fn run<R: Threads + Wait + Sync>(
     rt: &R,
     alloc: Global,
     image: Image,
-    harts: usize,
+    log: TurnLog,
     limit: u64,
 ) -> Result<(Machine, TurnLog), DriveFault>
-    requires some { 1 ≤ harts }
-    requires few { harts ≤ 8 }
-    ensures machine { IfOk result (λ ran. ran.0 ≡ state_after image harts ran.1.turns) }
-    ensures log { IfOk result (λ ran. IsRunOf image harts [] limit ran.1) }
+    ensures machine { IfOk result (λ ran. ran.0 ≡ state_after image log.harts ran.1.turns) }
+    ensures log { IfOk result (λ ran. IsRunOf image log.harts log.turns limit ran.1) }
 {
-    run_new::<Brand, Brand, R>(rt, alloc, image, harts, limit, Blanks::new())
+    run_named::<Brand, Brand, R>(rt, alloc, image, log, limit, Blanks::new())
 }
 
 /// The same of a machine that types name.
-fn run_new<O: Origin + Send + Sync, F: Ledgers + Send + Sync, R: Threads + Wait + Sync>(
+fn run_named<O: Origin + Send + Sync, F: Ledgers + Send + Sync, R: Threads + Wait + Sync>(
     rt: &R,
     alloc: Global,
     image: Image,
-    harts: usize,
+    log: TurnLog,
     limit: u64,
     blanks: Blanks,
 ) -> Result<(Machine, TurnLog), DriveFault>
     requires image { image ≡ O.image }
-    requires harts { harts ≡ O.harts }
-    requires resumed { O.resumed ≡ [] }
-    requires some { 1 ≤ harts }
-    requires few { harts ≤ 8 }
+    requires harts { log.harts ≡ O.harts }
+    requires resumed { log.turns ≡ O.resumed }
     requires blanks { AreNamed F.numbers F.tallies blanks }
     ensures machine { IfOk result (λ ran. ran.0 ≡ state_after O.image O.harts ran.1.turns) }
     ensures log { IfOk result (λ ran. IsRunOf O.image O.harts O.resumed limit ran.1) }
 {
-    let (shared, seats) = Shared::<O, F>::new(alloc, image, harts, blanks)?;
+    let (shared, seats) = Shared::<O, F>::resume(alloc, image, log, blanks)?;
     run_out(rt, alloc, shared, seats, limit)
 }
 

@@ -3,7 +3,7 @@
 ghost use Rattle.std.specs.Prelude.{◌≡◌, ◌≢◌, ◌+◌, ◌-◌, ◌*◌, ◌%◌, ◌<◌, ◌≤◌, ◌↔◌, true, Err, OnErr, IfOk, IfSome, IfNone};
 ghost use Rattle.turn_log.specs.TurnLog.{most_turns};
 ghost use Rattle.board.specs.Closing.{IsNewGlance};
-ghost use Rattle.board.specs.Tokens.{name_of, has_seen_stop};
+ghost use Rattle.board.specs.Tokens.{name_of, has_asked, has_seen_stop};
 ghost use Rattle.shared_machine.specs.Log.{Came, CameSo, code_of, most_batch};
 ghost use Rattle.shared_machine.specs.Seats.{IsSeatOf, hart, number, tally};
 ghost use Rattle.shared_machine.specs.declared.refusals.Refusal.TheVariants.{TurnsSpent, StopAsked};
@@ -50,6 +50,9 @@ impl<O: Origin, F: Ledgers> Shared<O, F> {
     }
 
     /// One turn of the seat's hart, under the lock. A hart that has stopped makes one too. Waits for the lock.
+    ///
+    /// A call that finds a stop asked makes no turn and says so, and so does each later call by this seat. One that comes after a
+    /// stop was asked by the seat finds it.
     pub fn turn<R: Wait>(&self, rt: &R, seat: &mut Seat<O, F>) -> Result<Report, Refusal>
         requires { IsSeatOf (name_of self.now.board) seat.old }
         ensures of { IsSeatOf (name_of self.now.board) seat.new × (hart seat.new ≡ hart seat.old) }
@@ -60,6 +63,10 @@ impl<O: Origin, F: Ledgers> Shared<O, F> {
         ensures same { OnErr result ((number seat.new ≡ number seat.old) × (tally seat.new ≡ tally seat.old)) }
         ensures spent { (result ≡ Err TurnsSpent) ↔ (most_turns ≤ number seat.old) }
         ensures stopped { result ≡ Err StopAsked → has_seen_stop seat.new.glance ≡ true }
+        ensures told { has_seen_stop seat.new.glance ≡ true → number seat.old < most_turns → result ≡ Err StopAsked }
+        ensures asked { has_asked seat.old.glance ≡ true → number seat.old < most_turns → result ≡ Err StopAsked }
+        ensures kept { (has_asked seat.new.glance ≡ has_asked seat.old.glance) × (has_seen_stop seat.old.glance ≡ true → has_seen_stop seat.new.glance ≡ true) }
+        ensures ended { seat.new.ended ≡ seat.old.ended }
     {
         match self.turns(rt, seat, 1) {
             Ok(batch) => Ok(Report {
@@ -71,7 +78,7 @@ impl<O: Origin, F: Ledgers> Shared<O, F> {
     }
 
     /// Turns of the seat's hart, one after the other, under one lock: until one doesn't step, so many are made, or the seat's
-    /// number is 2^40. It makes at least one. Waits for the lock.
+    /// number is 2^40. It makes at least one. Waits for the lock. A stop is told as by [`turn`](Shared::turn).
     pub fn turns<R: Wait>(&self, rt: &R, seat: &mut Seat<O, F>, most: u64) -> Result<Batch, Refusal>
         requires of { IsSeatOf (name_of self.now.board) seat.old }
         requires some { 1 ≤ most }
@@ -86,6 +93,10 @@ impl<O: Origin, F: Ledgers> Shared<O, F> {
         ensures same { OnErr result ((number seat.new ≡ number seat.old) × (tally seat.new ≡ tally seat.old)) }
         ensures spent { (result ≡ Err TurnsSpent) ↔ (most_turns ≤ number seat.old) }
         ensures stopped { result ≡ Err StopAsked → has_seen_stop seat.new.glance ≡ true }
+        ensures told { has_seen_stop seat.new.glance ≡ true → number seat.old < most_turns → result ≡ Err StopAsked }
+        ensures asked { has_asked seat.old.glance ≡ true → number seat.old < most_turns → result ≡ Err StopAsked }
+        ensures kept { (has_asked seat.new.glance ≡ has_asked seat.old.glance) × (has_seen_stop seat.old.glance ≡ true → has_seen_stop seat.new.glance ≡ true) }
+        ensures ended { seat.new.ended ≡ seat.old.ended }
     {
         let Seat {
             shares,

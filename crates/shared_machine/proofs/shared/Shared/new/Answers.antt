@@ -1,11 +1,12 @@
-use Rattle.std.proofs.Common.{sym, ap, ◌∙◌, subst, take}
-use Rattle.shared_machine.specs.Tallies.{AreSharesAt}
-use Rattle.shared_machine.proofs.Seating.{shares-take, seats-of}
+use Rattle.std.proofs.Common.{subst}
+use Rattle.std.specs.Prelude.{IfOk}
+use Rattle.board.specs.Tokens.{name_of}
+use Rattle.turn_log.specs.TurnLog.{count_of}
+use Rattle.shared_machine.specs.Log.{tally}
+use Rattle.shared_machine.specs.Seats.{AreSeatsAt}
 use Rattle.shared_machine.proofs.shared.Shared.new.Goals as goal
 
-pub take_seats-requires-clause-shares : goal.take_seats-requires-clause-shares
-take_seats-requires-clause-shares g c =
-    subst (AreSharesAt (λ hart. 0) (λ hart. 0) 0) (sym (c.truncate.ensures.items ∙ ap (take c.args.harts) c.in_ok-shares.ensures.items)) (shares-take (λ hart. 0) (λ hart. 0) 0 c.args.harts _ c.open_all-books.ensures.shares)
-
-pub returns-clause-of : goal.returns-clause-of
-returns-clause-of g c = seats-of _ (λ hart. 0) (λ hart. 0) 0 _ c.in_ok-seats.ensures.seats
+pub returns-clause-seats : goal.returns-clause-seats
+returns-clause-seats g c =
+    subst (λ log. IfOk c.resume.result (λ made. AreSeatsAt (name_of made.0.board) (count_of log.turns) (tally c.args.image log.harts log.turns) 0 made.1.items))
+    c.new.ensures c.resume.ensures.seats
