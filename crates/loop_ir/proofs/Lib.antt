@@ -4,6 +4,7 @@ pub mod Folds
 pub mod Loads
 pub mod Needs
 pub mod Points
+pub mod Sizes
 pub mod Sound
 pub mod Stored
 pub mod Sums

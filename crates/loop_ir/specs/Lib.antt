@@ -5,6 +5,7 @@ pub mod Depths
 pub mod Expressions
 pub mod Needs
 pub mod Running
+pub mod Sizes
 pub mod Soundness
 pub mod Stores
 pub mod Rounds

@@ -2,7 +2,8 @@
 //!
 //! - [`expressions`]: expressions over the values of loops and what buffers hold (`specs/Expressions.antt`).
 //! - [`statements`]: stores, loops and tests; a phase is a statement that is run once for each of its tasks. How many counters
-//!   stand around a store: `specs/Depths.antt`; how many registers expressions need: `specs/Needs.antt`.
+//!   stand around a store: `specs/Depths.antt`; how many registers expressions need: `specs/Needs.antt`; how many words of code a
+//!   statement may ask for: `specs/Sizes.antt`.
 //! - [`buffers`]: pixels of inputs and Funcs (`specs/Buffers.antt`).
 //! - [`running`]: **what a statement and a phase do to the buffers** (`specs/Running.antt`).
 //! - [`linear`]: sums of counters times strides, and what is made of them.

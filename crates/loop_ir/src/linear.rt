@@ -1,6 +1,6 @@
 //! Linear expressions, and what is made of them.
 
-ghost use Rattle.std.specs.Prelude.{◌≡◌, ◌+◌, ◌*◌, ◌%◌, ◌^◌, IfOk, IfSome, OnOk, Some, slice_get};
+ghost use Rattle.std.specs.Prelude.{◌≡◌, ◌≤◌, ◌+◌, ◌*◌, ◌%◌, ◌^◌, IfOk, IfSome, OnOk, Some, length, slice_get};
 ghost use Rattle.halide_pipeline.specs.Words as word;
 ghost use Rattle.loop_ir.specs.Counters.{Values};
 ghost use Rattle.loop_ir.specs.Expressions.{linear_value, sum_of};
@@ -24,7 +24,8 @@ fn place_of(terms: &[Term], counter: Counter) -> Option<(usize, u32)>
 
 /// Adds a term. Terms of one counter become one.
 fn add_term(terms: &mut Items<Term>, term: Term) -> Result<(), AllocError>
-    ensures { OnOk result ((values : Values) → sum_of values terms.new % 2 ^ 32 ≡ (sum_of values terms.old + values term.counter * term.stride) % 2 ^ 32) }
+    ensures few { OnOk result (length terms.new ≤ length terms.old + 1) }
+    ensures sum { OnOk result ((values : Values) → sum_of values terms.new % 2 ^ 32 ≡ (sum_of values terms.old + values term.counter * term.stride) % 2 ^ 32) }
 {
     match place_of(terms.as_slice(), term.counter) {
         Some((place, stride)) => {
@@ -44,7 +45,8 @@ fn add_term(terms: &mut Items<Term>, term: Term) -> Result<(), AllocError>
 
 /// Takes terms away from a sum.
 fn take_away(terms: &mut Items<Term>, others: &[Term]) -> Result<(), AllocError>
-    ensures { OnOk result ((values : Values) → (sum_of values terms.new + sum_of values others.now) % 2 ^ 32 ≡ sum_of values terms.old % 2 ^ 32) }
+    ensures few { OnOk result (length terms.new ≤ length terms.old + length others.now) }
+    ensures sum { OnOk result ((values : Values) → (sum_of values terms.new + sum_of values others.now) % 2 ^ 32 ≡ sum_of values terms.old % 2 ^ 32) }
 {
     match others {
         [] => Ok(()),
@@ -64,7 +66,8 @@ impl Linear {
     /// A number alone.
     #[tactic(auto, unfolding(crate::specs::Expressions::linear_value))]
     pub fn of_number(alloc: Global, number: u32) -> Linear
-        ensures { (values : Values) → linear_value values result ≡ number }
+        ensures value { (values : Values) → linear_value values result ≡ number }
+        ensures few { length result.terms ≡ 0 }
     {
         Linear {
             number,
@@ -75,7 +78,8 @@ impl Linear {
     /// A counter alone.
     #[tactic(auto, unfolding(crate::specs::Expressions::linear_value))]
     pub fn of_counter(alloc: Global, counter: Counter) -> Result<Linear, AllocError>
-        ensures { IfOk result (λ made. (values : Values) → linear_value values made ≡ values counter % 2 ^ 32) }
+        ensures value { IfOk result (λ made. (values : Values) → linear_value values made ≡ values counter % 2 ^ 32) }
+        ensures few { IfOk result (λ made. length made.terms ≡ 1) }
     {
         let mut terms = Items::new(alloc);
         terms.push(Term { counter, stride: 1 })?;
@@ -95,7 +99,8 @@ impl Linear {
 
     /// So much more.
     pub fn plus_number(self, number: u32) -> Linear
-        ensures { (values : Values) → linear_value values result ≡ word.add (linear_value values self) number }
+        ensures value { (values : Values) → linear_value values result ≡ word.add (linear_value values self) number }
+        ensures few { length result.terms ≡ length self.terms }
     {
         let Linear { number: own, terms } = self;
         Linear {
@@ -106,7 +111,8 @@ impl Linear {
 
     /// What is left without another one.
     pub fn minus(self, other: &Linear) -> Result<Linear, AllocError>
-        ensures { IfOk result (λ made. (values : Values) → linear_value values made ≡ word.subtract (linear_value values self) (linear_value values other.now)) }
+        ensures value { IfOk result (λ made. (values : Values) → linear_value values made ≡ word.subtract (linear_value values self) (linear_value values other.now)) }
+        ensures few { IfOk result (λ made. length made.terms ≤ length self.terms + length other.now.terms) }
     {
         let Linear {
             number: own,
