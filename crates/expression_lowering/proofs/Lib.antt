@@ -3,3 +3,4 @@ pub mod Calling
 pub mod Taking
 pub mod Walking
 pub mod Public
+pub mod Sizing

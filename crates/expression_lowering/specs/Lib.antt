@@ -1,3 +1,4 @@
 pub mod Lowering
 pub mod Needing
+pub mod Sizing
 pub mod inner

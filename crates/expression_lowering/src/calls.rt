@@ -1,6 +1,6 @@
 //! Loads of buffers.
 
-ghost use Rattle.std.specs.Prelude.{◌≡◌, ◌≤◌, ◌+◌, ℕ, Bool, List, IfOk, max};
+ghost use Rattle.std.specs.Prelude.{◌≡◌, ◌≤◌, ◌+◌, ℕ, Bool, List, Option, IfOk, length, max};
 ghost use Rattle.std.specs.Option.{option_copied};
 ghost use Rattle.halide_pipeline.specs.Words as word;
 ghost use Rattle.halide_pipeline.specs.declared.expressions.Expr.TheOpen as layer;
@@ -9,8 +9,11 @@ ghost use Rattle.reads.specs.Points.{Point, Seen, Hold};
 ghost use Rattle.loop_ir.specs.Counters.{Values};
 ghost use Rattle.loop_ir.specs.Expressions.{value, loads, linear_value};
 ghost use Rattle.loop_ir.specs.Needs.{leaf, need, need_of};
+ghost use Rattle.loop_ir.specs.Sizes.{kept, size, size_of};
 ghost use Rattle.expression_lowering.specs.Lowering as spec;
+ghost use Rattle.expression_lowering.specs.Sizing.{AreShort, IsGiven};
 ghost use Rattle.expression_lowering.specs.inner.Following.{Follows, algebra};
+ghost use Rattle.expression_lowering.specs.inner.Sizing.{IsGivenSecond, call_nodes};
 
 use crate::parts::{new_binary, new_load};
 use halide_pipeline::{Operation, Source};
@@ -46,6 +49,8 @@ pub fn counted_from(alloc: Global, coordinate: Expr, corner: &Linear) -> Result<
         → Hold test (loads reads values coordinate) → Hold test (loads reads values made)) }
     ensures needs { IfOk result (λ made. need made ≡ need coordinate) }
     ensures leaf { IfOk result (λ made. (n : ℕ) → coordinate ≡ Expr.Number n → need_of made ≡ leaf) }
+    ensures sizes { IfOk result (λ made. length corner.now.terms ≤ 5 → size made ≤ size coordinate + 26) }
+    ensures numbers { IfOk result (λ made. length corner.now.terms ≤ 5 → (n : ℕ) → coordinate ≡ Expr.Number n → (kept (size_of made) ≡ 0) × (size made ≤ 22)) }
 {
     match coordinate {
         Expr::Number(number) => {
@@ -77,6 +82,7 @@ pub(crate) fn load(
         → Follows corners.now values reads given made ((algebra corners.now values reads).level (layer.Call2 source left right))) }
     ensures needs { IfOk result (λ made. need made ≤ max (need x) (1 + need y)) }
     ensures alone { IfOk result (λ made. (n : ℕ) → y ≡ Expr.Number n → need made ≤ need x) }
+    ensures sizes { IfOk result (λ made. AreShort corners.now → (left : ℕ) (right : Option ℕ) → IsGiven (size x) left → IsGivenSecond y right → IsGiven (size made) (call_nodes left right)) }
 {
     match corner_of(corners, source) {
         None => {

@@ -10,10 +10,14 @@ ghost use Rattle.inlining.specs.Laws.{seen_variable};
 ghost use Rattle.inlining.specs.Values.{values as valuing, seeing};
 ghost use Rattle.loop_ir.specs.Counters.{Values};
 ghost use Rattle.loop_ir.specs.Expressions.{value, loads};
+ghost use Rattle.inlining.specs.Weights.{counting};
 ghost use Rattle.loop_ir.specs.Needs.{need};
+ghost use Rattle.loop_ir.specs.Sizes.{size};
 ghost use Rattle.expression_lowering.specs.Lowering.{environment, place, placed};
 ghost use Rattle.expression_lowering.specs.Needing.{taking};
 ghost use Rattle.expression_lowering.specs.inner.Following.{Follows, algebra, variable_terms, term_loads};
+ghost use Rattle.expression_lowering.specs.Sizing.{AreShort, AreShortArguments, IsGiven};
+ghost use Rattle.expression_lowering.specs.inner.Sizing.{AreGiven, IsGivenSecond, call_nodes, term_size};
 ghost use Rattle.expression_lowering.specs.inner.Taking.{AreTaken, IsSecond, call_need, term_need};
 
 use crate::calls::{Corner, load};
@@ -51,6 +55,7 @@ fn variable_of(
     ensures follows { IfOk result (λ made. (corners : List Corner) (values : Values) (reads : Reads)
         → Follows corners values reads (term_loads reads values variables.now) made (variable_terms reads values variables.now variable)) }
     ensures needs { IfOk result (λ made. need made ≡ term_need variables.now variable) }
+    ensures sizes { IfOk result (λ made. size made ≡ term_size variables.now variable) }
 {
     match variable {
         Variable::FirstArgument => {
@@ -86,6 +91,7 @@ fn lowered_in(
     ensures follows { IfOk result (λ made. (values : Values) (reads : Reads) → Follows corners.now values reads (term_loads reads values variables.now) made
         (inlined (algebra corners.now values reads) (flagged flags.now) funcs.now count (variable_terms reads values variables.now) expr.now)) }
     ensures needs { IfOk result (λ made. (most : Variables → ℕ) → AreTaken variables.now most → need made ≤ inlined taking (flagged flags.now) funcs.now count most expr.now) }
+    ensures sizes { IfOk result (λ made. AreShort corners.now → (nodes : Variables → ℕ) → AreGiven variables.now nodes → IsGiven (size made) (inlined counting (flagged flags.now) funcs.now count nodes expr.now)) }
 {
     match expr {
         Expr::Number(own) => Ok(number(*own)),
@@ -148,6 +154,8 @@ fn called(
         (answered ((algebra corners.now values reads).level (layer.Call2 source left right)) left (Some right) (answer (inside (algebra corners.now values reads) (flagged flags.now) funcs.now count) source))) }
     ensures needs { IfOk result (λ made. (left : ℕ) (right : Option ℕ) → need x ≤ left → IsSecond y right
         → need made ≤ answered (call_need left right) left right (answer (inside taking (flagged flags.now) funcs.now count) source)) }
+    ensures sizes { IfOk result (λ made. AreShort corners.now → (left : ℕ) (right : Option ℕ) → IsGiven (size x) left → IsGivenSecond y right
+        → IsGiven (size made) (answered (call_nodes left right) left right (answer (inside counting (flagged flags.now) funcs.now count) source))) }
 {
     match source {
         Source::Input(_) => {
@@ -195,6 +203,7 @@ pub fn lowered(
         → Hold (λ point. test (place corners.now values point)) (inlined (seeing (placed corners.now values reads)) (flagged flags.now) funcs.now count (seen_variable (environment values variables.now)) expr.now).points
         → Hold test (loads reads values made)) }
     ensures needs { IfOk result (λ made. need made ≤ inlined taking (flagged flags.now) funcs.now count (λ v. 1) expr.now) }
+    ensures sizes { IfOk result (λ made. AreShort corners.now → AreShortArguments variables.now → IsGiven (size made) (inlined counting (flagged flags.now) funcs.now count (λ v. 1) expr.now)) }
 {
     let first_argument = terms::Expr::Linear(variables.first_argument.copy(alloc)?);
     let second_argument = terms::Expr::Linear(variables.second_argument.copy(alloc)?);

@@ -8,6 +8,7 @@ ghost use Rattle.reads.specs.Points.{Hold, Point, Seen};
 ghost use Rattle.loop_ir.specs.Counters.{Values};
 ghost use Rattle.loop_ir.specs.Expressions.{loads, value};
 ghost use Rattle.loop_ir.specs.Needs.{divisor_need, need};
+ghost use Rattle.loop_ir.specs.Sizes.{size};
 ghost use Rattle.expression_lowering.specs.declared.calls.Corner.{Corner};
 ghost use Rattle.expression_lowering.specs.inner.Following.{Follows, algebra};
 
@@ -109,6 +110,7 @@ pub(crate) fn binary(
         → Follows corners values reads given a left → Follows corners values reads given b right
         → Follows corners values reads given made ((algebra corners values reads).level (layer.Binary operation left right))) }
     ensures needs { IfOk result (λ made. need made ≤ max (need a) (1 + need b)) }
+    ensures sizes { IfOk result (λ made. size made ≤ size a + size b + 19) }
 {
     match shift_of(operation, &b) {
         None => {
@@ -141,6 +143,7 @@ fn shifted(alloc: Global, own: Expr, number: u32) -> Result<Expr, AllocError>
     ensures value { IfOk result (λ made. (reads : Reads) (values : Values) → value reads values made ≡ word.add (value reads values own) number) }
     ensures loads { IfOk result (λ made. (reads : Reads) (values : Values) (test : Point → Bool) → Hold test (loads reads values own) → Hold test (loads reads values made)) }
     ensures needs { IfOk result (λ made. need made ≤ need own) }
+    ensures sizes { IfOk result (λ made. size made ≤ size own + 6) }
 {
     match own {
         Expr::Linear(linear) => Ok(Expr::Linear(linear.plus_number(number))),
@@ -156,6 +159,7 @@ pub(crate) fn divide(alloc: Global, a: Expr, divisor: u32) -> Result<Expr, Alloc
     ensures follows { IfOk result (λ made. (corners : List Corner) (values : Values) (reads : Reads) (given : List Point) (own : Seen)
         → Follows corners values reads given a own → Follows corners values reads given made ((algebra corners values reads).level (layer.Divide own divisor))) }
     ensures needs { IfOk result (λ made. need made ≤ max (need a) (divisor_need divisor)) }
+    ensures sizes { IfOk result (λ made. size made ≤ size a + 11) }
 {
     let own = Boxed::new(alloc, a)?;
     Ok(Expr::Divide(own, divisor))
@@ -166,6 +170,7 @@ pub(crate) fn remainder(alloc: Global, a: Expr, divisor: u32) -> Result<Expr, Al
     ensures follows { IfOk result (λ made. (corners : List Corner) (values : Values) (reads : Reads) (given : List Point) (own : Seen)
         → Follows corners values reads given a own → Follows corners values reads given made ((algebra corners values reads).level (layer.Remainder own divisor))) }
     ensures needs { IfOk result (λ made. need made ≤ max (need a) (divisor_need divisor)) }
+    ensures sizes { IfOk result (λ made. size made ≤ size a + 13) }
 {
     let own = Boxed::new(alloc, a)?;
     Ok(Expr::Remainder(own, divisor))
@@ -177,6 +182,7 @@ pub(crate) fn select(alloc: Global, c: Expr, a: Expr, b: Expr) -> Result<Expr, A
         → Follows corners values reads given c test → Follows corners values reads given a left → Follows corners values reads given b right
         → Follows corners values reads given made ((algebra corners values reads).level (layer.Select test left right))) }
     ensures needs { IfOk result (λ made. need made ≤ max (need c) (max (1 + need a) (2 + need b))) }
+    ensures sizes { IfOk result (λ made. size made ≤ size c + size a + size b + 33) }
 {
     let made = new_select(alloc, c, a, b)?;
     Ok(made)

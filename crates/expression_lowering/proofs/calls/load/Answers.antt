@@ -10,6 +10,7 @@ use Rattle.expression_lowering.proofs.Following.{load_follows}
 use Rattle.loop_ir.specs.Needs.{need, need_of}
 use Rattle.loop_ir.proofs.Needs.{need_number}
 use Rattle.expression_lowering.proofs.Taking.{load_few, load_alone}
+use Rattle.expression_lowering.proofs.Sizing.{load_given, plain_given, short_of}
 use Rattle.expression_lowering.proofs.calls.load.Goals as goal
 
 pub returns-in_ok-made-in-None-clause-follows : goal.returns-in_ok-made-in-None-clause-follows
@@ -43,3 +44,15 @@ returns-in_ok-made-in-Some-clause-needs c =
 pub returns-in_ok-made-in-Some-clause-alone : goal.returns-in_ok-made-in-Some-clause-alone
 returns-in_ok-made-in-Some-clause-alone c = λ n is.
     load_alone c.args.source c.in_ok-made-in-Some.made c.in_ok-x-in-Some.x c.in_ok-y-in-Some.y (need c.args.x) c.in_ok-made-in-Some.ensures c.in_ok-x-in-Some.ensures.needs (c.in_ok-y-in-Some.ensures.leaf n is)
+
+pub returns-in_ok-made-in-None-clause-sizes : goal.returns-in_ok-made-in-None-clause-sizes
+returns-in_ok-made-in-None-clause-sizes c = λ short left right fl fr.
+    plain_given c.args.source c.in_ok-made-in-None.made c.args.x c.args.y left right c.in_ok-made-in-None.ensures fl fr
+
+pub returns-in_ok-made-in-Some-clause-sizes : goal.returns-in_ok-made-in-Some-clause-sizes
+returns-in_ok-made-in-Some-clause-sizes c = λ short left right fl fr.
+    let corner = c.in-Some.corner.now in
+    let is : Some corner ≡ corner_of c.args.corners.now c.args.source = sym (ap option_copied c.in-Some.is) ∙ c.corner_of.ensures in
+    let few = short_of c.args.corners.now c.args.source corner short is in
+    load_given c.args.source c.in_ok-made-in-Some.made c.in_ok-x-in-Some.x c.in_ok-y-in-Some.y c.args.x c.args.y left right c.in_ok-made-in-Some.ensures
+    (c.in_ok-x-in-Some.ensures.sizes few.0) (c.in_ok-y-in-Some.ensures.sizes few.1) (c.in_ok-y-in-Some.ensures.numbers few.1) fl fr

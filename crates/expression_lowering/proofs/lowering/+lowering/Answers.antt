@@ -12,6 +12,11 @@ use Rattle.expression_lowering.specs.inner.Taking.{call_need}
 use Rattle.expression_lowering.proofs.Taking as taken
 use Rattle.expression_lowering.proofs.Calling.{not_inlined, input, is_made, made_follows}
 use Rattle.expression_lowering.proofs.Walking.{number_arm, variable_arm, binary_arm, divide_arm, remainder_arm, select_arm, call1_arm, call2_arm}
+use Rattle.inlining.specs.Weights.{counting}
+use Rattle.loop_ir.specs.Sizes.{size}
+use Rattle.expression_lowering.specs.Sizing.{IsGiven}
+use Rattle.expression_lowering.specs.inner.Sizing.{call_nodes}
+use Rattle.expression_lowering.proofs.Sizing as sized
 use Rattle.expression_lowering.proofs.lowering.+lowering.Goals as goal
 
 pub lowered_in-lowered_in-requires : goal.lowered_in-lowered_in-requires
@@ -237,3 +242,57 @@ called-returns-in_ok-made-in-Some-clause-needs t c = λ left right fl fr.
     let zero = taken.number_need c.number-zero.result 0 c.number-zero.ensures.is in
     taken.made_few (flagged c.args.flags.now) c.args.funcs.now c.args.count c.in-Func.place c.args.source c.in-Some.func.now c.in_ok-made-in-Some.made c.args.x c.args.y _ left right c.in-Func.is found
     fl fr refl refl zero zero c.in_ok-made-in-Some.ensures.needs
+
+pub lowered_in-returns-in-Number-clause-sizes : goal.lowered_in-returns-in-Number-clause-sizes
+lowered_in-returns-in-Number-clause-sizes t c = λ short nodes few.
+    sized.number_arm (inside counting (flagged c.args.flags.now) c.args.funcs.now c.args.count) nodes c.args.expr.now c.number.result c.in-Number.own c.in-Number.is c.number.ensures.is
+
+pub lowered_in-returns-in_ok-made-in-Variable-clause-sizes : goal.lowered_in-returns-in_ok-made-in-Variable-clause-sizes
+lowered_in-returns-in_ok-made-in-Variable-clause-sizes t c = λ short nodes few.
+    let l = few c.in-Variable.own in let i = c.in_ok-made-in-Variable.ensures.sizes in
+    sized.variable_arm (inside counting (flagged c.args.flags.now) c.args.funcs.now c.args.count) nodes c.args.expr.now c.in_ok-made-in-Variable.made c.in-Variable.own c.in-Variable.is (omega (arith, l, i))
+
+pub lowered_in-returns-in_ok-made-in-Binary-clause-sizes : goal.lowered_in-returns-in_ok-made-in-Binary-clause-sizes
+lowered_in-returns-in_ok-made-in-Binary-clause-sizes t c = λ short nodes few.
+    sized.binary_arm (inside counting (flagged c.args.flags.now) c.args.funcs.now c.args.count) nodes c.args.expr.now c.in_ok-made-in-Binary.made c.in-Binary.operation c.in-Binary.a c.in-Binary.b c.get.result.now c.get-in-Binary.result.now c.in_ok-a-in-Binary.a c.in_ok-b-in-Binary.b
+    c.in-Binary.is c.get.ensures c.get-in-Binary.ensures (c.in_ok-a-in-Binary.ensures.sizes short nodes few) (c.in_ok-b-in-Binary.ensures.sizes short nodes few) c.in_ok-made-in-Binary.ensures.sizes
+
+pub lowered_in-returns-in_ok-made-in-Divide-clause-sizes : goal.lowered_in-returns-in_ok-made-in-Divide-clause-sizes
+lowered_in-returns-in_ok-made-in-Divide-clause-sizes t c = λ short nodes few.
+    sized.divide_arm (inside counting (flagged c.args.flags.now) c.args.funcs.now c.args.count) nodes c.args.expr.now c.in_ok-made-in-Divide.made c.in-Divide.a c.get-in-Divide.result.now c.in-Divide.divisor c.in_ok-a-in-Divide.a c.in-Divide.is c.get-in-Divide.ensures
+    (c.in_ok-a-in-Divide.ensures.sizes short nodes few) c.in_ok-made-in-Divide.ensures.sizes
+
+pub lowered_in-returns-in_ok-made-in-Remainder-clause-sizes : goal.lowered_in-returns-in_ok-made-in-Remainder-clause-sizes
+lowered_in-returns-in_ok-made-in-Remainder-clause-sizes t c = λ short nodes few.
+    sized.remainder_arm (inside counting (flagged c.args.flags.now) c.args.funcs.now c.args.count) nodes c.args.expr.now c.in_ok-made-in-Remainder.made c.in-Remainder.a c.get-in-Remainder.result.now c.in-Remainder.divisor c.in_ok-a-in-Remainder.a c.in-Remainder.is c.get-in-Remainder.ensures
+    (c.in_ok-a-in-Remainder.ensures.sizes short nodes few) c.in_ok-made-in-Remainder.ensures.sizes
+
+pub lowered_in-returns-in_ok-made-in-Select-clause-sizes : goal.lowered_in-returns-in_ok-made-in-Select-clause-sizes
+lowered_in-returns-in_ok-made-in-Select-clause-sizes t c = λ short nodes few.
+    sized.select_arm (inside counting (flagged c.args.flags.now) c.args.funcs.now c.args.count) nodes c.args.expr.now c.in_ok-made-in-Select.made c.in-Select.c c.in-Select.a c.in-Select.b c.get-in-Select.result.now c.get-in-Select-2.result.now c.get-in-Select-3.result.now
+    c.in_ok-c-in-Select.c c.in_ok-a-in-Select.a c.in_ok-b-in-Select.b c.in-Select.is c.get-in-Select.ensures c.get-in-Select-2.ensures c.get-in-Select-3.ensures
+    (c.in_ok-c-in-Select.ensures.sizes short nodes few) (c.in_ok-a-in-Select.ensures.sizes short nodes few) (c.in_ok-b-in-Select.ensures.sizes short nodes few) c.in_ok-made-in-Select.ensures.sizes
+
+pub lowered_in-returns-in_ok-made-in-Call1-clause-sizes : goal.lowered_in-returns-in_ok-made-in-Call1-clause-sizes
+lowered_in-returns-in_ok-made-in-Call1-clause-sizes t c = λ short nodes few.
+    sized.call1_arm (inside counting (flagged c.args.flags.now) c.args.funcs.now c.args.count) nodes c.args.expr.now c.in_ok-made-in-Call1.made c.in-Call1.source c.in-Call1.x c.get-in-Call1.result.now c.in_ok-x-in-Call1.x c.number-in-Call1.result c.in-Call1.is c.get-in-Call1.ensures
+    (c.in_ok-x-in-Call1.ensures.sizes short nodes few) c.number-in-Call1.ensures.is (c.in_ok-made-in-Call1.ensures.sizes short)
+
+pub lowered_in-returns-in_ok-made-in-Call2-clause-sizes : goal.lowered_in-returns-in_ok-made-in-Call2-clause-sizes
+lowered_in-returns-in_ok-made-in-Call2-clause-sizes t c = λ short nodes few.
+    sized.call2_arm (inside counting (flagged c.args.flags.now) c.args.funcs.now c.args.count) nodes c.args.expr.now c.in_ok-made-in-Call2.made c.in-Call2.source c.in-Call2.x c.in-Call2.y c.get-in-Call2.result.now c.get-in-Call2-2.result.now c.in_ok-x-in-Call2.x c.in_ok-y-in-Call2.y
+    c.in-Call2.is c.get-in-Call2.ensures c.get-in-Call2-2.ensures (c.in_ok-x-in-Call2.ensures.sizes short nodes few) (c.in_ok-y-in-Call2.ensures.sizes short nodes few) (c.in_ok-made-in-Call2.ensures.sizes short)
+
+pub called-returns-in_ok-made-in-None-clause-sizes : goal.called-returns-in_ok-made-in-None-clause-sizes
+called-returns-in_ok-made-in-None-clause-sizes t c = λ short left right fl fr.
+    let found : func_in c.args.funcs.now (flagged c.args.flags.now) c.args.count c.in-Func.place ≡ None = sym c.inlined_func.ensures ∙ ap option_copied c.in-None.is in
+    subst (IsGiven (size c.in_ok-made-in-None.made))
+    (sized.not_inlined (flagged c.args.flags.now) c.args.funcs.now c.args.count c.in-Func.place c.args.source (call_nodes left right) left right c.in-Func.is found)
+    (c.in_ok-made-in-None.ensures.sizes short left right fl fr)
+
+pub called-returns-in_ok-made-in-Some-clause-sizes : goal.called-returns-in_ok-made-in-Some-clause-sizes
+called-returns-in_ok-made-in-Some-clause-sizes t c = λ short left right fl fr.
+    let found : func_in c.args.funcs.now (flagged c.args.flags.now) c.args.count c.in-Func.place ≡ Some c.in-Some.func.now = sym c.inlined_func.ensures ∙ ap option_copied c.in-Some.is in
+    let zero = sized.number_size c.number-zero.result 0 c.number-zero.ensures.is in
+    sized.made_given (flagged c.args.flags.now) c.args.funcs.now c.args.count c.in-Func.place c.args.source c.in-Some.func.now c.in_ok-made-in-Some.made c.args.x c.args.y _ left right c.in-Func.is found
+    fl fr refl refl zero zero (c.in_ok-made-in-Some.ensures.sizes short)

@@ -1,6 +1,7 @@
 use Rattle.inlining.specs.Inlining.{flagged}
 use Rattle.expression_lowering.proofs.Taking.{all_ones, linear_need}
 use Rattle.expression_lowering.proofs.Public.{lowered_value, lowered_loads}
+use Rattle.expression_lowering.proofs.Sizing.{all_short, sum_short}
 use Rattle.expression_lowering.proofs.lowering.lowered.Goals as goal
 
 pub returns-clause-value : goal.returns-clause-value
@@ -19,3 +20,9 @@ pub returns-clause-needs : goal.returns-clause-needs
 returns-clause-needs c =
     c.in_ok-made.ensures.needs (λ v. 1)
     (all_ones _ (linear_need c.in_ok-copy.field-0) (linear_need c.in_ok-copy-2.field-0) (linear_need c.in_ok-copy-3.field-0) (linear_need c.in_ok-copy-4.field-0))
+
+pub returns-clause-sizes : goal.returns-clause-sizes
+returns-clause-sizes c = λ short few.
+    c.in_ok-made.ensures.sizes short (λ v. 1)
+    (all_short _ (sum_short c.args.variables.now.first_argument c.in_ok-copy.field-0 c.in_ok-copy.ensures few.0) (sum_short c.args.variables.now.second_argument c.in_ok-copy-2.field-0 c.in_ok-copy-2.ensures few.1.0)
+    (sum_short c.args.variables.now.first_reduction c.in_ok-copy-3.field-0 c.in_ok-copy-3.ensures few.1.1.0) (sum_short c.args.variables.now.second_reduction c.in_ok-copy-4.field-0 c.in_ok-copy-4.ensures few.1.1.1))

@@ -4,6 +4,7 @@ use Rattle.loop_ir.specs.declared.expressions.Expr.{Expr}
 use Rattle.expression_lowering.specs.inner.Following.{Follows, algebra}
 use Rattle.expression_lowering.proofs.Following.{binary_follows, shifted_follows}
 use Rattle.expression_lowering.proofs.Taking.{binary_need}
+use Rattle.expression_lowering.proofs.Sizing.{binary_size}
 use Rattle.expression_lowering.proofs.parts.binary.Goals as goal
 
 pub returns-in_ok-made-in-None-clause-follows : goal.returns-in_ok-made-in-None-clause-follows
@@ -18,3 +19,6 @@ returns-in_ok-made-in-Some-clause-follows c = λ corners values reads given left
 
 pub returns-in_ok-made-in-None-clause-needs : goal.returns-in_ok-made-in-None-clause-needs
 returns-in_ok-made-in-None-clause-needs c = binary_need c.args.operation c.in_ok-made-in-None.made c.args.a c.args.b c.in_ok-made-in-None.ensures
+
+pub returns-in_ok-made-in-None-clause-sizes : goal.returns-in_ok-made-in-None-clause-sizes
+returns-in_ok-made-in-None-clause-sizes c = binary_size c.args.operation c.in_ok-made-in-None.made c.args.a c.args.b c.in_ok-made-in-None.ensures

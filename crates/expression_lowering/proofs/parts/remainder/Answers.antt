@@ -4,6 +4,8 @@ use Rattle.expression_lowering.specs.inner.Following.{Follows}
 use Rattle.expression_lowering.proofs.Following.{remainder_follows}
 use Rattle.loop_ir.specs.Needs.{need}
 use Rattle.expression_lowering.proofs.Taking.{remainder_need}
+use Rattle.loop_ir.specs.Sizes.{size}
+use Rattle.expression_lowering.proofs.Sizing.{remainder_size}
 use Rattle.expression_lowering.proofs.parts.remainder.Goals as goal
 
 pub returns-clause-follows : goal.returns-clause-follows
@@ -14,4 +16,10 @@ pub returns-clause-needs : goal.returns-clause-needs
 returns-clause-needs c =
     let i = remainder_need _ c.in_ok-own.own c.args.divisor refl in
     let j : need c.in_ok-own.own ≡ need c.args.a = ap need c.in_ok-own.ensures in
+    omega (arith, i, j)
+
+pub returns-clause-sizes : goal.returns-clause-sizes
+returns-clause-sizes c =
+    let i = remainder_size _ c.in_ok-own.own c.args.divisor refl in
+    let j : size c.in_ok-own.own ≡ size c.args.a = ap size c.in_ok-own.ensures in
     omega (arith, i, j)

@@ -4,6 +4,7 @@ use Rattle.loop_ir.specs.declared.expressions.Expr.{Expr}
 use Rattle.expression_lowering.specs.inner.Following.{Follows, algebra}
 use Rattle.expression_lowering.proofs.Following.{select_follows}
 use Rattle.expression_lowering.proofs.Taking.{select_need}
+use Rattle.expression_lowering.proofs.Sizing.{select_size}
 use Rattle.expression_lowering.proofs.parts.select.Goals as goal
 
 pub returns-clause-follows : goal.returns-clause-follows
@@ -13,3 +14,6 @@ returns-clause-follows c = λ corners values reads given test left right fc fa f
 
 pub returns-clause-needs : goal.returns-clause-needs
 returns-clause-needs c = let i = select_need c.in_ok-made.made c.args.c c.args.a c.args.b c.in_ok-made.ensures in omega (arith, i)
+
+pub returns-clause-sizes : goal.returns-clause-sizes
+returns-clause-sizes c = let i = select_size c.in_ok-made.made c.args.c c.args.a c.args.b c.in_ok-made.ensures in omega (arith, i)
