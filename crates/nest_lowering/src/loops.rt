@@ -1,12 +1,13 @@
 //! Loops around a body.
 
-ghost use Rattle.std.specs.Prelude.{◌≡◌, ◌+◌, ◌++◌, ℕ, Bool, List, IfOk, length, suc};
+ghost use Rattle.std.specs.Prelude.{◌≡◌, ◌+◌, ◌*◌, ◌++◌, ℕ, Bool, List, IfOk, length, suc};
 ghost use Rattle.halide_meaning.specs.Pixel.{Planes, Reads};
 ghost use Rattle.reads.specs.Points.{Point};
 ghost use Rattle.loop_ir.specs.Buffers.{Points};
 ghost use Rattle.loop_ir.specs.Counters.{Values, with};
 ghost use Rattle.loop_ir.specs.Depths.{depth};
 ghost use Rattle.loop_ir.specs.Needs.{greatest_need};
+ghost use Rattle.loop_ir.specs.Sizes.{whole_size};
 ghost use Rattle.loop_ir.specs.Rounds.{is_vectorized, rounds, rounds_at};
 ghost use Rattle.loop_ir.specs.Running.{run, turns};
 ghost use Rattle.loop_ir.specs.Runs.{is_about, is_about_at, runs, runs_at};
@@ -60,6 +61,7 @@ fn looped(
         → is_sound reads written loaded made values ≡ every count (λ turn. is_sound reads written loaded body (with counter turn values))) }
     ensures depth { IfOk result (λ made. depth made ≡ suc (depth body)) }
     ensures needs { IfOk result (λ made. greatest_need made ≡ greatest_need body) }
+    ensures sizes { IfOk result (λ made. whole_size made ≡ whole_size body + 7) }
     ensures rounds { IfOk result (λ made. (reads : Reads) → rounds reads made ≡ rounds_at reads (layer.For counter count kind (rounds reads body))) }
     ensures about { IfOk result (λ made. (place : ℕ) → is_about place made ≡ is_about_at place (layer.For counter count kind (is_about place body))) }
     ensures in_runs { IfOk result (λ made. (reads : Reads) (place x y : ℕ) (expected : Values → Bool)
@@ -93,6 +95,7 @@ pub fn loop_once(
         → Repeats func made leaf (λ outer. upto (counts.counts sizes.now.extents sizes.now.splits own.now.id) (λ turn. list (counts.with own.now.id turn outer)))) }
     ensures depth { IfOk result (λ made. depth made ≡ suc (depth body)) }
     ensures needs { IfOk result (λ made. greatest_need made ≡ greatest_need body) }
+    ensures sizes { IfOk result (λ made. whole_size made ≡ whole_size body + 7) }
     ensures rounds { IfOk result (GoesAround func (counts.counts sizes.now.extents sizes.now.splits) own.now body) }
     ensures about { IfOk result (λ made. is_about func made ≡ is_about func body) }
     ensures in_runs { IfOk result (RunsAround func (counts.counts sizes.now.extents sizes.now.splits) own.now body) }
@@ -122,6 +125,7 @@ pub fn with_loops(
         → Repeats func made leaf (nest (counts.counts sizes.now.extents sizes.now.splits) loops.now list)) }
     ensures depth { IfOk result (λ made. depth made ≡ length loops.now + depth body) }
     ensures needs { IfOk result (λ made. greatest_need made ≡ greatest_need body) }
+    ensures sizes { IfOk result (λ made. whole_size made ≡ 7 * length loops.now + whole_size body) }
     ensures rounds { IfOk result (λ made. (outside : List Loop) → MayBeAtOnce func (counts.counts sizes.now.extents sizes.now.splits) (loops.now ++ outside) body
         → MayBeAround func (counts.counts sizes.now.extents sizes.now.splits) loops.now outside body
         → MayBeAtOnce func (counts.counts sizes.now.extents sizes.now.splits) outside made) }

@@ -1,12 +1,13 @@
 //! The values of loops that are split.
 
-ghost use Rattle.std.specs.Prelude.{◌≡◌, ℕ, Bool, ◌+◌, ◌≤◌, ◌<◌, ◌^◌, List, nat_lt, true, if◌then◌else◌, IfOk, length, suc};
+ghost use Rattle.std.specs.Prelude.{◌≡◌, ℕ, Bool, ◌+◌, ◌*◌, ◌≤◌, ◌<◌, ◌^◌, List, nat_lt, true, if◌then◌else◌, IfOk, length, suc};
 ghost use Rattle.halide_meaning.specs.Pixel.{Planes, Reads};
 ghost use Rattle.reads.specs.Points.{Point};
 ghost use Rattle.loop_ir.specs.Buffers.{Points};
 ghost use Rattle.loop_ir.specs.Counters.{Values, with};
 ghost use Rattle.loop_ir.specs.Depths.{depth};
 ghost use Rattle.loop_ir.specs.Needs.{greatest_need};
+ghost use Rattle.loop_ir.specs.Sizes.{whole_size};
 ghost use Rattle.loop_ir.specs.Rounds.{rounds, rounds_at};
 ghost use Rattle.loop_ir.specs.Running.{run, whole_value};
 ghost use Rattle.loop_ir.specs.Runs.{is_about};
@@ -67,6 +68,7 @@ fn bound(
         ≡ (if nat_lt (whole_value whole values) extent then is_sound reads written loaded body (with counter (whole_value whole values) values) else true)) }
     ensures depth { IfOk result (λ made. depth made ≡ suc (depth body)) }
     ensures needs { IfOk result (λ made. greatest_need made ≡ greatest_need body) }
+    ensures sizes { IfOk result (λ made. whole_size made ≡ whole_size body + 14) }
     ensures rounds { IfOk result (λ made. (reads : Reads) → rounds reads made ≡ rounds_at reads (layer.Bind counter whole extent (rounds reads body))) }
     ensures about { IfOk result (λ made. (of : ℕ) → is_about of made ≡ is_about of body) }
 {
@@ -89,6 +91,7 @@ fn split_once(
         → (leaf : Stmt) (list : counts.Values → List counts.Values) → Repeats func body leaf list → Repeats func made leaf (split_body before place split list)) }
     ensures depth { IfOk result (λ made. depth made ≡ suc (depth body)) }
     ensures needs { IfOk result (λ made. greatest_need made ≡ greatest_need body) }
+    ensures sizes { IfOk result (λ made. whole_size made ≡ whole_size body + 14) }
     ensures leaf { IfOk result (λ made. IsLeaf body → IsLeaf made) }
     ensures about { IfOk result (λ made. (of : ℕ) → is_about of made ≡ is_about of body) }
 {
@@ -126,6 +129,7 @@ pub fn with_splits(
     ensures repeats { IfOk result (λ made. (leaf : Stmt) (list : counts.Values → List counts.Values) → Repeats func body leaf list → Repeats func made leaf (over_loops extents splits.now list)) }
     ensures depth { IfOk result (λ made. depth made ≡ length splits.now + depth body) }
     ensures needs { IfOk result (λ made. greatest_need made ≡ greatest_need body) }
+    ensures sizes { IfOk result (λ made. whole_size made ≡ 14 * length splits.now + whole_size body) }
     ensures leaf { IfOk result (λ made. IsLeaf body → IsLeaf made) }
     ensures about { IfOk result (λ made. (of : ℕ) → is_about of made ≡ is_about of body) }
 {

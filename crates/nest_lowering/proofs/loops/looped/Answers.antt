@@ -1,4 +1,4 @@
-use Rattle.std.proofs.Common.{suc, ap, ◌∙◌}
+use Rattle.std.proofs.Common.{◌+◌, suc, ap, ◌∙◌}
 use Rattle.loop_ir.specs.declared.statements.Stmt.{Stmt}
 use Rattle.loop_ir.specs.declared.statements.Stmt.TheOpen as layer
 use Rattle.loop_ir.specs.Counters.{with}
@@ -7,12 +7,14 @@ use Rattle.loop_ir.specs.Needs.{greatest_need}
 use Rattle.loop_ir.specs.Rounds.{rounds, rounds_at}
 use Rattle.loop_ir.specs.Running.{run, turns}
 use Rattle.loop_ir.specs.Runs.{is_about, is_about_at, runs, runs_at}
+use Rattle.loop_ir.specs.Sizes.{whole_size}
 use Rattle.loop_ir.specs.Soundness.{every, is_sound}
 use Rattle.loop_ir.specs.Stores.{trace}
 use Rattle.loop_ir.proofs.Depths.{depth_for}
 use Rattle.loop_ir.proofs.Needs.{greatest_for}
 use Rattle.loop_ir.proofs.Rounds.{rounds_for}
 use Rattle.loop_ir.proofs.Runs.{about_for, runs_for}
+use Rattle.loop_ir.proofs.Sizes.{whole_for}
 use Rattle.loop_ir.proofs.Sound.{sound_for}
 use Rattle.loop_ir.proofs.Traces.{trace_for}
 use Rattle.loop_ir.proofs.Trees.{run_for}
@@ -53,3 +55,6 @@ pub returns-clause-in_runs : goal.returns-clause-in_runs
 returns-clause-in_runs c = λ reads place x y expected.
     runs_for reads place x y expected c.args.counter c.args.count c.args.kind c.in_ok-body.body
     ∙ ap (λ (own : Stmt). runs_at reads place x y expected (layer.For c.args.counter c.args.count c.args.kind (runs reads place x y expected own))) c.in_ok-body.ensures
+
+pub returns-clause-sizes : goal.returns-clause-sizes
+returns-clause-sizes c = whole_for c.args.counter c.args.count c.args.kind c.in_ok-body.body ∙ ap (λ (own : Stmt). whole_size own + 7) c.in_ok-body.ensures

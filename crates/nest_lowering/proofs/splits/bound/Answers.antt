@@ -1,4 +1,4 @@
-use Rattle.std.proofs.Common.{suc, true, cond, ap, ◌∙◌}
+use Rattle.std.proofs.Common.{◌+◌, suc, true, cond, ap, ◌∙◌}
 use Rattle.std.specs.Prelude.{nat_lt}
 use Rattle.loop_ir.specs.declared.statements.Stmt.{Stmt}
 use Rattle.loop_ir.specs.declared.statements.Stmt.TheOpen as layer
@@ -8,12 +8,14 @@ use Rattle.loop_ir.specs.Needs.{greatest_need}
 use Rattle.loop_ir.specs.Rounds.{rounds, rounds_at}
 use Rattle.loop_ir.specs.Running.{run, whole_value}
 use Rattle.loop_ir.specs.Runs.{is_about}
+use Rattle.loop_ir.specs.Sizes.{whole_size}
 use Rattle.loop_ir.specs.Soundness.{is_sound}
 use Rattle.loop_ir.specs.Stores.{trace}
 use Rattle.loop_ir.proofs.Depths.{depth_bind}
 use Rattle.loop_ir.proofs.Needs.{greatest_bind}
 use Rattle.loop_ir.proofs.Rounds.{rounds_bind}
 use Rattle.loop_ir.proofs.Runs.{about_bind}
+use Rattle.loop_ir.proofs.Sizes.{whole_bind}
 use Rattle.loop_ir.proofs.Sound.{sound_bind}
 use Rattle.loop_ir.proofs.Traces.{trace_bind}
 use Rattle.loop_ir.proofs.Trees.{run_bind}
@@ -50,3 +52,6 @@ returns-clause-rounds c = λ reads.
 
 pub returns-clause-about : goal.returns-clause-about
 returns-clause-about c = λ of. about_bind of c.args.counter c.args.whole c.args.extent c.in_ok-body.body ∙ ap (is_about of) c.in_ok-body.ensures
+
+pub returns-clause-sizes : goal.returns-clause-sizes
+returns-clause-sizes c = whole_bind c.args.counter c.args.whole c.args.extent c.in_ok-body.body ∙ ap (λ (own : Stmt). whole_size own + 14) c.in_ok-body.ensures
