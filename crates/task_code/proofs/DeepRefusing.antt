@@ -12,7 +12,7 @@ use Rattle.loop_ir.proofs.Folds.{at_number, at_linear}
 use Rattle.loop_ir.proofs.Needs.{need_binary, need_divide, need_remainder, need_select, need_load}
 use Rattle.task_code.specs.declared.places.Places.{Places}
 use Rattle.task_code.specs.Code.{Made, made, made_at, frame_words}
-use Rattle.task_code.specs.Faults.{FitsStack, FitsFrame, HasRoom, LieLow}
+use Rattle.task_code.specs.Faults.{FitsStack, FitsFrame, FitsSecond, HasRoom, LieLow}
 use Rattle.task_code.proofs.Refusing.{sized, divisor-some}
 
 few-words : (frames : Option ℕ) → frame_words frames ≤ 1024
@@ -65,18 +65,14 @@ module _ (places : Places) (scope : List Counter) where
 
   pub record PairFits (a b : Expr) (word : ℕ) : Type 0 where
     pub first : Fits a word
-    pub second : Fits b (word + 1)
-    pub low : LieLow places.frames
-    pub room : word < frame_words places.frames
+    pub second : FitsSecond places.frames b word
 
   pair-fits : (a b : Expr) (word : ℕ) → LieLow places.frames → max (need a) (beside_first (need_of b)) + word ≤ frame_words places.frames → PairFits a b word
   pair-fits a b word low room =
       let s = (sized places scope a).some in
       record {
         first = (low, inr (omega (arith, room)));
-        second = (low, by-leaf (need_of b).is_leaf (sized places scope b).one room);
-        low = low;
-        room = omega (arith, room, s);
+        second = (low, (by-leaf (need_of b).is_leaf (sized places scope b).one room, λ t. omega (arith, room, s)));
       }
     where
       by-leaf : (t : Bool) → (t ≡ true → need b ≡ 1) → max (need a) (if t then 0 else 1 + need b) + word ≤ frame_words places.frames → HasRoom places.frames (need b) (word + 1)
@@ -118,6 +114,16 @@ module _ (places : Places) (scope : List Counter) where
         low = fits.0;
         room = omega (arith, room, s);
       }
+
+  pub no-second-part : (x a : Expr) (word : ℕ) → x ≡ a → (FitsSecond places.frames x word → ⊥) → FitsSecond places.frames a word → ⊥
+  no-second-part x a word ex none fits = none (subst (λ (y : Expr). FitsSecond places.frames y word) (sym ex) fits)
+
+  -- a leaf needs one register
+  pub leaf-fits : (own : Expr) → (made places scope own).is_leaf ≡ true → FitsStack own 14
+  leaf-fits own is = let one = (sized places scope own).one (sym (sized places scope own).leaf_is ∙ is) in omega (arith, one)
+
+  pub no-leaf : (own : Expr) → (made places scope own).is_leaf ≡ false → (need_of own).is_leaf ≡ false
+  no-leaf own is = sym (sized places scope own).leaf_is ∙ is
 
   -- no part fits, or no word is left
   pub no-part : (x a : Expr) (word : ℕ) → x ≡ a → (Fits x word → ⊥) → Fits a word → ⊥

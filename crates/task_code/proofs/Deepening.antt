@@ -1,5 +1,5 @@
 -- Words that parts of code spell, put together to the code of an expression whose values may wait in the frame.
-use Rattle.std.proofs.Common.{◌≡◌, ℕ, ◌+◌, ◌^◌, ◌<◌, ◌≤◌, List, [], ◌∷◌, Bool, true, false, refl, ap, ◌∙◌, sym, subst, arith}
+use Rattle.std.proofs.Common.{◌≡◌, ℕ, ◌+◌, ◌^◌, ◌<◌, ◌≤◌, List, [], ◌∷◌, ◌++◌, Bool, true, false, refl, ap, ◌∙◌, sym, subst, arith}
 use Rattle.std.specs.Prelude.{◌&&◌, nat_le, nat_lt, max, min, pos, if◌then◌else◌}
 use Rattle.std.proofs.lemmas.Bool.{and_from}
 use Rattle.std.proofs.lemmas.Bool.Decides.{nat_tests}
@@ -16,7 +16,7 @@ use Rattle.loop_ir.specs.declared.expressions.Expr.TheVariants as e
 use Rattle.loop_ir.proofs.Folds.{Both, left_of, right_of, folds_related, at_binary, at_divide, at_remainder, at_select, at_load}
 use Rattle.task_code.specs.declared.places.Place.{Place}
 use Rattle.task_code.specs.declared.places.Places.{Places}
-use Rattle.task_code.specs.Code.{Made, Deep, EmitsValue, EmitsDeep, on_stack, deep_or, deep_leaf, deep_at, deep, made, made_at, frames_of, frame_words, literal, spill, unspill, operation, quotient, remainder, selection, addressed, fetch, loading, place_of, second_need}
+use Rattle.task_code.specs.Code.{Made, Deep, EmitsValue, EmitsDeep, EmitsSecond, beside, second_code, second_depth, move, on_stack, deep_or, deep_leaf, deep_at, deep, made, made_at, frames_of, frame_words, literal, spill, unspill, operation, quotient, remainder, selection, addressed, fetch, loading, place_of, second_need}
 use Rattle.task_code.specs.Words.{Emits}
 use Rattle.task_code.proofs.Spelling.{emits_then}
 
@@ -101,36 +101,81 @@ module _ (places : Places) (scope : List Counter) where
   of : (x a : Expr) (word : ℕ) (c0 c1 : List ℕ) → x ≡ a → Emitted c0 c1 x word → Emitted c0 c1 a word
   of x a word c0 c1 e m = subst (λ y. Emitted c0 c1 y word) e m
 
-  pair-room : (a b n most : ℕ) → a + n ≤ most → b + (n + 1) ≤ most → max a (1 + b) + n ≤ most
+  pair-room : (a b n most : ℕ) → a + n ≤ most → b + n ≤ most → max a b + n ≤ most
   pair-room a b n most la lb = omega (arith, la, lb)
 
   triple-room : (c a b n most : ℕ) → c + n ≤ most → a + (n + 1) ≤ most → b + (n + 2) ≤ most → max c (max (1 + a) (2 + b)) + n ≤ most
   triple-room c a b n most lc la lb = omega (arith, lc, la, lb)
 
-  pub binary-deep : (own : Expr) (k word : ℕ) (o : Operation) (a b x z : Expr) (c0 c1 c2 c3 c4 c5 c6 : List ℕ) → k ≡ min (made places scope own).need 100 → 12 < k
-      → own ≡ e.Binary o a b → x ≡ a → z ≡ b → Emitted c0 c1 x word → Emits c1 c2 (spill start word) → Emitted c2 c3 z (word + 1) → Emits c3 c4 (AluImm Addi 21 20 (pos 0) ∷ [])
-      → Emits c4 c5 (unspill start word 20) → Emits c5 c6 (operation o 20 21) → Emitted c0 c6 own word
-  unfolding deep
-  binary-deep own k word o a b x z c0 c1 c2 c3 c4 c5 c6 ek many eo ex ez u s v m l w =
-      let first = of x a word c0 c1 ex u in
-      let second = of z b (word + 1) c2 c3 ez v in
-      or-emitted own k word _ _ _ c0 c6 ek many (ap (deep places scope) eo ∙ at_binary Deep (deep_at places scope) o a b)
-      (and_from (deep places scope a).own.is_word (deep places scope b).own.is_word first.is_word second.is_word)
-      (emits_then first.emits (emits_then s (emits_then second.emits (emits_then m (emits_then l w)))))
-      (pair-room (deep places scope a).depth (deep places scope b).depth word (frame_words places.frames) first.room second.room)
+  abbrev EmittedSecond : List ℕ → List ℕ → Expr → ℕ → ℕ → Type 0
+  EmittedSecond c0 c1 own word second = EmitsSecond c0 c1 places.frames (deep places scope own) word second
 
-  pub load-deep : (own : Expr) (k word : ℕ) (source : Source) (a b x z : Expr) (place : Place) (c0 c1 c2 c3 c4 c5 c6 c7 : List ℕ) → k ≡ min (made places scope own).need 100 → 12 < k
-      → own ≡ e.Load source a b → x ≡ a → z ≡ b → place ≡ place_of places source → Emitted c0 c1 x word → Emits c1 c2 (spill start word) → Emitted c2 c3 z (word + 1)
-      → Emits c3 c4 (AluImm Addi 21 20 (pos 0) ∷ []) → Emits c4 c5 (unspill start word 20) → Emits c5 c6 (addressed place 20 21) → Emits c6 c7 (fetch place.pixels 20) → Emitted c0 c7 own word
+  second-of : (x a : Expr) (word second : ℕ) (c0 c1 : List ℕ) → x ≡ a → EmittedSecond c0 c1 x word second → EmittedSecond c0 c1 a word second
+  second-of x a word second c0 c1 e m = subst (λ y. EmittedSecond c0 c1 y word second) e m
+
+  is-leaf : (own : Expr) (t : Bool) → (made places scope own).is_leaf ≡ t → (deep places scope own).own.is_leaf ≡ t
+  is-leaf own t is = ap (λ m. m.is_leaf) (is-deep own).own_is ∙ is
+
+  -- a leaf beside the first slot
+  pub leaf-second : (own : Expr) (word : ℕ) (c0 c1 : List ℕ) → (made places scope own).is_leaf ≡ true → word ≤ frame_words places.frames
+      → EmitsValue c0 c1 (made places scope own) 14 → EmittedSecond c0 c1 own word 14
+  leaf-second own word c0 c1 is fits x =
+      let d = deep places scope own in
+      let t : d.own.is_leaf ≡ true = is-leaf own true is in
+      let none : second_depth d ≡ 0 = ap (λ b. if b then 0 else 1 + d.depth) t in
+      let code-is : second_code start d word ≡ (made places scope own).code 14
+      = ap (λ b. if b then d.own.code 14 else spill start word ++ (d.code (word + 1) ++ (move 21 20 ++ unspill start word 20))) t ∙ ap (λ m. m.code 14) (is-deep own).own_is in
+      record {
+        emits = subst (Emits c0 c1) (sym code-is) x.emits;
+        room = omega (arith, none, fits);
+        is_word = ap (λ m. m.is_word) (is-deep own).own_is ∙ x.is_word;
+        second_is = sym (ap (λ b. beside b 20) t);
+        low = omega arith;
+      }
+
+  -- another one, while the first slot's value waits
+  pub waiting-second : (own : Expr) (word : ℕ) (c0 c1 c2 c3 c4 : List ℕ) → (made places scope own).is_leaf ≡ false → Emits c0 c1 (spill start word) → Emitted c1 c2 own (word + 1)
+      → Emits c2 c3 (AluImm Addi 21 20 (pos 0) ∷ []) → Emits c3 c4 (unspill start word 20) → EmittedSecond c0 c4 own word 21
+  waiting-second own word c0 c1 c2 c3 c4 is s x m l =
+      let d = deep places scope own in
+      let t : d.own.is_leaf ≡ false = is-leaf own false is in
+      let more : second_depth d ≡ 1 + d.depth = ap (λ b. if b then 0 else 1 + d.depth) t in
+      let code-is : second_code start d word ≡ spill start word ++ (d.code (word + 1) ++ (move 21 20 ++ unspill start word 20))
+      = ap (λ b. if b then d.own.code 14 else spill start word ++ (d.code (word + 1) ++ (move 21 20 ++ unspill start word 20))) t in
+      let r = x.room in
+      record {
+        emits = subst (Emits c0 c4) (sym code-is) (emits_then s (emits_then x.emits (emits_then m l)));
+        room = omega (arith, more, r);
+        is_word = x.is_word;
+        second_is = sym (ap (λ b. beside b 20) t);
+        low = omega arith;
+      }
+
+  pub binary-deep : (own : Expr) (k word second : ℕ) (o : Operation) (a b x z : Expr) (c0 c1 c2 c3 : List ℕ) → k ≡ min (made places scope own).need 100 → 12 < k
+      → own ≡ e.Binary o a b → x ≡ a → z ≡ b → Emitted c0 c1 x word → EmittedSecond c1 c2 z word second → Emits c2 c3 (operation o 20 second) → Emitted c0 c3 own word
   unfolding deep
-  load-deep own k word source a b x z place c0 c1 c2 c3 c4 c5 c6 c7 ek many eo ex ez ep u s v m l w g =
-      let first = of x a word c0 c1 ex u in
-      let second = of z b (word + 1) c2 c3 ez v in
-      let made-of : Emits c5 c7 (loading (place_of places source) 20 21) = subst (λ p. Emits c5 c7 (loading p 20 21)) ep (emits_then w g) in
-      or-emitted own k word _ _ _ c0 c7 ek many (ap (deep places scope) eo ∙ at_load Deep (deep_at places scope) source a b)
-      (and_from (deep places scope a).own.is_word (deep places scope b).own.is_word first.is_word second.is_word)
-      (emits_then first.emits (emits_then s (emits_then second.emits (emits_then m (emits_then l made-of)))))
-      (pair-room (deep places scope a).depth (deep places scope b).depth word (frame_words places.frames) first.room second.room)
+  binary-deep own k word second o a b x z c0 c1 c2 c3 ek many eo ex ez u v w =
+      let left = of x a word c0 c1 ex u in
+      let right = second-of z b word second c1 c2 ez v in
+      let made-of = subst (λ s. Emits c2 c3 (operation o 20 s)) right.second_is w in
+      or-emitted own k word _ _ _ c0 c3 ek many (ap (deep places scope) eo ∙ at_binary Deep (deep_at places scope) o a b)
+      (and_from (deep places scope a).own.is_word (deep places scope b).own.is_word left.is_word right.is_word)
+      (emits_then left.emits (emits_then right.emits made-of))
+      (pair-room (deep places scope a).depth (second_depth (deep places scope b)) word (frame_words places.frames) left.room right.room)
+
+  pub load-deep : (own : Expr) (k word second : ℕ) (source : Source) (a b x z : Expr) (place : Place) (c0 c1 c2 c3 c4 : List ℕ) → k ≡ min (made places scope own).need 100 → 12 < k
+      → own ≡ e.Load source a b → x ≡ a → z ≡ b → place ≡ place_of places source → Emitted c0 c1 x word → EmittedSecond c1 c2 z word second
+      → Emits c2 c3 (addressed place 20 second) → Emits c3 c4 (fetch place.pixels 20) → Emitted c0 c4 own word
+  unfolding deep
+  load-deep own k word second source a b x z place c0 c1 c2 c3 c4 ek many eo ex ez ep u v w g =
+      let left = of x a word c0 c1 ex u in
+      let right = second-of z b word second c1 c2 ez v in
+      let at-place : Emits c2 c4 (loading (place_of places source) 20 second) = subst (λ p. Emits c2 c4 (loading p 20 second)) ep (emits_then w g) in
+      let made-of = subst (λ s. Emits c2 c4 (loading (place_of places source) 20 s)) right.second_is at-place in
+      or-emitted own k word _ _ _ c0 c4 ek many (ap (deep places scope) eo ∙ at_load Deep (deep_at places scope) source a b)
+      (and_from (deep places scope a).own.is_word (deep places scope b).own.is_word left.is_word right.is_word)
+      (emits_then left.emits (emits_then right.emits made-of))
+      (pair-room (deep places scope a).depth (second_depth (deep places scope b)) word (frame_words places.frames) left.room right.room)
 
   divisor-word : (c : ℕ) → (0 < c) × (c < 2 ^ 32) → (nat_lt 0 c && nat_lt c (2 ^ 32)) ≡ true
   divisor-word c l = and_from (nat_lt 0 c) (nat_lt c (2 ^ 32)) (below 0 c l.0) (below c (2 ^ 32) l.1)

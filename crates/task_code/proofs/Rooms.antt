@@ -1,7 +1,7 @@
 -- An expression takes no more words of the frame than registers, and none where the stack has room.
-use Rattle.std.proofs.Common.{◌≡◌, ℕ, ◌+◌, ◌<◌, ◌≤◌, List, Bool, true, false, refl, ap, ◌∙◌, sym, arith, inl, inr}
+use Rattle.std.proofs.Common.{◌≡◌, ℕ, ◌+◌, ◌<◌, ◌≤◌, List, Bool, true, false, refl, ap, ◌∙◌, sym, subst, arith, inl, inr}
 use Rattle.std.specs.Prelude.{◌⊎◌, nat_le, max, if◌then◌else◌}
-use Rattle.std.proofs.lemmas.Bool.{and_from, true≢false}
+use Rattle.std.proofs.lemmas.Bool.{and_from}
 use Rattle.std.proofs.lemmas.Bool.Decides.{nat_tests}
 use Rattle.rv_insn.specs.declared.instructions.Insn.{Insn}
 use Rattle.loop_ir.specs.declared.expressions.Counter.{Counter}
@@ -10,7 +10,7 @@ use Rattle.loop_ir.specs.declared.expressions.Expr.TheOpen.{Expr-F}
 use Rattle.loop_ir.specs.declared.expressions.Expr.TheOpen as layer
 use Rattle.loop_ir.proofs.Folds.{Both, left_of, right_of, folds_related}
 use Rattle.task_code.specs.declared.places.Places.{Places}
-use Rattle.task_code.specs.Code.{Made, Deep, on_stack, deep_or, deep_at, deep, made, made_at, frame_words, second_need}
+use Rattle.task_code.specs.Code.{Made, Deep, on_stack, deep_or, deep_at, deep, made, made_at, frame_words, second_depth, second_need}
 use Rattle.task_code.specs.Fitting.{ExpressionsHaveRoom}
 
 many : (n : ℕ) → nat_le (n + 20) 32 ≡ false → 12 < n
@@ -27,14 +27,12 @@ record Needs (d : Deep) (m : Made) : Type 0 where
   pub own_is : d.own ≡ m
   pub few : d.depth ≤ m.need
   pub none : m.need ≤ 12 → d.depth ≡ 0
-  pub leaf : m.is_leaf ≡ true → d.depth ≡ 0
 
-needs-or : (own m : Made) (depth : ℕ) (code : ℕ → List Insn) → own ≡ m → (12 < m.need → depth ≤ m.need) → (m.is_leaf ≡ true → m.need ≤ 12) → Needs (deep_or own depth code) m
-needs-or own m depth code is few leaf = record {
+needs-or : (own m : Made) (depth : ℕ) (code : ℕ → List Insn) → own ≡ m → (12 < m.need → depth ≤ m.need) → Needs (deep_or own depth code) m
+needs-or own m depth code is few = record {
   own_is = is;
   few = by-stack (on_stack own) (ap on_stack is);
   none = λ l. none-there l;
-  leaf = λ t. none-there (leaf t);
 }
   where
     by-stack : (t : Bool) → t ≡ on_stack m → (if t then 0 else depth) ≤ m.need
@@ -44,12 +42,13 @@ needs-or own m depth code is few leaf = record {
     none-there : m.need ≤ 12 → (if on_stack own then 0 else depth) ≡ 0
     none-there l = ap (λ b. if b then 0 else depth) (ap on_stack is ∙ enough m.need l)
 
-pair-few : (a b : Deep) (ma mb : Made) → Needs a ma → Needs b mb → 12 < max ma.need (second_need mb.is_leaf mb.need) → max a.depth (1 + b.depth) ≤ max ma.need (second_need mb.is_leaf mb.need)
-pair-few a b ma mb x y = by-leaf mb.is_leaf y.leaf
+pair-few : (a b : Deep) (ma mb : Made) → Needs a ma → Needs b mb → max a.depth (second_depth b) ≤ max ma.need (second_need mb.is_leaf mb.need)
+pair-few a b ma mb x y =
+    subst (λ t. max a.depth (if t then 0 else 1 + b.depth) ≤ max ma.need (second_need mb.is_leaf mb.need)) (sym (ap (λ m. m.is_leaf) y.own_is)) (by-leaf mb.is_leaf)
   where
-    by-leaf : (t : Bool) → (t ≡ true → b.depth ≡ 0) → 12 < max ma.need (second_need t mb.need) → max a.depth (1 + b.depth) ≤ max ma.need (second_need t mb.need)
-    by-leaf true none more = let z = none refl in let l = x.few in omega (arith, z, l, more)
-    by-leaf false none more = let l = x.few in let k = y.few in omega (arith, l, k)
+    by-leaf : (t : Bool) → max a.depth (if t then 0 else 1 + b.depth) ≤ max ma.need (second_need t mb.need)
+    by-leaf true = let l = x.few in omega (arith, l)
+    by-leaf false = let l = x.few in let k = y.few in omega (arith, l, k)
 
 triple-few : (c a b : Deep) (mc ma mb : Made) → Needs c mc → Needs a ma → Needs b mb → max c.depth (max (1 + a.depth) (2 + b.depth)) ≤ max mc.need (max (1 + ma.need) (2 + mb.need))
 triple-few c a b mc ma mb x y z = let l = x.few in let k = y.few in let j = z.few in omega (arith, l, k, j)
@@ -57,26 +56,23 @@ triple-few c a b mc ma mb x y z = let l = x.few in let k = y.few in let j = z.fe
 divided-few : (a : Deep) (ma : Made) → Needs a ma → a.depth ≤ max ma.need 2
 divided-few a ma x = let l = x.few in omega (arith, l)
 
-no-leaf : {n : ℕ} → false ≡ true → n ≤ 12
-no-leaf e = absurd (true≢false (sym e))
-
 module _ (places : Places) (scope : List Counter) where
   abbrev at : Expr-F Made → Made
   at = made_at places scope
 
   needs-level : (y : Expr-F (Both Needs)) → Needs (deep_at places scope (left_of Needs y)) (made_at places scope (right_of Needs y))
-  needs-level (layer.Number n) = needs-or (at (layer.Number n)) (at (layer.Number n)) 0 (λ word. (at (layer.Number n)).code 20) refl (λ l. omega arith) (λ t. omega arith)
-  needs-level (layer.Linear own) = needs-or (at (layer.Linear own)) (at (layer.Linear own)) 0 (λ word. (at (layer.Linear own)).code 20) refl (λ l. omega arith) (λ t. omega arith)
+  needs-level (layer.Number n) = needs-or (at (layer.Number n)) (at (layer.Number n)) 0 (λ word. (at (layer.Number n)).code 20) refl (λ l. omega arith)
+  needs-level (layer.Linear own) = needs-or (at (layer.Linear own)) (at (layer.Linear own)) 0 (λ word. (at (layer.Linear own)).code 20) refl (λ l. omega arith)
   needs-level (layer.Binary o a b) =
-      needs-or _ _ _ _ (ap (λ x. at (layer.Binary o x b.left.own)) a.is.own_is ∙ ap (λ x. at (layer.Binary o a.right x)) b.is.own_is) (pair-few a.left b.left a.right b.right a.is b.is) no-leaf
-  needs-level (layer.Divide a c) = needs-or _ _ _ _ (ap (λ x. at (layer.Divide x c)) a.is.own_is) (λ l. divided-few a.left a.right a.is) no-leaf
-  needs-level (layer.Remainder a c) = needs-or _ _ _ _ (ap (λ x. at (layer.Remainder x c)) a.is.own_is) (λ l. divided-few a.left a.right a.is) no-leaf
+      needs-or _ _ _ _ (ap (λ x. at (layer.Binary o x b.left.own)) a.is.own_is ∙ ap (λ x. at (layer.Binary o a.right x)) b.is.own_is) (λ l. pair-few a.left b.left a.right b.right a.is b.is)
+  needs-level (layer.Divide a c) = needs-or _ _ _ _ (ap (λ x. at (layer.Divide x c)) a.is.own_is) (λ l. divided-few a.left a.right a.is)
+  needs-level (layer.Remainder a c) = needs-or _ _ _ _ (ap (λ x. at (layer.Remainder x c)) a.is.own_is) (λ l. divided-few a.left a.right a.is)
   needs-level (layer.Select c a b) =
       needs-or _ _ _ _
       (ap (λ x. at (layer.Select x a.left.own b.left.own)) c.is.own_is ∙ ap (λ x. at (layer.Select c.right x b.left.own)) a.is.own_is ∙ ap (λ x. at (layer.Select c.right a.right x)) b.is.own_is)
-      (λ l. triple-few c.left a.left b.left c.right a.right b.right c.is a.is b.is) no-leaf
+      (λ l. triple-few c.left a.left b.left c.right a.right b.right c.is a.is b.is)
   needs-level (layer.Load source x y) =
-      needs-or _ _ _ _ (ap (λ p. at (layer.Load source p y.left.own)) x.is.own_is ∙ ap (λ p. at (layer.Load source x.right p)) y.is.own_is) (pair-few x.left y.left x.right y.right x.is y.is) no-leaf
+      needs-or _ _ _ _ (ap (λ p. at (layer.Load source p y.left.own)) x.is.own_is ∙ ap (λ p. at (layer.Load source x.right p)) y.is.own_is) (λ l. pair-few x.left y.left x.right y.right x.is y.is)
 
   needs : (own : Expr) → Needs (deep places scope own) (made places scope own)
   unfolding deep made

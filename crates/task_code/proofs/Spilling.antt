@@ -1,5 +1,5 @@
 -- The code of an expression leaves its value also where values wait in the hart's frame.
-use Rattle.std.proofs.Common.{◌≡◌, ℕ, ◌+◌, ◌*◌, ◌%◌, ◌^◌, ◌<◌, ◌≤◌, List, [], ◌∷◌, ◌++◌, length, Bool, true, false, refl, ap, ◌∙◌, sym, subst, arith, inl, inr}
+use Rattle.std.proofs.Common.{◌≡◌, ℕ, ◌+◌, ◌*◌, ◌%◌, ◌^◌, ◌<◌, ◌≤◌, List, [], ◌∷◌, ◌++◌, length, Bool, true, false, refl, ap, ◌∙◌, sym, subst, arith, inl, inr, append_assoc}
 use Rattle.std.specs.Prelude.{◌≢◌, ◌&&◌, ◌==◌, nat_le, nat_lt, if◌then◌else◌, max, pos}
 use Rattle.std.specs.List.{AllByRecursion, list_all}
 use Rattle.std.proofs.lemmas.Bool.{and_parts, true≢false}
@@ -33,7 +33,7 @@ use Rattle.lone_hart.specs.Alone.{World}
 use Rattle.lone_hart.specs.Paths.{update, Line}
 use Rattle.lone_hart.proofs.Paths.{update-same, update-other, line-then}
 use Rattle.lone_hart.proofs.Jumps as rules
-use Rattle.task_code.specs.Code.{Made, Deep, on_stack, deep_or, deep_leaf, deep_at, deep, made_at, framed, spill, unspill, frames_of, frame_words, literal, move, place_of, loading, operation, quotient, remainder, selection}
+use Rattle.task_code.specs.Code.{Made, Deep, beside, second_code, second_depth, on_stack, deep_or, deep_leaf, deep_at, deep, made_at, framed, spill, unspill, frames_of, frame_words, literal, move, place_of, loading, operation, quotient, remainder, selection}
 use Rattle.task_code.specs.Values.{Free, Leaves, Beside}
 use Rattle.task_code.specs.Evaluation.{Knows, Loads}
 use Rattle.task_code.specs.Layout.{frame_word, IsBefore, address_of}
@@ -41,7 +41,7 @@ use Rattle.task_code.specs.Doing.{Setting, IsSetting, HoldsFuncs}
 use Rattle.task_code.proofs.Values.{alu-sets, imm-sets, literal-sets, operation-leaves, selection-leaves}
 use Rattle.task_code.proofs.Quotients.{quotient-leaves, remainder-leaves}
 use Rattle.task_code.proofs.Addresses.{loading-leaves}
-use Rattle.task_code.proofs.Evaluation.{Evaluates, level, stacked}
+use Rattle.task_code.proofs.Evaluation.{Evaluates, Target, level, stacked}
 use Rattle.task_code.proofs.Keeping.{kept-free, knows-still}
 use Rattle.task_code.proofs.Reaching.{Reaches, scratch-open, second-open, set-first, set-last, reach-is}
 use Rattle.task_code.proofs.Storing.{stored-is, byte-other, size-stays, bytes-stay, number-other}
@@ -71,7 +71,7 @@ less : (a b : ℕ) → nat_lt a b ≡ true → a < b
 less a b t = grind (arith, nat_tests)
 
 -- words of the frame for two operands
-pair-first : (a b n most : ℕ) → max a (1 + b) + n ≤ most → a + n ≤ most
+pair-first : (a b n most : ℕ) → max a b + n ≤ most → a + n ≤ most
 pair-first a b n most l = omega (arith, l)
 
 pair-second : (a b n most : ℕ) → max a (1 + b) + n ≤ most → b + (n + 1) ≤ most
@@ -304,12 +304,19 @@ module _ (own : Setting) (good : IsSetting own) (scope : List Counter) (values :
           (stacked w own.harts memory own.places scope values reads holds.size good.are_places made.is_leaf 20 (omega arith)) (room (made.need + 20) e) knows)
       chosen is passes n f memory false e fits holds knows = goes is passes n f memory fits holds knows
 
-  beside : Beside 20 21
-  beside = record { low = omega arith; high = omega arith; other = inr (omega arith); fits = omega arith }
+  above : Beside 20 21
+  above = record { low = omega arith; high = omega arith; other = inr (omega arith); fits = omega arith }
 
-  -- what two values are made into, in one memory
+  in-scratch : Beside 20 14
+  in-scratch = record { low = omega arith; high = omega arith; other = inl refl; fits = omega arith }
+
+  -- what two values are made into, in one memory, wherever the second one stands beside the first slot
   abbrev Joins : (ℕ → ℕ → List Insn) → ℕ → ℕ → ℕ → Type 0
-  Joins combine va vb v = (memory : List ℕ) (f : ℕ → ℕ) (holds : HoldsFuncs own memory funcs) → Known f → f 20 ≡ va → f 21 ≡ vb → Leaves w memory (combine 20 21) f 20 v
+  Joins combine va vb v = (s : ℕ) → Beside 20 s → (memory : List ℕ) (f : ℕ → ℕ) (holds : HoldsFuncs own memory funcs) → Known f → f 20 ≡ va → f s ≡ vb → Leaves w memory (combine 20 s) f 20 v
+
+  -- so it is of a divisor, which stands above
+  abbrev JoinsAbove : (ℕ → ℕ → List Insn) → ℕ → ℕ → ℕ → Type 0
+  JoinsAbove combine va vb v = (memory : List ℕ) (f : ℕ → ℕ) (holds : HoldsFuncs own memory funcs) → Known f → f 20 ≡ va → f 21 ≡ vb → Leaves w memory (combine 20 21) f 20 v
 
   free-21 : (q : ℕ) → Free 20 q → q ≢ 21
   free-21 q k e = let k1 = k.1 in omega (arith, e, k1)
@@ -329,7 +336,7 @@ module _ (own : Setting) (good : IsSetting own) (scope : List Counter) (values :
       let u-stays : (q : ℕ) → Free 20 q → u.after q ≡ i.after q = (λ q k. u.others q (free-first q k) (free-from 20 q (at-most 20 20 refl) (less 20 32 refl) k) (free-second q k)) in
       let k2 = known-20 i.after u.after k1 u-stays in
       let e21 : u.after 21 ≡ vb = u.others 21 (apart 21 13 refl) (apart 21 20 refl) (apart 21 14 refl) ∙ i.value ∙ word-is vb lb in
-      let o = make memory u.after holds k2 u.value e21 in
+      let o = make 21 above memory u.after holds k2 u.value e21 in
       record {
         after = o.after;
         line = line-then w (move 21 20) (unspill start n 20 ++ combine 20 21) f i.after o.after memory memory memory i.line
@@ -338,12 +345,37 @@ module _ (own : Setting) (good : IsSetting own) (scope : List Counter) (values :
         keeps = λ q k. o.keeps q k ∙ u-stays q k ∙ i-stays q k;
       }
 
-  pair-goes : (a b : Deep) (sa sb : Seen) (combine : ℕ → ℕ → List Insn) (v : ℕ) → Follows a sa → Follows b sb → a.own.is_word ≡ true → b.own.is_word ≡ true → Passes sa.points → Passes sb.points
+  scratch-free : (q : ℕ) → Free 20 q → Free 14 q
+  scratch-free q k = (k.0, inl refl)
+
+  first-stays : Free 14 20
+  first-stays = (inr (omega arith), inl refl)
+
+  -- a leaf, and what is made of it
+  leaf-tail : (own-made : Made) (s : Seen) (combine : ℕ → ℕ → List Insn) (va v : ℕ) (f : ℕ → ℕ) (memory : List ℕ) → OnStack own-made s → own-made.is_leaf ≡ true → own-made.is_word ≡ true
+      → Passes s.points → Joins combine va s.value v → HoldsFuncs own memory funcs → Known f → f 20 ≡ va → Leaves w memory (own-made.code 14 ++ combine 20 14) f 20 v
+  leaf-tail own-made s combine va v f memory shallow is word passes make holds knows first =
+      let c = shallow memory holds.size word (all-loaded memory holds s.points passes) in
+      let one = c.one is in
+      let target : Target w own.harts memory own.places scope values reads holds.size good.are_places own-made.is_leaf 14
+      = subst (λ (t : Bool). Target w own.harts memory own.places scope values reads holds.size good.are_places t 14) (sym is) (inl refl) in
+      let y = c.leaves 14 f target (omega (arith, one)) knows in
+      let k = known-20 f y.after knows (λ q free. y.keeps q (scratch-free q free)) in
+      let o = make 14 in-scratch memory y.after holds k (y.keeps 20 first-stays ∙ first) y.value in
+      record {
+        after = o.after;
+        line = line-then w (own-made.code 14) (combine 20 14) f y.after o.after memory memory memory y.line o.line;
+        value = o.value;
+        keeps = λ q free. o.keeps q free ∙ y.keeps q (scratch-free q free);
+      }
+
+  -- another one, while the first slot's value waits
+  waiting-goes : (a b : Deep) (sa sb : Seen) (combine : ℕ → ℕ → List Insn) (v : ℕ) → Follows a sa → Follows b sb → a.own.is_word ≡ true → b.own.is_word ≡ true → Passes sa.points → Passes sb.points
       → Joins combine sa.value sb.value v
-      → Goes (max a.depth (1 + b.depth)) (λ n. a.code n ++ (spill start n ++ (b.code (n + 1) ++ (move 21 20 ++ (unspill start n 20 ++ combine 20 21))))) v
-  pair-goes a b sa sb combine v fa fb ia ib pa pb make n f memory fits holds knows =
+      → Goes (max a.depth (1 + b.depth)) (λ n. a.code n ++ ((spill start n ++ (b.code (n + 1) ++ (move 21 20 ++ unspill start n 20))) ++ combine 20 21)) v
+  waiting-goes a b sa sb combine v fa fb ia ib pa pb make n f memory fits holds knows =
       let within : n < limit = pair-one a.depth b.depth n limit fits in
-      let x = fa.goes ia pa n f memory (pair-first a.depth b.depth n limit fits) holds knows in
+      let x = fa.goes ia pa n f memory (pair-first a.depth (1 + b.depth) n limit fits) holds knows in
       let k1 = known-20 f x.after knows x.stays in
       let p = spilled n within x.after x.left sa.value x.holds k1.number x.value_is (small-of a.own sa fa.shallow ia pa x.left x.holds) in
       let y = p.does in
@@ -352,9 +384,27 @@ module _ (own : Setting) (good : IsSetting own) (scope : List Counter) (values :
       let k3 = known-20 y.after z.after k2 z.stays in
       let there = there-still n within y.left z.left sa.value z.before p.there in
       let tail = pair-tail combine n within z.after z.left sa.value sb.value v make z.holds k3 z.value_is there (small-of b.own sb fb.shallow ib pb z.left z.holds) in
-      deep-then x (deep-then y (deep-then (deep-more n 1 z) (silent z.holds tail)))
+      let whole = deep-then x (deep-then y (deep-then (deep-more n 1 z) (silent z.holds tail))) in
+      subst (λ (is : List Insn). Deeply (a.code n ++ is) n f memory v) (in-order (spill start n) (b.code (n + 1)) (move 21 20) (unspill start n 20) (combine 20 21)) whole
+    where
+      in-order : (first second third fourth last : List Insn) → first ++ (second ++ (third ++ (fourth ++ last))) ≡ (first ++ (second ++ (third ++ fourth))) ++ last
+      in-order first second third fourth last =
+          ap (λ (xs : List Insn). first ++ (second ++ xs)) (sym (append_assoc third fourth last)) ∙ ap (λ (xs : List Insn). first ++ xs) (sym (append_assoc second (third ++ fourth) last))
+          ∙ sym (append_assoc first (second ++ (third ++ fourth)) last)
 
-  divided-goes : (a : Deep) (sa : Seen) (c : ℕ) (combine : ℕ → ℕ → List Insn) (v : ℕ) → Follows a sa → a.own.is_word ≡ true → Passes sa.points → c < 2 ^ 32 → Joins combine sa.value c v
+  pair-goes : (a b : Deep) (sa sb : Seen) (combine : ℕ → ℕ → List Insn) (v : ℕ) → Follows a sa → Follows b sb → a.own.is_word ≡ true → b.own.is_word ≡ true → Passes sa.points → Passes sb.points
+      → Joins combine sa.value sb.value v → Goes (max a.depth (second_depth b)) (λ n. a.code n ++ (second_code start b n ++ combine 20 (beside b.own.is_leaf 20))) v
+  pair-goes a b sa sb combine v fa fb ia ib pa pb make n f memory fits holds knows = by-leaf b.own.is_leaf refl fits
+    where
+      by-leaf : (t : Bool) → b.own.is_leaf ≡ t → max a.depth (if t then 0 else 1 + b.depth) + n ≤ limit
+          → Deeply (a.code n ++ ((if t then b.own.code 14 else spill start n ++ (b.code (n + 1) ++ (move 21 20 ++ unspill start n 20))) ++ combine 20 (beside t 20))) n f memory v
+      by-leaf true is l =
+          let x = fa.goes ia pa n f memory (pair-first a.depth 0 n limit l) holds knows in
+          let k = known-20 f x.after knows x.stays in
+          deep-then x (silent x.holds (leaf-tail b.own sb combine sa.value v x.after x.left fb.shallow is ib pb make x.holds k x.value_is))
+      by-leaf false is l = waiting-goes a b sa sb combine v fa fb ia ib pa pb make n f memory l holds knows
+
+  divided-goes : (a : Deep) (sa : Seen) (c : ℕ) (combine : ℕ → ℕ → List Insn) (v : ℕ) → Follows a sa → a.own.is_word ≡ true → Passes sa.points → c < 2 ^ 32 → JoinsAbove combine sa.value c v
       → Goes a.depth (λ n. a.code n ++ (literal 21 c ++ combine 20 21)) v
   divided-goes a sa c combine v fa ia pa lc make n f memory fits holds knows =
       let x = fa.goes ia pa n f memory fits holds knows in
@@ -462,7 +512,7 @@ module _ (own : Setting) (good : IsSetting own) (scope : List Counter) (values :
       let k = and_parts a.left.own.is_word b.left.own.is_word is in
       let p = passes-parts a.right.points b.right.points passes in
       pair-goes a.left b.left a.right b.right (operation o) (word.applied o a.right.value b.right.value) a.is b.is k.0 k.1 p.0 p.1
-      (λ memory f holds knows ea eb. operation-leaves w memory holds.size o f 20 21 a.right.value b.right.value beside knows.none ea eb
+      (λ s near memory f holds knows ea eb. operation-leaves w memory holds.size o f 20 s a.right.value b.right.value near knows.none ea eb
       (small-of a.left.own a.right a.is.shallow k.0 p.0 memory holds) (small-of b.left.own b.right b.is.shallow k.1 p.1 memory holds)))
   deep-level (layer.Divide a c) = by-room _ _ _ _ (λ memory l. at-level memory l (layer.Divide (one a.left a.right a.is memory l) c))
       (λ is passes.
@@ -493,7 +543,7 @@ module _ (own : Setting) (good : IsSetting own) (scope : List Counter) (values :
       let q = passes-parts x.right.points y.right.points p.0 in
       let its = and_parts (own.loaded own-point) true p.1 in
       pair-goes x.left y.left x.right y.right (loading (place_of own.places source)) (reads source x.right.value y.right.value) x.is y.is k.0 k.1 q.0 q.1
-      (λ memory f holds knows ex ey. loading-leaves w memory holds.size (place_of own.places source) f 20 21 x.right.value y.right.value (reads source x.right.value y.right.value) beside ex ey knows.number
+      (λ s near memory f holds knows ex ey. loading-leaves w memory holds.size (place_of own.places source) f 20 s x.right.value y.right.value (reads source x.right.value y.right.value) near ex ey knows.number
       (good.are_places source) (loads-may memory holds own-point its.0)))
 
   -- an expression's

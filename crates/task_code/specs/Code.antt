@@ -4,7 +4,7 @@
 -- order in which their loops begin: the task's own is the first. x20 to x31 are the stack of an expression. x13 and x14 are scratch, and
 -- x15 holds a store's column or address while its other parts are made. Behind a task's last statement x13 to x16 are set anew.
 -- Values of an expression that the stack has no room for wait in the hart's frame, from its first word on.
-use Rattle.std.specs.Prelude.{◌≡◌, ◌≤◌, ℕ, ◌+◌, ◌-◌, ◌*◌, ◌/◌, ◌%◌, ◌^◌, ◌==◌, ◌&&◌, Bool, true, false, nat_le, nat_lt, if◌then◌else◌, List, [], ◌∷◌, ◌++◌, length, ℤ, pos, negsuc, max, slice_index_or, Option, Some, None}
+use Rattle.std.specs.Prelude.{◌≡◌, ◌<◌, ◌≤◌, ℕ, ◌+◌, ◌-◌, ◌*◌, ◌/◌, ◌%◌, ◌^◌, ◌==◌, ◌&&◌, Bool, true, false, nat_le, nat_lt, if◌then◌else◌, List, [], ◌∷◌, ◌++◌, length, ℤ, pos, negsuc, max, slice_index_or, Option, Some, None}
 use Rattle.rv_insn.specs.declared.instructions.Insn.{Insn}
 use Rattle.rv_insn.specs.declared.instructions.Insn.TheVariants.{Lui, Jal, Branch, Load, Store as Save, AluImm, Shift, Alu}
 use Rattle.rv_insn.specs.declared.operations.BranchOp.TheVariants as branches
@@ -307,9 +307,18 @@ deep_or own depth code = record {
   code = λ word. if on_stack own then own.code bottom else code word;
 }
 
+-- A leaf is made beside the first slot at once. For another second operand the first one waits in a word of the frame.
+abbrev pub second_depth : Deep → ℕ
+second_depth b = if b.own.is_leaf then 0 else 1 + b.depth
+
+abbrev pub second_code : ℕ → Deep → ℕ → List Insn
+second_code frames b word =
+    if b.own.is_leaf then b.own.code second_scratch
+    else spill frames word ++ (b.code (word + 1) ++ (move (bottom + 1) bottom ++ unspill frames word bottom))
+
 abbrev pub deep_pair : ℕ → Made → Deep → Deep → (ℕ → ℕ → List Insn) → Deep
-deep_pair frames own a b combine = deep_or own (max a.depth (1 + b.depth)) (λ word.
-    a.code word ++ (spill frames word ++ (b.code (word + 1) ++ (move (bottom + 1) bottom ++ (unspill frames word bottom ++ combine bottom (bottom + 1))))))
+deep_pair frames own a b combine =
+    deep_or own (max a.depth (second_depth b)) (λ word. a.code word ++ (second_code frames b word ++ combine bottom (beside b.own.is_leaf bottom)))
 
 abbrev pub deep_divided : Made → Deep → ℕ → (ℕ → ℕ → List Insn) → Deep
 deep_divided own a c combine = deep_or own a.depth (λ word. a.code word ++ (literal (bottom + 1) c ++ combine bottom (bottom + 1)))
@@ -344,6 +353,14 @@ pub record EmitsDeep (old new : List ℕ) (frames : Option ℕ) (own : Deep) (wo
   pub emits : Emits old new (own.code word)
   pub room : own.depth + word ≤ frame_words frames
   pub is_word : own.own.is_word ≡ true
+
+-- So it is of a second operand, which is left in this register.
+pub record EmitsSecond (old new : List ℕ) (frames : Option ℕ) (own : Deep) (word second : ℕ) : Type 0 where
+  pub emits : Emits old new (second_code (frames_of frames) own word)
+  pub room : second_depth own + word ≤ frame_words frames
+  pub is_word : own.own.is_word ≡ true
+  pub second_is : second ≡ beside own.own.is_leaf bottom
+  pub low : second < 32
 
 -- ---- statements
 

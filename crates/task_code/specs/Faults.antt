@@ -1,5 +1,5 @@
 -- Why no code is given: for each fault what stands then. This project's own.
-use Rattle.std.specs.Prelude.{◌≤◌, ◌⊎◌, ℕ, ◌+◌, ◌^◌, List, length, Option, Some, None}
+use Rattle.std.specs.Prelude.{◌≡◌, ◌≤◌, ◌<◌, ◌⊎◌, ℕ, ◌+◌, ◌^◌, false, List, length, Option, Some, None}
 use Rattle.rv_insn.specs.declared.instructions.Insn.{Insn}
 use Rattle.loop_ir.specs.declared.expressions.Counter.{Counter}
 use Rattle.loop_ir.specs.declared.expressions.Expr.{Expr}
@@ -7,7 +7,7 @@ use Rattle.loop_ir.specs.declared.statements.Phase.{Phase}
 use Rattle.loop_ir.specs.declared.statements.Store.{Store}
 use Rattle.loop_ir.specs.declared.statements.Stmt.{Stmt}
 use Rattle.loop_ir.specs.Depths.{depth, task_depth}
-use Rattle.loop_ir.specs.Needs.{need, store_need, greatest_need}
+use Rattle.loop_ir.specs.Needs.{need, need_of, store_need, greatest_need}
 use Rattle.task_code.specs.declared.CodeFault.{CodeFault}
 use Rattle.task_code.specs.declared.CodeFault.TheVariants as faults
 use Rattle.task_code.specs.declared.places.Places.{Places}
@@ -38,6 +38,10 @@ HasRoom frames count word = (count ≤ 12) ⊎ (count + word ≤ frame_words fra
 
 abbrev pub FitsFrame : Option ℕ → Expr → ℕ → Type 0
 FitsFrame frames e word = LieLow frames × HasRoom frames (need e) word
+
+-- A second operand that is no leaf takes the next words of the frame, beside the one in which the first operand waits.
+abbrev pub FitsSecond : Option ℕ → Expr → ℕ → Type 0
+FitsSecond frames e word = LieLow frames × (HasRoom frames (need e) (word + 1) × ((need_of e).is_leaf ≡ false → word < frame_words frames))
 
 abbrev pub FitsStore : Places → Store → Type 0
 FitsStore places store = LieLow places.frames × HasRoom places.frames (store_need store) 0

@@ -4,8 +4,8 @@ ghost use Rattle.std.specs.Prelude.{◌≡◌, ℕ, List, ◌+◌, ◌*◌, ◌^
 ghost use Rattle.loop_ir.specs.declared.expressions.Counter.{Counter as Counts};
 ghost use Rattle.task_code.specs.declared.places.Places.{Places as AllPlaces};
 ghost use Rattle.task_code.specs.Code as spec;
-ghost use Rattle.task_code.specs.Code.{EmitsDeep, deep, frame_words, frames_of, made};
-ghost use Rattle.task_code.specs.Faults.{FitsFrame, IsFault, LieLow};
+ghost use Rattle.task_code.specs.Code.{EmitsDeep, EmitsSecond, deep, frame_words, frames_of, made};
+ghost use Rattle.task_code.specs.Faults.{FitsFrame, FitsSecond, IsFault, LieLow};
 ghost use Rattle.task_code.specs.Words.{Emits};
 
 use crate::CodeFault;
@@ -148,6 +148,7 @@ fn emit_unspill(code: &mut Vec<u32>, frames: Option<u32>, word: u32, r: u8) -> R
 // ---- expressions
 
 /// Appends what leaves the value of an expression in the first slot, with the frame free from a word on.
+#[cycle(deeply)]
 pub(crate) fn emit_deep(
     code: &mut Vec<u32>,
     places: &Places,
@@ -168,11 +169,8 @@ pub(crate) fn emit_deep(
         Expr::Linear(_) => Err(CodeFault::TooDeep),
         Expr::Binary(operation, a, b) => {
             emit_deep(code, places, scope, a.get(), word)?;
-            emit_spill(code, places.frames, word)?;
-            emit_deep(code, places, scope, b.get(), word + 1)?;
-            alu_small(code, AluImmOp::Addi, 21, 20, 0)?;
-            emit_unspill(code, places.frames, word, 20)?;
-            emit_operation(code, *operation, 20, 21)?;
+            let second = emit_second(code, places, scope, b.get(), word)?;
+            emit_operation(code, *operation, 20, second)?;
             Ok(())
         }
         Expr::Divide(a, divisor) => {
@@ -201,16 +199,38 @@ pub(crate) fn emit_deep(
         }
         Expr::Load(source, x, y) => {
             emit_deep(code, places, scope, x.get(), word)?;
-            emit_spill(code, places.frames, word)?;
-            emit_deep(code, places, scope, y.get(), word + 1)?;
-            alu_small(code, AluImmOp::Addi, 21, 20, 0)?;
-            emit_unspill(code, places.frames, word, 20)?;
+            let second = emit_second(code, places, scope, y.get(), word)?;
             let place = place_of(places, *source);
-            emit_addressed(code, &place, 20, 21)?;
+            emit_addressed(code, &place, 20, second)?;
             emit_fetch(code, place.pixels, 20)?;
             Ok(())
         }
     }
+}
+
+/// Appends what leaves the value of a second operand beside the first slot, which keeps its own: a leaf needs no place
+/// to wait in. It returns the register.
+#[cycle(deeply)]
+fn emit_second(
+    code: &mut Vec<u32>,
+    places: &Places,
+    scope: &[Counter],
+    e: &Expr,
+    word: u32,
+) -> Result<u8, CodeFault>
+    requires { word ≤ frame_words places.now.frames }
+    ensures ok { IfOk result (EmitsSecond code.old.items code.new.items places.now.frames (deep places.now scope.now e.now) word) }
+    ensures err { IfErr result (IsFault ⊥ (FitsSecond places.now.frames e.now word → ⊥)) }
+{
+    if is_leaf(e) {
+        emit_value(code, places, scope, e, 14)?;
+        return Ok(14);
+    }
+    emit_spill(code, places.frames, word)?;
+    emit_deep(code, places, scope, e, word + 1)?;
+    alu_small(code, AluImmOp::Addi, 21, 20, 0)?;
+    emit_unspill(code, places.frames, word, 20)?;
+    Ok(21)
 }
 
 /// Appends what leaves a divisor in the second slot.
