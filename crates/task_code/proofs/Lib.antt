@@ -11,6 +11,7 @@ pub mod Following
 pub mod FrameUses
 pub mod Going
 pub mod Keeping
+pub mod Lengths
 pub mod Looping
 pub mod Nests
 pub mod Numbers

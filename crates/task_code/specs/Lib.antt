@@ -5,6 +5,7 @@ pub mod Example
 pub mod Faults
 pub mod Fitting
 pub mod Layout
+pub mod Lengths
 pub mod Tasks
 pub mod Values
 pub mod Words

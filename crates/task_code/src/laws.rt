@@ -5,6 +5,7 @@ ghost use Rattle.task_code.specs.Evaluation.{ExpressionsLeave};
 ghost use Rattle.task_code.specs.Example.{ExampleIsDone};
 ghost use Rattle.task_code.specs.Fitting.{CountersHaveSeats, ExpressionsHaveRoom};
 ghost use Rattle.task_code.specs.Layout.{FramesLie};
+ghost use Rattle.task_code.specs.Lengths.{StatementsAreShort, TasksAreShort};
 ghost use Rattle.task_code.specs.Tasks.{AppendedWordsStand, TasksAreDone};
 ghost use Rattle.task_code.specs.Values.{LiteralsLeave, OperationsLeave, QuotientsLeave, RemaindersLeave, SelectionsLeave};
 
@@ -47,6 +48,12 @@ pub fn expressions_have_room()
 /// Counters of a task have registers where no more than 14 stand around a store.
 pub fn counters_have_seats()
     ensures { CountersHaveSeats }
+{}
+
+/// The code of a statement and that of a task have no more words than are asked for.
+pub fn code_is_short()
+    ensures statements { StatementsAreShort }
+    ensures tasks { TasksAreShort }
 {}
 
 /// Words that were appended stand in each text that goes on from there.

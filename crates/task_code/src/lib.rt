@@ -4,7 +4,8 @@
 //! - [`emit`]: appends the words of one task, which spell its code (`specs/Code.antt`).
 //! - [`instructions`]: appends single instructions, for the code around tasks too.
 //! - [`laws`]: what the code of expressions, statements and tasks does, wherever it stands (`specs/Evaluation.antt`, `specs/Doing.antt`,
-//!   `specs/Tasks.antt`), where buffers lie so (`specs/Layout.antt`) and the registers suffice (`specs/Fitting.antt`).
+//!   `specs/Tasks.antt`), where buffers lie so (`specs/Layout.antt`) and the registers suffice (`specs/Fitting.antt`), and how long
+//!   code is (`specs/Lengths.antt`).
 #![tactic(auto)]
 
 ghost use Rattle.std.specs.Prelude.{◌≡◌};
