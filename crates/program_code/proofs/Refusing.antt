@@ -30,7 +30,7 @@ module _ (places : Places) where
       let l = length-append (stmt_code places phase.body (task_scope phase.counter)) (restored ticket phase.tasks) in
       omega (arith, l)
 
-  front-length : (number : ℕ) (phase : Phase) (others : List Phase) → length (program number (parts_from places number (phase ∷ others)))
+  pub front-length : (number : ℕ) (phase : Phase) (others : List Phase) → length (program number (parts_from places number (phase ∷ others)))
       ≡ length (phase_code (length others == 0) (ticket_word number) (part_of places number phase)) + length (program (suc number) (parts_from places (suc number) others))
   front-length number phase others =
       ap length (in-front places number (part_of places number phase) others)

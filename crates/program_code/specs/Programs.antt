@@ -1,12 +1,13 @@
 -- The words of a program: its phases one behind the other, each around the code of its tasks.
 -- This project's own.
-use Rattle.std.specs.Prelude.{◌≡◌, ◌<◌, ◌≤◌, ◌^◌, ℕ, suc, Bool, true, List, [], ◌∷◌, length}
+use Rattle.std.specs.Prelude.{◌≡◌, ◌<◌, ◌≤◌, ◌^◌, ◌+◌, ℕ, suc, Bool, true, List, [], ◌∷◌, length}
 use Rattle.std.specs.List.{AllByRecursion}
 use Rattle.memory.specs.Addresses.{most_words, text_start}
 use Rattle.lone_hart.specs.Paths.{Stand}
 use Rattle.loop_ir.specs.declared.statements.Phase.{Phase}
 use Rattle.loop_ir.specs.Depths.{task_depth}
 use Rattle.loop_ir.specs.Needs.{greatest_need}
+use Rattle.loop_ir.specs.Sizes.{whole_size}
 use Rattle.work_sharing.specs.Programs.{ticket_word}
 use Rattle.task_code.specs.declared.CodeFault.{CodeFault}
 use Rattle.task_code.specs.declared.places.Places.{Places}
@@ -63,7 +64,18 @@ abbrev pub IsPhaseAtFault : Places → ℕ → Bool → Phase → CodeFault → 
 IsPhaseAtFault places number is_last phase =
     IsFault (HasFewTasks phase → most_words < length (phase_code is_last (ticket_word number) (part_of places number phase))) (LieLow places.frames → HasRegisters places phase → ⊥)
 
+-- ---- how long it is
+
+-- the words that tasks of phases ask for, with those around them
+abbrev pub words_asked : List Phase → ℕ
+words_asked [] = 0
+words_asked (phase ∷ phases) = whole_size phase.body + 24 + words_asked phases
+
 -- ---- laws
+
+-- A program has no more words than its phases ask for, wherever buffers lie.
+abbrev pub ProgramsAreShort : Type 0
+ProgramsAreShort = (places : Places) (number : ℕ) (phases : List Phase) → length (program number (parts_from places number phases)) ≤ words_asked phases
 
 -- Such words have the program at the beginning of the text.
 abbrev pub ProgramsStand : Type 0
