@@ -47,7 +47,7 @@ module _ (pipeline : Pipeline) (schedule : Schedule) (boxes : Boxes) where
   loops_few : (host : ℕ) (counts : loops.Values) (leaf : Stmt) (own : List Loop) (made : Stmt) → HasLoops pipeline schedule boxes host counts leaf own made
       → depth made ≤ length own + max 9 (depth leaf)
   loops_few host counts leaf _ _ No_loops = omega arith
-  loops_few host counts leaf _ _ (One_outside inside own inner body made has nests does around) =
+  loops_few host counts leaf _ _ (One_outside inside own inner body made has nests does around run_around) =
       let e = does.depth_is in
       let n = nests_few (record { func = host; inside = own.id }) 0 inner body nests in
       let i = loops_few host counts leaf inside inner has in
@@ -87,7 +87,7 @@ module _ (pipeline : Pipeline) (schedule : Schedule) (boxes : Boxes) where
   loops_need : (host : ℕ) (counts : loops.Values) (leaf : Stmt) (own : List Loop) (made : Stmt) → HasLoops pipeline schedule boxes host counts leaf own made
       → greatest_need made ≤ max most (greatest_need leaf)
   loops_need host counts leaf _ _ No_loops = omega arith
-  loops_need host counts leaf _ _ (One_outside inside own inner body made has nests does around) =
+  loops_need host counts leaf _ _ (One_outside inside own inner body made has nests does around run_around) =
       let e = does.need_is in
       let n = nests_need (record { func = host; inside = own.id }) 0 inner body nests in
       let i = loops_need host counts leaf inside inner has in
@@ -115,7 +115,7 @@ module _ (pipeline : Pipeline) (schedule : Schedule) (boxes : Boxes) where
   one_behind (first ∷ phases) phase few own = (few.0, one_behind phases phase few.1 own)
 
   stage_few : (place : ℕ) (func : Func) (plan : FuncPlan) (own : SourceBox) (number : ℕ) (phase : Phase) → lowered.IsStagePhase pipeline schedule boxes place func plan own number phase → TakesFew pipeline schedule phase
-  stage_few place func plan own _ _ (lowered.Pure phase tasks private_is bytes does touches few stores rounds) = few
+  stage_few place func plan own _ _ (lowered.Pure phase tasks private_is bytes does touches few stores rounds in_runs) = few
   stage_few place func plan own _ _ (lowered.Updating at update stage phase it tasks private_is bytes does touches few stores rounds) = few
 
   stages_few : (place : ℕ) (func : Func) (plan : FuncPlan) (own : SourceBox) (others phases : List Phase) (number : ℕ)

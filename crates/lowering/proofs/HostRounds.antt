@@ -73,7 +73,7 @@ module _ (pipeline : Pipeline) (schedule : Schedule) (boxes : Boxes) where
         ∙ and_from (at_once_first reads found values) (may_be_at_once reads rest values) (found_at_once from found is reads values small) (nests_at_once (suc from) inside rest others reads values small e)
 
     -- where none is computed, nothing stands before what is inside
-    no_nests : ((place : ℕ) (made : Stmt) → IsNestOf pipeline schedule boxes at place made → ⊥) → (from : ℕ) (inside made : Stmt) → HasNests pipeline schedule boxes at from inside made → made ≡ inside
+    pub no_nests : ((place : ℕ) (made : Stmt) → IsNestOf pipeline schedule boxes at place made → ⊥) → (from : ℕ) (inside made : Stmt) → HasNests pipeline schedule boxes at from inside made → made ≡ inside
     no_nests none _ inside _ (None_left from _ past) = refl
     no_nests none _ _ _ (One_more from None inside rest made is others first) = first.alone_is refl ∙ no_nests none (suc from) inside rest others
     no_nests none _ _ _ (One_more from (Some own) inside rest made is others first) = absurd (none from own is)
@@ -94,7 +94,7 @@ module _ (pipeline : Pipeline) (schedule : Schedule) (boxes : Boxes) where
         let here : 0 + place ≡ place = omega arith in
         subst (λ (n : ℕ). IsHost pipeline schedule.funcs n at) here (numbered_at (HasHost pipeline schedule.funcs) 0 schedule.standings accepted.hosts place standing there.standing at placed)
 
-    none_hosted : (own : Loop) (outside : List Loop) → stage.loops ≡ own ∷ outside → is_vectorized_loop own ≡ true → (place : ℕ) (made : Stmt) → IsNestOf pipeline schedule boxes (record { func = host; inside = own.id }) place made → ⊥
+    pub none_hosted : (own : Loop) (outside : List Loop) → stage.loops ≡ own ∷ outside → is_vectorized_loop own ≡ true → (place : ℕ) (made : Stmt) → IsNestOf pipeline schedule boxes (record { func = host; inside = own.id }) place made → ⊥
     none_hosted own outside loops_are e place made nest =
         let it : IsHost pipeline schedule.funcs place (record { func = host; inside = own.id }) = host_of place nest.parts.standing (record { func = host; inside = own.id }) nest.parts.there nest.parts.placed_is in
         let same : it.plan ≡ plan = some_same (sym it.plan_is ∙ plan_is) in
@@ -110,6 +110,22 @@ module _ (pipeline : Pipeline) (schedule : Schedule) (boxes : Boxes) where
         vacuous [] all = tt
         vacuous (one ∷ ls) all = ((λ i. absurd (all.0 i)), vacuous ls all.1)
 
+    -- behind the innermost, none is vectorized
+    pub later_plain : (first : Loop) (before : List Loop) (own : Loop) (outside : List Loop) → stage.loops ≡ (first ∷ before) ++ own ∷ outside → is_vectorized_loop own ≡ true → ⊥
+    later_plain first before own outside loops_are e = true≢false (sym e ∙ behind before (others_are func None extents stage is kept first (before ++ own ∷ outside) loops_are))
+      where
+        behind : (ls : List Loop) → AllByRecursion (λ other. is_vectorized_loop other ≡ false) (ls ++ own ∷ outside) → is_vectorized_loop own ≡ false
+        behind [] all = all.0
+        behind (one ∷ ls) all = behind ls all.1
+
+    never_empty : (ls : List Loop) (own : Loop) → ls ++ own ∷ [] ≡ [] → ⊥
+    never_empty [] own e = cc
+    never_empty (one ∷ ls) own e = cc
+
+    pub no_loops_is : (inside : List Loop) (inner : Stmt) → HasLoops pipeline schedule boxes host counted leaf inside inner → inside ≡ [] → inner ≡ leaf
+    no_loops_is _ _ No_loops e = refl
+    no_loops_is _ _ (One_outside inside own inner body made has nests does around run_around) e = absurd (never_empty inside own e)
+
     -- the innermost loop is under what the store under it keeps
     module _ (under : (inside outside : List Loop) → stage.loops ≡ inside ++ outside → MayBeUnder host extents plan.pure.splits inside outside store) where
       first_vectorized : (own : Loop) (outside : List Loop) → stage.loops ≡ own ∷ outside → (body : Stmt) → HasNests pipeline schedule boxes (record { func = host; inside = own.id }) 0 leaf body
@@ -120,22 +136,6 @@ module _ (pipeline : Pipeline) (schedule : Schedule) (boxes : Boxes) where
           (may_be_vectorized host extents plan.pure.splits leaf store bound store_is own outside (few own.id) (λ reads. leaf_is.once reads)
           ((under (own ∷ []) outside loops_are).0 e))
 
-      -- behind the innermost, none is vectorized
-      later_plain : (first : Loop) (before : List Loop) (own : Loop) (outside : List Loop) → stage.loops ≡ (first ∷ before) ++ own ∷ outside → is_vectorized_loop own ≡ true → ⊥
-      later_plain first before own outside loops_are e = true≢false (sym e ∙ behind before (others_are func None extents stage is kept first (before ++ own ∷ outside) loops_are))
-        where
-          behind : (ls : List Loop) → AllByRecursion (λ other. is_vectorized_loop other ≡ false) (ls ++ own ∷ outside) → is_vectorized_loop own ≡ false
-          behind [] all = all.0
-          behind (one ∷ ls) all = behind ls all.1
-
-      never_empty : (ls : List Loop) (own : Loop) → ls ++ own ∷ [] ≡ [] → ⊥
-      never_empty [] own e = cc
-      never_empty (one ∷ ls) own e = cc
-
-      no_loops_is : (inside : List Loop) (inner : Stmt) → HasLoops pipeline schedule boxes host counted leaf inside inner → inside ≡ [] → inner ≡ leaf
-      no_loops_is _ _ No_loops e = refl
-      no_loops_is _ _ (One_outside inside own inner body made has nests does around) e = absurd (never_empty inside own e)
-
       fine : (inside : List Loop) (own : Loop) (outside : List Loop) (inner body : Stmt) → stage.loops ≡ inside ++ own ∷ outside → HasLoops pipeline schedule boxes host counted leaf inside inner
           → HasNests pipeline schedule boxes (record { func = host; inside = own.id }) 0 inner body → is_vectorized_loop own ≡ true → MayBeVectorized host counted own outside body
       fine [] own outside inner body loops_are has nests e =
@@ -144,7 +144,7 @@ module _ (pipeline : Pipeline) (schedule : Schedule) (boxes : Boxes) where
 
       pub loops_at_once : (inside outside : List Loop) (made : Stmt) → stage.loops ≡ inside ++ outside → HasLoops pipeline schedule boxes host counted leaf inside made → MayBeAtOnce host counted outside made
       loops_at_once _ outside _ loops_are No_loops reads values small are = leaf_is.at_once reads values
-      loops_at_once _ outside _ loops_are (One_outside inside own inner body made has nests does around) reads values small are =
+      loops_at_once _ outside _ loops_are (One_outside inside own inner body made has nests does around run_around) reads values small are =
           let here : stage.loops ≡ inside ++ own ∷ outside = loops_are ∙ behind inside own outside in
           around outside
           (λ r v s a. nests_at_once (record { func = host; inside = own.id }) 0 inner body nests r v s (loops_at_once inside (own ∷ outside) inner here has r v s a))

@@ -619,7 +619,7 @@ module _ (pipeline : Pipeline) (schedule : Schedule) (boxes : Boxes) (rules : Is
     pub all_loops : (leaf : Stmt) (bound : Repeats host leaf store (wholes extents plan.pure.splits [])) (inside : List Loop) (made : Stmt) → HasLoops pipeline schedule boxes host counts leaf inside made → DoesLoops inside made
     all_loops leaf bound _ _ No_loops outside loops_are turned small are visited funcs state =
         leaf_does turned (subst (λ (l : List Loop). AreTurns counts l turned) (sym loops_are) are) visited leaf bound small funcs state
-    all_loops leaf bound _ made (One_outside inside mid inner body _ within nested does around) outside loops_are turned small are visited funcs state =
+    all_loops leaf bound _ made (One_outside inside mid inner body _ within nested does around run_around) outside loops_are turned small are visited funcs state =
         let further : loops_in ≡ inside ++ mid ∷ outside = loops_are ∙ append_assoc inside (mid ∷ []) outside in
         let count : length (inside ++ mid ∷ []) ≡ suc (length inside) = omega (arith, length-append inside (mid ∷ [])) in
         let list_is = wholes_outside inside mid turned in

@@ -51,3 +51,4 @@ pub mod RoundsApart
 pub mod PureRounds
 pub mod TaskRounds
 pub mod HostRounds
+pub mod RunHosts

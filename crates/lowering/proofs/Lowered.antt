@@ -87,7 +87,7 @@ module _ (pipeline : Pipeline) (schedule : Schedule) (boxes : Boxes) (accepted :
     does : DoesStage pipeline schedule boxes place func number owned phase
 
   goes : (place : ℕ) (func : Func) (plan : FuncPlan) (own : SourceBox) (number : ℕ) (phase : Phase) → IsStagePhase pipeline schedule boxes place func plan own number phase → Goes place func number phase
-  goes place func plan own _ _ (Pure phase tasks private_is bytes does touches few stores rounds) = record { owned = owns (extents_of own) plan.pure; does = does }
+  goes place func plan own _ _ (Pure phase tasks private_is bytes does touches few stores rounds in_runs) = record { owned = owns (extents_of own) plan.pure; does = does }
   goes place func plan own _ _ (Updating at update stage phase it tasks private_is bytes does touches few stores rounds) = record { owned = owns_update own update stage; does = does }
 
   stages_do : (place : ℕ) (func : Func) (plan : FuncPlan) (own : SourceBox) (others phases : List Phase) (number : ℕ) → ArePhasesOf pipeline schedule boxes place func plan own others number phases

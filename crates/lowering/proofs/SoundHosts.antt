@@ -226,7 +226,7 @@ module _ (pipeline : Pipeline) (schedule : Schedule) (boxes : Boxes) (rules : Is
   pub sound_loops : (leaf : Stmt) (bound : Repeats host leaf store (wholes extents plan.pure.splits [])) (inside : List Loop) (made : Stmt) → HasLoops pipeline schedule boxes host counts leaf inside made → AreSound inside made
   sound_loops leaf bound _ _ No_loops outside loops_are turned small are good =
       sound_leaf turned (subst (λ (l : List Loop). AreTurns counts l turned) (sym loops_are) are) good leaf bound small
-  sound_loops leaf bound _ made (One_outside inside mid inner body _ within nested does around) outside loops_are turned small are good =
+  sound_loops leaf bound _ made (One_outside inside mid inner body _ within nested does around run_around) outside loops_are turned small are good =
       let further : loops_in ≡ inside ++ mid ∷ outside = loops_are ∙ append_assoc inside (mid ∷ []) outside in
       let list_is = nest-append counts inside (mid ∷ []) (over_loops extents plan.pure.splits (λ (whole : loops.Values). whole ∷ [])) turned in
       let seen : AllByRecursion Good (upto (counts mid.id) (λ turn. wholes extents plan.pure.splits inside (loops.with mid.id turn turned))) = subst (λ (l : List loops.Values). AllByRecursion Good l) list_is good in

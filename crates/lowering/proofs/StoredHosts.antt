@@ -48,7 +48,7 @@ AreWords inner = (x_of inner < 2 ^ 32) × (y_of inner < 2 ^ 32)
 abbrev pub is_at : ℕ → ℕ → loops.Values → Bool
 is_at x y inner = x_of inner == x && y_of inner == y
 
-whole_put : (place : ℕ) (inner : loops.Values) (values : Values) (v : Variable) → inner (ids.Whole v) < 2 ^ 32 → whole_at (put_loops place inner values) place v ≡ inner (ids.Whole v)
+pub whole_put : (place : ℕ) (inner : loops.Values) (values : Values) (v : Variable) → inner (ids.Whole v) < 2 ^ 32 → whole_at (put_loops place inner values) place v ≡ inner (ids.Whole v)
 whole_put place inner values v small =
     ap (λ (b : Bool). cond b (inner (ids.Whole v)) (values (record { func = place; id = ids.Whole v })) % 2 ^ 32) (eq-eqb place place refl) ∙ mod-eq_of_lt {n = inner (ids.Whole v)} {m = 2 ^ 32} small
 
@@ -104,7 +104,7 @@ module _ (pipeline : Pipeline) (schedule : Schedule) (boxes : Boxes) (accepted :
     pub loops_tell : (leaf : Stmt) → Repeats host leaf store (wholes extents splits []) → (inside : List Loop) (made : Stmt) → HasLoops pipeline schedule boxes host counts leaf inside made
         → (turned : loops.Values) → AreSmall turned → AllByRecursion AreWords (listed inside turned) → Told made turned (list_any (is_at x y) (listed inside turned))
     loops_tell leaf bound _ _ No_loops turned small words so_far = leaf_tells leaf bound turned small words so_far
-    loops_tell leaf bound _ made (One_outside inside mid inner body _ within nested does around) turned small words so_far =
+    loops_tell leaf bound _ made (One_outside inside mid inner body _ within nested does around run_around) turned small words so_far =
         let lists : ℕ → List loops.Values = λ turn. listed inside (loops.with mid.id turn turned) in
         let list_is : listed (inside ++ mid ∷ []) turned ≡ upto (counts mid.id) lists = nest-append counts inside (mid ∷ []) (over_loops extents splits (λ (whole : loops.Values). whole ∷ [])) turned in
         let all_words : AllByRecursion AreWords (upto (counts mid.id) lists) = subst (λ (l : List loops.Values). AllByRecursion AreWords l) list_is words in

@@ -1,14 +1,19 @@
 -- Each task of a pure definition stores at the points that its iteration visits, and at no other of its Func.
-use Rattle.std.proofs.Common.{◌≡◌, ℕ, ◌<◌, ◌^◌, false, List, map, Option, Some, None, refl, sym, ap, subst, ◌∙◌, arith}
+use Rattle.std.proofs.Common.{◌≡◌, ℕ, ◌<◌, ◌^◌, Bool, true, false, cond, List, [], ◌∷◌, ◌++◌, map, Option, Some, None, refl, sym, ap, subst, ◌∙◌, arith, true≢false}
 use Rattle.std.specs.Prelude.{Ok}
 use Rattle.std.specs.List.{AllByRecursion, list_any}
 use Rattle.halide_pipeline.specs.declared.definitions.Func.{Func}
 use Rattle.halide_pipeline.specs.declared.expressions.Variable.TheVariants as variables
 use Rattle.halide_pipeline.specs.Pipelines.{Pipeline}
 use Rattle.halide_pipeline.specs.WellFormed.{IsWellFormed}
-use Rattle.halide_meaning.specs.Pixel.{Planes}
+use Rattle.halide_meaning.specs.Pixel.{Planes, Reads}
 use Rattle.schedule_lines.specs.declared.stages.Loop.{Loop}
+use Rattle.schedule_lines.specs.declared.stages.LoopId.{LoopId}
+use Rattle.schedule_lines.specs.declared.stages.Mark.{Mark}
+use Rattle.schedule_lines.specs.declared.stages.Mark.TheVariants as marks
+use Rattle.schedule_lines.specs.declared.stages.Marked.{Marked}
 use Rattle.schedule_lines.specs.declared.stages.Stage.{Stage}
+use Rattle.schedule_lines.specs.Loops.{find_marked, has_mark, is_marked, same_mark}
 use Rattle.schedule.specs.declared.plans.FuncPlan.{FuncPlan}
 use Rattle.schedule.specs.declared.schedules.Schedule.{Schedule}
 use Rattle.schedule.specs.declared.standings.Place.TheVariants as places
@@ -29,18 +34,45 @@ use Rattle.loop_ir.specs.declared.statements.Stmt.{Stmt}
 use Rattle.loop_ir.specs.Buffers.{Points}
 use Rattle.loop_ir.specs.Counters.{Values}
 use Rattle.loop_ir.specs.Running.{task_values}
+use Rattle.loop_ir.specs.Runs.{stores_in_runs}
 use Rattle.loop_ir.specs.Stores.{is_stored_by, is_stored_by_task}
 use Rattle.nest_lowering.specs.Nests.{AreSmall}
-use Rattle.lowering.specs.Hosting.{HasLoops, HasOutermost, IsBody}
+use Rattle.nest_lowering.specs.Rounds.{IsLeaf, is_vectorized_loop}
+use Rattle.nest_lowering.proofs.Few.{few_turns}
+use Rattle.lowering.specs.Hosting.{HasLoops, HasOutermost, IsBody, hosting}
 use Rattle.lowering.specs.Planes.{box_points, owns}
 use Rattle.lowering.specs.PurePhases.{IsAtRoot, IsStoreOf, inside_of, counter_of}
+use Rattle.lowering.specs.Runs.{StoresInRuns, is_in_run, is_vectorized_first}
 use Rattle.lowering.specs.Stored.{StoresItsOwn}
 use Rattle.lowering.proofs.Covered.{parts_of}
 use Rattle.lowering.proofs.Facts.{staged, splits, few}
 use Rattle.lowering.proofs.Lists.{any_map, all_map}
+use Rattle.lowering.proofs.RunHosts as runs
 use Rattle.lowering.proofs.StoredHosts.{AreWords, is_at}
 use Rattle.lowering.proofs.StoredHosts as hosts
+use Rattle.lowering.proofs.TaskRounds.{outside_of, loops_by}
 use Rattle.lowering.proofs.Tasks.{turned_by, listed, before_by, small_by, all_visits}
+
+-- a loop isn't marked twice
+not_both : (own : Loop) → is_marked marks.Vectorized own ≡ true → is_marked marks.Parallel own ≡ true → ⊥
+not_both own = by_mark own.marked
+  where
+    by_one : (mark : Mark) → same_mark mark marks.Vectorized ≡ true → same_mark mark marks.Parallel ≡ true → ⊥
+    by_one marks.Unrolled e f = true≢false (sym e)
+    by_one marks.Vectorized e f = true≢false (sym f)
+    by_one marks.Parallel e f = true≢false (sym e)
+
+    by_mark : (found : Option Marked) → has_mark marks.Vectorized found ≡ true → has_mark marks.Parallel found ≡ true → ⊥
+    by_mark None e f = true≢false (sym e)
+    by_mark (Some marked) e f = by_one marked.mark e f
+
+-- one loop, which is vectorized, isn't the parallel one
+never_parallel : {own : Loop} (first : Loop) → is_vectorized_loop first ≡ true → find_marked marks.Parallel (first ∷ []) ≡ Some own → ⊥
+never_parallel {own} first e found = by_test (is_marked marks.Parallel first) refl
+  where
+    by_test : (b : Bool) → is_marked marks.Parallel first ≡ b → ⊥
+    by_test true f = not_both first e f
+    by_test false f = let none : None ≡ Some own = sym (ap (λ (b : Bool). cond b (Some first) None) f) ∙ found in cc
 
 module _ (pipeline : Pipeline) (schedule : Schedule) (boxes : Boxes) (rules : IsWellFormed pipeline) (accepted : IsAccepted pipeline schedule) (is : inferred pipeline schedule ≡ Ok boxes)
     (place : ℕ) (func : Func) (plan : FuncPlan) (own : SourceBox) (at : IsAtRoot pipeline schedule boxes place func plan own)
@@ -113,3 +145,42 @@ module _ (pipeline : Pipeline) (schedule : Schedule) (boxes : Boxes) (rules : Is
 
   pub stores_its_own : StoresItsOwn boxes place (owns extents stage) phase
   stores_its_own inputs funcs number below x y = task_stores inputs number below x y funcs
+
+  -- ---- by runs of its vectorized loop
+
+  module _ (store_is : IsLeaf store) (first : is_vectorized_first stage.loops ≡ true) (number : ℕ) (below : number < phase.tasks) (reads : Reads) (x y : ℕ) where
+    unread : Planes
+    unread place x y = 0
+
+    abbrev now : Option Loop → loops.Values
+    now found = turned_by func extents stage facts.0 facts.1 place found number
+
+    few_so : (id : LoopId) → loops.counts extents stage.splits id < 2 ^ 25
+    few_so id =
+        few_turns extents stage.splits (few pipeline schedule boxes place func plan own accepted is places.Root tt at) (splits pipeline schedule boxes place func plan own accepted is places.Root tt at) id
+
+    inside_first : (found : Option Loop) → parallel stage ≡ found → is_vectorized_first (inside_of found stage.loops) ≡ true
+    inside_first found e = by_lists found (inside_of found stage.loops) e (loops_by place extents stage facts.1 found e)
+      where
+        by_lists : (found : Option Loop) (inside : List Loop) → parallel stage ≡ found → stage.loops ≡ inside ++ outside_of place extents stage facts.1 found → is_vectorized_first inside ≡ true
+        by_lists found (one ∷ inside) e loops_are = subst (λ (ls : List Loop). is_vectorized_first ls ≡ true) loops_are first
+        by_lists None [] e loops_are = absurd (true≢false (sym first ∙ ap is_vectorized_first loops_are))
+        by_lists (Some own) [] e loops_are =
+            absurd (never_parallel own (subst (λ (ls : List Loop). is_vectorized_first ls ≡ true) loops_are first) (subst (λ (ls : List Loop). find_marked marks.Parallel ls ≡ Some own) loops_are e))
+
+    run_by : (found : Option Loop) → parallel stage ≡ found → number < count_of (loops.counts extents stage.splits) found → AllByRecursion AreWords (wholes extents stage.splits (inside_of found stage.loops) (now found))
+        → HasOutermost pipeline schedule boxes place found body.inner phase.body → stores_in_runs reads place x y (is_in_run extents stage place x y) phase.body (hosting place (now found)) ≡ true
+    run_by found e l words_so begun =
+        runs.begun_runs pipeline schedule boxes accepted reads place x y func plan at.plan_is extents facts.0 facts.1 few_so store store_of.misses body.leaf body.bound store_is (body.leaf_is store_is) found body.inner phase.body begun (now found)
+        (runs.loops_run pipeline schedule boxes accepted reads place x y func plan at.plan_is extents facts.0 facts.1 few_so store store_of.misses body.leaf body.bound store_is (body.leaf_is store_is) (inside_of found stage.loops) body.inner
+        (subst (λ (o : Option Loop). HasLoops pipeline schedule boxes place (loops.counts extents stage.splits) body.leaf (inside_of o stage.loops) body.inner) e body.looped)
+        (outside_of place extents stage facts.1 found) (loops_by place extents stage facts.1 found e) (inside_first found e) (now found) (small unread number below x y found l) words_so)
+
+    task_runs : stores_in_runs reads place x y (is_in_run extents stage place x y) phase.body (task_values phase.counter number) ≡ true
+    task_runs =
+        ap (λ (c : Option Counter). stores_in_runs reads place x y (is_in_run extents stage place x y) phase.body (task_values c number)) counter_is
+        ∙ ap (stores_in_runs reads place x y (is_in_run extents stage place x y) phase.body) (before_by func extents stage facts.0 facts.1 place (parallel stage) number)
+        ∙ run_by (parallel stage) refl (below_count unread number below x y) (words unread number below x y) body.begun
+
+  pub stores_in_its_runs : IsLeaf store → StoresInRuns place extents stage phase
+  stores_in_its_runs store_is first number below reads x y = task_runs store_is first number below reads x y

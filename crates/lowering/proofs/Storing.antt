@@ -1,8 +1,8 @@
 -- The store of a pure definition.
-use Rattle.std.proofs.Common.{◌≡◌, ℕ, Bool, true, List, ◌++◌, sym, ap, subst, ◌∙◌}
-use Rattle.std.specs.Prelude.{◌==◌, ◌&&◌, ◌||◌}
+use Rattle.std.proofs.Common.{◌≡◌, ℕ, Bool, true, false, List, [], ◌∷◌, ◌++◌, refl, sym, ap, subst, ◌∙◌}
+use Rattle.std.specs.Prelude.{◌==◌, ◌&&◌, ◌||◌, not}
 use Rattle.std.specs.List.{list_all}
-use Rattle.std.proofs.lemmas.Bool.{and_from}
+use Rattle.std.proofs.lemmas.Bool.{and_from, eq-eqb}
 use Rattle.halide_pipeline.specs.declared.definitions.Func.{Func}
 use Rattle.halide_pipeline.specs.declared.expressions.Expr.{Expr}
 use Rattle.halide_pipeline.specs.declared.expressions.Variable.TheVariants as variables
@@ -25,6 +25,8 @@ use Rattle.loop_ir.specs.declared.statements.Stmt.TheVariants as s
 use Rattle.loop_ir.specs.Buffers.{Points, put}
 use Rattle.loop_ir.specs.Counters.{Values}
 use Rattle.loop_ir.specs.Expressions.{linear_value, loads, value, value_at}
+use Rattle.loop_ir.specs.Rounds.{all_but, all_points}
+use Rattle.loop_ir.specs.Runs.{point_of}
 use Rattle.loop_ir.specs.Soundness.{is_sound, store_loads}
 use Rattle.loop_ir.specs.Stores.{Trace}
 use Rattle.loop_ir.proofs.Sound.{sound_store}
@@ -34,7 +36,7 @@ use Rattle.expression_lowering.specs.declared.calls.Corner.{Corner}
 use Rattle.expression_lowering.specs.declared.lowering.Arguments.{Arguments}
 use Rattle.expression_lowering.specs.Lowering.{environment, placed, place as place_in}
 use Rattle.expression_lowering.proofs.Following.{linear_passes}
-use Rattle.lowering.specs.PurePhases.{StoresPure, HitsPure, IsSoundPure, whole_at}
+use Rattle.lowering.specs.PurePhases.{StoresPure, HitsPure, IsSoundPure, MissesPure, whole_at}
 use Rattle.lowering.proofs.Lists.{all_pass}
 
 value_linear : (reads : Reads) (values : Values) (own : Linear) → value reads values (e.Linear own) ≡ linear_value values own
@@ -70,6 +72,26 @@ hits_pure place x y made x_is y_is points inputs func p q values so_far =
     ap (λ (t : Trace). t.is_stored) (trace_store points inputs func p q (record { func = place; x = e.Linear x; y = e.Linear y; value = made }) values so_far)
     ∙ ap (λ (n : ℕ). so_far.is_stored || (place == func && (n == p && value reads values (e.Linear y) == q))) (value_linear reads values x ∙ x_is values)
     ∙ ap (λ (n : ℕ). so_far.is_stored || (place == func && (whole_at values place variables.FirstArgument == p && n == q))) (value_linear reads values y ∙ y_is values)
+
+pub misses_pure : (place : ℕ) (x y : Linear) (made : expressions.Expr) → ((values : Values) → linear_value values x ≡ whole_at values place variables.FirstArgument)
+    → ((values : Values) → linear_value values y ≡ whole_at values place variables.SecondArgument)
+    → MissesPure place (s.Store (record { func = place; x = e.Linear x; y = e.Linear y; value = made }))
+misses_pure place x y made x_is y_is reads p q values =
+    let own : Store = record { func = place; x = e.Linear x; y = e.Linear y; value = made } in
+    sound_store reads (all_but (point_of place p q)) all_points own values
+    ∙ ap (λ (b : Bool). all_but (point_of place p q) place (value reads values (e.Linear x)) (value reads values (e.Linear y)) && b) (all_of (store_loads reads values own))
+    ∙ and_true (all_but (point_of place p q) place (value reads values (e.Linear x)) (value reads values (e.Linear y)))
+    ∙ ap (λ (b : Bool). not (b && (p == value reads values (e.Linear x) && q == value reads values (e.Linear y)))) (eq-eqb place place refl)
+    ∙ ap (λ (n : ℕ). not (p == n && q == value reads values (e.Linear y))) (value_linear reads values x ∙ x_is values)
+    ∙ ap (λ (n : ℕ). not (p == whole_at values place variables.FirstArgument && q == n)) (value_linear reads values y ∙ y_is values)
+  where
+    all_of : (points : List Point) → list_all all_points points ≡ true
+    all_of [] = refl
+    all_of (point ∷ points) = all_of points
+
+    and_true : (b : Bool) → (b && true) ≡ b
+    and_true true = refl
+    and_true false = refl
 
 -- ---- what it touches
 

@@ -46,7 +46,9 @@ use Rattle.lowering.specs.PurePhases.{IsComputedAt, inside_of}
 use Rattle.lowering.specs.Registers.{most_need}
 use Rattle.lowering.specs.Rounds.{MayAlwaysBeAtOnce, at_once_first}
 use Rattle.nest_lowering.specs.Rounds.{GoesAround, IsLeaf}
+use Rattle.nest_lowering.specs.Runs.{RunsAround}
 use Rattle.loop_ir.specs.Rounds.{may_be_at_once}
+use Rattle.loop_ir.specs.Runs.{is_about, stores_in_runs}
 
 -- ---- what a nest does
 
@@ -87,6 +89,14 @@ abbrev pub need_first : Option Stmt → ℕ
 need_first None = 0
 need_first (Some first) = greatest_need first
 
+abbrev pub about_first : ℕ → Option Stmt → Bool
+about_first place None = true
+about_first place (Some first) = is_about place first
+
+abbrev pub in_runs_first : Reads → ℕ → ℕ → ℕ → (Values → Bool) → Option Stmt → Values → Bool
+in_runs_first reads func x y expected None values = true
+in_runs_first reads func x y expected (Some first) values = stores_in_runs reads func x y expected first values
+
 -- A statement does this first, and then another one.
 pub record DoesFirst (found : Option Stmt) (rest made : Stmt) : Type 0 where
   pub runs : (points : Points) (inputs : Planes) (values : Values) (funcs : Planes)
@@ -99,6 +109,9 @@ pub record DoesFirst (found : Option Stmt) (rest made : Stmt) : Type 0 where
   pub need_is : greatest_need made ≡ max (need_first found) (greatest_need rest)
   pub at_once : (reads : Reads) (values : Values) → may_be_at_once reads made values ≡ (at_once_first reads found values && may_be_at_once reads rest values)
   pub alone_is : found ≡ None → made ≡ rest
+  pub about : (place : ℕ) → is_about place made ≡ (about_first place found && is_about place rest)
+  pub in_runs : (reads : Reads) (func x y : ℕ) (expected : Values → Bool) (values : Values)
+      → stores_in_runs reads func x y expected made values ≡ (in_runs_first reads func x y expected found values && stores_in_runs reads func x y expected rest values)
 
 -- It stores in the buffer of one Func alone, while the Func's loops stand at small values.
 abbrev pub StoresInIt : ℕ → Stmt → Type 0
@@ -198,6 +211,7 @@ module _ (pipeline : Pipeline) (schedule : Schedule) (boxes : Boxes) where
     pub few : depth made ≤ 9
     pub needs : greatest_need made ≤ most_need pipeline schedule
     pub at_once : MayAlwaysBeAtOnce made
+    pub about : is_about place made ≡ true
 
   -- There are some exactly if it is computed there.
   abbrev pub IsNestAt : LoopPlace → ℕ → Option Stmt → Type 0
@@ -217,7 +231,7 @@ module _ (pipeline : Pipeline) (schedule : Schedule) (boxes : Boxes) where
     No_loops : HasLoops host counts leaf [] leaf
     One_outside : (inside : List Loop) (own : Loop) (inner body made : Stmt) → HasLoops host counts leaf inside inner
         → HasNests (record { func = host; inside = own.id }) 0 inner body → DoesTurns host own.id (counts own.id) body made
-        → GoesAround host counts own body made
+        → GoesAround host counts own body made → RunsAround host counts own body made
         → HasLoops host counts leaf (inside ++ own ∷ []) made
 
   -- What a task does: the loops inside the parallel one, and before them the nests of the Funcs that are computed at the parallel one.

@@ -13,3 +13,4 @@ pub mod Updates
 pub mod Lowered
 pub mod Using
 pub mod Rounds
+pub mod Runs

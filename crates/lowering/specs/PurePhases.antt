@@ -1,6 +1,6 @@
 -- The phase of a pure definition of a Func that is computed at root, with the Funcs computed at its loops in it.
 -- This project's own.
-use Rattle.std.specs.Prelude.{◌≡◌, ℕ, suc, ◌-◌, ◌%◌, ◌^◌, ◌==◌, ◌&&◌, ◌||◌, Bool, true, false, if◌then◌else◌, List, [], ◌∷◌, take, length, slice_get, Option, Some, None}
+use Rattle.std.specs.Prelude.{◌≡◌, ℕ, suc, not, ◌-◌, ◌%◌, ◌^◌, ◌==◌, ◌&&◌, ◌||◌, Bool, true, false, if◌then◌else◌, List, [], ◌∷◌, take, length, slice_get, Option, Some, None}
 use Rattle.halide_pipeline.specs.declared.definitions.Func.{Func}
 use Rattle.halide_pipeline.specs.declared.definitions.Input.{Input}
 use Rattle.halide_pipeline.specs.declared.expressions.Expr.{Expr}
@@ -34,7 +34,9 @@ use Rattle.loop_ir.specs.declared.statements.Stmt.{Stmt}
 use Rattle.loop_ir.specs.Buffers.{Points, put}
 use Rattle.loop_ir.specs.Counters.{Values}
 use Rattle.loop_ir.specs.Expressions.{linear_value}
+use Rattle.loop_ir.specs.Rounds.{all_but, all_points}
 use Rattle.loop_ir.specs.Running.{run, run_task}
+use Rattle.loop_ir.specs.Runs.{point_of}
 use Rattle.loop_ir.specs.Soundness.{is_sound}
 use Rattle.loop_ir.specs.Stores.{Trace, trace}
 use Rattle.expression_lowering.specs.declared.calls.Corner.{Corner}
@@ -104,6 +106,13 @@ HitsPure place made =
     → (trace points inputs func x y made values so_far).is_stored
     ≡ (so_far.is_stored || (place == func && (whole_at values place variables.FirstArgument == x && whole_at values place variables.SecondArgument == y)))
 
+-- It stores not at a point exactly if it stores at another one, whatever loads are answered.
+abbrev pub MissesPure : ℕ → Stmt → Type 0
+MissesPure place made =
+    (reads : Reads) (x y : ℕ) (values : Values)
+    → is_sound reads (all_but (point_of place x y)) all_points made values
+    ≡ not (x == whole_at values place variables.FirstArgument && y == whole_at values place variables.SecondArgument)
+
 -- It is sound where that point may be written, and where all that the pure definition reads there may be loaded, counted from the corners.
 abbrev pub IsSoundPure : List Corner → (ℕ → Bool) → List Func → ℕ → Corner → Expr → Stmt → Type 0
 IsSoundPure corners flags funcs place corner pure made =
@@ -123,6 +132,7 @@ pub record IsStoreOf (pipeline : Pipeline) (schedule : Schedule) (boxes : Boxes)
   pub is_corner : IsCorner schedule.funcs placed own corner
   pub stores : StoresPure corners (flagged (flags_of schedule.standings)) pipeline.funcs place corner func.pure made
   pub hits : HitsPure place made
+  pub misses : MissesPure place made
   pub sound : IsSoundPure corners (flagged (flags_of schedule.standings)) pipeline.funcs place corner func.pure made
 
 -- the loops inside the parallel one, which is the outermost, where there is one

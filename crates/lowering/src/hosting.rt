@@ -1,6 +1,6 @@
 //! Loops of a host, with the nests of the Funcs that are computed at them.
 
-ghost use Rattle.std.specs.Prelude.{◌≡◌, ◌-◌, ◌<◌, ◌≤◌, ◌^◌, ◌+◌, ◌++◌, IfOk, Ok, OnOk, length, slice_get, suc};
+ghost use Rattle.std.specs.Prelude.{◌≡◌, ◌-◌, ◌<◌, ◌≤◌, ◌^◌, ◌+◌, ◌++◌, IfOk, Ok, OnOk, length, slice_get, suc, true};
 ghost use Rattle.std.specs.Option.{option_copied};
 ghost use Rattle.schedule.specs.Accepted.{IsAccepted};
 ghost use Rattle.schedule.specs.declared.standings.Place.TheVariants as places;
@@ -10,6 +10,7 @@ ghost use Rattle.bounds.specs.Boxes.{box_in};
 ghost use Rattle.bounds.specs.Verdict.{inferred};
 ghost use Rattle.loop_ir.specs.Depths.{depth};
 ghost use Rattle.loop_ir.specs.Needs.{greatest_need};
+ghost use Rattle.loop_ir.specs.Runs.{is_about};
 ghost use Rattle.nest_lowering.specs.Nests.{AreFew};
 ghost use Rattle.lowering.specs.HostedFuncs as hosted;
 ghost use Rattle.lowering.specs.Hosting as spec;
@@ -129,12 +130,14 @@ fn with_update(
     requires few { depth before ≤ 9 }
     requires needs { greatest_need before ≤ most_need pipeline.now schedule.now }
     requires at_once { MayAlwaysBeAtOnce before }
+    requires about { is_about place before ≡ true }
     ensures does { IfOk result (spec.DoesNests pipeline.now schedule.now boxes.now at place of.now.func.now of.now.own.now (suc of.now.at)) }
     ensures alone { IfOk result (spec.StoresInIt place) }
     ensures sound { IfOk result (spec.IsSoundNest pipeline.now schedule.now boxes.now at place of.now.func.now of.now.own.now) }
     ensures few { IfOk result (λ made. depth made ≤ 9) }
     ensures needs { IfOk result (λ made. greatest_need made ≤ most_need pipeline.now schedule.now) }
     ensures at_once { IfOk result MayAlwaysBeAtOnce }
+    ensures about { IfOk result (λ made. is_about place made ≡ true) }
 {
     let plans = schedule.funcs.as_slice();
     let standings = schedule.standings.as_slice();
@@ -173,6 +176,7 @@ fn nests_upto(
     ensures few { IfOk result (λ made. depth made ≤ 9) }
     ensures needs { IfOk result (λ made. greatest_need made ≤ most_need pipeline.now schedule.now) }
     ensures at_once { IfOk result MayAlwaysBeAtOnce }
+    ensures about { IfOk result (λ made. is_about place made ≡ true) }
 {
     let Some(number) = count.checked_sub(1) else {
         let made = pure_nest(alloc, pipeline, schedule, boxes, at, place, func, plan, own)?;

@@ -1,6 +1,6 @@
 //! Nests of stages: stores under their loops.
 
-ghost use Rattle.std.specs.Prelude.{◌≡◌, ◌≤◌, IfOk, Ok, max};
+ghost use Rattle.std.specs.Prelude.{◌≡◌, ◌≤◌, IfOk, Ok, max, true};
 ghost use Rattle.halide_pipeline.specs.WellFormed.{IsWellFormed};
 ghost use Rattle.schedule.specs.Accepted.{IsAccepted};
 ghost use Rattle.schedule.specs.declared.standings.Place.TheVariants as places;
@@ -8,6 +8,7 @@ ghost use Rattle.bounds.specs.Verdict.{inferred};
 ghost use Rattle.weights.specs.Weight.{flags_of};
 ghost use Rattle.loop_ir.specs.Depths.{depth};
 ghost use Rattle.loop_ir.specs.Needs.{greatest_need};
+ghost use Rattle.loop_ir.specs.Runs.{is_about};
 ghost use Rattle.lowering.specs.Hosting.{DoesNest, IsSoundNest, StoresInIt};
 ghost use Rattle.lowering.specs.PurePhases.{IsComputedAt, IsStoreOf};
 ghost use Rattle.lowering.specs.Rounds.{MayAlwaysBeAtOnce};
@@ -39,6 +40,7 @@ pub(crate) fn store_of(
     ensures rules { IsWellFormed pipeline.now }
     ensures stores { IfOk result (λ made. IsStoreOf pipeline.now schedule.now boxes.now placed place func.now own.now made) }
     ensures leaf { IfOk result IsLeaf }
+    ensures about { IfOk result (λ made. is_about place made ≡ true) }
     ensures depth { IfOk result (λ made. depth made ≡ 0) }
     ensures needs { IfOk result (λ made. greatest_need made ≤ max 1 (taken (flags_of schedule.now.standings) pipeline.now.funcs place func.now.pure)) }
 {
@@ -81,6 +83,7 @@ pub fn pure_nest(
     requires parts { IsComputedAt pipeline.now schedule.now boxes.now (places.At at) place func.now plan.now own.now }
     ensures does { IfOk result (λ made. DoesNest pipeline.now schedule.now boxes.now at place func.now own.now 0 made) }
     ensures alone { IfOk result (StoresInIt place) }
+    ensures about { IfOk result (λ made. is_about place made ≡ true) }
     ensures sound { IfOk result (λ made. IsSoundNest pipeline.now schedule.now boxes.now at place func.now own.now made) }
     ensures few { IfOk result (λ made. depth made ≤ 9) }
     ensures at_once { IfOk result MayAlwaysBeAtOnce }

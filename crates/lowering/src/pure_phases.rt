@@ -14,6 +14,7 @@ ghost use Rattle.lowering.specs.Planes.{owns};
 ghost use Rattle.lowering.specs.PurePhases as spec;
 ghost use Rattle.lowering.specs.Registers.{most_need};
 ghost use Rattle.lowering.specs.Rounds.{RoundsMayBeAtOnce};
+ghost use Rattle.lowering.specs.Runs.{StoresInRuns};
 ghost use Rattle.lowering.specs.Stages.{DoesStage};
 ghost use Rattle.lowering.specs.Stored.{StoresItsOwn};
 ghost use Rattle.lowering.specs.Touching.{TouchesItsOwn};
@@ -112,6 +113,7 @@ pub fn pure_phase(
     ensures needs { IfOk result (λ phase. greatest_need phase.body ≤ most_need pipeline.now schedule.now) }
     ensures few_tasks { IfOk result (λ phase. phase.tasks ≤ 2 ^ 31) }
     ensures rounds { IfOk result RoundsMayBeAtOnce }
+    ensures in_runs { IfOk result (StoresInRuns place (views.extents_of own.now) plan.now.pure) }
     ensures stores { IfOk result (StoresItsOwn boxes.now place (owns (views.extents_of own.now) plan.now.pure)) }
 {
     let stage = &plan.pure;

@@ -1,6 +1,6 @@
 //! Stores of definitions at the points where loops stand.
 
-ghost use Rattle.std.specs.Prelude.{◌≡◌, ◌≤◌, ◌%◌, ◌^◌, IfOk, List, max};
+ghost use Rattle.std.specs.Prelude.{◌≡◌, ◌≤◌, ◌%◌, ◌^◌, IfOk, List, max, true};
 ghost use Rattle.halide_pipeline.specs.Words as word;
 ghost use Rattle.halide_meaning.specs.Pixel.{at_point};
 ghost use Rattle.inlining.specs.Inlining.{flagged};
@@ -8,9 +8,10 @@ ghost use Rattle.loop_ir.specs.Counters.{Values};
 ghost use Rattle.loop_ir.specs.Depths.{depth};
 ghost use Rattle.loop_ir.specs.Expressions.{linear_value};
 ghost use Rattle.loop_ir.specs.Needs.{greatest_need};
+ghost use Rattle.loop_ir.specs.Runs.{is_about};
 ghost use Rattle.expression_lowering.specs.Lowering.{environment};
 ghost use Rattle.nest_lowering.specs.Rounds.{IsLeaf};
-ghost use Rattle.lowering.specs.PurePhases.{HitsPure, IsSoundPure, StoresPure, whole_at};
+ghost use Rattle.lowering.specs.PurePhases.{HitsPure, IsSoundPure, MissesPure, StoresPure, whole_at};
 ghost use Rattle.lowering.specs.Registers.{taken};
 
 use expression_lowering::{Arguments, Corner, lowered};
@@ -82,6 +83,8 @@ pub fn pure_store(
 ) -> Result<Stmt, AllocError>
     ensures stores { IfOk result (λ made. StoresPure corners.now (flagged flags.now) funcs.now place corner.now pure.now made) }
     ensures hits { IfOk result (HitsPure place) }
+    ensures misses { IfOk result (MissesPure place) }
+    ensures about { IfOk result (λ made. is_about place made ≡ true) }
     ensures leaf { IfOk result IsLeaf }
     ensures sound { IfOk result (λ made. IsSoundPure corners.now (flagged flags.now) funcs.now place corner.now pure.now made) }
     ensures depth { IfOk result (λ made. depth made ≡ 0) }

@@ -1,6 +1,6 @@
 //! Stores of updates at the points where loops stand.
 
-ghost use Rattle.std.specs.Prelude.{◌≡◌, ◌+◌, ◌<◌, ◌≤◌, ◌^◌, Bool, IfOk, List};
+ghost use Rattle.std.specs.Prelude.{◌≡◌, ◌+◌, ◌<◌, ◌≤◌, ◌^◌, Bool, IfOk, List, true};
 ghost use Rattle.halide_pipeline.specs.Words as word;
 ghost use Rattle.halide_meaning.specs.Pixel.{Reads, variable as variable_in};
 ghost use Rattle.reads.specs.Points.{Hold, Point};
@@ -11,6 +11,7 @@ ghost use Rattle.loop_ir.specs.Counters.{Values};
 ghost use Rattle.loop_ir.specs.Depths.{depth};
 ghost use Rattle.loop_ir.specs.Expressions.{linear_value, loads, value};
 ghost use Rattle.loop_ir.specs.Needs.{greatest_need, need};
+ghost use Rattle.loop_ir.specs.Runs.{is_about};
 ghost use Rattle.expression_lowering.specs.Lowering.{environment, place as place_in, placed};
 ghost use Rattle.lowering.specs.Registers.{second_taken, update_taken};
 ghost use Rattle.lowering.specs.Updates as spec;
@@ -117,6 +118,7 @@ pub fn update_store(
     ensures stores { IfOk result (λ made. spec.StoresUpdate corners.now (flagged flags.now) funcs.now place corner.now update.now made) }
     ensures hits { IfOk result (λ made. spec.HitsUpdate corners.now (flagged flags.now) funcs.now place corner.now update.now made) }
     ensures leaf { IfOk result IsLeaf }
+    ensures about { IfOk result (λ made. is_about place made ≡ true) }
     ensures sound { IfOk result (λ made. spec.IsSoundUpdate corners.now (flagged flags.now) funcs.now place corner.now update.now made) }
     ensures depth { IfOk result (λ made. depth made ≡ 0) }
     ensures needs { IfOk result (λ made. greatest_need made ≤ update_taken flags.now funcs.now place update.now) }

@@ -1,6 +1,6 @@
 //! Phases of updates, and their loops where the Func is computed at a loop.
 
-ghost use Rattle.std.specs.Prelude.{◌≡◌, ◌+◌, ◌<◌, ◌≤◌, ◌^◌, List, [], IfOk, Ok, Some, length, slice_get, suc};
+ghost use Rattle.std.specs.Prelude.{◌≡◌, ◌+◌, ◌<◌, ◌≤◌, ◌^◌, List, [], IfOk, Ok, Some, length, slice_get, suc, true};
 ghost use Rattle.halide_meaning.specs.Pixel as meaning;
 ghost use Rattle.schedule.specs.Accepted.{IsAccepted};
 ghost use Rattle.stage_loops.specs.Counts.{AreSplits, counts};
@@ -12,6 +12,7 @@ ghost use Rattle.bounds.specs.Boxes.{IsBox};
 ghost use Rattle.bounds.specs.Verdict.{inferred};
 ghost use Rattle.loop_ir.specs.Depths.{depth, task_depth};
 ghost use Rattle.loop_ir.specs.Needs.{greatest_need};
+ghost use Rattle.loop_ir.specs.Runs.{is_about};
 ghost use Rattle.nest_lowering.specs.Nests.{AreFew, Repeats};
 ghost use Rattle.nest_lowering.specs.Rounds.{IsLeaf, MayBeAtOnce, MayBeUnder};
 ghost use Rattle.schedule_lines.specs.declared.stages.Loop.{Loop};
@@ -90,6 +91,7 @@ fn store_at(
     requires { place + 1 < 2 ^ 64 }
     ensures stores { IfOk result (λ made. spec.StoresUpdate corners.now (flagged (flags_of schedule.now.standings)) pipeline.now.funcs place corner.now update.now made) }
     ensures leaf { IfOk result IsLeaf }
+    ensures about { IfOk result (λ made. is_about place made ≡ true) }
     ensures hits { IfOk result (λ made. spec.HitsUpdate corners.now (flagged (flags_of schedule.now.standings)) pipeline.now.funcs place corner.now update.now made) }
     ensures sound { IfOk result (λ made. spec.IsSoundUpdate corners.now (flagged (flags_of schedule.now.standings)) pipeline.now.funcs place corner.now update.now made) }
     ensures depth { IfOk result (λ made. depth made ≡ 0) }
@@ -176,6 +178,7 @@ fn nest_of(
     ensures repeats { IfOk result (λ made. Repeats place made store (wholes extents stage.now.splits stage.now.loops)) }
     ensures depth { IfOk result (λ made. depth made ≡ length stage.now.loops + (length stage.now.splits + depth store)) }
     ensures needs { IfOk result (λ made. greatest_need made ≡ greatest_need store) }
+    ensures about { IfOk result (λ made. is_about place made ≡ is_about place store) }
 {
     let made = with_nest(
         alloc,
@@ -266,6 +269,7 @@ pub fn update_nest(
     ensures sound { IfOk result (spec.AreSoundLoops pipeline.now schedule.now boxes.now corners.now place corner.now of.now.own.now of.now.update.now) }
     ensures few { IfOk result (λ made. depth made ≤ 9) }
     ensures at_once { IfOk result MayAlwaysBeAtOnce }
+    ensures about { IfOk result (λ made. is_about place made ≡ true) }
     ensures needs { IfOk result (λ made. greatest_need made ≤ most_need pipeline.now schedule.now) }
 {
     // What every pipeline keeps is known once its parts are read.

@@ -213,7 +213,7 @@ module _ (pipeline : Pipeline) (schedule : Schedule) (boxes : Boxes) (place : �
         ∙ ap (λ (s : Option Stage). update_writes pipeline schedule boxes inputs place own (Some update) s task x y) it.stage_is)
 
   pub known_phase : (number : ℕ) (phase : Phase) → IsStagePhase pipeline schedule boxes place func plan own number phase → KnownPhase pipeline schedule boxes place func number phase
-  known_phase _ _ (Pure phase tasks private_is bytes does touches few stores rounds) = record {
+  known_phase _ _ (Pure phase tasks private_is bytes does touches few stores rounds in_runs) = record {
     owned = owns (extents_of own) plan.pure;
     known = record {
       func_is = at.func_is;

@@ -7,6 +7,8 @@ use Rattle.loop_ir.specs.Rounds.{Rounds, may_be_at_once}
 use Rattle.loop_ir.proofs.Rounds.{rounds_sequence}
 use Rattle.lowering.specs.Rounds.{at_once_first}
 use Rattle.loop_ir.specs.Running.{run}
+use Rattle.loop_ir.specs.Runs.{Runs, is_about, stores_in_runs}
+use Rattle.loop_ir.proofs.Runs.{about_sequence, runs_sequence}
 use Rattle.loop_ir.specs.Soundness.{is_sound}
 use Rattle.loop_ir.proofs.Depths.{depth_sequence}
 use Rattle.loop_ir.proofs.Needs.{greatest_sequence}
@@ -14,7 +16,7 @@ use Rattle.loop_ir.specs.Stores.{trace}
 use Rattle.loop_ir.proofs.Sound.{sound_sequence}
 use Rattle.loop_ir.proofs.Traces.{trace_sequence}
 use Rattle.loop_ir.proofs.Trees.{run_sequence}
-use Rattle.lowering.specs.Hosting.{run_first, trace_first, is_sound_first, depth_first, need_first}
+use Rattle.lowering.specs.Hosting.{run_first, trace_first, is_sound_first, depth_first, need_first, about_first, in_runs_first}
 use Rattle.lowering.proofs.hosting.in_order.Goals as goal
 
 without : (n : ℕ) → n ≡ max 0 n
@@ -32,6 +34,8 @@ returns-in-None c = record {
   need_is = without (greatest_need c.args.rest) ∙ ap (λ (o : Option Stmt). max (need_first o) (greatest_need c.args.rest)) (sym c.in-None.is);
   at_once = λ reads values. ap (λ (o : Option Stmt). at_once_first reads o values && may_be_at_once reads c.args.rest values) (sym c.in-None.is);
   alone_is = λ e. refl;
+  about = λ place. ap (λ (o : Option Stmt). about_first place o && is_about place c.args.rest) (sym c.in-None.is);
+  in_runs = λ reads func x y expected values. ap (λ (o : Option Stmt). in_runs_first reads func x y expected o values && stores_in_runs reads func x y expected c.args.rest values) (sym c.in-None.is);
 }
 
 -- src/hosting.rt:161:1
@@ -66,4 +70,14 @@ returns-in_ok-rest-in-Some c = record {
       ∙ ap (λ (s : Stmt). may_be_at_once reads s values && may_be_at_once reads c.args.rest values) c.in_ok-first-in-Some.ensures
       ∙ ap (λ (o : Option Stmt). at_once_first reads o values && may_be_at_once reads c.args.rest values) (sym c.in-Some.is);
   alone_is = λ e. absurd (some_there c.args.first e c.in-Some.is);
+  about = λ place.
+      about_sequence place c.in_ok-first-in-Some.first c.in_ok-rest-in-Some.rest
+      ∙ ap (λ (s : Stmt). is_about place c.in_ok-first-in-Some.first && is_about place s) c.in_ok-rest-in-Some.ensures
+      ∙ ap (λ (s : Stmt). is_about place s && is_about place c.args.rest) c.in_ok-first-in-Some.ensures
+      ∙ ap (λ (o : Option Stmt). about_first place o && is_about place c.args.rest) (sym c.in-Some.is);
+  in_runs = λ reads func x y expected values.
+      ap (λ (own : Runs). own.are_runs values) (runs_sequence reads func x y expected c.in_ok-first-in-Some.first c.in_ok-rest-in-Some.rest)
+      ∙ ap (λ (s : Stmt). stores_in_runs reads func x y expected c.in_ok-first-in-Some.first values && stores_in_runs reads func x y expected s values) c.in_ok-rest-in-Some.ensures
+      ∙ ap (λ (s : Stmt). stores_in_runs reads func x y expected s values && stores_in_runs reads func x y expected c.args.rest values) c.in_ok-first-in-Some.ensures
+      ∙ ap (λ (o : Option Stmt). in_runs_first reads func x y expected o values && stores_in_runs reads func x y expected c.args.rest values) (sym c.in-Some.is);
 }

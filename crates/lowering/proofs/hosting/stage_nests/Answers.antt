@@ -14,4 +14,5 @@ returns c = record {
   few = c.in_ok-made.ensures.few;
   needs = c.in_ok-made.ensures.needs;
   at_once = c.in_ok-made.ensures.at_once;
+  about = c.in_ok-made.ensures.about;
 }

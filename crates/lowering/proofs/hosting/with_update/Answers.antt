@@ -6,6 +6,7 @@ use Rattle.lowering.proofs.Alone.{both_alone}
 use Rattle.lowering.proofs.UpdateFilling.{computed_in, corner_there, one_more_stage, one_more_sound, same_corners, nothing_there}
 use Rattle.std.proofs.lemmas.Bool.{and_from}
 use Rattle.loop_ir.specs.Rounds.{may_be_at_once}
+use Rattle.loop_ir.specs.Runs.{is_about}
 use Rattle.lowering.proofs.hosting.with_update.Goals as goal
 
 pub returns-in_default : goal.returns-in_default
@@ -45,3 +46,8 @@ pub returns-clause-at_once : goal.returns-clause-at_once
 returns-clause-at_once c = λ reads values small.
     c.in_ok-made.ensures.at_once reads values
     ∙ and_from (may_be_at_once reads c.args.before values) (may_be_at_once reads c.in_ok-next.next values) (c.requires.at_once reads values small) (c.in_ok-next.ensures.at_once reads values small)
+
+pub returns-clause-about : goal.returns-clause-about
+returns-clause-about c =
+    c.in_ok-made.ensures.about c.args.place
+    ∙ and_from (is_about c.args.place c.args.before) (is_about c.args.place c.in_ok-next.next) c.requires.about c.in_ok-next.ensures.about

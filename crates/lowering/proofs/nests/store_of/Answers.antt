@@ -22,6 +22,7 @@ returns-clause-stores c =
           (subst (λ (l : List Func). StoresPure c.as_slice-3.result.now (flagged (flags_of c.args.schedule.now.standings)) l c.args.place c.in_ok-corner.corner c.args.func.now.pure c.in_ok-made.made) c.funcs-funcs.ensures.value
           (subst (λ (f : List Bool). StoresPure c.as_slice-3.result.now (flagged f) c.funcs-funcs.result.now c.args.place c.in_ok-corner.corner c.args.func.now.pure c.in_ok-made.made) flags_are c.in_ok-made.ensures.stores));
       hits = c.in_ok-made.ensures.hits;
+      misses = c.in_ok-made.ensures.misses;
       sound = subst (λ (l : List Corner). IsSoundPure l (flagged (flags_of c.args.schedule.now.standings)) c.args.pipeline.now.funcs c.args.place c.in_ok-corner.corner c.args.func.now.pure c.in_ok-made.made) c.as_slice-3.ensures.value
           (subst (λ (l : List Func). IsSoundPure c.as_slice-3.result.now (flagged (flags_of c.args.schedule.now.standings)) l c.args.place c.in_ok-corner.corner c.args.func.now.pure c.in_ok-made.made) c.funcs-funcs.ensures.value
           (subst (λ (f : List Bool). IsSoundPure c.as_slice-3.result.now (flagged f) c.funcs-funcs.result.now c.args.place c.in_ok-corner.corner c.args.func.now.pure c.in_ok-made.made) flags_are c.in_ok-made.ensures.sound));

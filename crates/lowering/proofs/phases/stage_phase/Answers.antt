@@ -6,7 +6,7 @@ use Rattle.lowering.proofs.phases.stage_phase.Goals as goal
 pub returns-in_default : goal.returns-in_default
 returns-in_default c =
     pure_is c.args.pipeline.now c.args.schedule.now c.args.boxes.now c.args.place c.args.func.now c.args.plan.now c.args.own.now c.args.number c.in_ok-phase.phase (omega (arith, c.in_default.ensures))
-    (Pure c.in_ok-phase.phase c.in_ok-phase.ensures.tasks c.in_ok-phase.ensures.private c.in_ok-phase.ensures.bytes c.in_ok-phase.ensures.stage c.in_ok-phase.ensures.touches (c.in_ok-phase.ensures.few, (c.in_ok-phase.ensures.needs, c.in_ok-phase.ensures.few_tasks)) c.in_ok-phase.ensures.stores c.in_ok-phase.ensures.rounds)
+    (Pure c.in_ok-phase.phase c.in_ok-phase.ensures.tasks c.in_ok-phase.ensures.private c.in_ok-phase.ensures.bytes c.in_ok-phase.ensures.stage c.in_ok-phase.ensures.touches (c.in_ok-phase.ensures.few, (c.in_ok-phase.ensures.needs, c.in_ok-phase.ensures.few_tasks)) c.in_ok-phase.ensures.stores c.in_ok-phase.ensures.rounds c.in_ok-phase.ensures.in_runs)
 
 pub returns-in_default-get : goal.returns-in_default-get
 returns-in_default-get c = let past = past_end c.args.func.now.updates c.in-Some.at (sym c.in_default-get.ensures.value) in omega (arith, past, c.in-Some.ensures)

@@ -14,7 +14,7 @@ use Rattle.lowering.proofs.Depths.{body_few, body_need}
 use Rattle.lowering.proofs.Facts.{is_box, splits, few, few_loops}
 use Rattle.lowering.proofs.PureStage.{does_stage}
 use Rattle.lowering.proofs.SoundTasks.{touches}
-use Rattle.lowering.proofs.StoredTasks.{stores_its_own}
+use Rattle.lowering.proofs.StoredTasks.{stores_its_own, stores_in_its_runs}
 use Rattle.lowering.proofs.Tasks.{does_phase}
 use Rattle.lowering.proofs.Registers.{pure-most}
 use Rattle.nest_lowering.proofs.Few.{few_turns}
@@ -122,3 +122,13 @@ returns-clause-rounds c =
     body.leaf c.in_ok-store.store body.bound c.in_ok-store.ensures.leaf (body.leaf_is c.in_ok-store.ensures.leaf)
     (λ inside around loops_are. pure_under c.args.pipeline.now c.args.schedule.now c.inputs.ensures.rules c.args.place c.args.func.now c.requires.at.func_is store.corners store.corner c.in_ok-store.store store.sound extents stage facts.0 facts.1 inside around loops_are)
     (inside_of (iterations.parallel stage) stage.loops) outside body.inner c.in_ok-body.body (loops_by c.args.place extents stage facts.1 (iterations.parallel stage) refl) body.looped body.begun)
+
+pub returns-clause-in_runs : goal.returns-clause-in_runs
+returns-clause-in_runs c =
+    stores_in_its_runs c.args.pipeline.now c.args.schedule.now c.args.boxes.now c.inputs.ensures.rules c.requires.accepted c.requires.boxes c.args.place c.args.func.now c.args.plan.now c.args.own.now c.requires.at
+    c.in_ok-store.store c.in_ok-store.ensures.stores
+    (record { tasks = c.in_ok-tasks.tasks; counter = c.task_counter-counter.result; body = c.in_ok-body.body; private = c.in_ok-private.private; bytes = c.in_ok-bytes.bytes })
+    (c.in_ok-tasks.ensures.is ∙ ap (λ (e : Extents). iterations.iteration_count e c.args.plan.now.pure) c.extents_of-extents.ensures)
+    c.task_counter-counter.ensures
+    (subst (λ (e : Extents). IsBody c.args.pipeline.now c.args.schedule.now c.args.boxes.now c.args.place c.args.plan.now.pure e c.in_ok-store.store c.in_ok-body.body) c.extents_of-extents.ensures c.in_ok-body.ensures)
+    c.in_ok-store.ensures.leaf

@@ -1,8 +1,11 @@
 use Rattle.inlining.specs.Inlining.{flagged}
 use Rattle.loop_ir.proofs.Depths.{depth_store}
 use Rattle.lowering.proofs.Registers.{pure-store}
-use Rattle.lowering.proofs.Storing.{stores_pure, hits_pure, sound_pure}
+use Rattle.lowering.proofs.Storing.{stores_pure, hits_pure, misses_pure, sound_pure}
 use Rattle.lowering.proofs.PureRounds.{store_leaf}
+use Rattle.std.proofs.Common.{refl, ◌∙◌}
+use Rattle.std.proofs.lemmas.Bool.{eq-eqb}
+use Rattle.loop_ir.proofs.Runs.{about_store}
 use Rattle.lowering.proofs.stores.pure_store.Goals as goal
 
 -- src/stores.rt:56:1
@@ -28,3 +31,9 @@ returns-clause-needs c = pure-store c.args.place c.in_ok-x.x c.in_ok-y.y c.in_ok
 
 pub returns-clause-leaf : goal.returns-clause-leaf
 returns-clause-leaf c = store_leaf _
+
+pub returns-clause-misses : goal.returns-clause-misses
+returns-clause-misses c = misses_pure c.args.place c.in_ok-x.x c.in_ok-y.y c.in_ok-value.value c.in_ok-x.ensures c.in_ok-y.ensures
+
+pub returns-clause-about : goal.returns-clause-about
+returns-clause-about c = about_store c.args.place _ ∙ eq-eqb c.args.place c.args.place refl

@@ -1,9 +1,11 @@
-use Rattle.std.proofs.Common.{◌≡◌, suc, ◌+◌, arith}
+use Rattle.std.proofs.Common.{◌≡◌, suc, ◌+◌, arith, refl, ◌∙◌}
 use Rattle.inlining.specs.Inlining.{flagged}
 use Rattle.loop_ir.proofs.Depths.{depth_store}
 use Rattle.lowering.proofs.Registers.{store-need}
 use Rattle.lowering.proofs.UpdateStoring.{stores_update, hits_update, sound_update}
 use Rattle.lowering.proofs.PureRounds.{store_leaf}
+use Rattle.std.proofs.lemmas.Bool.{eq-eqb}
+use Rattle.loop_ir.proofs.Runs.{about_store}
 use Rattle.lowering.proofs.update_stores.update_store.Goals as goal
 
 -- src/update_stores.rt:101:1
@@ -37,3 +39,6 @@ returns-clause-needs c =
 
 pub returns-clause-leaf : goal.returns-clause-leaf
 returns-clause-leaf c = store_leaf _
+
+pub returns-clause-about : goal.returns-clause-about
+returns-clause-about c = about_store c.args.place _ ∙ eq-eqb c.args.place c.args.place refl

@@ -1,0 +1,43 @@
+-- Runs of a vectorized stage: what the stage stores while its vectorized loop takes all its values, guards obeyed, and its other loops stay.
+--
+-- The innermost loop alone of a stage that is accepted may be vectorized.
+-- This project's own.
+use Rattle.std.specs.Prelude.{◌≡◌, ◌<◌, ℕ, Bool, true, false, List, [], ◌∷◌}
+use Rattle.std.specs.List.{list_any}
+use Rattle.halide_meaning.specs.Pixel.{Reads}
+use Rattle.schedule_lines.specs.declared.stages.Loop.{Loop}
+use Rattle.schedule_lines.specs.declared.stages.Stage.{Stage}
+use Rattle.stage_loops.specs.declared.extents.Extents.{Extents}
+use Rattle.stage_loops.specs.Counts as loops
+use Rattle.stage_loops.specs.Counts.{counts}
+use Rattle.stage_loops.specs.Visits.{Visit, nest, over_loops, visit_of, is_slice}
+use Rattle.loop_ir.specs.declared.statements.Phase.{Phase}
+use Rattle.loop_ir.specs.Counters.{Values}
+use Rattle.loop_ir.specs.Runs.{stores_in_runs}
+use Rattle.loop_ir.specs.Running.{task_values}
+use Rattle.nest_lowering.specs.Nests.{loops_of}
+use Rattle.nest_lowering.specs.Rounds.{is_vectorized_loop}
+
+-- The innermost of these loops is vectorized.
+abbrev pub is_vectorized_first : List Loop → Bool
+is_vectorized_first [] = false
+is_vectorized_first (own ∷ outside) = is_vectorized_loop own
+
+abbrev pub innermost : List Loop → List Loop
+innermost [] = []
+innermost (own ∷ outside) = own ∷ []
+
+-- what the stage visits in all turns of its innermost loop, while its other loops are in these turns
+abbrev pub run_of : Extents → Stage → loops.Values → List Visit
+run_of extents stage turns = nest (counts extents stage.splits) (innermost stage.loops) (over_loops extents stage.splits (λ whole. visit_of extents whole ∷ [])) turns
+
+-- The run visits the point, while the loops of the Func at a place are in the turns that counters stand at.
+abbrev pub is_in_run : Extents → Stage → ℕ → ℕ → ℕ → Values → Bool
+is_in_run extents stage place x y values = list_any (is_slice x y) (run_of extents stage (loops_of place values))
+
+-- Where the stage of the Func at a place is vectorized, each task of the phase stores points of the Func in vectorized loops of the Func alone,
+-- and each run of such a loop stores exactly at the points that the stage visits in the run, however loads are answered.
+abbrev pub StoresInRuns : ℕ → Extents → Stage → Phase → Type 0
+StoresInRuns place extents stage phase =
+    is_vectorized_first stage.loops ≡ true → (task : ℕ) → task < phase.tasks → (reads : Reads) (x y : ℕ)
+    → stores_in_runs reads place x y (is_in_run extents stage place x y) phase.body (task_values phase.counter task) ≡ true
