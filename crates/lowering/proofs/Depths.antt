@@ -115,8 +115,8 @@ module _ (pipeline : Pipeline) (schedule : Schedule) (boxes : Boxes) where
   one_behind (first ∷ phases) phase few own = (few.0, one_behind phases phase few.1 own)
 
   stage_few : (place : ℕ) (func : Func) (plan : FuncPlan) (own : SourceBox) (number : ℕ) (phase : Phase) → lowered.IsStagePhase pipeline schedule boxes place func plan own number phase → TakesFew pipeline schedule phase
-  stage_few place func plan own _ _ (lowered.Pure phase tasks private_is bytes does touches few stores rounds in_runs) = few
-  stage_few place func plan own _ _ (lowered.Updating at update stage phase it tasks private_is bytes does touches few stores rounds) = few
+  stage_few place func plan own _ _ (lowered.Pure phase tasks private_is bytes does touches few stores rounds in_runs) = few.0
+  stage_few place func plan own _ _ (lowered.Updating at update stage phase it tasks private_is bytes does touches few stores rounds) = few.0
 
   stages_few : (place : ℕ) (func : Func) (plan : FuncPlan) (own : SourceBox) (others phases : List Phase) (number : ℕ)
       → lowered.ArePhasesOf pipeline schedule boxes place func plan own others number phases → Few others → Few phases

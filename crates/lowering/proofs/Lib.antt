@@ -52,3 +52,6 @@ pub mod PureRounds
 pub mod TaskRounds
 pub mod HostRounds
 pub mod RunHosts
+pub mod Sizes
+pub mod Shares
+pub mod Weighing

@@ -103,13 +103,13 @@ module _ {A : Type 0} (algebra : Algebra A) (is_inlined : ℕ → Bool) (inputs 
       ∙ ap (λ (x : A). answered (algebra.level (layer.Call2 s a.right x)) a.right (Some x) (answer (inside algebra is_inlined funcs m) s)) b.is
       ∙ ap (answered (algebra.level (layer.Call2 s a.right b.right)) a.right (Some b.right)) (answer-same s 2 kept)
 
-  count-same : (e : Expr) → keeps (is_read inputs funcs m) has e ≡ true → inlined algebra is_inlined funcs m vars e ≡ inlined algebra is_inlined funcs n vars e
+  pub count-same : (e : Expr) → keeps (is_read inputs funcs m) has e ≡ true → inlined algebra is_inlined funcs m vars e ≡ inlined algebra is_inlined funcs n vars e
   unfolding through
   count-same e kept = kept_folds_related Same (is_read inputs funcs m) has _ _ same-levels e kept
 
 -- ---- definitions
 
-at-most : (funcs : List Func) (place : ℕ) (func : Func) → slice_get funcs place ≡ Some func → place < length funcs
+pub at-most : (funcs : List Func) (place : ℕ) (func : Func) → slice_get funcs place ≡ Some func → place < length funcs
 at-most [] place func is = absurd cc
 at-most (first ∷ funcs) zero func is = omega arith
 at-most (first ∷ funcs) (suc place) func is = let l = at-most funcs place func is in omega (arith, l)

@@ -3,7 +3,7 @@
 -- At the beginning of each turn of a loop stand the nests of the Funcs that are computed at it, in order of the text. Each fills the Func's
 -- buffer, which begins at the corner of its box in that turn. The loops of the host alone have turns there.
 -- This project's own.
-use Rattle.std.specs.Prelude.{◌≡◌, ◌<◌, ℕ, suc, ◌≤◌, ◌&&◌, Bool, true, List, [], ◌∷◌, ◌++◌, ◌+◌, length, max, Option, Some, None, slice_get, false}
+use Rattle.std.specs.Prelude.{◌≡◌, ◌<◌, ℕ, suc, ◌≤◌, ◌&&◌, Bool, true, List, [], ◌∷◌, ◌++◌, ◌+◌, ◌*◌, length, max, Option, Some, None, slice_get, false}
 use Rattle.std.specs.List.{AllByRecursion}
 use Rattle.halide_pipeline.specs.declared.definitions.Func.{Func}
 use Rattle.halide_pipeline.specs.declared.definitions.Update.{Update}
@@ -34,6 +34,7 @@ use Rattle.loop_ir.specs.Buffers.{Points}
 use Rattle.loop_ir.specs.Counters.{Values, no_values, with}
 use Rattle.loop_ir.specs.Depths.{depth}
 use Rattle.loop_ir.specs.Needs.{greatest_need}
+use Rattle.loop_ir.specs.Sizes.{whole_size}
 use Rattle.loop_ir.specs.Running.{run, turns}
 use Rattle.loop_ir.specs.Soundness.{every, is_sound}
 use Rattle.loop_ir.specs.Stores.{Trace, trace}
@@ -44,6 +45,8 @@ use Rattle.lowering.specs.Corners.{first_of, turns_for, AreCorners}
 use Rattle.lowering.specs.Planes.{has_point, box_points}
 use Rattle.lowering.specs.PurePhases.{IsComputedAt, inside_of}
 use Rattle.lowering.specs.Registers.{most_need}
+use Rattle.lowering.specs.Sizes.{func_share}
+use Rattle.weights.specs.Weight.{flags_of}
 use Rattle.lowering.specs.Rounds.{MayAlwaysBeAtOnce, at_once_first}
 use Rattle.nest_lowering.specs.Rounds.{GoesAround, IsLeaf}
 use Rattle.nest_lowering.specs.Runs.{RunsAround}
@@ -97,6 +100,10 @@ abbrev pub in_runs_first : Reads → ℕ → ℕ → ℕ → (Values → Bool) �
 in_runs_first reads func x y expected None values = true
 in_runs_first reads func x y expected (Some first) values = stores_in_runs reads func x y expected first values
 
+abbrev pub size_first : Option Stmt → ℕ
+size_first None = 0
+size_first (Some first) = whole_size first
+
 -- A statement does this first, and then another one.
 pub record DoesFirst (found : Option Stmt) (rest made : Stmt) : Type 0 where
   pub runs : (points : Points) (inputs : Planes) (values : Values) (funcs : Planes)
@@ -107,6 +114,7 @@ pub record DoesFirst (found : Option Stmt) (rest made : Stmt) : Type 0 where
       → is_sound reads written loaded made values ≡ (is_sound_first reads written loaded found values && is_sound reads written loaded rest values)
   pub depth_is : depth made ≡ max (depth_first found) (depth rest)
   pub need_is : greatest_need made ≡ max (need_first found) (greatest_need rest)
+  pub size_is : whole_size made ≡ size_first found + whole_size rest
   pub at_once : (reads : Reads) (values : Values) → may_be_at_once reads made values ≡ (at_once_first reads found values && may_be_at_once reads rest values)
   pub alone_is : found ≡ None → made ≡ rest
   pub about : (place : ℕ) → is_about place made ≡ (about_first place found && is_about place rest)
@@ -129,6 +137,7 @@ pub record DoesTurns (host : ℕ) (id : LoopId) (count : ℕ) (body made : Stmt)
       → is_sound reads written loaded made values ≡ every count (λ turn. is_sound reads written loaded body (with (record { func = host; id = id }) turn values))
   pub depth_is : depth made ≡ suc (depth body)
   pub need_is : greatest_need made ≡ greatest_need body
+  pub size_is : whole_size made ≡ whole_size body + 7
 
 module _ (pipeline : Pipeline) (schedule : Schedule) (boxes : Boxes) where
   -- What the pure definition reads of other Funcs, wherever its arguments lie in its box, is answered as by their pixels, while the loops
@@ -210,6 +219,7 @@ module _ (pipeline : Pipeline) (schedule : Schedule) (boxes : Boxes) where
     -- under at most five loops and four values of split ones
     pub few : depth made ≤ 9
     pub needs : greatest_need made ≤ most_need pipeline schedule
+    pub small : whole_size made ≤ 64 * func_share (flags_of schedule.standings) pipeline.funcs func plan
     pub at_once : MayAlwaysBeAtOnce made
     pub about : is_about place made ≡ true
 
@@ -245,6 +255,7 @@ module _ (pipeline : Pipeline) (schedule : Schedule) (boxes : Boxes) where
     pub bound : Repeats host leaf store (wholes extents stage.splits [])
     pub depth_is : depth leaf ≡ length stage.splits + depth store
     pub need_is : greatest_need leaf ≡ greatest_need store
+    pub size_is : whole_size leaf ≡ 14 * length stage.splits + whole_size store
     pub leaf_is : IsLeaf store → IsLeaf leaf
     pub looped : HasLoops host (loops.counts extents stage.splits) leaf (inside_of (parallel stage) stage.loops) inner
     pub begun : HasOutermost host (parallel stage) inner body

@@ -2,6 +2,7 @@ pub mod Phases
 pub mod Order
 pub mod Planes
 pub mod Registers
+pub mod Sizes
 pub mod Corners
 pub mod Stages
 pub mod Stored

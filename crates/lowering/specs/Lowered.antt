@@ -28,6 +28,7 @@ use Rattle.lowering.specs.PurePhases.{IsAtRoot, byte_places}
 use Rattle.lowering.specs.Registers.{TakesFew}
 use Rattle.lowering.specs.Rounds.{RoundsMayBeAtOnce}
 use Rattle.lowering.specs.Runs.{StoresInRuns}
+use Rattle.lowering.specs.Sizes.{IsLight}
 use Rattle.lowering.specs.Stages.{is_private, DoesStage}
 use Rattle.lowering.specs.Stored.{StoresItsOwn, StoresWhatItNames}
 use Rattle.lowering.specs.Touching.{TouchesItsOwn}
@@ -37,19 +38,19 @@ use Rattle.lowering.specs.Updates.{IsUpdateAt, update_extents, owns_update}
 
 module _ (pipeline : Pipeline) (schedule : Schedule) (boxes : Boxes) where
   -- The phase of the stage with this number of a Func: how many tasks it has, which points each owns, which buffers are private, which
-  -- inputs are bytes, what its tasks touch, that they take few registers, which points its tasks store at, that the rounds of vectorized loops may
-  -- be done at once, and which points a run of a pure definition's vectorized loop stores at.
+  -- inputs are bytes, what its tasks touch, that they take few registers and few words of code, which points its tasks store at, that the
+  -- rounds of vectorized loops may be done at once, and which points a run of a pure definition's vectorized loop stores at.
   pub data IsStagePhase (place : ℕ) (func : Func) (plan : FuncPlan) (own : SourceBox) : ℕ → Phase → Type 0 where
     Pure : (phase : Phase) → phase.tasks ≡ iteration_count (extents_of own) plan.pure → phase.private ≡ hosted_from place 0 schedule.standings
         → phase.bytes ≡ byte_places 0 pipeline.inputs
         → DoesStage pipeline schedule boxes place func 0 (owns (extents_of own) plan.pure) phase
-        → TouchesItsOwn pipeline schedule boxes place (owns (extents_of own) plan.pure) phase → TakesFew pipeline schedule phase
+        → TouchesItsOwn pipeline schedule boxes place (owns (extents_of own) plan.pure) phase → TakesFew pipeline schedule phase × IsLight pipeline schedule place func plan 0 phase
         → StoresItsOwn boxes place (owns (extents_of own) plan.pure) phase → RoundsMayBeAtOnce phase → StoresInRuns place (extents_of own) plan.pure phase
         → IsStagePhase place func plan own 0 phase
     Updating : (at : ℕ) (update : Update) (stage : Stage) (phase : Phase) → IsUpdateAt schedule place func plan at update stage
         → phase.tasks ≡ iteration_count (update_extents own update) stage → phase.private ≡ [] → phase.bytes ≡ byte_places 0 pipeline.inputs
         → DoesStage pipeline schedule boxes place func (suc at) (owns_update own update stage) phase
-        → TouchesItsOwn pipeline schedule boxes place (owns_update own update stage) phase → TakesFew pipeline schedule phase
+        → TouchesItsOwn pipeline schedule boxes place (owns_update own update stage) phase → TakesFew pipeline schedule phase × IsLight pipeline schedule place func plan (suc at) phase
         → StoresWhatItNames pipeline schedule boxes place func at own update stage phase → RoundsMayBeAtOnce phase → IsStagePhase place func plan own (suc at) phase
 
   -- There is one exactly if there is the stage.

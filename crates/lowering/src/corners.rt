@@ -1,9 +1,10 @@
 //! Corners of boxes.
 
-ghost use Rattle.std.specs.Prelude.{◌≡◌, ◌+◌, ◌*◌, ◌%◌, ◌^◌, List, IfOk, OnOk, slice_get};
+ghost use Rattle.std.specs.Prelude.{◌≡◌, ◌≤◌, ◌+◌, ◌*◌, ◌%◌, ◌^◌, List, IfOk, OnOk, length, slice_get};
 ghost use Rattle.std.specs.Option.{option_copied};
 ghost use Rattle.bounds.specs.Boxes as bounds_boxes;
 ghost use Rattle.box_laws.specs.HostLaws.{turn_at, values_in};
+ghost use Rattle.expression_lowering.specs.Sizing.{AreShort, IsShort};
 ghost use Rattle.loop_ir.specs.Counters.{Values};
 ghost use Rattle.loop_ir.specs.Expressions.{linear_value, sum_of};
 ghost use Rattle.lowering.specs.Corners as spec;
@@ -95,7 +96,8 @@ fn add_multiple(
     counter: Option<Counter>,
     terms: &mut Items<Term>,
 ) -> Result<(), AllocError>
-    ensures { OnOk result ((values : Values)
+    ensures few { OnOk result (length terms.new ≤ length terms.old + 1) }
+    ensures sum { OnOk result ((values : Values)
         → (sum_of values terms.new + own.less * spec.counted_at values counter) % 2 ^ 32 ≡ (sum_of values terms.old + own.more * spec.counted_at values counter) % 2 ^ 32) }
 {
     match counter {
@@ -115,7 +117,8 @@ fn add_base(
     counters: &[Option<Counter>],
     terms: &mut Items<Term>,
 ) -> Result<(), AllocError>
-    ensures { OnOk result ((values : Values)
+    ensures few { OnOk result (length terms.new ≤ length terms.old + length counters.now) }
+    ensures sum { OnOk result ((values : Values)
         → (sum_of values terms.new + less_sum base.now (spec.counted values counters.now)) % 2 ^ 32 ≡ (sum_of values terms.old + more_sum base.now (spec.counted values counters.now)) % 2 ^ 32) }
 {
     match base {
@@ -138,7 +141,8 @@ fn first_of(
     range: &Range,
     counters: &[Option<Counter>],
 ) -> Result<Linear, AllocError>
-    ensures { IfOk result (λ made. (values : Values) → linear_value values made ≡ spec.first_of range.now (spec.counted values counters.now)) }
+    ensures few { IfOk result (λ made. length made.terms ≤ length counters.now) }
+    ensures value { IfOk result (λ made. (values : Values) → linear_value values made ≡ spec.first_of range.now (spec.counted values counters.now)) }
 {
     let mut terms = Items::new(alloc);
     add_base(&range.base, counters, &mut terms)?;
@@ -157,7 +161,8 @@ pub fn corner_of(
     place: Place,
     own: &SourceBox,
 ) -> Result<Corner, AllocError>
-    ensures { IfOk result (λ corner. spec.IsCorner plans.now place own.now corner) }
+    ensures short { IfOk result IsShort }
+    ensures is { IfOk result (λ corner. spec.IsCorner plans.now place own.now corner) }
 {
     let counters = counters_of(plans, place);
     let x = first_of(alloc, &own.x, &counters)?;
@@ -172,7 +177,8 @@ fn corner_or_none(
     place: Place,
     own: &Option<SourceBox>,
 ) -> Result<Corner, AllocError>
-    ensures { IfOk result (λ corner. spec.IsCornerOf plans.now place own.now corner) }
+    ensures short { IfOk result IsShort }
+    ensures is { IfOk result (λ corner. spec.IsCornerOf plans.now place own.now corner) }
 {
     match own {
         None => {
@@ -198,7 +204,8 @@ pub fn corners_of(
     boxes: &[Option<SourceBox>],
     standings: &[Standing],
 ) -> Result<Vec<Corner>, AllocError>
-    ensures { IfOk result (λ corners. spec.AreCorners plans.now boxes.now standings.now corners.items) }
+    ensures short { IfOk result (λ corners. AreShort corners.items) }
+    ensures are { IfOk result (λ corners. spec.AreCorners plans.now boxes.now standings.now corners.items) }
 {
     match boxes {
         [] => Ok(Vec::new(alloc)),

@@ -1,6 +1,6 @@
 //! Loops of a host, with the nests of the Funcs that are computed at them.
 
-ghost use Rattle.std.specs.Prelude.{◌≡◌, ◌-◌, ◌<◌, ◌≤◌, ◌^◌, ◌+◌, ◌++◌, IfOk, Ok, OnOk, length, slice_get, suc, true};
+ghost use Rattle.std.specs.Prelude.{◌≡◌, ◌-◌, ◌<◌, ◌≤◌, ◌^◌, ◌+◌, ◌++◌, IfOk, Ok, OnOk, length, slice_get, suc, true, ◌*◌};
 ghost use Rattle.std.specs.Option.{option_copied};
 ghost use Rattle.schedule.specs.Accepted.{IsAccepted};
 ghost use Rattle.schedule.specs.declared.standings.Place.TheVariants as places;
@@ -11,12 +11,15 @@ ghost use Rattle.bounds.specs.Verdict.{inferred};
 ghost use Rattle.loop_ir.specs.Depths.{depth};
 ghost use Rattle.loop_ir.specs.Needs.{greatest_need};
 ghost use Rattle.loop_ir.specs.Runs.{is_about};
+ghost use Rattle.loop_ir.specs.Sizes.{whole_size};
+ghost use Rattle.weights.specs.Weight.{flags_of};
 ghost use Rattle.nest_lowering.specs.Nests.{AreFew};
 ghost use Rattle.lowering.specs.HostedFuncs as hosted;
 ghost use Rattle.lowering.specs.Hosting as spec;
 ghost use Rattle.lowering.specs.PurePhases.{IsComputedAt, inside_of};
 ghost use Rattle.lowering.specs.Registers.{most_need};
 ghost use Rattle.lowering.specs.Rounds.{MayAlwaysBeAtOnce};
+ghost use Rattle.lowering.specs.Sizes.{shares};
 ghost use Rattle.lowering.specs.Updates.{IsUpdateAt};
 
 use crate::corners::{corner_at, corners_of};
@@ -129,6 +132,7 @@ fn with_update(
     requires sound { spec.IsSoundNest pipeline.now schedule.now boxes.now at place of.now.func.now of.now.own.now before }
     requires few { depth before ≤ 9 }
     requires needs { greatest_need before ≤ most_need pipeline.now schedule.now }
+    requires sizes { whole_size before ≤ 64 * shares (flags_of schedule.now.standings) pipeline.now.funcs of.now.func.now of.now.plan.now of.now.at }
     requires at_once { MayAlwaysBeAtOnce before }
     requires about { is_about place before ≡ true }
     ensures does { IfOk result (spec.DoesNests pipeline.now schedule.now boxes.now at place of.now.func.now of.now.own.now (suc of.now.at)) }
@@ -136,6 +140,7 @@ fn with_update(
     ensures sound { IfOk result (spec.IsSoundNest pipeline.now schedule.now boxes.now at place of.now.func.now of.now.own.now) }
     ensures few { IfOk result (λ made. depth made ≤ 9) }
     ensures needs { IfOk result (λ made. greatest_need made ≤ most_need pipeline.now schedule.now) }
+    ensures sizes { IfOk result (λ made. whole_size made ≤ 64 * shares (flags_of schedule.now.standings) pipeline.now.funcs of.now.func.now of.now.plan.now (suc of.now.at)) }
     ensures at_once { IfOk result MayAlwaysBeAtOnce }
     ensures about { IfOk result (λ made. is_about place made ≡ true) }
 {
@@ -175,6 +180,7 @@ fn nests_upto(
     ensures sound { IfOk result (spec.IsSoundNest pipeline.now schedule.now boxes.now at place func.now own.now) }
     ensures few { IfOk result (λ made. depth made ≤ 9) }
     ensures needs { IfOk result (λ made. greatest_need made ≤ most_need pipeline.now schedule.now) }
+    ensures sizes { IfOk result (λ made. whole_size made ≤ 64 * shares (flags_of schedule.now.standings) pipeline.now.funcs func.now plan.now count) }
     ensures at_once { IfOk result MayAlwaysBeAtOnce }
     ensures about { IfOk result (λ made. is_about place made ≡ true) }
 {

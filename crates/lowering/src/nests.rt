@@ -1,19 +1,21 @@
 //! Nests of stages: stores under their loops.
 
-ghost use Rattle.std.specs.Prelude.{◌≡◌, ◌≤◌, IfOk, Ok, max, true};
+ghost use Rattle.std.specs.Prelude.{◌≡◌, ◌≤◌, IfOk, Ok, max, true, ◌+◌, ◌*◌};
 ghost use Rattle.halide_pipeline.specs.WellFormed.{IsWellFormed};
 ghost use Rattle.schedule.specs.Accepted.{IsAccepted};
 ghost use Rattle.schedule.specs.declared.standings.Place.TheVariants as places;
 ghost use Rattle.bounds.specs.Verdict.{inferred};
-ghost use Rattle.weights.specs.Weight.{flags_of};
+ghost use Rattle.weights.specs.Weight.{flags_of, nodes_in};
 ghost use Rattle.loop_ir.specs.Depths.{depth};
 ghost use Rattle.loop_ir.specs.Needs.{greatest_need};
 ghost use Rattle.loop_ir.specs.Runs.{is_about};
+ghost use Rattle.loop_ir.specs.Sizes.{whole_size};
 ghost use Rattle.lowering.specs.Hosting.{DoesNest, IsSoundNest, StoresInIt};
 ghost use Rattle.lowering.specs.PurePhases.{IsComputedAt, IsStoreOf};
 ghost use Rattle.lowering.specs.Rounds.{MayAlwaysBeAtOnce};
 ghost use Rattle.nest_lowering.specs.Rounds.{IsLeaf};
 ghost use Rattle.lowering.specs.Registers.{most_need, taken};
+ghost use Rattle.lowering.specs.Sizes.{counted, stage_share};
 
 use crate::corners::{corner_of, corners_of};
 use crate::stores::pure_store;
@@ -43,6 +45,7 @@ pub(crate) fn store_of(
     ensures about { IfOk result (λ made. is_about place made ≡ true) }
     ensures depth { IfOk result (λ made. depth made ≡ 0) }
     ensures needs { IfOk result (λ made. greatest_need made ≤ max 1 (taken (flags_of schedule.now.standings) pipeline.now.funcs place func.now.pure)) }
+    ensures sizes { IfOk result (λ made. whole_size made + 12 ≤ 64 * counted (flags_of schedule.now.standings) pipeline.now.funcs place func.now.pure) }
 {
     let funcs = pipeline.funcs();
     let plans = schedule.funcs.as_slice();
@@ -88,6 +91,7 @@ pub fn pure_nest(
     ensures few { IfOk result (λ made. depth made ≤ 9) }
     ensures at_once { IfOk result MayAlwaysBeAtOnce }
     ensures needs { IfOk result (λ made. greatest_need made ≤ most_need pipeline.now schedule.now) }
+    ensures sizes { IfOk result (λ made. whole_size made ≤ 64 * stage_share (nodes_in (flags_of schedule.now.standings) pipeline.now.funcs func.now.pure) plan.now.pure) }
 {
     let placed = Place::At(at);
     let extents = extents_of(own);

@@ -1,12 +1,14 @@
 //! The phases of a pipeline.
 
-ghost use Rattle.std.specs.Prelude.{◌≡◌, ◌≤◌, List, IfOk, Ok, length, suc};
+ghost use Rattle.std.specs.Prelude.{◌≡◌, ◌≤◌, ◌*◌, List, IfOk, Ok, length, suc};
 ghost use Rattle.schedule.specs.Accepted.{IsAccepted};
 ghost use Rattle.bounds.specs.Verdict.{inferred};
 ghost use Rattle.loop_ir.specs.declared.statements.Phase.{Phase as MadePhase};
 ghost use Rattle.lowering.specs.Lowered as spec;
 ghost use Rattle.lowering.specs.PurePhases.{IsAtRoot};
 ghost use Rattle.lowering.specs.Registers.{TakeFew};
+ghost use Rattle.lowering.specs.Sizes.{words_of};
+ghost use Rattle.weights.specs.Weight.{weight};
 
 use crate::hosting::box_at;
 use crate::pure_phases::{is_at_root, pure_phase};
@@ -179,7 +181,8 @@ fn lower_first(
 ///
 /// Done one after the other from buffers of zeros, the tasks of each in any order and whatever private buffers hold
 /// before each, they leave the output's pixels (`specs/Lowered.antt`). No more than 14 counters stand around a store, a
-/// task's own among them, and expressions need no more registers than weights count (`specs/Registers.antt`).
+/// task's own among them, expressions need no more registers than weights count (`specs/Registers.antt`), and their code asks for
+/// no more than 64 words for each unit that the schedule weighs (`specs/Sizes.antt`).
 ///
 /// # Errors
 ///
@@ -194,6 +197,7 @@ pub fn lower(
     requires boxes { inferred pipeline.now schedule.now ≡ Ok boxes.now }
     ensures phases { IfOk result (λ phases. spec.AreLowered pipeline.now schedule.now boxes.now (length pipeline.now.funcs) phases.items) }
     ensures few { IfOk result (λ phases. TakeFew pipeline.now schedule.now phases.items) }
+    ensures light { IfOk result (λ phases. words_of phases.items ≤ 64 * weight pipeline.now schedule.now) }
     ensures pixels { IfOk result (λ phases. spec.DoPixels pipeline.now schedule.now boxes.now phases.items) }
     ensures output { IfOk result (λ phases. spec.LeaveOutput pipeline.now schedule.now boxes.now phases.items) }
 {

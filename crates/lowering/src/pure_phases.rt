@@ -13,6 +13,7 @@ ghost use Rattle.lowering.specs.HostedFuncs.{hosted_from};
 ghost use Rattle.lowering.specs.Planes.{owns};
 ghost use Rattle.lowering.specs.PurePhases as spec;
 ghost use Rattle.lowering.specs.Registers.{most_need};
+ghost use Rattle.lowering.specs.Sizes.{IsLight};
 ghost use Rattle.lowering.specs.Rounds.{RoundsMayBeAtOnce};
 ghost use Rattle.lowering.specs.Runs.{StoresInRuns};
 ghost use Rattle.lowering.specs.Stages.{DoesStage};
@@ -111,6 +112,7 @@ pub fn pure_phase(
     ensures touches { IfOk result (TouchesItsOwn pipeline.now schedule.now boxes.now place (owns (views.extents_of own.now) plan.now.pure)) }
     ensures few { IfOk result (λ phase. task_depth phase ≤ 14) }
     ensures needs { IfOk result (λ phase. greatest_need phase.body ≤ most_need pipeline.now schedule.now) }
+    ensures light { IfOk result (IsLight pipeline.now schedule.now place func.now plan.now 0) }
     ensures few_tasks { IfOk result (λ phase. phase.tasks ≤ 2 ^ 31) }
     ensures rounds { IfOk result RoundsMayBeAtOnce }
     ensures in_runs { IfOk result (StoresInRuns place (views.extents_of own.now) plan.now.pure) }

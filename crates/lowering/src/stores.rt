@@ -1,6 +1,6 @@
 //! Stores of definitions at the points where loops stand.
 
-ghost use Rattle.std.specs.Prelude.{◌≡◌, ◌≤◌, ◌%◌, ◌^◌, IfOk, List, max, true};
+ghost use Rattle.std.specs.Prelude.{◌≡◌, ◌≤◌, ◌%◌, ◌^◌, IfOk, List, max, true, ◌+◌, ◌*◌, length};
 ghost use Rattle.halide_pipeline.specs.Words as word;
 ghost use Rattle.halide_meaning.specs.Pixel.{at_point};
 ghost use Rattle.inlining.specs.Inlining.{flagged};
@@ -9,10 +9,13 @@ ghost use Rattle.loop_ir.specs.Depths.{depth};
 ghost use Rattle.loop_ir.specs.Expressions.{linear_value};
 ghost use Rattle.loop_ir.specs.Needs.{greatest_need};
 ghost use Rattle.loop_ir.specs.Runs.{is_about};
+ghost use Rattle.loop_ir.specs.Sizes.{whole_size};
 ghost use Rattle.expression_lowering.specs.Lowering.{environment};
+ghost use Rattle.expression_lowering.specs.Sizing.{AreShort, AreShortArguments, IsShort};
 ghost use Rattle.nest_lowering.specs.Rounds.{IsLeaf};
 ghost use Rattle.lowering.specs.PurePhases.{HitsPure, IsSoundPure, MissesPure, StoresPure, whole_at};
 ghost use Rattle.lowering.specs.Registers.{taken};
+ghost use Rattle.lowering.specs.Sizes.{counted};
 
 use expression_lowering::{Arguments, Corner, lowered};
 use halide_pipeline::{Expr, Func, Variable};
@@ -28,7 +31,8 @@ pub(crate) fn whole_of(
     place: usize,
     variable: Variable,
 ) -> Result<Linear, AllocError>
-    ensures { IfOk result (λ made. (values : Values) → linear_value values made ≡ whole_at values place variable) }
+    ensures value { IfOk result (λ made. (values : Values) → linear_value values made ≡ whole_at values place variable) }
+    ensures one { IfOk result (λ made. length made.terms ≡ 1) }
 {
     let counter = Counter {
         func: place,
@@ -41,7 +45,8 @@ pub(crate) fn whole_of(
 /// A sum.
 #[tactic(auto, using(crate::proofs::BaseWords::added_is))]
 fn added(alloc: Global, first: Linear, second: &Linear) -> Result<Linear, AllocError>
-    ensures { IfOk result (λ made. (values : Values) → linear_value values made ≡ word.add (linear_value values first) (linear_value values second.now)) }
+    ensures value { IfOk result (λ made. (values : Values) → linear_value values made ≡ word.add (linear_value values first) (linear_value values second.now)) }
+    ensures few { IfOk result (λ made. length made.terms ≤ length first.terms + length second.now.terms) }
 {
     let opposite = Linear::of_number(alloc, 0).minus(second)?;
     let made = first.minus(&opposite)?;
@@ -51,7 +56,8 @@ fn added(alloc: Global, first: Linear, second: &Linear) -> Result<Linear, AllocE
 /// What stands for the variables of the pure definition of the Func at a place: its points, counted from the corner of
 /// its box.
 fn arguments_of(alloc: Global, place: usize, corner: &Corner) -> Result<Arguments, AllocError>
-    ensures { IfOk result (λ made. (values : Values) → environment values made
+    ensures short { IfOk result (λ made. IsShort corner.now → AreShortArguments made) }
+    ensures values { IfOk result (λ made. (values : Values) → environment values made
         ≡ at_point (word.add (whole_at values place Variable.FirstArgument) (linear_value values corner.now.x)) (word.add (whole_at values place Variable.SecondArgument) (linear_value values corner.now.y))) }
 {
     let x = whole_of(alloc, place, Variable::FirstArgument)?;
@@ -89,6 +95,7 @@ pub fn pure_store(
     ensures sound { IfOk result (λ made. IsSoundPure corners.now (flagged flags.now) funcs.now place corner.now pure.now made) }
     ensures depth { IfOk result (λ made. depth made ≡ 0) }
     ensures needs { IfOk result (λ made. greatest_need made ≤ max 1 (taken flags.now funcs.now place pure.now)) }
+    ensures sizes { IfOk result (λ made. AreShort corners.now → IsShort corner.now → whole_size made + 12 ≤ 64 * counted flags.now funcs.now place pure.now) }
 {
     let arguments = arguments_of(alloc, place, corner)?;
     let value = lowered(alloc, funcs, flags, place, corners, &arguments, pure)?;

@@ -1,6 +1,6 @@
 //! Stores of updates at the points where loops stand.
 
-ghost use Rattle.std.specs.Prelude.{◌≡◌, ◌+◌, ◌<◌, ◌≤◌, ◌^◌, Bool, IfOk, List, true};
+ghost use Rattle.std.specs.Prelude.{◌≡◌, ◌+◌, ◌<◌, ◌≤◌, ◌^◌, Bool, IfOk, List, true, ◌*◌, length};
 ghost use Rattle.halide_pipeline.specs.Words as word;
 ghost use Rattle.halide_meaning.specs.Pixel.{Reads, variable as variable_in};
 ghost use Rattle.reads.specs.Points.{Hold, Point};
@@ -12,8 +12,11 @@ ghost use Rattle.loop_ir.specs.Depths.{depth};
 ghost use Rattle.loop_ir.specs.Expressions.{linear_value, loads, value};
 ghost use Rattle.loop_ir.specs.Needs.{greatest_need, need};
 ghost use Rattle.loop_ir.specs.Runs.{is_about};
+ghost use Rattle.loop_ir.specs.Sizes.{whole_size};
 ghost use Rattle.expression_lowering.specs.Lowering.{environment, place as place_in, placed};
+ghost use Rattle.expression_lowering.specs.Sizing.{AreShort, AreShortArguments, IsShort};
 ghost use Rattle.lowering.specs.Registers.{second_taken, update_taken};
+ghost use Rattle.lowering.specs.Sizes.{IsGivenIndex, update_counted};
 ghost use Rattle.lowering.specs.Updates as spec;
 ghost use Rattle.nest_lowering.specs.Rounds.{IsLeaf};
 
@@ -28,7 +31,8 @@ use std::alloc::{AllocError, Global};
 
 /// The sum of two.
 fn plus(alloc: Global, own: Linear, other: &Linear) -> Result<Linear, AllocError>
-    ensures { IfOk result (λ made. (values : Values) → linear_value values made ≡ word.add (linear_value values own) (linear_value values other.now)) }
+    ensures value { IfOk result (λ made. (values : Values) → linear_value values made ≡ word.add (linear_value values own) (linear_value values other.now)) }
+    ensures few { IfOk result (λ made. length made.terms ≤ length own.terms + length other.now.terms) }
 {
     let opposite = Linear::of_number(alloc, 0).minus(other)?;
     let made = own.minus(&opposite)?;
@@ -37,7 +41,8 @@ fn plus(alloc: Global, own: Linear, other: &Linear) -> Result<Linear, AllocError
 
 /// What stands for a second reduction variable of an update of the Func at a place, where there is one.
 fn second_of(alloc: Global, place: usize, second: &Option<Reduction>) -> Result<Linear, AllocError>
-    ensures { IfOk result (λ made. (values : Values) → linear_value values made ≡ spec.second_reduced values place second.now) }
+    ensures value { IfOk result (λ made. (values : Values) → linear_value values made ≡ spec.second_reduced values place second.now) }
+    ensures few { IfOk result (λ made. length made.terms ≤ 1) }
 {
     match second {
         None => Ok(Linear::of_number(alloc, 0)),
@@ -56,7 +61,8 @@ fn arguments_of(
     corner: &Corner,
     update: &Update,
 ) -> Result<Arguments, AllocError>
-    ensures { IfOk result (λ made. (values : Values) → environment values made ≡ spec.visited_point values place corner.now update.now) }
+    ensures short { IfOk result (λ made. IsShort corner.now → AreShortArguments made) }
+    ensures values { IfOk result (λ made. (values : Values) → environment values made ≡ spec.visited_point values place corner.now update.now) }
 {
     let across = whole_of(alloc, place, Variable::FirstArgument)?;
     let down = whole_of(alloc, place, Variable::SecondArgument)?;
@@ -89,6 +95,7 @@ fn second_index(
         → Hold (λ point. test (place_in corners.now values point)) (spec.points_of_index (λ e. (inlined (seeing (placed corners.now values reads)) (flagged flags.now) funcs.now place (seen_variable (environment values arguments.now)) e).points) index.now)
         → Hold test (loads reads values made)) }
     ensures needs { IfOk result (λ made. need made ≤ second_taken flags.now funcs.now place index.now) }
+    ensures sizes { IfOk result (λ made. AreShort corners.now → AreShortArguments arguments.now → IsGivenIndex flags.now funcs.now place index.now made) }
 {
     match index {
         None => Ok(terms::Expr::Number(0)),
@@ -122,6 +129,7 @@ pub fn update_store(
     ensures sound { IfOk result (λ made. spec.IsSoundUpdate corners.now (flagged flags.now) funcs.now place corner.now update.now made) }
     ensures depth { IfOk result (λ made. depth made ≡ 0) }
     ensures needs { IfOk result (λ made. greatest_need made ≤ update_taken flags.now funcs.now place update.now) }
+    ensures sizes { IfOk result (λ made. AreShort corners.now → IsShort corner.now → whole_size made + 12 ≤ 64 * update_counted flags.now funcs.now place update.now) }
 {
     let arguments = arguments_of(alloc, place, corner, update)?;
     let column = lowered(

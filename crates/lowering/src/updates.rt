@@ -1,24 +1,27 @@
 //! Phases of updates, and their loops where the Func is computed at a loop.
 
-ghost use Rattle.std.specs.Prelude.{◌≡◌, ◌+◌, ◌<◌, ◌≤◌, ◌^◌, List, [], IfOk, Ok, Some, length, slice_get, suc, true};
+ghost use Rattle.std.specs.Prelude.{◌≡◌, ◌+◌, ◌<◌, ◌≤◌, ◌^◌, List, [], IfOk, Ok, Some, length, slice_get, suc, true, ◌*◌};
 ghost use Rattle.halide_meaning.specs.Pixel as meaning;
 ghost use Rattle.schedule.specs.Accepted.{IsAccepted};
 ghost use Rattle.stage_loops.specs.Counts.{AreSplits, counts};
 ghost use Rattle.stage_loops.specs.Iterations as iterations;
 ghost use Rattle.stage_loops.specs.Reach.{wholes};
 ghost use Rattle.inlining.specs.Inlining.{flagged};
-ghost use Rattle.weights.specs.Weight.{flags_of};
+ghost use Rattle.weights.specs.Weight.{flags_of, update_nodes};
 ghost use Rattle.bounds.specs.Boxes.{IsBox};
 ghost use Rattle.bounds.specs.Verdict.{inferred};
 ghost use Rattle.loop_ir.specs.Depths.{depth, task_depth};
 ghost use Rattle.loop_ir.specs.Needs.{greatest_need};
 ghost use Rattle.loop_ir.specs.Runs.{is_about};
+ghost use Rattle.loop_ir.specs.Sizes.{whole_size};
+ghost use Rattle.expression_lowering.specs.Sizing.{AreShort, IsShort};
 ghost use Rattle.nest_lowering.specs.Nests.{AreFew, Repeats};
 ghost use Rattle.nest_lowering.specs.Rounds.{IsLeaf, MayBeAtOnce, MayBeUnder};
 ghost use Rattle.schedule_lines.specs.declared.stages.Loop.{Loop};
 ghost use Rattle.lowering.specs.Hosting.{StoresInIt};
 ghost use Rattle.lowering.specs.PurePhases as pure;
 ghost use Rattle.lowering.specs.Registers.{most_need, update_taken};
+ghost use Rattle.lowering.specs.Sizes.{stage_share, update_counted};
 ghost use Rattle.lowering.specs.Rounds.{MayAlwaysBeAtOnce, RoundsMayBeAtOnce};
 ghost use Rattle.lowering.specs.Stages.{DoesStage};
 ghost use Rattle.lowering.specs.Stored.{StoresWhatItNames};
@@ -96,6 +99,7 @@ fn store_at(
     ensures sound { IfOk result (λ made. spec.IsSoundUpdate corners.now (flagged (flags_of schedule.now.standings)) pipeline.now.funcs place corner.now update.now made) }
     ensures depth { IfOk result (λ made. depth made ≡ 0) }
     ensures needs { IfOk result (λ made. greatest_need made ≤ update_taken (flags_of schedule.now.standings) pipeline.now.funcs place update.now) }
+    ensures sizes { IfOk result (λ made. AreShort corners.now → IsShort corner.now → whole_size made + 12 ≤ 64 * update_counted (flags_of schedule.now.standings) pipeline.now.funcs place update.now) }
 {
     let flags = inlined_flags(alloc, schedule.standings.as_slice())?;
     let made = update_store(
@@ -125,6 +129,7 @@ fn root_store(
     ensures stores { IfOk result (λ made. spec.IsUpdateStoreOf pipeline.now schedule.now boxes.now place own.now update.now made) }
     ensures depth { IfOk result (λ made. depth made ≡ 0) }
     ensures needs { IfOk result (λ made. greatest_need made ≤ update_taken (flags_of schedule.now.standings) pipeline.now.funcs place update.now) }
+    ensures sizes { IfOk result (λ made. whole_size made + 12 ≤ 64 * update_counted (flags_of schedule.now.standings) pipeline.now.funcs place update.now) }
 {
     let plans = schedule.funcs.as_slice();
     let standings = schedule.standings.as_slice();
@@ -157,6 +162,7 @@ fn body_of(
     ensures repeats { IfOk result (λ made. Repeats place made store (wholes extents stage.now.splits (pure.inside_of (iterations.parallel stage.now) stage.now.loops))) }
     ensures depth { IfOk result (λ made. depth made ≡ length (pure.inside_of (iterations.parallel stage.now) stage.now.loops) + (length stage.now.splits + depth store)) }
     ensures needs { IfOk result (λ made. greatest_need made ≡ greatest_need store) }
+    ensures sizes { IfOk result (λ made. whole_size made ≡ 7 * length (pure.inside_of (iterations.parallel stage.now) stage.now.loops) + (14 * length stage.now.splits + whole_size store)) }
 {
     let splits = stage.splits.as_slice();
     let made = with_nest(alloc, place, extents, splits, inside_parallel(stage), store)?;
@@ -179,6 +185,7 @@ fn nest_of(
     ensures depth { IfOk result (λ made. depth made ≡ length stage.now.loops + (length stage.now.splits + depth store)) }
     ensures needs { IfOk result (λ made. greatest_need made ≡ greatest_need store) }
     ensures about { IfOk result (λ made. is_about place made ≡ is_about place store) }
+    ensures sizes { IfOk result (λ made. whole_size made ≡ 7 * length stage.now.loops + (14 * length stage.now.splits + whole_size store)) }
 {
     let made = with_nest(
         alloc,
@@ -220,6 +227,7 @@ pub fn update_phase(
     ensures touches { IfOk result (TouchesItsOwn pipeline.now schedule.now boxes.now place (spec.owns_update of.now.own.now of.now.update.now of.now.stage.now)) }
     ensures few { IfOk result (λ phase. task_depth phase ≤ 14) }
     ensures needs { IfOk result (λ phase. greatest_need phase.body ≤ most_need pipeline.now schedule.now) }
+    ensures sizes { IfOk result (λ phase. whole_size phase.body + 24 ≤ 64 * stage_share (update_nodes (flags_of schedule.now.standings) pipeline.now.funcs of.now.update.now) of.now.stage.now) }
     ensures few_tasks { IfOk result (λ phase. phase.tasks ≤ 2 ^ 31) }
     ensures rounds { IfOk result RoundsMayBeAtOnce }
     ensures stores { IfOk result (StoresWhatItNames pipeline.now schedule.now boxes.now place of.now.func.now of.now.at of.now.own.now of.now.update.now of.now.stage.now) }
@@ -271,6 +279,7 @@ pub fn update_nest(
     ensures at_once { IfOk result MayAlwaysBeAtOnce }
     ensures about { IfOk result (λ made. is_about place made ≡ true) }
     ensures needs { IfOk result (λ made. greatest_need made ≤ most_need pipeline.now schedule.now) }
+    ensures sizes { IfOk result (λ made. AreShort corners.now → whole_size made ≤ 64 * stage_share (update_nodes (flags_of schedule.now.standings) pipeline.now.funcs of.now.update.now) of.now.stage.now) }
 {
     // What every pipeline keeps is known once its parts are read.
     let _funcs = pipeline.funcs();

@@ -1,7 +1,10 @@
-use Rattle.std.proofs.Common.{ℕ, sym, subst, arith}
+use Rattle.std.proofs.Common.{◌≡◌, ℕ, suc, ◌*◌, ◌≤◌, sym, subst, arith}
 use Rattle.std.specs.Prelude.{slice_get}
 use Rattle.lowering.specs.Hosting.{DoesNests}
 use Rattle.lowering.proofs.UpdateFilling.{pure_stage, stage_there, nothing_there, some_within}
+use Rattle.weights.specs.Weight.{flags_of}
+use Rattle.loop_ir.specs.Sizes.{whole_size}
+use Rattle.lowering.specs.Sizes.{shares}
 use Rattle.lowering.proofs.hosting.+nests_upto.Goals as goal
 
 pub returns-in_default-clause-does : goal.returns-in_default-clause-does
@@ -22,3 +25,13 @@ returns-in_default-get-2 t c =
 pub returns-clause-does : goal.returns-clause-does
 returns-clause-does t c =
     subst (λ (n : ℕ). DoesNests c.args.pipeline.now c.args.schedule.now c.args.boxes.now c.args.at c.args.place c.args.func.now c.args.own.now n c.in_ok-made-2.made) (omega (arith, c.in-Some.ensures)) c.in_ok-made-2.ensures.does
+
+pub returns-in_default-clause-sizes : goal.returns-in_default-clause-sizes
+returns-in_default-clause-sizes t c =
+    let none : 0 ≡ c.args.count = omega (arith, c.in_default.ensures) in
+    subst (λ (n : ℕ). whole_size c.in_ok-made.made ≤ 64 * shares (flags_of c.args.schedule.now.standings) c.args.pipeline.now.funcs c.args.func.now c.args.plan.now n) none c.in_ok-made.ensures.sizes
+
+pub returns-clause-sizes : goal.returns-clause-sizes
+returns-clause-sizes t c =
+    let more : suc c.in-Some.number ≡ c.args.count = omega (arith, c.in-Some.ensures) in
+    subst (λ (n : ℕ). whole_size c.in_ok-made-2.made ≤ 64 * shares (flags_of c.args.schedule.now.standings) c.args.pipeline.now.funcs c.args.func.now c.args.plan.now n) more c.in_ok-made-2.ensures.sizes

@@ -1,4 +1,4 @@
-use Rattle.std.proofs.Common.{List, [], ◌∷◌, ◌+◌, length, ap, subst, ◌∙◌}
+use Rattle.std.proofs.Common.{List, [], ◌∷◌, ◌+◌, ◌*◌, length, ap, subst, ◌∙◌}
 use Rattle.schedule_lines.specs.declared.stages.Loop.{Loop}
 use Rattle.schedule_lines.specs.declared.stages.Split.{Split}
 use Rattle.stage_loops.specs.Counts.{counts}
@@ -6,6 +6,7 @@ use Rattle.stage_loops.specs.Iterations.{parallel}
 use Rattle.stage_loops.specs.Reach.{wholes}
 use Rattle.stage_loops.specs.Sizes.{SizedLoops}
 use Rattle.loop_ir.specs.Depths.{depth}
+use Rattle.loop_ir.specs.Sizes.{whole_size}
 use Rattle.nest_lowering.specs.Nests.{Repeats}
 use Rattle.nest_lowering.proofs.Repeating.{repeats_itself}
 use Rattle.lowering.specs.Hosting.{HasLoops}
@@ -20,6 +21,7 @@ returns c = record {
       (c.in_ok-leaf.ensures.repeats c.args.store (λ whole. whole ∷ []) (repeats_itself c.args.host c.args.store));
   depth_is = c.in_ok-leaf.ensures.depth ∙ ap (λ (l : List Split). length l + depth c.args.store) c.as_slice-splits.ensures;
   need_is = c.in_ok-leaf.ensures.needs;
+  size_is = c.in_ok-leaf.ensures.sizes ∙ ap (λ (l : List Split). 14 * length l + whole_size c.args.store) c.as_slice-splits.ensures;
   leaf_is = c.in_ok-leaf.ensures.leaf;
   looped = subst (λ (l : List Split). HasLoops c.args.pipeline.now c.args.schedule.now c.args.boxes.now c.args.host (counts c.args.extents l) c.in_ok-leaf.leaf (inside_of (parallel c.args.stage.now) c.args.stage.now.loops) c.in_ok-inner.inner) c.as_slice-splits.ensures
       (subst (λ (ls : List Loop). HasLoops c.args.pipeline.now c.args.schedule.now c.args.boxes.now c.args.host (counts c.args.extents c.as_slice-splits.result.now) c.in_ok-leaf.leaf ls c.in_ok-inner.inner) c.inside_parallel-inside.ensures

@@ -1,4 +1,4 @@
-use Rattle.std.proofs.Common.{◌≡◌, ℕ, Option, Some, None, refl, sym, ap, ◌∙◌, arith}
+use Rattle.std.proofs.Common.{◌≡◌, ◌+◌, ℕ, Option, Some, None, refl, sym, ap, ◌∙◌, arith}
 use Rattle.std.specs.Prelude.{◌&&◌, max}
 use Rattle.loop_ir.specs.declared.statements.Stmt.{Stmt}
 use Rattle.loop_ir.specs.Depths.{depth}
@@ -12,15 +12,20 @@ use Rattle.loop_ir.proofs.Runs.{about_sequence, runs_sequence}
 use Rattle.loop_ir.specs.Soundness.{is_sound}
 use Rattle.loop_ir.proofs.Depths.{depth_sequence}
 use Rattle.loop_ir.proofs.Needs.{greatest_sequence}
+use Rattle.loop_ir.specs.Sizes.{whole_size}
+use Rattle.loop_ir.proofs.Sizes.{whole_sequence}
 use Rattle.loop_ir.specs.Stores.{trace}
 use Rattle.loop_ir.proofs.Sound.{sound_sequence}
 use Rattle.loop_ir.proofs.Traces.{trace_sequence}
 use Rattle.loop_ir.proofs.Trees.{run_sequence}
-use Rattle.lowering.specs.Hosting.{run_first, trace_first, is_sound_first, depth_first, need_first, about_first, in_runs_first}
+use Rattle.lowering.specs.Hosting.{run_first, trace_first, is_sound_first, depth_first, need_first, size_first, about_first, in_runs_first}
 use Rattle.lowering.proofs.hosting.in_order.Goals as goal
 
 without : (n : ℕ) → n ≡ max 0 n
 without n = omega arith
+
+none_more : (n : ℕ) → n ≡ 0 + n
+none_more n = omega arith
 
 some_there : {own : Stmt} (found : Option Stmt) → found ≡ None → found ≡ Some own → ⊥
 some_there found e f = cc
@@ -32,6 +37,7 @@ returns-in-None c = record {
   sound = λ reads written loaded values. ap (λ (o : Option Stmt). is_sound_first reads written loaded o values && is_sound reads written loaded c.args.rest values) (sym c.in-None.is);
   depth_is = without (depth c.args.rest) ∙ ap (λ (o : Option Stmt). max (depth_first o) (depth c.args.rest)) (sym c.in-None.is);
   need_is = without (greatest_need c.args.rest) ∙ ap (λ (o : Option Stmt). max (need_first o) (greatest_need c.args.rest)) (sym c.in-None.is);
+  size_is = none_more (whole_size c.args.rest) ∙ ap (λ (o : Option Stmt). size_first o + whole_size c.args.rest) (sym c.in-None.is);
   at_once = λ reads values. ap (λ (o : Option Stmt). at_once_first reads o values && may_be_at_once reads c.args.rest values) (sym c.in-None.is);
   alone_is = λ e. refl;
   about = λ place. ap (λ (o : Option Stmt). about_first place o && is_about place c.args.rest) (sym c.in-None.is);
@@ -64,6 +70,10 @@ returns-in_ok-rest-in-Some c = record {
       ∙ ap (λ (s : Stmt). max (greatest_need c.in_ok-first-in-Some.first) (greatest_need s)) c.in_ok-rest-in-Some.ensures
       ∙ ap (λ (s : Stmt). max (greatest_need s) (greatest_need c.args.rest)) c.in_ok-first-in-Some.ensures
       ∙ ap (λ (o : Option Stmt). max (need_first o) (greatest_need c.args.rest)) (sym c.in-Some.is);
+  size_is = whole_sequence c.in_ok-first-in-Some.first c.in_ok-rest-in-Some.rest
+      ∙ ap (λ (s : Stmt). whole_size c.in_ok-first-in-Some.first + whole_size s) c.in_ok-rest-in-Some.ensures
+      ∙ ap (λ (s : Stmt). whole_size s + whole_size c.args.rest) c.in_ok-first-in-Some.ensures
+      ∙ ap (λ (o : Option Stmt). size_first o + whole_size c.args.rest) (sym c.in-Some.is);
   at_once = λ reads values.
       ap (λ (own : Rounds). own.may_be_at_once values) (rounds_sequence reads c.in_ok-first-in-Some.first c.in_ok-rest-in-Some.rest)
       ∙ ap (λ (s : Stmt). may_be_at_once reads c.in_ok-first-in-Some.first values && may_be_at_once reads s values) c.in_ok-rest-in-Some.ensures

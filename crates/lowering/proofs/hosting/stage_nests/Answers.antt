@@ -1,5 +1,8 @@
-use Rattle.std.proofs.Common.{ℕ, subst}
+use Rattle.std.proofs.Common.{ℕ, ◌*◌, ◌≤◌, subst}
+use Rattle.weights.specs.Weight.{flags_of}
+use Rattle.loop_ir.specs.Sizes.{whole_size}
 use Rattle.lowering.specs.Hosting.{DoesNests}
+use Rattle.lowering.specs.Sizes.{shares}
 use Rattle.lowering.proofs.hosting.stage_nests.Goals as goal
 
 pub returns : goal.returns
@@ -13,6 +16,7 @@ returns c = record {
   sound = c.in_ok-made.ensures.sound;
   few = c.in_ok-made.ensures.few;
   needs = c.in_ok-made.ensures.needs;
+  small = subst (λ (n : ℕ). whole_size c.in_ok-made.made ≤ 64 * shares (flags_of c.args.schedule.now.standings) c.args.pipeline.now.funcs c.args.func.now c.args.plan.now n) c.len-count.ensures c.in_ok-made.ensures.sizes;
   at_once = c.in_ok-made.ensures.at_once;
   about = c.in_ok-made.ensures.about;
 }

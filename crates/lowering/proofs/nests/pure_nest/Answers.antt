@@ -1,4 +1,4 @@
-use Rattle.std.proofs.Common.{List, length, ap, subst, sym, arith, [], append-nil}
+use Rattle.std.proofs.Common.{None, List, length, ap, subst, sym, arith, [], append-nil}
 use Rattle.schedule_lines.specs.declared.stages.Loop.{Loop}
 use Rattle.schedule_lines.specs.declared.stages.Split.{Split}
 use Rattle.stage_loops.specs.Counts.{AreSplits}
@@ -15,6 +15,8 @@ use Rattle.schedule.specs.declared.standings.Place.{Place}
 use Rattle.lowering.proofs.Registers.{pure-most}
 use Rattle.nest_lowering.specs.Rounds.{MayBeUnder}
 use Rattle.lowering.proofs.PureRounds.{pure_under}
+use Rattle.weights.specs.Weight.{flags_of}
+use Rattle.lowering.proofs.Sizes.{more-loops, nest-light, pure-counted}
 use Rattle.lowering.proofs.nests.pure_nest.Goals as goal
 
 -- src/nests.rt:76:9
@@ -88,3 +90,15 @@ returns-clause-at_once c = λ reads values small.
     (pure_under c.args.pipeline.now c.args.schedule.now c.store_of.ensures.rules c.args.place c.args.func.now c.requires.parts.func_is store.corners store.corner c.in_ok-store.store store.sound
     c.extents_of-extents.result c.args.plan.now.pure facts.0 facts.1 c.args.plan.now.pure.loops [] (sym (append-nil c.args.plan.now.pure.loops)))))
     reads values small tt
+
+pub returns-clause-sizes : goal.returns-clause-sizes
+returns-clause-sizes c =
+    let hosted = hosted_before c.args.pipeline.now c.args.schedule.now c.requires.accepted c.args.place c.requires.parts.standing c.requires.parts.there c.args.at c.requires.parts.placed_is in
+    let facts = staged c.args.pipeline.now c.args.schedule.now c.args.boxes.now c.args.place c.args.func.now c.args.plan.now c.args.own.now c.requires.accepted c.requires.boxes (places.At c.args.at) hosted c.requires.parts in
+    let more = more-loops c.args.func.now None c.args.plan.now.pure facts.0 in
+    let el = ap (λ (x : List Loop). length x) c.as_slice-2.ensures in
+    let es = ap (λ (x : List Split). length x) c.as_slice.ensures in
+    let same = c.in_ok-made.ensures.sizes in
+    let given = c.in_ok-store.ensures.sizes in
+    let counts = pure-counted c.args.pipeline.now c.store_of.ensures.rules (flags_of c.args.schedule.now.standings) c.args.place c.args.func.now c.requires.parts.func_is in
+    omega (arith, more, el, es, same, given, counts)

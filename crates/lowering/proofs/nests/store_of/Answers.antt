@@ -1,4 +1,4 @@
-use Rattle.std.proofs.Common.{Bool, List, ap, ◌∙◌, subst}
+use Rattle.std.proofs.Common.{◌+◌, ◌*◌, ◌≤◌, Bool, List, ap, ◌∙◌, subst, sym}
 use Rattle.halide_pipeline.specs.declared.definitions.Func.{Func}
 use Rattle.schedule.specs.declared.plans.FuncPlan.{FuncPlan}
 use Rattle.inlining.specs.Inlining.{flagged}
@@ -7,6 +7,9 @@ use Rattle.expression_lowering.specs.declared.calls.Corner.{Corner}
 use Rattle.lowering.specs.Corners.{IsCorner}
 use Rattle.lowering.specs.PurePhases.{StoresPure, IsSoundPure}
 use Rattle.lowering.proofs.UpdateFilling.{same_corners}
+use Rattle.loop_ir.specs.Sizes.{whole_size}
+use Rattle.expression_lowering.specs.Sizing.{AreShort}
+use Rattle.lowering.specs.Sizes.{counted}
 use Rattle.lowering.proofs.nests.store_of.Goals as goal
 
 pub returns-clause-stores : goal.returns-clause-stores
@@ -15,9 +18,9 @@ returns-clause-stores c =
     record {
       corners = c.in_ok-corners.corners.items;
       are_corners = same_corners c.args.schedule.now.funcs c.as_slice-plans.result.now c.args.boxes.now.funcs c.as_slice.result.now c.args.schedule.now.standings c.as_slice-standings.result.now c.in_ok-corners.corners.items
-          c.as_slice-plans.ensures c.as_slice.ensures.value c.as_slice-standings.ensures c.in_ok-corners.ensures;
+          c.as_slice-plans.ensures c.as_slice.ensures.value c.as_slice-standings.ensures c.in_ok-corners.ensures.are;
       corner = c.in_ok-corner.corner;
-      is_corner = subst (λ (l : List FuncPlan). IsCorner l c.args.placed c.args.own.now c.in_ok-corner.corner) c.as_slice-plans.ensures c.in_ok-corner.ensures;
+      is_corner = subst (λ (l : List FuncPlan). IsCorner l c.args.placed c.args.own.now c.in_ok-corner.corner) c.as_slice-plans.ensures c.in_ok-corner.ensures.is;
       stores = subst (λ (l : List Corner). StoresPure l (flagged (flags_of c.args.schedule.now.standings)) c.args.pipeline.now.funcs c.args.place c.in_ok-corner.corner c.args.func.now.pure c.in_ok-made.made) c.as_slice-3.ensures.value
           (subst (λ (l : List Func). StoresPure c.as_slice-3.result.now (flagged (flags_of c.args.schedule.now.standings)) l c.args.place c.in_ok-corner.corner c.args.func.now.pure c.in_ok-made.made) c.funcs-funcs.ensures.value
           (subst (λ (f : List Bool). StoresPure c.as_slice-3.result.now (flagged f) c.funcs-funcs.result.now c.args.place c.in_ok-corner.corner c.args.func.now.pure c.in_ok-made.made) flags_are c.in_ok-made.ensures.stores));
@@ -27,3 +30,11 @@ returns-clause-stores c =
           (subst (λ (l : List Func). IsSoundPure c.as_slice-3.result.now (flagged (flags_of c.args.schedule.now.standings)) l c.args.place c.in_ok-corner.corner c.args.func.now.pure c.in_ok-made.made) c.funcs-funcs.ensures.value
           (subst (λ (f : List Bool). IsSoundPure c.as_slice-3.result.now (flagged f) c.funcs-funcs.result.now c.args.place c.in_ok-corner.corner c.args.func.now.pure c.in_ok-made.made) flags_are c.in_ok-made.ensures.sound));
     }
+
+pub returns-clause-sizes : goal.returns-clause-sizes
+returns-clause-sizes c =
+    let flags_are = c.as_slice-2.ensures.value ∙ (c.in_ok-flags.ensures ∙ ap flags_of c.as_slice-standings.ensures) in
+    let short = subst AreShort (sym c.as_slice-3.ensures.value) c.in_ok-corners.ensures.short in
+    subst (λ (l : List Func). whole_size c.in_ok-made.made + 12 ≤ 64 * counted (flags_of c.args.schedule.now.standings) l c.args.place c.args.func.now.pure) c.funcs-funcs.ensures.value
+    (subst (λ (f : List Bool). whole_size c.in_ok-made.made + 12 ≤ 64 * counted f c.funcs-funcs.result.now c.args.place c.args.func.now.pure) flags_are
+    (c.in_ok-made.ensures.sizes short c.in_ok-corner.ensures.short))

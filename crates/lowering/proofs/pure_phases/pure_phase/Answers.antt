@@ -1,4 +1,4 @@
-use Rattle.std.proofs.Common.{◌≤◌, ◌+◌, Option, sym, ap, subst, ◌∙◌, refl}
+use Rattle.std.proofs.Common.{◌≤◌, ◌+◌, None, Option, sym, ap, subst, ◌∙◌, refl, arith}
 use Rattle.schedule.specs.declared.standings.Place.{Place}
 use Rattle.schedule.specs.declared.standings.Place.TheVariants as places
 use Rattle.stage_loops.specs.declared.extents.Extents.{Extents}
@@ -22,6 +22,10 @@ use Rattle.lowering.proofs.HostRounds.{body_at_once}
 use Rattle.lowering.proofs.PureRounds.{pure_under}
 use Rattle.lowering.proofs.TaskRounds.{outside_of, loops_by, tasks_at_once}
 use Rattle.lowering.proofs.Facts.{staged}
+use Rattle.stage_loops.proofs.FirstLoops.{plain, sound_made}
+use Rattle.weights.specs.Weight.{flags_of}
+use Rattle.lowering.proofs.Shares.{body-size}
+use Rattle.lowering.proofs.Sizes.{inside-fewer, more-loops, pure-counted}
 use Rattle.lowering.proofs.pure_phases.pure_phase.Goals as goal
 
 -- src/pure_phases.rt:159:9
@@ -132,3 +136,14 @@ returns-clause-in_runs c =
     c.task_counter-counter.ensures
     (subst (λ (e : Extents). IsBody c.args.pipeline.now c.args.schedule.now c.args.boxes.now c.args.place c.args.plan.now.pure e c.in_ok-store.store c.in_ok-body.body) c.extents_of-extents.ensures c.in_ok-body.ensures)
     c.in_ok-store.ensures.leaf
+
+pub returns-clause-light : goal.returns-clause-light
+returns-clause-light c =
+    let facts = staged c.args.pipeline.now c.args.schedule.now c.args.boxes.now c.args.place c.args.func.now c.args.plan.now c.args.own.now c.requires.accepted c.requires.boxes places.Root tt c.requires.at in
+    let more = more-loops c.args.func.now None c.args.plan.now.pure facts.0 in
+    let fewer = inside-fewer (iterations.parallel c.args.plan.now.pure) c.args.plan.now.pure.loops in
+    let whole = body-size c.args.pipeline.now c.args.schedule.now c.args.boxes.now c.args.place c.args.plan.now.pure c.extents_of-extents.result c.in_ok-store.store c.in_ok-body.body facts.1
+    (sound_made (plain c.args.func.now None) facts.0.made).unique c.in_ok-body.ensures in
+    let given = c.in_ok-store.ensures.sizes in
+    let counts = pure-counted c.args.pipeline.now c.inputs.ensures.rules (flags_of c.args.schedule.now.standings) c.args.place c.args.func.now c.requires.at.func_is in
+    omega (arith, more, fewer, whole, given, counts)

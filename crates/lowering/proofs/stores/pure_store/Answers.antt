@@ -6,22 +6,23 @@ use Rattle.lowering.proofs.PureRounds.{store_leaf}
 use Rattle.std.proofs.Common.{refl, ◌∙◌}
 use Rattle.std.proofs.lemmas.Bool.{eq-eqb}
 use Rattle.loop_ir.proofs.Runs.{about_store}
+use Rattle.lowering.proofs.Sizes.{pure-size}
 use Rattle.lowering.proofs.stores.pure_store.Goals as goal
 
 -- src/stores.rt:56:1
 pub returns-clause-stores : goal.returns-clause-stores
 returns-clause-stores c =
     stores_pure c.args.corners.now (flagged c.args.flags.now) c.args.funcs.now c.args.place c.args.corner.now c.args.pure.now c.in_ok-x.x c.in_ok-y.y c.in_ok-value.value c.in_ok-arguments.arguments
-    c.in_ok-arguments.ensures c.in_ok-x.ensures c.in_ok-y.ensures c.in_ok-value.ensures.value
+    c.in_ok-arguments.ensures.values c.in_ok-x.ensures.value c.in_ok-y.ensures.value c.in_ok-value.ensures.value
 
 pub returns-clause-hits : goal.returns-clause-hits
-returns-clause-hits c = hits_pure c.args.place c.in_ok-x.x c.in_ok-y.y c.in_ok-value.value c.in_ok-x.ensures c.in_ok-y.ensures
+returns-clause-hits c = hits_pure c.args.place c.in_ok-x.x c.in_ok-y.y c.in_ok-value.value c.in_ok-x.ensures.value c.in_ok-y.ensures.value
 
 -- src/stores.rt:56:1
 pub returns-clause-sound : goal.returns-clause-sound
 returns-clause-sound c =
     sound_pure c.args.corners.now (flagged c.args.flags.now) c.args.funcs.now c.args.place c.args.corner.now c.args.pure.now c.in_ok-x.x c.in_ok-y.y c.in_ok-value.value c.in_ok-arguments.arguments
-    c.in_ok-arguments.ensures c.in_ok-x.ensures c.in_ok-y.ensures c.in_ok-value.ensures.loads
+    c.in_ok-arguments.ensures.values c.in_ok-x.ensures.value c.in_ok-y.ensures.value c.in_ok-value.ensures.loads
 
 pub returns-clause-depth : goal.returns-clause-depth
 returns-clause-depth c = depth_store _
@@ -33,7 +34,11 @@ pub returns-clause-leaf : goal.returns-clause-leaf
 returns-clause-leaf c = store_leaf _
 
 pub returns-clause-misses : goal.returns-clause-misses
-returns-clause-misses c = misses_pure c.args.place c.in_ok-x.x c.in_ok-y.y c.in_ok-value.value c.in_ok-x.ensures c.in_ok-y.ensures
+returns-clause-misses c = misses_pure c.args.place c.in_ok-x.x c.in_ok-y.y c.in_ok-value.value c.in_ok-x.ensures.value c.in_ok-y.ensures.value
 
 pub returns-clause-about : goal.returns-clause-about
 returns-clause-about c = about_store c.args.place _ ∙ eq-eqb c.args.place c.args.place refl
+
+pub returns-clause-sizes : goal.returns-clause-sizes
+returns-clause-sizes c = λ short few.
+    pure-size c.args.place c.in_ok-x.x c.in_ok-y.y c.in_ok-value.value _ c.in_ok-x.ensures.one c.in_ok-y.ensures.one (c.in_ok-value.ensures.sizes short (c.in_ok-arguments.ensures.short few))

@@ -12,6 +12,7 @@ use Rattle.loop_ir.specs.Needs.{need}
 use Rattle.expression_lowering.proofs.Taking.{number_need}
 use Rattle.lowering.specs.Registers.{second_taken}
 use Rattle.lowering.specs.Updates as spec
+use Rattle.lowering.specs.Sizes.{IsGivenIndex}
 use Rattle.lowering.proofs.update_stores.second_index.Goals as goal
 
 -- src/update_stores.rt:74:1
@@ -34,3 +35,11 @@ returns-in_ok-made-in-Some-clause-loads c = λ reads values test h.
     c.in_ok-made-in-Some.ensures.loads reads values test
     (subst (λ (o : Option Expr). Hold (λ point. test (place_in c.args.corners.now values point))
     (spec.points_of_index (λ e. (inlined (seeing (placed c.args.corners.now values reads)) (flagged c.args.flags.now) c.args.funcs.now c.args.place (seen_variable (environment values c.args.arguments.now)) e).points) o)) c.in-Some.is h)
+
+pub returns-in-None-clause-sizes : goal.returns-in-None-clause-sizes
+returns-in-None-clause-sizes c = λ short few.
+    subst (λ (o : Option Expr). IsGivenIndex c.args.flags.now c.args.funcs.now c.args.place o (terms.Number 0)) (sym c.in-None.is) refl
+
+pub returns-in_ok-made-in-Some-clause-sizes : goal.returns-in_ok-made-in-Some-clause-sizes
+returns-in_ok-made-in-Some-clause-sizes c = λ short few.
+    subst (λ (o : Option Expr). IsGivenIndex c.args.flags.now c.args.funcs.now c.args.place o c.in_ok-made-in-Some.made) (sym c.in-Some.is) (c.in_ok-made-in-Some.ensures.sizes short few)

@@ -1,4 +1,4 @@
-use Rattle.std.proofs.Common.{List, subst}
+use Rattle.std.proofs.Common.{List, subst, sym}
 use Rattle.schedule.specs.declared.plans.FuncPlan.{FuncPlan}
 use Rattle.schedule.specs.declared.standings.Place.TheVariants as places
 use Rattle.inlining.specs.Inlining.{flagged}
@@ -7,15 +7,16 @@ use Rattle.expression_lowering.specs.declared.calls.Corner.{Corner}
 use Rattle.lowering.specs.Corners.{IsCorner}
 use Rattle.lowering.specs.Updates as spec
 use Rattle.lowering.proofs.UpdateFilling.{same_corners}
+use Rattle.expression_lowering.specs.Sizing.{AreShort}
 use Rattle.lowering.proofs.updates.root_store.Goals as goal
 
 pub returns-clause-stores : goal.returns-clause-stores
 returns-clause-stores c = record {
   corners = c.in_ok-corners.corners.items;
   are_corners = same_corners c.args.schedule.now.funcs c.as_slice-plans.result.now c.args.boxes.now.funcs c.as_slice.result.now c.args.schedule.now.standings c.as_slice-standings.result.now c.in_ok-corners.corners.items
-      c.as_slice-plans.ensures c.as_slice.ensures.value c.as_slice-standings.ensures c.in_ok-corners.ensures;
+      c.as_slice-plans.ensures c.as_slice.ensures.value c.as_slice-standings.ensures c.in_ok-corners.ensures.are;
   corner = c.in_ok-corner.corner;
-  is_corner = subst (λ (l : List FuncPlan). IsCorner l places.Root c.args.own.now c.in_ok-corner.corner) c.as_slice-plans.ensures c.in_ok-corner.ensures;
+  is_corner = subst (λ (l : List FuncPlan). IsCorner l places.Root c.args.own.now c.in_ok-corner.corner) c.as_slice-plans.ensures c.in_ok-corner.ensures.is;
   stores = subst (λ (l : List Corner). spec.StoresUpdate l (flagged (flags_of c.args.schedule.now.standings)) c.args.pipeline.now.funcs c.args.place c.in_ok-corner.corner c.args.update.now c.in_ok-made.made)
       c.as_slice-2.ensures.value c.in_ok-made.ensures.stores;
   hits = subst (λ (l : List Corner). spec.HitsUpdate l (flagged (flags_of c.args.schedule.now.standings)) c.args.pipeline.now.funcs c.args.place c.in_ok-corner.corner c.args.update.now c.in_ok-made.made)
@@ -23,3 +24,6 @@ returns-clause-stores c = record {
   sound = subst (λ (l : List Corner). spec.IsSoundUpdate l (flagged (flags_of c.args.schedule.now.standings)) c.args.pipeline.now.funcs c.args.place c.in_ok-corner.corner c.args.update.now c.in_ok-made.made)
       c.as_slice-2.ensures.value c.in_ok-made.ensures.sound;
 }
+
+pub returns-clause-sizes : goal.returns-clause-sizes
+returns-clause-sizes c = c.in_ok-made.ensures.sizes (subst AreShort (sym c.as_slice-2.ensures.value) c.in_ok-corners.ensures.short) c.in_ok-corner.ensures.short

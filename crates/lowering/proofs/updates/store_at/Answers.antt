@@ -1,8 +1,10 @@
-use Rattle.std.proofs.Common.{Bool, List, ap, ◌∙◌, subst}
+use Rattle.std.proofs.Common.{◌+◌, ◌*◌, ◌≤◌, Bool, List, ap, ◌∙◌, subst}
 use Rattle.halide_pipeline.specs.declared.definitions.Func.{Func}
 use Rattle.inlining.specs.Inlining.{flagged}
 use Rattle.weights.specs.Weight.{flags_of}
 use Rattle.lowering.specs.Updates as spec
+use Rattle.loop_ir.specs.Sizes.{whole_size}
+use Rattle.lowering.specs.Sizes.{update_counted}
 use Rattle.lowering.proofs.updates.store_at.Goals as goal
 
 pub returns-clause-hits : goal.returns-clause-hits
@@ -22,3 +24,9 @@ returns-clause-stores c =
     subst (λ (l : List Func). spec.StoresUpdate c.args.corners.now (flagged (flags_of c.args.schedule.now.standings)) l c.args.place c.args.corner.now c.args.update.now c.in_ok-made.made) c.funcs.ensures.value
     (subst (λ (f : List Bool). spec.StoresUpdate c.args.corners.now (flagged f) c.funcs.result.now c.args.place c.args.corner.now c.args.update.now c.in_ok-made.made)
     (c.as_slice-2.ensures.value ∙ (c.in_ok-flags.ensures ∙ ap flags_of c.as_slice.ensures)) c.in_ok-made.ensures.stores)
+
+pub returns-clause-sizes : goal.returns-clause-sizes
+returns-clause-sizes c = λ short few.
+    subst (λ (l : List Func). whole_size c.in_ok-made.made + 12 ≤ 64 * update_counted (flags_of c.args.schedule.now.standings) l c.args.place c.args.update.now) c.funcs.ensures.value
+    (subst (λ (f : List Bool). whole_size c.in_ok-made.made + 12 ≤ 64 * update_counted f c.funcs.result.now c.args.place c.args.update.now)
+    (c.as_slice-2.ensures.value ∙ (c.in_ok-flags.ensures ∙ ap flags_of c.as_slice.ensures)) (c.in_ok-made.ensures.sizes short few))

@@ -1,4 +1,4 @@
-use Rattle.std.proofs.Common.{sym, subst, arith, [], append-nil, refl}
+use Rattle.std.proofs.Common.{Some, sym, subst, arith, [], append-nil, refl}
 use Rattle.stage_loops.specs.declared.extents.Extents.{Extents}
 use Rattle.stage_loops.specs.Reach.{wholes}
 use Rattle.nest_lowering.specs.Nests.{AreFew, Repeats}
@@ -12,6 +12,9 @@ use Rattle.stage_loops.specs.declared.extents.Extents.{Extents}
 use Rattle.nest_lowering.specs.Rounds.{MayBeUnder}
 use Rattle.lowering.proofs.RoundsApart.{update_under}
 use Rattle.lowering.proofs.UpdateStages.{staged}
+use Rattle.halide_pipeline.specs.declared.expressions.Source.TheVariants as sources
+use Rattle.expression_lowering.proofs.Sizing.{short_of}
+use Rattle.lowering.proofs.Sizes.{more-loops, update-counted}
 use Rattle.lowering.proofs.updates.update_nest.Goals as goal
 
 pub store_at-requires : goal.store_at-requires
@@ -77,3 +80,12 @@ returns-clause-at_once c = λ reads values small.
     c.args.of.now.stage.now facts.0 c.args.corners.now c.args.corner.now (λ now a b. rw c.requires.corner refl) c.in_ok-store.store c.in_ok-store.ensures.sound
     facts.1 c.args.of.now.stage.now.loops [] (sym (append-nil c.args.of.now.stage.now.loops))))
     reads values small tt
+
+pub returns-clause-sizes : goal.returns-clause-sizes
+returns-clause-sizes c = λ short.
+    let facts = staged c.args.pipeline.now c.args.schedule.now c.requires.accepted c.args.place c.args.of.now.func.now c.args.of.now.plan.now c.requires.computed.standing c.requires.computed.func_is c.requires.computed.there c.args.of.now.at c.args.of.now.update.now c.args.of.now.stage.now c.requires.at in
+    let more = more-loops c.args.of.now.func.now (Some c.args.of.now.update.now) c.args.of.now.stage.now facts.0 in
+    let same = c.in_ok-made.ensures.sizes in
+    let given = c.in_ok-store.ensures.sizes short (short_of c.args.corners.now (sources.Func c.args.place) c.args.corner.now short (sym c.requires.corner)) in
+    let counts = update-counted c.args.pipeline.now c.funcs-funcs.ensures.rules (flags_of c.args.schedule.now.standings) c.args.place c.args.of.now.at c.args.of.now.func.now c.args.of.now.update.now c.requires.computed.func_is c.requires.at.update_is in
+    omega (arith, more, same, given, counts)

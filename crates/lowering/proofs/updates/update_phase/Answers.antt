@@ -1,4 +1,4 @@
-use Rattle.std.proofs.Common.{length, ◌≤◌, ◌+◌, Option, sym, ap, subst, ◌∙◌, arith, refl}
+use Rattle.std.proofs.Common.{length, ◌≤◌, ◌+◌, Option, Some, sym, ap, subst, ◌∙◌, arith, refl}
 use Rattle.schedule.specs.declared.standings.Place.{Place}
 use Rattle.stage_loops.specs.declared.extents.Extents.{Extents}
 use Rattle.stage_loops.specs.Iterations as iterations
@@ -19,6 +19,8 @@ use Rattle.nest_lowering.proofs.Few.{few_turns}
 use Rattle.lowering.proofs.RoundsApart.{update_under, counted_at_root}
 use Rattle.lowering.proofs.TaskRounds.{outside_of, loops_by, tasks_at_once}
 use Rattle.lowering.proofs.UpdateStages.{staged}
+use Rattle.weights.specs.Weight.{flags_of}
+use Rattle.lowering.proofs.Sizes.{inside-fewer, more-loops, update-counted}
 use Rattle.lowering.proofs.updates.update_phase.Goals as goal
 
 -- src/updates.rt:120:9
@@ -135,3 +137,13 @@ returns-clause-rounds c =
     stage facts.0 store.corners store.corner
     (counted_at_root c.args.schedule.now c.args.boxes.now store.corners store.corner c.args.place c.args.of.now.own.now c.requires.root.standing store.are_corners c.requires.root.box_is c.requires.root.there.standing c.requires.root.placed_is store.is_corner)
     c.in_ok-store.store store.sound facts.1 (pure.inside_of (iterations.parallel stage) stage.loops) outside (loops_by c.args.place extents stage facts.1 (iterations.parallel stage) refl))))
+
+pub returns-clause-sizes : goal.returns-clause-sizes
+returns-clause-sizes c =
+    let facts = staged c.args.pipeline.now c.args.schedule.now c.requires.accepted c.args.place c.args.of.now.func.now c.args.of.now.plan.now c.requires.root.standing c.requires.root.func_is c.requires.root.there c.args.of.now.at c.args.of.now.update.now c.args.of.now.stage.now c.requires.at in
+    let more = more-loops c.args.of.now.func.now (Some c.args.of.now.update.now) c.args.of.now.stage.now facts.0 in
+    let fewer = inside-fewer (iterations.parallel c.args.of.now.stage.now) c.args.of.now.stage.now.loops in
+    let same = c.in_ok-body.ensures.sizes in
+    let given = c.in_ok-store.ensures.sizes in
+    let counts = update-counted c.args.pipeline.now c.inputs.ensures.rules (flags_of c.args.schedule.now.standings) c.args.place c.args.of.now.at c.args.of.now.func.now c.args.of.now.update.now c.requires.root.func_is c.requires.at.update_is in
+    omega (arith, more, fewer, same, given, counts)

@@ -1,0 +1,428 @@
+-- What a host's loops ask for with the nests at them, and what all phases do: each Func at a loop stands at one loop of one host.
+use Rattle.std.proofs.Common.{◌≡◌, ℕ, zero, suc, ◌+◌, ◌*◌, ◌-◌, ◌<◌, ◌≤◌, Bool, true, false, cond, List, [], ◌∷◌, ◌++◌, length, Option, Some, None, refl, sym, ap, subst, ◌∙◌, arith, inl, inr, length-append, append-nil}
+use Rattle.std.specs.Prelude.{◌==◌, ◌&&◌, if◌then◌else◌, slice_get, not}
+use Rattle.std.proofs.lemmas.Bool.{and_parts, and_from}
+use Rattle.std.proofs.lemmas.Bool.Decides.{nat_tests}
+use Rattle.std.proofs.lemmas.Option.{slice_get_past, slice_get_within}
+use Rattle.halide_pipeline.specs.declared.definitions.Func.{Func}
+use Rattle.halide_pipeline.specs.declared.definitions.Update.{Update}
+use Rattle.halide_pipeline.specs.Pipelines.{Pipeline}
+use Rattle.schedule_lines.specs.declared.stages.Loop.{Loop}
+use Rattle.schedule_lines.specs.declared.stages.LoopId.{LoopId}
+use Rattle.schedule_lines.specs.declared.stages.Stage.{Stage}
+use Rattle.schedule_lines.specs.Loops.{same_id}
+use Rattle.schedule_lines.specs.Making.{total}
+use Rattle.schedule.specs.declared.plans.FuncPlan.{FuncPlan}
+use Rattle.schedule.specs.declared.schedules.Schedule.{Schedule}
+use Rattle.schedule.specs.declared.standings.LoopPlace.{LoopPlace}
+use Rattle.schedule.specs.declared.standings.Place.{Place}
+use Rattle.schedule.specs.declared.standings.Place.TheVariants as places
+use Rattle.schedule.specs.declared.standings.Standing.{Standing}
+use Rattle.stage_loops.specs.declared.extents.Extents.{Extents}
+use Rattle.stage_loops.specs.Counts as loops
+use Rattle.stage_loops.specs.Iterations.{parallel}
+use Rattle.stage_loops.specs.Stages.{KeepsRules}
+use Rattle.stage_loops.proofs.Ids.{same_id-self, cases_id}
+use Rattle.stage_loops.proofs.Nesting.{has_id}
+use Rattle.stage_loops.proofs.Selecting.{Unique}
+use Rattle.schedule.specs.Legal.{is_inlined, is_root}
+use Rattle.weights.specs.Weight.{flags_of, is_computed, update_nodes}
+use Rattle.bounds.specs.declared.boxes.SourceBox.{SourceBox}
+use Rattle.bounds.specs.declared.verdict.Boxes.{Boxes}
+use Rattle.loop_ir.specs.declared.statements.Phase.{Phase}
+use Rattle.loop_ir.specs.declared.statements.Stmt.{Stmt}
+use Rattle.loop_ir.specs.Sizes.{whole_size}
+use Rattle.lowering.specs.HostedFuncs.{is_hosted, is_computed_at, is_at_loop, is_at_loop_of}
+use Rattle.lowering.specs.Hosting.{IsNestAt, IsNestOf, HasNests, None_left, One_more, HasLoops, No_loops, One_outside, HasOutermost, IsBody, size_first}
+use Rattle.lowering.specs.PurePhases.{IsAtRoot, is_at_root, inside_of}
+use Rattle.lowering.specs.Lowered as lowered
+use Rattle.lowering.specs.Sizes.{IsLight, stage_share, update_share, shares, func_share, phase_share, words_of, summed, hosted_share, hosted_shares}
+use Rattle.lowering.proofs.TaskRounds.{outside_of, loops_by}
+
+-- ---- sums over places
+
+pub summed-more : (f g : ℕ → ℕ) (at n : ℕ) → summed (λ k. f k + g k) at n ≡ summed f at n + summed g at n
+summed-more f g at zero = refl
+summed-more f g at (suc n) = omega (arith, summed-more f g (suc at) n)
+
+pub summed-most : (f g : ℕ → ℕ) → ((k : ℕ) → f k ≤ g k) → (at n : ℕ) → summed f at n ≤ summed g at n
+summed-most f g most at zero = omega arith
+summed-most f g most at (suc n) = omega (arith, most at, summed-most f g most (suc at) n)
+
+pub summed-none : (at n : ℕ) → summed (λ k. 0) at n ≡ 0
+summed-none at zero = refl
+summed-none at (suc n) = omega (arith, summed-none (suc at) n)
+
+pub summed-one : (f : ℕ → ℕ) (at n k : ℕ) → at ≤ k → k < at + n → f k ≤ summed f at n
+summed-one f at zero k low high = absurd (omega (arith, low, high))
+summed-one f at (suc n) k low high = here (at == k) refl (λ apart. summed-one f (suc at) n k apart (omega (arith, high)))
+  where
+    here : (t : Bool) → (at == k) ≡ t → (suc at ≤ k → f k ≤ summed f (suc at) n) → f k ≤ f at + summed f (suc at) n
+    here true e later = let same : at ≡ k = grind (arith, nat_tests, e) in let i : f at ≡ f k = ap f same in omega (arith, i)
+    here false e later = let apart : suc at ≤ k = grind (arith, nat_tests, e, low) in let l = later apart in omega (arith, l)
+
+pub last-summed : (f : ℕ → ℕ) (at n : ℕ) → summed f at (suc n) ≡ summed f at n + f (at + n)
+last-summed f at zero = let e : f at ≡ f (at + 0) = ap f (omega arith) in omega (arith, e)
+last-summed f at (suc n) =
+    let e : f (suc at + n) ≡ f (at + suc n) = ap f (omega arith) in
+    let l = last-summed f (suc at) n in
+    omega (arith, l, e)
+
+pub last-first : (f : ℕ → ℕ) (n : ℕ) → summed f 0 (suc n) ≡ summed f 0 n + f n
+last-first f n = last-summed f 0 n ∙ ap (λ (k : ℕ). summed f 0 n + f k) (omega arith)
+
+-- ---- Funcs at one loop, and at several
+
+module _ (pipeline : Pipeline) (schedule : Schedule) (boxes : Boxes) where
+  abbrev flags : List Bool
+  flags = flags_of schedule.standings
+
+  abbrev loop_share : LoopPlace → Option Func → Option FuncPlan → Option Standing → ℕ
+  loop_share at None plan own = 0
+  loop_share at (Some func) None own = 0
+  loop_share at (Some func) (Some plan) None = 0
+  loop_share at (Some func) (Some plan) (Some own) = if is_computed_at at own then func_share flags pipeline.funcs func plan else 0
+
+  abbrev share_at : LoopPlace → ℕ → ℕ
+  share_at at place = loop_share at (slice_get pipeline.funcs place) (slice_get schedule.funcs place) (slice_get schedule.standings place)
+
+  abbrev hosted_at : ℕ → ℕ → ℕ
+  hosted_at host place = hosted_share flags pipeline.funcs host (slice_get pipeline.funcs place) (slice_get schedule.funcs place) (slice_get schedule.standings place)
+
+  abbrev count : ℕ
+  count = length schedule.standings
+
+  computed-there : (at : LoopPlace) (own : Standing) → own.is_reached ≡ true → own.place ≡ places.At at → is_computed_at at own ≡ true
+  computed-there at own reached is =
+      and_from own.is_reached (is_at_loop at own.place) reached (ap (is_at_loop at) is ∙ and_from (at.func == at.func) (same_id at.inside at.inside) (grind (arith, nat_tests)) (same_id-self at.inside))
+
+  -- the nests of a Func at a loop
+  nest-size : (at : LoopPlace) (place : ℕ) (made : Stmt) → IsNestOf pipeline schedule boxes at place made → whole_size made ≤ 64 * share_at at place
+  nest-size at place made is =
+      let shared : share_at at place ≡ func_share flags pipeline.funcs is.func is.plan
+      = ap (λ (f : Option Func). loop_share at f (slice_get schedule.funcs place) (slice_get schedule.standings place)) is.parts.func_is
+      ∙ ap (λ (p : Option FuncPlan). loop_share at (Some is.func) p (slice_get schedule.standings place)) is.parts.plan_is
+      ∙ ap (λ (o : Option Standing). loop_share at (Some is.func) (Some is.plan) o) is.parts.there.standing
+      ∙ ap (λ (t : Bool). if t then func_share flags pipeline.funcs is.func is.plan else 0) (computed-there at is.parts.standing is.parts.there.reached is.parts.placed_is) in
+      let l = is.small in
+      omega (arith, shared, l)
+
+  found-size : (at : LoopPlace) (place : ℕ) (found : Option Stmt) → IsNestAt pipeline schedule boxes at place found → size_first found ≤ 64 * share_at at place
+  found-size at place None is = omega arith
+  found-size at place (Some made) is = nest-size at place made is
+
+  none-past : (at : LoopPlace) (place : ℕ) (found : Option Stmt) → IsNestAt pipeline schedule boxes at place found → count ≤ place → size_first found ≡ 0
+  none-past at place None is past = refl
+  none-past at place (Some made) is past = absurd (let l = slice_get_within schedule.standings place is.parts.standing is.parts.there.standing in omega (arith, l, past))
+
+  nests-size : (at : LoopPlace) (from : ℕ) (inside made : Stmt) → HasNests pipeline schedule boxes at from inside made → (n : ℕ) → count ≤ from + n
+      → whole_size made ≤ whole_size inside + 64 * summed (share_at at) from n
+  nests-size at _ inside _ (None_left from _ past) n most = omega arith
+  nests-size at _ _ _ (One_more from found inside rest made is others first) zero most =
+      let e = first.size_is in
+      let z = none-past at from found is (omega (arith, most)) in
+      let r = nests-size at (suc from) inside rest others 0 (omega (arith, most)) in
+      omega (arith, e, z, r)
+  nests-size at _ _ _ (One_more from found inside rest made is others first) (suc n) most =
+      let e = first.size_is in
+      let f = found-size at from found is in
+      let r = nests-size at (suc from) inside rest others n (omega (arith, most)) in
+      omega (arith, e, f, r)
+
+  -- all that are at these loops of a host
+  abbrev sums : ℕ → Option Func → Option FuncPlan → Option Standing → List Loop → ℕ
+  sums host func plan own [] = 0
+  sums host func plan own (first ∷ others) = loop_share (record { func = host; inside = first.id }) func plan own + sums host func plan own others
+
+  abbrev around : ℕ → List Loop → ℕ → ℕ
+  around host own place = sums host (slice_get pipeline.funcs place) (slice_get schedule.funcs place) (slice_get schedule.standings place) own
+
+  around-append : (host : ℕ) (inside outside : List Loop) (place : ℕ) → around host (inside ++ outside) place ≡ around host inside place + around host outside place
+  around-append host [] outside place = omega arith
+  around-append host (own ∷ inside) outside place = omega (arith, around-append host inside outside place)
+
+  around-summed : (host : ℕ) (inside : List Loop) (own : Loop) (n : ℕ)
+      → summed (around host (inside ++ own ∷ [])) 0 n ≤ summed (around host inside) 0 n + summed (share_at (record { func = host; inside = own.id })) 0 n
+  around-summed host inside own n =
+      let l = summed-most (around host (inside ++ own ∷ [])) (λ k. around host inside k + share_at (record { func = host; inside = own.id }) k)
+      (λ k. let e = around-append host inside (own ∷ []) k in omega (arith, e)) 0 n in
+      let m = summed-more (around host inside) (share_at (record { func = host; inside = own.id })) 0 n in
+      omega (arith, l, m)
+
+  summed-around : (host : ℕ) (inside : List Loop) (own : Loop) (n : ℕ)
+      → summed (around host inside) 0 n + summed (share_at (record { func = host; inside = own.id })) 0 n ≤ summed (around host (inside ++ own ∷ [])) 0 n
+  summed-around host inside own n =
+      let l = summed-most (λ k. around host inside k + share_at (record { func = host; inside = own.id }) k) (around host (inside ++ own ∷ []))
+      (λ k. let e = around-append host inside (own ∷ []) k in omega (arith, e)) 0 n in
+      let m = summed-more (around host inside) (share_at (record { func = host; inside = own.id })) 0 n in
+      omega (arith, l, m)
+
+  loops-size : (host : ℕ) (counts : loops.Values) (leaf : Stmt) (own : List Loop) (made : Stmt) → HasLoops pipeline schedule boxes host counts leaf own made
+      → whole_size made ≤ 7 * length own + whole_size leaf + 64 * summed (around host own) 0 count
+  loops-size host counts leaf _ _ No_loops = omega arith
+  loops-size host counts leaf _ _ (One_outside inside own inner body made has nests does goes) =
+      let e = does.size_is in
+      let n = nests-size (record { func = host; inside = own.id }) 0 inner body nests count (omega arith) in
+      let i = loops-size host counts leaf inside inner has in
+      let l = length-append inside (own ∷ []) in
+      let s = summed-around host inside own count in
+      omega (arith, e, n, i, l, s)
+
+  -- ---- each Func at a loop of the host stands at one of its loops
+
+  module _ (host whole : ℕ) (reached : Bool) where
+    abbrev one : Place → Loop → ℕ
+    one place loop = if reached && is_at_loop (record { func = host; inside = loop.id }) place then whole else 0
+
+    abbrev among : Place → List Loop → ℕ
+    among place [] = 0
+    among place (first ∷ others) = one place first + among place others
+
+    abbrev once : Place → ℕ
+    once place = if reached && is_at_loop_of host place then whole else 0
+
+    nowhere : (b : Bool) → (if b && false then whole else 0) ≡ 0
+    nowhere true = refl
+    nowhere false = refl
+
+    elsewhere : (b here : Bool) → (if b && (here && false) then whole else 0) ≡ 0
+    elsewhere true true = refl
+    elsewhere true false = refl
+    elsewhere false here = refl
+
+    here-most : (b here same : Bool) → (if b && (here && same) then whole else 0) ≤ (if b && here then whole else 0)
+    here-most true true true = omega arith
+    here-most true true false = omega arith
+    here-most true false same = omega arith
+    here-most false here same = omega arith
+
+    module _ (at : LoopPlace) where
+      abbrev placed : Place
+      placed = places.At at
+
+      is-one : (loop : Loop) → at.inside ≡ loop.id → has_id at.inside loop ≡ 1
+      is-one loop e = ap (λ (t : Bool). if t then 1 else 0) (ap (same_id loop.id) e ∙ same_id-self loop.id)
+
+      not-one : (loop : Loop) → same_id at.inside loop.id ≡ false → one placed loop ≡ 0
+      not-one loop d = ap (λ (t : Bool). if reached && (at.func == host && t) then whole else 0) d ∙ elsewhere reached (at.func == host)
+
+      among-none : (own : List Loop) → total (has_id at.inside) own ≡ 0 → among placed own ≡ 0
+      among-none [] none = refl
+      among-none (loop ∷ others) none = elim (cases_id at.inside loop.id) [
+        | inl e ↦ absurd (let i = is-one loop e in omega (arith, i, none))
+        | inr d ↦ let z = not-one loop d in let r = among-none others (omega (arith, none)) in omega (arith, z, r)
+      ]
+
+      among-few : (own : List Loop) → total (has_id at.inside) own ≤ 1 → among placed own ≤ once placed
+      among-few [] few = omega arith
+      among-few (loop ∷ others) few = elim (cases_id at.inside loop.id) [
+        | inl e ↦
+            let i = is-one loop e in
+            let z = among-none others (omega (arith, i, few)) in
+            let l = here-most reached (at.func == host) (same_id at.inside loop.id) in
+            omega (arith, z, l)
+        | inr d ↦ let z = not-one loop d in let r = among-few others (omega (arith, few)) in omega (arith, z, r)
+      ]
+
+    among-nowhere : (place : Place) → ((loop : Loop) → one place loop ≡ 0) → (own : List Loop) → among place own ≡ 0
+    among-nowhere place none [] = refl
+    among-nowhere place none (loop ∷ others) = omega (arith, none loop, among-nowhere place none others)
+
+    among-once : (place : Place) (own : List Loop) → Unique own → among place own ≤ once place
+    among-once (places.At at) own unique = among-few at own (unique at.inside)
+    among-once places.Root own unique = let z = among-nowhere places.Root (λ loop. nowhere reached) own in omega (arith, z)
+    among-once places.Inlined own unique = let z = among-nowhere places.Inlined (λ loop. nowhere reached) own in omega (arith, z)
+    among-once places.Nowhere own unique = let z = among-nowhere places.Nowhere (λ loop. nowhere reached) own in omega (arith, z)
+
+  sums-none : (host : ℕ) (func : Option Func) (plan : Option FuncPlan) (own : Option Standing) → ((at : LoopPlace) → loop_share at func plan own ≡ 0) → (all : List Loop) → sums host func plan own all ≡ 0
+  sums-none host func plan own none [] = refl
+  sums-none host func plan own none (first ∷ others) = omega (arith, none (record { func = host; inside = first.id }), sums-none host func plan own none others)
+
+  sums-are : (host : ℕ) (func : Func) (plan : FuncPlan) (own : Standing) (all : List Loop)
+      → sums host (Some func) (Some plan) (Some own) all ≡ among host (func_share flags pipeline.funcs func plan) own.is_reached own.place all
+  sums-are host func plan own [] = refl
+  sums-are host func plan own (first ∷ others) = omega (arith, sums-are host func plan own others)
+
+  sums-once : (host : ℕ) (func : Option Func) (plan : Option FuncPlan) (own : Option Standing) (all : List Loop) → Unique all → sums host func plan own all ≤ hosted_share flags pipeline.funcs host func plan own
+  sums-once host None plan own all unique = let z = sums-none host None plan own (λ at. refl) all in omega (arith, z)
+  sums-once host (Some func) None own all unique = let z = sums-none host (Some func) None own (λ at. refl) all in omega (arith, z)
+  sums-once host (Some func) (Some plan) None all unique = let z = sums-none host (Some func) (Some plan) None (λ at. refl) all in omega (arith, z)
+  sums-once host (Some func) (Some plan) (Some own) all unique =
+      let e = sums-are host func plan own all in
+      let l = among-once host (func_share flags pipeline.funcs func plan) own.is_reached own.place all unique in
+      omega (arith, e, l)
+
+  around-once : (host : ℕ) (all : List Loop) → Unique all → summed (around host all) 0 count ≤ hosted_shares pipeline schedule host
+  around-once host all unique =
+      summed-most (around host all) (hosted_at host) (λ k. sums-once host (slice_get pipeline.funcs k) (slice_get schedule.funcs k) (slice_get schedule.standings k) all unique) 0 count
+
+  -- ---- what a task does
+
+  module _ (host : ℕ) (extents : Extents) (stage : Stage) (kept : KeepsRules stage) where
+    outermost-size : (found : Option Loop) (inside : List Loop) (inner body : Stmt) (n : ℕ) → HasOutermost pipeline schedule boxes host found inner body
+        → whole_size inner ≤ n + 64 * summed (around host inside) 0 count → whole_size body ≤ n + 64 * summed (around host (inside ++ outside_of host extents stage kept found)) 0 count
+    outermost-size None inside inner body n is few =
+        let e = ap whole_size is in
+        subst (λ (own : List Loop). whole_size body ≤ n + 64 * summed (around host own) 0 count) (sym (append-nil inside)) (omega (arith, e, few))
+    outermost-size (Some own) inside inner body n nests few =
+        let l = nests-size (record { func = host; inside = own.id }) 0 inner body nests count (omega arith) in
+        let s = summed-around host inside own count in
+        omega (arith, few, l, s)
+
+  pub body-size : (host : ℕ) (stage : Stage) (extents : Extents) (store body : Stmt) → KeepsRules stage → Unique stage.loops → IsBody pipeline schedule boxes host stage extents store body
+      → whole_size body ≤ 7 * length (inside_of (parallel stage) stage.loops) + (14 * length stage.splits + whole_size store) + 64 * hosted_shares pipeline schedule host
+  body-size host stage extents store body kept unique is =
+      let e = is.size_is in
+      let inside = inside_of (parallel stage) stage.loops in
+      let i = loops-size host (loops.counts extents stage.splits) is.leaf inside is.inner is.looped in
+      let o = outermost-size host extents stage kept (parallel stage) inside is.inner body (7 * length inside + whole_size is.leaf) is.begun i in
+      let all-are = loops_by host extents stage kept (parallel stage) refl in
+      let all = ap (λ (own : List Loop). summed (around host own) 0 count) all-are in
+      let l = around-once host stage.loops unique in
+      omega (arith, e, o, all, l)
+
+  -- ---- all phases
+
+  words-behind : (phases : List Phase) (phase : Phase) → words_of (phases ++ phase ∷ []) ≡ words_of phases + (whole_size phase.body + 24)
+  words-behind [] phase = omega arith
+  words-behind (first ∷ phases) phase = omega (arith, words-behind phases phase)
+
+  abbrev phases_share : ℕ → Func → FuncPlan → ℕ → ℕ
+  phases_share place func plan zero = 0
+  phases_share place func plan (suc n) = phases_share place func plan n + phase_share pipeline schedule place func plan n
+
+  phases-all : (place : ℕ) (func : Func) (plan : FuncPlan) (n : ℕ) → phases_share place func plan (suc n) ≡ shares flags pipeline.funcs func plan n + hosted_shares pipeline schedule place
+  phases-all place func plan zero = omega arith
+  phases-all place func plan (suc n) = omega (arith, phases-all place func plan n)
+
+  stage-light : (place : ℕ) (func : Func) (plan : FuncPlan) (own : SourceBox) (number : ℕ) (phase : Phase) → lowered.IsStagePhase pipeline schedule boxes place func plan own number phase → IsLight pipeline schedule place func plan number phase
+  stage-light place func plan own _ _ (lowered.Pure phase tasks private_is bytes does touches few stores rounds) = few.1
+  stage-light place func plan own _ _ (lowered.Updating at update stage phase it tasks private_is bytes does touches few stores rounds) = few.1
+
+  pub update-light : (place : ℕ) (func : Func) (plan : FuncPlan) (at : ℕ) (update : Update) (stage : Stage) (phase : Phase) → slice_get func.updates at ≡ Some update → slice_get plan.updates at ≡ Some stage
+      → whole_size phase.body + 24 ≤ 64 * stage_share (update_nodes flags pipeline.funcs update) stage → IsLight pipeline schedule place func plan (suc at) phase
+  update-light place func plan at update stage phase update-is stage-is light =
+      let own : update_share flags pipeline.funcs (slice_get func.updates at) (slice_get plan.updates at) ≡ stage_share (update_nodes flags pipeline.funcs update) stage
+      = ap (λ (u : Option Update). update_share flags pipeline.funcs u (slice_get plan.updates at)) update-is ∙ ap (λ (s : Option Stage). update_share flags pipeline.funcs (Some update) s) stage-is in
+      omega (arith, own, light)
+
+  stages-light : (place : ℕ) (func : Func) (plan : FuncPlan) (own : SourceBox) (others phases : List Phase) (number : ℕ)
+      → lowered.ArePhasesOf pipeline schedule boxes place func plan own others number phases → words_of phases ≤ words_of others + 64 * phases_share place func plan number
+  stages-light place func plan own others _ _ lowered.None_yet = omega arith
+  stages-light place func plan own others _ _ (lowered.One_more number phases phase rest is) =
+      let w = words-behind phases phase in
+      let l = stage-light place func plan own number phase is in
+      let r = stages-light place func plan own others phases number rest in
+      omega (arith, w, l, r)
+
+  abbrev root_share : ℕ → Option Func → Option FuncPlan → Option Standing → ℕ
+  root_share place None plan own = 0
+  root_share place (Some func) None own = 0
+  root_share place (Some func) (Some plan) None = 0
+  root_share place (Some func) (Some plan) (Some own) = if is_at_root own then func_share flags pipeline.funcs func plan else 0
+
+  abbrev root_at : ℕ → ℕ
+  root_at place = root_share place (slice_get pipeline.funcs place) (slice_get schedule.funcs place) (slice_get schedule.standings place)
+
+  abbrev with_hosted : ℕ → ℕ
+  with_hosted place = root_at place + hosted_shares pipeline schedule place
+
+  root-is : (place : ℕ) (func : Func) (plan : FuncPlan) (own : SourceBox) → IsAtRoot pipeline schedule boxes place func plan own → root_at place ≡ func_share flags pipeline.funcs func plan
+  root-is place func plan own at =
+      ap (λ (f : Option Func). root_share place f (slice_get schedule.funcs place) (slice_get schedule.standings place)) at.func_is
+      ∙ ap (λ (p : Option FuncPlan). root_share place (Some func) p (slice_get schedule.standings place)) at.plan_is
+      ∙ ap (λ (o : Option Standing). root_share place (Some func) (Some plan) o) at.there.standing
+      ∙ ap (λ (t : Bool). if t then func_share flags pipeline.funcs func plan else 0) (and_from at.standing.is_reached (is_root at.standing.place) at.there.reached (ap is_root at.placed_is))
+
+  pub phases-light : (place : ℕ) (phases : List Phase) → lowered.AreLowered pipeline schedule boxes place phases → words_of phases ≤ 64 * summed with_hosted 0 place
+  phases-light _ _ lowered.No_func = omega arith
+  phases-light _ _ (lowered.Passed place phases rest none) =
+      let l = phases-light place phases rest in
+      let s = last-first with_hosted place in
+      omega (arith, l, s)
+  phases-light _ _ (lowered.Computed place before phases func plan own rest at stages) =
+      let l = phases-light place before rest in
+      let s = last-first with_hosted place in
+      let r = stages-light place func plan own before phases (suc (length func.updates)) stages in
+      let a = phases-all place func plan (length func.updates) in
+      let e = root-is place func plan own at in
+      omega (arith, l, s, r, a, e)
+
+  -- ---- what is computed counts once
+
+  exchanged : (g : ℕ → ℕ → ℕ) (at n from m : ℕ) → summed (λ h. summed (λ k. g h k) at n) from m ≡ summed (λ k. summed (λ h. g h k) from m) at n
+  exchanged g at n from zero = sym (summed-none at n)
+  exchanged g at n from (suc m) =
+      let r = exchanged g at n (suc from) m in
+      let s = summed-more (λ k. g from k) (λ k. summed (λ h. g h k) (suc from) m) at n in
+      omega (arith, r, s)
+
+  abbrev pub computed_share : Option Func → Option FuncPlan → Option Standing → ℕ
+  computed_share None plan own = 0
+  computed_share (Some func) None own = 0
+  computed_share (Some func) (Some plan) None = 0
+  computed_share (Some func) (Some plan) (Some own) = if is_computed own then func_share flags pipeline.funcs func plan else 0
+
+  abbrev computed_at : ℕ → ℕ
+  computed_at place = computed_share (slice_get pipeline.funcs place) (slice_get schedule.funcs place) (slice_get schedule.standings place)
+
+  module _ (whole : ℕ) where
+    -- one host at most
+    past : (func at m : ℕ) → func < at → summed (λ h. if func == h then whole else 0) at m ≡ 0
+    past func at zero low = refl
+    past func at (suc m) low =
+        let f : (func == at) ≡ false = grind (arith, nat_tests, low) in
+        let z : (if func == at then whole else 0) ≡ 0 = ap (λ (t : Bool). if t then whole else 0) f in
+        let r = past func (suc at) m (omega (arith, low)) in
+        omega (arith, z, r)
+
+    by-host : (func from n : ℕ) (t : Bool) → (func == from) ≡ t → summed (λ h. if func == h then whole else 0) (suc from) n ≤ whole
+        → (if t then whole else 0) + summed (λ h. if func == h then whole else 0) (suc from) n ≤ whole
+    by-host func from n true e later = let s : func ≡ from = grind (arith, nat_tests, e) in let z = past func (suc from) n (omega (arith, s)) in omega (arith, z)
+    by-host func from n false e later = omega (arith, later)
+
+    hosts-once : (func from n : ℕ) → summed (λ h. if func == h then whole else 0) from n ≤ whole
+    hosts-once func from zero = omega arith
+    hosts-once func from (suc n) = by-host func from n (func == from) refl (hosts-once func (suc from) n)
+
+    -- a Func at root, or at a loop of one host
+    placed-once : (reached : Bool) (place : Place) (m : ℕ)
+        → (if reached && is_root place then whole else 0) + summed (λ h. if reached && is_at_loop_of h place then whole else 0) 0 m ≤ (if reached && not (is_inlined place) then whole else 0)
+    placed-once true (places.At at) m = let l = hosts-once at.func 0 m in omega (arith, l)
+    placed-once true places.Root m = let z = summed-none 0 m in omega (arith, z)
+    placed-once true places.Inlined m = let z = summed-none 0 m in omega (arith, z)
+    placed-once true places.Nowhere m = let z = summed-none 0 m in omega (arith, z)
+    placed-once false place m = let z = summed-none 0 m in omega (arith, z)
+
+  once-at : (m k : ℕ) (func : Option Func) (plan : Option FuncPlan) (own : Option Standing)
+      → root_share k func plan own + summed (λ h. hosted_share flags pipeline.funcs h func plan own) 0 m ≤ computed_share func plan own
+  once-at m k None plan own = let z = summed-none 0 m in omega (arith, z)
+  once-at m k (Some func) None own = let z = summed-none 0 m in omega (arith, z)
+  once-at m k (Some func) (Some plan) None = let z = summed-none 0 m in omega (arith, z)
+  once-at m k (Some func) (Some plan) (Some own) = placed-once (func_share flags pipeline.funcs func plan) own.is_reached own.place m
+
+  -- past the last standing nothing is
+  none-after : (place : ℕ) → count ≤ place → root_at place ≡ 0
+  none-after place past = ap (λ (o : Option Standing). root_share place (slice_get pipeline.funcs place) (slice_get schedule.funcs place) o) (slice_get_past schedule.standings place past) ∙ by-parts (slice_get pipeline.funcs place) (slice_get schedule.funcs place)
+    where
+      by-parts : (func : Option Func) (plan : Option FuncPlan) → root_share place func plan None ≡ 0
+      by-parts None plan = refl
+      by-parts (Some func) None = refl
+      by-parts (Some func) (Some plan) = refl
+
+  few-roots : (from m n : ℕ) → count ≤ from + n → summed root_at from m ≤ summed root_at from n
+  few-roots from zero n past = omega arith
+  few-roots from (suc m) zero past =
+      let z = none-after from (omega (arith, past)) in
+      let r = few-roots (suc from) m zero (omega (arith, past)) in
+      omega (arith, z, r)
+  few-roots from (suc m) (suc n) past = let r = few-roots (suc from) m n (omega (arith, past)) in omega (arith, r)
+
+  pub shares-computed : (m : ℕ) → summed with_hosted 0 m ≤ summed computed_at 0 count
+  shares-computed m =
+      let a = summed-more root_at (hosted_shares pipeline schedule) 0 m in
+      let x = exchanged hosted_at 0 count 0 m in
+      let r = few-roots 0 m count (omega arith) in
+      let b = summed-more root_at (λ k. summed (λ h. hosted_at h k) 0 m) 0 count in
+      let c = summed-most (λ k. root_at k + summed (λ h. hosted_at h k) 0 m) computed_at (λ k. once-at m k (slice_get pipeline.funcs k) (slice_get schedule.funcs k) (slice_get schedule.standings k)) 0 count in
+      omega (arith, a, x, r, b, c)

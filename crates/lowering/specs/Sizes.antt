@@ -1,0 +1,96 @@
+-- How many words of code the phases of a schedule ask for: no more than 64 for each unit that its stages weigh. One copy of a stage's code
+-- is what is spoken of, so a stage has a share in the weight, the nodes of its expressions and its loops, whatever the factors of unrolled loops.
+-- This project's own.
+use Rattle.std.specs.Prelude.{◌≡◌, ◌≤◌, ℕ, zero, suc, ◌+◌, ◌*◌, Bool, if◌then◌else◌, List, [], ◌∷◌, length, slice_get, Option, Some, None}
+use Rattle.halide_pipeline.specs.declared.definitions.Func.{Func}
+use Rattle.halide_pipeline.specs.declared.definitions.Update.{Update}
+use Rattle.halide_pipeline.specs.declared.expressions.Expr.{Expr}
+use Rattle.halide_pipeline.specs.Pipelines.{Pipeline}
+use Rattle.schedule_lines.specs.declared.stages.Stage.{Stage}
+use Rattle.schedule.specs.declared.plans.FuncPlan.{FuncPlan}
+use Rattle.schedule.specs.declared.schedules.Schedule.{Schedule}
+use Rattle.schedule.specs.declared.standings.Standing.{Standing}
+use Rattle.inlining.specs.Inlining.{inlined, flagged}
+use Rattle.inlining.specs.Weights.{counting}
+use Rattle.weights.specs.Weight.{flags_of, nodes_in, update_nodes}
+use Rattle.loop_ir.specs.declared.expressions.Expr as loop
+use Rattle.loop_ir.specs.declared.expressions.Expr.TheVariants as e
+use Rattle.loop_ir.specs.declared.statements.Phase.{Phase}
+use Rattle.loop_ir.specs.Sizes.{size, whole_size}
+use Rattle.expression_lowering.specs.Sizing.{IsGiven}
+use Rattle.lowering.specs.HostedFuncs.{is_hosted}
+
+-- ---- stores
+
+-- the nodes of a definition that calls the first so many Funcs
+abbrev pub counted : List Bool → List Func → ℕ → Expr → ℕ
+counted flags funcs count own = inlined counting (flagged flags) funcs count (λ v. 1) own
+
+abbrev pub second_counted : List Bool → List Func → ℕ → Option Expr → ℕ
+second_counted flags funcs count None = 0
+second_counted flags funcs count (Some own) = counted flags funcs count own
+
+-- of an update of the Func at a place
+abbrev pub update_counted : List Bool → List Func → ℕ → Update → ℕ
+update_counted flags funcs place update =
+    counted flags funcs (place + 1) update.right + (counted flags funcs place update.left_x + second_counted flags funcs place update.left_y)
+
+-- what a second index comes to, which is 0 where none is written
+abbrev pub IsGivenIndex : List Bool → List Func → ℕ → Option Expr → loop.Expr → Type 0
+IsGivenIndex flags funcs place None made = made ≡ e.Number 0
+IsGivenIndex flags funcs place (Some own) made = IsGiven (size made) (counted flags funcs place own)
+
+-- ---- stages
+
+-- a stage whose expressions have so many nodes
+abbrev pub stage_share : ℕ → Stage → ℕ
+stage_share nodes stage = nodes + length stage.loops
+
+abbrev pub update_share : List Bool → List Func → Option Update → Option Stage → ℕ
+update_share flags funcs None stage = 0
+update_share flags funcs (Some update) None = 0
+update_share flags funcs (Some update) (Some stage) = stage_share (update_nodes flags funcs update) stage
+
+-- of a Func's pure definition and its first so many updates
+abbrev pub shares : List Bool → List Func → Func → FuncPlan → ℕ → ℕ
+shares flags funcs func plan zero = stage_share (nodes_in flags funcs func.pure) plan.pure
+shares flags funcs func plan (suc n) = shares flags funcs func plan n + update_share flags funcs (slice_get func.updates n) (slice_get plan.updates n)
+
+abbrev pub func_share : List Bool → List Func → Func → FuncPlan → ℕ
+func_share flags funcs func plan = shares flags funcs func plan (length func.updates)
+
+-- ---- Funcs at the loops of a host
+
+-- over so many places, from one on
+abbrev pub summed : (ℕ → ℕ) → ℕ → ℕ → ℕ
+summed f at zero = 0
+summed f at (suc n) = f at + summed f (suc at) n
+
+abbrev pub hosted_share : List Bool → List Func → ℕ → Option Func → Option FuncPlan → Option Standing → ℕ
+hosted_share flags funcs host None plan own = 0
+hosted_share flags funcs host (Some func) None own = 0
+hosted_share flags funcs host (Some func) (Some plan) None = 0
+hosted_share flags funcs host (Some func) (Some plan) (Some own) = if is_hosted host own then func_share flags funcs func plan else 0
+
+-- of all Funcs that are computed at loops of the host
+abbrev pub hosted_shares : Pipeline → Schedule → ℕ → ℕ
+hosted_shares pipeline schedule host =
+    summed (λ place. hosted_share (flags_of schedule.standings) pipeline.funcs host (slice_get pipeline.funcs place) (slice_get schedule.funcs place) (slice_get schedule.standings place)) 0 (length schedule.standings)
+
+-- ---- phases
+
+-- what the stage with this number weighs of a Func at root, with the Funcs at the loops of its pure definition
+abbrev pub phase_share : Pipeline → Schedule → ℕ → Func → FuncPlan → ℕ → ℕ
+phase_share pipeline schedule place func plan zero =
+    stage_share (nodes_in (flags_of schedule.standings) pipeline.funcs func.pure) plan.pure
+    + hosted_shares pipeline schedule place
+phase_share pipeline schedule place func plan (suc at) = update_share (flags_of schedule.standings) pipeline.funcs (slice_get func.updates at) (slice_get plan.updates at)
+
+-- Its task has no more words than 64 for each of these, with 24 that stand around it in a program.
+abbrev pub IsLight : Pipeline → Schedule → ℕ → Func → FuncPlan → ℕ → Phase → Type 0
+IsLight pipeline schedule place func plan number phase = whole_size phase.body + 24 ≤ 64 * phase_share pipeline schedule place func plan number
+
+-- the words of the tasks of phases, with those around them
+abbrev pub words_of : List Phase → ℕ
+words_of [] = 0
+words_of (phase ∷ phases) = whole_size phase.body + 24 + words_of phases
