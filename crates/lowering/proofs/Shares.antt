@@ -1,14 +1,13 @@
 -- What a host's loops ask for with the nests at them, and what all phases do: each Func at a loop stands at one loop of one host.
-use Rattle.std.proofs.Common.{◌≡◌, ℕ, zero, suc, ◌+◌, ◌*◌, ◌-◌, ◌<◌, ◌≤◌, Bool, true, false, cond, List, [], ◌∷◌, ◌++◌, length, Option, Some, None, refl, sym, ap, subst, ◌∙◌, arith, inl, inr, length-append, append-nil}
+use Rattle.std.proofs.Common.{◌≡◌, ℕ, zero, suc, ◌+◌, ◌*◌, ◌-◌, ◌<◌, ◌≤◌, Bool, true, false, List, [], ◌∷◌, ◌++◌, length, Option, Some, None, refl, sym, ap, subst, ◌∙◌, arith, inl, inr, length-append, append-nil}
 use Rattle.std.specs.Prelude.{◌==◌, ◌&&◌, if◌then◌else◌, slice_get, not}
-use Rattle.std.proofs.lemmas.Bool.{and_parts, and_from}
+use Rattle.std.proofs.lemmas.Bool.{and_from}
 use Rattle.std.proofs.lemmas.Bool.Decides.{nat_tests}
 use Rattle.std.proofs.lemmas.Option.{slice_get_past, slice_get_within}
 use Rattle.halide_pipeline.specs.declared.definitions.Func.{Func}
 use Rattle.halide_pipeline.specs.declared.definitions.Update.{Update}
 use Rattle.halide_pipeline.specs.Pipelines.{Pipeline}
 use Rattle.schedule_lines.specs.declared.stages.Loop.{Loop}
-use Rattle.schedule_lines.specs.declared.stages.LoopId.{LoopId}
 use Rattle.schedule_lines.specs.declared.stages.Stage.{Stage}
 use Rattle.schedule_lines.specs.Loops.{same_id}
 use Rattle.schedule_lines.specs.Making.{total}
@@ -32,7 +31,7 @@ use Rattle.bounds.specs.declared.verdict.Boxes.{Boxes}
 use Rattle.loop_ir.specs.declared.statements.Phase.{Phase}
 use Rattle.loop_ir.specs.declared.statements.Stmt.{Stmt}
 use Rattle.loop_ir.specs.Sizes.{whole_size}
-use Rattle.lowering.specs.HostedFuncs.{is_hosted, is_computed_at, is_at_loop, is_at_loop_of}
+use Rattle.lowering.specs.HostedFuncs.{is_computed_at, is_at_loop, is_at_loop_of}
 use Rattle.lowering.specs.Hosting.{IsNestAt, IsNestOf, HasNests, None_left, One_more, HasLoops, No_loops, One_outside, HasOutermost, IsBody, size_first}
 use Rattle.lowering.specs.PurePhases.{IsAtRoot, is_at_root, inside_of}
 use Rattle.lowering.specs.Lowered as lowered

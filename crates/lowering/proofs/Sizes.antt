@@ -1,5 +1,5 @@
 -- Stores and nests ask for no more words of code than their share in the weight gives them.
-use Rattle.std.proofs.Common.{◌≡◌, ℕ, zero, suc, ◌+◌, ◌*◌, ◌-◌, ◌≤◌, Bool, true, false, List, [], ◌∷◌, ◌++◌, length, Option, Some, None, refl, sym, ap, subst, ◌∙◌, arith, length-append, length-take}
+use Rattle.std.proofs.Common.{◌≡◌, ℕ, suc, ◌+◌, ◌*◌, ◌-◌, ◌≤◌, Bool, true, false, List, [], ◌∷◌, length, Option, Some, None, refl, sym, subst, arith, length-append, length-take}
 use Rattle.std.specs.Prelude.{cond, is_some, slice_get}
 use Rattle.halide_pipeline.specs.declared.definitions.Func.{Func}
 use Rattle.halide_pipeline.specs.declared.definitions.Update.{Update}
@@ -137,11 +137,7 @@ more-loops func update stage is =
     let grown : Grown (first_loops func update) stage.loops stage.splits = by_making (Grown (first_loops func update)) (grown-stays (is_some update) (first_loops func update)) is.made in
     omega (arith, grown.count, length-total stage.loops, some-loop func update)
 
--- ---- a store under so many loops and splits, with what stands around it
-
-pub nest-light : (loops inside splits store made nodes : ℕ) → splits + 1 ≤ loops → inside ≤ loops → made ≡ 7 * inside + (14 * splits + store) → store + 12 ≤ 64 * nodes → made + 24 ≤ 64 * (nodes + loops)
-nest-light loops inside splits store made nodes more few is given = omega (arith, more, few, is, given)
-
+-- loops inside a parallel one are no more than all
 pub inside-fewer : (found : Option Loop) (all : List Loop) → length (inside_of found all) ≤ length all
 inside-fewer None all = omega arith
 inside-fewer (Some own) all = let l = length-take (length all - 1) all in omega (arith, l)

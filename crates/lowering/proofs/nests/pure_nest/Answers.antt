@@ -16,7 +16,7 @@ use Rattle.lowering.proofs.Registers.{pure-most}
 use Rattle.nest_lowering.specs.Rounds.{MayBeUnder}
 use Rattle.lowering.proofs.PureRounds.{pure_under}
 use Rattle.weights.specs.Weight.{flags_of}
-use Rattle.lowering.proofs.Sizes.{more-loops, nest-light, pure-counted}
+use Rattle.lowering.proofs.Sizes.{more-loops, pure-counted}
 use Rattle.lowering.proofs.nests.pure_nest.Goals as goal
 
 -- src/nests.rt:76:9
