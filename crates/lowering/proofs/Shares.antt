@@ -159,7 +159,7 @@ module _ (pipeline : Pipeline) (schedule : Schedule) (boxes : Boxes) where
   loops-size : (host : ℕ) (counts : loops.Values) (leaf : Stmt) (own : List Loop) (made : Stmt) → HasLoops pipeline schedule boxes host counts leaf own made
       → whole_size made ≤ 7 * length own + whole_size leaf + 64 * summed (around host own) 0 count
   loops-size host counts leaf _ _ No_loops = omega arith
-  loops-size host counts leaf _ _ (One_outside inside own inner body made has nests does goes) =
+  loops-size host counts leaf _ _ (One_outside inside own inner body made has nests does goes run_goes) =
       let e = does.size_is in
       let n = nests-size (record { func = host; inside = own.id }) 0 inner body nests count (omega arith) in
       let i = loops-size host counts leaf inside inner has in
@@ -295,7 +295,7 @@ module _ (pipeline : Pipeline) (schedule : Schedule) (boxes : Boxes) where
   phases-all place func plan (suc n) = omega (arith, phases-all place func plan n)
 
   stage-light : (place : ℕ) (func : Func) (plan : FuncPlan) (own : SourceBox) (number : ℕ) (phase : Phase) → lowered.IsStagePhase pipeline schedule boxes place func plan own number phase → IsLight pipeline schedule place func plan number phase
-  stage-light place func plan own _ _ (lowered.Pure phase tasks private_is bytes does touches few stores rounds) = few.1
+  stage-light place func plan own _ _ (lowered.Pure phase tasks private_is bytes does touches few stores rounds in_runs) = few.1
   stage-light place func plan own _ _ (lowered.Updating at update stage phase it tasks private_is bytes does touches few stores rounds) = few.1
 
   pub update-light : (place : ℕ) (func : Func) (plan : FuncPlan) (at : ℕ) (update : Update) (stage : Stage) (phase : Phase) → slice_get func.updates at ≡ Some update → slice_get plan.updates at ≡ Some stage
