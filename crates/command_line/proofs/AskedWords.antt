@@ -4,11 +4,11 @@ use Rattle.std.specs.Prelude.{is_some, option_and_then, unwrap_or, not}
 use Rattle.std.proofs.lemmas.Bool.{le-ltb}
 use Rattle.std.specs.List.{AllByRecursion}
 use Rattle.clap.specs.Lexer.{usize_max}
-use Rattle.clap.specs.Walk.{Row, Text, rows_after}
+use Rattle.clap.specs.Walk.{Row, Text, rows_after, first_of}
 use Rattle.clap.specs.Simple.{subcommand_of}
 use Rattle.clap.specs.Kinds.{Kinds}
 use Rattle.clap.specs.Faults.{fault_of}
-use Rattle.command_line.specs.CommandLine.{Asked, Assembles, Compiles, Debugs, Draws, IsPlainWord, IsSpelled, IsWithinLimits, Lists, Renews, Replays, Runs, asked_of, asm_of, compile_of, debug_of, dis_of, hrv_app, named, picture_of, renew_of, replay_of, unless_fault, unmarked}
+use Rattle.command_line.specs.CommandLine.{Asked, Assembles, Compiles, Debugs, Draws, IsPlainWord, IsSpelled, IsWithinLimits, Lists, Renews, Replays, asked_of, asm_of, compile_of, debug_of, dis_of, hrv_app, named, picture_of, renew_of, replay_of, run_from, unless_fault, unmarked}
 use Rattle.command_line.proofs.Positionals.{ArePlain, marked, none, passes_all, plain, takes_all, unmarked-plain}
 use Rattle.command_line.proofs.Subcommands.{IsName, first_is_name, is_asm, is_compile, is_debug, is_dis, is_picture, is_renew, is_replay, is_run, name_free, name_given, name_passes}
 use Rattle.command_line.proofs.ReplayWords as replay
@@ -140,13 +140,13 @@ asks_run words rest e split =
     let own = run.run_asked rest (name_passes run.run_command rest (subst (λ ws. fault_of hrv_app ws ≡ []) split e)) in
     let rows = rows_after run.leaf.rules [] rest in
     record {
-      asked = Runs own.image own.log own.harts own.turns;
+      asked = run_from (first_of (codes "from") rows) own.image own.log own.harts own.turns;
       name = codes "run";
       rows = rows;
       met = ap (subcommand_of hrv_app) split ∙ name_given run.run_command rest;
       asks = own.is_asked;
-      spelled = (rest, split);
-      limits = run.within_limits rows own.image own.log own.harts own.turns own.is_asked;
+      spelled = run.run_spelled words rest (first_of (codes "from") rows) own.image own.log own.harts own.turns split;
+      limits = run.within_limits rows _ own.is_asked;
     }
 
 pub words_ask : (words : List Text) → fault_of hrv_app words ≡ [] → Asks words

@@ -31,7 +31,7 @@ use Rattle.command_line.specs.Faults.{fault_for}
 use Rattle.command_line.specs.declared.command_lines.Invocation.{Invocation}
 use Rattle.command_line.specs.declared.faults.CommandLineFault.{CommandLineFault}
 use Rattle.command_line.specs.declared.faults.CommandLineFault.TheVariants.{Refused, Memory}
-use Rattle.command_line.specs.CommandLine.{Asked, Assembles, Compiles, Debugs, Draws, IsRefusal, IsSpelled, IsWithinLimits, Lists, Makes, Renews, Replays, Runs, asked_of, asm_of, compile_of, debug_of, dis_of, hrv_app, most_harts, most_turns, named, number_or, picture_of, renew_of, replay_of, run_of}
+use Rattle.command_line.specs.CommandLine.{Asked, Assembles, Compiles, Debugs, Draws, IsRefusal, IsSpelled, IsWithinLimits, Lists, Makes, Renews, Replays, asked_of, asm_of, compile_of, debug_of, dis_of, hrv_app, most_harts, most_turns, named, number_or, picture_of, renew_of, replay_of, run_from, run_of}
 use Rattle.command_line.proofs.AskedWords.{Asks, asked_named, fault_of-named, words_ask}
 use Rattle.command_line.proofs.RunWords.{run_needs}
 
@@ -67,6 +67,9 @@ taken command words m made passes matches =
 pub read : (f : Found) (id : Text) (o : Option (Bor Text)) (x : Bor Text) → option_map (λ s. s.now) o ≡ first_value f id → o ≡ Some x
     → first_of id (rows_of f) ≡ Some x.now
 read f id o x gives is = sym (first_value-rows f id) ∙ sym gives ∙ ap (option_map (λ s. s.now)) is
+
+pub read_none : (f : Found) (id : Text) (o : Option (Bor Text)) → option_map (λ s. s.now) o ≡ first_value f id → o ≡ None → first_of id (rows_of f) ≡ None
+read_none f id o gives is = sym (first_value-rows f id) ∙ sym gives ∙ ap (option_map (λ s. s.now)) is
 
 pub is_given : (f : Found) (id : Text) (o : Option (Bor Text)) → option_map (λ s. s.now) o ≡ first_value f id → IsSome (first_of id (rows_of f)) → IsSome o
 is_given f id o gives has = some_of_text (λ s. s.now) o (first_value f id) gives (ap is_some (first_value-rows f id) ∙ has)
@@ -264,16 +267,17 @@ run_given rows some = go (run_of rows) refl some
         let needs = run_needs rows asked is in
         (ap is_some needs.image_is, ap is_some needs.log_is)
 
-pub run_read : (rows : List Row) (image log : Text) (harts turns : ℕ) → IsSome (run_of rows) → first_of (codes "IMAGE") rows ≡ Some image → first_of (codes "LOG") rows ≡ Some log
+pub run_read : (rows : List Row) (from : Option Text) (image log : Text) (harts turns : ℕ) → IsSome (run_of rows) → first_of (codes "from") rows ≡ from
+    → first_of (codes "IMAGE") rows ≡ Some image → first_of (codes "LOG") rows ≡ Some log
     → ((most asked : ℕ) → number_or 1 most (one_of (codes "harts") rows) ≡ Some asked → harts ≡ asked)
     → ((most asked : ℕ) → number_or most_turns most (one_of (codes "turns") rows) ≡ Some asked → turns ≡ asked)
-    → run_of rows ≡ Some (Runs image log harts turns)
-run_read rows image log harts turns some image_is log_is harts_are turns_are = go (run_of rows) refl some
+    → run_of rows ≡ Some (run_from from image log harts turns)
+run_read rows from image log harts turns some from_is image_is log_is harts_are turns_are = go (run_of rows) refl some
   where
-    go : (o : Option Asked) → run_of rows ≡ o → IsSome o → run_of rows ≡ Some (Runs image log harts turns)
+    go : (o : Option Asked) → run_of rows ≡ o → IsSome o → run_of rows ≡ Some (run_from from image log harts turns)
     go None is there = absurd (true≢false (sym there))
     go (Some asked) is there =
         let needs = run_needs rows asked is in
         let h = harts_are most_harts _ needs.harts_are in
         let t = turns_are most_turns _ needs.turns_are in
-        rw (image_is, log_is, needs.harts_are, needs.turns_are, h, t) refl
+        rw (from_is, image_is, log_is, needs.harts_are, needs.turns_are, h, t) refl

@@ -13,7 +13,7 @@ use Rattle.clap.specs.Faults.{level_fault, step_fault, turn_fault, walk_fault, w
 use Rattle.clap.specs.declared.builder.value_parser.Reading.TheVariants.{AsWritten}
 use Rattle.clap.specs.declared.builder.value_parser.ValueParser.TheVariants.{Unsigned}
 use Rattle.clap.specs.declared.parser.matches.ValueSource.TheVariants.{CommandLine}
-use Rattle.command_line.specs.CommandLine.{Asked, IsPlainWord, Runs, asked_of, hrv_app, most_harts, most_turns, named, number_or, run_of, unless_fault}
+use Rattle.command_line.specs.CommandLine.{Asked, IsPlainWord, Resumes, Runs, asked_of, hrv_app, most_harts, most_turns, named, number_or, run_of, unless_fault}
 use Rattle.command_line.proofs.HelpOnly.{held, is_idle, looks_plain, plain_met}
 use Rattle.command_line.proofs.Positionals.{at, end_fault}
 use Rattle.command_line.proofs.RunWords.{leaf, run_command}
@@ -185,6 +185,47 @@ module _ (image log harts turns : Text) (harts_accepted : accepts false (Unsigne
   options_asked : run_of (finished leaf.rules (with_turns image log harts (turns ∷ [])))
       ≡ Some (Runs image log (digits_value 10 (without_leading_plus harts)) (digits_value 10 (without_leading_plus turns)))
   options_asked = rw (harts_accepted, turns_accepted) refl
+
+-- ---- a log to go on from
+
+abbrev with_from : Text → Text → List Text → Held
+with_from image log from = held (row (codes "IMAGE") image ∷ row (codes "LOG") log ∷ []) (Some (codes "from", from))
+
+module _ (image log old : Text) (plain : IsPlainWord old) where
+  from_quiet : turn_fault leaf [] (at false idle 3 (with_files image log)) (codes "--from") ≡ []
+  from_quiet = refl
+
+  from_waits : walked leaf.rules [] (at false idle 3 (with_files image log)) (codes "--from") ≡ at false (option (codes "from")) 3 (with_from image log [])
+  unfolding walked
+  from_waits = refl
+
+  from_text_quiet : turn_fault leaf [] (at false (option (codes "from")) 3 (with_from image log [])) old ≡ []
+  from_text_quiet =
+      ap₂ or_else (text_fault (codes "from") 3 (with_from image log []) old plain)
+      (ap (λ (m : Held × Step). step_fault leaf 3 m.0 m.1) (text_met (codes "from") 3 (with_from image log []) old plain))
+
+  from_read : walked leaf.rules [] (at false (option (codes "from")) 3 (with_from image log [])) old ≡ at false idle 3 (with_from image log (old ∷ []))
+  unfolding walked
+  from_read =
+      ap (λ (m : Held × Step). after_step leaf.rules old (at false (option (codes "from")) 3 (with_from image log [])) m.0 m.1)
+      (text_met (codes "from") 3 (with_from image log []) old plain)
+
+  from_passes : Passes (at false idle 3 (with_files image log)) (codes "--from" ∷ old ∷ []) (at false idle 3 (with_from image log (old ∷ [])))
+  from_passes =
+      one_further _ (at false (option (codes "from")) 3 (with_from image log [])) _ (codes "--from") _ from_quiet from_waits
+      (one_further _ (at false idle 3 (with_from image log (old ∷ []))) _ old _ from_text_quiet from_read (arrived _))
+
+  from_end : end_fault leaf (with_from image log (old ∷ [])) ≡ []
+  unfolding clap_on_literals
+  from_end = refl
+
+  from_asked : run_of (finished leaf.rules (with_from image log (old ∷ []))) ≡ Some (Resumes image log old most_turns)
+  from_asked = refl
+
+  pub resumed_run : IsPlainWord image → IsPlainWord log → named (codes "run" ∷ image ∷ log ∷ codes "--from" ∷ old ∷ []) ≡ Some (Resumes image log old most_turns)
+  resumed_run image_plain log_plain =
+      named_by (image ∷ log ∷ codes "--from" ∷ old ∷ []) (at false idle 3 (with_from image log (old ∷ []))) (Resumes image log old most_turns)
+      (files_pass image log image_plain log_plain _ _ from_passes) from_end from_asked
 
 -- a text with a number is accepted
 accepted_of : (none most : ℕ) (text : Text) (n : ℕ) → number_or none most (Some text) ≡ Some n

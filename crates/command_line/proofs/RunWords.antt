@@ -19,7 +19,7 @@ use Rattle.clap.specs.declared.builder.value_parser.Reading.TheVariants.{AsWritt
 use Rattle.clap.specs.declared.builder.value_parser.ValueParser.TheVariants.{Unsigned}
 use Rattle.clap.specs.declared.parser.matches.ValueSource.TheVariants.{CommandLine}
 use Rattle.clap.specs.declared.error.ErrorKind.TheVariants as kind
-use Rattle.command_line.specs.CommandLine.{AreWithinLimits, Asked, Runs, hrv_app, most_harts, most_turns, number_or, number_rule, required_rule, run_app, run_of}
+use Rattle.command_line.specs.CommandLine.{AreWithinLimits, Asked, IsSpelled, IsWithinLimits, hrv_app, most_harts, most_turns, number_or, number_rule, required_rule, run_app, run_from, run_of, word_rule}
 use Rattle.command_line.proofs.HelpOnly.{both_pass, help_called, held, short_met_plain, some_fault}
 use Rattle.command_line.proofs.Positionals.{at}
 use Rattle.command_line.proofs.Subcommands.{IsSubcommand}
@@ -41,11 +41,15 @@ harts_rule = filled (number_rule (codes "harts") most_harts)
 abbrev turns_rule : Rule
 turns_rule = filled (number_rule (codes "turns") most_turns)
 
+abbrev from_rule : Rule
+from_rule = filled (word_rule (codes "from"))
+
 data IsArg : Text → Rule → Type 0 where
   is_image : IsArg (codes "IMAGE") image_rule
   is_log : IsArg (codes "LOG") log_rule
   is_harts : IsArg (codes "harts") harts_rule
   is_turns : IsArg (codes "turns") turns_rule
+  is_from : IsArg (codes "from") from_rule
 
 -- ---- rows
 
@@ -94,6 +98,7 @@ used_once is_image v rows none = rw (kept_rows (codes "IMAGE") rows none) (new_r
 used_once is_log v rows none = rw (kept_rows (codes "LOG") rows none) (new_row (codes "LOG") (more_values CommandLine (v ∷ [])) _ rows none)
 used_once is_harts v rows none = rw (kept_rows (codes "harts") rows none) (new_row (codes "harts") (more_values CommandLine (v ∷ [])) _ rows none)
 used_once is_turns v rows none = rw (kept_rows (codes "turns") rows none) (new_row (codes "turns") (more_values CommandLine (v ∷ [])) _ rows none)
+used_once is_from v rows none = rw (kept_rows (codes "from") rows none) (new_row (codes "from") (more_values CommandLine (v ∷ [])) _ rows none)
 
 two_are_many : (k : ℕ) → range_kinds 1 1 (suc (suc k)) ≡ [] → ⊥
 two_are_many k e = some_fault _ _ (rw (ne_eqb (suc (suc k)) 0 (omega arith), ne_eqb 1 (suc (suc k)) (omega arith)) at e)
@@ -105,10 +110,12 @@ one_value is_image [] rows e = absurd (some_fault _ _ e)
 one_value is_log [] rows e = absurd (some_fault _ _ e)
 one_value is_harts [] rows e = absurd (some_fault _ _ e)
 one_value is_turns [] rows e = absurd (some_fault _ _ e)
+one_value is_from [] rows e = absurd (some_fault _ _ e)
 one_value is_image (v ∷ w ∷ more) rows e = absurd (two_are_many (length more) (both_pass (range_kinds 1 1 (length (v ∷ w ∷ more))) _ e).0)
 one_value is_log (v ∷ w ∷ more) rows e = absurd (two_are_many (length more) (both_pass (range_kinds 1 1 (length (v ∷ w ∷ more))) _ e).0)
 one_value is_harts (v ∷ w ∷ more) rows e = absurd (two_are_many (length more) (both_pass (range_kinds 1 1 (length (v ∷ w ∷ more))) _ e).0)
 one_value is_turns (v ∷ w ∷ more) rows e = absurd (two_are_many (length more) (both_pass (range_kinds 1 1 (length (v ∷ w ∷ more))) _ e).0)
+one_value is_from (v ∷ w ∷ more) rows e = absurd (two_are_many (length more) (both_pass (range_kinds 1 1 (length (v ∷ w ∷ more))) _ e).0)
 one_value {id} is_image (v ∷ []) rows e = (
   v,
   refl,
@@ -122,6 +129,18 @@ one_value {id} is_image (v ∷ []) rows e = (
   },
 )
 one_value {id} is_log (v ∷ []) rows e = (
+  v,
+  refl,
+  not_there (has_row id rows) (both_pass (repeat_fault false id rows) _ e).0,
+  record {
+    one = v;
+    values_are = refl;
+    as_written = refl;
+    harts = λ same. absurd (true≢false (sym same));
+    turns = λ same. absurd (true≢false (sym same));
+  },
+)
+one_value {id} is_from (v ∷ []) rows e = (
   v,
   refl,
   not_there (has_row id rows) (both_pass (repeat_fault false id rows) _ e).0,
@@ -192,6 +211,7 @@ fits_settled rows _ all (begun is_image values) e = fits_used is_image values ro
 fits_settled rows _ all (begun is_log values) e = fits_used is_log values rows all e
 fits_settled rows _ all (begun is_harts values) e = fits_used is_harts values rows all e
 fits_settled rows _ all (begun is_turns values) e = fits_used is_turns values rows all e
+fits_settled rows _ all (begun is_from values) e = fits_used is_from values rows all e
 
 -- where a walk stands: what it holds fits
 record Stands (w : Walk) : Type 0 where
@@ -312,20 +332,23 @@ module _ (waiting : Waiting) (position : ℕ) (rows : List Row) (pending : Optio
   }
 
   long_stands : (name : Text) (v : Option Text) → long_fault leaf.rules false (arg_by_long leaf.rules name) v h ≡ [] → StandsBy waiting position h word (long_word leaf.rules waiting word name v h)
-  long_stands name v e = go (bytes_eq (codes "harts") name || false) (bytes_eq (codes "turns") name || false) (bytes_eq (codes "help") name || false) v e
+  long_stands name v e =
+      go (bytes_eq (codes "harts") name || false) (bytes_eq (codes "turns") name || false) (bytes_eq (codes "from") name || false) (bytes_eq (codes "help") name || false) v e
     where
-      found : Bool → Bool → Bool → Option Rule
-      found is_harts_name is_turns_name is_help =
-          cond is_harts_name (Some harts_rule) (cond is_turns_name (Some turns_rule) (cond is_help (Some (filled help_rule)) None))
+      found : Bool → Bool → Bool → Bool → Option Rule
+      found is_harts_name is_turns_name is_from_name is_help =
+          cond is_harts_name (Some harts_rule) (cond is_turns_name (Some turns_rule) (cond is_from_name (Some from_rule) (cond is_help (Some (filled help_rule)) None)))
 
-      go : (a b c : Bool) (v : Option Text) → long_fault leaf.rules false (found a b c) v h ≡ []
-          → StandsBy waiting position h word (after_flag leaf.rules waiting word (long_met leaf.rules (found a b c) v h).0 (long_met leaf.rules (found a b c) v h).1)
-      go true b c (Some text) bad = attached harts_rule is_harts text bad
-      go true b c None bad = awaited harts_rule is_harts bad
-      go false true c (Some text) bad = attached turns_rule is_turns text bad
-      go false true c None bad = awaited turns_rule is_turns bad
-      go false false true v bad = absurd (help_called leaf.rules false v h bad)
-      go false false false v bad = absurd (some_fault _ _ bad)
+      go : (a b c d : Bool) (v : Option Text) → long_fault leaf.rules false (found a b c d) v h ≡ []
+          → StandsBy waiting position h word (after_flag leaf.rules waiting word (long_met leaf.rules (found a b c d) v h).0 (long_met leaf.rules (found a b c d) v h).1)
+      go true b c d (Some text) bad = attached harts_rule is_harts text bad
+      go true b c d None bad = awaited harts_rule is_harts bad
+      go false true c d (Some text) bad = attached turns_rule is_turns text bad
+      go false true c d None bad = awaited turns_rule is_turns bad
+      go false false true d (Some text) bad = attached from_rule is_from text bad
+      go false false true d None bad = awaited from_rule is_from bad
+      go false false false true v bad = absurd (help_called leaf.rules false v h bad)
+      go false false false false v bad = absurd (some_fault _ _ bad)
 
 plain_stands : (waiting : Waiting) (position : ℕ) (rows : List Row) (pending : Option (Text × List Text)) (word : Text)
     → AllFit rows → IsPending pending → IsWaiting waiting → StandsBy waiting position (held rows pending) word (plain_word leaf.rules waiting word (held rows pending))
@@ -353,6 +376,7 @@ plain_stands _ position rows pending word all left_over (for_option arg) = go ar
     go is_log _ = more _ is_log
     go is_harts _ = more _ is_harts
     go is_turns _ = more _ is_turns
+    go is_from _ = more _ is_from
 
 unnamed : {waiting : Waiting} (word : Text) → IsWaiting waiting → subcommand_met [] waiting word ≡ None
 unnamed word for_file = refl
@@ -431,7 +455,7 @@ fits_finished words e =
     let fits : AllFit (settled leaf.rules end.held).rows =
     subst (λ g. AllFit (settled leaf.rules g).rows) (sym held_is)
     (fits_settled s.rows s.pending s.all s.left_over (subst (λ g. settle_fault leaf.rules false g ≡ []) held_is settles)) in
-    subst AllFit (sym (no_defaults leaf.rules (settled leaf.rules end.held).rows (refl, (refl, (refl, (refl, (refl, tt))))))) fits
+    subst AllFit (sym (no_defaults leaf.rules (settled leaf.rules end.held).rows (refl, (refl, (refl, (refl, (refl, (refl, tt)))))))) fits
   where
     start : Stands (walk_from nothing_held)
     start = record {
@@ -505,7 +529,12 @@ pub record RunAsked (rows : List Row) : Type 0 where
   pub log : Text
   pub harts : ℕ
   pub turns : ℕ
-  pub is_asked : run_of rows ≡ Some (Runs image log harts turns)
+  pub is_asked : run_of rows ≡ Some (run_from (first_of (codes "from") rows) image log harts turns)
+
+-- it goes on from a log or not
+pub run_spelled : (words rest : List Text) (from : Option Text) (image log : Text) (harts turns : ℕ) → words ≡ codes "run" ∷ rest → IsSpelled words (run_from from image log harts turns)
+run_spelled words rest None image log harts turns split = (rest, split)
+run_spelled words rest (Some old) image log harts turns split = (rest, split)
 
 pub run_asked : (words : List Text) → level_fault leaf [] nothing_held words false [] ≡ [] → RunAsked (rows_after leaf.rules [] words)
 run_asked words e =
@@ -544,50 +573,53 @@ number_within none most (Some text) n least few is = go (accepts false (Unsigned
     go false fails e = absurd (true≢false (sym (ap is_some e)))
 
 -- what a run needs
-pub record RunNeeds (rows : List Row) (image log : Text) (harts turns : ℕ) : Type 0 where
+pub record RunNeeds (rows : List Row) (asked : Asked) : Type 0 where
+  pub image : Text
+  pub log : Text
+  pub harts : ℕ
+  pub turns : ℕ
   pub image_is : first_of (codes "IMAGE") rows ≡ Some image
   pub log_is : first_of (codes "LOG") rows ≡ Some log
   pub harts_are : number_or 1 most_harts (one_of (codes "harts") rows) ≡ Some harts
   pub turns_are : number_or most_turns most_turns (one_of (codes "turns") rows) ≡ Some turns
+  pub is : run_from (first_of (codes "from") rows) image log harts turns ≡ asked
 
-abbrev asked_with : Option Text → Option Text → Option ℕ → Option ℕ → Option Asked
-asked_with image log harts turns = option_and_then (λ i. option_and_then (λ l. option_and_then (λ h. option_map (λ t. Runs i l h t) turns) harts) log) image
-
-abbrev image_in : Asked → Text
-image_in (Runs image log harts turns) = image
-image_in _ = []
-
-abbrev log_in : Asked → Text
-log_in (Runs image log harts turns) = log
-log_in _ = []
-
-abbrev harts_in : Asked → ℕ
-harts_in (Runs image log harts turns) = harts
-harts_in _ = 0
-
-abbrev turns_in : Asked → ℕ
-turns_in (Runs image log harts turns) = turns
-turns_in _ = 0
-
-needs_of : (i l : Option Text) (h t : Option ℕ) (asked : Asked) → asked_with i l h t ≡ Some asked
-    → (i ≡ Some (image_in asked)) × (l ≡ Some (log_in asked)) × (h ≡ Some (harts_in asked)) × (t ≡ Some (turns_in asked))
-needs_of None l h t asked e = absurd (true≢false (sym (ap is_some e)))
-needs_of (Some i) None h t asked e = absurd (true≢false (sym (ap is_some e)))
-needs_of (Some i) (Some l) None t asked e = absurd (true≢false (sym (ap is_some e)))
-needs_of (Some i) (Some l) (Some h) None asked e = absurd (true≢false (sym (ap is_some e)))
-needs_of (Some i) (Some l) (Some h) (Some t) asked e =
-    let same : Runs i l h t ≡ asked = ap (λ o. unwrap_or o asked) e in
-    (ap (λ a. Some (image_in a)) same, ap (λ a. Some (log_in a)) same, ap (λ a. Some (harts_in a)) same, ap (λ a. Some (turns_in a)) same)
-
-pub run_needs : (rows : List Row) (asked : Asked) → run_of rows ≡ Some asked → RunNeeds rows (image_in asked) (log_in asked) (harts_in asked) (turns_in asked)
+pub run_needs : (rows : List Row) (asked : Asked) → run_of rows ≡ Some asked → RunNeeds rows asked
 run_needs rows asked is =
-    let all = needs_of (first_of (codes "IMAGE") rows) (first_of (codes "LOG") rows) (number_or 1 most_harts (one_of (codes "harts") rows))
-    (number_or most_turns most_turns (one_of (codes "turns") rows)) asked is in
-    record { image_is = all.0; log_is = all.1; harts_are = all.2; turns_are = all.3 }
+    go (first_of (codes "IMAGE") rows) (first_of (codes "LOG") rows) (number_or 1 most_harts (one_of (codes "harts") rows))
+    (number_or most_turns most_turns (one_of (codes "turns") rows)) refl refl refl refl is
+  where
+    from : Option Text
+    from = first_of (codes "from") rows
 
-pub within_limits : (rows : List Row) (image log : Text) (harts turns : ℕ) → run_of rows ≡ Some (Runs image log harts turns) → AreWithinLimits harts turns
-within_limits rows image log harts turns is =
-    let needs = run_needs rows (Runs image log harts turns) is in
-    let h = number_within 1 most_harts (one_of (codes "harts") rows) harts (omega arith) (omega arith) needs.harts_are in
-    let t = number_within most_turns most_turns (one_of (codes "turns") rows) turns (omega arith) (omega arith) needs.turns_are in
-    record { some = h.0; few = h.1; one = t.0; most = t.1 }
+    go : (i l : Option Text) (h t : Option ℕ) → first_of (codes "IMAGE") rows ≡ i → first_of (codes "LOG") rows ≡ l
+        → number_or 1 most_harts (one_of (codes "harts") rows) ≡ h → number_or most_turns most_turns (one_of (codes "turns") rows) ≡ t
+        → option_and_then (λ image. option_and_then (λ log. option_and_then (λ harts. option_map (λ turns. run_from from image log harts turns) t) h) l) i ≡ Some asked
+        → RunNeeds rows asked
+    go None l h t _ _ _ _ e = absurd (true≢false (sym (ap is_some e)))
+    go (Some i) None h t _ _ _ _ e = absurd (true≢false (sym (ap is_some e)))
+    go (Some i) (Some l) None t _ _ _ _ e = absurd (true≢false (sym (ap is_some e)))
+    go (Some i) (Some l) (Some h) None _ _ _ _ e = absurd (true≢false (sym (ap is_some e)))
+    go (Some i) (Some l) (Some h) (Some t) image_is log_is harts_are turns_are e = record {
+      image = i;
+      log = l;
+      harts = h;
+      turns = t;
+      image_is = image_is;
+      log_is = log_is;
+      harts_are = harts_are;
+      turns_are = turns_are;
+      is = ap (λ o. unwrap_or o asked) e;
+    }
+
+from_within : (from : Option Text) (image log : Text) (harts turns : ℕ) → AreWithinLimits harts turns → IsWithinLimits (run_from from image log harts turns)
+from_within None image log harts turns within = within
+from_within (Some old) image log harts turns within = (within.one, within.most)
+
+pub within_limits : (rows : List Row) (asked : Asked) → run_of rows ≡ Some asked → IsWithinLimits asked
+within_limits rows asked is =
+    let needs = run_needs rows asked is in
+    let h = number_within 1 most_harts (one_of (codes "harts") rows) needs.harts (omega arith) (omega arith) needs.harts_are in
+    let t = number_within most_turns most_turns (one_of (codes "turns") rows) needs.turns (omega arith) (omega arith) needs.turns_are in
+    subst IsWithinLimits needs.is
+    (from_within (first_of (codes "from") rows) needs.image needs.log needs.harts needs.turns (record { some = h.0; few = h.1; one = t.0; most = t.1 }))

@@ -14,7 +14,7 @@ use Rattle.clap.specs.declared.builder.command.Command.TheViews.{out-Command}
 use Rattle.clap.specs.declared.builder.value_parser.ValueParser.TheVariants.{Unsigned}
 use Rattle.clap.specs.declared.error.Error.{Error}
 use Rattle.command_line.specs.declared.command_lines.Invocation.{Invocation}
-use Rattle.command_line.specs.declared.command_lines.Invocation.TheVariants.{Asm, Compile, Debug, Dis, Picture, Renew, Replay, Run}
+use Rattle.command_line.specs.declared.command_lines.Invocation.TheVariants.{Asm, Compile, Debug, Dis, Picture, Renew, Replay, Resume, Run}
 use Rattle.command_line.specs.declared.faults.CommandLineFault.{CommandLineFault}
 use Rattle.command_line.specs.declared.faults.CommandLineFault.TheVariants.{Refused, Memory}
 
@@ -28,6 +28,7 @@ pub data Asked : Type 0 where
   Draws : (algorithm : List ℕ) → (inputs : List (List ℕ)) → Asked
   Compiles : (algorithm schedule image : List ℕ) → (inputs : List (List ℕ)) → Asked
   Runs : (image log : List ℕ) → (harts turns : ℕ) → Asked
+  Resumes : (image log old : List ℕ) → (turns : ℕ) → Asked
 
 abbrev pub asked_by : Invocation → Asked
 asked_by (Replay image log) = Replays image.now log.now
@@ -38,6 +39,7 @@ asked_by (Renew old new) = Renews old.now new.now
 asked_by (Picture algorithm inputs) = Draws algorithm.now (texts inputs.items)
 asked_by (Compile algorithm schedule image inputs) = Compiles algorithm.now schedule.now image.now (texts inputs.items)
 asked_by (Run image log harts turns) = Runs image.now log.now harts turns
+asked_by (Resume image log old turns) = Resumes image.now log.now old.now turns
 
 -- how many harts a run may have, and how many turns each
 abbrev pub most_harts : ℕ
@@ -55,6 +57,7 @@ pub record AreWithinLimits (harts turns : ℕ) : Type 0 where
 
 abbrev pub IsWithinLimits : Asked → Type 0
 IsWithinLimits (Runs image log harts turns) = AreWithinLimits harts turns
+IsWithinLimits (Resumes image log old turns) = (1 ≤ turns) × (turns ≤ 2 ^ 40)
 IsWithinLimits _ = Unit {0}
 
 -- ---- the program's command
@@ -70,6 +73,10 @@ rest_rule id = record (new_rule id) { range = Some (record { start_inclusive = 0
 -- an option that takes a number from 1 on
 abbrev pub number_rule : Text → ℕ → Rule
 number_rule name most = record (new_rule name) { long = Some name; value_names = 1; parser = Some (Unsigned 1 most) }
+
+-- an option that takes a word
+abbrev pub word_rule : Text → Rule
+word_rule name = record (new_rule name) { long = Some name; value_names = 1 }
 
 -- `replay IMAGE LOG`
 abbrev pub replay_app : App
@@ -114,8 +121,12 @@ abbrev pub run_files_app : App
 run_files_app = with_rule (with_rule (new_app (codes "run")) (required_rule (codes "IMAGE"))) (required_rule (codes "LOG"))
 
 -- `run IMAGE LOG --harts N --turns L`
+abbrev pub run_numbers_app : App
+run_numbers_app = with_rule (with_rule run_files_app (number_rule (codes "harts") most_harts)) (number_rule (codes "turns") most_turns)
+
+-- `run IMAGE LOG --harts N --turns L --from OLD`
 abbrev pub run_app : App
-run_app = with_rule (with_rule run_files_app (number_rule (codes "harts") most_harts)) (number_rule (codes "turns") most_turns)
+run_app = with_rule run_numbers_app (word_rule (codes "from"))
 
 -- the words are all arguments, and one of the subcommands has to be there
 abbrev pub bare_app : App
@@ -180,8 +191,13 @@ number_or none most None = Some none
 number_or none most (Some text) =
     if accepts false (Unsigned 1 most) text then Some (digits_value 10 (without_leading_plus text)) else None
 
+-- a run that goes on from a log has as many harts as the log has, whatever number is asked for
+abbrev pub run_from : Option Text → Text → Text → ℕ → ℕ → Asked
+run_from None image log harts turns = Runs image log harts turns
+run_from (Some old) image log harts turns = Resumes image log old turns
+
 abbrev pub run_of : List Row → Option Asked
-run_of given = option_and_then (λ image. option_and_then (λ log. option_and_then (λ harts. option_map (λ turns. Runs image log harts turns)
+run_of given = option_and_then (λ image. option_and_then (λ log. option_and_then (λ harts. option_map (λ turns. run_from (first_of (codes "from") given) image log harts turns)
     (number_or most_turns most_turns (one_of (codes "turns") given)))
     (number_or 1 most_harts (one_of (codes "harts") given)))
     (first_of (codes "LOG") given)) (first_of (codes "IMAGE") given)
@@ -235,3 +251,4 @@ IsSpelled words (Draws algorithm inputs) = unmarked words ≡ codes "picture" �
 IsSpelled words (Compiles algorithm schedule image inputs) = unmarked words ≡ codes "compile" ∷ algorithm ∷ schedule ∷ image ∷ inputs
 -- options may stand anywhere: what they are, `named` alone says
 IsSpelled words (Runs image log harts turns) = (rest : List Text) × (words ≡ codes "run" ∷ rest)
+IsSpelled words (Resumes image log old turns) = (rest : List Text) × (words ≡ codes "run" ∷ rest)

@@ -4,8 +4,8 @@ ghost use Rattle.std.specs.List.{AllByRecursion};
 ghost use Rattle.clap.specs.Lexer.{usize_max};
 ghost use Rattle.clap.specs.Words.{all_of, found_of, rows_of, rule_of, one_of};
 ghost use Rattle.clap.specs.Walk.{texts};
-ghost use Rattle.command_line.specs.CommandLine.{Asked, Assembles, Compiles, Debugs, Draws, IsPlainWord, IsRefusal, IsSpelled, IsWithinLimits, Lists, Makes, Renews, Replays, Runs};
-ghost use Rattle.command_line.specs.CommandLine.{algorithm_app, asked_by, asked_of, asm_app, asm_of, compile_app, compile_of, compile_texts_app, debug_app, debug_of, dis_app, dis_of, hrv_app, log_app, most_harts, most_turns, named, number_or, number_rule, picture_app, picture_of, renew_app, renew_of, replay_app, replay_of, rest_rule, run_app, run_files_app, run_of, text_app};
+ghost use Rattle.command_line.specs.CommandLine.{Asked, Assembles, Compiles, Debugs, Draws, IsPlainWord, IsRefusal, IsSpelled, IsWithinLimits, Lists, Makes, Renews, Replays, Resumes, Runs};
+ghost use Rattle.command_line.specs.CommandLine.{algorithm_app, asked_by, asked_of, asm_app, asm_of, compile_app, compile_of, compile_texts_app, debug_app, debug_of, dis_app, dis_of, hrv_app, log_app, most_harts, most_turns, named, number_or, number_rule, picture_app, picture_of, renew_app, renew_of, replay_app, replay_of, rest_rule, run_app, run_files_app, run_numbers_app, run_of, text_app, word_rule};
 
 use crate::faults::CommandLineFault;
 use clap::{Arg, ArgMatches, Command};
@@ -55,6 +55,13 @@ pub enum Invocation<'a> {
         image: &'a str,
         log: &'a str,
         harts: u64,
+        turns: u64,
+    },
+    /// `run IMAGE LOG --turns L --from OLD`
+    Resume {
+        image: &'a str,
+        log: &'a str,
+        old: &'a str,
         turns: u64,
     },
 }
@@ -175,7 +182,8 @@ fn compile_asked<'a>(alloc: Global, given: &ArgMatches<'a>) -> Result<Invocation
     })
 }
 
-// What the arguments of `run` ask for: one hart, and all turns that a log may have, where no option says another number.
+// What the arguments of `run` ask for: one hart, and all turns that a log may have, where no option says another number; with a log that it
+// goes on from, as many harts as that one has.
 fn run_asked<'a>(given: &ArgMatches<'a>) -> Invocation<'a>
     requires { IsSome (run_of (rows_of (found_of given.now))) }
     ensures { run_of (rows_of (found_of given.now)) ≡ Some (asked_by result) }
@@ -184,11 +192,19 @@ fn run_asked<'a>(given: &ArgMatches<'a>) -> Invocation<'a>
     let log = given.get_str("LOG").unwrap();
     let harts = number_asked(given, "harts", 1);
     let turns = number_asked(given, "turns", MOST_TURNS);
-    Invocation::Run {
-        image,
-        log,
-        harts,
-        turns,
+    match given.get_str("from") {
+        None => Invocation::Run {
+            image,
+            log,
+            harts,
+            turns,
+        },
+        Some(old) => Invocation::Resume {
+            image,
+            log,
+            old,
+            turns,
+        },
     }
 }
 
@@ -270,7 +286,7 @@ pub fn compile_is_named()
 {}
 
 /// Which words name a run: `run` and two names, after `--` where one begins with `-`; with options behind them, whose texts are
-/// numbers within the limits.
+/// numbers within the limits; or with the log that it goes on from.
 pub fn run_is_named()
     ensures plain { (image log : List ℕ) → IsPlainWord image → IsPlainWord log
         → named (codes "run" ∷ image ∷ log ∷ []) ≡ Some (Runs image log 1 most_turns) }
@@ -279,6 +295,8 @@ pub fn run_is_named()
     ensures options { (image log harts turns : List ℕ) (h t : ℕ) → IsPlainWord image → IsPlainWord log
         → number_or 1 most_harts (Some harts) ≡ Some h → number_or 1 most_turns (Some turns) ≡ Some t
         → named (codes "run" ∷ image ∷ log ∷ codes "--harts" ∷ harts ∷ codes "--turns" ∷ turns ∷ []) ≡ Some (Runs image log h t) }
+    ensures resumed { (image log old : List ℕ) → IsPlainWord image → IsPlainWord log → IsPlainWord old
+        → named (codes "run" ∷ image ∷ log ∷ codes "--from" ∷ old ∷ []) ≡ Some (Resumes image log old most_turns) }
 {}
 
 // The program's command.
@@ -398,9 +416,16 @@ fn compile_texts_command<'a>(alloc: Global) -> Result<Command<'a>, AllocError>
         .arg(Arg::new(alloc, "SCHEDULE").required(true))
 }
 
-// `run IMAGE LOG --harts N --turns L`
+// `run IMAGE LOG --harts N --turns L --from OLD`
 fn run_command<'a>(alloc: Global) -> Result<Command<'a>, AllocError>
     ensures { IfOk result (Makes run_app) }
+{
+    run_numbers_command(alloc)?.arg(from_arg(alloc))
+}
+
+// `run IMAGE LOG --harts N --turns L`
+fn run_numbers_command<'a>(alloc: Global) -> Result<Command<'a>, AllocError>
+    ensures { IfOk result (Makes run_numbers_app) }
 {
     run_files_command(alloc)?
         .arg(harts_arg(alloc))?
@@ -441,6 +466,16 @@ fn turns_arg<'a>(alloc: Global) -> Arg<'a>
             "How many turns each hart makes at most, 1 to 1099511627776: that many where it isn't given",
         )
         .value_parser(clap::value_parser!(u64).range(1..=1_099_511_627_776))
+}
+
+// The log that the run goes on from.
+fn from_arg<'a>(alloc: Global) -> Arg<'a>
+    ensures rule { rule_of result ≡ word_rule (codes "from") }
+    ensures local { result.global ≡ false }
+{
+    Arg::new(alloc, "from").long("from").value_name("OLD").help(
+        "The log that the run goes on from, with as many harts as that log has",
+    )
 }
 
 // An argument that takes the words left over.

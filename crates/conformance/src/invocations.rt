@@ -60,6 +60,15 @@ fn push_asked(invocation: &Invocation, out: &mut String) -> Result<(), AllocErro
             out,
             "run of {image} to {log} by {harts} harts of {turns} turns"
         ),
+        Invocation::Resume {
+            image,
+            log,
+            old,
+            turns,
+        } => writeln!(
+            out,
+            "run of {image} from {old} to {log} of {turns} turns"
+        ),
     }
 }
 

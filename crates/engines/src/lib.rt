@@ -4,7 +4,8 @@
 //! - [`dis`]: the words of an image become lines; [`dis_bytes`], over `specs/Dis.antt`.
 //! - [`renew`]: an image is stored in the second format; [`renew_bytes`], over `specs/Renew.antt`.
 //! - [`replay`]: an image and a log of turns become a dump; [`replay_bytes`], over `specs/Replay.antt` and `Dump.antt`.
-//! - [`run`]: an image becomes a log of turns that threads made, and a dump; [`run_bytes`], over `specs/Run.antt`.
+//! - [`run`]: an image becomes a log of turns that threads made, and a dump; [`run_bytes`], and [`resume_bytes`] where a log goes on, over
+//!   `specs/Run.antt`.
 //! - [`debug`]: an image, a log of turns and lines of commands become a talk; [`debug_bytes`], over `specs/Debug.antt` and `Talk.antt`.
 //! - [`drawing`]: an algorithm and input pictures become the reference picture; [`picture_bytes`], over `specs/Drawing.antt`.
 //! - [`compiling`]: an algorithm, a schedule and input pictures become an image; [`compile_bytes`], over `specs/Compile.antt`.
@@ -40,4 +41,4 @@ pub use crate::drawing::picture_bytes;
 pub use crate::faults::{Fault, Refusal};
 pub use crate::renew::renew_bytes;
 pub use crate::replay::replay_bytes;
-pub use crate::run::run_bytes;
+pub use crate::run::{resume_bytes, run_bytes};

@@ -14,7 +14,7 @@ use Rattle.engines.specs.Engine.{Performs}
 use Rattle.engines.specs.Renew.{IsRenewal}
 use Rattle.engines.specs.Replay.{IsRefusedReplay, IsReplay}
 use Rattle.engines.specs.Run as run
-use Rattle.command_line.specs.CommandLine.{Asked, Replays, Debugs, Assembles, Lists, Renews, Draws, Compiles, Runs}
+use Rattle.command_line.specs.CommandLine.{Asked, Replays, Debugs, Assembles, Lists, Renews, Draws, Compiles, Runs, Resumes}
 
 -- a fact of some device at this place, by its state before and after
 abbrev pub At : {S : Type 0} → (S → List ℕ) → List ℕ → (S → S → Type 0) → Type 0
@@ -71,5 +71,10 @@ module _ {R W T P : Type 0}
       (sink_of written_at write_failed stored o p) result)))))
   Does alloc (Runs image log harts turns) result =
       At read_at image (λ s t. At written_at log (λ u v. At printed_at dash (λ o p.
-      run.Runs harts turns (bytes_of read_at read_failed gave ended s t) (sink_of written_at write_failed stored u v)
+      run.Runs (run.IsRun harts turns) IsRefusedImage (bytes_of read_at read_failed gave ended s t) (sink_of written_at write_failed stored u v)
       (sink_of printed_at print_failed printed o p) result)))
+  Does alloc (Resumes image log old turns) result =
+      At read_at image (λ s t. At read_at old (λ x y. At written_at log (λ u v. At printed_at dash (λ o p.
+      run.Runs (run.IsResumedRun turns) IsRefusedReplay
+      (both (bytes_of read_at read_failed gave ended s t) (bytes_of read_at read_failed gave ended x y)) (sink_of written_at write_failed stored u v)
+      (sink_of printed_at print_failed printed o p) result))))

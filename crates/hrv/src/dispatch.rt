@@ -3,13 +3,13 @@
 ghost use Rattle.std.specs.Prelude.{◌≡◌, codes, map, IfOk};
 ghost use Rattle.std.specs.List.{All};
 ghost use Rattle.clap.specs.Walk.{texts};
-ghost use Rattle.command_line.specs.CommandLine.{AreWithinLimits, Assembles, Compiles, Debugs, Draws, IsWithinLimits, Lists, Renews, Replays, Runs, asked_by};
+ghost use Rattle.command_line.specs.CommandLine.{AreWithinLimits, Assembles, Compiles, Debugs, Draws, IsWithinLimits, Lists, Renews, Replays, Resumes, Runs, asked_by};
 ghost use Rattle.hrv.specs.Dispatch.{Does};
 
 use command_line::Invocation;
 use engines::{
     Fault, Sink, Source, asm_bytes, compile_bytes, debug_bytes, dis_bytes, picture_bytes,
-    renew_bytes, replay_bytes, run_bytes,
+    renew_bytes, replay_bytes, resume_bytes, run_bytes,
 };
 use std::alloc::{AllocError, Global};
 use std::sync::Wait;
@@ -81,6 +81,12 @@ pub fn obey<'a, R: Threads + Wait + Sync, D: Devices<'a>>(
             harts,
             turns,
         } => run(threads, alloc, devices, image, log, harts, turns),
+        Invocation::Resume {
+            image,
+            log,
+            old,
+            turns,
+        } => resume(threads, alloc, devices, image, log, old, turns),
     }
 }
 
@@ -241,6 +247,35 @@ fn run<'a, R: Threads + Wait + Sync, D: Devices<'a>>(
         &mut devices.written(log),
         &mut devices.printed(),
         harts as usize,
+        turns,
+    )
+}
+
+/// `run IMAGE LOG --turns L --from OLD`
+fn resume<'a, R: Threads + Wait + Sync, D: Devices<'a>>(
+    threads: &R,
+    alloc: Global,
+    devices: &D,
+    image: &'a str,
+    log: &'a str,
+    old: &'a str,
+    turns: u64,
+) -> Result<(), Fault>
+    ensures { Does D.Read.place D.Read.failed D.Read.gave D.Read.ended
+        D.Written.place D.Written.failed D.Written.took
+        D.Typed.place D.Typed.failed D.Typed.gave D.Typed.ended
+        D.Printed.place D.Printed.failed D.Printed.took alloc (Resumes image.entry.now log.entry.now old.entry.now turns) result }
+{
+    let mut image = devices.read(image);
+    let mut old = devices.read(old);
+    let mut log = devices.written(log);
+    resume_bytes(
+        threads,
+        alloc,
+        &mut image,
+        &mut old,
+        &mut log,
+        &mut devices.printed(),
         turns,
     )
 }
