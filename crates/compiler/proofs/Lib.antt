@@ -4,7 +4,6 @@ pub mod Low
 pub mod Nonempty
 pub mod OutputBox
 pub mod Outputs
-pub mod Refusals
 pub mod Rooms
 pub mod Asked
 pub mod Control

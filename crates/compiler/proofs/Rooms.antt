@@ -1,5 +1,5 @@
 -- Phases that are lowered have registers, where no expression needs more than code is made for.
-use Rattle.std.proofs.Common.{◌≡◌, ℕ, ◌≤◌, Bool, true, false, List, [], ◌∷◌, map, Some, None, refl, sym, ap, subst, arith, inl, inr}
+use Rattle.std.proofs.Common.{◌≡◌, ℕ, ◌+◌, ◌*◌, ◌≤◌, Bool, true, false, List, [], ◌∷◌, map, Some, None, refl, sym, ap, subst, arith, inl, inr}
 use Rattle.std.specs.Prelude.{◌||◌, nat_lt, if◌then◌else◌, Ok}
 use Rattle.std.specs.List.{AllByRecursion}
 use Rattle.std.proofs.lemmas.Bool.{leb-true, ltb-false}
@@ -14,7 +14,12 @@ use Rattle.loop_ir.specs.declared.statements.Phase.{Phase}
 use Rattle.lowering.specs.Registers.{TakeFew, most_need}
 use Rattle.phase_memory.specs.Places.{places_of}
 use Rattle.task_code.specs.Faults.{HasRoom, LieLow}
-use Rattle.program_code.specs.Programs.{HasFewTasks, HasRegisters}
+use Rattle.lowering.specs.Sizes.{words_of}
+use Rattle.memory.specs.Addresses.{most_words}
+use Rattle.task_code.specs.declared.places.Places.{Places}
+use Rattle.program_code.specs.Programs.{HasFewTasks, HasRegisters, IsTooLong, words_asked}
+use Rattle.program_code.proofs.Lengths.{programs-are-short}
+use Rattle.weights.specs.Weight.{most_weight, weight}
 use Rattle.compiler.proofs.Low.{layout_is, own_few}
 
 frames_at : (count : ℕ) (inputs roots privates : List ℕ) (framed : Bool) → (laid_in count inputs roots privates framed).size ≤ 33554432 → (laid_in count inputs roots privates framed).frames ≤ 4294901760
@@ -66,3 +71,16 @@ module _ (pipeline : Pipeline) (schedule : Schedule) (boxes : Boxes) (is : infer
 pub have_few_tasks : (pipeline : Pipeline) (schedule : Schedule) (phases : List Phase) → TakeFew pipeline schedule phases → AllByRecursion HasFewTasks phases
 have_few_tasks pipeline schedule [] take = tt
 have_few_tasks pipeline schedule (phase ∷ phases) take = (take.0.1.1, have_few_tasks pipeline schedule phases take.1)
+
+-- ---- words
+
+asked : (phases : List Phase) → words_asked phases ≡ words_of phases
+asked [] = refl
+asked (phase ∷ phases) = omega (arith, asked phases)
+
+-- 64 words for each unit that may be weighed are as many as a text may have
+pub ask_for_few : (pipeline : Pipeline) (schedule : Schedule) → weight pipeline schedule ≤ most_weight → (phases : List Phase) → words_of phases ≤ 64 * weight pipeline schedule → words_asked phases ≤ most_words
+ask_for_few pipeline schedule light phases few = let e = asked phases in omega (arith, light, few, e)
+
+pub not_long : (places : Places) (phases : List Phase) → AllByRecursion HasFewTasks phases → words_asked phases ≤ most_words → IsTooLong places 0 phases → ⊥
+not_long places phases tasks few long = let l = long tasks in let s = programs-are-short places 0 phases in omega (arith, l, s, few)

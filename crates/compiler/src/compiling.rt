@@ -1,14 +1,14 @@
 //! From two texts to a program.
 
-ghost use Rattle.std.specs.Prelude.{◌≡◌, ◌<◌, ◌⊎◌, IfErr, IfOk, None, Ok, false, length};
+ghost use Rattle.std.specs.Prelude.{◌≡◌, ◌≤◌, IfErr, IfOk, None, Ok, false};
 ghost use Rattle.std.specs.List.{AllByRecursion};
 ghost use Rattle.schedule.specs.Accepted.{IsAccepted};
 ghost use Rattle.weights.specs.Need.{is_too_deep, needs as needed};
-ghost use Rattle.weights.specs.Weight.{weight};
+ghost use Rattle.weights.specs.Weight.{most_weight, weight};
 ghost use Rattle.bounds.specs.Verdict.{inferred};
 ghost use Rattle.memory.specs.Addresses.{most_words};
 ghost use Rattle.task_code.specs.Faults.{LieLow};
-ghost use Rattle.program_code.specs.Programs.{HasFewTasks, HasRegisters, IsProgram};
+ghost use Rattle.program_code.specs.Programs.{HasFewTasks, HasRegisters, IsProgram, words_asked};
 ghost use Rattle.compiler.specs.declared.faults.CompileFault.TheVariants as faults;
 ghost use Rattle.compiler.specs.Compiled.{AreWordsOf, IsCompiled, Means};
 ghost use Rattle.compiler.specs.Verdict as spec;
@@ -33,6 +33,7 @@ fn judged(alloc: Global, pipeline: &Pipeline, schedule: &Schedule) -> Result<Box
     requires { IsAccepted pipeline.now schedule.now }
     ensures ok { IfOk result (λ boxes. inferred pipeline.now schedule.now ≡ Ok boxes) }
     ensures passed { IfOk result (λ boxes. spec.by_weight pipeline.now schedule.now (weight pipeline.now schedule.now) ≡ None) }
+    ensures light { IfOk result (λ boxes. weight pipeline.now schedule.now ≤ most_weight) }
     ensures shallow { IfOk result (λ boxes. is_too_deep (needed pipeline.now schedule.now) ≡ false) }
     ensures err { IfErr result (spec.IsFirst (spec.by_weight pipeline.now schedule.now (weight pipeline.now schedule.now))) }
 {
@@ -44,18 +45,20 @@ fn judged(alloc: Global, pipeline: &Pipeline, schedule: &Schedule) -> Result<Box
     Ok(boxes)
 }
 
-/// The words of phases that there are registers for.
+/// The words of phases that there are registers for, and that ask for no more words than a text may have.
+#[tactic(auto, using(crate::proofs::Rooms::not_long))]
 fn generated(alloc: Global, phases: &[Phase], places: &Places) -> Result<Vec<u32>, CompileFault>
     requires low { LieLow places.now.frames }
     requires registers { AllByRecursion (HasRegisters places.now) phases.now }
     requires tasks { AllByRecursion HasFewTasks phases.now }
+    requires short { words_asked phases.now ≤ most_words }
     ensures ok { IfOk result (λ words. IsProgram places.now phases.now words.items) }
-    ensures err { IfErr result (λ fault. (fault ≡ faults.Memory) ⊎ ((fault ≡ faults.TooLong) × (most_words < length (spec.program_of places.now phases.now)))) }
+    ensures err { IfErr result (λ fault. fault ≡ faults.Memory) }
 {
     match generate(alloc, phases, places) {
         Ok(words) => Ok(words),
         Err(CodeFault::OutOfMemory(_)) => Err(CompileFault::Memory),
-        Err(CodeFault::TooLong) => Err(CompileFault::TooLong),
+        Err(CodeFault::TooLong) => unreachable!(),
         Err(CodeFault::TooDeep) => unreachable!(),
     }
 }
@@ -69,9 +72,10 @@ fn words_of(
 ) -> Result<Vec<u32>, CompileFault>
     requires accepted { IsAccepted pipeline.now schedule.now }
     requires boxes { inferred pipeline.now schedule.now ≡ Ok boxes.now }
+    requires light { weight pipeline.now schedule.now ≤ most_weight }
     requires shallow { is_too_deep (needed pipeline.now schedule.now) ≡ false }
     ensures ok { IfOk result (λ words. AreWordsOf pipeline.now schedule.now boxes.now words.items) }
-    ensures err { IfErr result (spec.IsLongOrMemory pipeline.now schedule.now) }
+    ensures err { IfErr result (λ fault. fault ≡ faults.Memory) }
 {
     let phases = lower(alloc, pipeline, schedule, boxes)?;
     let places = places(alloc, pipeline, schedule, boxes)?;
@@ -80,13 +84,12 @@ fn words_of(
 }
 
 /// The program of a pipeline under a schedule, or the first fault that stands.
-#[tactic(auto, using(crate::proofs::Refusals::long_refused))]
 fn built(alloc: Global, pipeline: Pipeline, schedule: Schedule) -> Result<Compiled, CompileFault>
     requires { IsAccepted pipeline schedule }
     ensures pipeline { IfOk result (λ own. own.pipeline ≡ pipeline) }
     ensures schedule { IfOk result (λ own. own.schedule ≡ schedule) }
     ensures passed { IfOk result (λ own. spec.by_weight pipeline schedule (weight pipeline schedule) ≡ None) }
-    ensures err { IfErr result (spec.IsRefusal pipeline schedule (spec.by_weight pipeline schedule (weight pipeline schedule))) }
+    ensures err { IfErr result (spec.IsFirst (spec.by_weight pipeline schedule (weight pipeline schedule))) }
 {
     let boxes = judged(alloc, &pipeline, &schedule)?;
     let words = words_of(alloc, &pipeline, &schedule, &boxes)?;
@@ -104,13 +107,13 @@ fn built(alloc: Global, pipeline: Pipeline, schedule: Schedule) -> Result<Compil
 /// # Errors
 ///
 /// In this order: the algorithm's text, the schedule's, its weight, its boxes, an expression that needs more than 64
-/// registers. Memory ran out; or the code is longer than a machine's text.
+/// registers; or memory ran out.
 #[tactic(auto, unfolding(crate::specs::Verdict::refusal_of))]
 pub fn compile(algorithm: &str, schedule: &str, alloc: Global) -> Result<Compiled, CompileFault>
     ensures means { IfOk result (Means alloc algorithm.now schedule.now) }
     ensures passed { IfOk result (λ compiled. spec.refusal_of alloc algorithm.now schedule.now ≡ None) }
     ensures rules { IfOk result IsCompiled }
-    ensures err { IfErr result (spec.IsRefusalOf alloc algorithm.now schedule.now) }
+    ensures err { IfErr result (spec.IsFirst (spec.refusal_of alloc algorithm.now schedule.now)) }
 {
     let pipeline = parse(algorithm, alloc)?;
     let schedule = read(schedule, &pipeline, alloc)?;

@@ -30,9 +30,6 @@ pub enum CompileFault {
     /// An expression needs more than 64 registers.
     #[error("code 1")]
     TooDeep,
-    /// The code is more than a machine's text may have.
-    #[error("code 2")]
-    TooLong,
     /// Memory ran out.
     #[error("memory")]
     Memory,

@@ -12,7 +12,7 @@ use Rattle.loader.specs.declared.formats.Format.TheVariants.{Hrv2}
 use Rattle.compiler.specs.declared.faults.CompileFault.{CompileFault}
 use Rattle.compiler.specs.Compiled.{CompiledContents, IsCompiled, Means}
 use Rattle.compiler.specs.Images.{image_of}
-use Rattle.compiler.specs.Verdict.{IsLongOf, refusal_of}
+use Rattle.compiler.specs.Verdict.{refusal_of}
 use Rattle.engines.specs.declared.faults.Refusal.{Refusal}
 use Rattle.engines.specs.declared.faults.Refusal.TheVariants.{Compile}
 use Rattle.engines.specs.Drawing.{pictures_of, with_pictures}
@@ -42,9 +42,9 @@ pub record IsCompilation (alloc : Global) (texts : Texts) (bytes : List ℕ) : T
 
 -- ---- what is refused
 
--- The fault of an algorithm and a schedule is the first that stands; or where none does, the phases that they mean are too long.
+-- The fault of an algorithm and a schedule is the first that stands.
 abbrev pub IsFault : Global → Texts → CompileFault → Type 0
-IsFault alloc texts fault = (first_fault alloc texts ≡ Some fault) ⊎ ((first_fault alloc texts ≡ None) × IsLongOf alloc texts.0.0 texts.0.1 fault)
+IsFault alloc texts fault = first_fault alloc texts ≡ Some fault
 
 -- No fault stands in an algorithm and a schedule, and the inputs are refused: one is no picture, or they aren't what is asked for.
 pub record RefusesInputs (alloc : Global) (texts : Texts) (refusal : Refusal) : Type 0 where

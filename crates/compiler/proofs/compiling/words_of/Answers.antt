@@ -1,10 +1,11 @@
-use Rattle.std.proofs.Common.{List, subst, sym}
+use Rattle.std.proofs.Common.{◌≤◌, List, subst, sym}
 use Rattle.std.specs.List.{AllByRecursion}
 use Rattle.loop_ir.specs.declared.statements.Phase.{Phase}
 use Rattle.task_code.specs.declared.places.Places.{Places}
 use Rattle.task_code.specs.Faults.{LieLow}
-use Rattle.program_code.specs.Programs.{HasFewTasks, HasRegisters}
-use Rattle.compiler.proofs.Rooms.{lie_low, have_few_tasks, have_registers}
+use Rattle.memory.specs.Addresses.{most_words}
+use Rattle.program_code.specs.Programs.{HasFewTasks, HasRegisters, words_asked}
+use Rattle.compiler.proofs.Rooms.{ask_for_few, lie_low, have_few_tasks, have_registers}
 use Rattle.compiler.proofs.compiling.words_of.Goals as goal
 
 pub generated-requires-clause-low : goal.generated-requires-clause-low
@@ -21,3 +22,8 @@ pub generated-requires-clause-tasks : goal.generated-requires-clause-tasks
 generated-requires-clause-tasks c =
     subst (λ (l : List Phase). AllByRecursion HasFewTasks l) (sym c.as_slice.ensures.value)
     (have_few_tasks c.args.pipeline.now c.args.schedule.now c.in_ok-phases.phases.items c.in_ok-phases.ensures.few)
+
+pub generated-requires-clause-short : goal.generated-requires-clause-short
+generated-requires-clause-short c =
+    subst (λ (l : List Phase). words_asked l ≤ most_words) (sym c.as_slice.ensures.value)
+    (ask_for_few c.args.pipeline.now c.args.schedule.now c.requires.light c.in_ok-phases.phases.items c.in_ok-phases.ensures.light)
