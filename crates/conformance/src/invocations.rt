@@ -65,10 +65,7 @@ fn push_asked(invocation: &Invocation, out: &mut String) -> Result<(), AllocErro
             log,
             old,
             turns,
-        } => writeln!(
-            out,
-            "run of {image} from {old} to {log} of {turns} turns"
-        ),
+        } => writeln!(out, "run of {image} from {old} to {log} of {turns} turns"),
     }
 }
 
