@@ -1,8 +1,8 @@
 -- Vectorized loops whose rounds may be done at once.
 --
 -- Vector code loads for all rounds of a loop before it stores for any. What it asks for is that each round stores once at most, and that no
--- round loads a point at which an earlier round of the same run of the loop stores. That rounds at once then leave what rounds in turn do is not
--- a law yet.
+-- round loads a point at which an earlier round of the same run of the loop stores. Such rounds leave at once what they leave in turn
+-- (`AtOnce.antt`).
 -- This project's own.
 use Rattle.std.specs.Prelude.{◌≡◌, ℕ, ◌==◌, ◌&&◌, ◌||◌, nat_lt, not, if◌then◌else◌, Bool, true, false}
 use Rattle.halide_pipeline.specs.declared.expressions.Source.{Source}
@@ -90,7 +90,8 @@ rounds_at reads own = record {
 unfoldable pub rounds : Reads → Stmt → Rounds
 rounds reads statement = fold-Stmt Rounds (rounds_at reads) statement
 
--- The rounds of its vectorized loops may be done at once: each of them is a loop of 4, 8 or 16 rounds.
+-- The rounds of its vectorized loops may be done at once: each is a loop of 4, 8 or 16 rounds of one store at most, of which none loads a point
+-- at which an earlier one stores.
 abbrev pub may_be_at_once : Reads → Stmt → Values → Bool
 may_be_at_once reads statement values = (rounds reads statement).may_be_at_once values
 

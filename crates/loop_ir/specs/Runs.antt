@@ -1,7 +1,7 @@
 -- Where a Func's points are stored by runs of its vectorized loops: all rounds of such a loop, while all other loops stay.
 --
--- A statement stores in runs if it stores in the Func's buffer in vectorized loops of the Func alone, and each run of one stores at exactly the
--- points that are expected of it.
+-- A statement stores in runs if it stores in the Func's buffer in vectorized loops of the Func alone, and a run of one stores at the point exactly
+-- if that is expected of it: for all points, at exactly those. That each round stores once at most is said of rounds (`Rounds.antt`).
 -- This project's own.
 use Rattle.std.specs.Prelude.{◌≡◌, ◌≢◌, ℕ, ◌==◌, ◌&&◌, not, nat_lt, if◌then◌else◌, Bool, true}
 use Rattle.halide_pipeline.specs.declared.expressions.Source.TheVariants as sources

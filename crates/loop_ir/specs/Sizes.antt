@@ -1,5 +1,5 @@
--- How many words of code a statement may ask for, in one copy of each loop's body: a bound for whoever makes code of it, wherever the values
--- of its expressions stand. This project's own.
+-- How many words of code without vectors a statement may ask for, in one copy of each loop's body: a bound for whoever makes such code of it,
+-- wherever the values of its expressions stand. This project's own.
 use Rattle.std.specs.Prelude.{ℕ, ◌+◌, ◌*◌, Bool, true, false, if◌then◌else◌, length}
 use Rattle.loop_ir.specs.declared.expressions.Expr.{Expr, fold-Expr}
 use Rattle.loop_ir.specs.declared.expressions.Expr.TheOpen.{Expr-F}

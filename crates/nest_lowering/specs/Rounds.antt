@@ -1,6 +1,6 @@
 -- When the rounds of vectorized loops around a body may be done at once.
 --
--- A loop is vectorized where the schedule marks it so; it is the innermost one of its stage then.
+-- Where the schedule marks a loop so, the loop is the innermost one of its stage.
 -- This project's own.
 use Rattle.std.specs.Prelude.{◌≡◌, ◌<◌, ◌^◌, ◌++◌, ℕ, Bool, true, false, List, [], ◌∷◌}
 use Rattle.std.specs.List.{AllByRecursion}
