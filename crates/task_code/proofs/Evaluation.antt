@@ -40,7 +40,7 @@ word-below n t = grind (arith, nat_tests)
 some-below : (n : ℕ) → nat_lt 0 n ≡ true → 0 < n
 some-below n t = grind (arith, nat_tests)
 
-chosen-below : (t : Bool) (a b n : ℕ) → a < n → b < n → (if t then a else b) < n
+pub chosen-below : (t : Bool) (a b n : ℕ) → a < n → b < n → (if t then a else b) < n
 chosen-below true a b n la lb = la
 chosen-below false a b n la lb = lb
 
@@ -51,7 +51,7 @@ truth-below false = omega arith
 modulus-below : (a : ℕ) → a % 2 ^ 32 < 2 ^ 32
 modulus-below a = omega arith
 
-applied-below : (o : Operation) (x y : ℕ) → x < 2 ^ 32 → y < 2 ^ 32 → word.applied o x y < 2 ^ 32
+pub applied-below : (o : Operation) (x y : ℕ) → x < 2 ^ 32 → y < 2 ^ 32 → word.applied o x y < 2 ^ 32
 unfolding word.add word.subtract word.multiply
 applied-below op.Add x y lx ly = modulus-below (x + y)
 applied-below op.Subtract x y lx ly = modulus-below _
@@ -249,13 +249,13 @@ module _ (w : World) (harts : ℕ) (m : List ℕ) (places : Places) (scope : Lis
         };
   }
 
-  divide-below : (x c : ℕ) → x < 2 ^ 32 → 0 < c → word.divide x c < 2 ^ 32
+  pub divide-below : (x c : ℕ) → x < 2 ^ 32 → 0 < c → word.divide x c < 2 ^ 32
   unfolding word.divide
   divide-below x c lx lc =
       let a = div-le_self x c in
       chosen-below (c == 0) 0 _ (2 ^ 32) (omega arith) (chosen-below (nat_lt x (2 ^ 31)) (x / c) _ (2 ^ 32) (omega (arith, a, lx)) (omega arith))
 
-  remainder-below : (x c : ℕ) → 0 < c → c < 2 ^ 32 → word.remainder x c < 2 ^ 32
+  pub remainder-below : (x c : ℕ) → 0 < c → c < 2 ^ 32 → word.remainder x c < 2 ^ 32
   unfolding word.remainder
   remainder-below x c lc hc =
       let a : x % c < c = mod-lt x lc in

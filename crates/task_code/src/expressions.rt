@@ -53,7 +53,7 @@ pub(crate) fn seat_in(scope: &[Counter], counter: Counter) -> u8
 }
 
 /// Appends what leaves a number in a register.
-pub(crate) fn emit_number(code: &mut Vec<u32>, r: u8, number: u32) -> Result<(), AllocError>
+pub fn emit_number(code: &mut Vec<u32>, r: u8, number: u32) -> Result<(), AllocError>
     requires { r < 32 }
     ensures { OnOk result (Emits code.old.items code.new.items (spec.literal r number) × (number < 2 ^ 32)) }
 {
@@ -94,7 +94,7 @@ fn emit_terms(
 }
 
 /// Appends what leaves the value of a linear expression.
-fn emit_linear(
+pub fn emit_linear(
     code: &mut Vec<u32>,
     scope: &[Counter],
     own: &Linear,
@@ -123,7 +123,7 @@ fn place_in(places: &[Place], number: usize) -> Place
 }
 
 /// Where a source's buffer lies.
-pub(crate) fn place_of(places: &Places, source: Source) -> Place
+pub fn place_of(places: &Places, source: Source) -> Place
     ensures { result ≡ spec.place_of places.now source }
 {
     match source {
@@ -180,7 +180,7 @@ fn emit_divisor(code: &mut Vec<u32>, divisor: u32, r: u8) -> Result<u8, CodeFaul
 
 /// Appends what leaves the value of an expression in a register, with the stack above it free.
 #[tactic(auto, unfolding(crate::specs::Code::made))]
-pub(crate) fn emit_value(
+pub fn emit_value(
     code: &mut Vec<u32>,
     places: &Places,
     scope: &[Counter],

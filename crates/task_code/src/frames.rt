@@ -80,7 +80,7 @@ fn is_leaf(e: &Expr) -> bool
 
 /// How many registers of the stack an expression takes.
 #[tactic(auto, unfolding(crate::specs::Code::made))]
-fn need(e: &Expr) -> u8
+pub fn need(e: &Expr) -> u8
     ensures { (result ≤ 100) × ((places : AllPlaces) (scope : List Counts) → result ≡ min (made places scope e.now).need 100) }
 {
     match e {

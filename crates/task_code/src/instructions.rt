@@ -37,13 +37,7 @@ pub fn put(code: &mut Vec<u32>, insn: &Insn) -> Result<(), AllocError>
 }
 
 /// Appends an operation on two registers.
-pub(crate) fn alu(
-    code: &mut Vec<u32>,
-    op: AluOp,
-    rd: u8,
-    rs1: u8,
-    rs2: u8,
-) -> Result<(), AllocError>
+pub fn alu(code: &mut Vec<u32>, op: AluOp, rd: u8, rs1: u8, rs2: u8) -> Result<(), AllocError>
     requires { (rd < 32) × (rs1 < 32) × (rs2 < 32) }
     ensures { OnOk result (Emits code.old.items code.new.items (Alu op rd rs1 rs2 ∷ [])) }
 {

@@ -11,11 +11,11 @@
 ghost use Rattle.std.specs.Prelude.{◌≡◌};
 ghost use Rattle.task_code.specs.declared.CodeFault.TheVariants as faults;
 
-mod expressions;
-mod frames;
+pub mod expressions;
+pub mod frames;
 pub mod instructions;
 pub mod laws;
-mod operations;
+pub mod operations;
 pub mod places;
 mod statements;
 

@@ -174,12 +174,7 @@ fn emit_copied(code: &mut Vec<u32>, n: u32, r: u8) -> Result<(), AllocError>
 }
 
 /// Appends what leaves the address of the point at two registers in the first.
-pub(crate) fn emit_addressed(
-    code: &mut Vec<u32>,
-    place: &Place,
-    r: u8,
-    s: u8,
-) -> Result<(), AllocError>
+pub fn emit_addressed(code: &mut Vec<u32>, place: &Place, r: u8, s: u8) -> Result<(), AllocError>
     requires { (r < 32) × (s < 32) }
     ensures { OnOk result (Emits code.old.items code.new.items (addressed place.now r s)) }
 {

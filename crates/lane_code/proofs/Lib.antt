@@ -1,0 +1,10 @@
+pub mod Emission
+pub mod Evaluation
+pub mod LanedParts
+pub mod Operations
+pub mod Pacing
+pub mod Points
+pub mod Quotients
+pub mod Rows
+pub mod Slots
+pub mod Stepping

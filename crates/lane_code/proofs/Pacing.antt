@@ -1,0 +1,140 @@
+-- How values go along with the rounds.
+use Rattle.std.proofs.Common.{◌≡◌, ℕ, suc, ◌+◌, ◌-◌, ◌*◌, ◌%◌, ◌^◌, ◌<◌, ◌≤◌, List, [], ◌∷◌, length, get_or, Bool, true, false, ap, ◌∙◌, sym, arith, inl, inr}
+use Rattle.std.specs.Prelude.{◌==◌, if◌then◌else◌, take, drop}
+use Rattle.std.proofs.lemmas.Nat.{mul-mod_second}
+use Rattle.std.proofs.Math.Seq.{take-length}
+use Rattle.std.proofs.lemmas.Bool.{cases_eq}
+use Rattle.std.proofs.lemmas.Bool.Decides.{nat_tests}
+use Rattle.halide_pipeline.specs.declared.expressions.Operation.{Operation}
+use Rattle.halide_pipeline.specs.declared.expressions.Operation.TheVariants as op
+use Rattle.halide_pipeline.specs.Words as word
+use Rattle.loop_ir.specs.declared.expressions.Counter.{Counter}
+use Rattle.loop_ir.specs.declared.expressions.Linear.{Linear}
+use Rattle.loop_ir.specs.declared.expressions.Term.{Term}
+use Rattle.loop_ir.specs.Counters.{Values}
+use Rattle.loop_ir.specs.Expressions.{sum_of, linear_value}
+use Rattle.lane_code.specs.declared.values.Pace.{Pace}
+use Rattle.lane_code.specs.declared.values.Pace.TheVariants as paces
+use Rattle.lane_code.specs.Lanes.{is_moving, step_of, step_word, pace_of_step, both_steady, sum_pace, difference_pace, operation_pace}
+use Rattle.lane_code.specs.Leaving.{GoAlong}
+
+-- ---- products and remainders
+
+spread : (a i s : ℕ) → (a + i) * s ≡ a * s + i * s
+spread a i s = grind arith
+
+rest-times : (i s : ℕ) → (i * (s % 2 ^ 32)) % 2 ^ 32 ≡ (i * s) % 2 ^ 32
+rest-times i s = mul-mod_second i s (2 ^ 32)
+
+-- ---- sums of counters
+
+moved : (t : Bool) (a i s : ℕ) → (a + (if t then i else 0)) * s ≡ a * s + i * (if t then s else 0)
+moved true a i s = spread a i s
+moved false a i s = let e : a + 0 ≡ a = omega arith in let z : i * 0 ≡ 0 = omega arith in ap (λ b. b * s) e ∙ (let p = a * s in omega (arith, z))
+
+gathered : (a b i s t : ℕ) → a + i * s + (b + i * t) ≡ a + b + i * (s + t)
+gathered a b i s t = grind arith
+
+pub sum-goes : (scope : List Counter) (moves : List Bool) (at : ℕ → Values) (n : ℕ) → GoAlong scope moves at n → (terms : List Term) (i : ℕ) → i < n
+    → sum_of (at i) terms ≡ sum_of (at 0) terms + i * step_of scope moves terms
+sum-goes scope moves at n go [] i l = omega arith
+sum-goes scope moves at n go (first ∷ others) i l =
+    let c = first.counter in
+    let s = first.stride in
+    let t = is_moving scope moves c in
+    ap (λ x. x * s + sum_of (at i) others) (go i l c)
+    ∙ ap (λ x. x + sum_of (at i) others) (moved t (at 0 c) i s)
+    ∙ ap (λ x. at 0 c * s + i * (if t then s else 0) + x) (sum-goes scope moves at n go others i l)
+    ∙ gathered (at 0 c * s) (sum_of (at 0) others) i (if t then s else 0) (step_of scope moves others)
+
+further : (v p q : ℕ) → p % 2 ^ 32 ≡ q % 2 ^ 32 → (v + p) % 2 ^ 32 ≡ (v % 2 ^ 32 + q) % 2 ^ 32
+further v p q e = omega (arith, e)
+
+-- a sum in a round is the first round's and so many steps
+pub linear-goes : (scope : List Counter) (moves : List Bool) (at : ℕ → Values) (n : ℕ) → GoAlong scope moves at n → (own : Linear) (i : ℕ) → i < n
+    → linear_value (at i) own ≡ (linear_value (at 0) own + i * step_word scope moves own) % 2 ^ 32
+unfolding linear_value
+linear-goes scope moves at n go own i l =
+    let s = step_of scope moves own.terms in
+    let a : own.number + (sum_of (at 0) own.terms + i * s) ≡ own.number + sum_of (at 0) own.terms + i * s = omega arith in
+    ap (λ x. (own.number + x) % 2 ^ 32) (sum-goes scope moves at n go own.terms i l)
+    ∙ ap (λ x. x % 2 ^ 32) a
+    ∙ further (own.number + sum_of (at 0) own.terms) (i * s) (i * (s % 2 ^ 32)) (sym (rest-times i s))
+
+-- ---- paces
+
+-- what a pace says of a value in each round
+abbrev pub Holds : Pace → ℕ → (ℕ → ℕ) → Type 0
+Holds paces.Steady n v = (i : ℕ) → i < n → v i ≡ v 0
+Holds paces.Stepping n v = (i : ℕ) → i < n → v i ≡ (v 0 + i) % 2 ^ 32
+Holds paces.Irregular n v = Unit {0}
+
+pub step-holds : (n s : ℕ) (v : ℕ → ℕ) → v 0 < 2 ^ 32 → ((i : ℕ) → i < n → v i ≡ (v 0 + i * s) % 2 ^ 32) → Holds (pace_of_step s) n v
+step-holds n s v small go = elim (cases_eq s 0) [
+  | inl e ↦
+      let t : (s == 0) ≡ true = grind (arith, nat_tests) in
+      rw t (λ i l. go i l ∙ (let z : i * s ≡ 0 = ap (λ x. i * x) e ∙ (let w : i * 0 ≡ 0 = omega arith in w) in omega (arith, z, small)))
+  | inr x ↦
+      let t : (s == 0) ≡ false = grind (arith, nat_tests, x) in
+      elim (cases_eq s 1) [
+        | inl e ↦
+            let u : (s == 1) ≡ true = grind (arith, nat_tests) in
+            rw (t, u) (λ i l. go i l ∙ (let z : i * s ≡ i = ap (λ y. i * y) e ∙ (let w : i * 1 ≡ i = omega arith in w) in ap (λ y. (v 0 + y) % 2 ^ 32) z))
+        | inr y ↦ let u : (s == 1) ≡ false = grind (arith, nat_tests, y) in rw (t, u) tt
+      ]
+]
+
+-- a value that is made of two
+pub both-hold : (a b : Pace) (n : ℕ) (h : ℕ → ℕ → ℕ) (x y : ℕ → ℕ) → Holds a n x → Holds b n y → Holds (both_steady a b) n (λ i. h (x i) (y i))
+both-hold paces.Steady paces.Steady n h x y hx hy = λ i l. ap (λ p. h p (y i)) (hx i l) ∙ ap (h (x 0)) (hy i l)
+both-hold paces.Steady paces.Stepping n h x y hx hy = tt
+both-hold paces.Steady paces.Irregular n h x y hx hy = tt
+both-hold paces.Stepping b n h x y hx hy = tt
+both-hold paces.Irregular b n h x y hx hy = tt
+
+sum-hold : (a b : Pace) (n : ℕ) (x y : ℕ → ℕ) → Holds a n x → Holds b n y → Holds (sum_pace a b) n (λ i. word.add (x i) (y i))
+unfolding word.add
+sum-hold paces.Steady paces.Steady n x y hx hy = λ i l. let p = hx i l in let q = hy i l in omega (arith, p, q)
+sum-hold paces.Steady paces.Stepping n x y hx hy = λ i l. let p = hx i l in let q = hy i l in omega (arith, p, q)
+sum-hold paces.Steady paces.Irregular n x y hx hy = tt
+sum-hold paces.Stepping paces.Steady n x y hx hy = λ i l. let p = hx i l in let q = hy i l in omega (arith, p, q)
+sum-hold paces.Stepping paces.Stepping n x y hx hy = tt
+sum-hold paces.Stepping paces.Irregular n x y hx hy = tt
+sum-hold paces.Irregular b n x y hx hy = tt
+
+difference-hold : (a b : Pace) (n : ℕ) (x y : ℕ → ℕ) → Holds a n x → Holds b n y → ((i : ℕ) → i < n → y i < 2 ^ 32) → Holds (difference_pace a b) n (λ i. word.subtract (x i) (y i))
+unfolding word.subtract
+difference-hold paces.Steady paces.Steady n x y hx hy small = λ i l. let p = hx i l in let q = hy i l in omega (arith, p, q)
+difference-hold paces.Stepping paces.Steady n x y hx hy small = λ i l. let p = hx i l in let q = hy i l in let s = small i l in omega (arith, p, q, s)
+difference-hold paces.Irregular paces.Steady n x y hx hy small = tt
+difference-hold a paces.Stepping n x y hx hy small = tt
+difference-hold a paces.Irregular n x y hx hy small = tt
+
+pub operation-hold : (o : Operation) (a b : Pace) (n : ℕ) (x y : ℕ → ℕ) → Holds a n x → Holds b n y → ((i : ℕ) → i < n → y i < 2 ^ 32) → Holds (operation_pace o a b) n (λ i. word.applied o (x i) (y i))
+operation-hold op.Add a b n x y hx hy small = sum-hold a b n x y hx hy
+operation-hold op.Subtract a b n x y hx hy small = difference-hold a b n x y hx hy small
+operation-hold op.Multiply a b n x y hx hy small = both-hold a b n (word.applied op.Multiply) x y hx hy
+operation-hold op.Minimum a b n x y hx hy small = both-hold a b n (word.applied op.Minimum) x y hx hy
+operation-hold op.Maximum a b n x y hx hy small = both-hold a b n (word.applied op.Maximum) x y hx hy
+operation-hold op.Less a b n x y hx hy small = both-hold a b n (word.applied op.Less) x y hx hy
+operation-hold op.LessOrEqual a b n x y hx hy small = both-hold a b n (word.applied op.LessOrEqual) x y hx hy
+operation-hold op.Greater a b n x y hx hy small = both-hold a b n (word.applied op.Greater) x y hx hy
+operation-hold op.GreaterOrEqual a b n x y hx hy small = both-hold a b n (word.applied op.GreaterOrEqual) x y hx hy
+operation-hold op.Equal a b n x y hx hy small = both-hold a b n (word.applied op.Equal) x y hx hy
+operation-hold op.NotEqual a b n x y hx hy small = both-hold a b n (word.applied op.NotEqual) x y hx hy
+
+-- a sum modulo 2^32, as code makes it
+pub step-moves : (own rest step : ℕ) → rest ≡ step % 2 ^ 32 → word.add own rest ≡ (own + step) % 2 ^ 32
+unfolding word.add
+step-moves own rest step e = omega (arith, e)
+
+-- of a list of terms that isn't empty, as code takes it apart
+pub step-taken : (scope : List Counter) (moves : List Bool) (terms : List Term) (other : Term) (own rest result : ℕ) (t : Bool) → 1 ≤ length terms
+    → t ≡ is_moving scope moves (get_or terms 0 other).counter → own ≡ (if t then (get_or terms 0 other).stride else 0)
+    → rest ≡ step_of scope moves (take (length terms - 1) (drop 1 terms)) % 2 ^ 32 → result ≡ word.add own rest → result ≡ step_of scope moves terms % 2 ^ 32
+step-taken scope moves [] other own rest result t some et eo er e = absurd (omega (arith, some))
+step-taken scope moves (first ∷ terms) other own rest result t some et eo er e =
+    let n : suc (length terms) - 1 ≡ length terms = omega arith in
+    let left : take (suc (length terms) - 1) terms ≡ terms = ap (λ (k : ℕ). take k terms) n ∙ take-length terms in
+    let er' : rest ≡ step_of scope moves terms % 2 ^ 32 = er ∙ ap (λ ts. step_of scope moves ts % 2 ^ 32) left in
+    e ∙ step-moves own rest (step_of scope moves terms) er' ∙ ap (λ x. (x + step_of scope moves terms) % 2 ^ 32) (eo ∙ ap (λ z. if z then first.stride else 0) et)

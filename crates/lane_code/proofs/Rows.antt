@@ -1,0 +1,143 @@
+-- Single instructions over lanes, and code that goes on behind them.
+use Rattle.std.proofs.Common.{◌≡◌, ℕ, ◌+◌, ◌*◌, ◌<◌, ◌≤◌, List, ◌++◌, length, ap, ◌∙◌, refl, arith, inl, inr}
+use Rattle.std.specs.Prelude.{◌⊎◌, ◌≢◌}
+use Rattle.rv_insn.specs.declared.instructions.Insn.{Insn}
+use Rattle.lone_hart.specs.Alone.{World}
+use Rattle.lone_hart.specs.Paths.{Line, lane, vl_number, vtype_number, write_lanes}
+use Rattle.lone_hart.proofs.Paths.{line-then}
+use Rattle.lone_hart.proofs.LaneRows.{lanes-new, lanes-below, lanes-above}
+use Rattle.task_code.specs.Values.{Free, Leaves as LeavesOne}
+use Rattle.task_code.proofs.Values.{Sets}
+use Rattle.vector_unit.specs.VectorState.{is_supported, width_of, group_of, most_elements}
+use Rattle.lane_code.specs.declared.groups.Group.{Group}
+use Rattle.lane_code.specs.Groups.{registers, slot, spare}
+use Rattle.lane_code.specs.Leaving.{HasLanes, IsKept, LeavesLanes}
+use Rattle.lane_code.proofs.Slots.{SlotLies}
+
+module _ (w : World) (m : List ℕ) (l : length m ≡ w.size) (group : Group) (n : ℕ) where
+  abbrev g : ℕ
+  g = registers group
+
+  abbrev pub Lanes : (ℕ → ℕ) → Type 0
+  Lanes f = HasLanes group n f
+
+  abbrev pub Leaves : List Insn → (ℕ → ℕ) → ℕ → (ℕ → ℕ) → Type 0
+  Leaves is f k v = LeavesLanes w m group n is f k v
+
+  -- lanes from one number on are set, and all other numbers stay
+  pub record Writes (is : List Insn) (f : ℕ → ℕ) (d : ℕ) (v : ℕ → ℕ) : Type 0 where
+    pub after : ℕ → ℕ
+    pub line : Line w is f m after m
+    pub value : (i : ℕ) → i < n → after (lane d i) ≡ v i
+    pub below : (q : ℕ) → q < lane d 0 → after q ≡ f q
+    pub above : (q : ℕ) → lane d n ≤ q → after q ≡ f q
+
+  pub writes : {is : List Insn} {f : ℕ → ℕ} {d : ℕ} (v new : ℕ → ℕ) → Lanes f → Line w is f m (write_lanes f d (f vl_number) new) m → ((i : ℕ) → i < n → new i ≡ v i) → Writes is f d v
+  writes {is} {f} {d} v new has line same =
+      let e = has.count in
+      record {
+        after = write_lanes f d (f vl_number) new;
+        line = line;
+        value = λ i b. lanes-new f d (f vl_number) new (lane d i) i refl (omega (arith, e, b)) ∙ same i b;
+        below = λ q b. lanes-below f d (f vl_number) new q b;
+        above = λ q b. lanes-above f d (f vl_number) new q (omega (arith, e, b));
+      }
+
+  pub lanes-kept : (f f' : ℕ → ℕ) → f' vl_number ≡ f vl_number → f' vtype_number ≡ f vtype_number → Lanes f → Lanes f'
+  lanes-kept f f' el et has =
+      let c = has.configured in
+      record {
+        configured = record {
+          supported = ap is_supported et ∙ c.supported;
+          width = ap width_of et ∙ c.width;
+          group = ap group_of et ∙ c.group;
+          most = ap most_elements et ∙ c.most;
+          fits = let p = c.fits in omega (arith, el, p);
+        };
+        count = el ∙ has.count;
+      }
+
+  pub few-rounds : (f : ℕ → ℕ) → Lanes f → n ≤ 4 * g
+  few-rounds f has = let c = has.configured in let p = c.fits in let e = has.count in omega (arith, p, e)
+
+  pub writes-lanes : {is : List Insn} {f : ℕ → ℕ} {d : ℕ} {v : ℕ → ℕ} → (a : Writes is f d v) → Lanes f → Lanes a.after
+  writes-lanes {is} {f} {d} {v} a has = lanes-kept f a.after (a.below vl_number (omega arith)) (a.below vtype_number (omega arith)) has
+
+  -- ---- what code with its value in a slot keeps
+
+  module _ (k : ℕ) (lies : SlotLies group k) where
+    abbrev r : ℕ
+    r = slot group k
+
+    pub kept-below : (d q : ℕ) → r ≤ d → IsKept group k q → q < lane d 0
+    kept-below d q above (inl x) = let b = x.0 in omega (arith, b)
+    kept-below d q above (inr (inl e)) = omega (arith, e)
+    kept-below d q above (inr (inr x)) = let b = x.1 in omega (arith, b, above)
+
+    pub kept-spare : (q : ℕ) → n ≤ 4 * g → IsKept group k q → (q < lane (spare group) 0) ⊎ (lane (spare group) n ≤ q)
+    kept-spare q few (inl x) = inl (let b = x.0 in omega (arith, b))
+    kept-spare q few (inr (inl e)) = inl (omega (arith, e))
+    kept-spare q few (inr (inr x)) = inr (let a = x.0 in omega (arith, a, few))
+
+    -- scratch registers, and those of the stack, are not among it
+    pub kept-scalar : (q c : ℕ) → (c ≡ 13) ⊎ ((c ≡ 14) ⊎ ((20 ≤ c) × (c < 32))) → IsKept group k q → q ≢ c
+    kept-scalar q c o (inl x) e = let a = x.0 in let b = x.1 in elim o [ inl y ↦ omega (arith, a, b, e, y) | inr (inl y) ↦ omega (arith, a, b, e, y) | inr (inr y) ↦ (let z = y.0 in omega (arith, a, b, e, z)) ]
+    kept-scalar q c o (inr (inl x)) e = elim o [ inl y ↦ omega (arith, x, e, y) | inr (inl y) ↦ omega (arith, x, e, y) | inr (inr y) ↦ (let z = y.1 in omega (arith, x, e, z)) ]
+    kept-scalar q c o (inr (inr x)) e = let a = x.0 in elim o [ inl y ↦ omega (arith, a, e, y) | inr (inl y) ↦ omega (arith, a, e, y) | inr (inr y) ↦ (let z = y.1 in omega (arith, a, e, z)) ]
+
+    pub kept-free : (q c : ℕ) → 20 ≤ c → IsKept group k q → Free c q
+    kept-free q c low (inl x) = (x.1, inr (inl (let a = x.0 in omega (arith, a, low))))
+    kept-free q c low (inr (inl x)) = (inr (omega (arith, x)), inr (inr (omega (arith, x))))
+    kept-free q c low (inr (inr x)) = (inr (let a = x.0 in omega (arith, a)), inr (inr (let a = x.0 in omega (arith, a))))
+
+    -- ---- one after the other
+
+    pub last : {is : List Insn} {f : ℕ → ℕ} {v : ℕ → ℕ} → Writes is f r v → Leaves is f k v
+    last a = record { after = a.after; line = a.line; value = a.value; keeps = λ q kept. a.below q (kept-below r q (omega arith) kept) }
+
+    pub slot-first : {is js : List Insn} {f : ℕ → ℕ} {d : ℕ} {u v : ℕ → ℕ} → (a : Writes is f d u) → r ≤ d → Leaves js a.after k v → Leaves (is ++ js) f k v
+    slot-first {is} {js} {f} {d} {u} {v} a above b = record {
+      after = b.after;
+      line = line-then w is js f a.after b.after m m m a.line b.line;
+      value = b.value;
+      keeps = λ q kept. b.keeps q kept ∙ a.below q (kept-below d q above kept);
+    }
+
+    pub spare-first : {is js : List Insn} {f : ℕ → ℕ} {u v : ℕ → ℕ} → (a : Writes is f (spare group) u) → n ≤ 4 * g → Leaves js a.after k v → Leaves (is ++ js) f k v
+    spare-first {is} {js} {f} {u} {v} a few b = record {
+      after = b.after;
+      line = line-then w is js f a.after b.after m m m a.line b.line;
+      value = b.value;
+      keeps = λ q kept. b.keeps q kept ∙ elim (kept-spare q few kept) [ inl x ↦ a.below q x | inr x ↦ a.above q x ];
+    }
+
+    pub scalar-first : {is js : List Insn} {f : ℕ → ℕ} {c u : ℕ} {v : ℕ → ℕ} → (a : Sets w m l is f c u) → (c ≡ 13) ⊎ ((c ≡ 14) ⊎ ((20 ≤ c) × (c < 32))) → Leaves js a.after k v → Leaves (is ++ js) f k v
+    scalar-first {is} {js} {f} {c} {u} {v} a o b = record {
+      after = b.after;
+      line = line-then w is js f a.after b.after m m m a.line b.line;
+      value = b.value;
+      keeps = λ q kept. b.keeps q kept ∙ a.others q (kept-scalar q c o kept);
+    }
+
+    pub value-first : {is js : List Insn} {f : ℕ → ℕ} {c u : ℕ} {v : ℕ → ℕ} → (a : LeavesOne w m is f c u) → 20 ≤ c → Leaves js a.after k v → Leaves (is ++ js) f k v
+    value-first {is} {js} {f} {c} {u} {v} a low b = record {
+      after = b.after;
+      line = line-then w is js f a.after b.after m m m a.line b.line;
+      value = b.value;
+      keeps = λ q kept. b.keeps q kept ∙ a.keeps q (kept-free q c low kept);
+    }
+
+    pub same-values : {is : List Insn} {f : ℕ → ℕ} {u v : ℕ → ℕ} → ((i : ℕ) → i < n → u i ≡ v i) → Leaves is f k u → Leaves is f k v
+    same-values e a = record { after = a.after; line = a.line; value = λ i b. a.value i b ∙ e i b; keeps = a.keeps }
+
+  -- the slot below one stays where that is made
+  pub slot-kept : (k : ℕ) → SlotLies group k → (i : ℕ) → i < n → n ≤ 4 * g → IsKept group (k + 1) (lane (slot group k) i)
+  slot-kept k lies i b few = inr (inr (let lo = lies.low in omega (arith, lo), let e = lies.next in omega (arith, e, b, few)))
+
+  pub slot-still : (k j : ℕ) → SlotLies group k → (i : ℕ) → i < n → n ≤ 4 * g → slot group k + g ≤ slot group j → IsKept group j (lane (slot group k) i)
+  slot-still k j lies i b few above = inr (inr (let lo = lies.low in omega (arith, lo), omega (arith, above, b, few)))
+
+  pub kept-more : (k j q : ℕ) → slot group k ≤ slot group j → IsKept group k q → IsKept group j q
+  kept-more k j q above (inl x) = inl x
+  kept-more k j q above (inr (inl x)) = inr (inl x)
+  kept-more k j q above (inr (inr x)) = inr (inr (x.0, let b = x.1 in omega (arith, b, above)))

@@ -1,0 +1,237 @@
+-- The code of expressions over lanes: the values of an expression in all rounds of a loop at once, a lane for each.
+--
+-- Scalar registers hold what counters stand at in the first round. A counter moves if each round takes it one further; all others stay.
+-- This project's own.
+use Rattle.std.specs.Prelude.{ℕ, ◌+◌, ◌-◌, ◌%◌, ◌^◌, ◌==◌, ◌&&◌, Bool, true, false, nat_le, nat_lt, if◌then◌else◌, List, [], ◌∷◌, ◌++◌, pos, negsuc}
+use Rattle.rv_insn.specs.declared.instructions.Insn.{Insn}
+use Rattle.rv_insn.specs.declared.instructions.Insn.TheVariants.{Alu, Vector}
+use Rattle.rv_insn.specs.declared.operations.AluOp.TheVariants as alus
+use Rattle.rv_insn.specs.declared.vector_instructions.VectorInsn.TheVariants as v
+use Rattle.rv_insn.specs.declared.vector_instructions.Addressing.TheVariants as addressings
+use Rattle.rv_insn.specs.declared.vector_operations.ElementWidth.TheVariants.{Bits32}
+use Rattle.rv_insn.specs.declared.vector_operations.ArithmeticVvOp.TheVariants as vvs
+use Rattle.rv_insn.specs.declared.vector_operations.ArithmeticVxOp.TheVariants as vxs
+use Rattle.rv_insn.specs.declared.vector_operations.ArithmeticViOp.TheVariants as vis
+use Rattle.rv_insn.specs.declared.vector_operations.ShiftViOp.TheVariants as shifts
+use Rattle.rv_insn.specs.declared.vector_operations.CompareVvOp.{CompareVvOp}
+use Rattle.rv_insn.specs.declared.vector_operations.CompareVvOp.TheVariants as compares
+use Rattle.rv_insn.specs.declared.vector_operations.CompareVxOp.TheVariants as compare_vxs
+use Rattle.rv_insn.specs.declared.vector_operations.CompareViOp.TheVariants as compare_vis
+use Rattle.rv_insn.specs.declared.vector_operations.MultiplyOp.TheVariants as multiplies
+use Rattle.halide_pipeline.specs.declared.expressions.Operation.{Operation}
+use Rattle.halide_pipeline.specs.declared.expressions.Operation.TheVariants as op
+use Rattle.loop_ir.specs.declared.expressions.Counter.{Counter}
+use Rattle.loop_ir.specs.declared.expressions.Expr.{Expr, fold-Expr, map-Expr}
+use Rattle.loop_ir.specs.declared.expressions.Expr.TheOpen.{Expr-F}
+use Rattle.loop_ir.specs.declared.expressions.Expr.TheOpen as layer
+use Rattle.loop_ir.specs.declared.expressions.Linear.{Linear}
+use Rattle.loop_ir.specs.declared.expressions.Term.{Term}
+use Rattle.loop_ir.specs.Counters.{same_counter}
+use Rattle.lane_code.specs.declared.groups.Group.{Group}
+use Rattle.lane_code.specs.declared.values.Pace.{Pace}
+use Rattle.lane_code.specs.declared.values.Pace.TheVariants as paces
+use Rattle.task_code.specs.declared.places.Pixels.{Pixels}
+use Rattle.task_code.specs.declared.places.Pixels.TheVariants as pixels
+use Rattle.task_code.specs.declared.places.Place.{Place}
+use Rattle.task_code.specs.declared.places.Places.{Places}
+use Rattle.task_code.specs.Code.{scratch, second_scratch, bottom, literal, linear_code, addressed, place_of, Made, made_at}
+use Rattle.lane_code.specs.Groups.{slots, spare, slot}
+
+-- ---- how values go along with the rounds
+
+-- of a counter among these, of which the latest stands first; of those outside the loop nothing is listed
+abbrev pub is_moving : List Counter → List Bool → Counter → Bool
+is_moving [] moves counter = false
+is_moving (latest ∷ others) [] counter = false
+is_moving (latest ∷ others) (move ∷ moves) counter = if same_counter counter latest then move else is_moving others moves counter
+
+-- how much further each round takes a sum of counters
+abbrev pub step_of : List Counter → List Bool → List Term → ℕ
+step_of scope moves [] = 0
+step_of scope moves (first ∷ others) = (if is_moving scope moves first.counter then first.stride else 0) + step_of scope moves others
+
+abbrev pub step_word : List Counter → List Bool → Linear → ℕ
+step_word scope moves own = step_of scope moves own.terms % 2 ^ 32
+
+abbrev pub pace_of_step : ℕ → Pace
+pace_of_step step = if step == 0 then paces.Steady else (if step == 1 then paces.Stepping else paces.Irregular)
+
+abbrev pub both_steady : Pace → Pace → Pace
+both_steady paces.Steady paces.Steady = paces.Steady
+both_steady paces.Steady paces.Stepping = paces.Irregular
+both_steady paces.Steady paces.Irregular = paces.Irregular
+both_steady paces.Stepping second = paces.Irregular
+both_steady paces.Irregular second = paces.Irregular
+
+abbrev pub sum_pace : Pace → Pace → Pace
+sum_pace paces.Steady second = second
+sum_pace paces.Stepping paces.Steady = paces.Stepping
+sum_pace paces.Stepping paces.Stepping = paces.Irregular
+sum_pace paces.Stepping paces.Irregular = paces.Irregular
+sum_pace paces.Irregular second = paces.Irregular
+
+abbrev pub difference_pace : Pace → Pace → Pace
+difference_pace first paces.Steady = first
+difference_pace first paces.Stepping = paces.Irregular
+difference_pace first paces.Irregular = paces.Irregular
+
+abbrev pub operation_pace : Operation → Pace → Pace → Pace
+operation_pace op.Add a b = sum_pace a b
+operation_pace op.Subtract a b = difference_pace a b
+operation_pace op.Multiply a b = both_steady a b
+operation_pace op.Minimum a b = both_steady a b
+operation_pace op.Maximum a b = both_steady a b
+operation_pace op.Less a b = both_steady a b
+operation_pace op.LessOrEqual a b = both_steady a b
+operation_pace op.Greater a b = both_steady a b
+operation_pace op.GreaterOrEqual a b = both_steady a b
+operation_pace op.Equal a b = both_steady a b
+operation_pace op.NotEqual a b = both_steady a b
+
+abbrev pub pace_at : List Counter → List Bool → Expr-F Pace → Pace
+pace_at scope moves (layer.Number n) = paces.Steady
+pace_at scope moves (layer.Linear own) = pace_of_step (step_word scope moves own)
+pace_at scope moves (layer.Binary o a b) = operation_pace o a b
+pace_at scope moves (layer.Divide a c) = both_steady a a
+pace_at scope moves (layer.Remainder a c) = both_steady a a
+pace_at scope moves (layer.Select c a b) = both_steady c (both_steady a b)
+pace_at scope moves (layer.Load source x y) = both_steady x y
+
+unfoldable pub pace_of : List Counter → List Bool → Expr → Pace
+pace_of scope moves e = fold-Expr Pace (pace_at scope moves) e
+
+abbrev pub is_steady : Pace → Bool
+is_steady paces.Steady = true
+is_steady paces.Stepping = false
+is_steady paces.Irregular = false
+
+abbrev pub is_stepping : Pace → Bool
+is_stepping paces.Steady = false
+is_stepping paces.Stepping = true
+is_stepping paces.Irregular = false
+
+-- ---- operations: each lane of slot r becomes what the operation makes of it and the lane of slot s
+
+-- each lane becomes its mask bit
+abbrev pub flagged : ℕ → List Insn
+flagged r = Vector (v.MoveVi r (pos 0)) ∷ Vector (v.MergeVi r r (pos 1)) ∷ []
+
+abbrev pub compared : CompareVvOp → ℕ → ℕ → ℕ → List Insn
+compared o r a b = Vector (v.CompareVv o 0 a b true) ∷ flagged r
+
+abbrev pub lanes_operation : Operation → ℕ → ℕ → List Insn
+lanes_operation op.Add r s = Vector (v.ArithmeticVv vvs.Vadd r r s true) ∷ []
+lanes_operation op.Subtract r s = Vector (v.ArithmeticVv vvs.Vsub r r s true) ∷ []
+lanes_operation op.Multiply r s = Vector (v.MultiplyVv multiplies.Vmul r r s true) ∷ []
+lanes_operation op.Minimum r s = Vector (v.ArithmeticVv vvs.Vmin r r s true) ∷ []
+lanes_operation op.Maximum r s = Vector (v.ArithmeticVv vvs.Vmax r r s true) ∷ []
+lanes_operation op.Less r s = compared compares.Vmslt r r s
+lanes_operation op.LessOrEqual r s = compared compares.Vmsle r r s
+lanes_operation op.Greater r s = compared compares.Vmslt r s r
+lanes_operation op.GreaterOrEqual r s = compared compares.Vmsle r s r
+lanes_operation op.Equal r s = compared compares.Vmseq r r s
+lanes_operation op.NotEqual r s = compared compares.Vmsne r r s
+
+-- each lane of r becomes that of s where it is not 0, else that of t
+abbrev pub lanes_selection : ℕ → ℕ → ℕ → List Insn
+lanes_selection r s t = Vector (v.CompareVi compare_vis.Vmsne 0 r (pos 0) true) ∷ Vector (v.MergeVv r t s) ∷ []
+
+-- The word 2^32 - 1 - n stands for -1 - n: where the mask has a 1, such a complement is made of a lane. u is scratch.
+abbrev pub lanes_complement : ℕ → ℕ → List Insn
+lanes_complement r u = Vector (v.ArithmeticVi vis.Vrsub u r (negsuc 0) true) ∷ Vector (v.MergeVv r r u) ∷ []
+
+-- a mask bit becomes 1 where the lane is negative
+abbrev pub lanes_sign : ℕ → List Insn
+lanes_sign r = Vector (v.CompareVx compare_vxs.Vmslt 0 r 0 true) ∷ []
+
+-- each lane of r becomes its quotient by a literal, or its remainder, rounded to minus infinity
+abbrev pub lanes_quotient : ℕ → ℕ → ℕ → List Insn
+lanes_quotient c r u =
+    lanes_sign r ++ (lanes_complement r u ++ (literal scratch c ++ (Vector (v.MultiplyVx multiplies.Vdivu r r scratch true) ∷ lanes_complement r u)))
+
+abbrev pub lanes_remainder : ℕ → ℕ → ℕ → List Insn
+lanes_remainder c r u =
+    lanes_sign r ++ (lanes_complement r u ++ (literal scratch c ++ (Vector (v.MultiplyVx multiplies.Vremu r r scratch true) ∷ (literal scratch (c - 1)
+    ++ (Vector (v.ArithmeticVx vxs.Vrsub u r scratch true) ∷ Vector (v.MergeVv r r u) ∷ [])))))
+
+-- ---- sums of counters
+
+-- each lane becomes the number in the first register of the scalar stack, taken a step further for each round
+abbrev pub stepped : ℕ → ℕ → List Insn
+stepped step r =
+    if step == 0 then Vector (v.MoveVx r bottom) ∷ []
+    else (if step == 1 then Vector (v.ElementNumbers r true) ∷ Vector (v.ArithmeticVx vxs.Vadd r r bottom true) ∷ []
+    else Vector (v.ElementNumbers r true) ∷ (literal scratch step ++ (Vector (v.MultiplyVx multiplies.Vmul r r scratch true) ∷ Vector (v.ArithmeticVx vxs.Vadd r r bottom true) ∷ [])))
+
+-- ---- pixels
+
+-- lanes that lie one behind the other, from the point at the first two registers of the scalar stack on
+abbrev pub dense : Place → ℕ → List Insn
+dense place r = addressed place bottom (bottom + 1) ++ (Vector (v.LoadElements Bits32 r bottom addressings.UnitStride true) ∷ [])
+
+-- the address of a buffer's first pixel, of the hart's own copy
+abbrev pub based : Place → List Insn
+based place =
+    literal scratch place.start
+    ++ (literal second_scratch place.distance ++ (Alu alus.Mul second_scratch second_scratch 10 ∷ Alu alus.Add scratch scratch second_scratch ∷ []))
+
+-- each lane of r becomes the pixel at that column and at the row in the lane of s
+abbrev pub gathered : Place → ℕ → ℕ → List Insn
+gathered place r s =
+    literal scratch place.width
+    ++ (Vector (v.MultiplyVx multiplies.Vmul s s scratch true) ∷ Vector (v.ArithmeticVv vvs.Vadd r r s true) ∷ Vector (v.ShiftVi shifts.Vsll r r 2 true) ∷ (based place
+    ++ (Vector (v.LoadElements Bits32 r scratch (addressings.Indexed r) true) ∷ [])))
+
+-- ---- expressions
+
+-- what is made of an expression: what is made of it for one round, how its values go along with the rounds, whether it can be made in a slot
+-- and those above, and the code that leaves its values there
+pub record Laned : Type 0 where
+  pub own : Made
+  pub pace : Pace
+  pub fits : ℕ → Bool
+  pub code : ℕ → List Insn
+
+abbrev pub has_slot : Group → ℕ → Bool
+has_slot group k = nat_lt k (slots group)
+
+abbrev pub are_words : Pixels → Bool
+are_words pixels.Words = true
+are_words pixels.Bytes = false
+
+-- Lanes of a row lie one behind the other where the column goes along with the rounds. The scalar stack has room for the point.
+abbrev pub is_dense : Laned → Laned → Bool
+is_dense x y = is_stepping x.pace && (is_steady y.pace && (nat_le x.own.need 12 && nat_le y.own.need 11))
+
+abbrev pub fits_by : Group → Places → Expr-F Laned → ℕ → Bool
+fits_by group places (layer.Number n) k = has_slot group k
+fits_by group places (layer.Linear sum) k = has_slot group k
+fits_by group places (layer.Binary o a b) k = has_slot group k && (a.fits k && b.fits (k + 1))
+fits_by group places (layer.Divide a c) k = has_slot group k && a.fits k
+fits_by group places (layer.Remainder a c) k = has_slot group k && a.fits k
+fits_by group places (layer.Select c a b) k = has_slot group k && (c.fits k && (a.fits (k + 1) && b.fits (k + 2)))
+fits_by group places (layer.Load source x y) k =
+    has_slot group k && (are_words (place_of places source).pixels && (if is_dense x y then true else x.fits k && y.fits (k + 1)))
+
+abbrev pub lanes_by : Group → Places → List Counter → List Bool → Expr-F Laned → ℕ → List Insn
+lanes_by group places scope moves (layer.Number n) k = literal scratch n ++ (Vector (v.MoveVx (slot group k) scratch) ∷ [])
+lanes_by group places scope moves (layer.Linear sum) k = linear_code scope sum bottom ++ stepped (step_word scope moves sum) (slot group k)
+lanes_by group places scope moves (layer.Binary o a b) k = a.code k ++ (b.code (k + 1) ++ lanes_operation o (slot group k) (slot group (k + 1)))
+lanes_by group places scope moves (layer.Divide a c) k = a.code k ++ lanes_quotient c (slot group k) (spare group)
+lanes_by group places scope moves (layer.Remainder a c) k = a.code k ++ lanes_remainder c (slot group k) (spare group)
+lanes_by group places scope moves (layer.Select c a b) k =
+    c.code k ++ (a.code (k + 1) ++ (b.code (k + 2) ++ lanes_selection (slot group k) (slot group (k + 1)) (slot group (k + 2))))
+lanes_by group places scope moves (layer.Load source x y) k =
+    if is_dense x y then x.own.code bottom ++ (y.own.code (bottom + 1) ++ dense (place_of places source) (slot group k))
+    else x.code k ++ (y.code (k + 1) ++ gathered (place_of places source) (slot group k) (slot group (k + 1)))
+
+abbrev pub laned_at : Group → Places → List Counter → List Bool → Expr-F Laned → Laned
+laned_at group places scope moves e = record {
+  own = made_at places scope (map-Expr Laned Made (λ part. part.own) e);
+  pace = pace_at scope moves (map-Expr Laned Pace (λ part. part.pace) e);
+  fits = fits_by group places e;
+  code = lanes_by group places scope moves e;
+}
+
+unfoldable pub laned : Group → Places → List Counter → List Bool → Expr → Laned
+laned group places scope moves e = fold-Expr Laned (laned_at group places scope moves) e

@@ -1,0 +1,4 @@
+pub mod Emitting
+pub mod Groups
+pub mod Lanes
+pub mod Leaving

@@ -1,0 +1,9 @@
+//! Laws of code, each the contract of a function that does nothing.
+
+ghost use Rattle.lane_code.specs.Leaving.{LanesLeave};
+
+/// The code of an expression over lanes leaves its value in each round, wherever it stands, where scalar registers hold what counters
+/// stand at in the first round and memory what is loaded.
+pub fn lanes_are_left()
+    ensures { LanesLeave }
+{}

@@ -1,0 +1,464 @@
+//! The code of expressions over lanes, one for each round of a loop.
+
+ghost use Rattle.std.specs.Prelude.{◌≡◌, List, ◌%◌, ◌^◌, ◌<◌, ◌&&◌, if◌then◌else◌, nat_le, IfErr, IfOk, OnOk};
+ghost use Rattle.loop_ir.specs.declared.expressions.Counter.{Counter as Counts};
+ghost use Rattle.lane_code.specs.declared.groups.Group.{Group as Groups};
+ghost use Rattle.task_code.specs.declared.places.Places.{Places as AllPlaces};
+ghost use Rattle.task_code.specs.Code.{made};
+ghost use Rattle.task_code.specs.Faults.{IsFault};
+ghost use Rattle.lane_code.specs.Emitting.{EmitsLanes, FitsLanes};
+ghost use Rattle.lane_code.specs.Lanes as spec;
+ghost use Rattle.task_code.specs.Words.{Emits};
+
+use crate::groups::Group;
+use crate::vectors::{
+    arithmetic, arithmetic_by, clear, comparison, complement, lane_numbers, load_at, load_row,
+    merge, merge_one, multiplication, multiplication_by, spread, test_nonzero, test_sign,
+    times_four,
+};
+use halide_pipeline::{Operation, words};
+use loop_ir::expressions::{Counter, Expr, Term, same_counter};
+use rv_insn::{AluOp, ArithmeticVvOp, ArithmeticVxOp, CompareVvOp, MultiplyOp};
+use std::alloc::AllocError;
+use task_code::CodeFault;
+use task_code::expressions::{emit_linear, emit_number, emit_value, place_of};
+use task_code::frames::need;
+use task_code::instructions::{alu, emit_literal};
+use task_code::operations::emit_addressed;
+use task_code::places::{Pixels, Place, Places};
+
+/// How an expression's values go along with the rounds of a loop.
+#[derive(Clone, Copy, Debug, PartialEq, Eq)]
+pub enum Pace {
+    /// All rounds have one value.
+    Steady,
+    /// Each round has one more than the one before it.
+    Stepping,
+    /// Nothing is known.
+    Irregular,
+}
+
+// ---- paces
+
+/// Whether a counter moves; `moves` tells it of the latest counters, `scope` has them and those outside of the loop.
+pub fn is_moving(scope: &[Counter], moves: &[bool], counter: Counter) -> bool
+    ensures { result ≡ spec.is_moving scope.now moves.now counter }
+{
+    match scope {
+        [] => false,
+        [latest, others @ ..] => match moves {
+            [] => false,
+            [first, rest @ ..] => {
+                if same_counter(counter, *latest) {
+                    *first
+                } else {
+                    is_moving(others, rest, counter)
+                }
+            }
+        },
+    }
+}
+
+fn stride_of(moving: bool, stride: u32) -> u32
+    ensures { result ≡ (if moving then stride else 0) }
+{
+    if moving { stride } else { 0 }
+}
+
+/// How much further each round takes a sum, modulo 2^32.
+fn step_of(scope: &[Counter], moves: &[bool], terms: &[Term]) -> u32
+    ensures { result ≡ spec.step_of scope.now moves.now terms.now % 2 ^ 32 }
+{
+    match terms {
+        [] => 0,
+        [first, others @ ..] => {
+            let own = stride_of(is_moving(scope, moves, first.counter), first.stride);
+            words::add(own, step_of(scope, moves, others))
+        }
+    }
+}
+
+fn pace_of_step(step: u32) -> Pace
+    ensures { result ≡ spec.pace_of_step step }
+{
+    if step == 0 {
+        Pace::Steady
+    } else if step == 1 {
+        Pace::Stepping
+    } else {
+        Pace::Irregular
+    }
+}
+
+fn both_steady(a: Pace, b: Pace) -> Pace
+    ensures { result ≡ spec.both_steady a b }
+{
+    match a {
+        Pace::Steady => match b {
+            Pace::Steady => Pace::Steady,
+            Pace::Stepping => Pace::Irregular,
+            Pace::Irregular => Pace::Irregular,
+        },
+        Pace::Stepping => Pace::Irregular,
+        Pace::Irregular => Pace::Irregular,
+    }
+}
+
+fn sum_pace(a: Pace, b: Pace) -> Pace
+    ensures { result ≡ spec.sum_pace a b }
+{
+    match a {
+        Pace::Steady => b,
+        Pace::Stepping => match b {
+            Pace::Steady => Pace::Stepping,
+            Pace::Stepping => Pace::Irregular,
+            Pace::Irregular => Pace::Irregular,
+        },
+        Pace::Irregular => Pace::Irregular,
+    }
+}
+
+fn difference_pace(a: Pace, b: Pace) -> Pace
+    ensures { result ≡ spec.difference_pace a b }
+{
+    match b {
+        Pace::Steady => a,
+        Pace::Stepping => Pace::Irregular,
+        Pace::Irregular => Pace::Irregular,
+    }
+}
+
+fn operation_pace(operation: Operation, a: Pace, b: Pace) -> Pace
+    ensures { result ≡ spec.operation_pace operation a b }
+{
+    match operation {
+        Operation::Add => sum_pace(a, b),
+        Operation::Subtract => difference_pace(a, b),
+        Operation::Multiply => both_steady(a, b),
+        Operation::Minimum => both_steady(a, b),
+        Operation::Maximum => both_steady(a, b),
+        Operation::Less => both_steady(a, b),
+        Operation::LessOrEqual => both_steady(a, b),
+        Operation::Greater => both_steady(a, b),
+        Operation::GreaterOrEqual => both_steady(a, b),
+        Operation::Equal => both_steady(a, b),
+        Operation::NotEqual => both_steady(a, b),
+    }
+}
+
+/// How an expression's values go along with the rounds.
+#[tactic(auto, unfolding(crate::specs::Lanes::pace_of))]
+pub fn pace_of(scope: &[Counter], moves: &[bool], e: &Expr) -> Pace
+    ensures { result ≡ spec.pace_of scope.now moves.now e.now }
+{
+    match e {
+        Expr::Number(_) => Pace::Steady,
+        Expr::Linear(own) => pace_of_step(step_of(scope, moves, own.terms.as_slice())),
+        Expr::Binary(operation, a, b) => {
+            let first = pace_of(scope, moves, a.get());
+            operation_pace(*operation, first, pace_of(scope, moves, b.get()))
+        }
+        Expr::Divide(a, _) => {
+            let own = pace_of(scope, moves, a.get());
+            both_steady(own, own)
+        }
+        Expr::Remainder(a, _) => {
+            let own = pace_of(scope, moves, a.get());
+            both_steady(own, own)
+        }
+        Expr::Select(c, a, b) => {
+            let first = pace_of(scope, moves, c.get());
+            let second = pace_of(scope, moves, a.get());
+            both_steady(first, both_steady(second, pace_of(scope, moves, b.get())))
+        }
+        Expr::Load(_, x, y) => {
+            let column = pace_of(scope, moves, x.get());
+            both_steady(column, pace_of(scope, moves, y.get()))
+        }
+    }
+}
+
+pub fn is_steady(own: Pace) -> bool
+    ensures { result ≡ spec.is_steady own }
+{
+    match own {
+        Pace::Steady => true,
+        Pace::Stepping => false,
+        Pace::Irregular => false,
+    }
+}
+
+pub fn is_stepping(own: Pace) -> bool
+    ensures { result ≡ spec.is_stepping own }
+{
+    match own {
+        Pace::Steady => false,
+        Pace::Stepping => true,
+        Pace::Irregular => false,
+    }
+}
+
+// ---- operations
+
+fn emit_flagged(code: &mut Vec<u32>, r: u8) -> Result<(), AllocError>
+    requires { r < 32 }
+    ensures { OnOk result (Emits code.old.items code.new.items (spec.flagged r)) }
+{
+    clear(code, r)?;
+    merge_one(code, r)?;
+    Ok(())
+}
+
+fn emit_compared(
+    code: &mut Vec<u32>,
+    op: CompareVvOp,
+    r: u8,
+    a: u8,
+    b: u8,
+) -> Result<(), AllocError>
+    requires { (r < 32) × (a < 32) × (b < 32) }
+    ensures { OnOk result (Emits code.old.items code.new.items (spec.compared op r a b)) }
+{
+    comparison(code, op, a, b)?;
+    emit_flagged(code, r)?;
+    Ok(())
+}
+
+/// Appends what an operation makes of the lanes of two slots, in the first.
+fn emit_lanes_operation(code: &mut Vec<u32>, op: Operation, r: u8, s: u8) -> Result<(), AllocError>
+    requires { (r < 32) × (s < 32) }
+    ensures { OnOk result (Emits code.old.items code.new.items (spec.lanes_operation op r s)) }
+{
+    match op {
+        Operation::Add => arithmetic(code, ArithmeticVvOp::Vadd, r, r, s)?,
+        Operation::Subtract => arithmetic(code, ArithmeticVvOp::Vsub, r, r, s)?,
+        Operation::Multiply => multiplication(code, MultiplyOp::Vmul, r, r, s)?,
+        Operation::Minimum => arithmetic(code, ArithmeticVvOp::Vmin, r, r, s)?,
+        Operation::Maximum => arithmetic(code, ArithmeticVvOp::Vmax, r, r, s)?,
+        Operation::Less => emit_compared(code, CompareVvOp::Vmslt, r, r, s)?,
+        Operation::LessOrEqual => emit_compared(code, CompareVvOp::Vmsle, r, r, s)?,
+        Operation::Greater => emit_compared(code, CompareVvOp::Vmslt, r, s, r)?,
+        Operation::GreaterOrEqual => emit_compared(code, CompareVvOp::Vmsle, r, s, r)?,
+        Operation::Equal => emit_compared(code, CompareVvOp::Vmseq, r, r, s)?,
+        Operation::NotEqual => emit_compared(code, CompareVvOp::Vmsne, r, r, s)?,
+    }
+    Ok(())
+}
+
+/// Appends a choice of lanes: of `s` where those of `r` are not 0, else of `t`.
+fn emit_lanes_selection(code: &mut Vec<u32>, r: u8, s: u8, t: u8) -> Result<(), AllocError>
+    requires { (r < 32) × (s < 32) × (t < 32) }
+    ensures { OnOk result (Emits code.old.items code.new.items (spec.lanes_selection r s t)) }
+{
+    test_nonzero(code, r)?;
+    merge(code, r, t, s)?;
+    Ok(())
+}
+
+fn emit_lanes_complement(code: &mut Vec<u32>, r: u8, u: u8) -> Result<(), AllocError>
+    requires { (r < 32) × (u < 32) }
+    ensures { OnOk result (Emits code.old.items code.new.items (spec.lanes_complement r u)) }
+{
+    complement(code, u, r)?;
+    merge(code, r, r, u)?;
+    Ok(())
+}
+
+/// Appends what leaves quotients by a literal, rounded to minus infinity.
+fn emit_lanes_quotient(code: &mut Vec<u32>, c: u32, r: u8, u: u8) -> Result<(), CodeFault>
+    requires { (r < 32) × (u < 32) }
+    ensures ok { OnOk result (Emits code.old.items code.new.items (spec.lanes_quotient c r u) × ((0 < c) × (c < 2 ^ 32))) }
+    ensures err { IfErr result (IsFault ⊥ (0 < c → ⊥)) }
+{
+    if c == 0 {
+        return Err(CodeFault::TooDeep);
+    }
+    test_sign(code, r)?;
+    emit_lanes_complement(code, r, u)?;
+    emit_number(code, 13, c)?;
+    multiplication_by(code, MultiplyOp::Vdivu, r, r, 13)?;
+    emit_lanes_complement(code, r, u)?;
+    Ok(())
+}
+
+/// Appends what leaves remainders by a literal, which are not negative.
+fn emit_lanes_remainder(code: &mut Vec<u32>, c: u32, r: u8, u: u8) -> Result<(), CodeFault>
+    requires { (r < 32) × (u < 32) }
+    ensures ok { OnOk result (Emits code.old.items code.new.items (spec.lanes_remainder c r u) × ((0 < c) × (c < 2 ^ 32))) }
+    ensures err { IfErr result (IsFault ⊥ (0 < c → ⊥)) }
+{
+    if c == 0 {
+        return Err(CodeFault::TooDeep);
+    }
+    test_sign(code, r)?;
+    emit_lanes_complement(code, r, u)?;
+    emit_number(code, 13, c)?;
+    multiplication_by(code, MultiplyOp::Vremu, r, r, 13)?;
+    emit_literal(code, 13, c - 1)?;
+    arithmetic_by(code, ArithmeticVxOp::Vrsub, u, r, 13)?;
+    merge(code, r, r, u)?;
+    Ok(())
+}
+
+// ---- sums of counters and pixels
+
+/// Appends what takes the number in x20 a step further for each lane.
+fn emit_stepped(code: &mut Vec<u32>, step: u32, r: u8) -> Result<(), AllocError>
+    requires { r < 32 }
+    ensures { OnOk result (Emits code.old.items code.new.items (spec.stepped step r)) }
+{
+    if step == 0 {
+        spread(code, r, 20)?;
+        return Ok(());
+    }
+    lane_numbers(code, r)?;
+    if step == 1 {
+        arithmetic_by(code, ArithmeticVxOp::Vadd, r, r, 20)?;
+        return Ok(());
+    }
+    emit_literal(code, 13, step)?;
+    multiplication_by(code, MultiplyOp::Vmul, r, r, 13)?;
+    arithmetic_by(code, ArithmeticVxOp::Vadd, r, r, 20)?;
+    Ok(())
+}
+
+fn emit_dense(code: &mut Vec<u32>, place: &Place, r: u8) -> Result<(), AllocError>
+    requires { r < 32 }
+    ensures { OnOk result (Emits code.old.items code.new.items (spec.dense place.now r)) }
+{
+    emit_addressed(code, place, 20, 21)?;
+    load_row(code, r, 20)?;
+    Ok(())
+}
+
+fn emit_based(code: &mut Vec<u32>, place: &Place) -> Result<(), AllocError>
+    ensures { OnOk result (Emits code.old.items code.new.items (spec.based place.now)) }
+{
+    emit_literal(code, 13, place.start)?;
+    emit_literal(code, 14, place.distance)?;
+    alu(code, AluOp::Mul, 14, 14, 10)?;
+    alu(code, AluOp::Add, 13, 13, 14)?;
+    Ok(())
+}
+
+fn emit_gathered(code: &mut Vec<u32>, place: &Place, r: u8, s: u8) -> Result<(), AllocError>
+    requires { (r < 32) × (s < 32) }
+    ensures { OnOk result (Emits code.old.items code.new.items (spec.gathered place.now r s)) }
+{
+    emit_literal(code, 13, place.width)?;
+    multiplication_by(code, MultiplyOp::Vmul, s, s, 13)?;
+    arithmetic(code, ArithmeticVvOp::Vadd, r, r, s)?;
+    times_four(code, r)?;
+    emit_based(code, place)?;
+    load_at(code, r, 13)?;
+    Ok(())
+}
+
+// ---- expressions
+
+fn are_all(a: bool, b: bool, c: bool) -> bool
+    ensures { result ≡ (a && (b && c)) }
+{
+    a && b && c
+}
+
+/// Whether the scalar stack has room for the point at two indexes.
+fn fits_scalars(x: &Expr, y: &Expr) -> bool
+    ensures { (places : AllPlaces) (scope : List Counts) → result ≡ (nat_le (made places scope x.now).need 12 && nat_le (made places scope y.now).need 11) }
+{
+    need(x) <= 12 && need(y) <= 11
+}
+
+/// Whether the lanes of a load at these indexes lie one behind the other, and the scalar stack has room for the point.
+fn is_dense(scope: &[Counter], moves: &[bool], x: &Expr, y: &Expr) -> bool
+    ensures { (group : Groups) (places : AllPlaces) → result ≡ spec.is_dense (spec.laned group places scope.now moves.now x.now) (spec.laned group places scope.now moves.now y.now) }
+{
+    let column = is_stepping(pace_of(scope, moves, x));
+    let row = is_steady(pace_of(scope, moves, y));
+    are_all(column, row, fits_scalars(x, y))
+}
+
+fn are_words(place: &Place) -> bool
+    ensures { result ≡ spec.are_words place.now.pixels }
+{
+    match place.pixels {
+        Pixels::Words => true,
+        Pixels::Bytes => false,
+    }
+}
+
+/// Appends what leaves the values of an expression in a slot, with the slots above it free. It returns the slot's first register.
+///
+/// # Errors
+///
+/// Memory ran out, or the code can't be made: the slots don't suffice, pixels are bytes, or a divisor is 0.
+#[tactic(auto, unfolding(crate::specs::Lanes::laned))]
+pub fn emit_lanes(
+    code: &mut Vec<u32>,
+    group: Group,
+    places: &Places,
+    scope: &[Counter],
+    moves: &[bool],
+    e: &Expr,
+    k: u8,
+) -> Result<u8, CodeFault>
+    ensures ok { IfOk result (λ r. EmitsLanes code.old.items code.new.items group (spec.laned group places.now scope.now moves.now e.now) k r) }
+    ensures err { IfErr result (IsFault ⊥ (FitsLanes (spec.laned group places.now scope.now moves.now e.now) k → ⊥)) }
+{
+    if k >= group.slots() {
+        return Err(CodeFault::TooDeep);
+    }
+    let r = group.slot(k);
+    match e {
+        Expr::Number(n) => {
+            emit_number(code, 13, *n)?;
+            spread(code, r, 13)?;
+            Ok(r)
+        }
+        Expr::Linear(own) => {
+            emit_linear(code, scope, own, 20)?;
+            let step = step_of(scope, moves, own.terms.as_slice());
+            emit_stepped(code, step, r)?;
+            Ok(r)
+        }
+        Expr::Binary(operation, a, b) => {
+            emit_lanes(code, group, places, scope, moves, a.get(), k)?;
+            let s = emit_lanes(code, group, places, scope, moves, b.get(), k + 1)?;
+            emit_lanes_operation(code, *operation, r, s)?;
+            Ok(r)
+        }
+        Expr::Divide(a, divisor) => {
+            emit_lanes(code, group, places, scope, moves, a.get(), k)?;
+            emit_lanes_quotient(code, *divisor, r, group.spare())?;
+            Ok(r)
+        }
+        Expr::Remainder(a, divisor) => {
+            emit_lanes(code, group, places, scope, moves, a.get(), k)?;
+            emit_lanes_remainder(code, *divisor, r, group.spare())?;
+            Ok(r)
+        }
+        Expr::Select(c, a, b) => {
+            emit_lanes(code, group, places, scope, moves, c.get(), k)?;
+            let s = emit_lanes(code, group, places, scope, moves, a.get(), k + 1)?;
+            let t = emit_lanes(code, group, places, scope, moves, b.get(), k + 2)?;
+            emit_lanes_selection(code, r, s, t)?;
+            Ok(r)
+        }
+        Expr::Load(source, x, y) => {
+            let place = place_of(places, *source);
+            if !are_words(&place) {
+                return Err(CodeFault::TooDeep);
+            }
+            if is_dense(scope, moves, x.get(), y.get()) {
+                emit_value(code, places, scope, x.get(), 20)?;
+                emit_value(code, places, scope, y.get(), 21)?;
+                emit_dense(code, &place, r)?;
+                return Ok(r);
+            }
+            emit_lanes(code, group, places, scope, moves, x.get(), k)?;
+            let s = emit_lanes(code, group, places, scope, moves, y.get(), k + 1)?;
+            emit_gathered(code, &place, r, s)?;
+            Ok(r)
+        }
+    }
+}
