@@ -3,3 +3,4 @@ pub mod HartState
 pub mod Scalar
 pub mod Turn
 pub mod VectorRows
+pub mod inner

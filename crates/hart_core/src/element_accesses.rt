@@ -23,7 +23,7 @@ fn read_number<M: Bytes>(width: ElementWidth, memory: &M, address: u32) -> Resul
 }
 
 /// How many bytes a number of a width has.
-fn bytes_of(width: ElementWidth) -> u32
+pub(crate) fn bytes_of(width: ElementWidth) -> u32
     ensures { result ≡ bytes_in (size_of width) }
 {
     match width {

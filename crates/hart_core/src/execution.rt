@@ -23,9 +23,9 @@ impl Hart {
         ensures text { M.text memory.new ≡ M.text memory.old }
         ensures outcome { result ≡ (step (M.text memory.old) (M.memory memory.old) self.old).outcome }
     {
-        if self.status() != Status::Running {
+        let Status::Running = self.status() else {
             return Outcome::Idle;
-        }
+        };
         let Some(word) = memory.fetch(self.pc()) else {
             return self.trap(Trap::FetchOutside);
         };

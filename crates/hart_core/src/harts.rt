@@ -2,8 +2,8 @@
 
 ghost use Rattle.std.specs.Prelude.{◌≡◌, ◌<◌, ◌≤◌, ◌^◌, ◌&&◌, not, true, false, slice_index, OnOk, OnErr, IfOk, IfErr};
 ghost use Rattle.vector_unit.specs.VectorState.{configured, has_vill, is_illegal_configuration};
-ghost use Rattle.vector_unit.specs.Vector.{is_own, is_refused, vector_after, scalar_given, number_of};
-ghost use Rattle.vector_unit.specs.Accesses.{loaded};
+ghost use Rattle.vector_unit.specs.Vector.{bits_of, is_own, is_refused, vector_after, scalar_given, number_of};
+ghost use Rattle.vector_unit.specs.Accesses.{loaded, with_element_from};
 ghost use Rattle.hart_core.specs.HartState.{register, vector, has_finished, with_register, at_pc, advanced, with_status, opening_hart, vectors_of, with_vectors, given};
 
 use rv_insn::{ElementWidth, Outcome, Reg, Trap, VReg, VectorInsn};
@@ -208,5 +208,14 @@ impl Hart {
         ensures { self.new ≡ with_vectors self.old (loaded (vectors_of self.old) width vd vm numbers.now) }
     {
         self.unit.load(width, vd, vm, numbers);
+    }
+
+    /// Writes the low bits of a number to an element of a width, of those of the registers from one on.
+    #[inline(always)]
+    pub(crate) fn put_element(&mut self, width: ElementWidth, vd: VReg, index: u32, number: u32)
+        requires { index < 64 }
+        ensures { self.new ≡ with_vectors self.old (with_element_from (vectors_of self.old) (bits_of width) vd index number) }
+    {
+        self.unit.put_element(width, vd, index, number);
     }
 }

@@ -12,6 +12,7 @@ mod alu;
 mod element_accesses;
 pub mod execution;
 pub mod harts;
+mod pieces;
 mod vectors;
 
 pub use crate::harts::{Hart, Status};

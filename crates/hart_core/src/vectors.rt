@@ -13,6 +13,7 @@ ghost use Rattle.hart_core.specs.Turn.{fault, IsDone};
 
 use crate::element_accesses::{check_stores, read_numbers, write_numbers};
 use crate::harts::Hart;
+use crate::pieces::{is_piece, store_piece};
 use memory::Bytes;
 use rv_insn::{Addressing, ElementWidth, Outcome, Reg, Trap, VReg, VectorInsn};
 use vector_unit::{Asked, Numbers, Spacing};
@@ -185,7 +186,14 @@ impl Hart {
         ensures err { IfErr result (λ trap. first_fault (length (M.text memory.now)) (length (M.memory memory.now)) Reads (accesses_at width (addresses_by (vectors_of self.old) spacing vm (register self.old rs1))) ≡ Some trap) }
         ensures unchanged { OnErr result (self.new ≡ self.old) }
     {
-        let addresses = self.addresses(spacing, vm, rs1);
+        let base = self.register(rs1);
+        let spacing = &spacing;
+        if is_piece(memory, self.vectors(), width, *spacing, vm, base) {
+            let count = self.vectors().count();
+            self.load_piece(memory, width, vd, base, 0, count);
+            return Ok(self.advance());
+        }
+        let addresses = self.addresses(*spacing, vm, rs1);
         let numbers = read_numbers(width, memory, addresses.as_slice())?;
         self.load_elements(width, vd, vm, numbers.as_slice());
         Ok(self.advance())
@@ -214,7 +222,14 @@ impl Hart {
         ensures memory { OnErr result (M.memory memory.new ≡ M.memory memory.old) }
         ensures text { M.text memory.new ≡ M.text memory.old }
     {
-        let addresses = self.addresses(spacing, vm, rs1);
+        let base = self.register(rs1);
+        let spacing = &spacing;
+        if is_piece(memory, self.vectors(), width, *spacing, vm, base) {
+            let count = self.vectors().count();
+            store_piece(memory, self.vectors(), width, vs3, base, 0, count);
+            return Ok(self.advance());
+        }
+        let addresses = self.addresses(*spacing, vm, rs1);
         check_stores(width, memory, addresses.as_slice())?;
         let numbers = self.vectors().active_numbers(width, vs3, vm);
         write_numbers(width, memory, addresses.as_slice(), numbers.as_slice());

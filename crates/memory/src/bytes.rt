@@ -1,7 +1,8 @@
 //! What a memory must do.
 
-ghost use Rattle.std.specs.Prelude.{◌≡◌, ℕ, List, length, IsTrue};
+ghost use Rattle.std.specs.Prelude.{◌≡◌, ◌%◌, ℕ, List, length, IsTrue};
 ghost use Rattle.memory.specs.Addresses.{fetched, byte_at, covers_load, in_data, put_byte};
+ghost use Rattle.memory.specs.Access.{Half, Word, number_in, put_number};
 
 /// The address of the first text word.
 pub const TEXT_START: u32 = 0x0001_0000;
@@ -18,7 +19,8 @@ pub const MOST_BYTES: usize = 33_554_432;
 /// A memory that harts share: words of text, which are never written, and bytes of data.
 ///
 /// Its law is in the clauses: a read gives the byte that stands at the address, and a write puts one
-/// byte and leaves every other one.
+/// byte and leaves every other one. The half-words and words of data are those bytes, the lowest first; a memory
+/// that has them side by side may take them in one go.
 pub trait Bytes {
     /// The words of text.
     ghost text: { Self → List ℕ };
@@ -48,4 +50,53 @@ pub trait Bytes {
         requires { IsTrue (in_data (length (memory self.old)) address 1) }
         ensures text { text self.new ≡ text self.old }
         ensures memory { memory self.new ≡ put_byte (memory self.old) address value };
+
+    /// The half-word at an even address of text or data, its lowest byte first.
+    fn read_half(&self, address: u32) -> u16
+        requires aligned { address % 2 ≡ 0 }
+        requires covered { IsTrue (covers_load (length (text self.now)) (length (memory self.now)) address 2) }
+        ensures { result ≡ number_in (text self.now) (memory self.now) Half address }
+    {
+        u16::from_le_bytes([self.read(address), self.read(address + 1)])
+    }
+
+    /// The word at an address of text or data that is a multiple of 4, its lowest byte first.
+    fn read_word(&self, address: u32) -> u32
+        requires aligned { address % 4 ≡ 0 }
+        requires covered { IsTrue (covers_load (length (text self.now)) (length (memory self.now)) address 4) }
+        ensures { result ≡ number_in (text self.now) (memory self.now) Word address }
+    {
+        u32::from_le_bytes([
+            self.read(address),
+            self.read(address + 1),
+            self.read(address + 2),
+            self.read(address + 3),
+        ])
+    }
+
+    /// Puts a half-word at an even address of data, its lowest byte first.
+    fn write_half(&mut self, address: u32, value: u16)
+        requires aligned { address % 2 ≡ 0 }
+        requires covered { IsTrue (in_data (length (memory self.old)) address 2) }
+        ensures text { text self.new ≡ text self.old }
+        ensures memory { memory self.new ≡ put_number (memory self.old) Half address value }
+    {
+        let bytes = value.to_le_bytes();
+        self.write(address, bytes[0]);
+        self.write(address + 1, bytes[1]);
+    }
+
+    /// Puts a word at an address of data that is a multiple of 4, its lowest byte first.
+    fn write_word(&mut self, address: u32, value: u32)
+        requires aligned { address % 4 ≡ 0 }
+        requires covered { IsTrue (in_data (length (memory self.old)) address 4) }
+        ensures text { text self.new ≡ text self.old }
+        ensures memory { memory self.new ≡ put_number (memory self.old) Word address value }
+    {
+        let bytes = value.to_le_bytes();
+        self.write(address, bytes[0]);
+        self.write(address + 1, bytes[1]);
+        self.write(address + 2, bytes[2]);
+        self.write(address + 3, bytes[3]);
+    }
 }

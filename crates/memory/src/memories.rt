@@ -73,7 +73,7 @@ impl Bytes for Memory {
     fn covers_load(&self, address: u32, count: u32) -> bool {
         let end = address as usize + count as usize;
         let in_text = address >= TEXT_START && end <= TEXT_START as usize + 4 * self.words.len();
-        in_text || self.covers_store(address, count)
+        self.covers_store(address, count) || in_text
     }
 
     fn covers_store(&self, address: u32, count: u32) -> bool {
@@ -93,5 +93,45 @@ impl Bytes for Memory {
 
     fn write(&mut self, address: u32, value: u8) {
         self.bytes[(address - DATA_START) as usize] = value;
+    }
+
+    fn read_half(&self, address: u32) -> u16 {
+        if address < DATA_START {
+            return u16::from_le_bytes([self.read(address), self.read(address + 1)]);
+        }
+        let at = (address - DATA_START) as usize;
+        u16::from_le_bytes([self.bytes[at], self.bytes[at + 1]])
+    }
+
+    fn read_word(&self, address: u32) -> u32 {
+        if address < DATA_START {
+            return u32::from_le_bytes([
+                self.read(address),
+                self.read(address + 1),
+                self.read(address + 2),
+                self.read(address + 3),
+            ]);
+        }
+        let at = (address - DATA_START) as usize;
+        let bytes = &self.bytes;
+        u32::from_le_bytes([bytes[at], bytes[at + 1], bytes[at + 2], bytes[at + 3]])
+    }
+
+    fn write_half(&mut self, address: u32, value: u16) {
+        let at = (address - DATA_START) as usize;
+        let value = value.to_le_bytes();
+        let bytes: &mut [u8] = &mut self.bytes;
+        bytes[at] = value[0];
+        bytes[at + 1] = value[1];
+    }
+
+    fn write_word(&mut self, address: u32, value: u32) {
+        let at = (address - DATA_START) as usize;
+        let value = value.to_le_bytes();
+        let bytes: &mut [u8] = &mut self.bytes;
+        bytes[at] = value[0];
+        bytes[at + 1] = value[1];
+        bytes[at + 2] = value[2];
+        bytes[at + 3] = value[3];
     }
 }

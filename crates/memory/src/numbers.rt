@@ -58,7 +58,7 @@ pub fn read_u16<M: Bytes>(memory: &M, address: u32) -> Result<u16, Trap>
     ensures err { IfErr result (λ trap. fault_of (length (M.text memory.now)) (length (M.memory memory.now)) Reads address 2 ≡ Some trap) }
 {
     check_load(memory, address, 2)?;
-    Ok(u16::from_le_bytes([memory.read(address), memory.read(address + 1)]))
+    Ok(memory.read_half(address))
 }
 
 /// The word at an address, its lowest byte first. Refused with trap 4 where the address is no
@@ -69,12 +69,7 @@ pub fn read_u32<M: Bytes>(memory: &M, address: u32) -> Result<u32, Trap>
     ensures err { IfErr result (λ trap. fault_of (length (M.text memory.now)) (length (M.memory memory.now)) Reads address 4 ≡ Some trap) }
 {
     check_load(memory, address, 4)?;
-    Ok(u32::from_le_bytes([
-        memory.read(address),
-        memory.read(address + 1),
-        memory.read(address + 2),
-        memory.read(address + 3),
-    ]))
+    Ok(memory.read_word(address))
 }
 
 /// The word of data that an atomic addition finds. Refused as [`write_u32`] is.
@@ -111,9 +106,7 @@ pub fn write_u16<M: Bytes>(memory: &mut M, address: u32, value: u16) -> Result<(
     ensures text { M.text memory.new ≡ M.text memory.old }
 {
     check_store(memory, address, 2)?;
-    let bytes = value.to_le_bytes();
-    memory.write(address, bytes[0]);
-    memory.write(address + 1, bytes[1]);
+    memory.write_half(address, value);
     Ok(())
 }
 
@@ -127,10 +120,6 @@ pub fn write_u32<M: Bytes>(memory: &mut M, address: u32, value: u32) -> Result<(
     ensures text { M.text memory.new ≡ M.text memory.old }
 {
     check_store(memory, address, 4)?;
-    let bytes = value.to_le_bytes();
-    memory.write(address, bytes[0]);
-    memory.write(address + 1, bytes[1]);
-    memory.write(address + 2, bytes[2]);
-    memory.write(address + 3, bytes[3]);
+    memory.write_word(address, value);
     Ok(())
 }

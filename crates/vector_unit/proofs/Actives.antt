@@ -1,5 +1,7 @@
 -- The active elements, index by index, and what they give.
-use Rattle.std.proofs.Common.{◌≡◌, ℕ, ◌+◌, ◌≤◌, Bool, map, take, sym, ◌∙◌, ap}
+use Rattle.std.proofs.Common.{◌≡◌, ℕ, zero, suc, ◌+◌, ◌≤◌, Bool, true, List, map, take, refl, sym, ◌∙◌, ap, arith}
+use Rattle.std.specs.Prelude.{replicate}
+use Rattle.std.proofs.lemmas.Bool.Decides.{nat_tests}
 use Rattle.std.proofs.lemmas.List.{map-id}
 use Rattle.std.proofs.lemmas.List.FromFn.{take-map-range_with_len}
 use Rattle.std.specs.List.{range_with_len}
@@ -33,3 +35,14 @@ addresses_each state spacing vm base = ap (λ flags. map (word.add 32 base) (cho
 pub active_first : (state : Vectors) (vm : Bool) → count state ≤ 64 → take (count state) (active 0 64 state.vl vm (register state 0)) ≡ active_in state vm
 unfolding active
 active_first state vm l = take-map-range_with_len (λ i. is_active state.vl vm (register state 0) (0 + i)) 0 64 (count state) l
+
+all_from : (vl : ℕ) (mask : List ℕ) (i n : ℕ) → i + n ≤ vl → map (λ k. is_active vl true mask (0 + k)) (range_with_len i n) ≡ replicate n true
+all_from vl mask i zero l = refl
+all_from vl mask i (suc n) l =
+    let here : is_active vl true mask (0 + i) ≡ true = grind (arith, nat_tests, l) in
+    rw (here, all_from vl mask (i + 1) n (omega (arith, l))) refl
+
+-- where vl takes all elements, an unmasked instruction works on each
+pub all_active : (state : Vectors) → count state ≤ state.vl → active_in state true ≡ replicate (count state) true
+unfolding active
+all_active state l = all_from state.vl (register state 0) 0 (count state) (omega (arith, l))

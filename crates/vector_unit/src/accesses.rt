@@ -1,12 +1,12 @@
 //! What vector loads and stores need of the vector unit: where the elements lie, and the elements
 //! themselves, one by one.
 
-ghost use Rattle.std.specs.Prelude.{◌≡◌, ◌<◌, ◌≤◌, ◌+◌, ◌*◌, false, length};
-ghost use Rattle.lanes.specs.Registers.{with_element};
+ghost use Rattle.std.specs.Prelude.{◌≡◌, ◌<◌, ◌≤◌, ◌+◌, ◌*◌, ◌/◌, true, false, length, replicate};
+ghost use Rattle.lanes.specs.Registers.{element, with_element};
 ghost use Rattle.lanes.specs.Masks.{is_active};
 ghost use Rattle.vector_unit.specs.VectorState.{register, with_register, has_vill};
 ghost use Rattle.vector_unit.specs.Vector as spec;
-ghost use Rattle.vector_unit.specs.Vector.{width, count, group_at, element_from};
+ghost use Rattle.vector_unit.specs.Vector.{width, count, group_at, element_from, active_in};
 ghost use Rattle.vector_unit.specs.Accesses.{offset, addresses_by, active_numbers, filled_from, loaded, with_element_from};
 
 use crate::numbers::Numbers;
@@ -84,9 +84,24 @@ impl VectorState {
     {
         let index = index as usize;
         match width {
-            ElementWidth::Bits8 => u8::read(&self.part(v, index / 16), index % 16).to_u32(),
-            ElementWidth::Bits16 => u16::read(&self.part(v, index / 8), index % 8).to_u32(),
-            ElementWidth::Bits32 => u32::read(&self.part(v, index / 4), index % 4).to_u32(),
+            ElementWidth::Bits8 => self.get::<u8>(v, index / 16, index % 16).to_u32(),
+            ElementWidth::Bits16 => self.get::<u16>(v, index / 8, index % 8).to_u32(),
+            ElementWidth::Bits32 => self.get::<u32>(v, index / 4, index % 4).to_u32(),
+        }
+    }
+
+    /// An element of a register of a group; beyond the last register it is 0.
+    #[inline(always)]
+    fn get<K: LaneKind>(&self, v: VReg, part: usize, index: usize) -> K
+        requires part { part < 64 }
+        requires index { index < 128 / K.width }
+        ensures { K.number result ≡ element K.width (register self.now (v + part)) index }
+    {
+        let at = v.number() as usize + part;
+        if at < 32 {
+            K::read(&self.registers[at], index)
+        } else {
+            K::read(&[0; 16], index)
         }
     }
 
@@ -97,6 +112,15 @@ impl VectorState {
         ensures { result ≡ is_active self.now.vl vm (register self.now 0) index }
     {
         index < self.vl && (vm || mask_bit(&self.registers[0], index as usize))
+    }
+
+    /// Whether an instruction with this mask bit works on all elements, whatever the mask holds.
+    #[tactic(auto, using(crate::proofs::Actives::all_active))]
+    #[inline(always)]
+    pub fn is_full(&self, vm: bool) -> bool
+        ensures { result ≡ true → active_in self.now vm ≡ replicate (count self.now) true }
+    {
+        vm && self.vl >= self.count()
     }
 
     /// The addresses of the active elements, element by element.
@@ -162,7 +186,8 @@ impl VectorState {
     }
 
     /// Writes the low bits of a number to an element of a width, of those of the registers from one on.
-    fn put_element(&mut self, width: ElementWidth, v: VReg, index: u32, number: u32)
+    #[inline(always)]
+    pub fn put_element(&mut self, width: ElementWidth, v: VReg, index: u32, number: u32)
         requires { index < 64 }
         ensures { self.new ≡ with_element_from self.old (spec.bits_of width) v index number }
     {
@@ -174,14 +199,16 @@ impl VectorState {
         }
     }
 
-    /// Writes an element of a register of a group.
-    fn put<K: LaneKind>(&mut self, value: K, v: VReg, part: usize, place: usize)
+    /// Writes an element of a register of a group; beyond the last register nothing.
+    #[inline(always)]
+    fn put<K: LaneKind>(&mut self, value: K, v: VReg, part: usize, index: usize)
         requires part { part < 64 }
-        requires place { place * K.width + K.width ≤ 128 }
-        ensures { self.new ≡ with_register self.old (v + part) (with_element K.width (register self.old (v + part)) place (K.number value)) }
+        requires index { index < 128 / K.width }
+        ensures { self.new ≡ with_register self.old (v + part) (with_element K.width (register self.old (v + part)) index (K.number value)) }
     {
-        let mut register = self.part(v, part);
-        value.write(&mut register, place);
-        self.set_part(v, part, register);
+        let at = v.number() as usize + part;
+        if at < 32 {
+            value.write(&mut self.registers[at], index);
+        }
     }
 }

@@ -1,0 +1,28 @@
+-- Accesses to all elements of a group that lie one behind the other in data: the words of private functions, which a reader need
+-- not believe.
+use Rattle.std.specs.Prelude.{◌≡◌, ◌<◌, ℕ, zero, suc, ◌+◌, ◌*◌, ◌%◌, ◌^◌, Bool, true, IsTrue, List, [], ◌∷◌, replicate}
+use Rattle.rv_insn.specs.declared.vector_operations.ElementWidth.{ElementWidth}
+use Rattle.memory.specs.Addresses.{in_data}
+use Rattle.memory.specs.Access.{bytes_in}
+use Rattle.vector_unit.specs.VectorState.{Vectors}
+use Rattle.vector_unit.specs.Vector.{count, active_in}
+use Rattle.vector_unit.specs.declared.accesses.Spacing.{Spacing}
+use Rattle.vector_unit.specs.declared.accesses.Spacing.TheVariants.{UnitStride}
+use Rattle.hart_core.specs.VectorRows.{size_of}
+
+-- so many addresses, of elements of a width one behind the other
+abbrev pub addresses_from : ElementWidth → ℕ → ℕ → List ℕ
+addresses_from w address zero = []
+addresses_from w address (suc others) = address ∷ addresses_from w (address + bytes_in (size_of w)) others
+
+-- so many elements of a width from an address on are aligned and lie in a data of so many bytes
+pub record LiesInData (bytes : ℕ) (w : ElementWidth) (address others : ℕ) : Type 0 where
+  pub aligned : address % bytes_in (size_of w) ≡ 0
+  pub inside : IsTrue (in_data bytes address (others * bytes_in (size_of w)))
+  pub below : address + others * bytes_in (size_of w) < 2 ^ 32
+
+-- an access to all elements, one behind the other, that lies so
+pub record IsPiece (bytes : ℕ) (state : Vectors) (w : ElementWidth) (spacing : Spacing) (vm : Bool) (base : ℕ) : Type 0 where
+  pub spacing_is : spacing ≡ UnitStride w
+  pub full : active_in state vm ≡ replicate (count state) true
+  pub lies : LiesInData bytes w base (count state)

@@ -1,0 +1,120 @@
+//! Loads and stores of all elements of a group that lie one behind the other in data: judged once, and moved one after the other.
+
+ghost use Rattle.std.specs.Prelude.{◌≡◌, ◌<◌, ◌≤◌, ◌+◌, ◌*◌, ◌%◌, ◌^◌, true, false, IsTrue, length, map, replicate};
+ghost use Rattle.std.specs.List.{range_with_len};
+ghost use Rattle.memory.specs.Addresses.{covers_load, in_data, put};
+ghost use Rattle.memory.specs.Access.{bytes_in, number_at, number_in, put_number, spread, touched};
+ghost use Rattle.vector_unit.specs.VectorState.{has_vill};
+ghost use Rattle.vector_unit.specs.Vector.{bits_of, element_from};
+ghost use Rattle.vector_unit.specs.Accesses.{filled_from};
+ghost use Rattle.hart_core.specs.VectorRows.{accesses_at, size_of};
+ghost use Rattle.hart_core.specs.HartState.{register, vectors_of, with_vectors};
+ghost use Rattle.hart_core.specs.inner.Pieces.{addresses_from, IsPiece, LiesInData};
+
+use crate::element_accesses::bytes_of;
+use crate::harts::Hart;
+use memory::Bytes;
+use rv_insn::{ElementWidth, VReg};
+use vector_unit::{Spacing, VectorState};
+
+/// Addresses from which on the greatest group may reach the end of all addresses.
+const LAST_ADDRESSES: u32 = 0xffff_ff00;
+
+/// The number of a width at an aligned address of text or data.
+#[inline(always)]
+fn read_covered<M: Bytes>(width: ElementWidth, memory: &M, address: u32) -> u32
+    requires aligned { address % bytes_in (size_of width) ≡ 0 }
+    requires covered { IsTrue (in_data (length (M.memory memory.now)) address (bytes_in (size_of width))) }
+    ensures { result ≡ number_in (M.text memory.now) (M.memory memory.now) (size_of width) address }
+{
+    match width {
+        ElementWidth::Bits8 => u32::from(memory.read(address)),
+        ElementWidth::Bits16 => u32::from(memory.read_half(address)),
+        ElementWidth::Bits32 => memory.read_word(address),
+    }
+}
+
+/// Puts the low bits of a number at an aligned address of data.
+#[inline(always)]
+fn write_covered<M: Bytes>(width: ElementWidth, memory: &mut M, address: u32, number: u32)
+    requires aligned { address % bytes_in (size_of width) ≡ 0 }
+    requires covered { IsTrue (in_data (length (M.memory memory.old)) address (bytes_in (size_of width))) }
+    ensures put { M.memory memory.new ≡ put_number (M.memory memory.old) (size_of width) address number }
+    ensures text { M.text memory.new ≡ M.text memory.old }
+{
+    match width {
+        ElementWidth::Bits8 => memory.write(address, (number & 0xff) as u8),
+        ElementWidth::Bits16 => memory.write_half(address, (number & 0xffff) as u16),
+        ElementWidth::Bits32 => memory.write_word(address, number),
+    }
+}
+
+/// Whether an access works on all elements, and they lie one behind the other, aligned, in data.
+#[inline(always)]
+pub(crate) fn is_piece<M: Bytes>(
+    memory: &M,
+    state: &VectorState,
+    width: ElementWidth,
+    spacing: Spacing,
+    vm: bool,
+    base: u32,
+) -> bool
+    requires { has_vill state.now ≡ false }
+    ensures { result ≡ true → IsPiece (length (M.memory memory.now)) state.now width spacing vm base }
+{
+    let bytes = state.count() * bytes_of(width);
+    spacing == Spacing::UnitStride(width)
+        && state.is_full(vm)
+        && base % bytes_of(width) == 0
+        && base < LAST_ADDRESSES
+        && memory.covers_store(base, bytes)
+}
+
+impl Hart {
+    /// Loads so many elements of a width from one on, which lie one behind the other in data.
+    pub(crate) fn load_piece<M: Bytes>(
+        &mut self,
+        memory: &M,
+        width: ElementWidth,
+        vd: VReg,
+        address: u32,
+        index: u32,
+        others: u32,
+    )
+        requires few { index + others ≤ 64 }
+        requires lies { LiesInData (length (M.memory memory.now)) width address others }
+        ensures { self.new ≡ with_vectors self.old (filled_from index (vectors_of self.old) (bits_of width) vd (replicate others true)
+            (map (number_at (M.text memory.now) (M.memory memory.now)) (accesses_at width (addresses_from width address others)))) }
+    {
+        if others > 0 {
+            let number = read_covered(width, memory, address);
+            self.put_element(width, vd, index, number);
+            let next = address + bytes_of(width);
+            self.load_piece(memory, width, vd, next, index + 1, others - 1);
+        }
+    }
+}
+
+/// Stores so many elements of a width from one on, which are to lie one behind the other in data.
+pub(crate) fn store_piece<M: Bytes>(
+    memory: &mut M,
+    state: &VectorState,
+    width: ElementWidth,
+    vs3: VReg,
+    address: u32,
+    index: u32,
+    others: u32,
+)
+    requires few { index + others ≤ 64 }
+    requires lies { LiesInData (length (M.memory memory.old)) width address others }
+    ensures put { M.memory memory.new ≡ put (M.memory memory.old) (touched (accesses_at width (addresses_from width address others)))
+        (spread (accesses_at width (addresses_from width address others)) (map (element_from state.now (bits_of width) vs3) (range_with_len index others))) }
+    ensures text { M.text memory.new ≡ M.text memory.old }
+{
+    if others > 0 {
+        let number = state.element(width, vs3, index);
+        write_covered(width, memory, address, number);
+        let next = address + bytes_of(width);
+        store_piece(memory, state, width, vs3, next, index + 1, others - 1);
+    }
+}
