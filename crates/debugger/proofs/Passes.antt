@@ -1,6 +1,6 @@
 -- What is known of turns that are passed at once.
-use Rattle.std.proofs.Common.{◌≡◌, ℕ, ◌+◌, ◌-◌, ◌<◌, ◌≤◌, ◌==◌, ◌||◌, Bool, length, replicate, Some, ap, sym, subst, ◌∙◌, arith, inl, inr}
-use Rattle.std.specs.Prelude.{◌≢◌}
+use Rattle.std.proofs.Common.{◌≡◌, ℕ, ◌+◌, ◌-◌, ◌<◌, ◌≤◌, ◌==◌, ◌||◌, Bool, true, false, length, replicate, Option, Some, None, ap, sym, subst, ◌∙◌, arith, inl, inr}
+use Rattle.std.specs.Prelude.{◌≢◌, MatchOption}
 use Rattle.std.specs.List.{list_any}
 use Rattle.std.proofs.lemmas.Bool.{cases_lt}
 use Rattle.hart_core.specs.declared.harts.Status.TheVariants.{Running}
@@ -8,8 +8,10 @@ use Rattle.multi_hart.specs.Run.{State, run, hart_at}
 use Rattle.turn_log.specs.TurnLog.{LogState, IsLog}
 use Rattle.turn_log.specs.RunAt.{Stand, run_at}
 use Rattle.loader.specs.Loading.{machine_of}
-use Rattle.debugger.specs.Places.{SessionState, state_at}
-use Rattle.debugger.specs.Stops.{break_stops, differs, watch_stops, stops}
+use Rattle.debugger.specs.Places.{SessionState, state_at, moved}
+use Rattle.debugger.specs.declared.passing.Passed.{Passed}
+use Rattle.debugger.specs.inner.Passing.{IsPassed, Latest}
+use Rattle.debugger.specs.Stops.{break_stops, differs, watch_stops, stops, IsPreviousStop, NoPreviousStop}
 use Rattle.debugger.proofs.Places.{next-is, run-standing, run-resting, next-standing}
 use Rattle.debugger.proofs.Stopping.{watches-behind, stops-between}
 
@@ -65,4 +67,27 @@ at-once session log machine place hart count turns same is e state harts some mo
       most = most;
       there = omega (arith, next.below, harts, all);
       rests = λ two. subst (λ (s : State). (hart_at s hart).status ≢ Running) state (rests two);
+    }
+
+-- marks stop where they do, wherever the session stands
+pub passed-from : (session here : SessionState) (place : ℕ) (passed : Passed) → here ≡ moved session place → IsPassed here here.place passed → IsPassed session place passed
+passed-from session here place passed e is =
+    let same : IsPassed (moved session place) place passed = subst (λ (s : SessionState). IsPassed s s.place passed) e is in
+    record { some = same.some; between = same.between; behind = same.behind }
+
+pub latest-from : (session here : SessionState) (at from place : ℕ) (last : Option ℕ) → here ≡ moved session at → Latest here from place last → Latest session from place last
+latest-from session here at from place None e latest = subst (λ (s : SessionState). Latest s from place None) e latest
+latest-from session here at from place (Some stop) e latest = subst (λ (s : SessionState). Latest s from place (Some stop)) e latest
+
+-- where all places behind the start are looked through, the start is left
+pub previous-at-start : (session here : SessionState) (at : ℕ) (found : Option ℕ) → here ≡ moved session at → 0 < session.place → ((k : ℕ) → 0 < k → k < session.place → stops session k ≡ false) → MatchOption found (stops here 0 ≡ false) (λ stop. (stop ≡ 0) × (stops here 0 ≡ true)) → MatchOption found (NoPreviousStop session) (IsPreviousStop session)
+previous-at-start session here at None e some none start =
+    let same : stops session 0 ≡ false = subst (λ (s : SessionState). stops s 0 ≡ false) e start in
+    record { none = λ k before. elim (cases_lt 0 k) [ inl after ↦ none k after before | inr first ↦ let z : k ≡ 0 = omega arith in ap (stops session) z ∙ same ] }
+previous-at-start session here at (Some stop) e some none start =
+    let same : stops session 0 ≡ true = subst (λ (s : SessionState). stops s 0 ≡ true) e start.1 in
+    record {
+      before = omega (arith, start.0);
+      stops_there = ap (stops session) start.0 ∙ same;
+      greatest = λ k after before. none k (omega (arith, start.0)) before;
     }

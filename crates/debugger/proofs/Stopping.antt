@@ -60,30 +60,24 @@ stops-between session place turns hart some here before next =
 
 -- ---- the last stop up to a place
 
-pub latest-behind : (session : SessionState) (end : ℕ) → stops session end ≡ true → Latest session end (Some end)
-latest-behind session end stop = (omega arith, stop, λ k after within. absurd (omega arith))
+pub latest-behind : (session : SessionState) (from end : ℕ) → stops session end ≡ true → Latest session from end (Some end)
+latest-behind session from end stop = (omega arith, stop, λ k after within. absurd (omega arith))
 
-pub latest-between : (session : SessionState) (place turns : ℕ) → 1 < turns → ((k : ℕ) → place < k → k < place + turns → stops session k ≡ true) → stops session (place + turns) ≡ false → Latest session (place + turns) (Some (place + turns - 1))
-latest-between session place turns two between behind =
+pub latest-between : (session : SessionState) (from place turns : ℕ) → 1 < turns → ((k : ℕ) → place < k → k < place + turns → stops session k ≡ true) → stops session (place + turns) ≡ false → Latest session from (place + turns) (Some (place + turns - 1))
+latest-between session from place turns two between behind =
     (omega arith, between (place + turns - 1) (omega arith) (omega arith), λ k after within. let e : k ≡ place + turns = omega arith in ap (stops session) e ∙ behind)
 
 further : (session : SessionState) (place turns k : ℕ) → place < k → k ≤ place + turns → ((k : ℕ) → place < k → k < place + turns → stops session k ≡ false) → stops session (place + turns) ≡ false → stops session k ≡ false
 further session place turns k after within between behind =
     elim (cases_lt k (place + turns)) [ inl less ↦ between k after less | inr not_less ↦ let e : k ≡ place + turns = omega arith in ap (stops session) e ∙ behind ]
 
-pub latest-keeps : (session : SessionState) (place turns : ℕ) (last : Option ℕ) → ((k : ℕ) → place < k → k < place + turns → stops session k ≡ false) → stops session (place + turns) ≡ false → Latest session place last → Latest session (place + turns) last
-latest-keeps session place turns None between behind latest =
-    λ k within. elim (cases_lt place k) [ inl after ↦ further session place turns k after within between behind | inr here ↦ latest k here ]
-latest-keeps session place turns (Some stop) between behind latest =
+pub latest-keeps : (session : SessionState) (from place turns : ℕ) (last : Option ℕ) → ((k : ℕ) → place < k → k < place + turns → stops session k ≡ false) → stops session (place + turns) ≡ false → Latest session from place last → Latest session from (place + turns) last
+latest-keeps session from place turns None between behind latest =
+    λ k from-k within. elim (cases_lt place k) [ inl after ↦ further session place turns k after within between behind | inr here ↦ latest k from-k here ]
+latest-keeps session from place turns (Some stop) between behind latest =
     (omega (arith, latest.0), latest.1, λ k after within. elim (cases_lt place k) [ inl past ↦ further session place turns k past within between behind | inr here ↦ latest.2 k after here ])
 
 -- at the start only breaks stop
-stops-start : (session : SessionState) (on_break : Bool) → on_break ≡ list_any (break_stops session 0) session.breaks → stops session 0 ≡ on_break
+pub stops-start : (session : SessionState) (on_break : Bool) → on_break ≡ list_any (break_stops session 0) session.breaks → stops session 0 ≡ on_break
 stops-start session on_break e =
     ap (λ b. b || list_any (watch_stops session 0) session.watches) (sym e) ∙ ap (λ b. on_break || b) (watches-start session) ∙ or-false on_break
-
-pub latest-start : (session : SessionState) → list_any (break_stops session 0) session.breaks ≡ true → Latest session 0 (Some 0)
-latest-start session on_break = latest-behind session 0 (stops-start session true (sym on_break))
-
-pub latest-start-none : (session : SessionState) → list_any (break_stops session 0) session.breaks ≡ false → Latest session 0 None
-latest-start-none session on_break = λ k within. let e : k ≡ 0 = omega arith in ap (stops session) e ∙ stops-start session false (sym on_break)

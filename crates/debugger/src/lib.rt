@@ -12,6 +12,7 @@
 //! - [`refusals`]: why a call is refused ([`Refusal`]).
 #![tactic(auto)]
 
+mod kept;
 pub mod marks;
 mod passing;
 pub mod readers;
@@ -19,6 +20,7 @@ pub mod refusals;
 pub mod sessions;
 pub mod stops;
 mod turns;
+mod walking;
 
 pub use crate::refusals::Refusal;
 pub use crate::sessions::Session;

@@ -1,13 +1,13 @@
 //! Sessions, and going from place to place.
 
 ghost use Rattle.std.specs.Prelude.{◌≡◌, ◌≢◌, ◌+◌, ◌-◌, ◌<◌, ◌≤◌, length, Err, OnOk, OnErr, IfOk, IfErr};
-ghost use Rattle.debugger.specs.Places.{state_at, opened, moved};
+ghost use Rattle.debugger.specs.Places.{opened, moved};
 ghost use Rattle.debugger.specs.Refusals.{UnlessMemory};
 
+use crate::kept::KeptPlace;
 use crate::refusals::Refusal;
-use crate::turns::make_turns;
 use loader::Image;
-use multi_hart::Machine;
+use multi_hart::{Machine, Snapshot};
 use std::alloc::{AllocError, Global};
 use std::marker::Model;
 use turn_log::TurnLog;
@@ -23,6 +23,11 @@ pub struct Session {
     pub(crate) watches: Vec<u32>,
     /// The machine after the turns before the place.
     pub(crate) machine: Machine,
+    /// The state at the start of the log.
+    pub(crate) opening: Snapshot,
+    /// The last copies that were made on the way, the first one first.
+    pub(crate) kept: Vec<KeptPlace>,
+    pub(crate) steps: u64,
 }
 
 impl Model for Session {
@@ -33,15 +38,16 @@ impl Model for Session {
 
     ghost view = { λ s. record { image = s.image; log = s.log; place = s.place; breaks = s.breaks.items; watches = s.watches.items } };
 
-    ghost invariant = { λ s. Held (record { image = s.image; log = s.log; place = s.place; breaks = s.breaks.items; watches = s.watches.items }) s.machine };
+    ghost invariant = { λ s. Held (record { image = s.image; log = s.log; place = s.place; breaks = s.breaks.items; watches = s.watches.items }) s.machine s.opening s.kept.items };
 }
 
 impl Session {
-    /// A session at the start of a log, with no mark. A machine of the log's harts is made.
+    /// A session at the start of a log, with no mark. A machine of the log's harts is made, and a copy of its state.
     pub fn open(alloc: Global, image: Image, log: TurnLog) -> Result<Session, AllocError>
         ensures { IfOk result (λ session. session ≡ opened image log) }
     {
         let machine = image.machine(alloc, log.harts())?;
+        let opening = Snapshot::of(alloc, &machine)?;
         Ok(Session {
             image,
             log,
@@ -49,11 +55,14 @@ impl Session {
             breaks: Vec::new(alloc),
             watches: Vec::new(alloc),
             machine,
+            opening,
+            kept: Vec::new(alloc),
+            steps: 0,
         })
     }
 
-    /// Goes to a place, refused where the log has fewer turns. Forwards it takes no memory; backwards the
-    /// turns are made again from the start, on a new machine.
+    /// Goes to a place, refused where the log has fewer turns. Backwards the turns are made again from the nearest copy before the
+    /// place. It needs no memory: a copy for which there is none isn't kept.
     pub fn goto(&mut self, alloc: Global, k: u64) -> Result<(), Refusal>
         ensures ok { OnOk result (self.new ≡ moved self.old k) }
         ensures within { OnOk result (k ≤ length self.old.log.turns) }
@@ -64,16 +73,11 @@ impl Session {
         if k > self.log.len() {
             return Err(Refusal::PastEnd);
         }
-        if k < self.place {
-            self.machine = self.machine_at(alloc, k)?;
-        } else {
-            make_turns(&mut self.machine, &self.log, self.place, k);
-        }
-        self.place = k;
+        self.stand_at(alloc, k);
         Ok(())
     }
 
-    /// Makes one more turn, refused at the end of the log. It takes no memory.
+    /// Makes one more turn, refused at the end of the log.
     pub fn next(&mut self, alloc: Global) -> Result<(), Refusal>
         ensures ok { OnOk result (self.new ≡ moved self.old (self.old.place + 1)) }
         ensures before_end { OnOk result (self.old.place < length self.old.log.turns) }
@@ -100,16 +104,5 @@ impl Session {
         }
         self.goto(alloc, self.place - 1)?;
         Ok(())
-    }
-
-    /// A new machine after so many of the log's turns.
-    pub(crate) fn machine_at(&self, alloc: Global, place: u64) -> Result<Machine, AllocError>
-        requires { place ≤ length self.now.log.turns }
-        ensures state { IfOk result (λ machine. machine ≡ state_at self.now place) }
-        ensures harts { IfOk result (λ machine. length machine.harts ≡ self.now.log.harts) }
-    {
-        let mut machine = self.image.machine(alloc, self.log.harts())?;
-        make_turns(&mut machine, &self.log, 0, place);
-        Ok(machine)
     }
 }

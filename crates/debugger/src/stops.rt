@@ -1,13 +1,15 @@
 //! Going to the next and to the previous stop.
 
-ghost use Rattle.std.specs.Prelude.{◌≡◌, ◌≤◌, OnOk, OnErr, IfOk, IfErr, IfSome, MatchOption, length};
+ghost use Rattle.std.specs.Prelude.{◌≡◌, ◌<◌, ◌≤◌, true, false, OnOk, OnErr, IfErr, IfSome, MatchOption, length};
 ghost use Rattle.debugger.specs.Places.{moved};
 ghost use Rattle.debugger.specs.Refusals.{UnlessMemory};
-ghost use Rattle.debugger.specs.Stops.{IsNextStop, NoNextStop, IsPreviousStop, NoPreviousStop};
+ghost use Rattle.debugger.specs.Stops.{stops, IsNextStop, NoNextStop, IsPreviousStop, NoPreviousStop};
+ghost use Rattle.debugger.specs.inner.Passing.{Latest};
 
+use crate::passing::is_on_break;
 use crate::refusals::Refusal;
 use crate::sessions::Session;
-use std::alloc::{AllocError, Global};
+use std::alloc::Global;
 
 impl Session {
     /// Goes to the least place after this one at which a mark stops. Refused where there is none.
@@ -17,12 +19,16 @@ impl Session {
         ensures err { IfErr result (λ refusal. UnlessMemory refusal ((refusal ≡ Refusal.NoStop) × NoNextStop self.old)) }
         ensures unchanged { OnErr result (self.new ≡ self.old) }
     {
-        match self.next_stop(alloc)? {
+        let from = self.place();
+        match self.next_stop(alloc) {
             Some(stop) => {
-                self.goto(alloc, stop)?;
+                self.stand_at(alloc, stop);
                 Ok(())
             }
-            None => Err(Refusal::NoStop),
+            None => {
+                self.stand_at(alloc, from);
+                Err(Refusal::NoStop)
+            }
         }
     }
 
@@ -33,55 +39,87 @@ impl Session {
         ensures err { IfErr result (λ refusal. UnlessMemory refusal ((refusal ≡ Refusal.NoStop) × NoPreviousStop self.old)) }
         ensures unchanged { OnErr result (self.new ≡ self.old) }
     {
-        match self.previous_stop(alloc)? {
+        let from = self.place();
+        match self.previous_stop(alloc) {
             Some(stop) => {
-                self.goto(alloc, stop)?;
+                self.stand_at(alloc, stop);
                 Ok(())
             }
-            None => Err(Refusal::NoStop),
+            None => {
+                self.stand_at(alloc, from);
+                Err(Refusal::NoStop)
+            }
         }
     }
 
-    /// The least stop after the place, found on a machine of its own.
-    fn next_stop(&self, alloc: Global) -> Result<Option<u64>, AllocError>
-        ensures { IfOk result (λ found. MatchOption found (NoNextStop self.now) (IsNextStop self.now)) }
+    /// The least stop after the place. The session is then at that stop or behind it, or at the end where there is none.
+    fn next_stop(&mut self, alloc: Global) -> Option<u64>
+        ensures state { self.new ≡ moved self.old self.new.place }
+        ensures stop { MatchOption result (NoNextStop self.old) (IsNextStop self.old) }
     {
-        let mut machine = self.machine_at(alloc, self.place)?;
-        let mut place = self.place;
-        while place < self.log.len() {
-            let passed = self.pass(&mut machine, place, self.log.len());
-            if passed.turns > 1 && passed.between {
-                return Ok(Some(place + 1));
-            }
-            place += passed.turns;
-            if passed.behind {
-                return Ok(Some(place));
+        let end = self.length();
+        let mut place = self.place();
+        while place < end {
+            let passed = self.pass_on(alloc, end);
+            match passed.first(place) {
+                Some(stop) => return Some(stop),
+                None => place += passed.turns,
             }
         }
-        Ok(None)
+        None
     }
 
-    /// The greatest stop before the place, found on a machine of its own, from the start of the log on.
-    fn previous_stop(&self, alloc: Global) -> Result<Option<u64>, AllocError>
-        ensures stop { IfOk result (λ found. MatchOption found (NoPreviousStop self.now) (IsPreviousStop self.now)) }
-        ensures within { IfOk result (λ found. IfSome found (λ stop. stop ≤ length self.now.log.turns)) }
+    /// The greatest stop before the place, looked for from the nearest copy before it on, then from the one before that, and so on.
+    /// The session is then somewhere before its place.
+    fn previous_stop(&mut self, alloc: Global) -> Option<u64>
+        ensures state { self.new ≡ moved self.old self.new.place }
+        ensures stop { MatchOption result (NoPreviousStop self.old) (IsPreviousStop self.old) }
+        ensures within { IfSome result (λ stop. stop ≤ length self.old.log.turns) }
     {
-        if self.place == 0 {
-            return Ok(None);
+        let place = self.place();
+        if place == 0 {
+            return None;
         }
-        let last_place = self.place - 1;
-        let mut machine = self.machine_at(alloc, 0)?;
-        let mut place = 0;
-        let mut last = if self.is_on_break(&machine, 0) {
+        // Behind this one and before the place there is none.
+        let mut last_place = place - 1;
+        while last_place > 0 {
+            self.approach(last_place - 1);
+            let begin = self.place();
+            match self.last_stop(alloc, last_place) {
+                Some(stop) => return Some(stop),
+                None => last_place = begin,
+            }
+        }
+        self.approach(0);
+        self.stop_at_start()
+    }
+
+    /// The start of the log where a mark stops there.
+    fn stop_at_start(&self) -> Option<u64>
+        requires { self.now.place ≡ 0 }
+        ensures { MatchOption result (stops self.now 0 ≡ false) (λ stop. (stop ≡ 0) × (stops self.now 0 ≡ true)) }
+    {
+        if is_on_break(&self.log, &self.breaks, &self.machine, 0) {
             Some(0)
         } else {
             None
-        };
+        }
+    }
+
+    /// The greatest stop behind the place up to a later one, to which the session goes.
+    fn last_stop(&mut self, alloc: Global, last_place: u64) -> Option<u64>
+        requires after { self.old.place < last_place }
+        requires within { last_place ≤ length self.old.log.turns }
+        ensures state { self.new ≡ moved self.old last_place }
+        ensures latest { Latest self.old self.old.place last_place result }
+    {
+        let mut last = None;
+        let mut place = self.place();
         while place < last_place {
-            let passed = self.pass(&mut machine, place, last_place);
+            let passed = self.pass_on(alloc, last_place);
             last = passed.latest(place, last);
             place += passed.turns;
         }
-        Ok(last)
+        last
     }
 }

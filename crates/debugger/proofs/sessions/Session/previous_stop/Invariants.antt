@@ -1,15 +1,14 @@
-use Rattle.std.proofs.Common.{◌≡◌, ◌-◌, ◌≤◌, length}
-use Rattle.debugger.specs.Places.{state_at}
-use Rattle.debugger.specs.inner.Passing.{Latest}
+use Rattle.std.proofs.Common.{◌≡◌, ℕ, ◌<◌, false}
+use Rattle.debugger.specs.Places.{moved}
+use Rattle.debugger.specs.Stops.{stops}
 use Rattle.debugger.proofs.sessions.Session.previous_stop.Given as goal
 
-abbrev pub invariant-loop-place : goal.invariant-loop-place
-invariant-loop-place l = record {
-  state : l.machine ≡ state_at l.self l.place;
-  harts : length l.machine.harts ≡ l.self.log.harts;
-  within : l.place ≤ l.last_place;
-  latest : Latest l.self l.place l.last;
+abbrev pub invariant-loop-last_place : goal.invariant-loop-last_place
+invariant-loop-last_place l = record {
+  state : l.self ≡ moved l.fn.self l.self.place;
+  before : l.last_place < l.fn.self.place;
+  none : (k : ℕ) → l.last_place < k → k < l.fn.self.place → stops l.fn.self k ≡ false;
 }
 
-abbrev pub decreases-loop-place : goal.decreases-loop-place
-decreases-loop-place l = l.last_place - l.place
+abbrev pub decreases-loop-last_place : goal.decreases-loop-last_place
+decreases-loop-last_place l = l.last_place

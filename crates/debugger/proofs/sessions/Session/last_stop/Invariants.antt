@@ -1,0 +1,14 @@
+use Rattle.std.proofs.Common.{◌≡◌, ◌≤◌, ◌-◌}
+use Rattle.debugger.specs.Places.{moved}
+use Rattle.debugger.specs.inner.Passing.{Latest}
+use Rattle.debugger.proofs.sessions.Session.last_stop.Given as goal
+
+abbrev pub invariant-loop-place : goal.invariant-loop-place
+invariant-loop-place l = record {
+  state : l.self ≡ moved l.fn.self l.place;
+  within : l.place ≤ l.last_place;
+  latest : Latest l.fn.self l.fn.self.place l.place l.last;
+}
+
+abbrev pub decreases-loop-place : goal.decreases-loop-place
+decreases-loop-place l = l.last_place - l.place

@@ -1,0 +1,12 @@
+use Rattle.std.proofs.Common.{◌≡◌, ◌≤◌, ◌-◌}
+use Rattle.debugger.specs.Places.{moved}
+use Rattle.debugger.proofs.sessions.Session.stand_at.Given as goal
+
+abbrev pub invariant-loop-self : goal.invariant-loop-self
+invariant-loop-self l = record {
+  state : l.self ≡ moved l.fn.self l.self.place;
+  within : l.self.place ≤ l.place;
+}
+
+abbrev pub decreases-loop-self : goal.decreases-loop-self
+decreases-loop-self l = l.place - l.self.place
