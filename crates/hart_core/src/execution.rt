@@ -1,6 +1,7 @@
 //! What a hart does in a turn.
 
 ghost use Rattle.std.specs.Prelude.{◌≡◌, None, Some, length, IfOk, OnOk, IfErr, OnErr};
+ghost use Rattle.rv_insn.specs.declared.instructions.Insn.TheVariants as insns;
 ghost use Rattle.hart_core.specs.Alu.{extended, plus};
 ghost use Rattle.hart_core.specs.Scalar.{jump_fault, linked};
 ghost use Rattle.hart_core.specs.HartState.{register, at_pc};
@@ -11,7 +12,7 @@ use crate::alu::{computed, computed_with_immediate, is_taken, shifted};
 use crate::harts::{Hart, Status};
 use memory::{Bytes, read_for_amo, write_u32};
 use rv_encoding::decode;
-use rv_insn::{Imm12, Insn, Outcome, Reg, Trap};
+use rv_insn::{Imm12, Insn, Outcome, Reg, Trap, VectorInsn};
 
 impl Hart {
     /// One turn of the hart: the instruction that stands at the program counter, or nothing where the
@@ -41,13 +42,42 @@ impl Hart {
         ensures text { M.text memory.new ≡ M.text memory.old }
         ensures outcome { result ≡ (step_with (M.text memory.old) (M.memory memory.old) self.old insn).outcome }
     {
+        self.step_by(memory, &insn)
+    }
+
+    /// The same turn, of a meaning that stays where it is kept.
+    #[inline(always)]
+    pub fn step_by<M: Bytes>(&mut self, memory: &mut M, insn: &Option<Insn>) -> Outcome
+        ensures hart { self.new ≡ (step_with (M.text memory.old) (M.memory memory.old) self.old insn.now).hart }
+        ensures memory { M.memory memory.new ≡ (step_with (M.text memory.old) (M.memory memory.old) self.old insn.now).memory }
+        ensures text { M.text memory.new ≡ M.text memory.old }
+        ensures outcome { result ≡ (step_with (M.text memory.old) (M.memory memory.old) self.old insn.now).outcome }
+    {
         if self.status() != Status::Running {
             return Outcome::Idle;
         }
         let Some(insn) = insn else {
             return self.trap(Trap::IllegalInstruction);
         };
+        if let Insn::Vector(ref insn) = *insn {
+            return self.step_vector(memory, insn);
+        }
         match self.execute(insn, memory) {
+            Ok(outcome) => outcome,
+            Err(trap) => self.trap(trap),
+        }
+    }
+
+    /// A turn of a hart that runs, of a vector instruction: apart from the others, whose answers then stay in registers.
+    #[inline(never)]
+    fn step_vector<M: Bytes>(&mut self, memory: &mut M, insn: &VectorInsn) -> Outcome
+        requires { self.old.status ≡ Status.Running }
+        ensures hart { self.new ≡ (step_with (M.text memory.old) (M.memory memory.old) self.old (Some (insns.Vector insn.now))).hart }
+        ensures memory { M.memory memory.new ≡ (step_with (M.text memory.old) (M.memory memory.old) self.old (Some (insns.Vector insn.now))).memory }
+        ensures text { M.text memory.new ≡ M.text memory.old }
+        ensures outcome { result ≡ (step_with (M.text memory.old) (M.memory memory.old) self.old (Some (insns.Vector insn.now))).outcome }
+    {
+        match self.execute_vector(insn, memory) {
             Ok(outcome) => outcome,
             Err(trap) => self.trap(trap),
         }
@@ -55,14 +85,14 @@ impl Hart {
 
     /// Executes an instruction, or says which trap it makes and changes nothing.
     #[inline(always)]
-    fn execute<M: Bytes>(&mut self, insn: Insn, memory: &mut M) -> Result<Outcome, Trap>
-        ensures ok { IfOk result (λ outcome. IsDone (M.text memory.old) (M.memory memory.old) self.old insn self.new (M.memory memory.new) outcome) }
-        ensures trap { IfErr result (λ trap. fault (length (M.text memory.old)) (length (M.memory memory.old)) insn self.old ≡ Some trap) }
+    fn execute<M: Bytes>(&mut self, insn: &Insn, memory: &mut M) -> Result<Outcome, Trap>
+        ensures ok { IfOk result (λ outcome. IsDone (M.text memory.old) (M.memory memory.old) self.old insn.now self.new (M.memory memory.new) outcome) }
+        ensures trap { IfErr result (λ trap. fault (length (M.text memory.old)) (length (M.memory memory.old)) insn.now self.old ≡ Some trap) }
         ensures hart { OnErr result (self.new ≡ self.old) }
         ensures memory { OnErr result (M.memory memory.new ≡ M.memory memory.old) }
         ensures text { M.text memory.new ≡ M.text memory.old }
     {
-        match insn {
+        match *insn {
             Insn::Lui { rd, imm } => Ok(self.give(rd, imm.value() << 12)),
             Insn::Auipc { rd, imm } => {
                 let sum = self.pc().wrapping_add(imm.value() << 12);
@@ -126,7 +156,7 @@ impl Hart {
                 Ok(Outcome::Finished)
             }
             Insn::Ebreak => Err(Trap::Breakpoint),
-            Insn::Vector(insn) => self.execute_vector(&insn, memory),
+            Insn::Vector(ref insn) => self.execute_vector(insn, memory),
         }
     }
 

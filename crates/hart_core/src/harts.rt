@@ -22,7 +22,7 @@ pub enum Status {
 }
 
 /// One hart: program counter, integer and vector registers, vector configuration and status. A
-/// contract sees all of them as a `HartState`.
+/// contract sees all of them as a `HartState`. The field of x0 stays 0, so that a register is read without a test.
 #[derive(Drop)]
 pub struct Hart {
     pc: u32,
@@ -32,11 +32,14 @@ pub struct Hart {
 }
 
 impl Model for Hart {
+    ghost use Rattle.std.specs.Prelude.{◌≡◌, slice_index};
     ghost use Rattle.hart_core.specs.HartState.{HartState};
 
     ghost Value = { HartState };
 
     ghost view = { λ h. record { pc = h.pc; registers = h.registers; vectors = h.unit.registers; vl = h.unit.vl; vtype = h.unit.vtype; status = h.status } };
+
+    ghost invariant = { λ h. slice_index h.registers 0 ≡ 0 };
 }
 
 impl Hart {
@@ -79,8 +82,7 @@ impl Hart {
     pub fn register(&self, r: Reg) -> u32
         ensures { result ≡ register self.now r }
     {
-        let index = r.number() as usize;
-        if index == 0 { 0 } else { self.registers[index] }
+        self.registers[r.number() as usize]
     }
 
     /// The 16 bytes of a vector register, byte 0 first.

@@ -6,7 +6,7 @@ ghost use Rattle.memory.specs.Addresses.{covers_load, in_data, put};
 ghost use Rattle.memory.specs.Access.{bytes_in, number_at, number_in, put_number, spread, touched};
 ghost use Rattle.vector_unit.specs.VectorState.{has_vill};
 ghost use Rattle.vector_unit.specs.Vector.{bits_of, element_from};
-ghost use Rattle.vector_unit.specs.Accesses.{filled_from};
+ghost use Rattle.vector_unit.specs.Accesses.{filled_from, with_element_from};
 ghost use Rattle.hart_core.specs.VectorRows.{accesses_at, size_of};
 ghost use Rattle.hart_core.specs.HartState.{register, vectors_of, with_vectors};
 ghost use Rattle.hart_core.specs.inner.Pieces.{addresses_from, IsPiece, LiesInData};
@@ -71,50 +71,112 @@ pub(crate) fn is_piece<M: Bytes>(
 }
 
 impl Hart {
-    /// Loads so many elements of a width from one on, which lie one behind the other in data.
-    pub(crate) fn load_piece<M: Bytes>(
+    /// Loads an element of a width from an aligned address of data.
+    #[inline(always)]
+    fn load_one<M: Bytes>(
         &mut self,
         memory: &M,
         width: ElementWidth,
         vd: VReg,
         address: u32,
         index: u32,
+    )
+        requires few { index < 64 }
+        requires aligned { address % bytes_in (size_of width) ≡ 0 }
+        requires covered { IsTrue (in_data (length (M.memory memory.now)) address (bytes_in (size_of width))) }
+        ensures { self.new ≡ with_vectors self.old (with_element_from (vectors_of self.old) (bits_of width) vd index
+            (number_in (M.text memory.now) (M.memory memory.now) (size_of width) address)) }
+    {
+        let number = read_covered(width, memory, address);
+        self.put_element(width, vd, index, number);
+    }
+
+    /// Loads so many times four elements of a width, from one whose number is a multiple of four on, which lie one behind
+    /// the other in data. Four stand in one register at each width.
+    pub(crate) fn load_piece<M: Bytes>(
+        &mut self,
+        memory: &M,
+        width: ElementWidth,
+        vd: VReg,
+        address: u32,
+        quad: u32,
         others: u32,
     )
-        requires few { index + others ≤ 64 }
-        requires lies { LiesInData (length (M.memory memory.now)) width address others }
-        ensures { self.new ≡ with_vectors self.old (filled_from index (vectors_of self.old) (bits_of width) vd (replicate others true)
-            (map (number_at (M.text memory.now) (M.memory memory.now)) (accesses_at width (addresses_from width address others)))) }
+        requires few { 4 * (quad + others) ≤ 64 }
+        requires lies { LiesInData (length (M.memory memory.now)) width address (4 * others) }
+        ensures { self.new ≡ with_vectors self.old (filled_from (4 * quad) (vectors_of self.old) (bits_of width) vd (replicate (4 * others) true)
+            (map (number_at (M.text memory.now) (M.memory memory.now)) (accesses_at width (addresses_from width address (4 * others))))) }
     {
         if others > 0 {
-            let number = read_covered(width, memory, address);
-            self.put_element(width, vd, index, number);
-            let next = address + bytes_of(width);
-            self.load_piece(memory, width, vd, next, index + 1, others - 1);
+            let bytes = bytes_of(width);
+            let second = address + bytes;
+            let third = second + bytes;
+            let fourth = third + bytes;
+            let index = 4 * quad;
+            self.load_one(memory, width, vd, address, index);
+            self.load_one(memory, width, vd, second, index + 1);
+            self.load_one(memory, width, vd, third, index + 2);
+            self.load_one(memory, width, vd, fourth, index + 3);
+            self.load_piece(memory, width, vd, fourth + bytes, quad + 1, others - 1);
         }
     }
 }
 
-/// Stores so many elements of a width from one on, which are to lie one behind the other in data.
-pub(crate) fn store_piece<M: Bytes>(
+/// Stores an element of a width at an aligned address of data.
+#[inline(always)]
+fn store_one<M: Bytes>(
     memory: &mut M,
     state: &VectorState,
     width: ElementWidth,
     vs3: VReg,
     address: u32,
     index: u32,
+)
+    requires few { index < 64 }
+    requires aligned { address % bytes_in (size_of width) ≡ 0 }
+    requires covered { IsTrue (in_data (length (M.memory memory.old)) address (bytes_in (size_of width))) }
+    ensures put { M.memory memory.new ≡ put_number (M.memory memory.old) (size_of width) address (element_from state.now (bits_of width) vs3 index) }
+    ensures text { M.text memory.new ≡ M.text memory.old }
+{
+    let number = state.element(width, vs3, index);
+    write_covered(width, memory, address, number);
+}
+
+/// Stores so many times four elements of a width, from one whose number is a multiple of four on, which are to lie one
+/// behind the other in data.
+pub(crate) fn store_piece<M: Bytes>(
+    memory: &mut M,
+    state: &VectorState,
+    width: ElementWidth,
+    vs3: VReg,
+    address: u32,
+    quad: u32,
     others: u32,
 )
-    requires few { index + others ≤ 64 }
-    requires lies { LiesInData (length (M.memory memory.old)) width address others }
-    ensures put { M.memory memory.new ≡ put (M.memory memory.old) (touched (accesses_at width (addresses_from width address others)))
-        (spread (accesses_at width (addresses_from width address others)) (map (element_from state.now (bits_of width) vs3) (range_with_len index others))) }
+    requires few { 4 * (quad + others) ≤ 64 }
+    requires lies { LiesInData (length (M.memory memory.old)) width address (4 * others) }
+    ensures put { M.memory memory.new ≡ put (M.memory memory.old) (touched (accesses_at width (addresses_from width address (4 * others))))
+        (spread (accesses_at width (addresses_from width address (4 * others))) (map (element_from state.now (bits_of width) vs3) (range_with_len (4 * quad) (4 * others)))) }
     ensures text { M.text memory.new ≡ M.text memory.old }
 {
     if others > 0 {
-        let number = state.element(width, vs3, index);
-        write_covered(width, memory, address, number);
-        let next = address + bytes_of(width);
-        store_piece(memory, state, width, vs3, next, index + 1, others - 1);
+        let bytes = bytes_of(width);
+        let second = address + bytes;
+        let third = second + bytes;
+        let fourth = third + bytes;
+        let index = 4 * quad;
+        store_one(memory, state, width, vs3, address, index);
+        store_one(memory, state, width, vs3, second, index + 1);
+        store_one(memory, state, width, vs3, third, index + 2);
+        store_one(memory, state, width, vs3, fourth, index + 3);
+        store_piece(
+            memory,
+            state,
+            width,
+            vs3,
+            fourth + bytes,
+            quad + 1,
+            others - 1,
+        );
     }
 }

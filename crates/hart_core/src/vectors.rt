@@ -20,7 +20,7 @@ use vector_unit::{Asked, Numbers, Spacing};
 
 impl Hart {
     /// Executes a vector instruction, or says which trap it makes and changes nothing.
-    #[inline(never)]
+    #[inline(always)]
     pub(crate) fn execute_vector<M: Bytes>(
         &mut self,
         insn: &VectorInsn,
@@ -45,26 +45,6 @@ impl Hart {
                 let asked = Asked::by(rd, rs1, self.register(rs1));
                 self.reconfigure(rd, self.register(rs2), asked)
             }
-            _ => self.execute_configured(insn, memory),
-        }
-    }
-
-    /// Executes a vector instruction that doesn't configure the unit, or says which trap it makes and changes nothing.
-    #[inline(always)]
-    fn execute_configured<M: Bytes>(
-        &mut self,
-        insn: &VectorInsn,
-        memory: &mut M,
-    ) -> Result<Outcome, Trap>
-        requires { asked_of insn.now (register self.old) ≡ None }
-        ensures ok { IfOk result (λ outcome. IsDone (M.text memory.old) (M.memory memory.old) self.old (insns.Vector insn.now) self.new (M.memory memory.new) outcome) }
-        ensures trap { IfErr result (λ trap. fault (length (M.text memory.old)) (length (M.memory memory.old)) (insns.Vector insn.now) self.old ≡ Some trap) }
-        ensures hart { OnErr result (self.new ≡ self.old) }
-        ensures memory { OnErr result (M.memory memory.new ≡ M.memory memory.old) }
-        ensures text { M.text memory.new ≡ M.text memory.old }
-    {
-        self.check_legal(insn)?;
-        match *insn {
             VectorInsn::LoadElements {
                 width,
                 vd,
@@ -72,6 +52,7 @@ impl Hart {
                 addressing,
                 vm,
             } => {
+                self.check_legal(insn)?;
                 let spacing = self.spacing(width, addressing);
                 self.load_vector(memory, width, vd, vm, rs1, spacing)
             }
@@ -82,6 +63,7 @@ impl Hart {
                 addressing,
                 vm,
             } => {
+                self.check_legal(insn)?;
                 let spacing = self.spacing(width, addressing);
                 self.store_vector(memory, width, vs3, vm, rs1, spacing)
             }
@@ -90,6 +72,7 @@ impl Hart {
     }
 
     /// Whether an instruction that doesn't configure the unit is legal in the hart's state.
+    #[inline(always)]
     fn check_legal(&self, insn: &VectorInsn) -> Result<(), Trap>
         ensures legal { OnOk result (is_refused insn.now (vectors_of self.now) ≡ false) }
         ensures illegal { OnErr result (is_refused insn.now (vectors_of self.now) ≡ true) }
@@ -190,10 +173,33 @@ impl Hart {
         let spacing = &spacing;
         if is_piece(memory, self.vectors(), width, *spacing, vm, base) {
             let count = self.vectors().count();
-            self.load_piece(memory, width, vd, base, 0, count);
+            self.load_piece(memory, width, vd, base, 0, count / 4);
             return Ok(self.advance());
         }
-        let addresses = self.addresses(*spacing, vm, rs1);
+        self.load_each(memory, width, vd, vm, rs1, *spacing)
+    }
+
+    /// The same, each element judged on its own. It is a function of its own, so that accesses in one piece need no room
+    /// for addresses.
+    #[inline(never)]
+    fn load_each<M: Bytes>(
+        &mut self,
+        memory: &M,
+        width: ElementWidth,
+        vd: VReg,
+        vm: bool,
+        rs1: Reg,
+        spacing: Spacing,
+    ) -> Result<Outcome, Trap>
+        requires { has_vill (vectors_of self.old) ≡ false }
+        ensures fits { OnOk result (first_fault (length (M.text memory.now)) (length (M.memory memory.now)) Reads (accesses_at width (addresses_by (vectors_of self.old) spacing vm (register self.old rs1))) ≡ None) }
+        ensures hart { OnOk result (self.new ≡ advanced (with_vectors self.old (loaded (vectors_of self.old) width vd vm
+            (map (number_at (M.text memory.now) (M.memory memory.now)) (accesses_at width (addresses_by (vectors_of self.old) spacing vm (register self.old rs1))))))) }
+        ensures outcome { IfOk result (λ outcome. outcome ≡ Outcome.Stepped) }
+        ensures err { IfErr result (λ trap. first_fault (length (M.text memory.now)) (length (M.memory memory.now)) Reads (accesses_at width (addresses_by (vectors_of self.old) spacing vm (register self.old rs1))) ≡ Some trap) }
+        ensures unchanged { OnErr result (self.new ≡ self.old) }
+    {
+        let addresses = self.addresses(spacing, vm, rs1);
         let numbers = read_numbers(width, memory, addresses.as_slice())?;
         self.load_elements(width, vd, vm, numbers.as_slice());
         Ok(self.advance())
@@ -226,10 +232,35 @@ impl Hart {
         let spacing = &spacing;
         if is_piece(memory, self.vectors(), width, *spacing, vm, base) {
             let count = self.vectors().count();
-            store_piece(memory, self.vectors(), width, vs3, base, 0, count);
+            store_piece(memory, self.vectors(), width, vs3, base, 0, count / 4);
             return Ok(self.advance());
         }
-        let addresses = self.addresses(*spacing, vm, rs1);
+        self.store_each(memory, width, vs3, vm, rs1, *spacing)
+    }
+
+    /// The same, each element judged on its own.
+    #[inline(never)]
+    fn store_each<M: Bytes>(
+        &mut self,
+        memory: &mut M,
+        width: ElementWidth,
+        vs3: VReg,
+        vm: bool,
+        rs1: Reg,
+        spacing: Spacing,
+    ) -> Result<Outcome, Trap>
+        requires { has_vill (vectors_of self.old) ≡ false }
+        ensures fits { OnOk result (first_fault (length (M.text memory.old)) (length (M.memory memory.old)) Writes (accesses_at width (addresses_by (vectors_of self.old) spacing vm (register self.old rs1))) ≡ None) }
+        ensures hart { OnOk result (self.new ≡ advanced self.old) }
+        ensures put { OnOk result (M.memory memory.new ≡ put (M.memory memory.old) (touched (accesses_at width (addresses_by (vectors_of self.old) spacing vm (register self.old rs1))))
+            (spread (accesses_at width (addresses_by (vectors_of self.old) spacing vm (register self.old rs1))) (active_numbers (vectors_of self.old) width vs3 vm))) }
+        ensures outcome { IfOk result (λ outcome. outcome ≡ Outcome.Stepped) }
+        ensures err { IfErr result (λ trap. first_fault (length (M.text memory.old)) (length (M.memory memory.old)) Writes (accesses_at width (addresses_by (vectors_of self.old) spacing vm (register self.old rs1))) ≡ Some trap) }
+        ensures unchanged { OnErr result (self.new ≡ self.old) }
+        ensures memory { OnErr result (M.memory memory.new ≡ M.memory memory.old) }
+        ensures text { M.text memory.new ≡ M.text memory.old }
+    {
+        let addresses = self.addresses(spacing, vm, rs1);
         check_stores(width, memory, addresses.as_slice())?;
         let numbers = self.vectors().active_numbers(width, vs3, vm);
         write_numbers(width, memory, addresses.as_slice(), numbers.as_slice());

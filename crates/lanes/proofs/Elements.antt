@@ -2,7 +2,9 @@
 use Rattle.std.proofs.Common.{◌≡◌, ℕ, zero, suc, ◌+◌, ◌<◌, ◌≤◌, Bool, true, false, List, [], ◌∷◌, ◌++◌, if◌then◌else◌, map, take, length, get_or, refl, sym, ◌∙◌, ap, arith}
 use Rattle.std.proofs.Math.ListN.{set, replicate}
 use Rattle.std.proofs.lemmas.List.{take_all, map-set}
+use Rattle.std.proofs.lemmas.Bool.Decides.{nat_tests}
 use Rattle.std.specs.List.{range_with_len, fold}
+use Rattle.lanes.specs.Masks.{active, is_active}
 use Rattle.lanes.specs.Elementwise.{zip_with, merged, chosen_of, reduced, EachPair, EachFrom, LeadsTo}
 
 -- ---- pairs
@@ -176,3 +178,24 @@ map-replicate seen (suc n) x = ap (λ ys. seen x ∷ ys) (map-replicate seen n x
 
 -- what is seen of lists that are made of others
 pub ruleset seen_lists = (map-merged, map-set, map-replicate)
+
+-- ---- all elements active
+
+all_from : (vl first : ℕ) (mask : List ℕ) (i n : ℕ) → first + i + n ≤ vl → map (λ k. is_active vl true mask (first + k)) (range_with_len i n) ≡ replicate n true
+all_from vl first mask i zero l = refl
+all_from vl first mask i (suc n) l =
+    let here : is_active vl true mask (first + i) ≡ true = grind (arith, nat_tests, l) in
+    rw (here, all_from vl first mask (i + 1) n (omega (arith, l))) refl
+
+merged_true : {A : Type 0} (n : ℕ) (xs ys : List A) → length xs ≡ n → length ys ≡ n → merged (replicate n true) xs ys ≡ xs
+merged_true zero [] ys p q = refl
+merged_true zero (x ∷ xs) ys p q = absurd (omega (arith, p))
+merged_true (suc n) [] ys p q = absurd (omega (arith, p))
+merged_true (suc n) (x ∷ xs) [] p q = absurd (omega (arith, q))
+merged_true (suc n) (x ∷ xs) (y ∷ ys) p q = ap (λ zs. x ∷ zs) (merged_true n xs ys (omega (arith, p)) (omega (arith, q)))
+
+-- where all elements are active, the new ones take the place of all
+pub merged_active : {A : Type 0} (first n vl : ℕ) (mask : List ℕ) (xs ys : List A) → first + n ≤ vl → length xs ≡ n → length ys ≡ n → merged (active first n vl true mask) xs ys ≡ xs
+unfolding active
+merged_active first n vl mask xs ys l p q =
+    ap (λ flags. merged flags xs ys) (all_from vl first mask 0 n (omega (arith, l))) ∙ merged_true n xs ys p q

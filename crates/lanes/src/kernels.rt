@@ -1,8 +1,11 @@
 //! The loops over N elements. Each is generic over the operation, and says which answers of the operation
 //! stand in which place.
 
-ghost use Rattle.std.specs.Prelude.{◌≡◌, ◌<◌, ℕ, length};
+ghost use Rattle.std.specs.Prelude.{◌≡◌, ◌+◌, ◌<◌, ◌≤◌, ℕ, length};
+ghost use Rattle.lanes.specs.Masks.{active};
 ghost use Rattle.lanes.specs.Elementwise.{EachPair, EachFrom, LeadsTo, chosen_of, merged};
+
+use crate::masks::active;
 
 /// The answers to each pair, written over `results`.
 pub(crate) fn each_pair<A: Copy, B: Copy, const N: usize, F: Fn(A, A) -> B>(
@@ -67,4 +70,24 @@ pub(crate) fn merge<A: Copy, const N: usize>(
         results[i] = if chosen[i] { new[i] } else { old[i] };
     }
     results
+}
+
+/// The new element where an instruction works on it, of those from `first` on, else the old one. Where it works on all of them
+/// no mask is read.
+#[tactic(auto, using(crate::proofs::Elements::merged_active))]
+pub(crate) fn merge_active<A: Copy, const N: usize>(
+    new: &[A; N],
+    old: &[A; N],
+    first: usize,
+    vl: usize,
+    unmasked: bool,
+    mask: &[u8; 16],
+) -> [A; N]
+    requires { first + N ≤ 128 }
+    ensures { result ≡ merged (active first N vl unmasked mask.now) new.now old.now }
+{
+    if unmasked && first + N <= vl {
+        return *new;
+    }
+    merge(&active(first, vl, unmasked, mask), new, old)
 }

@@ -4,6 +4,7 @@ ghost use Rattle.std.specs.Prelude.{◌≡◌, ◌+◌, ◌*◌, ◌<◌, ◌≤
 ghost use Rattle.std.specs.List.{range_with_len};
 ghost use Rattle.lanes.specs.Registers.{elements, register_of};
 ghost use Rattle.lanes.specs.Elementwise.{merged};
+ghost use Rattle.lanes.specs.Masks.{active};
 
 use crate::kernels;
 use crate::kinds::LaneKind;
@@ -56,6 +57,25 @@ impl<K: LaneKind, const N: usize> Lanes<K, N> {
     {
         Lanes {
             elements: kernels::merge(chosen, &new.elements, &self.elements),
+        }
+    }
+
+    /// The new elements where an instruction works on them, of those from `first` on, and these ones elsewhere: with
+    /// [`active`] those that are chosen.
+    pub fn merge_active(
+        &self,
+        new: &Lanes<K, N>,
+        first: usize,
+        vl: usize,
+        unmasked: bool,
+        mask: &[u8; 16],
+    ) -> Lanes<K, N>
+        requires { first + N ≤ 128 }
+        ensures { result ≡ merged (active first N vl unmasked mask.now) new.now self.now }
+    {
+        let old = &self.elements;
+        Lanes {
+            elements: kernels::merge_active(&new.elements, old, first, vl, unmasked, mask),
         }
     }
 

@@ -1,7 +1,8 @@
 //! The plain memory.
 
-ghost use Rattle.std.specs.Prelude.{◌≡◌, ◌≤◌, length};
-ghost use Rattle.memory.specs.Addresses.{most_words, most_bytes};
+ghost use Rattle.std.specs.Prelude.{◌≡◌, ◌≤◌, ◌%◌, IsTrue, length};
+ghost use Rattle.memory.specs.Addresses.{most_words, most_bytes, covers_load};
+ghost use Rattle.memory.specs.Access.{Word, number_in};
 
 use crate::bytes::{Bytes, DATA_START, TEXT_START};
 use std::boxed::BoxedSlice;
@@ -48,6 +49,21 @@ impl Memory {
         &self.bytes
     }
 
+    /// The word at an address of text that is a multiple of 4: apart, so that words of data are read in place.
+    #[inline(never)]
+    fn read_text_word(&self, address: u32) -> u32
+        requires aligned { address % 4 ≡ 0 }
+        requires covered { IsTrue (covers_load (length self.now.text) (length self.now.memory) address 4) }
+        ensures { result ≡ number_in self.now.text self.now.memory Word address }
+    {
+        u32::from_le_bytes([
+            self.read(address),
+            self.read(address + 1),
+            self.read(address + 2),
+            self.read(address + 3),
+        ])
+    }
+
     /// Puts other bytes in the place of all data. Takes no memory.
     pub fn set_bytes(&mut self, bytes: &[u8])
         requires { length bytes.now ≡ length self.old.memory }
@@ -70,12 +86,14 @@ impl Bytes for Memory {
         self.words.get(((pc - TEXT_START) / 4) as usize).copied()
     }
 
+    #[inline(always)]
     fn covers_load(&self, address: u32, count: u32) -> bool {
         let end = address as usize + count as usize;
         let in_text = address >= TEXT_START && end <= TEXT_START as usize + 4 * self.words.len();
         self.covers_store(address, count) || in_text
     }
 
+    #[inline(always)]
     fn covers_store(&self, address: u32, count: u32) -> bool {
         let end = address as usize + count as usize;
         address >= DATA_START && end <= DATA_START as usize + self.bytes.len()
@@ -95,6 +113,7 @@ impl Bytes for Memory {
         self.bytes[(address - DATA_START) as usize] = value;
     }
 
+    #[inline(always)]
     fn read_half(&self, address: u32) -> u16 {
         if address < DATA_START {
             return u16::from_le_bytes([self.read(address), self.read(address + 1)]);
@@ -103,20 +122,17 @@ impl Bytes for Memory {
         u16::from_le_bytes([self.bytes[at], self.bytes[at + 1]])
     }
 
+    #[inline(always)]
     fn read_word(&self, address: u32) -> u32 {
         if address < DATA_START {
-            return u32::from_le_bytes([
-                self.read(address),
-                self.read(address + 1),
-                self.read(address + 2),
-                self.read(address + 3),
-            ]);
+            return self.read_text_word(address);
         }
         let at = (address - DATA_START) as usize;
         let bytes = &self.bytes;
         u32::from_le_bytes([bytes[at], bytes[at + 1], bytes[at + 2], bytes[at + 3]])
     }
 
+    #[inline(always)]
     fn write_half(&mut self, address: u32, value: u16) {
         let at = (address - DATA_START) as usize;
         let value = value.to_le_bytes();
@@ -125,6 +141,7 @@ impl Bytes for Memory {
         bytes[at + 1] = value[1];
     }
 
+    #[inline(always)]
     fn write_word(&mut self, address: u32, value: u32) {
         let at = (address - DATA_START) as usize;
         let value = value.to_le_bytes();

@@ -1,7 +1,7 @@
 //! Harts over one memory, stepped one at a time.
 
-ghost use Rattle.std.specs.Prelude.{◌≡◌, ◌-◌, ◌<◌, ◌≤◌, ℕ, List, length, map, option_map, take, replicate, slice_index, OnOk, IfOk, IfErr, All, IsTrue};
-ghost use Rattle.memory.specs.Addresses.{most_words, most_bytes, is_text_word, fetched};
+ghost use Rattle.std.specs.Prelude.{◌≡◌, ◌-◌, ◌*◌, ◌<◌, ◌≤◌, ℕ, List, length, map, option_map, take, replicate, slice_index, OnOk, IfOk, IfErr, All, IsTrue};
+ghost use Rattle.memory.specs.Addresses.{most_words, most_bytes, text_start, is_text_word, fetched};
 ghost use Rattle.rv_encoding.specs.Decoding.{decoded};
 ghost use Rattle.hart_core.specs.HartState.{register, vector};
 ghost use Rattle.multi_hart.specs.Finished.{all_finished};
@@ -33,8 +33,9 @@ pub struct Machine {
 }
 
 impl Model for Machine {
-    ghost use Rattle.std.specs.Prelude.{◌≡◌, map};
+    ghost use Rattle.std.specs.Prelude.{◌≡◌, ◌≤◌, length, map};
     ghost use Rattle.std.specs.Box.{boxed_slice_items};
+    ghost use Rattle.memory.specs.Addresses.{most_words};
     ghost use Rattle.rv_encoding.specs.Decoding.{decoded};
     ghost use Rattle.multi_hart.specs.Run.{State};
 
@@ -42,7 +43,7 @@ impl Model for Machine {
 
     ghost view = { λ m. record { text = m.memory.text; memory = m.memory.memory; harts = boxed_slice_items m.harts } };
 
-    ghost invariant = { λ m. boxed_slice_items m.meanings ≡ map decoded m.memory.text };
+    ghost invariant = { λ m. (boxed_slice_items m.meanings ≡ map decoded m.memory.text) × (length (boxed_slice_items m.meanings) ≤ most_words) };
 }
 
 impl Machine {
@@ -84,7 +85,7 @@ impl Machine {
     {
         let one = &mut self.harts[hart];
         match meaning_at(&self.meanings, one.pc()) {
-            Some(insn) => one.step_with(&mut self.memory, insn),
+            Some(insn) => one.step_by(&mut self.memory, insn),
             None => one.step(&mut self.memory),
         }
     }
@@ -211,11 +212,21 @@ fn meanings_of(alloc: Global, words: &[u32]) -> Result<Vec<Option<Insn>>, AllocE
 
 /// What the word at an address of text means, found among what all words of the text mean, and `None` where no word
 /// begins there.
-fn meaning_at(meanings: &[Option<Insn>], pc: u32) -> Option<Option<Insn>>
-    ensures { (text : List ℕ) → meanings.now ≡ map decoded text → result ≡ option_map decoded (fetched text pc) }
+fn meaning_at(meanings: &[Option<Insn>], pc: u32) -> Option<&Option<Insn>>
+    requires { length meanings.now ≤ most_words }
+    ensures { (text : List ℕ) → meanings.now ≡ map decoded text → option_map (λ meaning. meaning.now) result ≡ option_map decoded (fetched text pc) }
 {
-    if pc < TEXT_START || pc % 4 != 0 {
+    let offset = offset_in_text(pc);
+    if offset % 4 != 0 {
         return None;
     }
-    meanings.get(((pc - TEXT_START) / 4) as usize).copied()
+    meanings.get((offset / 4) as usize)
+}
+
+/// How far an address lies behind the start of text, and a number beyond every text where it lies before.
+fn offset_in_text(pc: u32) -> u32
+    ensures behind { text_start ≤ pc → result ≡ pc - text_start }
+    ensures before { pc < text_start → 4 * most_words ≤ result }
+{
+    pc.wrapping_sub(TEXT_START)
 }

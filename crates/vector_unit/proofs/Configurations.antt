@@ -1,10 +1,12 @@
 -- What a supported vtype says: its widths and its groups.
-use Rattle.std.proofs.Common.{◌≡◌, ℕ, zero, suc, ◌*◌, ◌%◌, ◌^◌, ◌≤◌, true, false, refl, arith, inl, inr, ◌&&◌}
+use Rattle.std.proofs.Common.{◌≡◌, ℕ, zero, suc, ◌*◌, ◌/◌, ◌%◌, ◌^◌, ◌≤◌, true, false, refl, arith, inl, inr, ◌&&◌}
 use Rattle.std.specs.Prelude.{nat_lt, nat_le}
 use Rattle.std.proofs.lemmas.Bool.{and_parts, leb-true, not-false}
 use Rattle.lanes.specs.Words.{IsWidth}
-use Rattle.vector_unit.specs.VectorState.{Vectors, is_supported, has_vill, vlmul_of, vsew_of}
-use Rattle.vector_unit.specs.Vector.{width, group}
+use Rattle.rv_insn.specs.declared.vector_operations.ElementWidth.{ElementWidth}
+use Rattle.rv_insn.specs.declared.vector_operations.ElementWidth.TheVariants.{Bits8, Bits16, Bits32}
+use Rattle.vector_unit.specs.VectorState.{Vectors, is_supported, has_vill, vlmul_of, vsew_of, group_of, most_elements}
+use Rattle.vector_unit.specs.Vector.{bits_of, width, group, group_at, count}
 
 few : (k : ℕ) → k ≤ 2 → 2 ^ k ≤ 4
 few zero l = omega arith
@@ -28,3 +30,32 @@ is_width state e =
 
 pub is_small : (state : Vectors) → has_vill state ≡ false → group state ≤ 4
 is_small state e = few_registers state.vtype (not-false (is_supported state.vtype) e)
+
+small_width : (vtype : ℕ) → is_supported vtype ≡ true → vsew_of vtype ≤ 2
+small_width vtype e = leb-true (vsew_of vtype) 2 (and_parts (nat_lt vtype 256 && nat_le (vlmul_of vtype) 2) (nat_le (vsew_of vtype) 2) e).1
+
+few_of : (g k : ℕ) → g ≤ 4 → k ≤ 2 → 128 * g / (8 * 2 ^ k) ≤ 64
+few_of g zero m l = omega (arith, m)
+few_of g (suc zero) m l = omega (arith, m)
+few_of g (suc (suc zero)) m l = omega (arith, m)
+few_of g (suc (suc (suc k))) m l = absurd (omega (arith, l))
+
+-- a supported group has at most 64 elements
+pub few_elements : (vtype : ℕ) → is_supported vtype ≡ true → most_elements vtype ≤ 64
+few_elements vtype e = few_of (group_of vtype) (vsew_of vtype) (few_registers vtype e) (small_width vtype e)
+
+by_count : (w : ElementWidth) (g k : ℕ) → k ≤ 2 → bits_of w * (128 * g / (8 * 2 ^ k)) / 128 ≡ bits_of w * g / (8 * 2 ^ k)
+by_count Bits8 g zero l = omega arith
+by_count Bits8 g (suc zero) l = omega arith
+by_count Bits8 g (suc (suc zero)) l = omega arith
+by_count Bits16 g zero l = omega arith
+by_count Bits16 g (suc zero) l = omega arith
+by_count Bits16 g (suc (suc zero)) l = omega arith
+by_count Bits32 g zero l = omega arith
+by_count Bits32 g (suc zero) l = omega arith
+by_count Bits32 g (suc (suc zero)) l = omega arith
+by_count w g (suc (suc (suc k))) l = absurd (omega (arith, l))
+
+-- registers of elements of a width, counted by the elements
+pub group_by_count : (state : Vectors) (w : ElementWidth) → has_vill state ≡ false → bits_of w * count state / 128 ≡ group_at state w
+group_by_count state w e = by_count w (group state) (vsew_of state.vtype) (small_width state.vtype (not-false (is_supported state.vtype) e))

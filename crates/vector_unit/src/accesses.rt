@@ -11,7 +11,7 @@ ghost use Rattle.vector_unit.specs.Accesses.{offset, addresses_by, active_number
 
 use crate::numbers::Numbers;
 use crate::states::VectorState;
-use crate::vtypes::{most_elements, width_of};
+use crate::vtypes::width_of;
 use lanes::{LaneKind, mask_bit};
 use rv_insn::{ElementWidth, VReg};
 
@@ -39,11 +39,13 @@ fn bits_of(width: ElementWidth) -> usize
 
 impl VectorState {
     /// How many elements a group has in the state's configuration, at most 64.
+    #[tactic(auto, using(crate::proofs::Configurations::few_elements))]
+    #[inline(always)]
     pub fn count(&self) -> u32
         ensures value { result ≡ count self.now }
         ensures few { has_vill self.now ≡ false → result ≤ 64 }
     {
-        most_elements(self.vtype)
+        self.count
     }
 
     /// How wide elements are.
@@ -55,11 +57,13 @@ impl VectorState {
     }
 
     /// How many registers elements of a width take, where there are as many as are configured; 0 for a part of one.
+    #[tactic(auto, using(crate::proofs::Configurations::group_by_count))]
+    #[inline(always)]
     pub(crate) fn group_at(&self, width: ElementWidth) -> usize
         requires { has_vill self.now ≡ false }
         ensures { result ≡ group_at self.now width }
     {
-        bits_of(width) * self.group() / bits_of(self.width())
+        bits_of(width) * self.count as usize / 128
     }
 
     /// How many bytes from the base an element lies, modulo 2^32.

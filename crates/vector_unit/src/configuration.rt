@@ -4,7 +4,7 @@ ghost use Rattle.std.specs.Prelude.{◌≡◌, true, false, OnOk, OnErr, IfOk, I
 ghost use Rattle.rv_insn.specs.declared.outcomes.Trap.TheVariants.{IllegalInstruction};
 ghost use Rattle.vector_unit.specs.VectorState.{asked_by, configured, is_illegal_configuration};
 
-use crate::states::{VILL, VectorState};
+use crate::states::{VILL, VILL_COUNT, VectorState};
 use crate::vtypes::{is_supported, most_elements};
 use rv_insn::{Reg, Trap};
 
@@ -49,6 +49,8 @@ impl VectorState {
         if !is_supported(vtype) {
             self.vl = 0;
             self.vtype = VILL;
+            self.count = VILL_COUNT;
+            self.is_configured = false;
             return Ok(0);
         }
         let most = most_elements(vtype);
@@ -56,7 +58,7 @@ impl VectorState {
             Asked::AtMost(count) => count.min(most),
             Asked::AsManyAsFit => most,
             Asked::AsBefore => {
-                if self.has_vill() || most_elements(self.vtype) != most {
+                if self.has_vill() || self.count != most {
                     return Err(Trap::IllegalInstruction);
                 }
                 self.vl
@@ -64,6 +66,8 @@ impl VectorState {
         };
         self.vl = vl;
         self.vtype = vtype;
+        self.count = most;
+        self.is_configured = true;
         Ok(vl)
     }
 }

@@ -1,7 +1,7 @@
 //! Instructions that write the elements of a group, at the configured width.
 
 ghost use Rattle.std.specs.Prelude.{◌≡◌, ◌<◌, ◌≤◌, ◌+◌, false};
-ghost use Rattle.vector_unit.specs.VectorState.{has_vill};
+ghost use Rattle.vector_unit.specs.VectorState.{has_vill, with_register};
 ghost use Rattle.vector_unit.specs.Vector.{width, with_elements};
 ghost use Rattle.vector_unit.specs.inner.Parts.{new_elements, new_part, merged_register, with_parts, AtWords};
 
@@ -62,10 +62,40 @@ impl VectorState {
         requires few { part + others ≤ 4 }
         ensures { self.new ≡ with_parts self.old vd vm new.now part others }
     {
-        if others > 0 {
+        if others == 1 {
+            self.write_register(vd, vm, new, part);
+        } else if others > 1 {
             let register = self.new_register(vd, vm, new, part);
             self.write_parts(vd, vm, new, part + 1, others - 1);
             self.set_part(vd, part, register);
+        }
+    }
+
+    /// Writes new elements to one register of a group. Each width writes on its own, so that elements go straight to
+    /// their places.
+    fn write_register(&mut self, vd: VReg, vm: bool, new: &NewElements, part: usize)
+        requires configured { has_vill self.old ≡ false }
+        requires bytes { AtWords self.old new.now }
+        requires part { part < 4 }
+        ensures { self.new ≡ with_register self.old (vd + part) (merged_register self.old vd vm new.now part) }
+    {
+        let before = Operand::Register(vd);
+        match self.width() {
+            ElementWidth::Bits8 => {
+                let new = self.new_bytes(new, part);
+                let register = self.merged(vm, part, &self.bytes(before, part), &new);
+                self.set_part(vd, part, register);
+            }
+            ElementWidth::Bits16 => {
+                let new = self.new_halves(new, part);
+                let register = self.merged(vm, part, &self.halves(before, part), &new);
+                self.set_part(vd, part, register);
+            }
+            ElementWidth::Bits32 => {
+                let new = self.new_words(new, part);
+                let register = self.merged(vm, part, &self.words(before, part), &new);
+                self.set_part(vd, part, register);
+            }
         }
     }
 
@@ -106,6 +136,7 @@ impl VectorState {
     }
 
     /// A part of new elements, at 8 bits.
+    #[inline(always)]
     fn new_bytes(&self, new: &NewElements, part: usize) -> Lanes<u8, 16>
         requires width { width self.now ≡ 8 }
         requires bytes { AtWords self.now new.now }
@@ -135,6 +166,7 @@ impl VectorState {
     }
 
     /// A part of new elements, at 16 bits.
+    #[inline(always)]
     fn new_halves(&self, new: &NewElements, part: usize) -> Lanes<u16, 8>
         requires width { width self.now ≡ 16 }
         requires bytes { AtWords self.now new.now }
@@ -164,6 +196,7 @@ impl VectorState {
     }
 
     /// A part of new elements, at 32 bits.
+    #[inline(always)]
     fn new_words(&self, new: &NewElements, part: usize) -> Lanes<u32, 4>
         requires width { width self.now ≡ 32 }
         requires bytes { AtWords self.now new.now }

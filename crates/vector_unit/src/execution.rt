@@ -40,6 +40,7 @@ impl VectorState {
     }
 
     /// Whether an instruction that doesn't configure the unit is illegal in this state.
+    #[inline(always)]
     pub fn refuses(&self, insn: &VectorInsn) -> bool
         ensures { result ≡ is_refused insn.now self.now }
     {
@@ -55,6 +56,7 @@ impl VectorState {
     }
 
     /// Whether a register doesn't begin a group.
+    #[inline(always)]
     fn is_inside(&self, v: VReg) -> bool
         ensures { result ≡ not (v % group self.now == 0) }
     {
@@ -62,6 +64,7 @@ impl VectorState {
     }
 
     /// Whether a group of an instruction doesn't begin at a multiple of its size.
+    #[inline(always)]
     fn is_misplaced(&self, insn: &VectorInsn) -> bool
         ensures { result ≡ is_misplaced self.now (groups_in insn.now) }
     {
@@ -102,6 +105,7 @@ impl VectorState {
 
     /// Whether a load or store at its own width takes more than 4 registers, or a group that doesn't begin at a
     /// multiple of its size.
+    #[inline(always)]
     fn is_unfit(&self, insn: &VectorInsn) -> bool
         requires { has_vill self.now ≡ false }
         ensures { result ≡ is_unfit self.now (moved_in insn.now) }
@@ -241,6 +245,7 @@ impl VectorState {
 }
 
 /// Whether a masked instruction writes the mask itself.
+#[inline(always)]
 fn overwrites_mask(insn: &VectorInsn) -> bool
     ensures { result ≡ overwrites_mask insn.now }
 {
@@ -262,6 +267,7 @@ fn overwrites_mask(insn: &VectorInsn) -> bool
 }
 
 /// The width that has to be the configured one.
+#[inline(always)]
 fn fixed_width(insn: &VectorInsn) -> Option<ElementWidth>
     ensures { result ≡ fixed_width insn.now }
 {

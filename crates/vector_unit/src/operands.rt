@@ -134,6 +134,7 @@ impl VectorState {
     }
 
     /// The bytes of a register of a group, with new elements where they are active and the old ones elsewhere.
+    #[inline(always)]
     pub(crate) fn merged<K: LaneKind, const N: usize>(
         &self,
         vm: bool,
@@ -145,6 +146,8 @@ impl VectorState {
         requires fills { N * K.width ≡ 128 }
         ensures { result ≡ register_of K.width (merged (active (part * N) N self.now.vl vm (register self.now 0)) new.now before.now) }
     {
-        before.merge(new, &self.active(vm, part)).to_register()
+        let mask = &self.registers[0];
+        let merged = before.merge_active(new, part * N, self.vl as usize, vm, mask);
+        merged.to_register()
     }
 }

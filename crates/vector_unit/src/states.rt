@@ -4,12 +4,15 @@ ghost use Rattle.std.specs.Prelude.{◌≡◌, ◌<◌, ◌≤◌, ◌+◌, fals
 ghost use Rattle.vector_unit.specs.VectorState.{register, with_register, opening_vector_state, has_vill};
 ghost use Rattle.vector_unit.specs.Vector.{group};
 
-use crate::vtypes::{group_of, is_supported};
+use crate::vtypes::group_of;
 use rv_insn::VReg;
 use std::marker::Model;
 
 /// A vtype that configures nothing: the bit vill alone.
 pub const VILL: u32 = 0x8000_0000;
+
+/// How many elements a group would have under that vtype, if it were one of this machine's.
+pub(crate) const VILL_COUNT: u32 = 16;
 
 /// The 32 vector registers of 16 bytes, the number of elements that instructions work on, and the
 /// configuration as the vtype register spells it. A contract sees them as `VectorState`.
@@ -18,14 +21,21 @@ pub struct VectorState {
     pub(crate) registers: [[u8; 16]; 32],
     pub(crate) vl: u32,
     pub(crate) vtype: u32,
+    /// How many elements a group has under the vtype, found once for all instructions.
+    pub(crate) count: u32,
+    /// Whether the vtype is one of this machine's.
+    pub(crate) is_configured: bool,
 }
 
 impl Model for VectorState {
-    ghost use Rattle.vector_unit.specs.VectorState.{Vectors};
+    ghost use Rattle.std.specs.Prelude.{◌≡◌};
+    ghost use Rattle.vector_unit.specs.VectorState.{Vectors, most_elements, is_supported};
 
     ghost Value = { Vectors };
 
     ghost view = { λ s. record { registers = s.registers; vl = s.vl; vtype = s.vtype } };
+
+    ghost invariant = { λ s. (s.count ≡ most_elements s.vtype) × (s.is_configured ≡ is_supported s.vtype) };
 }
 
 impl VectorState {
@@ -37,6 +47,8 @@ impl VectorState {
             registers: [[0; 16]; 32],
             vl: 0,
             vtype: VILL,
+            count: VILL_COUNT,
+            is_configured: false,
         }
     }
 
@@ -48,6 +60,8 @@ impl VectorState {
             registers: self.registers,
             vl: self.vl,
             vtype: self.vtype,
+            count: self.count,
+            is_configured: self.is_configured,
         }
     }
 
@@ -116,6 +130,6 @@ impl VectorState {
     pub fn has_vill(&self) -> bool
         ensures { result ≡ has_vill self.now }
     {
-        !is_supported(self.vtype)
+        !self.is_configured
     }
 }
