@@ -19,7 +19,7 @@ use Rattle.ranges.specs.Laws.{AnswerWords}
 use Rattle.loop_ir.specs.declared.statements.Phase.{Phase}
 use Rattle.loader.specs.Image.{ImageContents}
 use Rattle.picture.specs.Evaluated.{judged}
-use Rattle.task_code.specs.declared.places.Places.{Places}
+use Rattle.scalar_code.specs.declared.places.Places.{Places}
 use Rattle.work_sharing.specs.Phases.{Phase as SharedPhase}
 use Rattle.work_sharing.specs.Programs.{Program, Opens}
 use Rattle.work_sharing.specs.Promises.{OnlyBy, Waits, WrittenAs as SharedWrittenAs}

@@ -12,8 +12,8 @@ use Rattle.bounds.specs.declared.verdict.Boxes.{Boxes}
 use Rattle.loop_ir.specs.declared.statements.Phase.{Phase}
 use Rattle.lowering.specs.Lowered.{ArePhasesOf, One_more, AreLowered, No_func, Passed, Computed}
 use Rattle.lowering.specs.PurePhases.{IsAtRoot}
-use Rattle.task_code.specs.declared.places.Places.{Places}
-use Rattle.task_code.proofs.Spelling.{emits-length}
+use Rattle.scalar_code.specs.declared.places.Places.{Places}
+use Rattle.scalar_code.proofs.Spelling.{emits-length}
 use Rattle.phase_code.specs.Code.{program}
 use Rattle.phase_memory.specs.Places.{places_of}
 use Rattle.program_code.specs.Programs.{parts_from}

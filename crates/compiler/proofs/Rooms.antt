@@ -13,10 +13,10 @@ use Rattle.bounds.specs.Verdict.{inferred}
 use Rattle.loop_ir.specs.declared.statements.Phase.{Phase}
 use Rattle.lowering.specs.Registers.{TakeFew, most_need}
 use Rattle.phase_memory.specs.Places.{places_of}
-use Rattle.task_code.specs.Faults.{HasRoom, LieLow}
+use Rattle.scalar_code.specs.Faults.{HasRoom, LieLow}
 use Rattle.lowering.specs.Sizes.{words_of}
 use Rattle.memory.specs.Addresses.{most_words}
-use Rattle.task_code.specs.declared.places.Places.{Places}
+use Rattle.scalar_code.specs.declared.places.Places.{Places}
 use Rattle.program_code.specs.Programs.{HasFewTasks, HasRegisters, IsTooLong, words_asked}
 use Rattle.program_code.proofs.Lengths.{programs-are-short}
 use Rattle.weights.specs.Weight.{most_weight, weight}

@@ -18,7 +18,7 @@ use Rattle.data_parts.specs.Parts.{Sizes, sizes_of}
 use Rattle.loader.specs.declared.outputs.Output.{Output}
 use Rattle.lowering.specs.Planes.{corner_of, held, word_at as corner_word}
 use Rattle.picture.specs.Evaluated.{judged}
-use Rattle.task_code.specs.Code.{address}
+use Rattle.scalar_code.specs.Code.{address}
 use Rattle.phase_memory.specs.Points.{RootPoint, address_at}
 use Rattle.phase_memory.proofs.There.{root-place}
 use Rattle.phase_sharing.specs.Sharing.{HoldsPixels}

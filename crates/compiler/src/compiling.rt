@@ -7,7 +7,7 @@ ghost use Rattle.weights.specs.Need.{is_too_deep, needs as needed};
 ghost use Rattle.weights.specs.Weight.{most_weight, weight};
 ghost use Rattle.bounds.specs.Verdict.{inferred};
 ghost use Rattle.memory.specs.Addresses.{most_words};
-ghost use Rattle.task_code.specs.Faults.{LieLow};
+ghost use Rattle.scalar_code.specs.Faults.{LieLow};
 ghost use Rattle.program_code.specs.Programs.{HasFewTasks, HasRegisters, IsProgram, words_asked};
 ghost use Rattle.compiler.specs.declared.faults.CompileFault.TheVariants as faults;
 ghost use Rattle.compiler.specs.Compiled.{AreWordsOf, IsCompiled, Means};
@@ -22,10 +22,10 @@ use halide_pipeline::Pipeline;
 use loop_ir::statements::Phase;
 use lowering::phases::lower;
 use program_code::generate;
+use scalar_code::CodeFault;
+use scalar_code::places::Places;
 use schedule::{Schedule, read};
 use std::alloc::Global;
-use task_code::CodeFault;
-use task_code::places::Places;
 use weights::{needs, weigh};
 
 /// The boxes of a pipeline under a schedule, or the first fault that stands.

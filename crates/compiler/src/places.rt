@@ -5,17 +5,17 @@ ghost use Rattle.halide_pipeline.specs.WellFormed.{most_points};
 ghost use Rattle.schedule.specs.Accepted.{IsAccepted};
 ghost use Rattle.bounds.specs.Boxes.{AreBoxes, IsBox, IsBoxOrNone, extent, points};
 ghost use Rattle.bounds.specs.Verdict.{inferred};
-ghost use Rattle.task_code.specs.Code as code;
+ghost use Rattle.scalar_code.specs.Code as code;
 ghost use Rattle.phase_memory.specs.Places as spec;
 ghost use Rattle.compiler.specs.Addresses.{AreAddresses, HasFewPoints, HaveFewPoints, IsAddress};
 
 use bounds::boxes::{extents_of, points};
 use bounds::{Boxes, SourceBox};
 use halide_pipeline::{Input, Pipeline};
+use scalar_code::places::{Pixels, Place, Places};
 use schedule::{Place as Standpoint, Schedule, Standing};
 use sqlite_items::Items;
 use std::alloc::{AllocError, Global};
-use task_code::places::{Pixels, Place, Places};
 
 fn input_place(at: u64, input: &Input) -> Place
     requires { IsAddress at }

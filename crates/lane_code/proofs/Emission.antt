@@ -15,12 +15,12 @@ use Rattle.loop_ir.specs.declared.expressions.Expr.TheVariants as e
 use Rattle.loop_ir.specs.declared.expressions.Linear.{Linear}
 use Rattle.loop_ir.specs.Needs.{Need, beside_first, divisor_need, need_at, need_of}
 use Rattle.loop_ir.proofs.Folds as folds
-use Rattle.task_code.specs.declared.places.Place.{Place}
-use Rattle.task_code.specs.declared.places.Places.{Places}
-use Rattle.task_code.specs.Code.{literal, place_of, is_linear, linear_code, Made, EmitsValue, second_need, made, made_at}
-use Rattle.task_code.specs.Faults.{FitsStack}
-use Rattle.task_code.specs.Words.{Emits}
-use Rattle.task_code.proofs.Spelling.{emits_then}
+use Rattle.scalar_code.specs.declared.places.Place.{Place}
+use Rattle.scalar_code.specs.declared.places.Places.{Places}
+use Rattle.scalar_code.specs.Code.{literal, place_of, is_linear, linear_code, Made, EmitsValue, second_need, made, made_at}
+use Rattle.scalar_code.specs.Faults.{FitsStack}
+use Rattle.scalar_code.specs.Words.{Emits}
+use Rattle.scalar_code.proofs.Spelling.{emits_then}
 use Rattle.lane_code.specs.declared.groups.Group.{Group}
 use Rattle.lane_code.specs.Groups.{slots, slot, spare}
 use Rattle.lane_code.specs.Lanes.{Laned, laned, laned_at, are_words, is_dense, is_stepping, is_steady, has_slot, step_word, stepped, lanes_operation, lanes_quotient, lanes_remainder, lanes_selection, dense, gathered}
@@ -78,7 +78,7 @@ module _ (group : Group) (places : Places) (scope : List Counter) (moves : List 
   unfolding made need_of
   counted own = folds.folds_related Counted (made_at places scope) need_at counted-level own
 
-  fits-stack : (own : Expr) (r most : ℕ) → most + r ≤ 32 → nat_le (of own).own.need most ≡ true → (of own).own.is_word ≡ true → FitsStack own r
+  pub fits-stack : (own : Expr) (r most : ℕ) → most + r ≤ 32 → nat_le (of own).own.need most ≡ true → (of own).own.is_word ≡ true → FitsStack own r
   fits-stack own r most room few is =
       let m = own-is group places scope moves own in
       let n : (of own).own.need ≤ most = grind (arith, nat_tests, few) in

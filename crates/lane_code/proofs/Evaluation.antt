@@ -19,31 +19,31 @@ use Rattle.loop_ir.specs.declared.expressions.Expr.TheOpen.{Expr-F}
 use Rattle.loop_ir.specs.declared.expressions.Expr.TheOpen as layer
 use Rattle.loop_ir.specs.Counters.{Values}
 use Rattle.loop_ir.specs.declared.expressions.Linear.{Linear}
-use Rattle.loop_ir.specs.Expressions.{linear_value, seen, seen_at, value}
+use Rattle.loop_ir.specs.Expressions.{linear_value, seen, seen_at, value, loads}
 use Rattle.loop_ir.proofs.Folds.{Both, left_of, right_of, folds_related}
 use Rattle.loop_ir.proofs.Loads.{values_are_seen}
 use Rattle.lone_hart.specs.Alone.{World}
 use Rattle.lone_hart.specs.Paths.{lane, vl_number}
 use Rattle.lone_hart.proofs.Paths.{line-then}
 use Rattle.lone_hart.proofs.VectorRows as rows
-use Rattle.task_code.specs.declared.places.Pixels.{Pixels}
-use Rattle.task_code.specs.declared.places.Pixels.TheVariants as pixels
-use Rattle.task_code.specs.declared.places.Places.{Places}
-use Rattle.task_code.specs.Code.{literal, place_of, is_linear, linear_code}
-use Rattle.task_code.specs.Evaluation.{Knows, ArePlaces, LoadsAt, Loads}
-use Rattle.task_code.specs.Values.{Free}
-use Rattle.task_code.proofs.Evaluation as one
-use Rattle.task_code.proofs.Seats.{is-seat-in, knows-kept}
-use Rattle.task_code.proofs.Values.{literal-sets}
+use Rattle.scalar_code.specs.declared.places.Pixels.{Pixels}
+use Rattle.scalar_code.specs.declared.places.Pixels.TheVariants as pixels
+use Rattle.scalar_code.specs.declared.places.Places.{Places}
+use Rattle.scalar_code.specs.Code.{literal, place_of, is_linear, linear_code, made as one_round}
+use Rattle.scalar_code.specs.Evaluation.{Knows, ArePlaces, LoadsAt, Loads}
+use Rattle.scalar_code.specs.Values.{Free}
+use Rattle.scalar_code.proofs.Evaluation as one
+use Rattle.scalar_code.proofs.Seats.{is-seat-in, knows-kept}
+use Rattle.scalar_code.proofs.Values.{literal-sets}
 use Rattle.lane_code.specs.declared.groups.Group.{Group}
 use Rattle.lane_code.specs.declared.values.Pace.{Pace}
 use Rattle.lane_code.specs.declared.values.Pace.TheVariants as paces
 use Rattle.lane_code.specs.Groups.{registers, slots, slot, spare}
-use Rattle.lane_code.specs.Lanes.{is_steady, is_stepping, step_word, Laned, are_words, is_dense, has_slot, laned_at, laned, lanes_selection, lanes_quotient, lanes_remainder, stepped, gathered, dense, lanes_operation, both_steady}
+use Rattle.lane_code.specs.Lanes.{is_steady, is_stepping, step_word, Laned, are_words, is_dense, has_slot, laned_at, laned, pace_of, lanes_selection, lanes_quotient, lanes_remainder, stepped, gathered, dense, lanes_operation, both_steady}
 use Rattle.lane_code.specs.Leaving.{GoAlong, IsKept, LanesLeave}
 use Rattle.lane_code.proofs.Slots.{SlotLies, slot-lies, is-below}
 use Rattle.lane_code.proofs.Rows.{Writes, Lanes, Leaves, writes, lanes-kept, few-rounds, last, scalar-first, value-first, same-values, slot-kept, slot-still, kept-more}
-use Rattle.lane_code.proofs.LanedParts.{own-is}
+use Rattle.lane_code.proofs.LanedParts.{own-is, pace-is}
 use Rattle.lane_code.proofs.Operations as operations
 use Rattle.lane_code.proofs.Quotients.{quotient-leaves, remainder-leaves}
 use Rattle.lane_code.proofs.Pacing.{Holds, linear-goes, step-holds, both-hold, operation-hold}
@@ -461,3 +461,32 @@ lanes-leave w harts m group places scope moves at reads n l all some go e k fits
       value = λ i lt. a.value i lt ∙ ap (λ (x : Seen). x.value) (family-is reads at i e) ∙ values_are_seen reads (at i) e;
       keeps = a.keeps;
     }
+
+-- ---- what values of all rounds are
+
+holds-same : (p : Pace) (n : ℕ) (v u : ℕ → ℕ) → 0 < n → ((i : ℕ) → i < n → v i ≡ u i) → Holds p n v → Holds p n u
+holds-same paces.Steady n v u some same h = λ i l. sym (same i l) ∙ h i l ∙ same 0 some
+holds-same paces.Stepping n v u some same h = λ i l. sym (same i l) ∙ h i l ∙ ap (λ x. (x + i) % 2 ^ 32) (same 0 some)
+holds-same paces.Irregular n v u some same h = tt
+
+module _ (w : World) (harts : ℕ) (m : List ℕ) (group : Group) (places : Places) (scope : List Counter) (moves : List Bool) (at : ℕ → Values) (reads : Reads) (n : ℕ)
+    (l : length m ≡ w.size) (all : ArePlaces places) (some : 1 ≤ n) (go : GoAlong scope moves at n) (e : Expr) where
+  pub slot-there : (k : ℕ) → (laned group places scope moves e).fits k ≡ true → k < slots group
+  slot-there = (evaluates w harts m group places scope moves at reads n l all some go e).slot_is
+
+  -- they are words, and go along with the rounds as their pace says
+  pub record Go : Type 0 where
+    pub small : (i : ℕ) → i < n → value reads (at i) e < 2 ^ 32
+    pub paced : Holds (pace_of scope moves e) n (λ i. value reads (at i) e)
+
+  pub values-go : (one_round places scope e).is_word ≡ true → ((i : ℕ) → i < n → AllByRecursion (Loads w places m reads) (loads reads (at i) e)) → Go
+  values-go is loaded =
+      let s = fold-Expr Family (family_at reads at) e in
+      let c = (evaluates w harts m group places scope moves at reads n l all some go e).of_all (ap (λ x. x.is_word) (own-is group places scope moves e) ∙ is)
+      (λ i lt. subst (λ (x : Seen). AllByRecursion (Loads w places m reads) x.points) (sym (family-is reads at i e)) (loaded i lt)) in
+      let same : (i : ℕ) → (s i).value ≡ value reads (at i) e = λ i. ap (λ (x : Seen). x.value) (family-is reads at i e) ∙ values_are_seen reads (at i) e in
+      record {
+        small = λ i lt. subst (λ x. x < 2 ^ 32) (same i) (c.small i lt);
+        paced = subst (λ p. Holds p n (λ i. value reads (at i) e)) (pace-is group places scope moves e)
+            (holds-same (laned group places scope moves e).pace n (λ i. (s i).value) (λ i. value reads (at i) e) some (λ i lt. same i) c.paced);
+      }

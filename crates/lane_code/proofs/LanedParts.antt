@@ -8,8 +8,8 @@ use Rattle.loop_ir.specs.declared.expressions.Expr.TheOpen as layer
 use Rattle.loop_ir.proofs.Folds.{Both, left_of, right_of, folds_related}
 use Rattle.lane_code.specs.declared.groups.Group.{Group}
 use Rattle.lane_code.specs.declared.values.Pace.{Pace}
-use Rattle.task_code.specs.declared.places.Places.{Places}
-use Rattle.task_code.specs.Code.{Made, pair, divided, triple, made, made_at, operation, quotient, remainder, loading, place_of}
+use Rattle.scalar_code.specs.declared.places.Places.{Places}
+use Rattle.scalar_code.specs.Code.{Made, pair, divided, triple, made, made_at, operation, quotient, remainder, loading, place_of}
 use Rattle.lane_code.specs.Lanes.{Laned, laned, laned_at, is_dense, is_stepping, is_steady, operation_pace, both_steady, pace_of, pace_at}
 
 module _ (group : Group) (places : Places) (scope : List Counter) (moves : List Bool) where

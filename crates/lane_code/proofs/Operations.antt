@@ -19,7 +19,7 @@ use Rattle.lone_hart.specs.Alone.{World}
 use Rattle.lone_hart.specs.Paths.{lane, bit, IsGroup}
 use Rattle.lone_hart.proofs.VectorRows as rows
 use Rattle.lone_hart.proofs.MaskRows as masks
-use Rattle.task_code.proofs.Numbers.{less-is}
+use Rattle.scalar_code.proofs.Numbers.{less-is}
 use Rattle.lane_code.specs.declared.groups.Group.{Group}
 use Rattle.lane_code.specs.Groups.{registers, slot}
 use Rattle.lane_code.specs.Lanes.{flagged, compared, lanes_operation, lanes_selection}

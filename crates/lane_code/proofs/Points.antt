@@ -21,12 +21,12 @@ use Rattle.lone_hart.specs.Paths.{lane, vl_number, vtype_number, IsGroup, Readab
 use Rattle.lone_hart.specs.LaneMemory.{AllReadable, offset_at, OffsetsFit}
 use Rattle.lone_hart.proofs.VectorRows as rows
 use Rattle.lone_hart.proofs.LaneLoads as memory
-use Rattle.task_code.specs.declared.places.Pixels.TheVariants as pixels
-use Rattle.task_code.specs.declared.places.Place.{Place}
-use Rattle.task_code.specs.Code.{literal, address, pixel_bytes}
-use Rattle.task_code.specs.Evaluation.{IsPlace, LoadsAt, load_op}
-use Rattle.task_code.proofs.Addresses.{row-words, addressed-leaves}
-use Rattle.task_code.proofs.Values.{Sets, alu-sets, literal-sets}
+use Rattle.scalar_code.specs.declared.places.Pixels.TheVariants as pixels
+use Rattle.scalar_code.specs.declared.places.Place.{Place}
+use Rattle.scalar_code.specs.Code.{literal, address, pixel_bytes}
+use Rattle.scalar_code.specs.Evaluation.{IsPlace, LoadsAt, load_op}
+use Rattle.scalar_code.proofs.Addresses.{row-words, addressed-leaves}
+use Rattle.scalar_code.proofs.Values.{Sets, alu-sets, literal-sets}
 use Rattle.lane_code.specs.declared.groups.Group.{Group}
 use Rattle.lane_code.specs.Groups.{registers, slot}
 use Rattle.lane_code.specs.Lanes.{stepped, dense, based, gathered}

@@ -20,8 +20,8 @@ use Rattle.lone_hart.specs.Paths.{Line, lane, bit, vl_number}
 use Rattle.lone_hart.proofs.Paths.{line-then}
 use Rattle.lone_hart.proofs.VectorRows as rows
 use Rattle.lone_hart.proofs.MaskRows as masks
-use Rattle.task_code.specs.Code.{literal}
-use Rattle.task_code.proofs.Values.{literal-sets}
+use Rattle.scalar_code.specs.Code.{literal}
+use Rattle.scalar_code.proofs.Values.{literal-sets}
 use Rattle.lane_code.specs.declared.groups.Group.{Group}
 use Rattle.lane_code.specs.Groups.{registers, slot, spare}
 use Rattle.lane_code.specs.Lanes.{lanes_complement, lanes_sign, lanes_quotient, lanes_remainder}

@@ -6,8 +6,8 @@ use Rattle.lone_hart.specs.Alone.{World}
 use Rattle.lone_hart.specs.Paths.{Line, lane, vl_number, vtype_number, write_lanes}
 use Rattle.lone_hart.proofs.Paths.{line-then}
 use Rattle.lone_hart.proofs.LaneRows.{lanes-new, lanes-below, lanes-above}
-use Rattle.task_code.specs.Values.{Free, Leaves as LeavesOne}
-use Rattle.task_code.proofs.Values.{Sets}
+use Rattle.scalar_code.specs.Values.{Free, Leaves as LeavesOne}
+use Rattle.scalar_code.proofs.Values.{Sets}
 use Rattle.vector_unit.specs.VectorState.{is_supported, width_of, group_of, most_elements}
 use Rattle.lane_code.specs.declared.groups.Group.{Group}
 use Rattle.lane_code.specs.Groups.{registers, slot, spare}

@@ -6,8 +6,8 @@ use Rattle.rv_insn.specs.declared.instructions.Insn.TheVariants.{Vector}
 use Rattle.rv_insn.specs.declared.vector_instructions.VectorInsn.TheVariants as v
 use Rattle.rv_insn.specs.declared.vector_operations.ArithmeticVxOp.TheVariants as vxs
 use Rattle.rv_insn.specs.declared.vector_operations.MultiplyOp.TheVariants as multiplies
-use Rattle.task_code.specs.Code.{literal}
-use Rattle.task_code.specs.Words.{Emits}
+use Rattle.scalar_code.specs.Code.{literal}
+use Rattle.scalar_code.specs.Words.{Emits}
 use Rattle.lane_code.specs.Lanes.{stepped}
 
 pub stepped-one : (s r : ℕ) (old new : List ℕ) → s ≡ 1 → Emits old new (Vector (v.ElementNumbers r true) ∷ Vector (v.ArithmeticVx vxs.Vadd r r 20 true) ∷ []) → Emits old new (stepped s r)

@@ -1,6 +1,6 @@
 -- What comes of an attempt to make the code of an expression over lanes. This project's own.
 use Rattle.std.specs.Prelude.{◌≡◌, ◌<◌, ℕ, true, List}
-use Rattle.task_code.specs.Words.{Emits}
+use Rattle.scalar_code.specs.Words.{Emits}
 use Rattle.lane_code.specs.declared.groups.Group.{Group}
 use Rattle.lane_code.specs.Groups.{slot}
 use Rattle.lane_code.specs.Lanes.{Laned}

@@ -30,11 +30,11 @@ use Rattle.loop_ir.specs.Counters.{same_counter}
 use Rattle.lane_code.specs.declared.groups.Group.{Group}
 use Rattle.lane_code.specs.declared.values.Pace.{Pace}
 use Rattle.lane_code.specs.declared.values.Pace.TheVariants as paces
-use Rattle.task_code.specs.declared.places.Pixels.{Pixels}
-use Rattle.task_code.specs.declared.places.Pixels.TheVariants as pixels
-use Rattle.task_code.specs.declared.places.Place.{Place}
-use Rattle.task_code.specs.declared.places.Places.{Places}
-use Rattle.task_code.specs.Code.{scratch, second_scratch, bottom, literal, linear_code, addressed, place_of, Made, made_at}
+use Rattle.scalar_code.specs.declared.places.Pixels.{Pixels}
+use Rattle.scalar_code.specs.declared.places.Pixels.TheVariants as pixels
+use Rattle.scalar_code.specs.declared.places.Place.{Place}
+use Rattle.scalar_code.specs.declared.places.Places.{Places}
+use Rattle.scalar_code.specs.Code.{scratch, second_scratch, bottom, literal, linear_code, addressed, place_of, Made, made_at}
 use Rattle.lane_code.specs.Groups.{slots, spare, slot}
 
 -- ---- how values go along with the rounds

@@ -9,9 +9,9 @@ use Rattle.loop_ir.specs.Counters.{Values}
 use Rattle.loop_ir.specs.Expressions.{value, loads}
 use Rattle.lone_hart.specs.Alone.{World}
 use Rattle.lone_hart.specs.Paths.{Line, lane, vl_number, vtype_number, LanesConfigured}
-use Rattle.task_code.specs.declared.places.Places.{Places}
-use Rattle.task_code.specs.Code.{made}
-use Rattle.task_code.specs.Evaluation.{Knows, ArePlaces, Loads}
+use Rattle.scalar_code.specs.declared.places.Places.{Places}
+use Rattle.scalar_code.specs.Code.{made}
+use Rattle.scalar_code.specs.Evaluation.{Knows, ArePlaces, Loads}
 use Rattle.lane_code.specs.declared.groups.Group.{Group}
 use Rattle.lane_code.specs.Groups.{registers, slot}
 use Rattle.lane_code.specs.Lanes.{is_moving, laned}

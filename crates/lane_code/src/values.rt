@@ -3,12 +3,12 @@
 ghost use Rattle.std.specs.Prelude.{◌≡◌, List, ◌%◌, ◌^◌, ◌<◌, ◌&&◌, if◌then◌else◌, nat_le, IfErr, IfOk, OnOk};
 ghost use Rattle.loop_ir.specs.declared.expressions.Counter.{Counter as Counts};
 ghost use Rattle.lane_code.specs.declared.groups.Group.{Group as Groups};
-ghost use Rattle.task_code.specs.declared.places.Places.{Places as AllPlaces};
-ghost use Rattle.task_code.specs.Code.{made};
-ghost use Rattle.task_code.specs.Faults.{IsFault};
+ghost use Rattle.scalar_code.specs.declared.places.Places.{Places as AllPlaces};
+ghost use Rattle.scalar_code.specs.Code.{made};
+ghost use Rattle.scalar_code.specs.Faults.{IsFault};
 ghost use Rattle.lane_code.specs.Emitting.{EmitsLanes, FitsLanes};
 ghost use Rattle.lane_code.specs.Lanes as spec;
-ghost use Rattle.task_code.specs.Words.{Emits};
+ghost use Rattle.scalar_code.specs.Words.{Emits};
 
 use crate::groups::Group;
 use crate::vectors::{
@@ -19,13 +19,13 @@ use crate::vectors::{
 use halide_pipeline::{Operation, words};
 use loop_ir::expressions::{Counter, Expr, Term, same_counter};
 use rv_insn::{AluOp, ArithmeticVvOp, ArithmeticVxOp, CompareVvOp, MultiplyOp};
+use scalar_code::CodeFault;
+use scalar_code::expressions::{emit_linear, emit_number, emit_value, place_of};
+use scalar_code::frames::need;
+use scalar_code::instructions::{alu, emit_literal};
+use scalar_code::operations::emit_addressed;
+use scalar_code::places::{Pixels, Place, Places};
 use std::alloc::AllocError;
-use task_code::CodeFault;
-use task_code::expressions::{emit_linear, emit_number, emit_value, place_of};
-use task_code::frames::need;
-use task_code::instructions::{alu, emit_literal};
-use task_code::operations::emit_addressed;
-use task_code::places::{Pixels, Place, Places};
 
 /// How an expression's values go along with the rounds of a loop.
 #[derive(Clone, Copy, Debug, PartialEq, Eq)]

@@ -10,15 +10,15 @@ ghost use Rattle.rv_insn.specs.declared.vector_operations.CompareVxOp.TheVariant
 ghost use Rattle.rv_insn.specs.declared.vector_operations.CompareViOp.TheVariants.{Vmsne as not_equal};
 ghost use Rattle.rv_insn.specs.declared.vector_operations.ArithmeticViOp.TheVariants.{Vrsub as from_number};
 ghost use Rattle.lane_code.specs.Groups as spec;
-ghost use Rattle.task_code.specs.Words.{Emits};
+ghost use Rattle.scalar_code.specs.Words.{Emits};
 
 use crate::groups::Group;
 use rv_insn::{
     Addressing, ArithmeticViOp, ArithmeticVvOp, ArithmeticVxOp, CompareViOp, CompareVvOp,
     CompareVxOp, ElementWidth, Imm5, Insn, MultiplyOp, ShiftAmount, ShiftViOp, VReg, VectorInsn,
 };
+use scalar_code::instructions::{put, register};
 use std::alloc::AllocError;
-use task_code::instructions::{put, register};
 
 /// The vector register with this number.
 fn vector(number: u8) -> VReg

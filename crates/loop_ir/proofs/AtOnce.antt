@@ -234,16 +234,25 @@ module _ (points : Points) (inputs : Planes) (body : Stmt) (at : ℕ → Values)
       missed_stays points inputs before point body (at n) (sym (ap (λ (test : Values → Bool). test (at n)) (touches_are before (all_but point) all_points body)) ∙ pass n (omega arith)) (stores n)
       ∙ answered n point (λ k below. pass k (omega (arith, below)))
 
-  in_turn : (n : ℕ) → own.is_one_store ≡ true → are_apart own at n ≡ true → turns n (λ turn. run points inputs body (at turn)) funcs ≡ stores n
-  unfolding turns every
+  -- so a round stores what it stores from what was there before the first
+  pub same_round : (n : ℕ) → are_apart own at (suc n) ≡ true → effect (reads_of inputs (stores n)) body (at n) ≡ effect before body (at n)
+  unfolding every
+  same_round n apart =
+      let parts = and_parts (are_apart own at n) (every n (λ earlier. own.touches everywhere (misses own (at earlier)) (at n))) apart in
+      same_effect before (reads_of inputs (stores n)) n (λ k. misses own (at k)) (answered n) body (at n)
+      (λ k below. sym (ap (λ (test : Values → Bool). test (at n)) (touches_are before everywhere (misses own (at k)) body)) ∙ each n (λ earlier. own.touches everywhere (misses own (at earlier)) (at n)) parts.1 k below)
+
+  pub fewer_apart : (n : ℕ) → are_apart own at (suc n) ≡ true → are_apart own at n ≡ true
+  unfolding every
+  fewer_apart n apart = (and_parts (are_apart own at n) (every n (λ earlier. own.touches everywhere (misses own (at earlier)) (at n))) apart).0
+
+  pub in_turn : (n : ℕ) → own.is_one_store ≡ true → are_apart own at n ≡ true → turns n (λ turn. run points inputs body (at turn)) funcs ≡ stores n
+  unfolding turns
   in_turn zero is apart = refl
   in_turn (suc n) is apart =
-      let parts = and_parts (are_apart own at n) (every n (λ earlier. own.touches everywhere (misses own (at earlier)) (at n))) apart in
-      let same = same_effect before (reads_of inputs (stores n)) n (λ k. misses own (at k)) (answered n) body (at n)
-      (λ k below. sym (ap (λ (test : Values → Bool). test (at n)) (touches_are before everywhere (misses own (at k)) body)) ∙ each n (λ earlier. own.touches everywhere (misses own (at earlier)) (at n)) parts.1 k below) in
-      ap (run points inputs body (at n)) (in_turn n is parts.0)
+      ap (run points inputs body (at n)) (in_turn n is (fewer_apart n apart))
       ∙ one_does points inputs before body is (at n) (stores n)
-      ∙ ap (λ e. put_effect points e (stores n)) same
+      ∙ ap (λ e. put_effect points e (stores n)) (same_round n apart)
 
 pub rounds_at_once : RoundsAtOnceDoWhatTurnsDo
 rounds_at_once points inputs body at count funcs is apart = in_turn points inputs body at funcs count is apart

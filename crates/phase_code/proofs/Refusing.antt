@@ -2,8 +2,8 @@
 use Rattle.std.proofs.Common.{ℕ, ◌+◌, ◌^◌, ◌<◌, ◌≤◌, List, [], Bool, true, false, length, arith}
 use Rattle.rv_insn.specs.declared.instructions.Insn.{Insn}
 use Rattle.memory.specs.Addresses.{most_words}
-use Rattle.task_code.specs.Words.{Emits}
-use Rattle.task_code.proofs.Spelling.{emits-length}
+use Rattle.scalar_code.specs.Words.{Emits}
+use Rattle.scalar_code.proofs.Spelling.{emits-length}
 use Rattle.phase_code.specs.Code.{phase_code, door_words}
 use Rattle.phase_code.proofs.Standing.{phase-length}
 

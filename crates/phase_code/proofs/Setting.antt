@@ -4,8 +4,9 @@ use Rattle.lone_hart.specs.Alone.{World}
 use Rattle.lone_hart.specs.Paths.{Stand, end, Path, Line}
 use Rattle.lone_hart.proofs.Paths.{line-then, path-then}
 use Rattle.lone_hart.proofs.Jumps.{jump}
-use Rattle.task_code.specs.Code.{literal, restored, forth}
-use Rattle.task_code.proofs.Values.{Sets, literal-sets}
+use Rattle.scalar_code.specs.Code.{literal, forth}
+use Rattle.task_code.specs.Code.{restored}
+use Rattle.scalar_code.proofs.Values.{Sets, literal-sets}
 use Rattle.phase_code.specs.Code.{Part, door_words, phase_code, draw_at}
 use Rattle.phase_code.proofs.Standing.{forth-to, at-setup, at-way, at-draw}
 

@@ -21,7 +21,7 @@ use Rattle.work_sharing.specs.Programs.{ticket_word, gate_word, IsControlByte, O
 use Rattle.work_sharing.proofs.Bridges.{at-numbers, stands-there, path-does}
 use Rattle.work_sharing.proofs.Phases.{each-of}
 use Rattle.work_sharing.proofs.ExampleWords.{zeros}
-use Rattle.task_code.specs.Code.{back, forth}
+use Rattle.scalar_code.specs.Code.{back, forth}
 use Rattle.phase_code.specs.Code.{Part, door_code, to_door, phase_code, begin, door_at, draw_at}
 use Rattle.phase_code.specs.Sharing.{Matter, no_part, part_at, is_last, phase, IsShared, ProgramsShare}
 use Rattle.phase_code.proofs.Standing.{forth-to, back-to, Which, end-is, stand-phase, at-door, at-draw, at-tasks, at-back, behind}

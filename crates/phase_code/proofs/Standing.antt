@@ -10,7 +10,8 @@ use Rattle.lone_hart.specs.Alone.{Says}
 use Rattle.lone_hart.specs.Paths.{Spot, Stand, end}
 use Rattle.lone_hart.proofs.Paths.{stand-front, stand-back}
 use Rattle.work_sharing.specs.Programs.{ticket_word}
-use Rattle.task_code.specs.Code.{forth, back, restored}
+use Rattle.scalar_code.specs.Code.{forth, back}
+use Rattle.task_code.specs.Code.{restored}
 use Rattle.phase_code.specs.Code.{Part, door_code, door_words, draw_code, tasks_code, phase_code, program, begin, door_at, draw_at}
 use Rattle.phase_code.specs.Sharing.{no_part}
 

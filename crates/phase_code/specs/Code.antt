@@ -14,7 +14,8 @@ use Rattle.rv_insn.specs.declared.instructions.Insn.TheVariants.{AmoaddW, Branch
 use Rattle.rv_insn.specs.declared.operations.BranchOp.TheVariants.{Bgeu, Bne}
 use Rattle.rv_insn.specs.declared.operations.LoadOp.TheVariants.{Lw}
 use Rattle.work_sharing.specs.Programs.{ticket_word}
-use Rattle.task_code.specs.Code.{forth, back, restored}
+use Rattle.scalar_code.specs.Code.{forth, back}
+use Rattle.task_code.specs.Code.{restored}
 
 -- how many tasks a phase has, and the code of one
 pub record Part : Type 0 where

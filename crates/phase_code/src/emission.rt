@@ -6,14 +6,15 @@ ghost use Rattle.rv_insn.specs.declared.instructions.Insn.TheVariants as insns;
 ghost use Rattle.rv_insn.specs.declared.operations.BranchOp.TheVariants.{Bgeu, Bne};
 ghost use Rattle.rv_insn.specs.declared.operations.LoadOp.TheVariants.{Lw};
 ghost use Rattle.memory.specs.Addresses.{most_words};
-ghost use Rattle.task_code.specs.Faults.{IsFault};
-ghost use Rattle.task_code.specs.Words.{Emits};
+ghost use Rattle.scalar_code.specs.Faults.{IsFault};
+ghost use Rattle.scalar_code.specs.Words.{Emits};
 ghost use Rattle.phase_code.specs.Code as spec;
 
 use rv_insn::{BranchOffset, BranchOp, Imm12, Insn, LoadOp};
+use scalar_code::instructions::{jump_back, jump_forth, put, register};
+use scalar_code::{CodeFault, append};
 use std::alloc::AllocError;
-use task_code::instructions::{jump_back, jump_forth, put, register};
-use task_code::{CodeFault, append, emit_restored};
+use task_code::emit_restored;
 
 /// Appends that 1 is added to the word at the address in x13 or x14, of which `rd` gets what stood there.
 fn count_up(code: &mut Vec<u32>, rd: u8, address: u8) -> Result<(), AllocError>

@@ -27,11 +27,11 @@ use Rattle.loop_ir.specs.Buffers.{Points}
 use Rattle.data_parts.specs.Parts.{Part, Control, Input as InputPart, Root, Copies, Frame, Outside, sizes_of}
 use Rattle.data_parts.specs.Finding.{roots_at}
 use Rattle.data_parts.proofs.Finding.{roots-lie}
-use Rattle.task_code.specs.declared.places.Place.{Place}
-use Rattle.task_code.specs.Code.{address}
-use Rattle.task_code.specs.Evaluation.{load_op}
-use Rattle.task_code.specs.Layout.{func_point, size_of}
-use Rattle.task_code.specs.Doing.{HoldsFuncs}
+use Rattle.scalar_code.specs.declared.places.Place.{Place}
+use Rattle.scalar_code.specs.Code.{address}
+use Rattle.scalar_code.specs.Evaluation.{load_op}
+use Rattle.scalar_code.specs.Layout.{func_point, size_of}
+use Rattle.scalar_code.specs.Doing.{HoldsFuncs}
 use Rattle.phase_memory.specs.Uses.{Owners, greatest, use_of_owner, use_of, width_in, width_of, byte_of, input_byte, byte_in}
 use Rattle.phase_memory.specs.Points.{RootPoint, InputPoint, part, address_at}
 use Rattle.phase_memory.specs.Settings.{places, uses, IsLoaded}

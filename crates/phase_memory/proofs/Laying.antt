@@ -26,13 +26,13 @@ use Rattle.loop_ir.specs.Buffers.{Points}
 use Rattle.data_parts.specs.Parts.{Part, Sizes, Input as InputPart, Root, Copies, Frame, sizes_of}
 use Rattle.data_parts.specs.Finding.{frames_at}
 use Rattle.data_parts.proofs.Finding.{frames-found}
-use Rattle.task_code.specs.declared.places.Pixels.{Pixels}
-use Rattle.task_code.specs.declared.places.Pixels.TheVariants as pixels
-use Rattle.task_code.specs.declared.places.Place.{Place}
-use Rattle.task_code.specs.Code.{place_of, pixel_bytes, address, frames_of, frame_words}
-use Rattle.task_code.specs.Evaluation.{load_op}
-use Rattle.task_code.specs.Layout.{IsAt, MayStore, MayLoad, OwnsFrame, Laid}
-use Rattle.task_code.proofs.FrameUses.{frames-lie}
+use Rattle.scalar_code.specs.declared.places.Pixels.{Pixels}
+use Rattle.scalar_code.specs.declared.places.Pixels.TheVariants as pixels
+use Rattle.scalar_code.specs.declared.places.Place.{Place}
+use Rattle.scalar_code.specs.Code.{place_of, pixel_bytes, address, frames_of, frame_words}
+use Rattle.scalar_code.specs.Evaluation.{load_op}
+use Rattle.scalar_code.specs.Layout.{IsAt, MayStore, MayLoad, OwnsFrame, Laid}
+use Rattle.scalar_code.proofs.FrameUses.{frames-lie}
 use Rattle.phase_memory.specs.Uses.{Owners, greatest, use_of_owner, use_of, width_in, points_in, width_of, copy_bytes}
 use Rattle.phase_memory.specs.Points.{RootPoint, PrivatePoint, InputPoint, part, address_at, IsWordOf}
 use Rattle.phase_memory.specs.Settings.{OneOwner, places, size, uses, task_world, IsWritten, IsLoaded, Touches, TasksAreLaid}

@@ -9,7 +9,7 @@ use Rattle.schedule.specs.declared.standings.Standing.{Standing}
 use Rattle.bounds.specs.declared.boxes.SourceBox.{SourceBox}
 use Rattle.bounds.specs.Boxes.{points}
 use Rattle.bounds.specs.Layout.{input_bytes, root_bytes, private_bytes, root_sizes, private_sizes, placed}
-use Rattle.task_code.specs.Code.{nowhere}
+use Rattle.scalar_code.specs.Code.{nowhere}
 use Rattle.phase_memory.specs.Places.{input_place, input_places, func_place, func_places}
 
 pub there-below : {X : Type 0} (xs : List X) (k : ℕ) (x : X) → slice_get xs k ≡ Some x → k < length xs

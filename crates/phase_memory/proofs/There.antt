@@ -15,9 +15,9 @@ use Rattle.bounds.specs.Layout.{data_start, laid_in, laid_out, root_bytes, priva
 use Rattle.data_parts.specs.Parts.{Sizes, sizes_of, part_at}
 use Rattle.data_parts.specs.Finding.{inputs_at, roots_at, privates_at}
 use Rattle.data_parts.proofs.Finding.{parts-end, parts-aligned, inputs-found, roots-found, copies-found}
-use Rattle.task_code.specs.declared.places.Pixels.TheVariants as pixels
-use Rattle.task_code.specs.declared.places.Place.{Place}
-use Rattle.task_code.specs.Code.{place_of, address}
+use Rattle.scalar_code.specs.declared.places.Pixels.TheVariants as pixels
+use Rattle.scalar_code.specs.declared.places.Place.{Place}
+use Rattle.scalar_code.specs.Code.{place_of, address}
 use Rattle.phase_memory.specs.Places.{input_place, func_place, places_of}
 use Rattle.phase_memory.specs.Points.{RootPoint, PrivatePoint, InputPoint, address_at, RootsAreThere, CopiesAreThere, WordInputsAreThere, ByteInputsAreThere}
 use Rattle.phase_memory.proofs.Listing.{there-below, placed-length, input-at, input-size, sizes-length, inputs-four, func-at, root-size, private-size, root-below, private-below, roots-four, privates-four}

@@ -13,8 +13,8 @@ use Rattle.bounds.specs.declared.boxes.SourceBox.{SourceBox}
 use Rattle.lone_hart.specs.Uses.{Owned, Given}
 use Rattle.loop_ir.specs.Buffers.{Points}
 use Rattle.data_parts.specs.Parts.{Input as InputPart}
-use Rattle.task_code.specs.Doing.{Setting, HoldsFuncs}
-use Rattle.task_code.specs.Layout.{func_point}
+use Rattle.scalar_code.specs.Doing.{Setting, HoldsFuncs}
+use Rattle.scalar_code.specs.Layout.{func_point}
 use Rattle.phase_memory.specs.Uses.{Owners, input_byte, byte_in}
 use Rattle.phase_memory.specs.Points.{RootPoint, part, address_at}
 use Rattle.phase_memory.specs.Settings.{OneOwner, places, size, uses, task_world, IsLoaded}

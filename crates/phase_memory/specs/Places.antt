@@ -10,10 +10,10 @@ use Rattle.schedule.specs.declared.standings.Standing.{Standing}
 use Rattle.bounds.specs.declared.boxes.SourceBox.{SourceBox}
 use Rattle.bounds.specs.declared.layout.Layout.{Layout}
 use Rattle.bounds.specs.Boxes.{extent, points}
-use Rattle.task_code.specs.declared.places.Pixels.TheVariants as pixels
-use Rattle.task_code.specs.declared.places.Place.{Place}
-use Rattle.task_code.specs.declared.places.Places.{Places}
-use Rattle.task_code.specs.Code.{nowhere}
+use Rattle.scalar_code.specs.declared.places.Pixels.TheVariants as pixels
+use Rattle.scalar_code.specs.declared.places.Place.{Place}
+use Rattle.scalar_code.specs.declared.places.Places.{Places}
+use Rattle.scalar_code.specs.Code.{nowhere}
 
 abbrev pub input_place : ℕ → Input → Place
 input_place at input = record { start = at; width = input.width; distance = 0; pixels = if input.is_bytes then pixels.Bytes else pixels.Words }

@@ -13,7 +13,7 @@ use Rattle.bounds.specs.declared.boxes.SourceBox.{SourceBox}
 use Rattle.bounds.specs.Boxes.{extent, points}
 use Rattle.bounds.specs.Layout.{data_start, laid_out}
 use Rattle.data_parts.specs.Parts.{Part, Input as InputPart, Root, Copies, sizes_of, part_at}
-use Rattle.task_code.specs.Code.{place_of, address}
+use Rattle.scalar_code.specs.Code.{place_of, address}
 use Rattle.phase_memory.specs.Places.{places_of}
 
 module _ (pipeline : Pipeline) (schedule : Schedule) (boxes : List (Option SourceBox)) where

@@ -13,8 +13,8 @@ use Rattle.lone_hart.specs.Alone.{World}
 use Rattle.bounds.specs.declared.boxes.SourceBox.{SourceBox}
 use Rattle.bounds.specs.Layout.{laid_out}
 use Rattle.loop_ir.specs.Buffers.{Points}
-use Rattle.task_code.specs.declared.places.Places.{Places}
-use Rattle.task_code.specs.Layout.{Laid}
+use Rattle.scalar_code.specs.declared.places.Places.{Places}
+use Rattle.scalar_code.specs.Layout.{Laid}
 use Rattle.phase_memory.specs.Places.{places_of}
 use Rattle.phase_memory.specs.Points.{RootPoint, PrivatePoint, InputPoint, part}
 use Rattle.phase_memory.specs.Uses.{Owners, use_of}

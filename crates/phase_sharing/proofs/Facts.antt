@@ -33,6 +33,7 @@ use Rattle.lowering.specs.Planes.{held, has_point, box_points, owns}
 use Rattle.lowering.specs.PurePhases.{IsAtRoot}
 use Rattle.lowering.specs.Stages.{is_at_loop, is_private_in, is_private, after_stages, DoesStage}
 use Rattle.lowering.specs.Stored.{names}
+use Rattle.lowering.specs.Rounds.{RoundsMayBeAtOnce}
 use Rattle.lowering.specs.Touching.{is_listed, is_root_at, is_root_in, TouchesItsOwn}
 use Rattle.lowering.specs.Updates.{IsUpdateAt, update_extents, owns_update}
 use Rattle.phase_memory.specs.Points.{RootPoint, PrivatePoint}
@@ -173,6 +174,7 @@ pub record IsKnown (pipeline : Pipeline) (schedule : Schedule) (boxes : Boxes) (
   pub hosted : (func : ℕ) → is_listed work.phase.private func ≡ true → IsAtLoop schedule func
   pub does : DoesStage pipeline schedule boxes work.place work.func work.number work.owned work.phase
   pub touches : TouchesItsOwn pipeline schedule boxes work.place work.owned work.phase
+  pub rounds : RoundsMayBeAtOnce work.phase
   pub tasks_are : work.phase.tasks ≡ iterations pipeline schedule boxes (stage_of work)
   -- from what the stage begins with, a task stores at the points that its iteration writes, and owns them
   pub stores : (inputs : Planes) → AnswerWords pipeline.inputs (reads_of inputs (pixels pipeline.funcs inputs 0)) → (funcs : Planes) (task : ℕ) → task < work.phase.tasks
@@ -223,6 +225,7 @@ module _ (pipeline : Pipeline) (schedule : Schedule) (boxes : Boxes) (place : �
       hosted = λ k e. hosted_at_loop schedule place k (sym (ap (λ (l : List ℕ). is_listed l k) private_is) ∙ e);
       does = does;
       touches = touches;
+      rounds = rounds;
       tasks_are = tasks ∙ sym (iterations_are 0);
       stores = λ inputs begun funcs task below holds x y. stores inputs funcs task below x y ∙ sym (writes_are inputs 0 task x y);
       owned_writes = λ inputs begun task below x y written. sym (writes_are inputs 0 task x y) ∙ written;
@@ -238,6 +241,7 @@ module _ (pipeline : Pipeline) (schedule : Schedule) (boxes : Boxes) (place : �
       hosted = λ k e. absurd (true≢false (sym e ∙ ap (λ (l : List ℕ). is_listed l k) private_is));
       does = does;
       touches = touches;
+      rounds = rounds;
       tasks_are = tasks ∙ sym (update_iterations_are number update stage it);
       stores = λ inputs begun funcs task below holds x y. stores.exactly inputs begun funcs task below holds x y ∙ sym (update_writes_are number update stage it inputs task x y);
       owned_writes = λ inputs begun task below x y written. stores.owned inputs begun task below x y (sym (update_writes_are number update stage it inputs task x y) ∙ written);

@@ -26,8 +26,8 @@ use Rattle.bounds.specs.Judging.{inputs_hold, shifts_hold, have_few_points}
 use Rattle.bounds.specs.Layout.{data_start, input_bytes, root_sizes, private_sizes, phases, total, placed, laid_in, laid_out}
 use Rattle.bounds.specs.Verdict.{sized, boxes_of, judged, with_inputs, with_funcs, inferred}
 use Rattle.box_laws.proofs.BoxFacts.{has_box, is_judged}
-use Rattle.task_code.specs.Code.{nowhere}
-use Rattle.task_code.specs.Evaluation.{IsPlace, ArePlaces}
+use Rattle.scalar_code.specs.Code.{nowhere}
+use Rattle.scalar_code.specs.Evaluation.{IsPlace, ArePlaces}
 use Rattle.lowering.proofs.Facts.{few_at}
 use Rattle.phase_memory.specs.Places.{input_places, func_place, func_places}
 use Rattle.phase_memory.specs.Settings.{places, size}

@@ -25,9 +25,10 @@ use Rattle.lowering.specs.Phases.{Hold, DoesPhase}
 use Rattle.lowering.specs.Planes.{box_points}
 use Rattle.lowering.specs.Stages.{is_private}
 use Rattle.lowering.specs.Touching.{is_listed, is_root_at, may_write, may_load_at, may_load}
-use Rattle.task_code.specs.Doing.{Setting, IsSetting, SoundIn, HoldsFuncs}
+use Rattle.scalar_code.specs.Doing.{Setting, IsSetting, SoundIn, HoldsFuncs}
+use Rattle.task_code.specs.Doing.{AtOnceIn}
 use Rattle.task_code.specs.Fitting.{fits_task}
-use Rattle.task_code.specs.Layout.{AreWords, func_point}
+use Rattle.scalar_code.specs.Layout.{AreWords, func_point}
 use Rattle.task_code.specs.Tasks.{HasDrawn, TaskEnds}
 use Rattle.task_code.proofs.Finishing.{tasks-done}
 use Rattle.phase_memory.specs.Held.{funcs_in, HasInputs, setting, IsTask}
@@ -168,6 +169,7 @@ module _ (pipeline : Pipeline) (schedule : Schedule) (boxes : Boxes) (rules : Is
       laid = tasks-are-laid pipeline schedule boxes.funcs k (owners_of work) text task hart (omega (arith, number_is, few_harts)) below one_owner (size_fits pipeline schedule boxes is) written loaded touches;
       have = have;
       are_words = λ place x y lx ly. begun.words (sources.Input place) x y lx ly;
+      rows = λ count func x y row address owner there owned. refl;
     }
 
     answers : (funcs : Planes) → AreWords funcs → AnswerWords pipeline.inputs (reads_of inputs funcs)
@@ -179,6 +181,9 @@ module _ (pipeline : Pipeline) (schedule : Schedule) (boxes : Boxes) (rules : Is
 
     sound : SoundIn own work.phase.body (task_values work.phase.counter task)
     sound funcs words = known.touches task below (reads_of inputs funcs) (answers funcs words)
+
+    at_once : AtOnceIn own work.phase.body (task_values work.phase.counter task)
+    at_once funcs words = known.rounds task below (reads_of inputs funcs)
 
     -- ---- what it finds and leaves
 
@@ -203,7 +208,7 @@ module _ (pipeline : Pipeline) (schedule : Schedule) (boxes : Boxes) (rules : Is
 
       module _ (f : ℕ → ℕ) (fits : fits_task work.phase (places pipeline schedule boxes.funcs) ≡ true) (low : ticket_word k + 4 < 2 ^ 32) (few : work.phase.tasks < 2 ^ 32) (drawn : HasDrawn own task f) where
         pub ends : TaskEnds own work.phase (ticket_word k) task f found funcs_found
-        ends = tasks-done own is_setting work.phase (ticket_word k) task fits low (omega (arith, below, few)) sound f found funcs_found holds_found drawn
+        ends = tasks-done own is_setting work.phase (ticket_word k) task fits low (omega (arith, below, few)) sound at_once f found funcs_found holds_found drawn
 
         pub leaves : (address : ℕ) → uses pipeline schedule boxes.funcs k (owners_of work) address ≡ Owned task → byte_at text ends.left address ≡ byte_of_planes pipeline schedule boxes inputs result address
         leaves address o =

@@ -32,7 +32,7 @@ use Rattle.work_sharing.specs.Solo.{world, Begins}
 use Rattle.work_sharing.specs.Bridges.{numbers_of}
 use Rattle.work_sharing.specs.Programs.{ticket_word, IsControlByte, FoundBy}
 use Rattle.work_sharing.proofs.Bridges.{stands-there}
-use Rattle.task_code.specs.declared.places.Places.{Places}
+use Rattle.scalar_code.specs.declared.places.Places.{Places}
 use Rattle.task_code.specs.Tasks.{HasDrawn, TaskEnds}
 use Rattle.phase_code.specs.Code.{Part as CodePart, program}
 use Rattle.phase_code.specs.Sharing.{Matter, no_part, part_at, phase, Runs, IsShared}

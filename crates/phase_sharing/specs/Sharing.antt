@@ -18,7 +18,7 @@ use Rattle.lowering.specs.Lowered.{AreLowered}
 use Rattle.lowering.specs.Planes.{held}
 use Rattle.lone_hart.specs.Uses.{Fixed, Owned}
 use Rattle.lone_hart.specs.Paths.{Stand}
-use Rattle.task_code.specs.declared.places.Places.{Places}
+use Rattle.scalar_code.specs.declared.places.Places.{Places}
 use Rattle.task_code.specs.Fitting.{fits_task}
 use Rattle.phase_code.specs.Code.{Part, program}
 use Rattle.phase_code.specs.Sharing.{Matter, IsShared, part_at}

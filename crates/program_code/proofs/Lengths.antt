@@ -4,7 +4,7 @@ use Rattle.std.specs.Prelude.{◌==◌}
 use Rattle.loop_ir.specs.declared.statements.Phase.{Phase}
 use Rattle.loop_ir.specs.Sizes.{whole_size}
 use Rattle.work_sharing.specs.Programs.{ticket_word}
-use Rattle.task_code.specs.declared.places.Places.{Places}
+use Rattle.scalar_code.specs.declared.places.Places.{Places}
 use Rattle.task_code.proofs.Lengths.{tasks-are-short}
 use Rattle.phase_code.specs.Code.{door_words, phase_code, program}
 use Rattle.phase_code.proofs.Standing.{phase-length}

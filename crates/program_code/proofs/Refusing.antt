@@ -5,10 +5,10 @@ use Rattle.std.specs.List.{AllByRecursion}
 use Rattle.loop_ir.specs.declared.statements.Phase.{Phase}
 use Rattle.memory.specs.Addresses.{most_words}
 use Rattle.work_sharing.specs.Programs.{ticket_word}
-use Rattle.task_code.specs.declared.places.Places.{Places}
+use Rattle.scalar_code.specs.declared.places.Places.{Places}
 use Rattle.task_code.specs.Code.{stmt_code, task_code, task_scope, restored}
-use Rattle.task_code.specs.Words.{Emits}
-use Rattle.task_code.proofs.Spelling.{emits-length}
+use Rattle.scalar_code.specs.Words.{Emits}
+use Rattle.scalar_code.proofs.Spelling.{emits-length}
 use Rattle.phase_code.specs.Code.{phase_code, program}
 use Rattle.phase_code.proofs.Refusing.{some-words}
 use Rattle.phase_code.proofs.Standing.{phase-length}

@@ -6,10 +6,10 @@ use Rattle.std.proofs.lemmas.Bool.Decides.{nat_tests}
 use Rattle.std.proofs.lemmas.List.{append-nil}
 use Rattle.loop_ir.specs.declared.statements.Phase.{Phase}
 use Rattle.work_sharing.specs.Programs.{ticket_word}
-use Rattle.task_code.specs.declared.places.Places.{Places}
-use Rattle.task_code.specs.Words.{Emits}
+use Rattle.scalar_code.specs.declared.places.Places.{Places}
+use Rattle.scalar_code.specs.Words.{Emits}
 use Rattle.task_code.proofs.Finishing.{appended-stand}
-use Rattle.task_code.proofs.Spelling.{emits_then}
+use Rattle.scalar_code.proofs.Spelling.{emits_then}
 use Rattle.phase_code.specs.Code.{Part, phase_code, program}
 use Rattle.program_code.specs.Programs.{part_of, parts_from, ProgramsStand}
 

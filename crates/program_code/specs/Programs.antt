@@ -9,12 +9,12 @@ use Rattle.loop_ir.specs.Depths.{task_depth}
 use Rattle.loop_ir.specs.Needs.{greatest_need}
 use Rattle.loop_ir.specs.Sizes.{whole_size}
 use Rattle.work_sharing.specs.Programs.{ticket_word}
-use Rattle.task_code.specs.declared.CodeFault.{CodeFault}
-use Rattle.task_code.specs.declared.places.Places.{Places}
+use Rattle.scalar_code.specs.declared.CodeFault.{CodeFault}
+use Rattle.scalar_code.specs.declared.places.Places.{Places}
 use Rattle.task_code.specs.Code.{task_code}
-use Rattle.task_code.specs.Faults.{IsFault, LieLow, HasRoom}
+use Rattle.scalar_code.specs.Faults.{IsFault, LieLow, HasRoom}
 use Rattle.task_code.specs.Fitting.{fits_task}
-use Rattle.task_code.specs.Words.{Emits}
+use Rattle.scalar_code.specs.Words.{Emits}
 use Rattle.phase_code.specs.Code.{Part, phase_code, program}
 
 -- the phase with this number, where buffers lie so

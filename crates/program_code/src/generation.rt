@@ -2,7 +2,7 @@
 
 ghost use Rattle.std.specs.Prelude.{◌≡◌, ◌+◌, ◌<◌, ◌≤◌, ◌==◌, OnOk, IfErr, IfOk, length};
 ghost use Rattle.std.specs.List.{AllByRecursion};
-ghost use Rattle.task_code.specs.Words.{Emits};
+ghost use Rattle.scalar_code.specs.Words.{Emits};
 ghost use Rattle.phase_code.specs.Code.{phase_code, program};
 ghost use Rattle.work_sharing.specs.Programs.{ticket_word};
 ghost use Rattle.program_code.specs.Programs as spec;
@@ -10,9 +10,10 @@ ghost use Rattle.program_code.specs.Programs as spec;
 use loop_ir::statements::Phase;
 use memory::{DATA_START, MOST_WORDS};
 use phase_code::emit_phase;
+use scalar_code::CodeFault;
+use scalar_code::places::Places;
 use std::alloc::Global;
-use task_code::places::Places;
-use task_code::{CodeFault, emit};
+use task_code::emit;
 
 /// A program has at most so many phases: the code around a phase's tasks takes 16 words.
 const MOST_PHASES: usize = MOST_WORDS / 16;

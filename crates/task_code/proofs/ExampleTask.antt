@@ -20,16 +20,21 @@ use Rattle.loop_ir.specs.Counters.{Values}
 use Rattle.loop_ir.specs.Expressions.{value, value_at, loads, seen, seen_at, linear_value}
 use Rattle.loop_ir.specs.Running.{run_task, task_values}
 use Rattle.loop_ir.proofs.Folds.{at_number, at_linear}
+use Rattle.loop_ir.specs.Rounds.{Rounds}
+use Rattle.loop_ir.proofs.Rounds.{rounds_store}
 use Rattle.loop_ir.proofs.Sound.{sound_store}
 use Rattle.loop_ir.proofs.Trees.{run_store}
 use Rattle.lone_hart.specs.Paths.{Stand, end, Path}
-use Rattle.task_code.specs.Code.{leaf, Deep, deep, deep_at, deep_leaf, is_linear, linear_code, literal, move, addressed, task_code, restored}
-use Rattle.task_code.specs.Evaluation.{IsPlace, ArePlaces}
-use Rattle.task_code.specs.Fitting.{has_room, is_word, fits_task, task_turns}
-use Rattle.task_code.specs.Layout.{func_point, address_of, size_of, IsAt, MayStore, MayLoad, Laid}
-use Rattle.task_code.specs.Doing.{IsSetting, SoundIn, HoldsFuncs}
+use Rattle.scalar_code.specs.Code.{leaf, Deep, deep, deep_at, deep_leaf, is_linear, linear_code, literal, move, addressed}
+use Rattle.task_code.specs.Code.{task_code, restored}
+use Rattle.scalar_code.specs.Evaluation.{IsPlace, ArePlaces}
+use Rattle.scalar_code.specs.Fitting.{has_room, is_word}
+use Rattle.task_code.specs.Fitting.{fits_task, task_turns}
+use Rattle.scalar_code.specs.Layout.{func_point, address_of, size_of, IsAt, MayStore, MayLoad, Laid}
+use Rattle.scalar_code.specs.Doing.{IsSetting, RowsMayBeWritten, SoundIn, HoldsFuncs}
+use Rattle.task_code.specs.Doing.{AtOnceIn}
 use Rattle.task_code.specs.Example.{example_counter, counted, example_store, example_phase, example_place, example_places, example_ticket, example_text, example_data, example_world, nothing, its_points, is_its_point, example_setting, ExampleIsDone}
-use Rattle.task_code.proofs.Spelling.{stand-spelled}
+use Rattle.scalar_code.proofs.Spelling.{stand-spelled}
 use Rattle.task_code.proofs.Unrolled.{code-store, fits-store, turns-store}
 use Rattle.task_code.proofs.Finishing.{tasks-done}
 use Rattle.task_code.proofs.ExampleWords.{example_insns, example-spelled}
@@ -212,8 +217,21 @@ module _ (task : ℕ) (small : task < 2) where
     };
   }
 
+  rows-are : RowsMayBeWritten (example_setting task)
+  rows-are zero func x y is = λ address owner there owned. absurd (true≢false (sym there))
+  rows-are (suc zero) func x y is = let may = laid-is.stores func (x + 0) y (is 0 (omega arith)) in may.may.keeps
+  rows-are (suc (suc n)) func x y is =
+      let a = is-its task func (x + 0) y (is 0 (omega arith)) in
+      let b = is-its task func (x + 1) y (is 1 (omega arith)) in
+      let ca = a.column_is in
+      let cb = b.column_is in
+      absurd (omega (arith, ca, cb))
+
   good : IsSetting (example_setting task)
-  good = record { are_places = are-places; laid = laid-is; have = λ func x y is. is; are_words = λ place x y lx ly. omega arith }
+  good = record { are_places = are-places; laid = laid-is; have = λ func x y is. is; are_words = λ place x y lx ly. omega arith; rows = rows-are }
+
+  once-is : AtOnceIn (example_setting task) example_phase.body (task_values (Some example_counter) task)
+  once-is funcs are = ap (λ (r : Rounds). r.may_be_at_once (task_values (Some example_counter) task)) (rounds_store (reads_of nothing funcs) example_store)
 
   holds-nothing : HoldsFuncs (example_setting task) example_data nothing
   holds-nothing = record {
@@ -228,7 +246,7 @@ module _ (task : ℕ) (small : task < 2) where
 
 pub example-done : ExampleIsDone
 example-done task f small drawn =
-    let a = tasks-done (example_setting task) (good task small) example_phase example_ticket task fits-is (omega arith) (omega (arith, small)) (sound-is task small) f example_data nothing (holds-nothing task small) drawn in
+    let a = tasks-done (example_setting task) (good task small) example_phase example_ticket task fits-is (omega arith) (omega (arith, small)) (sound-is task small) (once-is task small) f example_data nothing (holds-nothing task small) drawn in
     let path : Path (example_world task) 65536 (end 65536 (task_code example_phase example_places example_ticket)) (task_turns example_phase example_places example_ticket task) f example_data a.after a.left = a.block 65536 stands in
     let ended : Path (example_world task) 65536 65680 (task_turns example_phase example_places example_ticket task) f example_data a.after a.left =
     subst (λ code. Path (example_world task) 65536 (end 65536 code) (task_turns example_phase example_places example_ticket task) f example_data a.after a.left) code-is path in

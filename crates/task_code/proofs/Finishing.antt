@@ -9,13 +9,16 @@ use Rattle.loop_ir.specs.Running.{task_values}
 use Rattle.lone_hart.specs.Alone.{World}
 use Rattle.lone_hart.specs.Paths.{Stand, Line}
 use Rattle.lone_hart.proofs.Paths.{block-then, line-then, stand-front, writes-first}
-use Rattle.task_code.specs.Code.{literal, restored, stmt_code, task_scope}
-use Rattle.task_code.specs.Evaluation.{Knows}
-use Rattle.task_code.specs.Fitting.{is_word, fits, stmt_turns}
+use Rattle.scalar_code.specs.Code.{literal}
+use Rattle.task_code.specs.Code.{restored, stmt_code, task_scope}
+use Rattle.scalar_code.specs.Evaluation.{Knows}
+use Rattle.scalar_code.specs.Fitting.{is_word}
+use Rattle.task_code.specs.Code.{stmt_turns}
+use Rattle.task_code.specs.Fitting.{fits}
 use Rattle.task_code.specs.Tasks.{TasksAreDone, AppendedWordsStand}
-use Rattle.task_code.proofs.Values.{literal-sets}
-use Rattle.task_code.proofs.Spelling.{stand-spelled, spell-length}
-use Rattle.task_code.proofs.Looping.{end-length}
+use Rattle.scalar_code.proofs.Values.{literal-sets}
+use Rattle.scalar_code.proofs.Spelling.{stand-spelled, spell-length}
+use Rattle.scalar_code.proofs.Looping.{end-length}
 use Rattle.task_code.proofs.Following.{statements-done}
 
 below : (n k : ℕ) → nat_lt n k ≡ true → n < k
@@ -75,10 +78,10 @@ module _ (w : World) (m : List ℕ) (l : length m ≡ w.size) where
 -- ---- a task
 
 pub tasks-done : TasksAreDone
-tasks-done own good phase ticket task fit lt ls sound f memory funcs holds drawn =
+tasks-done own good phase ticket task fit lt ls sound once f memory funcs holds drawn =
     let k = and_parts (fits own.places phase.body (task_scope phase.counter)) (is_word phase.tasks) fit in
     let knows = knows-drawn own.world own.harts task ls phase.counter f drawn.none drawn.number drawn.all drawn.drawn in
-    let a = statements-done own good phase.body (task_scope phase.counter) (task_values phase.counter task) k.0 sound f memory funcs holds knows in
+    let a = statements-done own good phase.body (task_scope phase.counter) (task_values phase.counter task) k.0 sound once f memory funcs holds knows in
     let body = stmt_code own.places phase.body (task_scope phase.counter) in
     let turns = stmt_turns own.places phase.body (task_scope phase.counter) (task_values phase.counter task) in
     let ends = restored ticket phase.tasks in

@@ -1,7 +1,7 @@
 -- The code of a statement does the statement.
-use Rattle.std.proofs.Common.{◌≡◌, ℕ, zero, suc, ◌+◌, ◌^◌, ◌<◌, List, ◌∷◌, length, Bool, true, false, refl, ap, ◌∙◌, sym, subst, arith, inl, inr}
-use Rattle.std.specs.Prelude.{◌==◌, ◌&&◌, if◌then◌else◌, nat_lt}
-use Rattle.std.proofs.lemmas.Bool.{and_parts, or_cases, cases_lt, true≢false}
+use Rattle.std.proofs.Common.{◌≡◌, ℕ, ◌+◌, ◌^◌, ◌<◌, List, ◌∷◌, length, Bool, true, false, refl, ap, ◌∙◌, sym, subst, arith}
+use Rattle.std.specs.Prelude.{◌==◌, ◌&&◌, ◌||◌, not, if◌then◌else◌, nat_lt, Option, Some, None}
+use Rattle.std.proofs.lemmas.Bool.{and_parts, or_cases, true≢false}
 use Rattle.std.proofs.lemmas.Bool.Decides.{nat_tests}
 use Rattle.rv_insn.specs.declared.instructions.Insn.{Insn}
 use Rattle.halide_meaning.specs.Pixel.{Planes, reads_of}
@@ -14,24 +14,36 @@ use Rattle.loop_ir.specs.declared.statements.Stmt.TheOpen.{Stmt-F}
 use Rattle.loop_ir.specs.declared.statements.Stmt.TheOpen as layer
 use Rattle.loop_ir.specs.declared.statements.Stmt.TheVariants.{rolls-Store, rolls-Sequence, rolls-For, rolls-Bind}
 use Rattle.loop_ir.specs.declared.statements.Stmt.TheVariants as s
+use Rattle.loop_ir.specs.declared.statements.LoopKind.TheVariants as kinds
 use Rattle.loop_ir.specs.Counters.{Values, with}
+use Rattle.loop_ir.specs.Rounds.{Rounds, rounds, are_apart, is_round_count, is_vectorized, may_be_at_once}
+use Rattle.loop_ir.proofs.Rounds.{rounds_sequence, rounds_for, rounds_bind}
 use Rattle.loop_ir.specs.Expressions.{value}
 use Rattle.loop_ir.specs.Running.{run, whole_value}
 use Rattle.loop_ir.specs.Soundness.{every, is_sound}
 use Rattle.loop_ir.proofs.Trees.{run_store, run_sequence, run_for, run_bind}
 use Rattle.loop_ir.proofs.Sound.{sound_store, sound_sequence, sound_for, sound_bind}
-use Rattle.task_code.specs.Code.{seat, whole_code, stmt_code}
-use Rattle.task_code.specs.Evaluation.{Knows}
-use Rattle.task_code.specs.Fitting.{is_word, has_seat, fits_whole, fits, stmt_turns}
-use Rattle.task_code.specs.Layout.{AreWords}
-use Rattle.task_code.specs.Doing.{Setting, IsSetting, SoundIn, HoldsFuncs, stored_points, StatementsAreDone}
-use Rattle.task_code.proofs.Keeping.{at-vector, knows-still}
-use Rattle.task_code.proofs.Going.{Hits, hits_if, Does, went-hits, went-is, does-then}
-use Rattle.task_code.proofs.Tracing.{hit, made, hit_before, hit-store, hit-sequence, hit-for, hit-first, hit-later, hit-bind}
-use Rattle.task_code.proofs.Placing.{store-does}
-use Rattle.task_code.proofs.Looping.{loop-does}
-use Rattle.task_code.proofs.Binding.{bind-does}
-use Rattle.task_code.proofs.Unrolled.{code-store, code-sequence, code-for, code-bind, fits-store, fits-sequence, fits-for, fits-bind, turns-store, turns-sequence, turns-for, turns-bind}
+use Rattle.scalar_code.specs.Code.{seat, whole_code}
+use Rattle.task_code.specs.Code.{stmt_code}
+use Rattle.scalar_code.specs.Evaluation.{Knows}
+use Rattle.scalar_code.specs.Fitting.{is_word, has_seat, fits_whole}
+use Rattle.task_code.specs.Code.{stmt_turns}
+use Rattle.task_code.specs.Fitting.{fits}
+use Rattle.scalar_code.specs.Layout.{AreWords}
+use Rattle.scalar_code.specs.Doing.{Setting, IsSetting, SoundIn, HoldsFuncs, stored_points}
+use Rattle.task_code.specs.Doing.{AtOnceIn, StatementsAreDone}
+use Rattle.scalar_code.proofs.Keeping.{knows-still}
+use Rattle.scalar_code.proofs.Going.{Hits, hits_if, Does, went-hits, went-is, does-then}
+use Rattle.scalar_code.proofs.Tracing.{hit, made, hit_before, hit-store, hit-sequence, hit-for, hit-first, hit-later, hit-bind}
+use Rattle.scalar_code.proofs.Placing.{store-does}
+use Rattle.scalar_code.proofs.Looping.{each-turn, loop-does}
+use Rattle.scalar_code.proofs.Binding.{bind-does}
+use Rattle.round_code.specs.Rounds.{rounds_code, rounds_turns, rounds_fit}
+use Rattle.round_code.proofs.Looping.{loop-does as rounds-done}
+use Rattle.lane_code.specs.declared.groups.Group.{Group}
+use Rattle.task_code.specs.Code.{code_taken, turns_taken, group_taken}
+use Rattle.task_code.proofs.Taking.{IsTaken, is-taken}
+use Rattle.task_code.proofs.Unrolled.{in_turn, turns_in_turn, code-store, code-sequence, code-for, code-bind, fits-store, fits-sequence, fits-for, fits-bind, turns-store, turns-sequence, turns-for, turns-bind}
 
 below : (n k : ℕ) → nat_lt n k ≡ true → n < k
 below n k t = grind (arith, nat_tests)
@@ -48,17 +60,6 @@ equal-parts a b c d e f t =
     same : (m n : ℕ) → (m == n) ≡ true → m ≡ n
     same m n u = grind (arith, nat_tests)
 
--- each turn passes
-each-turn : (n : ℕ) (passes : ℕ → Bool) → every n passes ≡ true → (i : ℕ) → i < n → passes i ≡ true
-unfolding every
-each-turn zero passes is i l = absurd (omega (arith, l))
-each-turn (suc n) passes is i l =
-    let k = and_parts (every n passes) (passes n) is in
-    elim (cases_lt i n) [
-      | inl a ↦ each-turn n passes k.0 i a
-      | inr b ↦ let e : n ≡ i = omega (arith, l, b) in subst (λ j. passes j ≡ true) e k.1
-    ]
-
 module _ (own : Setting) (good : IsSetting own) where
   abbrev hits : Stmt → Values → Planes → Hits
   hits statement values funcs func x y = stored_points own statement values funcs func x y ≡ true
@@ -67,7 +68,7 @@ module _ (own : Setting) (good : IsSetting own) where
   after statement values funcs = run own.points own.inputs statement values funcs
 
   abbrev Follows : Stmt → Type 0
-  Follows statement = (scope : List Counter) (values : Values) → fits own.places statement scope ≡ true → SoundIn own statement values
+  Follows statement = (scope : List Counter) (values : Values) → fits own.places statement scope ≡ true → SoundIn own statement values → AtOnceIn own statement values
       → (f : ℕ → ℕ) (memory : List ℕ) (funcs : Planes) → HoldsFuncs own memory funcs → Knows own.world own.harts scope values f
       → Does own (stmt_code own.places statement scope) (stmt_turns own.places statement scope values) f memory (length scope) (after statement values funcs) (hits statement values funcs)
 
@@ -76,7 +77,7 @@ module _ (own : Setting) (good : IsSetting own) where
   recoded {code} {other} {n} {f} {memory} {depth} {funcs} {points} e a = subst (λ c. Does own c n f memory depth funcs points) e a
 
   at-store : (store : Store) → Follows (s.Store store)
-  at-store store scope values is sound f memory funcs holds knows =
+  at-store store scope values is sound once f memory funcs holds knows =
       let reads = reads_of own.inputs funcs in
       let a = store-does own good scope values store f memory funcs (sym (fits-store own.places store scope) ∙ is)
       (sym (sound_store reads own.written own.loaded store values) ∙ sound funcs holds.are_words) holds knows in
@@ -85,38 +86,71 @@ module _ (own : Setting) (good : IsSetting own) where
       (went-is own (sym (turns-store own.places store scope values)) (sym (run_store own.points own.inputs store values funcs)) a))
 
   at-sequence : (first second : Stmt) → Follows first → Follows second → Follows (s.Sequence first second)
-  at-sequence first second one two scope values is sound f memory funcs holds knows =
+  at-sequence first second one two scope values is sound once f memory funcs holds knows =
       let k = and_parts (fits own.places first scope) (fits own.places second scope) (sym (fits-sequence own.places first second scope) ∙ is) in
       let parts = λ (p : Planes) (words : AreWords p). and_parts (is_sound (reads_of own.inputs p) own.written own.loaded first values) (is_sound (reads_of own.inputs p) own.written own.loaded second values)
       (sym (sound_sequence (reads_of own.inputs p) own.written own.loaded first second values) ∙ sound p words) in
-      let a = one scope values k.0 (λ p words. (parts p words).0) f memory funcs holds knows in
+      let times = λ (p : Planes) (words : AreWords p). and_parts (may_be_at_once (reads_of own.inputs p) first values) (may_be_at_once (reads_of own.inputs p) second values)
+      (sym (ap (λ (r : Rounds). r.may_be_at_once values) (rounds_sequence (reads_of own.inputs p) first second)) ∙ once p words) in
+      let a = one scope values k.0 (λ p words. (parts p words).0) (λ p words. (times p words).0) f memory funcs holds knows in
       let middle = after first values funcs in
-      let b = two scope values k.1 (λ p words. (parts p words).1) a.after a.left middle a.holds (knows-still own.world own.harts scope values f a.after knows a.keeps) in
+      let b = two scope values k.1 (λ p words. (parts p words).1) (λ p words. (times p words).1) a.after a.left middle a.holds (knows-still own.world own.harts scope values f a.after knows a.keeps) in
       recoded (sym (code-sequence own.places first second scope))
       (went-hits own (λ func x y h. or_cases (hit own.points own.inputs func x y first values funcs) (hit own.points own.inputs func x y second values middle) (sym (hit-sequence own.points own.inputs func x y first second values funcs) ∙ h))
       (went-is own (sym (turns-sequence own.places first second scope values)) (sym (run_sequence own.points own.inputs first second values funcs)) (does-then own a b)))
 
-  at-for : (counter : Counter) (count : ℕ) (kind : LoopKind) (body : Stmt) → Follows body → Follows (s.For counter count kind body)
-  at-for counter count kind body inner scope values is sound f memory funcs holds knows =
+  -- a loop's rounds in turn
+  in-turn : (counter : Counter) (count : ℕ) (kind : LoopKind) (body : Stmt) → Follows body → (scope : List Counter) (values : Values) → fits own.places (s.For counter count kind body) scope ≡ true
+      → SoundIn own (s.For counter count kind body) values → AtOnceIn own (s.For counter count kind body) values
+      → (f : ℕ → ℕ) (memory : List ℕ) (funcs : Planes) → HoldsFuncs own memory funcs → Knows own.world own.harts scope values f
+      → Does own (in_turn own.places scope counter count body) (turns_in_turn own.places scope counter count body values) f memory (length scope) (after (s.For counter count kind body) values funcs) (hits (s.For counter count kind body) values funcs)
+  in-turn counter count kind body inner scope values is sound once f memory funcs holds knows =
       let k = and_parts (has_seat scope) (is_word count && fits own.places body (counter ∷ scope)) (sym (fits-for own.places counter count kind body scope) ∙ is) in
       let j = and_parts (is_word count) (fits own.places body (counter ∷ scope)) k.1 in
       let at : ℕ → Values = λ turn. with counter turn values in
       let each = λ (i : ℕ) (l : i < count) (p : Planes) (words : AreWords p). each-turn count (λ turn. is_sound (reads_of own.inputs p) own.written own.loaded body (at turn))
       (sym (sound_for (reads_of own.inputs p) own.written own.loaded counter count kind body values) ∙ sound p words) i l in
+      let each-once = λ (i : ℕ) (l : i < count) (p : Planes) (words : AreWords p). each-turn count (λ turn. may_be_at_once (reads_of own.inputs p) body (at turn))
+      (and_parts (not (is_vectorized kind) || (is_round_count count && ((rounds (reads_of own.inputs p) body).is_one_store && are_apart (rounds (reads_of own.inputs p) body) at count))) (every count (λ turn. may_be_at_once (reads_of own.inputs p) body (at turn)))
+      (sym (ap (λ (r : Rounds). r.may_be_at_once values) (rounds_for (reads_of own.inputs p) counter count kind body)) ∙ once p words)).1 i l in
       let a = loop-does own scope values (below (length scope) 14 k.0) counter count (below count (2 ^ 32) j.0) (stmt_code own.places body (counter ∷ scope))
       (λ i. stmt_turns own.places body (counter ∷ scope) (at i)) (λ i p. after body (at i) p) (λ i p. hits body (at i) p)
-      (λ i g m p l o kn. inner (counter ∷ scope) (at i) j.1 (λ q words. each i l q words) g m p o kn)
+      (λ i g m p l o kn. inner (counter ∷ scope) (at i) j.1 (λ q words. each i l q words) (λ q words. each-once i l q words) g m p o kn)
       (λ n p func x y. hit_before own.points own.inputs func x y body at n p ≡ true)
       (λ p func x y h. true≢false (sym h ∙ hit-first own.points own.inputs func x y body at p))
       (λ n p func x y h. or_cases (hit_before own.points own.inputs func x y body at n p) (hit own.points own.inputs func x y body (at n) (made own.points own.inputs func x y body at n p))
       (sym (hit-later own.points own.inputs func x y body at n p) ∙ h))
       f memory funcs holds knows in
+      went-hits own (λ func x y h. sym (hit-for own.points own.inputs func x y counter count kind body values funcs) ∙ h)
+      (went-is own refl (sym (run_for own.points own.inputs counter count kind body values funcs)) a)
+
+  -- its rounds at once
+  rounds-at-once : (counter : Counter) (count : ℕ) (body : Stmt) (scope : List Counter) (values : Values) (f : ℕ → ℕ) (memory : List ℕ) (funcs : Planes) → HoldsFuncs own memory funcs → Knows own.world own.harts scope values f
+      → (group : Group) (kind : LoopKind) → kind ≡ kinds.Vectorized → rounds_fit group own.places scope counter count body ≡ true → SoundIn own (s.For counter count kind body) values → AtOnceIn own (s.For counter count kind body) values
+      → Does own (rounds_code group own.places scope counter count body) (rounds_turns group own.places scope counter body values) f memory (length scope) (after (s.For counter count kind body) values funcs) (hits (s.For counter count kind body) values funcs)
+  rounds-at-once counter count body scope values f memory funcs holds knows group kinds.Serial e fit sound once = absurd (cc e)
+  rounds-at-once counter count body scope values f memory funcs holds knows group kinds.Unrolled e fit sound once = absurd (cc e)
+  rounds-at-once counter count body scope values f memory funcs holds knows group kinds.Vectorized e fit sound once = rounds-done own good group counter count body scope values fit sound f memory funcs (once funcs holds.are_words) holds knows
+
+  -- at once, or in turn
+  at-for : (counter : Counter) (count : ℕ) (kind : LoopKind) (body : Stmt) → Follows body → Follows (s.For counter count kind body)
+  at-for counter count kind body inner scope values is sound once f memory funcs holds knows =
       recoded (sym (code-for own.places counter count kind body scope))
-      (went-hits own (λ func x y h. sym (hit-for own.points own.inputs func x y counter count kind body values funcs) ∙ h)
-      (went-is own (sym (turns-for own.places counter count kind body scope values)) (sym (run_for own.points own.inputs counter count kind body values funcs)) a))
+      (went-is own (sym (turns-for own.places counter count kind body scope values)) refl
+      (by-group (group_taken own.places scope counter count kind body (in_turn own.places scope counter count body)) (is-taken own.places scope counter count body kind (in_turn own.places scope counter count body))
+      (λ group k. rounds-at-once counter count body scope values f memory funcs holds knows group kind k.kind_is k.fits sound once) (in-turn counter count kind body inner scope values is sound once f memory funcs holds knows)))
+    where
+      by-group : (taken : Option Group) → ((group : Group) → taken ≡ Some group → IsTaken own.places scope counter count body kind group)
+          → ((group : Group) → IsTaken own.places scope counter count body kind group
+          → Does own (rounds_code group own.places scope counter count body) (rounds_turns group own.places scope counter body values) f memory (length scope) (after (s.For counter count kind body) values funcs) (hits (s.For counter count kind body) values funcs))
+          → Does own (in_turn own.places scope counter count body) (turns_in_turn own.places scope counter count body values) f memory (length scope) (after (s.For counter count kind body) values funcs) (hits (s.For counter count kind body) values funcs)
+          → Does own (code_taken own.places scope counter count body (in_turn own.places scope counter count body) taken)
+          (turns_taken own.places scope counter body values (turns_in_turn own.places scope counter count body values) taken) f memory (length scope) (after (s.For counter count kind body) values funcs) (hits (s.For counter count kind body) values funcs)
+      by-group None facts at_once does = does
+      by-group (Some group) facts at_once does = at_once group (facts group refl)
 
   at-bind : (counter : Counter) (whole : Whole) (extent : ℕ) (body : Stmt) → Follows body → Follows (s.Bind counter whole extent body)
-  at-bind counter whole extent body inner scope values is sound f memory funcs holds knows = by-test (nat_lt (whole_value whole values) extent) refl
+  at-bind counter whole extent body inner scope values is sound once f memory funcs holds knows = by-test (nat_lt (whole_value whole values) extent) refl
     where
       entered : Values
       entered = with counter (whole_value whole values) values
@@ -135,10 +169,11 @@ module _ (own : Setting) (good : IsSetting own) where
           let k = and_parts (fits_whole whole) (is_word extent && fits own.places body (counter ∷ scope)) parts.1 in
           let j = and_parts (is_word extent) (fits own.places body (counter ∷ scope)) k.1 in
           let a = bind-does own scope values (below (length scope) 14 parts.0) counter whole extent (below extent (2 ^ 32) j.0) k.0 (stmt_code own.places body (counter ∷ scope))
-          (stmt_turns own.places body (counter ∷ scope) entered) (λ p. after body entered p) (λ p. hits body entered p)
-          (λ so g m p o kn. inner (counter ∷ scope) entered j.1
-          (λ q words. sym (ap (λ b. if b then is_sound (reads_of own.inputs q) own.written own.loaded body entered else true) so) ∙ sym (sound_bind (reads_of own.inputs q) own.written own.loaded counter whole extent body values) ∙ sound q words) g m p o kn)
-          t e f memory funcs holds knows in
+          (stmt_turns own.places body (counter ∷ scope) entered) (λ p. after body entered p) (λ p. hits body entered p) (f 15)
+          (λ so g m p o kn _ _ _. inner (counter ∷ scope) entered j.1
+          (λ q words. sym (ap (λ b. if b then is_sound (reads_of own.inputs q) own.written own.loaded body entered else true) so) ∙ sym (sound_bind (reads_of own.inputs q) own.written own.loaded counter whole extent body values) ∙ sound q words)
+          (λ q words. sym (ap (λ b. if b then may_be_at_once (reads_of own.inputs q) body entered else true) so) ∙ sym (ap (λ (r : Rounds). r.may_be_at_once values) (rounds_bind (reads_of own.inputs q) counter whole extent body)) ∙ once q words) g m p o kn)
+          t e f memory funcs holds knows refl in
           recoded (sym (code-bind own.places counter whole extent body scope))
           (went-hits own (λ func x y h. chosen t func x y
           (sym (ap (λ b. if b then hit own.points own.inputs func x y body entered funcs else false) e) ∙ sym (hit-bind own.points own.inputs func x y counter whole extent body values funcs) ∙ h))
@@ -155,14 +190,13 @@ module _ (own : Setting) (good : IsSetting own) where
   follows = ind-Stmt Follows (λ l t is. subst (λ (k : Stmt-F Stmt). Follows (roll-Stmt k)) is (by-layer _ (λ e. e.0) (λ e. e.1) t))
 
 pub statements-done : StatementsAreDone
-statements-done own good statement scope values is sound f memory funcs holds knows =
-    let a = follows own good statement scope values is sound f memory funcs holds knows in
+statements-done own good statement scope values is sound once f memory funcs holds knows =
+    let a = follows own good statement scope values is sound once f memory funcs holds knows in
     record {
       after = a.after;
       left = a.left;
       block = a.path;
       knows = knows-still own.world own.harts scope values f a.after knows a.keeps;
-      vectors = λ q high. a.keeps q (at-vector (omega (arith, high)));
       holds = a.holds;
       elsewhere = a.elsewhere;
       are_bytes = a.are_bytes;

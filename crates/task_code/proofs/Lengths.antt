@@ -1,5 +1,5 @@
 -- Code has no more words than are asked for.
-use Rattle.std.proofs.Common.{◌≡◌, ℕ, suc, ◌+◌, ◌*◌, ◌≤◌, Bool, true, false, List, [], ◌∷◌, ◌++◌, length, Option, Some, None, refl, sym, ap, subst, ◌∙◌, arith, length-append}
+use Rattle.std.proofs.Common.{◌≡◌, ℕ, ◌+◌, ◌*◌, ◌≤◌, Bool, true, false, List, [], ◌∷◌, ◌++◌, length, Option, Some, None, refl, sym, ap, subst, ◌∙◌, arith, length-append}
 use Rattle.std.specs.Prelude.{pos, if◌then◌else◌}
 use Rattle.rv_insn.specs.declared.instructions.Insn.{Insn}
 use Rattle.rv_insn.specs.declared.instructions.Insn.TheVariants.{Alu, Store as Save}
@@ -24,13 +24,16 @@ use Rattle.loop_ir.specs.declared.statements.Stmt.TheVariants as s
 use Rattle.loop_ir.specs.Sizes.{Size, leaf, kept, size, size_at, size_of, whole_size}
 use Rattle.loop_ir.proofs.Folds.{Both, left_of, right_of, folds_related}
 use Rattle.loop_ir.proofs.Sizes.{whole_store, whole_sequence, whole_for, whole_bind}
-use Rattle.task_code.specs.declared.places.Pixels.{Pixels}
-use Rattle.task_code.specs.declared.places.Pixels.TheVariants as pixels
-use Rattle.task_code.specs.declared.places.Place.{Place}
-use Rattle.task_code.specs.declared.places.Places.{Places}
-use Rattle.task_code.specs.Code.{Made, Deep, pair, divided, triple, beside, second_scratch, bottom, parked, operation, quotient, remainder, selection, literal, move, scaled, raised, copied, addressed, fetch, loading, place_of, linear_code, terms_code, seat, seat_in, made, made_at, spill, unspill, frames_of, on_stack, deep_or, deep_leaf, deep_at, deep, second_code, value_code, store_code, loop_code, loop_tail, test, bounded, whole_code, bind_code, stmt_code, task_scope, restored}
+use Rattle.scalar_code.specs.declared.places.Pixels.{Pixels}
+use Rattle.scalar_code.specs.declared.places.Pixels.TheVariants as pixels
+use Rattle.scalar_code.specs.declared.places.Place.{Place}
+use Rattle.scalar_code.specs.declared.places.Places.{Places}
+use Rattle.scalar_code.specs.Code.{Made, Deep, pair, divided, triple, beside, operation, quotient, remainder, selection, literal, move, scaled, raised, copied, addressed, fetch, loading, place_of, terms_code, seat, seat_in, made_at, spill, unspill, frames_of, on_stack, deep_or, deep_leaf, deep_at, deep, second_code, value_code, store_code, loop_code, loop_tail, test, bounded, whole_code, bind_code}
+use Rattle.task_code.specs.Code.{stmt_code, task_scope, restored}
 use Rattle.task_code.specs.Lengths.{StatementsAreShort, TasksAreShort}
-use Rattle.task_code.proofs.Unrolled.{code-store, code-sequence, code-for, code-bind}
+use Rattle.task_code.specs.Code.{group_of_loop}
+use Rattle.task_code.proofs.Taking.{no-longer}
+use Rattle.task_code.proofs.Unrolled.{in_turn, code-store, code-sequence, code-for, code-bind}
 
 -- ---- parts of code
 
@@ -266,10 +269,12 @@ module _ (places : Places) where
   at-for : (counter : Counter) (count : ℕ) (kind : LoopKind) (body : Stmt) → IsShort body → IsShort (s.For counter count kind body)
   at-for counter count kind body inner scope =
       let e = ap (λ (is : List Insn). length is) (code-for places counter count kind body scope) in
+      let plain = in_turn places scope counter count body in
       let i = loop-length (seat (length scope)) count (stmt_code places body (counter ∷ scope)) in
       let w = whole_for counter count kind body in
       let j = inner (counter ∷ scope) in
-      omega (arith, e, i, w, j)
+      let s = no-longer places scope counter count body plain (group_of_loop places scope counter count kind body) (omega (arith, i, j)) in
+      omega (arith, e, s, w)
 
   at-bind : (counter : Counter) (whole : Whole) (extent : ℕ) (body : Stmt) → IsShort body → IsShort (s.Bind counter whole extent body)
   at-bind counter whole extent body inner scope =

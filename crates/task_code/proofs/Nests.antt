@@ -1,6 +1,6 @@
 -- Words of parts of a statement, put together, and room for all.
-use Rattle.std.proofs.Common.{◌≡◌, ℕ, ◌^◌, ◌<◌, ◌≤◌, List, [], ◌∷◌, ◌++◌, length, true, ap, ◌∙◌, sym, subst, arith}
-use Rattle.std.specs.Prelude.{nat_le, nat_lt, Option, Some}
+use Rattle.std.proofs.Common.{◌≡◌, ℕ, ◌^◌, ◌<◌, ◌≤◌, List, [], ◌∷◌, ◌++◌, length, true, ◌∙◌, sym, subst, arith}
+use Rattle.std.specs.Prelude.{nat_le, nat_lt}
 use Rattle.std.proofs.lemmas.Bool.{and_from}
 use Rattle.std.proofs.lemmas.Bool.Decides.{nat_tests}
 use Rattle.rv_insn.specs.declared.instructions.Insn.{Insn}
@@ -11,16 +11,17 @@ use Rattle.loop_ir.specs.declared.statements.Store.{Store}
 use Rattle.loop_ir.specs.declared.statements.Stmt.{Stmt}
 use Rattle.loop_ir.specs.declared.statements.Stmt.TheVariants as s
 use Rattle.loop_ir.specs.declared.statements.Whole.{Whole}
-use Rattle.task_code.specs.declared.places.Places.{Places}
-use Rattle.task_code.specs.Code.{Deep, EmitsDeep, deep, frame_words, seat, store_code, loop_code, bind_code, stmt_code, task_scope, restored}
-use Rattle.task_code.specs.Fitting.{is_word, is_word_or_none, has_room, has_seat, fits_store, fits_whole, fits}
+use Rattle.scalar_code.specs.declared.places.Places.{Places}
+use Rattle.scalar_code.specs.Code.{Deep, EmitsDeep, deep, frame_words, seat, store_code, loop_code, bind_code}
+use Rattle.task_code.specs.Code.{stmt_code, task_scope, restored}
+use Rattle.scalar_code.specs.Fitting.{is_word, has_room, has_seat, fits_store, fits_whole}
+use Rattle.task_code.specs.Fitting.{fits}
 use Rattle.task_code.specs.Tasks.{EmitsStmt, EmitsTask}
-use Rattle.task_code.specs.Words.{Emits}
-use Rattle.task_code.proofs.Spelling.{emits_then, emits-is, emits-apart}
-use Rattle.task_code.proofs.Unrolled.{code-store, code-sequence, code-for, code-bind, fits-store, fits-sequence, fits-for, fits-bind}
-
-pub word-test : (n : ℕ) → n < 2 ^ 32 → is_word n ≡ true
-word-test n l = grind (arith, nat_tests)
+use Rattle.scalar_code.specs.Words.{Emits}
+use Rattle.scalar_code.proofs.WordTests.{word-test}
+use Rattle.scalar_code.proofs.Spelling.{emits_then, emits-is, emits-apart}
+use Rattle.task_code.specs.Code.{code_taken, group_taken}
+use Rattle.task_code.proofs.Unrolled.{in_turn, code-store, code-sequence, code-for, code-bind, fits-store, fits-sequence, fits-for, fits-bind}
 
 seat-test : (n : ℕ) → n < 14 → nat_lt n 14 ≡ true
 seat-test n l = grind (arith, nat_tests)
@@ -36,12 +37,6 @@ pub store-fits : (places : Places) (scope : List Counter) (store : Store) {a b c
 store-fits places scope store x y v =
     and_from (has_room places (deep places scope store.x)) _ (room-of places (deep places scope store.x) x)
     (and_from (has_room places (deep places scope store.y)) (has_room places (deep places scope store.value)) (room-of places (deep places scope store.y) y) (room-of places (deep places scope store.value) v))
-
-pub last-fits : (last : Option ℕ) (n : ℕ) → last ≡ Some n → n < 2 ^ 32 → is_word_or_none last ≡ true
-last-fits last n e l = ap is_word_or_none e ∙ word-test n l
-
-pub whole-fits : (whole : Whole) → whole.factor < 2 ^ 32 → is_word_or_none whole.last ≡ true → fits_whole whole ≡ true
-whole-fits whole l is = and_from (is_word whole.factor) (is_word_or_none whole.last) (word-test whole.factor l) is
 
 -- ---- statements
 
@@ -70,13 +65,16 @@ inner-emitted places start made slice view items wanted x body es em ev ew ex a 
     (subst (λ z. EmitsStmt [] z places x view) (sym em)
     (subst (λ z. EmitsStmt z made places x view) es a)))
 
-pub for-emitted : (places : Places) (scope : List Counter) (own body : Stmt) (counter : Counter) (count r : ℕ) (kind : LoopKind) (inner c0 c1 : List ℕ)
-    → own ≡ s.For counter count kind body → r ≡ seat (length scope) → length scope < 14 → EmitsStmt [] inner places body (counter ∷ scope)
-    → ((insns : List Insn) → Emits [] inner insns → Emits c0 c1 (loop_code r count insns)) × (count < 2 ^ 32) → EmitsStmt c0 c1 places own scope
-for-emitted places scope own body counter count r kind inner c0 c1 e er few part loop =
-    let code = loop.0 (stmt_code places body (counter ∷ scope)) part.emits in
+pub for-emitted : (places : Places) (scope : List Counter) (own body x : Stmt) (counter : Counter) (count r : ℕ) (kind : LoopKind) (inner start turns slice c0 c1 : List ℕ)
+    → own ≡ s.For counter count kind body → x ≡ body → r ≡ seat (length scope) → length scope < 14 → EmitsStmt [] inner places body (counter ∷ scope)
+    → ((insns : List Insn) → Emits [] inner insns → Emits start turns (loop_code r count insns)) × (count < 2 ^ 32) → start ≡ [] → slice ≡ turns
+    → ((plain : List Insn) → Emits [] slice plain → Emits c0 c1 (code_taken places scope counter count x plain (group_taken places scope counter count kind x plain))) → EmitsStmt c0 c1 places own scope
+for-emitted places scope own body x counter count r kind inner start turns slice c0 c1 e ex er few part loop e0 es taken =
+    let plain = in_turn places scope counter count body in
+    let code : Emits start turns plain = subst (λ q. Emits start turns (loop_code q count (stmt_code places body (counter ∷ scope)))) er (loop.0 (stmt_code places body (counter ∷ scope)) part.emits) in
+    let all = taken plain (subst (λ z. Emits [] z plain) (sym es) (subst (λ z. Emits z turns plain) e0 code)) in
     subst (λ z. EmitsStmt c0 c1 places z scope) (sym e) (record {
-      emits = emits-is (subst (λ q. Emits c0 c1 (loop_code q count (stmt_code places body (counter ∷ scope)))) er code) (sym (code-for places counter count kind body scope));
+      emits = emits-is (subst (λ y. Emits c0 c1 (code_taken places scope counter count y plain (group_taken places scope counter count kind y plain))) ex all) (sym (code-for places counter count kind body scope));
       has_room = fits-for places counter count kind body scope
           ∙ and_from (has_seat scope) _ (seat-test (length scope) few) (and_from (is_word count) (fits places body (counter ∷ scope)) (word-test count loop.1) part.has_room);
     })

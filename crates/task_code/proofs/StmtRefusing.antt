@@ -13,14 +13,18 @@ use Rattle.loop_ir.specs.Depths.{depth, count_of}
 use Rattle.loop_ir.specs.Needs.{greatest_need}
 use Rattle.loop_ir.proofs.Depths.{depth_sequence, depth_for, depth_bind}
 use Rattle.loop_ir.proofs.Needs.{greatest_store, greatest_sequence, greatest_for, greatest_bind}
-use Rattle.task_code.specs.declared.CodeFault.{CodeFault}
-use Rattle.task_code.specs.declared.places.Places.{Places}
-use Rattle.task_code.specs.Code.{seat, loop_code, loop_tail, bind_code, test, whole_code, stmt_code, task_scope, restored}
-use Rattle.task_code.specs.Faults.{IsLong, IsStmtFault, IsTaskFault, HasRoom, FitsStore, FitsStmt}
+use Rattle.scalar_code.specs.declared.CodeFault.{CodeFault}
+use Rattle.scalar_code.specs.declared.places.Places.{Places}
+use Rattle.scalar_code.specs.Code.{seat, loop_code, loop_tail, bind_code, test, whole_code}
+use Rattle.task_code.specs.Code.{stmt_code, task_scope, restored}
+use Rattle.scalar_code.specs.Faults.{IsLong, HasRoom, FitsStore}
+use Rattle.task_code.specs.Faults.{IsStmtFault, IsTaskFault, FitsStmt}
 use Rattle.task_code.specs.Tasks.{EmitsStmt}
-use Rattle.task_code.proofs.Refusing.{passed}
-use Rattle.task_code.proofs.Spelling.{emits-length}
-use Rattle.task_code.proofs.Unrolled.{code-sequence, code-for, code-bind}
+use Rattle.scalar_code.proofs.Refusing.{passed}
+use Rattle.scalar_code.proofs.Spelling.{emits-length}
+use Rattle.task_code.specs.Code.{group_of_loop}
+use Rattle.task_code.proofs.Taking.{long-stays}
+use Rattle.task_code.proofs.Unrolled.{in_turn, code-sequence, code-for, code-bind}
 
 -- ---- lengths
 
@@ -98,15 +102,17 @@ module _ (places : Places) where
 
   -- ---- loops
 
-  for-length : (counter : Counter) (count : ℕ) (kind : LoopKind) (body : Stmt) (scope : List Counter)
-      → length (stmt_code places (s.For counter count kind body) scope) ≡ length (stmt_code places body (counter ∷ scope)) + 7
-  for-length counter count kind body scope =
-      ap length (code-for places counter count kind body scope) ∙ loop-length (seat (length scope)) count (stmt_code places body (counter ∷ scope))
+  -- a loop whose rounds in turn are too long is as long
+  for-grown : (counter : Counter) (count : ℕ) (kind : LoopKind) (body : Stmt) (scope : List Counter) → 2 ^ 18 ≤ length (stmt_code places body (counter ∷ scope)) + 7 → IsLong (stmt_code places (s.For counter count kind body) scope)
+  for-grown counter count kind body scope long =
+      let plain = in_turn places scope counter count body in
+      let n = loop-length (seat (length scope)) count (stmt_code places body (counter ∷ scope)) in
+      let e = ap length (code-for places counter count kind body scope ∙ long-stays places scope counter count body plain (group_of_loop places scope counter count kind body) (omega (arith, n, long))) in
+      omega (arith, n, e, long)
 
   for-is : (counter : Counter) (count : ℕ) (kind : LoopKind) (body : Stmt) (scope : List Counter) → IsPart body (counter ∷ scope) (s.For counter count kind body) scope
   for-is counter count kind body scope = record {
-    long = let l = for-length counter count kind body scope in
-        grown (stmt_code places body (counter ∷ scope)) (stmt_code places (s.For counter count kind body) scope) (omega (arith, l));
+    long = λ long. for-grown counter count kind body scope (omega (arith, long));
     room = let g = greatest_for counter count kind body in let d = depth_for counter count kind body in
         less-fits body (s.For counter count kind body) (length (counter ∷ scope)) (length scope) (omega (arith, g)) (omega (arith, d));
   }
@@ -119,8 +125,7 @@ module _ (places : Places) where
       → EmitsStmt [] inner places body (counter ∷ scope) → 2 ^ 18 ≤ length inner + 7 → IsLong (stmt_code places own scope)
   for-long own body counter count kind scope inner e part long =
       let n = emits-length inner (stmt_code places body (counter ∷ scope)) part.emits in
-      let l = ap (λ (y : Stmt). length (stmt_code places y scope)) e ∙ for-length counter count kind body scope in
-      omega (arith, n, l, long)
+      subst (λ (y : Stmt). IsLong (stmt_code places y scope)) (sym e) (for-grown counter count kind body scope (omega (arith, n, long)))
 
   pub for-seatless : (own body : Stmt) (counter : Counter) (count : ℕ) (kind : LoopKind) (scope : List Counter) → own ≡ s.For counter count kind body → 14 ≤ length scope
       → FitsStmt places own (length scope) → ⊥

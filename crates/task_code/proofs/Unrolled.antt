@@ -1,54 +1,85 @@
 -- Code, turns and fit of each kind of statement, in terms of its parts.
-use Rattle.std.proofs.Common.{◌≡◌, ℕ, ◌+◌, List, ◌∷◌, ◌++◌, length, Bool, ap, ◌∙◌, sym}
+use Rattle.std.proofs.Common.{◌≡◌, ℕ, ◌+◌, List, ◌∷◌, ◌++◌, length, Bool, ap, ◌∙◌, sym, subst}
 use Rattle.std.specs.Prelude.{◌&&◌, if◌then◌else◌, nat_lt}
 use Rattle.rv_insn.specs.declared.instructions.Insn.{Insn}
 use Rattle.loop_ir.specs.declared.expressions.Counter.{Counter}
 use Rattle.loop_ir.specs.declared.statements.LoopKind.{LoopKind}
 use Rattle.loop_ir.specs.declared.statements.Store.{Store}
 use Rattle.loop_ir.specs.declared.statements.Whole.{Whole}
-use Rattle.loop_ir.specs.declared.statements.Stmt.{Stmt, fold-roll-Stmt}
+use Rattle.loop_ir.specs.declared.statements.Stmt.{Stmt, ind-Stmt, fold-roll-Stmt, roll-Stmt, map-Stmt}
+use Rattle.loop_ir.specs.declared.statements.Stmt.TheOpen.{Stmt-F}
 use Rattle.loop_ir.specs.declared.statements.Stmt.TheOpen as layer
 use Rattle.loop_ir.specs.declared.statements.Stmt.TheVariants.{rolls-Store, rolls-Sequence, rolls-For, rolls-Bind}
 use Rattle.loop_ir.specs.declared.statements.Stmt.TheVariants as s
 use Rattle.loop_ir.specs.Counters.{Values, with}
 use Rattle.loop_ir.specs.Running.{whole_value}
-use Rattle.task_code.specs.declared.places.Places.{Places}
-use Rattle.task_code.specs.Code.{seat, store_code, loop_code, whole_code, bind_code, stmt_at, stmt_code}
-use Rattle.task_code.specs.Fitting.{is_word, has_seat, fits_store, fits_whole, fits_at, fits, total, turns_at, stmt_turns}
+use Rattle.scalar_code.specs.declared.places.Places.{Places}
+use Rattle.scalar_code.specs.Code.{seat, store_code, loop_code, whole_code, bind_code}
+use Rattle.task_code.specs.Code.{Coded, coded, coded_at, stmt_code, stmt_turns, code_taken, turns_taken, group_taken}
+use Rattle.scalar_code.specs.Fitting.{is_word, has_seat, fits_store, fits_whole, total}
+use Rattle.task_code.specs.Fitting.{fits_at, fits}
 
 module _ (places : Places) where
-  abbrev Coded : Type 0
-  Coded = List Counter → List Insn
-
   abbrev Tested : Type 0
   Tested = List Counter → Bool
 
-  abbrev Timed : Type 0
-  Timed = List Counter → Values → ℕ
+  -- ---- what is made of it
+
+  abbrev of : Stmt → Coded
+  of = coded places
+
+  coded-store : (store : Store) → coded places (s.Store store) ≡ coded_at places (layer.Store store)
+  unfolding coded
+  coded-store store = ap of (sym (rolls-Store store)) ∙ fold-roll-Stmt Coded (coded_at places) (layer.Store store)
+
+  coded-sequence : (first second : Stmt) → coded places (s.Sequence first second) ≡ coded_at places (layer.Sequence (of first) (of second))
+  unfolding coded
+  coded-sequence first second = ap of (sym (rolls-Sequence first second)) ∙ fold-roll-Stmt Coded (coded_at places) (layer.Sequence first second)
+
+  coded-for : (counter : Counter) (count : ℕ) (kind : LoopKind) (body : Stmt) → coded places (s.For counter count kind body) ≡ coded_at places (layer.For counter count kind (of body))
+  unfolding coded
+  coded-for counter count kind body = ap of (sym (rolls-For counter count kind body)) ∙ fold-roll-Stmt Coded (coded_at places) (layer.For counter count kind body)
+
+  coded-bind : (counter : Counter) (whole : Whole) (extent : ℕ) (body : Stmt) → coded places (s.Bind counter whole extent body) ≡ coded_at places (layer.Bind counter whole extent (of body))
+  unfolding coded
+  coded-bind counter whole extent body = ap of (sym (rolls-Bind counter whole extent body)) ∙ fold-roll-Stmt Coded (coded_at places) (layer.Bind counter whole extent body)
+
+  abbrev IsOwn : Stmt → Type 0
+  IsOwn statement = (of statement).own ≡ statement
+
+  own-by-layer : (X : Type 0) (part : X → Stmt) → ((p : X) → IsOwn (part p)) → (l : Stmt-F X) → IsOwn (roll-Stmt (map-Stmt X Stmt part l))
+  own-by-layer X part is (layer.Store store) = subst IsOwn (sym (rolls-Store store)) (ap (λ (c : Coded). c.own) (coded-store store))
+  own-by-layer X part is (layer.Sequence a b) = subst IsOwn (sym (rolls-Sequence (part a) (part b)))
+      (ap (λ (c : Coded). c.own) (coded-sequence (part a) (part b)) ∙ ap (λ x. s.Sequence x (of (part b)).own) (is a) ∙ ap (s.Sequence (part a)) (is b))
+  own-by-layer X part is (layer.For counter count kind a) = subst IsOwn (sym (rolls-For counter count kind (part a)))
+      (ap (λ (c : Coded). c.own) (coded-for counter count kind (part a)) ∙ ap (s.For counter count kind) (is a))
+  own-by-layer X part is (layer.Bind counter whole extent a) = subst IsOwn (sym (rolls-Bind counter whole extent (part a)))
+      (ap (λ (c : Coded). c.own) (coded-bind counter whole extent (part a)) ∙ ap (s.Bind counter whole extent) (is a))
+
+  pub own-is : (statement : Stmt) → IsOwn statement
+  own-is = ind-Stmt IsOwn (λ l t is. subst (λ (k : Stmt-F Stmt). IsOwn (roll-Stmt k)) is (own-by-layer _ (λ e. e.0) (λ e. e.1) t))
 
   -- ---- code
 
+  -- the rounds of a loop in turn
+  abbrev pub in_turn : List Counter → Counter → ℕ → Stmt → List Insn
+  in_turn scope counter count body = loop_code (seat (length scope)) count (stmt_code places body (counter ∷ scope))
+
   pub code-store : (store : Store) (scope : List Counter) → stmt_code places (s.Store store) scope ≡ store_code places scope store
-  unfolding stmt_code
-  code-store store scope =
-      ap (λ own. stmt_code places own scope) (sym (rolls-Store store)) ∙ ap (λ (made : Coded). made scope) (fold-roll-Stmt Coded (stmt_at places) (layer.Store store))
+  code-store store scope = ap (λ (c : Coded). c.code scope) (coded-store store)
 
   pub code-sequence : (first second : Stmt) (scope : List Counter) → stmt_code places (s.Sequence first second) scope ≡ stmt_code places first scope ++ stmt_code places second scope
-  unfolding stmt_code
-  code-sequence first second scope =
-      ap (λ own. stmt_code places own scope) (sym (rolls-Sequence first second)) ∙ ap (λ (made : Coded). made scope) (fold-roll-Stmt Coded (stmt_at places) (layer.Sequence first second))
+  code-sequence first second scope = ap (λ (c : Coded). c.code scope) (coded-sequence first second)
 
-  pub code-for : (counter : Counter) (count : ℕ) (kind : LoopKind) (body : Stmt) (scope : List Counter)
-      → stmt_code places (s.For counter count kind body) scope ≡ loop_code (seat (length scope)) count (stmt_code places body (counter ∷ scope))
-  unfolding stmt_code
+  pub code-for : (counter : Counter) (count : ℕ) (kind : LoopKind) (body : Stmt) (scope : List Counter) → stmt_code places (s.For counter count kind body) scope
+      ≡ code_taken places scope counter count body (in_turn scope counter count body) (group_taken places scope counter count kind body (in_turn scope counter count body))
   code-for counter count kind body scope =
-      ap (λ own. stmt_code places own scope) (sym (rolls-For counter count kind body)) ∙ ap (λ (made : Coded). made scope) (fold-roll-Stmt Coded (stmt_at places) (layer.For counter count kind body))
+      let plain = in_turn scope counter count body in
+      ap (λ (c : Coded). c.code scope) (coded-for counter count kind body) ∙ ap (λ b. code_taken places scope counter count b plain (group_taken places scope counter count kind b plain)) (own-is body)
 
   pub code-bind : (counter : Counter) (whole : Whole) (extent : ℕ) (body : Stmt) (scope : List Counter)
       → stmt_code places (s.Bind counter whole extent body) scope ≡ bind_code scope whole extent (seat (length scope)) (stmt_code places body (counter ∷ scope))
-  unfolding stmt_code
-  code-bind counter whole extent body scope =
-      ap (λ own. stmt_code places own scope) (sym (rolls-Bind counter whole extent body)) ∙ ap (λ (made : Coded). made scope) (fold-roll-Stmt Coded (stmt_at places) (layer.Bind counter whole extent body))
+  code-bind counter whole extent body scope = ap (λ (c : Coded). c.code scope) (coded-bind counter whole extent body)
 
   -- ---- fit
 
@@ -77,25 +108,23 @@ module _ (places : Places) where
   -- ---- turns
 
   pub turns-store : (store : Store) (scope : List Counter) (values : Values) → stmt_turns places (s.Store store) scope values ≡ length (store_code places scope store)
-  unfolding stmt_turns
-  turns-store store scope values =
-      ap (λ own. stmt_turns places own scope values) (sym (rolls-Store store)) ∙ ap (λ (made : Timed). made scope values) (fold-roll-Stmt Timed (turns_at places) (layer.Store store))
+  turns-store store scope values = ap (λ (c : Coded). c.turns scope values) (coded-store store)
 
   pub turns-sequence : (first second : Stmt) (scope : List Counter) (values : Values)
       → stmt_turns places (s.Sequence first second) scope values ≡ stmt_turns places first scope values + stmt_turns places second scope values
-  unfolding stmt_turns
-  turns-sequence first second scope values =
-      ap (λ own. stmt_turns places own scope values) (sym (rolls-Sequence first second)) ∙ ap (λ (made : Timed). made scope values) (fold-roll-Stmt Timed (turns_at places) (layer.Sequence first second))
+  turns-sequence first second scope values = ap (λ (c : Coded). c.turns scope values) (coded-sequence first second)
 
-  pub turns-for : (counter : Counter) (count : ℕ) (kind : LoopKind) (body : Stmt) (scope : List Counter) (values : Values)
-      → stmt_turns places (s.For counter count kind body) scope values ≡ 1 + (total count (λ turn. 3 + (stmt_turns places body (counter ∷ scope) (with counter turn values) + 2)) + 4)
-  unfolding stmt_turns
+  abbrev pub turns_in_turn : List Counter → Counter → ℕ → Stmt → Values → ℕ
+  turns_in_turn scope counter count body values = 1 + (total count (λ turn. 3 + (stmt_turns places body (counter ∷ scope) (with counter turn values) + 2)) + 4)
+
+  pub turns-for : (counter : Counter) (count : ℕ) (kind : LoopKind) (body : Stmt) (scope : List Counter) (values : Values) → stmt_turns places (s.For counter count kind body) scope values
+      ≡ turns_taken places scope counter body values (turns_in_turn scope counter count body values) (group_taken places scope counter count kind body (in_turn scope counter count body))
   turns-for counter count kind body scope values =
-      ap (λ own. stmt_turns places own scope values) (sym (rolls-For counter count kind body)) ∙ ap (λ (made : Timed). made scope values) (fold-roll-Stmt Timed (turns_at places) (layer.For counter count kind body))
+      let plain = in_turn scope counter count body in
+      let n = turns_in_turn scope counter count body values in
+      ap (λ (c : Coded). c.turns scope values) (coded-for counter count kind body) ∙ ap (λ b. turns_taken places scope counter b values n (group_taken places scope counter count kind b plain)) (own-is body)
 
   pub turns-bind : (counter : Counter) (whole : Whole) (extent : ℕ) (body : Stmt) (scope : List Counter) (values : Values)
       → stmt_turns places (s.Bind counter whole extent body) scope values
       ≡ length (whole_code scope whole (seat (length scope))) + (if nat_lt (whole_value whole values) extent then 3 + stmt_turns places body (counter ∷ scope) (with counter (whole_value whole values) values) else 4)
-  unfolding stmt_turns
-  turns-bind counter whole extent body scope values =
-      ap (λ own. stmt_turns places own scope values) (sym (rolls-Bind counter whole extent body)) ∙ ap (λ (made : Timed). made scope values) (fold-roll-Stmt Timed (turns_at places) (layer.Bind counter whole extent body))
+  turns-bind counter whole extent body scope values = ap (λ (c : Coded). c.turns scope values) (coded-bind counter whole extent body)

@@ -19,10 +19,10 @@ use Rattle.loop_ir.specs.Buffers.{Points}
 use Rattle.lone_hart.specs.Uses.{Use, Control, Fixed, Owned, Task}
 use Rattle.lone_hart.specs.Alone.{World}
 use Rattle.lone_hart.specs.Paths.{Path}
-use Rattle.task_code.specs.declared.places.Pixels.TheVariants as pixels
-use Rattle.task_code.specs.declared.places.Place.{Place}
-use Rattle.task_code.specs.declared.places.Places.{Places}
-use Rattle.task_code.specs.Doing.{Setting}
+use Rattle.scalar_code.specs.declared.places.Pixels.TheVariants as pixels
+use Rattle.scalar_code.specs.declared.places.Place.{Place}
+use Rattle.scalar_code.specs.declared.places.Places.{Places}
+use Rattle.scalar_code.specs.Doing.{Setting}
 use Rattle.task_code.specs.Tasks.{HasDrawn}
 
 -- ---- the phase

@@ -1,11 +1,8 @@
 pub mod Code
 pub mod Doing
-pub mod Evaluation
 pub mod Example
 pub mod Faults
 pub mod Fitting
-pub mod Layout
 pub mod Lengths
+pub mod Taking
 pub mod Tasks
-pub mod Values
-pub mod Words

@@ -10,12 +10,13 @@ use Rattle.loop_ir.specs.declared.statements.Stmt.{Stmt}
 use Rattle.loop_ir.specs.Running.{run_task, task_values}
 use Rattle.loop_ir.specs.Stores.{is_stored_by_task}
 use Rattle.lone_hart.specs.Paths.{Stand, end, Block, Writes}
-use Rattle.task_code.specs.declared.places.Places.{Places}
+use Rattle.scalar_code.specs.declared.places.Places.{Places}
 use Rattle.task_code.specs.Code.{stmt_code, task_code}
 use Rattle.task_code.specs.Fitting.{fits, fits_task, task_turns}
-use Rattle.task_code.specs.Layout.{IsOf, IsElsewhere}
-use Rattle.task_code.specs.Doing.{Setting, IsSetting, SoundIn, HoldsFuncs}
-use Rattle.task_code.specs.Words.{Emits}
+use Rattle.scalar_code.specs.Layout.{IsOf, IsElsewhere}
+use Rattle.task_code.specs.Doing.{AtOnceIn}
+use Rattle.scalar_code.specs.Doing.{Setting, IsSetting, SoundIn, HoldsFuncs}
+use Rattle.scalar_code.specs.Words.{Emits}
 
 -- where a task begins: its number was drawn
 pub record HasDrawn (own : Setting) (task : ℕ) (f : ℕ → ℕ) : Type 0 where
@@ -45,7 +46,7 @@ pub record TaskEnds (own : Setting) (phase : Phase) (ticket task : ℕ) (f : ℕ
 abbrev pub TasksAreDone : Type 0
 TasksAreDone =
     (own : Setting) → IsSetting own → (phase : Phase) (ticket task : ℕ) → fits_task phase own.places ≡ true → ticket + 4 < 2 ^ 32 → task < 2 ^ 32
-    → SoundIn own phase.body (task_values phase.counter task)
+    → SoundIn own phase.body (task_values phase.counter task) → AtOnceIn own phase.body (task_values phase.counter task)
     → (f : ℕ → ℕ) (memory : List ℕ) (funcs : Planes) → HoldsFuncs own memory funcs → HasDrawn own task f
     → TaskEnds own phase ticket task f memory funcs
 

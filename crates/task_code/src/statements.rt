@@ -1,55 +1,30 @@
 //! The code of statements and of a task.
 
-ghost use Rattle.std.specs.Prelude.{◌≡◌, ℕ, List, ◌+◌, ◌^◌, ◌<◌, ◌≤◌, [], ◌∷◌, ◌++◌, length, OnErr, OnOk, IfErr, IfOk, true};
+ghost use Rattle.std.specs.Prelude.{◌≡◌, List, ◌+◌, ◌^◌, ◌<◌, ◌&&◌, nat_le, nat_lt, [], ◌∷◌, OnErr, OnOk, IfErr, IfOk, true};
 ghost use Rattle.rv_insn.specs.declared.instructions.Insn.{Insn as Instruction};
+ghost use Rattle.scalar_code.specs.Code.{store_code};
 ghost use Rattle.task_code.specs.Code as spec;
-ghost use Rattle.task_code.specs.Faults.{FitsStore, IsFault, IsStmtFault, IsTaskFault};
-ghost use Rattle.task_code.specs.Fitting.{fits_store, fits_whole, is_word_or_none};
+ghost use Rattle.scalar_code.specs.Faults.{FitsStore, IsFault};
+ghost use Rattle.task_code.specs.Faults.{IsStmtFault, IsTaskFault};
+ghost use Rattle.scalar_code.specs.Fitting.{fits_store};
+ghost use Rattle.task_code.specs.Taking.{EmitsAtOnce};
 ghost use Rattle.task_code.specs.Tasks.{EmitsStmt, EmitsTask};
-ghost use Rattle.task_code.specs.Words.{Emits};
+ghost use Rattle.scalar_code.specs.Words.{Emits};
 
-use crate::CodeFault;
-use crate::expressions::{emit_number, place_of, seat, seat_in};
-use crate::frames::emit_deep;
-use crate::instructions::{
-    alu, alu_small, branch_below, emit_literal, jump_back, jump_forth, store_word,
-};
-use crate::operations::{emit_addressed, emit_blend};
-use crate::places::Places;
+use crate::sizes::loop_size;
 use halide_pipeline::Source;
+use lane_code::groups::Group;
 use loop_ir::expressions::Counter;
-use loop_ir::statements::{Phase, Stmt, Store, Whole};
-use rv_insn::{AluImmOp, AluOp};
+use loop_ir::statements::{LoopKind, Phase, Stmt, Store};
+use round_code::rounds::emit_rounds;
+use scalar_code::CodeFault;
+use scalar_code::expressions::{emit_number, place_of};
+use scalar_code::frames::emit_deep;
+use scalar_code::instructions::{emit_literal, store_word};
+use scalar_code::loops::{append, emit_bind, emit_loop, emit_move, next_seat, with_counter};
+use scalar_code::operations::emit_addressed;
+use scalar_code::places::Places;
 use std::alloc::{AllocError, Global};
-
-fn emit_move(code: &mut Vec<u32>, r: u8, s: u8) -> Result<(), AllocError>
-    requires { (r < 32) × (s < 32) }
-    ensures { OnOk result (Emits code.old.items code.new.items (spec.move r s)) }
-{
-    alu_small(code, AluImmOp::Addi, r, s, 0)?;
-    Ok(())
-}
-
-/// Appends a jump over so many words, made where the register isn't below the number.
-fn emit_test(code: &mut Vec<u32>, r: u8, number: u32, words: usize) -> Result<(), CodeFault>
-    requires { (r < 32) × (words ≤ 2 ^ 40) }
-    ensures ok { OnOk result (Emits code.old.items code.new.items (spec.test r number words) × (number < 2 ^ 32)) }
-    ensures err { IfErr result (IsFault (2 ^ 18 ≤ words) ⊥) }
-{
-    emit_number(code, 13, number)?;
-    branch_below(code, r, 13)?;
-    jump_forth(code, words)?;
-    Ok(())
-}
-
-/// Appends words.
-pub fn append(code: &mut Vec<u32>, more: &[u32]) -> Result<(), AllocError>
-    ensures ok { OnOk result (code.new.items ≡ code.old.items ++ more.now) }
-    ensures err { OnErr result (code.new.items ≡ code.old.items) }
-{
-    code.extend_from_slice(more)?;
-    Ok(())
-}
 
 fn emit_store(
     code: &mut Vec<u32>,
@@ -57,7 +32,7 @@ fn emit_store(
     scope: &[Counter],
     store: &Store,
 ) -> Result<(), CodeFault>
-    ensures ok { OnOk result (Emits code.old.items code.new.items (spec.store_code places.now scope.now store.now) × (fits_store places.now scope.now store.now ≡ true)) }
+    ensures ok { OnOk result (Emits code.old.items code.new.items (store_code places.now scope.now store.now) × (fits_store places.now scope.now store.now ≡ true)) }
     ensures err { IfErr result (IsFault ⊥ (FitsStore places.now store.now → ⊥)) }
 {
     emit_deep(code, places, scope, &store.x, 0)?;
@@ -70,111 +45,75 @@ fn emit_store(
     Ok(())
 }
 
-fn emit_loop(code: &mut Vec<u32>, r: u8, count: u32, body: &[u32]) -> Result<(), CodeFault>
-    requires { r < 32 }
-    ensures ok { OnOk result (((insns : List Instruction) → Emits [] body.now insns → Emits code.old.items code.new.items (spec.loop_code r count insns)) × (count < 2 ^ 32)) }
-    ensures err { IfErr result (IsFault (2 ^ 18 ≤ length body.now + 7) ⊥) }
-{
-    let words = body.len();
-    if words >= 1 << 18 {
-        return Err(CodeFault::TooLong);
-    }
-    emit_move(code, r, 0)?;
-    emit_test(code, r, count, words + 3)?;
-    append(code, body)?;
-    alu_small(code, AluImmOp::Addi, r, r, 1)?;
-    jump_back(code, words + 5)?;
-    Ok(())
-}
-
-fn emit_bounded(code: &mut Vec<u32>, last: Option<u32>, r: u8) -> Result<(), AllocError>
-    requires { r < 32 }
-    ensures { OnOk result (Emits code.old.items code.new.items (spec.bounded last r) × (is_word_or_none last ≡ true)) }
-{
-    match last {
-        Some(last) => {
-            emit_number(code, 14, last)?;
-            alu(code, AluOp::Sltu, 13, 14, r)?;
-            emit_blend(code, r, 14)?;
-            Ok(())
-        }
-        None => Ok(()),
-    }
-}
-
-fn emit_whole(
-    code: &mut Vec<u32>,
-    scope: &[Counter],
-    whole: &Whole,
-    r: u8,
-) -> Result<(), AllocError>
-    requires { r < 32 }
-    ensures { OnOk result (Emits code.old.items code.new.items (spec.whole_code scope.now whole.now r) × (fits_whole whole.now ≡ true)) }
-{
-    emit_number(code, r, whole.factor)?;
-    let outer = seat_in(scope, whole.outer);
-    alu(code, AluOp::Mul, r, r, outer)?;
-    emit_bounded(code, whole.last, r)?;
-    let inner = seat_in(scope, whole.inner);
-    alu(code, AluOp::Add, r, r, inner)?;
-    Ok(())
-}
-
-fn emit_guarded(code: &mut Vec<u32>, r: u8, extent: u32, body: &[u32]) -> Result<(), CodeFault>
-    requires { r < 32 }
-    ensures ok { OnOk result (((insns : List Instruction) → Emits [] body.now insns → Emits code.old.items code.new.items (spec.test r extent (length insns + 1) ++ insns)) × (extent < 2 ^ 32)) }
-    ensures err { IfErr result (IsFault (2 ^ 18 ≤ length body.now + 4) ⊥) }
-{
-    let words = body.len();
-    if words >= 1 << 18 {
-        return Err(CodeFault::TooLong);
-    }
-    emit_test(code, r, extent, words + 1)?;
-    append(code, body)?;
-    Ok(())
-}
-
-fn emit_bind(
-    code: &mut Vec<u32>,
-    scope: &[Counter],
-    whole: &Whole,
-    extent: u32,
-    r: u8,
-    body: &[u32],
-) -> Result<(), CodeFault>
-    requires { r < 32 }
-    ensures ok { OnOk result (((insns : List Instruction) → Emits [] body.now insns → Emits code.old.items code.new.items (spec.bind_code scope.now whole.now extent r insns)) × ((fits_whole whole.now ≡ true) × (extent < 2 ^ 32))) }
-    ensures err { IfErr result (IsFault (2 ^ 18 ≤ length body.now + 4) ⊥) }
-{
-    emit_whole(code, scope, whole, r)?;
-    emit_guarded(code, r, extent, body)?;
-    Ok(())
-}
-
-/// The register of the next counter.
-fn next_seat(scope: &[Counter]) -> Result<u8, CodeFault>
-    ensures ok { IfOk result (λ r. (r ≡ spec.seat (length scope.now)) × ((r < 32) × (length scope.now < 14))) }
-    ensures err { IfErr result (IsFault ⊥ (14 ≤ length scope.now)) }
-{
-    if scope.len() < 14 {
-        Ok(seat(scope.len()))
-    } else {
-        Err(CodeFault::TooDeep)
-    }
-}
-
-/// These counters, and one that stands after them.
-fn with_counter(
+/// Appends the code of a loop whose rounds are done at once, where they can be; it says whether it did.
+fn emit_at_once(
     alloc: Global,
+    code: &mut Vec<u32>,
+    places: &Places,
     scope: &[Counter],
     counter: Counter,
-) -> Result<Vec<Counter>, AllocError>
-    ensures { IfOk result (λ made. made.items ≡ counter ∷ scope.now) }
+    count: u32,
+    kind: LoopKind,
+    body: &Stmt,
+) -> Result<bool, AllocError>
+    ensures { IfOk result (λ found. EmitsAtOnce code.old.items code.new.items places.now scope.now counter count body.now found (spec.group_of_loop places.now scope.now counter count kind body.now)) }
 {
-    let mut made = Vec::new(alloc);
-    made.push(counter)?;
-    made.extend_from_slice(scope)?;
-    Ok(made)
+    match kind {
+        LoopKind::Serial => Ok(false),
+        LoopKind::Unrolled => Ok(false),
+        LoopKind::Vectorized => match Group::of_rounds(count) {
+            None => Ok(false),
+            Some(group) => match emit_rounds(
+                alloc, code, group, places, scope, counter, count, body,
+            ) {
+                Ok(()) => Ok(true),
+                Err(CodeFault::OutOfMemory(error)) => Err(error),
+                Err(CodeFault::TooLong) => Ok(false),
+                Err(CodeFault::TooDeep) => Ok(false),
+            },
+        },
+    }
+}
+
+/// Whether code of so many words, of at most so many, is taken in place of that of the rounds in turn.
+fn is_taken(found: bool, at_once: usize, in_turn: usize, most: u32) -> bool
+    ensures { result ≡ (found && (nat_lt in_turn (2 ^ 18) && nat_le at_once most)) }
+{
+    found && in_turn < 1 << 18 && at_once <= most as usize
+}
+
+/// Appends the code of a loop: its rounds at once where that takes no more words than the loop may ask for, else in turn, whose words these are.
+fn emit_taken(
+    alloc: Global,
+    code: &mut Vec<u32>,
+    places: &Places,
+    scope: &[Counter],
+    counter: Counter,
+    count: u32,
+    kind: LoopKind,
+    body: &Stmt,
+    in_turn: &[u32],
+) -> Result<(), AllocError>
+    ensures { OnOk result ((plain : List Instruction) → Emits [] in_turn.now plain → Emits code.old.items code.new.items (spec.code_taken places.now scope.now counter count body.now plain (spec.group_taken places.now scope.now counter count kind body.now plain))) }
+{
+    let mut at_once = Vec::new(alloc);
+    let found = emit_at_once(
+        alloc,
+        &mut at_once,
+        places,
+        scope,
+        counter,
+        count,
+        kind,
+        body,
+    )?;
+    let most = loop_size(body);
+    if is_taken(found, at_once.len(), in_turn.len(), most) {
+        append(code, at_once.as_slice())?;
+        return Ok(());
+    }
+    append(code, in_turn)?;
+    Ok(())
 }
 
 /// Appends the code of a statement among these counters.
@@ -198,12 +137,24 @@ fn emit_stmt(
             emit_stmt(alloc, code, places, scope, second.get())?;
             Ok(())
         }
-        Stmt::For(counter, count, _, body) => {
+        Stmt::For(counter, count, kind, body) => {
             let r = next_seat(scope)?;
             let within = with_counter(alloc, scope, *counter)?;
             let mut inner = Vec::new(alloc);
             emit_stmt(alloc, &mut inner, places, within.as_slice(), body.get())?;
-            emit_loop(code, r, *count, inner.as_slice())?;
+            let mut in_turn = Vec::new(alloc);
+            emit_loop(&mut in_turn, r, *count, inner.as_slice())?;
+            emit_taken(
+                alloc,
+                code,
+                places,
+                scope,
+                *counter,
+                *count,
+                *kind,
+                body.get(),
+                in_turn.as_slice(),
+            )?;
             Ok(())
         }
         Stmt::Bind(counter, whole, extent, body) => {

@@ -1,8 +1,8 @@
 use Rattle.std.proofs.Common.{◌≤◌, List, subst, sym}
 use Rattle.std.specs.List.{AllByRecursion}
 use Rattle.loop_ir.specs.declared.statements.Phase.{Phase}
-use Rattle.task_code.specs.declared.places.Places.{Places}
-use Rattle.task_code.specs.Faults.{LieLow}
+use Rattle.scalar_code.specs.declared.places.Places.{Places}
+use Rattle.scalar_code.specs.Faults.{LieLow}
 use Rattle.memory.specs.Addresses.{most_words}
 use Rattle.program_code.specs.Programs.{HasFewTasks, HasRegisters, words_asked}
 use Rattle.compiler.proofs.Rooms.{ask_for_few, lie_low, have_few_tasks, have_registers}

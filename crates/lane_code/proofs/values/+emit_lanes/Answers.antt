@@ -1,6 +1,6 @@
 use Rattle.std.proofs.Common.{◌%◌, ◌^◌, ◌∙◌, sym, ap, arith}
 use Rattle.lane_code.specs.Lanes.{is_dense, laned, step_of}
-use Rattle.task_code.proofs.Refusing.{passed}
+use Rattle.scalar_code.proofs.Refusing.{passed}
 use Rattle.lane_code.proofs.Emission.{number-emitted, linear-emitted, binary-emitted, divide-emitted, remainder-emitted, select-emitted, dense-emitted, gathered-emitted, no-column, no-row, no-first, no-third}
 use Rattle.lane_code.proofs.values.+emit_lanes.Goals as goal
 

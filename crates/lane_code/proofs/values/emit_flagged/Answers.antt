@@ -1,4 +1,4 @@
-use Rattle.task_code.proofs.Spelling.{emits_then}
+use Rattle.scalar_code.proofs.Spelling.{emits_then}
 use Rattle.lane_code.proofs.values.emit_flagged.Goals as goal
 
 pub returns : goal.returns

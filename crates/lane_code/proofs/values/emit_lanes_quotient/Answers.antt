@@ -1,5 +1,5 @@
 use Rattle.std.proofs.Common.{arith}
-use Rattle.task_code.proofs.Spelling.{emits_then}
+use Rattle.scalar_code.proofs.Spelling.{emits_then}
 use Rattle.lane_code.proofs.values.emit_lanes_quotient.Goals as goal
 
 pub returns-clause-ok : goal.returns-clause-ok

@@ -1,8 +1,8 @@
 use Rattle.std.proofs.Common.{◌∷◌, [], subst}
 use Rattle.rv_insn.specs.declared.instructions.Insn.TheVariants.{Branch}
 use Rattle.rv_insn.specs.declared.operations.BranchOp.TheVariants.{Bgeu}
-use Rattle.task_code.specs.Words.{Emits}
-use Rattle.task_code.proofs.Spelling.{emits_then}
+use Rattle.scalar_code.specs.Words.{Emits}
+use Rattle.scalar_code.proofs.Spelling.{emits_then}
 use Rattle.phase_code.proofs.emission.emit_draw.Goals as goal
 
 pub returns : goal.returns

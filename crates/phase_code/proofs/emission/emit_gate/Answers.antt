@@ -1,4 +1,4 @@
-use Rattle.task_code.proofs.Spelling.{emits_then}
+use Rattle.scalar_code.proofs.Spelling.{emits_then}
 use Rattle.phase_code.proofs.emission.emit_gate.Goals as goal
 
 pub returns-clause-ok : goal.returns-clause-ok

@@ -1,10 +1,10 @@
 use Rattle.std.proofs.Common.{◌≡◌, ◌+◌, ◌≤◌, ◌^◌, ◌∷◌, [], length, subst, arith}
 use Rattle.rv_insn.specs.declared.instructions.Insn.TheVariants.{Jal}
-use Rattle.task_code.specs.Code.{forth}
-use Rattle.task_code.specs.Words.{Emits}
-use Rattle.task_code.proofs.Spelling.{emits_then, emits-length}
+use Rattle.scalar_code.specs.Code.{forth}
+use Rattle.scalar_code.specs.Words.{Emits}
+use Rattle.scalar_code.proofs.Spelling.{emits_then, emits-length}
 use Rattle.phase_code.specs.Code.{door_code}
-use Rattle.task_code.proofs.Refusing.{passed}
+use Rattle.scalar_code.proofs.Refusing.{passed}
 use Rattle.phase_code.proofs.Refusing.{phase-long}
 use Rattle.phase_code.proofs.emission.emit_phase.Goals as goal
 

@@ -1,8 +1,8 @@
 use Rattle.std.proofs.Common.{◌≡◌, ◌+◌, ◌∷◌, ◌++◌, [], length, subst}
 use Rattle.rv_insn.specs.declared.instructions.Insn.TheVariants.{Jal}
-use Rattle.task_code.specs.Code.{back}
-use Rattle.task_code.specs.Words.{Emits}
-use Rattle.task_code.proofs.Spelling.{emits_then, emits-apart, emits-length}
+use Rattle.scalar_code.specs.Code.{back}
+use Rattle.scalar_code.specs.Words.{Emits}
+use Rattle.scalar_code.proofs.Spelling.{emits_then, emits-apart, emits-length}
 use Rattle.phase_code.proofs.emission.emit_tasks.Goals as goal
 
 pub returns-clause-ok : goal.returns-clause-ok

@@ -1,6 +1,6 @@
 use Rattle.std.proofs.Common.{◌<◌, ◌∙◌, subst}
 use Rattle.phase_code.specs.Code.{program}
-use Rattle.task_code.specs.Words.{Emits}
+use Rattle.scalar_code.specs.Words.{Emits}
 use Rattle.program_code.specs.Programs.{parts_from}
 use Rattle.program_code.proofs.Refusing.{many-phases, many-words}
 use Rattle.program_code.proofs.generation.generate.Goals as goal

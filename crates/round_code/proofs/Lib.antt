@@ -1,0 +1,9 @@
+pub mod Effects
+pub mod Emission
+pub mod Following
+pub mod Looping
+pub mod Openings
+pub mod Rounding
+pub mod RowCode
+pub mod Rows
+pub mod Storing

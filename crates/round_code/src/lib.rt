@@ -1,0 +1,8 @@
+//! The machine code of loops whose rounds are done at once: a pixel a lane, and one instruction that stores them.
+//!
+//! - [`rounds`]: appends the code of such a loop (`specs/Rounds.antt`).
+//! - [`laws`]: **it leaves what the loop leaves in turn, wherever it stands** (`specs/Doing.antt`).
+#![tactic(auto)]
+
+pub mod laws;
+pub mod rounds;

@@ -1,0 +1,95 @@
+-- Words that are counted up to a number are as many as may be asked for, or that number.
+use Rattle.std.proofs.Common.{◌≡◌, ℕ, ◌+◌, ◌*◌, ◌≤◌, length, Bool, true, false, ap, ◌∙◌, sym, arith}
+use Rattle.std.specs.Prelude.{if◌then◌else◌, min}
+use Rattle.halide_pipeline.specs.declared.expressions.Operation.{Operation}
+use Rattle.halide_pipeline.specs.declared.expressions.Source.{Source}
+use Rattle.loop_ir.specs.declared.expressions.Counter.{Counter}
+use Rattle.loop_ir.specs.declared.expressions.Expr.{Expr}
+use Rattle.loop_ir.specs.declared.expressions.Expr.TheVariants as e
+use Rattle.loop_ir.specs.declared.expressions.Linear.{Linear}
+use Rattle.loop_ir.specs.declared.statements.LoopKind.{LoopKind}
+use Rattle.loop_ir.specs.declared.statements.Store.{Store}
+use Rattle.loop_ir.specs.declared.statements.Stmt.{Stmt}
+use Rattle.loop_ir.specs.declared.statements.Stmt.TheVariants as s
+use Rattle.loop_ir.specs.declared.statements.Whole.{Whole}
+use Rattle.loop_ir.specs.Sizes.{Size, kept, size, size_of, whole_size, store_size}
+use Rattle.loop_ir.proofs.Sizes.{size_number, size_linear, size_binary, size_divide, size_remainder, size_select, size_load, whole_store, whole_sequence, whole_for, whole_bind}
+
+-- what a sum up to the number promises
+abbrev Sums : ℕ → ℕ → ℕ → Type 0
+Sums a b c = (m n : ℕ) → a ≡ min m 262144 → b ≡ min n 262144 → c ≡ min (m + n) 262144
+
+few : (own : Size) (leaf : Bool) (more q : ℕ) → leaf ≡ own.is_leaf → q ≡ (if leaf then 0 else 15) + more → more ≤ 100 → q ≡ min (kept own + more) 262144
+few own leaf more q el eq l = by own.is_leaf (eq ∙ ap (λ t. (if t then 0 else 15) + more) el)
+  where
+    by : (t : Bool) → q ≡ (if t then 0 else 15) + more → q ≡ min ((if t then 0 else 15) + more) 262144
+    by true k = omega (arith, k, l)
+    by false k = omega (arith, k, l)
+
+of-it : (x a : Expr) (k : ℕ) → x ≡ a → k ≡ min (size x) 262144 → k ≡ min (size a) 262144
+of-it x a k ex ek = ek ∙ ap (λ y. min (size y) 262144) ex
+
+words-of : (own kind : Expr) (n : ℕ) → own ≡ kind → size kind ≡ n → min n 262144 ≡ min (size own) 262144
+words-of own kind n is en = ap (λ m. min m 262144) (sym (ap size is ∙ en))
+
+pub number-sized : (own : Expr) (n : ℕ) → own ≡ e.Number n → 2 ≡ min (size own) 262144
+number-sized own n is = let k = words-of own (e.Number n) 2 is (ap (λ (z : Size). z.words) (size_number n)) in let g : 2 ≡ min 2 262144 = omega arith in g ∙ k
+
+pub linear-sized : (own : Expr) (sum : Linear) (n k : ℕ) → own ≡ e.Linear sum → n ≡ length sum.terms → k ≡ min (2 + 4 * n) 262144 → k ≡ min (size own) 262144
+linear-sized own sum n k is en ek = ek ∙ ap (λ m. min (2 + 4 * m) 262144) en ∙ words-of own (e.Linear sum) (2 + 4 * length sum.terms) is (ap (λ (z : Size). z.words) (size_linear sum))
+
+pub binary-sized : (own a b x y z : Expr) (o : Operation) (k l p q r : ℕ) (leaf : Bool) → own ≡ e.Binary o a b → x ≡ a → y ≡ b → z ≡ b → k ≡ min (size x) 262144 → l ≡ min (size y) 262144 → leaf ≡ (size_of z).is_leaf
+    → q ≡ (if leaf then 0 else 15) + 4 → Sums k l p → Sums p q r → r ≡ min (size own) 262144
+binary-sized own a b x y z o k l p q r leaf is ex ey ez ek el et eq first last =
+    let ep = first (size a) (size b) (of-it x a k ex ek) (of-it y b l ey el) in
+    let fq = few (size_of b) leaf 4 q (et ∙ ap (λ w. (size_of w).is_leaf) ez) eq (omega arith) in
+    let er = last (size a + size b) (kept (size_of b) + 4) ep fq in
+    let same : size a + size b + (kept (size_of b) + 4) ≡ size a + size b + kept (size_of b) + 4 = omega arith in
+    er ∙ ap (λ m. min m 262144) same ∙ words-of own (e.Binary o a b) (size a + size b + kept (size_of b) + 4) is (ap (λ (w : Size). w.words) (size_binary o a b))
+
+pub load-sized : (own a b x y z : Expr) (source : Source) (k l p q r : ℕ) (leaf : Bool) → own ≡ e.Load source a b → x ≡ a → y ≡ b → z ≡ b → k ≡ min (size x) 262144 → l ≡ min (size y) 262144 → leaf ≡ (size_of z).is_leaf
+    → q ≡ (if leaf then 0 else 15) + 13 → Sums k l p → Sums p q r → r ≡ min (size own) 262144
+load-sized own a b x y z source k l p q r leaf is ex ey ez ek el et eq first last =
+    let ep = first (size a) (size b) (of-it x a k ex ek) (of-it y b l ey el) in
+    let fq = few (size_of b) leaf 13 q (et ∙ ap (λ w. (size_of w).is_leaf) ez) eq (omega arith) in
+    let er = last (size a + size b) (kept (size_of b) + 13) ep fq in
+    let same : size a + size b + (kept (size_of b) + 13) ≡ size a + size b + kept (size_of b) + 13 = omega arith in
+    er ∙ ap (λ m. min m 262144) same ∙ words-of own (e.Load source a b) (size a + size b + kept (size_of b) + 13) is (ap (λ (w : Size). w.words) (size_load source a b))
+
+pub divide-sized : (own a x : Expr) (c k r : ℕ) → own ≡ e.Divide a c → x ≡ a → k ≡ min (size x) 262144 → Sums k 11 r → r ≡ min (size own) 262144
+divide-sized own a x c k r is ex ek sum =
+    sum (size a) 11 (of-it x a k ex ek) (let g : 11 ≡ min 11 262144 = omega arith in g) ∙ words-of own (e.Divide a c) (size a + 11) is (ap (λ (w : Size). w.words) (size_divide a c))
+
+pub remainder-sized : (own a x : Expr) (c k r : ℕ) → own ≡ e.Remainder a c → x ≡ a → k ≡ min (size x) 262144 → Sums k 13 r → r ≡ min (size own) 262144
+remainder-sized own a x c k r is ex ek sum =
+    sum (size a) 13 (of-it x a k ex ek) (let g : 13 ≡ min 13 262144 = omega arith in g) ∙ words-of own (e.Remainder a c) (size a + 13) is (ap (λ (w : Size). w.words) (size_remainder a c))
+
+pub select-sized : (own c a b x y z : Expr) (k l m p q r : ℕ) → own ≡ e.Select c a b → x ≡ c → y ≡ a → z ≡ b → k ≡ min (size x) 262144 → l ≡ min (size y) 262144 → m ≡ min (size z) 262144
+    → Sums k l p → Sums p m q → Sums q 33 r → r ≡ min (size own) 262144
+select-sized own c a b x y z k l m p q r is ex ey ez ek el em first second last =
+    let ep = first (size c) (size a) (of-it x c k ex ek) (of-it y a l ey el) in
+    let eq = second (size c + size a) (size b) ep (of-it z b m ez em) in
+    last (size c + size a + size b) 33 eq (let g : 33 ≡ min 33 262144 = omega arith in g) ∙ words-of own (e.Select c a b) (size c + size a + size b + 33) is (ap (λ (w : Size). w.words) (size_select c a b))
+
+-- ---- statements
+
+of-part : (x a : Stmt) (k : ℕ) → x ≡ a → k ≡ min (whole_size x) 262144 → k ≡ min (whole_size a) 262144
+of-part x a k ex ek = ek ∙ ap (λ y. min (whole_size y) 262144) ex
+
+whole-of : (own kind : Stmt) (n : ℕ) → own ≡ kind → whole_size kind ≡ n → min n 262144 ≡ min (whole_size own) 262144
+whole-of own kind n is en = ap (λ m. min m 262144) (sym (ap whole_size is ∙ en))
+
+pub store-whole : (own : Stmt) (store : Store) (k : ℕ) → own ≡ s.Store store → k ≡ min (store_size store) 262144 → k ≡ min (whole_size own) 262144
+store-whole own store k is ek = ek ∙ whole-of own (s.Store store) (store_size store) is (whole_store store)
+
+pub sequence-whole : (own a b x y : Stmt) (k l r : ℕ) → own ≡ s.Sequence a b → x ≡ a → y ≡ b → k ≡ min (whole_size x) 262144 → l ≡ min (whole_size y) 262144 → Sums k l r → r ≡ min (whole_size own) 262144
+sequence-whole own a b x y k l r is ex ey ek el sum =
+    sum (whole_size a) (whole_size b) (of-part x a k ex ek) (of-part y b l ey el) ∙ whole-of own (s.Sequence a b) (whole_size a + whole_size b) is (whole_sequence a b)
+
+pub for-whole : (own body x : Stmt) (counter : Counter) (count : ℕ) (kind : LoopKind) (k r : ℕ) → own ≡ s.For counter count kind body → x ≡ body → k ≡ min (whole_size x) 262144 → Sums k 7 r → r ≡ min (whole_size own) 262144
+for-whole own body x counter count kind k r is ex ek sum =
+    sum (whole_size body) 7 (of-part x body k ex ek) (let g : 7 ≡ min 7 262144 = omega arith in g) ∙ whole-of own (s.For counter count kind body) (whole_size body + 7) is (whole_for counter count kind body)
+
+pub bind-whole : (own body x : Stmt) (counter : Counter) (whole : Whole) (extent k r : ℕ) → own ≡ s.Bind counter whole extent body → x ≡ body → k ≡ min (whole_size x) 262144 → Sums k 14 r → r ≡ min (whole_size own) 262144
+bind-whole own body x counter whole extent k r is ex ek sum =
+    sum (whole_size body) 14 (of-part x body k ex ek) (let g : 14 ≡ min 14 262144 = omega arith in g) ∙ whole-of own (s.Bind counter whole extent body) (whole_size body + 14) is (whole_bind counter whole extent body)

@@ -1,0 +1,96 @@
+//! How many words of code a loop may ask for, counted up to 2^18: no text has more.
+
+ghost use Rattle.std.specs.Prelude.{◌≡◌, ℕ, ◌+◌, ◌*◌, ◌^◌, ◌≤◌, if◌then◌else◌, min};
+ghost use Rattle.loop_ir.specs.Sizes as spec;
+
+use loop_ir::expressions::Expr;
+use loop_ir::statements::{Stmt, Store};
+
+fn plus(a: u32, b: u32) -> u32
+    requires { (a ≤ 2 ^ 18) × (b ≤ 2 ^ 18) }
+    ensures { (result ≤ 2 ^ 18) × ((m n : ℕ) → a ≡ min m (2 ^ 18) → b ≡ min n (2 ^ 18) → result ≡ min (m + n) (2 ^ 18)) }
+{
+    if a + b < 1 << 18 { a + b } else { 1 << 18 }
+}
+
+/// Of a sum of so many terms.
+fn sum_size(terms: usize) -> u32
+    ensures { (result ≤ 2 ^ 18) × (result ≡ min (2 + 4 * terms) (2 ^ 18)) }
+{
+    if terms < 1 << 16 {
+        2 + 4 * terms as u32
+    } else {
+        1 << 18
+    }
+}
+
+/// What it takes to keep a first operand while a second one is made, and so many more.
+fn kept(second_is_leaf: bool, more: u32) -> u32
+    requires { more ≤ 100 }
+    ensures { (result ≤ 200) × (result ≡ (if second_is_leaf then 0 else 15) + more) }
+{
+    if second_is_leaf { more } else { 15 + more }
+}
+
+#[tactic(auto, unfolding(loop_ir::specs::Sizes::size_of))]
+fn is_leaf(e: &Expr) -> bool
+    ensures { result ≡ (spec.size_of e.now).is_leaf }
+{
+    match e {
+        Expr::Number(_) => true,
+        Expr::Linear(_) => true,
+        Expr::Binary(_, _, _) => false,
+        Expr::Divide(_, _) => false,
+        Expr::Remainder(_, _) => false,
+        Expr::Select(_, _, _) => false,
+        Expr::Load(_, _, _) => false,
+    }
+}
+
+fn size(e: &Expr) -> u32
+    ensures { (result ≤ 2 ^ 18) × (result ≡ min (spec.size e.now) (2 ^ 18)) }
+{
+    match e {
+        Expr::Number(_) => 2,
+        Expr::Linear(own) => sum_size(own.terms.len()),
+        Expr::Binary(_, a, b) => plus(
+            plus(size(a.get()), size(b.get())),
+            kept(is_leaf(b.get()), 4),
+        ),
+        Expr::Divide(a, _) => plus(size(a.get()), 11),
+        Expr::Remainder(a, _) => plus(size(a.get()), 13),
+        Expr::Select(c, a, b) => plus(plus(plus(size(c.get()), size(a.get())), size(b.get())), 33),
+        Expr::Load(_, x, y) => plus(
+            plus(size(x.get()), size(y.get())),
+            kept(is_leaf(y.get()), 13),
+        ),
+    }
+}
+
+fn store_size(store: &Store) -> u32
+    ensures { (result ≤ 2 ^ 18) × (result ≡ min (spec.store_size store.now) (2 ^ 18)) }
+{
+    plus(
+        plus(plus(size(&store.x), size(&store.y)), size(&store.value)),
+        14,
+    )
+}
+
+/// Of all of a statement, or 2^18 where it is more.
+fn whole_size(stmt: &Stmt) -> u32
+    ensures { (result ≤ 2 ^ 18) × (result ≡ min (spec.whole_size stmt.now) (2 ^ 18)) }
+{
+    match stmt {
+        Stmt::Store(store) => store_size(store),
+        Stmt::Sequence(first, second) => plus(whole_size(first.get()), whole_size(second.get())),
+        Stmt::For(_, _, _, body) => plus(whole_size(body.get()), 7),
+        Stmt::Bind(_, _, _, body) => plus(whole_size(body.get()), 14),
+    }
+}
+
+/// Of a loop around a statement.
+pub(crate) fn loop_size(body: &Stmt) -> u32
+    ensures { result ≡ min (spec.whole_size body.now + 7) (2 ^ 18) }
+{
+    plus(whole_size(body), 7)
+}
