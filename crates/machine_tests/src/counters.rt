@@ -190,6 +190,66 @@ fn harts_run_at_once(rt: HostRuntime) -> Result<(), Fail> {
     Ok(())
 }
 
+/// A gate that lets hart 1 make two turns.
+struct Holds;
+
+impl Gate for Holds {
+    ghost use Rattle.std.specs.Prelude.{false};
+
+    ghost OPEN = { false };
+
+    const OPEN: bool = false;
+
+    fn before(&self, hart: usize, number: u64) -> bool {
+        hart != 1 || number < 3
+    }
+
+    fn after(&self, _hart: usize, _number: u64) {}
+}
+
+/// How many turns the seats of two harts have made, and why their threads ended.
+fn check_seats<O: Origin, F: Ledgers, R: Abort>(
+    rt: &R,
+    seats: &[Seat<O, F>],
+    turns: [u64; 2],
+    ended: [Ended; 2],
+) {
+    for seat in seats {
+        let hart = seat.hart();
+        if hart < 2 {
+            assert_eq!(rt; seat.number(), turns[hart]);
+            assert_eq!(rt; seat.ended(), Some(ended[hart]));
+        }
+    }
+}
+
+/// Drives the counter until hart 1 is held, and then to its end: hart 0 makes an idle turn more.
+fn drive_held_counter<
+    O: Origin + Send + Sync,
+    F: Ledgers + Send + Sync,
+    R: Threads + Wait + Abort + AllocGlobal + Sync,
+>(rt: &R, image: Image, blanks: Blanks) -> Result<(), Fail>
+    requires image { image ≡ O.image }
+    requires harts { O.harts ≡ 2 }
+    requires resumed { O.resumed ≡ [] }
+    requires blanks { AreNamed F.numbers F.tallies blanks }
+{
+    let (shared, mut seats) = Shared::<O, F>::new(rt.alloc(), image, 2, blanks)?;
+    assert!(rt; drive_all(rt, &shared, &mut seats, false, &Holds).is_ok());
+    check_seats(rt, &seats, [4, 2], [Ended::Halted, Ended::Shut]);
+    assert!(rt; drive_all(rt, &shared, &mut seats, false, &AlwaysOpen).is_ok());
+    check_seats(rt, &seats, [5, 4], [Ended::Halted, Ended::Halted]);
+    check_closed(rt, shared, seats, [5, 4], 2);
+    Ok(())
+}
+
+/// A hart whose thread ended before it had finished is driven on by another.
+#[test]
+fn a_held_hart_goes_on(rt: HostRuntime) -> Result<(), Fail> {
+    let image = read_image(rt.alloc(), &COUNTER)?;
+    drive_held_counter::<Brand, Brand, HostRuntime>(&rt, image, Blanks::new())
+}
+
 /// Makes turns of a seat that has made none.
 fn make_turns<O: Origin, F: Ledgers, R: Wait + Abort>(
     rt: &R,

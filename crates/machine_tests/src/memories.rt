@@ -4,7 +4,7 @@ ghost use Rattle.std.specs.Prelude.{◌≤◌, length};
 
 use hart_core::Hart;
 use memory::{Bytes, Memory};
-use rv_insn::{Outcome, Reg, Trap};
+use rv_insn::{AluImmOp, Imm12, Insn, Outcome, Reg, Trap};
 use std::process::Abort;
 use std::test::Fail;
 
@@ -90,5 +90,28 @@ fn text_can_be_loaded(rt: HostRuntime) -> Result<(), Fail> {
     assert_eq!(rt; hart.step(&mut memory), Outcome::Stepped);
     assert_eq!(rt; hart.step(&mut memory), Outcome::Stepped);
     assert_eq!(rt; register(&rt, &hart, 6), 0x0001_02b7);
+    Ok(())
+}
+
+/// A turn whose instruction is given reads no word: over a memory that covers nothing `addi x5,x0,1` steps, and what means nothing
+/// is trap 1.
+#[test]
+fn an_instruction_is_given(rt: HostRuntime) -> Result<(), Fail> {
+    let mut memory = text_alone(&rt, &[])?;
+    let mut hart = Hart::new(0x0001_0000, 1, 0);
+    let one_more = Insn::AluImm {
+        op: AluImmOp::Addi,
+        rd: Reg::new(5).expect(&rt, "a register"),
+        rs1: Reg::new(0).expect(&rt, "a register"),
+        imm: Imm12::new(1).expect(&rt, "an immediate"),
+    };
+    assert_eq!(rt;
+        hart.step_with(&mut memory, Some(one_more)),
+        Outcome::Stepped
+    );
+    assert_eq!(rt; register(&rt, &hart, 5), 1);
+    let illegal = Outcome::Trapped(Trap::IllegalInstruction);
+    assert_eq!(rt; hart.step_with(&mut memory, None), illegal);
+    assert_eq!(rt; hart.step_with(&mut memory, None), Outcome::Idle);
     Ok(())
 }
