@@ -40,7 +40,7 @@ module _ (b0 b1 b2 b3 b4 b5 b6 b7 b8 b9 b10 b11 b12 b13 b14 b15 : ℕ) where
   sixteen-byte (suc (suc (suc (suc (suc (suc (suc (suc (suc (suc (suc (suc (suc (suc (suc zero))))))))))))))) l b = let p = b 12 in let q = b 13 in let r = b 14 in let s = b 15 in omega (arith, p, q, r, s)
   sixteen-byte (suc (suc (suc (suc (suc (suc (suc (suc (suc (suc (suc (suc (suc (suc (suc (suc k)))))))))))))))) l b = absurd (omega (arith, l))
 
-byte-of : (xs : List ℕ) (k : ℕ) → length xs ≡ 16 → AreBytes xs → k < 16 → get_or xs k 0 ≡ element 32 xs (k / 4) / 256 ^ (k % 4) % 256
+pub byte-of : (xs : List ℕ) (k : ℕ) → length xs ≡ 16 → AreBytes xs → k < 16 → get_or xs k 0 ≡ element 32 xs (k / 4) / 256 ^ (k % 4) % 256
 byte-of xs k e b l = sixteen (λ z. AreBytes z → get_or z k 0 ≡ element 32 z (k / 4) / 256 ^ (k % 4) % 256) xs e (λ b0 b1 b2 b3 b4 b5 b6 b7 b8 b9 b10 b11 b12 b13 b14 b15. sixteen-byte b0 b1 b2 b3 b4 b5 b6 b7 b8 b9 b10 b11 b12 b13 b14 b15 k l) b
 
 module _ (at g : ℕ) (f : ℕ → ℕ) (h : HartState) (s : At at f h) (c : LanesConfigured f g) (u : ℕ) (low : 1 ≤ u) (high : u < 32) where

@@ -222,16 +222,16 @@ fill-is f d n x q = elim (cases_lt q (lane d 0)) [
   ]
 ]
 
-none-filled : (i d : ℕ) (state : Vectors) (flags : List Bool) → ((j : ℕ) → get_or flags j false ≡ false) → filled_from i state 32 d flags [] ≡ state
-none-filled i d state [] off = refl
-none-filled i d state (true ∷ flags) off = absurd (let e : true ≡ false = off 0 in cc e)
-none-filled i d state (false ∷ flags) off = none-filled (i + 1) d state flags (λ j. off (suc j))
+pub none-filled : (i w d : ℕ) (state : Vectors) (flags : List Bool) → ((j : ℕ) → get_or flags j false ≡ false) → filled_from i state w d flags [] ≡ state
+none-filled i w d state [] off = refl
+none-filled i w d state (true ∷ flags) off = absurd (let e : true ≡ false = off 0 in cc e)
+none-filled i w d state (false ∷ flags) off = none-filled (i + 1) w d state flags (λ j. off (suc j))
 
 filled-at : (at d i k : ℕ) (f : ℕ → ℕ) (h : HartState) (flags : List Bool) (x : ℕ → ℕ) → At at f h → 1 ≤ d → 4 * d + (i + k) ≤ 128 → k ≤ length flags
     → ((j : ℕ) → j < k → get_or flags j false ≡ true) → ((j : ℕ) → k ≤ j → get_or flags j false ≡ false)
     → At at (fill f d i k x) (with_vectors h (filled_from i (vectors_of h) 32 d flags (firsts i k x)))
 unfolding fill
-filled-at at d i zero f h flags x a low fits long on off = subst (λ s. At at f (with_vectors h s)) (sym (none-filled i d (vectors_of h) flags (λ j. off j (omega arith)))) a
+filled-at at d i zero f h flags x a low fits long on off = subst (λ s. At at f (with_vectors h s)) (sym (none-filled i 32 d (vectors_of h) flags (λ j. off j (omega arith)))) a
 filled-at at d i (suc k) f h [] x a low fits long on off = absurd (omega (arith, long))
 filled-at at d i (suc k) f h (false ∷ flags) x a low fits long on off = absurd (let t : false ≡ true = on 0 (omega arith) in cc t)
 filled-at at d i (suc k) f h (true ∷ flags) x a low fits long on off =
@@ -243,7 +243,7 @@ filled-at at d i (suc k) f h (true ∷ flags) x a low fits long on off =
 
 -- ---- rows
 
-numbers-read : (text m : List ℕ) (size : Size) (i n : ℕ) (a : ℕ → ℕ) → map (number_at text m) (map (access_at size) (firsts i n a)) ≡ firsts i n (λ k. number_in text m size (a k))
+pub numbers-read : (text m : List ℕ) (size : Size) (i n : ℕ) (a : ℕ → ℕ) → map (number_at text m) (map (access_at size) (firsts i n a)) ≡ firsts i n (λ k. number_in text m size (a k))
 numbers-read text m size i zero a = refl
 numbers-read text m size i (suc n) a = ap (λ z. number_in text m size (a i) ∷ z) (numbers-read text m size (suc i) n a)
 

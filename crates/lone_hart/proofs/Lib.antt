@@ -12,3 +12,4 @@ pub mod MaskRows
 pub mod LaneStores
 pub mod LaneLoads
 pub mod ByteRows
+pub mod ByteLoads

@@ -1,6 +1,6 @@
 -- Code that stands in the text, and what it does with all that a hart holds: from one address, numbers and memory to others, in so
 -- many turns of the hart alone. This project's own.
-use Rattle.std.specs.Prelude.{◌≡◌, ◌<◌, ◌≤◌, ℕ, ◌+◌, ◌*◌, ◌%◌, ◌^◌, ◌==◌, ◌-◌, ◌&&◌, nat_le, nat_lt, if◌then◌else◌, List, [], ◌∷◌, length, true}
+use Rattle.std.specs.Prelude.{◌≡◌, ◌<◌, ◌≤◌, ℕ, ◌+◌, ◌*◌, ◌/◌, ◌%◌, ◌^◌, ◌==◌, ◌-◌, ◌&&◌, nat_le, nat_lt, if◌then◌else◌, List, [], ◌∷◌, length, true}
 use Rattle.rv_insn.specs.declared.instructions.Insn.{Insn}
 use Rattle.memory.specs.Addresses.{data_start, AreBytes, put}
 use Rattle.memory.specs.Access.{Size, bytes_in, touched, spread}
@@ -62,6 +62,19 @@ write_lanes f d n new q = if nat_le (lane d 0) q && nat_lt q (lane d n) then new
 -- other mask bits, as many as are given: they stand where lanes of a register behind v31 would
 abbrev pub write_bits : (ℕ → ℕ) → ℕ → (ℕ → ℕ) → ℕ → ℕ
 write_bits f n new = write_lanes f 32 n new
+
+-- the word that four bytes spell, the lowest first
+abbrev pub of_bytes : (ℕ → ℕ) → ℕ
+of_bytes byte = byte 0 + 256 * (byte 1 + 256 * (byte 2 + 256 * byte 3))
+
+-- a byte of a word
+abbrev pub byte_of : ℕ → ℕ → ℕ
+byte_of word k = word / 256 ^ k % 256
+
+-- other bytes of a register, as many as are given; the bytes behind them stay
+abbrev pub write_bytes : (ℕ → ℕ) → ℕ → ℕ → (ℕ → ℕ) → ℕ → ℕ
+write_bytes f d n new =
+    write_lanes f d 4 (λ j. of_bytes (λ k. if nat_lt (4 * j + k) n then new (4 * j + k) else byte_of (f (lane d j)) k))
 
 -- the configuration is a supported one of lanes of 32 bits, in groups of so many registers
 pub record LanesConfigured (f : ℕ → ℕ) (registers : ℕ) : Type 0 where

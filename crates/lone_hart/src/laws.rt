@@ -1,10 +1,11 @@
 //! Laws of a hart that runs alone, each the contract of a function that does nothing.
 
-ghost use Rattle.std.specs.Prelude.{◌≡◌, ◌==◌, if◌then◌else◌, ◌<◌, ◌≤◌, ◌+◌, ◌*◌, ◌/◌, ◌%◌, ◌^◌, ◌++◌, ◌∷◌, [], ℕ, suc, ℤ, List, Some, length, slice_get, min, true, false};
+ghost use Rattle.std.specs.Prelude.{◌≡◌, ◌⊎◌, ◌==◌, if◌then◌else◌, ◌<◌, ◌≤◌, ◌+◌, ◌*◌, ◌/◌, ◌%◌, ◌^◌, ◌++◌, ◌∷◌, [], ℕ, suc, ℤ, List, Some, length, slice_get, min, true, false};
 ghost use Rattle.rv_insn.specs.declared.instructions.Insn.{Insn};
 ghost use Rattle.rv_insn.specs.declared.instructions.Insn.TheVariants.{Lui, AluImm, Shift, Alu, Load, Store, Jal, Branch, Vector};
 ghost use Rattle.rv_insn.specs.declared.vector_instructions.VectorInsn.TheVariants.{Vsetvli, Vsetivli, ArithmeticVv, ArithmeticVx, ArithmeticVi, ShiftVi, MultiplyVv, MultiplyVx, MoveVv, MoveVx, MoveVi, ElementNumbers, CompareVv, CompareVx, CompareVi, MergeVv, MergeVx, MergeVi, LoadElements, StoreElements, ExtendBytes};
 ghost use Rattle.rv_insn.specs.declared.vector_instructions.Addressing.{Addressing};
+ghost use Rattle.rv_insn.specs.declared.vector_instructions.Addressing.TheVariants.{UnitStride};
 ghost use Rattle.rv_insn.specs.declared.vector_operations.ElementWidth.TheVariants.{Bits8, Bits32};
 ghost use Rattle.lone_hart.specs.LaneMemory.{AllReadable, AllWritable, accesses_to, stored_lanes, offset_at, OffsetsFit};
 ghost use Rattle.rv_insn.specs.declared.vector_operations.CompareVvOp.{CompareVvOp};
@@ -31,7 +32,7 @@ ghost use Rattle.hart_core.specs.Alu.{one_if, extended, plus, computed, computed
 ghost use Rattle.hart_core.specs.Scalar.{one_access, offset_from};
 ghost use Rattle.lone_hart.specs.Groups.{GroupHolds, OthersStay, SizeStays, LanesGiven};
 ghost use Rattle.lone_hart.specs.Alone.{World, Says, is_in};
-ghost use Rattle.lone_hart.specs.Paths.{update, Path, Block, Line, Writes, Readable, Writable, stored_at, configure, lane, bit, vl_number, write_lanes, write_bits, LanesConfigured, IsGroup};
+ghost use Rattle.lone_hart.specs.Paths.{update, Path, Block, Line, Writes, Readable, Writable, stored_at, configure, lane, bit, vl_number, write_lanes, write_bits, byte_of, write_bytes, LanesConfigured, IsGroup};
 
 /// A word of a text of any length stands at its address.
 pub fn words_stand()
@@ -138,7 +139,14 @@ pub fn lanes_are_loaded()
     ensures { (w : World) (f : ℕ → ℕ) (m : List ℕ) → length m ≡ w.size → (g : ℕ) → LanesConfigured f g → (addressing : Addressing) (d b : ℕ) (a : ℕ → ℕ) → IsGroup g d → b < 32 → OffsetsFit g addressing → ((k : ℕ) → k < f vl_number → add 32 (f b) (offset_at f addressing k) ≡ a k) → AllReadable w Word (f vl_number) a → Line w (Vector (LoadElements Bits32 d b addressing true) ∷ []) f m (write_lanes f d (f vl_number) (λ k. number_in w.text m Word (a k) % 2 ^ 32)) m }
 {}
 
+/// Bytes that are loaded one behind the other, into one register: its other bytes stay.
+pub fn bytes_are_loaded()
+    ensures row { (w : World) (f : ℕ → ℕ) (m : List ℕ) → length m ≡ w.size → (g : ℕ) → LanesConfigured f g → (d b : ℕ) (a : ℕ → ℕ) → 1 ≤ d → d < 32 → b < 32 → ((k : ℕ) → k < f vl_number → add 32 (f b) k ≡ a k) → AllReadable w Byte (f vl_number) a → Line w (Vector (LoadElements Bits8 d b UnitStride true) ∷ []) f m (write_bytes f d (f vl_number) (λ k. number_in w.text m Byte (a k) % 256)) m }
+    ensures bytes { (f : ℕ → ℕ) (d n : ℕ) (new : ℕ → ℕ) (k : ℕ) → k < n → n ≤ 16 → ((i : ℕ) → i < n → new i < 256) → byte_of (write_bytes f d n new (lane d (k / 4))) (k % 4) ≡ new k }
+    ensures others { (f : ℕ → ℕ) (d n : ℕ) (new : ℕ → ℕ) (q : ℕ) → (q < lane d 0) ⊎ (lane d 4 ≤ q) → write_bytes f d n new q ≡ f q }
+{}
+
 /// Bytes of a register that become lanes: byte k is a part of its lane k / 4.
 pub fn bytes_are_extended()
-    ensures { (w : World) (f : ℕ → ℕ) (m : List ℕ) → length m ≡ w.size → (g : ℕ) → LanesConfigured f g → (d u : ℕ) → IsGroup g d → 1 ≤ u → u < 32 → Line w (Vector (ExtendBytes d u true) ∷ []) f m (write_lanes f d (f vl_number) (λ k. f (lane u (k / 4)) / 256 ^ (k % 4) % 256)) m }
+    ensures { (w : World) (f : ℕ → ℕ) (m : List ℕ) → length m ≡ w.size → (g : ℕ) → LanesConfigured f g → (d u : ℕ) → IsGroup g d → 1 ≤ u → u < 32 → Line w (Vector (ExtendBytes d u true) ∷ []) f m (write_lanes f d (f vl_number) (λ k. byte_of (f (lane u (k / 4))) (k % 4))) m }
 {}
