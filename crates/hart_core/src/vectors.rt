@@ -122,6 +122,9 @@ impl Hart {
         ensures trap { IfErr result (λ trap. trap ≡ Trap.IllegalInstruction) }
         ensures unchanged { OnErr result (self.new ≡ self.old) }
     {
+        if self.compute_on_words(insn) {
+            return Ok(self.advance());
+        }
         let scalar = self.scalar_of(insn);
         let given = self.compute(insn, scalar)?;
         if let (Some(number), VectorInsn::MoveToScalar { rd, .. }) = (given, *insn) {

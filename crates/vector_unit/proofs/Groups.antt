@@ -15,11 +15,11 @@ use Rattle.vector_unit.specs.declared.elements.NewElements.{NewElements}
 use Rattle.vector_unit.specs.declared.elements.NewElements.TheVariants.{Arithmetic, Multiply, Merge, Copy, Numbers, Bytes}
 use Rattle.vector_unit.specs.declared.operands.Operand.{Operand}
 use Rattle.vector_unit.specs.declared.operands.Operand.TheVariants.{Register, Number, Immediate, Amount}
-use Rattle.vector_unit.specs.VectorState.{Vectors, register, has_vill}
+use Rattle.vector_unit.specs.VectorState.{Vectors, register, with_register, has_vill}
 use Rattle.vector_unit.specs.Vector.{width, count, group, of_group, element_from, active_in, with_registers, with_elements}
 use Rattle.vector_unit.specs.Operands.{operand_elements}
 use Rattle.vector_unit.specs.Operations as op
-use Rattle.vector_unit.specs.inner.Parts.{own_count, register_part, operand_part, active_part, new_part, new_elements, with_parts, with_part_bits, with_parts_bits, reduced_parts}
+use Rattle.vector_unit.specs.inner.Parts.{own_count, register_part, operand_part, active_part, new_part, new_elements, merged_register, with_parts, with_part_bits, with_parts_bits, reduced_parts}
 use Rattle.vector_unit.proofs.Configurations.{is_width, is_small}
 use Rattle.vector_unit.proofs.Parts.{part_of, part-zip, part-merged, part-range, part-replicate, same-below, from-start, bits-cut, reduced-cut}
 
@@ -159,6 +159,11 @@ written state e vd vm new =
     let same : vd + 0 ≡ vd = omega arith in
     let parts = in_parts state (is_cut state e) vd vm new (group state) 0 (omega arith) in
     sym (rw (same, from_none (own_count state)) at parts)
+
+-- the same of a group of one register
+pub written_alone : (state : Vectors) → has_vill state ≡ false → group state ≡ 1 → (vd : ℕ) (vm : Bool) (new : NewElements)
+    → with_register state (vd + 0) (merged_register state vd vm new 0) ≡ with_elements state vd vm (new_elements state new)
+written_alone state e one vd vm new = ap (with_parts state vd vm new 0) (sym one) ∙ written state e vd vm new
 
 -- ---- bits
 

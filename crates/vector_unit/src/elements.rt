@@ -2,7 +2,7 @@
 
 ghost use Rattle.std.specs.Prelude.{◌≡◌, ◌<◌, ◌≤◌, ◌+◌, false};
 ghost use Rattle.vector_unit.specs.VectorState.{has_vill, with_register};
-ghost use Rattle.vector_unit.specs.Vector.{width, with_elements};
+ghost use Rattle.vector_unit.specs.Vector.{group, width, with_elements};
 ghost use Rattle.vector_unit.specs.inner.Parts.{new_elements, new_part, merged_register, with_parts, AtWords};
 
 use crate::operands::Operand;
@@ -91,12 +91,34 @@ impl VectorState {
                 let register = self.merged(vm, part, &self.halves(before, part), &new);
                 self.set_part(vd, part, register);
             }
-            ElementWidth::Bits32 => {
-                let new = self.new_words(new, part);
-                let register = self.merged(vm, part, &self.words(before, part), &new);
-                self.set_part(vd, part, register);
-            }
+            ElementWidth::Bits32 => self.write_words(vd, vm, new, part),
         }
+    }
+
+    /// The same at 32 bits.
+    #[inline(always)]
+    fn write_words(&mut self, vd: VReg, vm: bool, new: &NewElements, part: usize)
+        requires width { width self.old ≡ 32 }
+        requires bytes { AtWords self.old new.now }
+        requires part { part < 4 }
+        ensures { self.new ≡ with_register self.old (vd + part) (merged_register self.old vd vm new.now part) }
+    {
+        let new = self.new_words(new, part);
+        let before = self.words(Operand::Register(vd), part);
+        let register = self.merged(vm, part, &before, &new);
+        self.set_part(vd, part, register);
+    }
+
+    /// Writes new elements to a group of one register of words where they are active.
+    #[tactic(auto, using(crate::proofs::Groups::written_alone))]
+    #[inline(always)]
+    pub(crate) fn write_single(&mut self, vd: VReg, vm: bool, new: NewElements)
+        requires configured { has_vill self.old ≡ false }
+        requires words { width self.old ≡ 32 }
+        requires single { group self.old ≡ 1 }
+        ensures { self.new ≡ with_elements self.old vd vm (new_elements self.old new) }
+    {
+        self.write_words(vd, vm, &new, 0);
     }
 
     /// The bytes of a register of a group with new elements.

@@ -246,7 +246,7 @@ impl VectorState {
 
 /// Whether a masked instruction writes the mask itself.
 #[inline(always)]
-fn overwrites_mask(insn: &VectorInsn) -> bool
+pub(crate) fn overwrites_mask(insn: &VectorInsn) -> bool
     ensures { result ≡ overwrites_mask insn.now }
 {
     match *insn {

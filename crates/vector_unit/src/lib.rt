@@ -19,6 +19,7 @@ pub mod execution;
 pub mod numbers;
 mod operands;
 mod operations;
+pub mod singles;
 pub mod states;
 pub mod vtypes;
 

@@ -1,4 +1,4 @@
-use Rattle.std.proofs.Common.{◌<◌, arith}
+use Rattle.std.proofs.Common.{arith}
 use Rattle.memory.specs.Access.{number_at}
 use Rattle.hart_core.proofs.Quads.{loaded-all}
 use Rattle.hart_core.proofs.harts.Hart.+load_piece.Goals as goal
