@@ -14,7 +14,7 @@ use Rattle.vector_unit.specs.Accesses.{filled_from, with_element_from}
 use Rattle.hart_core.specs.VectorRows.{accesses_at, size_of}
 use Rattle.hart_core.specs.HartState.{HartState, vectors_of, with_vectors}
 use Rattle.hart_core.specs.inner.Pieces.{addresses_from, LiesInData}
-use Rattle.hart_core.proofs.Lying.{others-lie}
+use Rattle.hart_core.proofs.Lying.{fewer-lie, others-lie}
 
 four-more : (n : ℕ) → 0 < n → 4 * n ≡ suc (suc (suc (suc (4 * (n - 1)))))
 four-more n p = omega (arith, p)
@@ -36,6 +36,17 @@ module _ (bytes : ℕ) (w : ElementWidth) (address others : ℕ) (some : 0 < oth
 
   pub behind : LiesInData bytes w (address + bytes_in (size_of w) + bytes_in (size_of w) + bytes_in (size_of w) + bytes_in (size_of w)) (4 * (others - 1))
   behind = others-lie bytes w _ _ fourth
+
+-- the first four, and those behind them
+module _ (bytes : ℕ) (w : ElementWidth) (address others b : ℕ) (e : b ≡ bytes_in (size_of w)) (some : 0 < others) (l : LiesInData bytes w address (4 * others)) where
+  pub next-lie : LiesInData bytes w (address + 4 * b) (4 * (others - 1))
+  next-lie =
+      let z = bytes_in (size_of w) in
+      let place : address + z + z + z + z ≡ address + 4 * b = omega (arith, e) in
+      subst (λ a. LiesInData bytes w a (4 * (others - 1))) place (behind bytes w address others some l)
+
+  pub four-lie : LiesInData bytes w address 4
+  four-lie = fewer-lie bytes w address (4 * others) 4 (omega (arith, some)) l
 
 -- ---- what four leave
 
@@ -65,6 +76,19 @@ loaded-four state w v address quad others f some =
     ∙ ap (λ i. all i (4 * quad + 1 + 1 + 1) (4 * quad + 1 + 1 + 1 + 1)) e2
     ∙ ap (λ i. all (4 * quad + 2) i (4 * quad + 1 + 1 + 1 + 1)) e3
     ∙ ap (λ i. all (4 * quad + 2) (4 * quad + 3) i) e4
+
+-- four, and then the rest
+filled-next : (state : Vectors) (w : ElementWidth) (v b address quad others : ℕ) (f : Access → ℕ) → b ≡ bytes_in (size_of w) → 0 < others
+    → others-filled w v f (others-filled w v f state (4 * quad) address 4) (4 * (quad + 1)) (address + 4 * b) (4 * (others - 1))
+    ≡ others-filled w v f state (4 * quad) address (4 * others)
+filled-next state w v b address quad others f e some =
+    let z = bytes_in (size_of w) in
+    let n : Vectors = at w v f (at w v f (at w v f (at w v f state (4 * quad) address) (4 * quad + 1) (address + z)) (4 * quad + 2) (address + z + z)) (4 * quad + 3) (address + z + z + z) in
+    let one : others-filled w v f state (4 * quad) address 4 ≡ n = loaded-four state w v address quad 1 f (omega arith) in
+    let place : address + 4 * b ≡ address + z + z + z + z = omega (arith, e) in
+    ap (λ s. others-filled w v f s (4 * (quad + 1)) (address + 4 * b) (4 * (others - 1))) one
+    ∙ ap (λ a. others-filled w v f n (4 * (quad + 1)) a (4 * (others - 1))) place
+    ∙ sym (loaded-four state w v address quad others f some)
 
 put-one : (memory : List ℕ) (w : ElementWidth) (a n : ℕ) (accesses : List Access) (numbers : List ℕ)
     → put memory (touched (access_at (size_of w) a ∷ accesses)) (spread (access_at (size_of w) a ∷ accesses) (n ∷ numbers))
@@ -120,27 +144,58 @@ stored-four memory w address quad others f some =
     ∙ ap (λ i. all (q + 2) i (q + 1 + 1 + 1 + 1)) e3
     ∙ ap (λ i. all (q + 2) (q + 3) i) e4
 
+-- four, and then the rest
+put-more : (w : ElementWidth) (f : ℕ → ℕ) (b address quad others : ℕ) (memory : List ℕ) → b ≡ bytes_in (size_of w) → 0 < others
+    → others-put w f (others-put w f memory (4 * quad) address 4) (4 * (quad + 1)) (address + 4 * b) (4 * (others - 1))
+    ≡ others-put w f memory (4 * quad) address (4 * others)
+put-more w f b address quad others memory e some =
+    let z = bytes_in (size_of w) in
+    let q : ℕ = 4 * quad in
+    let n : List ℕ = put_number (put_number (put_number (put_number memory (size_of w) address (f q)) (size_of w) (address + z) (f (q + 1)))
+    (size_of w) (address + z + z) (f (q + 2))) (size_of w) (address + z + z + z) (f (q + 3)) in
+    let one : others-put w f memory q address 4 ≡ n = stored-four memory w address quad 1 f (omega arith) in
+    let place : address + 4 * b ≡ address + z + z + z + z = omega (arith, e) in
+    ap (λ m. others-put w f m (4 * (quad + 1)) (address + 4 * b) (4 * (others - 1))) one
+    ∙ ap (λ a. others-put w f n (4 * (quad + 1)) a (4 * (others - 1))) place
+    ∙ sym (stored-four memory w address quad others f some)
+
+-- a memory after four are stored has as many bytes as before
+pub length-four : (memory memory' : List ℕ) (w : ElementWidth) (f : ℕ → ℕ) (address quad : ℕ) → memory' ≡ others-put w f memory (4 * quad) address 4 → length memory' ≡ length memory
+length-four memory memory' w f address quad e =
+    ap length e ∙ length-put memory (touched (accesses_at w (addresses_from w address 4))) (spread (accesses_at w (addresses_from w address 4)) (map f (range_with_len (4 * quad) 4)))
+
 -- ---- the same of states that follow each other
 
-pub loaded-all : (w : ElementWidth) (v : ℕ) (f : Access → ℕ) (b address quad others : ℕ) (h0 h1 h2 h3 h4 h5 : HartState) → b ≡ bytes_in (size_of w) → 0 < others
+pub loaded-next : (w : ElementWidth) (v : ℕ) (f : Access → ℕ) (b address quad others : ℕ) (h0 h1 h2 : HartState) → b ≡ bytes_in (size_of w) → 0 < others
+    → h1 ≡ with_vectors h0 (others-filled w v f (vectors_of h0) (4 * quad) address 4)
+    → h2 ≡ with_vectors h1 (others-filled w v f (vectors_of h1) (4 * (quad + 1)) (address + 4 * b) (4 * (others - 1)))
+    → h2 ≡ with_vectors h0 (others-filled w v f (vectors_of h0) (4 * quad) address (4 * others))
+loaded-next w v f b address quad others h0 h1 h2 e some e1 e2 =
+    rw (e2, e1) (ap (with_vectors h0) (filled-next (vectors_of h0) w v b address quad others f e some))
+
+pub loaded-once : (w : ElementWidth) (v : ℕ) (f : Access → ℕ) (b address quad : ℕ) (h0 h1 h2 h3 h4 : HartState) → b ≡ bytes_in (size_of w)
     → h1 ≡ with_vectors h0 (at w v f (vectors_of h0) (4 * quad) address)
     → h2 ≡ with_vectors h1 (at w v f (vectors_of h1) (4 * quad + 1) (address + b))
     → h3 ≡ with_vectors h2 (at w v f (vectors_of h2) (4 * quad + 2) (address + b + b))
     → h4 ≡ with_vectors h3 (at w v f (vectors_of h3) (4 * quad + 3) (address + b + b + b))
-    → h5 ≡ with_vectors h4 (others-filled w v f (vectors_of h4) (4 * (quad + 1)) (address + b + b + b + b) (4 * (others - 1)))
-    → h5 ≡ with_vectors h0 (others-filled w v f (vectors_of h0) (4 * quad) address (4 * others))
-loaded-all w v f b address quad others h0 h1 h2 h3 h4 h5 e some e1 e2 e3 e4 e5 =
-    rw (e5, e4, e3, e2, e1, e) (ap (with_vectors h0) (sym (loaded-four (vectors_of h0) w v address quad others f some)))
+    → h4 ≡ with_vectors h0 (others-filled w v f (vectors_of h0) (4 * quad) address 4)
+loaded-once w v f b address quad h0 h1 h2 h3 h4 e e1 e2 e3 e4 =
+    rw (e4, e3, e2, e1, e) (ap (with_vectors h0) (sym (loaded-four (vectors_of h0) w v address quad 1 f (omega arith))))
 
-pub stored-all : (w : ElementWidth) (f : ℕ → ℕ) (b address quad others : ℕ) (m0 m1 m2 m3 m4 m5 : List ℕ) → b ≡ bytes_in (size_of w) → 0 < others
+pub stored-next : (w : ElementWidth) (f : ℕ → ℕ) (b address quad others : ℕ) (m0 m1 m2 : List ℕ) → b ≡ bytes_in (size_of w) → 0 < others
+    → m1 ≡ others-put w f m0 (4 * quad) address 4
+    → m2 ≡ others-put w f m1 (4 * (quad + 1)) (address + 4 * b) (4 * (others - 1))
+    → m2 ≡ others-put w f m0 (4 * quad) address (4 * others)
+stored-next w f b address quad others m0 m1 m2 e some e1 e2 = rw (e2, e1) (put-more w f b address quad others m0 e some)
+
+pub stored-once : (w : ElementWidth) (f : ℕ → ℕ) (b address quad : ℕ) (m0 m1 m2 m3 m4 : List ℕ) → b ≡ bytes_in (size_of w)
     → m1 ≡ put_number m0 (size_of w) address (f (4 * quad))
     → m2 ≡ put_number m1 (size_of w) (address + b) (f (4 * quad + 1))
     → m3 ≡ put_number m2 (size_of w) (address + b + b) (f (4 * quad + 2))
     → m4 ≡ put_number m3 (size_of w) (address + b + b + b) (f (4 * quad + 3))
-    → m5 ≡ others-put w f m4 (4 * (quad + 1)) (address + b + b + b + b) (4 * (others - 1))
-    → m5 ≡ others-put w f m0 (4 * quad) address (4 * others)
-stored-all w f b address quad others m0 m1 m2 m3 m4 m5 e some e1 e2 e3 e4 e5 =
-    rw (e5, e4, e3, e2, e1, e) (sym (stored-four m0 w address quad others f some))
+    → m4 ≡ others-put w f m0 (4 * quad) address 4
+stored-once w f b address quad m0 m1 m2 m3 m4 e e1 e2 e3 e4 =
+    rw (e4, e3, e2, e1, e) (sym (stored-four m0 w address quad 1 f (omega arith)))
 
 -- ---- a group has a multiple of four elements
 

@@ -5,7 +5,7 @@ ghost use Rattle.std.specs.List.{range_with_len};
 ghost use Rattle.memory.specs.Addresses.{covers_load, in_data, put};
 ghost use Rattle.memory.specs.Access.{bytes_in, number_at, number_in, put_number, spread, touched};
 ghost use Rattle.vector_unit.specs.VectorState.{has_vill};
-ghost use Rattle.vector_unit.specs.Vector.{bits_of, element_from};
+ghost use Rattle.vector_unit.specs.Vector.{bits_of, count, element_from};
 ghost use Rattle.vector_unit.specs.Accesses.{filled_from, with_element_from};
 ghost use Rattle.hart_core.specs.VectorRows.{accesses_at, size_of};
 ghost use Rattle.hart_core.specs.HartState.{register, vectors_of, with_vectors};
@@ -91,9 +91,58 @@ impl Hart {
         self.put_element(width, vd, index, number);
     }
 
-    /// Loads so many times four elements of a width, from one whose number is a multiple of four on, which lie one behind
-    /// the other in data. Four stand in one register at each width.
-    pub(crate) fn load_piece<M: Bytes>(
+    /// Loads all elements of a group, of a width, which lie one behind the other in data. Where they are four, nothing goes
+    /// round, so that where they lie is known at each.
+    #[inline(always)]
+    pub(crate) fn load_group<M: Bytes>(
+        &mut self,
+        memory: &M,
+        width: ElementWidth,
+        vd: VReg,
+        address: u32,
+    )
+        requires configured { has_vill (vectors_of self.old) ≡ false }
+        requires lies { LiesInData (length (M.memory memory.now)) width address (count (vectors_of self.old)) }
+        ensures { self.new ≡ with_vectors self.old (filled_from 0 (vectors_of self.old) (bits_of width) vd (replicate (count (vectors_of self.old)) true)
+            (map (number_at (M.text memory.now) (M.memory memory.now)) (accesses_at width (addresses_from width address (count (vectors_of self.old)))))) }
+    {
+        let count = self.vectors().count();
+        if count == 4 {
+            self.load_quad(memory, width, vd, address, 0);
+        } else {
+            self.load_piece(memory, width, vd, address, 0, count / 4);
+        }
+    }
+
+    /// Loads four elements of a width, from one whose number is a multiple of four on, which lie one behind the other in
+    /// data. They stand in one register at each width.
+    #[inline(always)]
+    fn load_quad<M: Bytes>(
+        &mut self,
+        memory: &M,
+        width: ElementWidth,
+        vd: VReg,
+        address: u32,
+        quad: u32,
+    )
+        requires few { quad < 16 }
+        requires lies { LiesInData (length (M.memory memory.now)) width address 4 }
+        ensures { self.new ≡ with_vectors self.old (filled_from (4 * quad) (vectors_of self.old) (bits_of width) vd (replicate 4 true)
+            (map (number_at (M.text memory.now) (M.memory memory.now)) (accesses_at width (addresses_from width address 4)))) }
+    {
+        let bytes = bytes_of(width);
+        let second = address + bytes;
+        let third = second + bytes;
+        let fourth = third + bytes;
+        let index = 4 * quad;
+        self.load_one(memory, width, vd, address, index);
+        self.load_one(memory, width, vd, second, index + 1);
+        self.load_one(memory, width, vd, third, index + 2);
+        self.load_one(memory, width, vd, fourth, index + 3);
+    }
+
+    /// Loads so many times four elements, in the same way.
+    fn load_piece<M: Bytes>(
         &mut self,
         memory: &M,
         width: ElementWidth,
@@ -108,16 +157,9 @@ impl Hart {
             (map (number_at (M.text memory.now) (M.memory memory.now)) (accesses_at width (addresses_from width address (4 * others))))) }
     {
         if others > 0 {
-            let bytes = bytes_of(width);
-            let second = address + bytes;
-            let third = second + bytes;
-            let fourth = third + bytes;
-            let index = 4 * quad;
-            self.load_one(memory, width, vd, address, index);
-            self.load_one(memory, width, vd, second, index + 1);
-            self.load_one(memory, width, vd, third, index + 2);
-            self.load_one(memory, width, vd, fourth, index + 3);
-            self.load_piece(memory, width, vd, fourth + bytes, quad + 1, others - 1);
+            self.load_quad(memory, width, vd, address, quad);
+            let next = address + 4 * bytes_of(width);
+            self.load_piece(memory, width, vd, next, quad + 1, others - 1);
         }
     }
 }
@@ -142,9 +184,60 @@ fn store_one<M: Bytes>(
     write_covered(width, memory, address, number);
 }
 
-/// Stores so many times four elements of a width, from one whose number is a multiple of four on, which are to lie one
-/// behind the other in data.
-pub(crate) fn store_piece<M: Bytes>(
+/// Stores all elements of a group, of a width, which are to lie one behind the other in data. Where they are four, nothing goes
+/// round.
+#[inline(always)]
+pub(crate) fn store_group<M: Bytes>(
+    memory: &mut M,
+    state: &VectorState,
+    width: ElementWidth,
+    vs3: VReg,
+    address: u32,
+)
+    requires configured { has_vill state.now ≡ false }
+    requires lies { LiesInData (length (M.memory memory.old)) width address (count state.now) }
+    ensures put { M.memory memory.new ≡ put (M.memory memory.old) (touched (accesses_at width (addresses_from width address (count state.now))))
+        (spread (accesses_at width (addresses_from width address (count state.now))) (map (element_from state.now (bits_of width) vs3) (range_with_len 0 (count state.now)))) }
+    ensures text { M.text memory.new ≡ M.text memory.old }
+{
+    let count = state.count();
+    if count == 4 {
+        store_quad(memory, state, width, vs3, address, 0);
+    } else {
+        store_piece(memory, state, width, vs3, address, 0, count / 4);
+    }
+}
+
+/// Stores four elements of a width, from one whose number is a multiple of four on, which are to lie one behind the other in
+/// data.
+#[inline(always)]
+fn store_quad<M: Bytes>(
+    memory: &mut M,
+    state: &VectorState,
+    width: ElementWidth,
+    vs3: VReg,
+    address: u32,
+    quad: u32,
+)
+    requires few { quad < 16 }
+    requires lies { LiesInData (length (M.memory memory.old)) width address 4 }
+    ensures put { M.memory memory.new ≡ put (M.memory memory.old) (touched (accesses_at width (addresses_from width address 4)))
+        (spread (accesses_at width (addresses_from width address 4)) (map (element_from state.now (bits_of width) vs3) (range_with_len (4 * quad) 4))) }
+    ensures text { M.text memory.new ≡ M.text memory.old }
+{
+    let bytes = bytes_of(width);
+    let second = address + bytes;
+    let third = second + bytes;
+    let fourth = third + bytes;
+    let index = 4 * quad;
+    store_one(memory, state, width, vs3, address, index);
+    store_one(memory, state, width, vs3, second, index + 1);
+    store_one(memory, state, width, vs3, third, index + 2);
+    store_one(memory, state, width, vs3, fourth, index + 3);
+}
+
+/// Stores so many times four elements, in the same way.
+fn store_piece<M: Bytes>(
     memory: &mut M,
     state: &VectorState,
     width: ElementWidth,
@@ -160,23 +253,8 @@ pub(crate) fn store_piece<M: Bytes>(
     ensures text { M.text memory.new ≡ M.text memory.old }
 {
     if others > 0 {
-        let bytes = bytes_of(width);
-        let second = address + bytes;
-        let third = second + bytes;
-        let fourth = third + bytes;
-        let index = 4 * quad;
-        store_one(memory, state, width, vs3, address, index);
-        store_one(memory, state, width, vs3, second, index + 1);
-        store_one(memory, state, width, vs3, third, index + 2);
-        store_one(memory, state, width, vs3, fourth, index + 3);
-        store_piece(
-            memory,
-            state,
-            width,
-            vs3,
-            fourth + bytes,
-            quad + 1,
-            others - 1,
-        );
+        store_quad(memory, state, width, vs3, address, quad);
+        let next = address + 4 * bytes_of(width);
+        store_piece(memory, state, width, vs3, next, quad + 1, others - 1);
     }
 }

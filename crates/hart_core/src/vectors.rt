@@ -13,7 +13,7 @@ ghost use Rattle.hart_core.specs.Turn.{fault, IsDone};
 
 use crate::element_accesses::{check_stores, read_numbers, write_numbers};
 use crate::harts::Hart;
-use crate::pieces::{is_piece, store_piece};
+use crate::pieces::{is_piece, store_group};
 use memory::Bytes;
 use rv_insn::{Addressing, ElementWidth, Outcome, Reg, Trap, VReg, VectorInsn};
 use vector_unit::{Asked, Numbers, Spacing};
@@ -175,8 +175,7 @@ impl Hart {
         let base = self.register(rs1);
         let spacing = &spacing;
         if is_piece(memory, self.vectors(), width, *spacing, vm, base) {
-            let count = self.vectors().count();
-            self.load_piece(memory, width, vd, base, 0, count / 4);
+            self.load_group(memory, width, vd, base);
             return Ok(self.advance());
         }
         self.load_each(memory, width, vd, vm, rs1, *spacing)
@@ -234,8 +233,7 @@ impl Hart {
         let base = self.register(rs1);
         let spacing = &spacing;
         if is_piece(memory, self.vectors(), width, *spacing, vm, base) {
-            let count = self.vectors().count();
-            store_piece(memory, self.vectors(), width, vs3, base, 0, count / 4);
+            store_group(memory, self.vectors(), width, vs3, base);
             return Ok(self.advance());
         }
         self.store_each(memory, width, vs3, vm, rs1, *spacing)

@@ -3,7 +3,6 @@ use Rattle.memory.specs.Access.{Reads, first_fault}
 use Rattle.hart_core.specs.HartState.{register, vectors_of, advanced}
 use Rattle.hart_core.specs.VectorRows.{accesses_at}
 use Rattle.hart_core.specs.inner.Pieces.{IsPiece}
-use Rattle.hart_core.proofs.Quads.{count-quads}
 use Rattle.hart_core.proofs.Lying.{addresses-are, loaded-is, reads-free}
 use Rattle.hart_core.proofs.harts.Hart.load_vector.Goals as goal
 
@@ -20,5 +19,5 @@ returns-then-is_piece-clause-hart g c =
     let memory = g.M.Bytes.memory c.args.memory.now in
     let p : IsPiece (length memory) (vectors_of c.args.self.now) c.args.width c.args.spacing c.args.vm (register c.args.self.now c.args.rs1) =
     rw (c.vectors.ensures, c.register-base.ensures) at (c.is_piece.ensures c.if-is_piece.true) in
-    let q = rw (c.count-count.ensures.value, c.vectors-then-is_piece.ensures, c.register-base.ensures, count-quads (vectors_of c.args.self.now) c.requires) at c.load_piece.ensures in
+    let q = rw c.register-base.ensures at c.load_group.ensures in
     c.advance.ensures.hart ∙ ap advanced (rw (addresses-are _ _ _ _ _ _ p, loaded-is _ _ _ _ _ _ p c.args.vd _) q)

@@ -3,7 +3,6 @@ use Rattle.memory.specs.Access.{Writes, first_fault}
 use Rattle.hart_core.specs.HartState.{register, vectors_of}
 use Rattle.hart_core.specs.VectorRows.{accesses_at}
 use Rattle.hart_core.specs.inner.Pieces.{IsPiece}
-use Rattle.hart_core.proofs.Quads.{count-quads}
 use Rattle.hart_core.proofs.Lying.{addresses-are, numbers-are, writes-free}
 use Rattle.hart_core.proofs.harts.Hart.store_vector.Goals as goal
 
@@ -20,5 +19,5 @@ returns-then-is_piece-clause-put g c =
     let memory = g.M.Bytes.memory c.args.memory.now in
     let p : IsPiece (length memory) (vectors_of c.args.self.now) c.args.width c.args.spacing c.args.vm (register c.args.self.now c.args.rs1) =
     rw (c.vectors.ensures, c.register-base.ensures) at (c.is_piece.ensures c.if-is_piece.true) in
-    let q = rw (c.count-count.ensures.value, c.vectors-then-is_piece.ensures, c.vectors-then-is_piece-2.ensures, c.register-base.ensures, count-quads (vectors_of c.args.self.now) c.requires) at c.store_piece.ensures.put in
+    let q = rw (c.vectors-then-is_piece.ensures, c.register-base.ensures) at c.store_group.ensures.put in
     rw (addresses-are _ _ _ _ _ _ p, numbers-are _ _ _ _ _ _ p c.args.vs3) q
