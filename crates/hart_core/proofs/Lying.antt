@@ -1,5 +1,5 @@
 -- All elements of a group that lie one behind the other in data: their addresses, that none faults, and what is moved.
-use Rattle.std.proofs.Common.{◌≡◌, ℕ, zero, suc, ◌+◌, ◌*◌, ◌/◌, ◌^◌, ◌<◌, ◌≤◌, List, ◌∷◌, map, None, Bool, true, false, refl, ◌∙◌, ap, arith}
+use Rattle.std.proofs.Common.{◌≡◌, ℕ, zero, suc, ◌+◌, ◌*◌, ◌/◌, ◌^◌, ◌<◌, List, ◌∷◌, map, None, Bool, true, false, refl, ◌∙◌, ap, arith}
 use Rattle.std.specs.Prelude.{◌||◌, replicate, IsTrue}
 use Rattle.std.specs.List.{range_with_len}
 use Rattle.std.proofs.Math.Nat.{mod-eq_of_lt}
@@ -34,11 +34,6 @@ module _ (bytes : ℕ) where
   others-lie widths.Bits8 address others l = record { aligned = omega arith; inside = grind (arith, nat_tests, l.inside); below = let q = l.below in omega (arith, q) }
   others-lie widths.Bits16 address others l = record { aligned = let q = l.aligned in omega (arith, q); inside = grind (arith, nat_tests, l.inside); below = let q = l.below in omega (arith, q) }
   others-lie widths.Bits32 address others l = record { aligned = let q = l.aligned in omega (arith, q); inside = grind (arith, nat_tests, l.inside); below = let q = l.below in omega (arith, q) }
-
-  pub fewer-lie : (w : ElementWidth) (address all some : ℕ) → some ≤ all → LiesInData bytes w address all → LiesInData bytes w address some
-  fewer-lie widths.Bits8 address all some few l = record { aligned = l.aligned; inside = grind (arith, nat_tests, l.inside, few); below = let q = l.below in omega (arith, q, few) }
-  fewer-lie widths.Bits16 address all some few l = record { aligned = l.aligned; inside = grind (arith, nat_tests, l.inside, few); below = let q = l.below in omega (arith, q, few) }
-  fewer-lie widths.Bits32 address all some few l = record { aligned = l.aligned; inside = grind (arith, nat_tests, l.inside, few); below = let q = l.below in omega (arith, q, few) }
 
   write-free : (words : ℕ) (w : ElementWidth) (address others : ℕ) → LiesInData bytes w address (suc others) → fault_of words bytes Writes address (bytes_in (size_of w)) ≡ None
   write-free words w address others l = let a = l.aligned in let i = first-lies w address others l in search (a, i)

@@ -14,7 +14,7 @@ use Rattle.vector_unit.specs.Accesses.{filled_from, with_element_from}
 use Rattle.hart_core.specs.VectorRows.{accesses_at, size_of}
 use Rattle.hart_core.specs.HartState.{HartState, vectors_of, with_vectors}
 use Rattle.hart_core.specs.inner.Pieces.{addresses_from, LiesInData}
-use Rattle.hart_core.proofs.Lying.{fewer-lie, others-lie}
+use Rattle.hart_core.proofs.Lying.{others-lie}
 
 four-more : (n : ℕ) → 0 < n → 4 * n ≡ suc (suc (suc (suc (4 * (n - 1)))))
 four-more n p = omega (arith, p)
@@ -37,16 +37,13 @@ module _ (bytes : ℕ) (w : ElementWidth) (address others : ℕ) (some : 0 < oth
   pub behind : LiesInData bytes w (address + bytes_in (size_of w) + bytes_in (size_of w) + bytes_in (size_of w) + bytes_in (size_of w)) (4 * (others - 1))
   behind = others-lie bytes w _ _ fourth
 
--- the first four, and those behind them
+-- those behind the first four
 module _ (bytes : ℕ) (w : ElementWidth) (address others b : ℕ) (e : b ≡ bytes_in (size_of w)) (some : 0 < others) (l : LiesInData bytes w address (4 * others)) where
   pub next-lie : LiesInData bytes w (address + 4 * b) (4 * (others - 1))
   next-lie =
       let z = bytes_in (size_of w) in
       let place : address + z + z + z + z ≡ address + 4 * b = omega (arith, e) in
       subst (λ a. LiesInData bytes w a (4 * (others - 1))) place (behind bytes w address others some l)
-
-  pub four-lie : LiesInData bytes w address 4
-  four-lie = fewer-lie bytes w address (4 * others) 4 (omega (arith, some)) l
 
 -- ---- what four leave
 
