@@ -133,7 +133,7 @@ module _ (pipeline : Pipeline) (schedule : Schedule) (boxes : Boxes) where
       first_vectorized own outside loops_are body nests e =
           let same = no_nests (record { func = host; inside = own.id }) (none_hosted own outside loops_are e) 0 leaf body nests in
           subst (λ (b : Stmt). MayBeVectorized host counted own outside b) (sym same)
-          (may_be_vectorized host extents plan.pure.splits leaf store bound store_is own outside (few own.id) (λ reads. leaf_is.once reads)
+          (may_be_vectorized host extents plan.pure.splits leaf store bound store_is own outside (few own.id) (λ reads. leaf_is.once reads) leaf_is.steps_up
           ((under (own ∷ []) outside loops_are).0 e))
 
       fine : (inside : List Loop) (own : Loop) (outside : List Loop) (inner body : Stmt) → stage.loops ≡ inside ++ own ∷ outside → HasLoops pipeline schedule boxes host counted leaf inside inner

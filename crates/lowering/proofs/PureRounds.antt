@@ -44,6 +44,7 @@ use Rattle.lowering.proofs.VectorLoops.{vectorized, others_are}
 pub store_leaf : (store : Store) → IsLeaf (s.Store store)
 store_leaf store = record {
   once = λ reads. ap (λ (own : Rounds). own.is_one_store) (rounds_store reads store);
+  steps_up = λ reads now next small_now small_next never. ap (λ (own : Rounds). own.steps_up now next) (rounds_store reads store);
   at_once = λ reads values. ap (λ (own : Rounds). own.may_be_at_once values) (rounds_store reads store);
   touches = λ reads values. sound_store reads everywhere all_points store values ∙ all_pass (store_loads reads values store);
 }

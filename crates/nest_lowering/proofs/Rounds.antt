@@ -1,32 +1,37 @@
 -- Loops and splits around bodies keep it that rounds may be done at once.
-use Rattle.std.proofs.Common.{◌≡◌, ℕ, zero, suc, ◌-◌, ◌<◌, ◌≤◌, ◌^◌, Bool, true, false, cond, List, [], ◌∷◌, ◌++◌, length, get_or, take, drop, refl, sym, ap, subst, ◌∙◌, arith, true≢false}
-use Rattle.std.specs.Prelude.{◌&&◌, ◌||◌, not, nat_lt}
+use Rattle.std.proofs.Common.{◌≡◌, ℕ, zero, suc, ◌+◌, ◌-◌, ◌*◌, ◌<◌, ◌≤◌, ◌^◌, Bool, true, false, cond, List, [], ◌∷◌, ◌++◌, length, get_or, take, drop, refl, sym, ap, subst, ◌∙◌, arith, true≢false}
+use Rattle.std.specs.Prelude.{◌&&◌, ◌||◌, not, nat_le, nat_lt}
+use Rattle.std.proofs.lemmas.Bool.Decides.{nat_tests}
+use Rattle.std.proofs.Math.Nat.{mul-le-mul}
 use Rattle.std.specs.List.{list_all, AllByRecursion}
 use mathlib.Core.Path.{fun_ext}
 use Rattle.halide_meaning.specs.Pixel.{Reads}
 use Rattle.reads.specs.Points.{Point}
 use Rattle.schedule_lines.specs.declared.stages.Loop.{Loop}
 use Rattle.schedule_lines.specs.declared.stages.LoopId.{LoopId}
+use Rattle.schedule_lines.specs.declared.stages.LoopId.TheVariants as ids
 use Rattle.schedule_lines.specs.declared.stages.Split.{Split}
+use Rattle.schedule_lines.specs.declared.stages.Tail.{Tail}
+use Rattle.schedule_lines.specs.declared.stages.Tail.TheVariants as tails
 use Rattle.schedule_lines.specs.Loops.{same_id}
 use Rattle.stage_loops.proofs.Ids.{same_id-true, same_id-self}
 use Rattle.stage_loops.proofs.Lists.{first_of_rest}
 use Rattle.stage_loops.specs.declared.extents.Extents.{Extents}
 use Rattle.stage_loops.specs.Counts as loops
 use Rattle.stage_loops.specs.Reach.{AreTurns, wholes}
-use Rattle.stage_loops.specs.Visits.{whole_of, split_body, split_bodies}
+use Rattle.stage_loops.specs.Visits.{begin_of, whole_of, split_body, split_bodies}
 use Rattle.loop_ir.specs.declared.expressions.Counter.{Counter}
 use Rattle.loop_ir.specs.declared.statements.LoopKind.{LoopKind}
 use Rattle.loop_ir.specs.declared.statements.Stmt.{Stmt}
 use Rattle.loop_ir.specs.declared.statements.Stmt.TheOpen as layer
 use Rattle.loop_ir.specs.declared.statements.Whole.{Whole}
 use Rattle.loop_ir.specs.Counters.{Values, same_counter, with}
-use Rattle.loop_ir.specs.Rounds.{Rounds, rounds, rounds_at, may_be_at_once, is_round_count, is_vectorized, everywhere, all_points, all_but, misses, are_apart}
+use Rattle.loop_ir.specs.Rounds.{Rounds, rounds, rounds_at, may_be_at_once, is_round_count, is_vectorized, everywhere, all_points, all_but, misses, are_apart, all_step_up}
 use Rattle.loop_ir.specs.Running.{whole_value}
 use Rattle.loop_ir.specs.Soundness.{every, is_sound}
 use Rattle.loop_ir.proofs.Rounds.{touches_are}
 use Rattle.nest_lowering.specs.Nests.{loops_of, put_loops, AreSmall, Repeats}
-use Rattle.nest_lowering.specs.Rounds.{AllAreSmall, is_vectorized_loop, IsLeaf, MayBeAtOnce, LoadsNoneOf, MayBeVectorized, GoesAround, MayBeAround, StoreMayBeVectorized, MayBeUnder}
+use Rattle.nest_lowering.specs.Rounds.{AllAreSmall, NeverFall, StepsUp, is_vectorized_loop, IsLeaf, MayBeAtOnce, LoadsNoneOf, MayBeVectorized, GoesAround, MayBeAround, StoreMayBeVectorized, MayBeUnder}
 use Rattle.nest_lowering.proofs.Repeating.{loops_with, sound_with}
 
 -- ---- tests
@@ -87,20 +92,34 @@ module _ (func : ℕ) (counts : loops.Values) (own : Loop) (body made : Stmt) (k
         inside reads (at values turn) (small_with (record { func = func; id = own.id }) turn values (omega (arith, below, few)) small)
         (subst (AreTurns counts (own ∷ outside)) (sym (loops_with func own.id turn values)) (turns_more counts own turn l outside (loops_of func values) are))
 
+    abbrev at_once_part : Bool
+    at_once_part = are_apart (rounds reads body) (at values) count && all_step_up (rounds reads body) (at values) count
+
     abbrev first_part : Bool → Bool
-    first_part b = not b || (is_round_count count && ((rounds reads body).is_one_store && are_apart (rounds reads body) (at values) count))
+    first_part b = not b || (is_round_count count && ((rounds reads body).is_one_store && at_once_part))
 
     is_apart : MayBeVectorized func counts own outside body → are_apart (rounds reads body) (at values) count ≡ true
     is_apart is = every_passes count _ (λ later below. every_passes later _ (λ earlier before.
         touches_none reads body (at values earlier) (at values later) ∙ is.apart reads values small are earlier later before (omega (arith, below, count_is))))
+
+    rounds_never_fall : (turn : ℕ) → NeverFall (at values turn) (at values (turn + 1))
+    rounds_never_fall turn counter = by_test (same_counter counter (record { func = func; id = own.id }))
+      where
+        by_test : (b : Bool) → cond b turn (values counter) ≤ cond b (turn + 1) (values counter)
+        by_test true = omega arith
+        by_test false = omega arith
+
+    steps : MayBeVectorized func counts own outside body → all_step_up (rounds reads body) (at values) count ≡ true
+    steps is = every_passes (count - 1) _ (λ turn below. is.steps_up reads (at values turn) (at values (turn + 1))
+        (small_with (record { func = func; id = own.id }) turn values (omega (arith, below, few)) small) (small_with (record { func = func; id = own.id }) (turn + 1) values (omega (arith, below, few)) small) (rounds_never_fall turn))
 
     first_is : (b : Bool) → is_vectorized_loop own ≡ b → first_part b ≡ true
     first_is false e = refl
     first_is true e =
         let is = fine e in
         let n : is_round_count count ≡ true = ap is_round_count count_is ∙ is.count in
-        ap (λ (b : Bool). b && ((rounds reads body).is_one_store && are_apart (rounds reads body) (at values) count)) n
-        ∙ ap (λ (b : Bool). b && are_apart (rounds reads body) (at values) count) (is.once reads) ∙ is_apart is
+        ap (λ (b : Bool). b && ((rounds reads body).is_one_store && at_once_part)) n
+        ∙ ap (λ (b : Bool). b && at_once_part) (is.once reads) ∙ ap (λ (b : Bool). b && all_step_up (rounds reads body) (at values) count) (is_apart is) ∙ steps is
 
     looped : may_be_at_once reads made values ≡ true
     looped =
@@ -131,24 +150,80 @@ goes_around_more func counts all own made inner body some is once others outside
 
 -- ---- splits
 
-pub leaf_bound : (counter : Counter) (whole : Whole) (extent : ℕ) (body made : Stmt)
-    → ((reads : Reads) → rounds reads made ≡ rounds_at reads (layer.Bind counter whole extent (rounds reads body)))
-    → ((reads : Reads) (values : Values) → is_sound reads everywhere all_points made values
-    ≡ cond (nat_lt (whole_value whole values) extent) (is_sound reads everywhere all_points body (with counter (whole_value whole values) values)) true)
-    → IsLeaf body → IsLeaf made
-leaf_bound counter whole extent body made made_is sound_is leaf = record {
-  once = λ reads. ap (λ (r : Rounds). r.is_one_store) (made_is reads) ∙ leaf.once reads;
-  at_once = λ reads values.
-      ap (λ (r : Rounds). r.may_be_at_once values) (made_is reads)
-      ∙ by_test (nat_lt (whole_value whole values) extent) (may_be_at_once reads body (with counter (whole_value whole values) values)) (leaf.at_once reads (with counter (whole_value whole values) values));
-  touches = λ reads values.
-      sound_is reads values
-      ∙ by_test (nat_lt (whole_value whole values) extent) (is_sound reads everywhere all_points body (with counter (whole_value whole values) values)) (leaf.touches reads (with counter (whole_value whole values) values));
-}
-  where
-    by_test : (test b : Bool) → b ≡ true → cond test b true ≡ true
-    by_test true b is = is
-    by_test false b is = refl
+rising : (a b k : ℕ) → a ≤ b → a * k ≤ b * k
+rising a b k l = mul-le-mul l (omega arith)
+
+-- where a turn of the outer loop begins doesn't fall
+begin_rises : (tail : Tail) (factor extent a b : ℕ) → a ≤ b → begin_of tail factor extent a ≤ begin_of tail factor extent b
+begin_rises tails.Guard factor extent a b l = rising a b factor l
+begin_rises tails.Shift factor extent a b l = let r = rising a b factor l in omega (arith, r)
+
+is_at_most : (a b : ℕ) → a ≤ b → nat_le a b ≡ true
+is_at_most a b l = grind (arith, nat_tests, l)
+
+is_below : (a b : ℕ) → nat_lt a b ≡ true → a < b
+is_below a b t = grind (arith, nat_tests)
+
+module _ (counter : Counter) (whole : Whole) (extent : ℕ) (body made : Stmt)
+    (made_is : (reads : Reads) → rounds reads made ≡ rounds_at reads (layer.Bind counter whole extent (rounds reads body)))
+    (few : extent < 2 ^ 25) (rises : (now next : Values) → AllAreSmall now → AllAreSmall next → NeverFall now next → whole_value whole now ≤ whole_value whole next) where
+  never_fall_with : (a b : ℕ) (now next : Values) → a ≤ b → NeverFall now next → NeverFall (with counter a now) (with counter b next)
+  never_fall_with a b now next l never other = by_test (same_counter other counter)
+    where
+      by_test : (t : Bool) → cond t a (now other) ≤ cond t b (next other)
+      by_test true = l
+      by_test false = never other
+
+  steps_bound : StepsUp body → StepsUp made
+  steps_bound steps reads now next small_now small_next never = ap (λ (r : Rounds). r.steps_up now next) (made_is reads) ∙ by_test (nat_lt (whole_value whole next) extent) refl
+    where
+      up : whole_value whole now ≤ whole_value whole next
+      up = rises now next small_now small_next never
+
+      inner : whole_value whole next < extent → (rounds reads body).steps_up (with counter (whole_value whole now) now) (with counter (whole_value whole next) next) ≡ true
+      inner below =
+          steps reads (with counter (whole_value whole now) now) (with counter (whole_value whole next) next)
+          (small_with counter (whole_value whole now) now (omega (arith, up, below, few)) small_now) (small_with counter (whole_value whole next) next (omega (arith, below, few)) small_next)
+          (never_fall_with (whole_value whole now) (whole_value whole next) now next up never)
+
+      by_test : (t : Bool) → nat_lt (whole_value whole next) extent ≡ t
+          → cond t (nat_le (whole_value whole now) (whole_value whole next) && (rounds reads body).steps_up (with counter (whole_value whole now) now) (with counter (whole_value whole next) next)) true ≡ true
+      by_test true e =
+          ap (λ (b : Bool). b && (rounds reads body).steps_up (with counter (whole_value whole now) now) (with counter (whole_value whole next) next)) (is_at_most (whole_value whole now) (whole_value whole next) up)
+          ∙ inner (is_below (whole_value whole next) extent e)
+      by_test false e = refl
+
+  pub leaf_bound : ((reads : Reads) (values : Values) → is_sound reads everywhere all_points made values
+      ≡ cond (nat_lt (whole_value whole values) extent) (is_sound reads everywhere all_points body (with counter (whole_value whole values) values)) true)
+      → IsLeaf body → IsLeaf made
+  leaf_bound sound_is leaf = record {
+    once = λ reads. ap (λ (r : Rounds). r.is_one_store) (made_is reads) ∙ leaf.once reads;
+    steps_up = steps_bound leaf.steps_up;
+    at_once = λ reads values.
+        ap (λ (r : Rounds). r.may_be_at_once values) (made_is reads)
+        ∙ by_test (nat_lt (whole_value whole values) extent) (may_be_at_once reads body (with counter (whole_value whole values) values)) (leaf.at_once reads (with counter (whole_value whole values) values));
+    touches = λ reads values.
+        sound_is reads values
+        ∙ by_test (nat_lt (whole_value whole values) extent) (is_sound reads everywhere all_points body (with counter (whole_value whole values) values)) (leaf.touches reads (with counter (whole_value whole values) values));
+  }
+    where
+      by_test : (test b : Bool) → b ≡ true → cond test b true ≡ true
+      by_test true b is = is
+      by_test false b is = refl
+
+-- the value of a loop that is split, which is exact where counters are small
+pub whole_rises : (func place : ℕ) (split : Split) (extent : ℕ) (whole : Whole)
+    → ((values : Values) → AreSmall (loops_of func values)
+    → whole_value whole values ≡ begin_of split.tail split.factor extent (loops_of func values (ids.Outer place)) + loops_of func values (ids.Inner place))
+    → (now next : Values) → AllAreSmall now → AllAreSmall next → NeverFall now next → whole_value whole now ≤ whole_value whole next
+whole_rises func place split extent whole exact now next small_now small_next never =
+    let outer : Counter = record { func = func; id = ids.Outer place } in
+    let inner : Counter = record { func = func; id = ids.Inner place } in
+    let a = exact now (λ id. small_now (record { func = func; id = id })) in
+    let b = exact next (λ id. small_next (record { func = func; id = id })) in
+    let r = begin_rises split.tail split.factor extent (now outer) (next outer) (never outer) in
+    let i = never inner in
+    omega (arith, a, b, r, i)
 
 data IsFew {A : Type 0} : List A → Type 0 where
   Nothing : IsFew []
@@ -195,11 +270,12 @@ module _ (func : ℕ) (extents : Extents) (splits : List Split) (body leaf : Stm
         ∙ sound_with func leaf body (wholes extents splits []) repeats own.id later (omega (arith, below, few)) values counted reads everywhere (misses_in (listed earlier))
         ∙ by_lists (listed earlier) (listed later) (few_wholes extents splits (loops.with own.id earlier (loops_of func values))) (few_wholes extents splits (loops.with own.id later (loops_of func values))) refl refl
 
-  pub may_be_vectorized : (own : Loop) (outside : List Loop) → loops.counts extents splits own.id < 2 ^ 25 → ((reads : Reads) → (rounds reads body).is_one_store ≡ true)
+  pub may_be_vectorized : (own : Loop) (outside : List Loop) → loops.counts extents splits own.id < 2 ^ 25 → ((reads : Reads) → (rounds reads body).is_one_store ≡ true) → StepsUp body
       → StoreMayBeVectorized func extents splits own outside leaf → MayBeVectorized func (loops.counts extents splits) own outside body
-  may_be_vectorized own outside few once store = record {
+  may_be_vectorized own outside few once steps store = record {
     count = store.count;
     once = once;
+    steps_up = steps;
     apart = λ reads values small are earlier later before below. body_apart own outside few store reads values small are earlier later before below;
   }
 
@@ -212,4 +288,4 @@ nest_at_once func extents splits inside made inner leaf few repeats leaf_is inne
   where
     known : (ls : List Loop) → MayBeUnder func extents splits ls outside leaf → MayBeAround func (loops.counts extents splits) ls outside inner
     known [] is = tt
-    known (own ∷ others) is = (λ e. may_be_vectorized func extents splits inner leaf repeats leaf_is own (others ++ outside) (few own.id) (λ reads. inner_is.once reads) (is.0 e), is.1)
+    known (own ∷ others) is = (λ e. may_be_vectorized func extents splits inner leaf repeats leaf_is own (others ++ outside) (few own.id) (λ reads. inner_is.once reads) inner_is.steps_up (is.0 e), is.1)

@@ -2,7 +2,7 @@
 --
 -- Where the schedule marks a loop so, the loop is the innermost one of its stage.
 -- This project's own.
-use Rattle.std.specs.Prelude.{◌≡◌, ◌<◌, ◌^◌, ◌++◌, ℕ, Bool, true, false, List, [], ◌∷◌}
+use Rattle.std.specs.Prelude.{◌≤◌, ◌≡◌, ◌<◌, ◌^◌, ◌++◌, ℕ, Bool, true, false, List, [], ◌∷◌}
 use Rattle.std.specs.List.{AllByRecursion}
 use Rattle.halide_meaning.specs.Pixel.{Reads}
 use Rattle.schedule_lines.specs.declared.stages.Loop.{Loop}
@@ -25,9 +25,19 @@ AllAreSmall values = (counter : Counter) → values counter < 2 ^ 25
 abbrev pub is_vectorized_loop : Loop → Bool
 is_vectorized_loop own = is_marked marks.Vectorized own
 
--- It stores once at most, has no vectorized loop, and touches points alone.
+-- No counter stands lower in the second than in the first.
+abbrev pub NeverFall : Values → Values → Type 0
+NeverFall now next = (counter : Counter) → now counter ≤ next counter
+
+-- While counters are small and none falls, no value of a split loop falls.
+abbrev pub StepsUp : Stmt → Type 0
+StepsUp statement =
+    (reads : Reads) (now next : Values) → AllAreSmall now → AllAreSmall next → NeverFall now next → (rounds reads statement).steps_up now next ≡ true
+
+-- It stores once at most, no value of a split loop falls, it has no vectorized loop, and touches points alone.
 pub record IsLeaf (statement : Stmt) : Type 0 where
   pub once : (reads : Reads) → (rounds reads statement).is_one_store ≡ true
+  pub steps_up : StepsUp statement
   pub at_once : (reads : Reads) (values : Values) → may_be_at_once reads statement values ≡ true
   pub touches : (reads : Reads) (values : Values) → is_sound reads everywhere all_points statement values ≡ true
 
@@ -40,11 +50,12 @@ MayBeAtOnce func counts outside made =
 abbrev pub LoadsNoneOf : Reads → Stmt → Values → Values → Type 0
 LoadsNoneOf reads body earlier later = is_sound reads everywhere (λ point. is_sound reads (all_but point) all_points body earlier) body later ≡ true
 
--- A body may be vectorized by a loop: there are 4, 8 or 16 rounds, the body stores once at most, and it loads no point at which it stores in
--- an earlier round.
+-- A body may be vectorized by a loop: there are 4, 8 or 16 rounds, the body stores once at most, no value of a split loop falls, and it loads no
+-- point at which it stores in an earlier round.
 pub record MayBeVectorized (func : ℕ) (counts : loops.Values) (own : Loop) (outside : List Loop) (body : Stmt) : Type 0 where
   pub count : is_round_count (counts own.id) ≡ true
   pub once : (reads : Reads) → (rounds reads body).is_one_store ≡ true
+  pub steps_up : StepsUp body
   pub apart : (reads : Reads) (values : Values) → AllAreSmall values → AreTurns counts outside (loops_of func values) → (earlier later : ℕ) → earlier < later → later < counts own.id
       → LoadsNoneOf reads body (with (record { func = func; id = own.id }) earlier values) (with (record { func = func; id = own.id }) later values)
 

@@ -1,6 +1,6 @@
 use Rattle.nest_lowering.proofs.Repeating.{split_repeats}
 use Rattle.loop_ir.specs.Rounds.{everywhere, all_points}
-use Rattle.nest_lowering.proofs.Rounds.{leaf_bound}
+use Rattle.nest_lowering.proofs.Rounds.{leaf_bound, whole_rises}
 use Rattle.nest_lowering.proofs.splits.split_once.Goals as goal
 
 pub returns-clause-repeats : goal.returns-clause-repeats
@@ -9,4 +9,5 @@ returns-clause-repeats c =
 
 pub returns-clause-leaf : goal.returns-clause-leaf
 returns-clause-leaf c =
-    leaf_bound _ c.whole_of-whole.result c.args.extent c.args.body c.in_ok-made.made c.in_ok-made.ensures.rounds (λ reads values. c.in_ok-made.ensures.sound reads everywhere all_points values)
+    leaf_bound _ c.whole_of-whole.result c.args.extent c.args.body c.in_ok-made.made c.in_ok-made.ensures.rounds c.requires.few
+    (whole_rises c.args.func c.args.place c.args.split c.args.extent c.whole_of-whole.result c.whole_of-whole.ensures) (λ reads values. c.in_ok-made.ensures.sound reads everywhere all_points values)
