@@ -169,7 +169,7 @@ module _ (pipeline : Pipeline) (schedule : Schedule) (boxes : Boxes) (rules : Is
       laid = tasks-are-laid pipeline schedule boxes.funcs k (owners_of work) text task hart (omega (arith, number_is, few_harts)) below one_owner (size_fits pipeline schedule boxes is) written loaded touches;
       have = have;
       are_words = λ place x y lx ly. begun.words (sources.Input place) x y lx ly;
-      rows = λ count func x y row address owner there owned. refl;
+      at_once = λ count func x y all address owner there owned. refl;
     }
 
     answers : (funcs : Planes) → AreWords funcs → AnswerWords pipeline.inputs (reads_of inputs funcs)

@@ -1,6 +1,6 @@
 -- Where code runs, and what code of a statement leaves: what the statement does to the buffers, in turns that hang on no buffer.
 -- This project's own.
-use Rattle.std.specs.Prelude.{◌≡◌, ℕ, ◌+◌, ◌<◌, Bool, true, List, length}
+use Rattle.std.specs.Prelude.{◌≡◌, ℕ, ◌<◌, Bool, true, List, length}
 use Rattle.rv_insn.specs.declared.instructions.Insn.{Insn}
 use Rattle.memory.specs.Access.{Word, touched}
 use Rattle.memory.specs.Addresses.{byte_at, AreBytes}
@@ -30,17 +30,17 @@ pub record Setting : Type 0 where
   pub written : Points
   pub loaded : Point → Bool
 
--- One turn may write a row of points that may be written.
-abbrev pub RowsMayBeWritten : Setting → Type 0
-RowsMayBeWritten own = (n func x y : ℕ) → ((k : ℕ) → k < n → own.written func (x + k) y ≡ true)
-    → Keeps own.world (touched (accesses_to Word n (λ k. address_of own.world own.places (func_point func (x + k) y))))
+-- One turn may write several points, if each may be written.
+abbrev pub MayBeWrittenAtOnce : Setting → Type 0
+MayBeWrittenAtOnce own = (n func : ℕ) (x y : ℕ → ℕ) → ((k : ℕ) → k < n → own.written func (x k) (y k) ≡ true)
+    → Keeps own.world (touched (accesses_to Word n (λ k. address_of own.world own.places (func_point func (x k) (y k)))))
 
 pub record IsSetting (own : Setting) : Type 0 where
   pub are_places : ArePlaces own.places
   pub laid : Laid own.world own.places own.written own.loaded
   pub have : Have own.written own.points
   pub are_words : AreWords own.inputs
-  pub rows : RowsMayBeWritten own
+  pub at_once : MayBeWrittenAtOnce own
 
 -- a statement writes and loads what it may, whatever words buffers hold
 abbrev pub SoundIn : Setting → Stmt → Values → Type 0
