@@ -101,8 +101,8 @@ module _ (reads : Reads) (at : ℕ → Values) (i : ℕ) where
   unfolding seen
   family-is e = folds_related Is (family_at reads at) (seen_at reads (at i)) family-level e
 
-module _ (w : World) (harts : ℕ) (m : List ℕ) (group : Group) (places : Places) (scope : List Counter) (moves : List Bool) (at : ℕ → Values) (reads : Reads) (n : ℕ)
-    (l : length m ≡ w.size) (all : ArePlaces places) (some : 1 ≤ n) (go : GoAlong scope moves at n) where
+module _ (w : World) (harts : ℕ) (m : List ℕ) (group : Group) (places : Places) (scope : List Counter) (strides : List ℕ) (at : ℕ → Values) (reads : Reads) (n : ℕ)
+    (l : length m ≡ w.size) (all : ArePlaces places) (some : 1 ≤ n) (go : GoAlong scope strides at n) where
   abbrev g : ℕ
   g = registers group
 
@@ -195,7 +195,7 @@ module _ (w : World) (harts : ℕ) (m : List ℕ) (group : Group) (places : Plac
       (make b.after (known-still a.after b.after (k + 1) ka b.keeps) (has-still a.after b.after (k + 1) ha b.keeps)
       (λ i lt. b.keeps (lane (slot group k) i) (slot-kept w m l group n k lies.first i lt few) ∙ a.value i lt) b.value)
 
-  one-level : (y : Expr-F (Both Evaluates)) → One (laned_at group places scope moves (left_of Evaluates y)) (family_at reads at (right_of Evaluates y))
+  one-level : (y : Expr-F (Both Evaluates)) → One (laned_at group places scope strides (left_of Evaluates y)) (family_at reads at (right_of Evaluates y))
   unfolding family_at
   one-level (layer.Number x) = one.level w harts m places scope (at 0) reads l all (layer.Number x)
   one-level (layer.Linear own) = one.level w harts m places scope (at 0) reads l all (layer.Linear own)
@@ -236,15 +236,15 @@ module _ (w : World) (harts : ℕ) (m : List ℕ) (group : Group) (places : Plac
   unfolding linear_value
   linear-small own i = word-small _
 
-  linear-code : (own : Linear) → is_linear own ≡ true → Code (λ k. linear_code scope own 20 ++ stepped (step_word scope moves own) (slot group k)) (has_slot group) (λ i. linear_value (at i) own)
+  linear-code : (own : Linear) → is_linear own ≡ true → Code (λ k. linear_code scope own 20 ++ stepped (step_word scope strides own) (slot group k)) (has_slot group) (λ i. linear_value (at i) own)
   unfolding family_at
   linear-code own is k f fits knows has =
       let lies = slot-lies group k (is-below k (slots group) fits) in
       let c = one-level (layer.Linear own) is tt in
       let a = c.leaves 20 f (inr (omega arith)) (omega arith) knows in
       let has1 = lanes-kept w m l group n f a.after (a.keeps vl_number (inr (omega arith), inr (inr (omega arith)))) (a.keeps 33 (inr (omega arith), inr (inr (omega arith)))) has in
-      let b = stepped-leaves w m l group n k lies a.after (linear_value (at 0) own) (step_word scope moves own) has1 a.value (linear-small own 0) (word-small _) in
-      value-first w m l group n k lies a (omega arith) (same-values w m l group n k lies (λ i lt. sym (linear-goes scope moves at n go own i lt)) b)
+      let b = stepped-leaves w m l group n k lies a.after (linear_value (at 0) own) (step_word scope strides own) has1 a.value (linear-small own 0) (word-small _) in
+      value-first w m l group n k lies a (omega arith) (same-values w m l group n k lies (λ i lt. sym (linear-goes scope strides at n go own i lt)) b)
 
   beside : {js ks : List Insn} {f : ℕ → ℕ} {k j : ℕ} {y z : ℕ → ℕ} → slot group k ≤ slot group j → (b : Leaves w m l group n js f j y) → Leaves w m l group n ks b.after k z → Leaves w m l group n (js ++ ks) f k z
   beside {js} {ks} {f} {k} {j} {y} {z} above b c = record {
@@ -340,12 +340,12 @@ module _ (w : World) (harts : ℕ) (m : List ℕ) (group : Group) (places : Plac
   word-below : (x : ℕ) → nat_lt x (2 ^ 32) ≡ true → x < 2 ^ 32
   word-below x t = is-below x (2 ^ 32) t
 
-  rounds-level : (y : Expr-F (Both Evaluates)) → Rounds (laned_at group places scope moves (left_of Evaluates y)) (family_at reads at (right_of Evaluates y))
+  rounds-level : (y : Expr-F (Both Evaluates)) → Rounds (laned_at group places scope strides (left_of Evaluates y)) (family_at reads at (right_of Evaluates y))
   unfolding family_at
   rounds-level (layer.Number x) is loaded = record { small = λ i lt. word-below x is; paced = λ i lt. refl; leaves = number-code x (word-below x is) }
   rounds-level (layer.Linear own) is loaded = record {
     small = λ i lt. linear-small own i;
-    paced = step-holds n (step_word scope moves own) (λ i. linear_value (at i) own) (linear-small own 0) (λ i lt. linear-goes scope moves at n go own i lt);
+    paced = step-holds n (step_word scope strides own) (λ i. linear_value (at i) own) (linear-small own 0) (λ i lt. linear-goes scope strides at n go own i lt);
     leaves = linear-code own is;
   }
   rounds-level (layer.Binary o a b) is loaded =
@@ -432,7 +432,7 @@ module _ (w : World) (harts : ℕ) (m : List ℕ) (group : Group) (places : Plac
       by-test true pixel k f a b e = a refl
       by-test false pixel k f a b e = b e
 
-  slot-level : (y : Expr-F (Both Evaluates)) (k : ℕ) → (laned_at group places scope moves (left_of Evaluates y)).fits k ≡ true → k < slots group
+  slot-level : (y : Expr-F (Both Evaluates)) (k : ℕ) → (laned_at group places scope strides (left_of Evaluates y)).fits k ≡ true → k < slots group
   slot-level (layer.Number x) k fits = is-below k (slots group) fits
   slot-level (layer.Linear own) k fits = is-below k (slots group) fits
   slot-level (layer.Binary o a b) k fits = is-below k (slots group) (and_parts (has_slot group k) _ fits).0
@@ -441,18 +441,18 @@ module _ (w : World) (harts : ℕ) (m : List ℕ) (group : Group) (places : Plac
   slot-level (layer.Select c a b) k fits = is-below k (slots group) (and_parts (has_slot group k) _ fits).0
   slot-level (layer.Load source x y) k fits = is-below k (slots group) (and_parts (has_slot group k) _ fits).0
 
-  level : (y : Expr-F (Both Evaluates)) → Evaluates (laned_at group places scope moves (left_of Evaluates y)) (family_at reads at (right_of Evaluates y))
+  level : (y : Expr-F (Both Evaluates)) → Evaluates (laned_at group places scope strides (left_of Evaluates y)) (family_at reads at (right_of Evaluates y))
   level y = record { of_one = one-level y; of_all = rounds-level y; slot_is = slot-level y }
 
-  evaluates : (e : Expr) → Evaluates (laned group places scope moves e) (fold-Expr Family (family_at reads at) e)
+  evaluates : (e : Expr) → Evaluates (laned group places scope strides e) (fold-Expr Family (family_at reads at) e)
   unfolding laned
-  evaluates e = folds_related Evaluates (laned_at group places scope moves) (family_at reads at) level e
+  evaluates e = folds_related Evaluates (laned_at group places scope strides) (family_at reads at) level e
 
 pub lanes-leave : LanesLeave
-lanes-leave w harts m group places scope moves at reads n l all some go e k fits is loaded f knows has =
-    let own = laned group places scope moves e in
+lanes-leave w harts m group places scope strides at reads n l all some go e k fits is loaded f knows has =
+    let own = laned group places scope strides e in
     let s = fold-Expr Family (family_at reads at) e in
-    let c = (evaluates w harts m group places scope moves at reads n l all some go e).of_all (ap (λ x. x.is_word) (own-is group places scope moves e) ∙ is)
+    let c = (evaluates w harts m group places scope strides at reads n l all some go e).of_all (ap (λ x. x.is_word) (own-is group places scope strides e) ∙ is)
     (λ i lt. subst (λ (x : Seen). AllByRecursion (Loads w places m reads) x.points) (sym (family-is reads at i e)) (loaded i lt)) in
     let a = c.leaves k f fits knows has in
     record {
@@ -469,24 +469,24 @@ holds-same paces.Steady n v u some same h = λ i l. sym (same i l) ∙ h i l ∙
 holds-same paces.Stepping n v u some same h = λ i l. sym (same i l) ∙ h i l ∙ ap (λ x. (x + i) % 2 ^ 32) (same 0 some)
 holds-same paces.Irregular n v u some same h = tt
 
-module _ (w : World) (harts : ℕ) (m : List ℕ) (group : Group) (places : Places) (scope : List Counter) (moves : List Bool) (at : ℕ → Values) (reads : Reads) (n : ℕ)
-    (l : length m ≡ w.size) (all : ArePlaces places) (some : 1 ≤ n) (go : GoAlong scope moves at n) (e : Expr) where
-  pub slot-there : (k : ℕ) → (laned group places scope moves e).fits k ≡ true → k < slots group
-  slot-there = (evaluates w harts m group places scope moves at reads n l all some go e).slot_is
+module _ (w : World) (harts : ℕ) (m : List ℕ) (group : Group) (places : Places) (scope : List Counter) (strides : List ℕ) (at : ℕ → Values) (reads : Reads) (n : ℕ)
+    (l : length m ≡ w.size) (all : ArePlaces places) (some : 1 ≤ n) (go : GoAlong scope strides at n) (e : Expr) where
+  pub slot-there : (k : ℕ) → (laned group places scope strides e).fits k ≡ true → k < slots group
+  slot-there = (evaluates w harts m group places scope strides at reads n l all some go e).slot_is
 
   -- they are words, and go along with the rounds as their pace says
   pub record Go : Type 0 where
     pub small : (i : ℕ) → i < n → value reads (at i) e < 2 ^ 32
-    pub paced : Holds (pace_of scope moves e) n (λ i. value reads (at i) e)
+    pub paced : Holds (pace_of scope strides e) n (λ i. value reads (at i) e)
 
   pub values-go : (one_round places scope e).is_word ≡ true → ((i : ℕ) → i < n → AllByRecursion (Loads w places m reads) (loads reads (at i) e)) → Go
   values-go is loaded =
       let s = fold-Expr Family (family_at reads at) e in
-      let c = (evaluates w harts m group places scope moves at reads n l all some go e).of_all (ap (λ x. x.is_word) (own-is group places scope moves e) ∙ is)
+      let c = (evaluates w harts m group places scope strides at reads n l all some go e).of_all (ap (λ x. x.is_word) (own-is group places scope strides e) ∙ is)
       (λ i lt. subst (λ (x : Seen). AllByRecursion (Loads w places m reads) x.points) (sym (family-is reads at i e)) (loaded i lt)) in
       let same : (i : ℕ) → (s i).value ≡ value reads (at i) e = λ i. ap (λ (x : Seen). x.value) (family-is reads at i e) ∙ values_are_seen reads (at i) e in
       record {
         small = λ i lt. subst (λ x. x < 2 ^ 32) (same i) (c.small i lt);
-        paced = subst (λ p. Holds p n (λ i. value reads (at i) e)) (pace-is group places scope moves e)
-            (holds-same (laned group places scope moves e).pace n (λ i. (s i).value) (λ i. value reads (at i) e) some (λ i lt. same i) c.paced);
+        paced = subst (λ p. Holds p n (λ i. value reads (at i) e)) (pace-is group places scope strides e)
+            (holds-same (laned group places scope strides e).pace n (λ i. (s i).value) (λ i. value reads (at i) e) some (λ i lt. same i) c.paced);
       }

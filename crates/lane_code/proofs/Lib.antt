@@ -1,6 +1,7 @@
 pub mod Emission
 pub mod Evaluation
 pub mod LanedParts
+pub mod Offsets
 pub mod Operations
 pub mod Pacing
 pub mod Points

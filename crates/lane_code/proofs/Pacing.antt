@@ -1,6 +1,6 @@
 -- How values go along with the rounds.
-use Rattle.std.proofs.Common.{◌≡◌, ℕ, suc, ◌+◌, ◌-◌, ◌*◌, ◌%◌, ◌^◌, ◌<◌, ◌≤◌, List, [], ◌∷◌, length, get_or, Bool, true, false, ap, ◌∙◌, sym, arith, inl, inr}
-use Rattle.std.specs.Prelude.{◌==◌, if◌then◌else◌, take, drop}
+use Rattle.std.proofs.Common.{◌≡◌, ℕ, suc, ◌+◌, ◌-◌, ◌*◌, ◌%◌, ◌^◌, ◌<◌, ◌≤◌, List, [], ◌∷◌, length, get_or, true, false, ap, ◌∙◌, sym, arith, inl, inr}
+use Rattle.std.specs.Prelude.{◌==◌, take, drop}
 use Rattle.std.proofs.lemmas.Nat.{mul-mod_second}
 use Rattle.std.proofs.Math.Seq.{take-length}
 use Rattle.std.proofs.lemmas.Bool.{cases_eq}
@@ -15,7 +15,7 @@ use Rattle.loop_ir.specs.Counters.{Values}
 use Rattle.loop_ir.specs.Expressions.{sum_of, linear_value}
 use Rattle.lane_code.specs.declared.values.Pace.{Pace}
 use Rattle.lane_code.specs.declared.values.Pace.TheVariants as paces
-use Rattle.lane_code.specs.Lanes.{is_moving, step_of, step_word, pace_of_step, both_steady, sum_pace, difference_pace, operation_pace}
+use Rattle.lane_code.specs.Lanes.{stride_of, step_of, step_word, pace_of_step, both_steady, sum_pace, difference_pace, operation_pace}
 use Rattle.lane_code.specs.Leaving.{GoAlong}
 
 -- ---- products and remainders
@@ -28,36 +28,35 @@ rest-times i s = mul-mod_second i s (2 ^ 32)
 
 -- ---- sums of counters
 
-moved : (t : Bool) (a i s : ℕ) → (a + (if t then i else 0)) * s ≡ a * s + i * (if t then s else 0)
-moved true a i s = spread a i s
-moved false a i s = let e : a + 0 ≡ a = omega arith in let z : i * 0 ≡ 0 = omega arith in ap (λ b. b * s) e ∙ (let p = a * s in omega (arith, z))
+moved : (a i t s : ℕ) → (a + i * t) * s ≡ a * s + i * (t * s)
+moved a i t s = grind arith
 
 gathered : (a b i s t : ℕ) → a + i * s + (b + i * t) ≡ a + b + i * (s + t)
 gathered a b i s t = grind arith
 
-pub sum-goes : (scope : List Counter) (moves : List Bool) (at : ℕ → Values) (n : ℕ) → GoAlong scope moves at n → (terms : List Term) (i : ℕ) → i < n
-    → sum_of (at i) terms ≡ sum_of (at 0) terms + i * step_of scope moves terms
-sum-goes scope moves at n go [] i l = omega arith
-sum-goes scope moves at n go (first ∷ others) i l =
+pub sum-goes : (scope : List Counter) (strides : List ℕ) (at : ℕ → Values) (n : ℕ) → GoAlong scope strides at n → (terms : List Term) (i : ℕ) → i < n
+    → sum_of (at i) terms ≡ sum_of (at 0) terms + i * step_of scope strides terms
+sum-goes scope strides at n go [] i l = omega arith
+sum-goes scope strides at n go (first ∷ others) i l =
     let c = first.counter in
     let s = first.stride in
-    let t = is_moving scope moves c in
+    let t = stride_of scope strides c in
     ap (λ x. x * s + sum_of (at i) others) (go i l c)
-    ∙ ap (λ x. x + sum_of (at i) others) (moved t (at 0 c) i s)
-    ∙ ap (λ x. at 0 c * s + i * (if t then s else 0) + x) (sum-goes scope moves at n go others i l)
-    ∙ gathered (at 0 c * s) (sum_of (at 0) others) i (if t then s else 0) (step_of scope moves others)
+    ∙ ap (λ x. x + sum_of (at i) others) (moved (at 0 c) i t s)
+    ∙ ap (λ x. at 0 c * s + i * (t * s) + x) (sum-goes scope strides at n go others i l)
+    ∙ gathered (at 0 c * s) (sum_of (at 0) others) i (t * s) (step_of scope strides others)
 
 further : (v p q : ℕ) → p % 2 ^ 32 ≡ q % 2 ^ 32 → (v + p) % 2 ^ 32 ≡ (v % 2 ^ 32 + q) % 2 ^ 32
 further v p q e = omega (arith, e)
 
 -- a sum in a round is the first round's and so many steps
-pub linear-goes : (scope : List Counter) (moves : List Bool) (at : ℕ → Values) (n : ℕ) → GoAlong scope moves at n → (own : Linear) (i : ℕ) → i < n
-    → linear_value (at i) own ≡ (linear_value (at 0) own + i * step_word scope moves own) % 2 ^ 32
+pub linear-goes : (scope : List Counter) (strides : List ℕ) (at : ℕ → Values) (n : ℕ) → GoAlong scope strides at n → (own : Linear) (i : ℕ) → i < n
+    → linear_value (at i) own ≡ (linear_value (at 0) own + i * step_word scope strides own) % 2 ^ 32
 unfolding linear_value
-linear-goes scope moves at n go own i l =
-    let s = step_of scope moves own.terms in
+linear-goes scope strides at n go own i l =
+    let s = step_of scope strides own.terms in
     let a : own.number + (sum_of (at 0) own.terms + i * s) ≡ own.number + sum_of (at 0) own.terms + i * s = omega arith in
-    ap (λ x. (own.number + x) % 2 ^ 32) (sum-goes scope moves at n go own.terms i l)
+    ap (λ x. (own.number + x) % 2 ^ 32) (sum-goes scope strides at n go own.terms i l)
     ∙ ap (λ x. x % 2 ^ 32) a
     ∙ further (own.number + sum_of (at 0) own.terms) (i * s) (i * (s % 2 ^ 32)) (sym (rest-times i s))
 
@@ -124,17 +123,19 @@ operation-hold op.Equal a b n x y hx hy small = both-hold a b n (word.applied op
 operation-hold op.NotEqual a b n x y hx hy small = both-hold a b n (word.applied op.NotEqual) x y hx hy
 
 -- a sum modulo 2^32, as code makes it
-pub step-moves : (own rest step : ℕ) → rest ≡ step % 2 ^ 32 → word.add own rest ≡ (own + step) % 2 ^ 32
+pub step-moves : (own rest product step : ℕ) → own ≡ product % 2 ^ 32 → rest ≡ step % 2 ^ 32 → word.add own rest ≡ (product + step) % 2 ^ 32
 unfolding word.add
-step-moves own rest step e = omega (arith, e)
+step-moves own rest product step o e = omega (arith, o, e)
 
 -- of a list of terms that isn't empty, as code takes it apart
-pub step-taken : (scope : List Counter) (moves : List Bool) (terms : List Term) (other : Term) (own rest result : ℕ) (t : Bool) → 1 ≤ length terms
-    → t ≡ is_moving scope moves (get_or terms 0 other).counter → own ≡ (if t then (get_or terms 0 other).stride else 0)
-    → rest ≡ step_of scope moves (take (length terms - 1) (drop 1 terms)) % 2 ^ 32 → result ≡ word.add own rest → result ≡ step_of scope moves terms % 2 ^ 32
-step-taken scope moves [] other own rest result t some et eo er e = absurd (omega (arith, some))
-step-taken scope moves (first ∷ terms) other own rest result t some et eo er e =
+pub step-taken : (scope : List Counter) (strides : List ℕ) (terms : List Term) (other : Term) (own rest result t : ℕ) → 1 ≤ length terms
+    → t ≡ stride_of scope strides (get_or terms 0 other).counter → own ≡ word.multiply t (get_or terms 0 other).stride
+    → rest ≡ step_of scope strides (take (length terms - 1) (drop 1 terms)) % 2 ^ 32 → result ≡ word.add own rest → result ≡ step_of scope strides terms % 2 ^ 32
+unfolding word.multiply
+step-taken scope strides [] other own rest result t some et eo er e = absurd (omega (arith, some))
+step-taken scope strides (first ∷ terms) other own rest result t some et eo er e =
     let n : suc (length terms) - 1 ≡ length terms = omega arith in
     let left : take (suc (length terms) - 1) terms ≡ terms = ap (λ (k : ℕ). take k terms) n ∙ take-length terms in
-    let er' : rest ≡ step_of scope moves terms % 2 ^ 32 = er ∙ ap (λ ts. step_of scope moves ts % 2 ^ 32) left in
-    e ∙ step-moves own rest (step_of scope moves terms) er' ∙ ap (λ x. (x + step_of scope moves terms) % 2 ^ 32) (eo ∙ ap (λ z. if z then first.stride else 0) et)
+    let er' : rest ≡ step_of scope strides terms % 2 ^ 32 = er ∙ ap (λ ts. step_of scope strides ts % 2 ^ 32) left in
+    let eo' : own ≡ (stride_of scope strides first.counter * first.stride) % 2 ^ 32 = eo ∙ ap (λ z. (z * first.stride) % 2 ^ 32) et in
+    e ∙ step-moves own rest (stride_of scope strides first.counter * first.stride) (step_of scope strides terms) eo' er'

@@ -1,8 +1,8 @@
 -- The code of expressions over lanes: the values of an expression in all rounds of a loop at once, a lane for each.
 --
--- Scalar registers hold what counters stand at in the first round. A counter moves if each round takes it one further; all others stay.
+-- Scalar registers hold what counters stand at in the first round. A counter strides if each round takes it one further; all others stay.
 -- This project's own.
-use Rattle.std.specs.Prelude.{ℕ, ◌+◌, ◌-◌, ◌%◌, ◌^◌, ◌==◌, ◌&&◌, Bool, true, false, nat_le, nat_lt, if◌then◌else◌, List, [], ◌∷◌, ◌++◌, pos, negsuc}
+use Rattle.std.specs.Prelude.{ℕ, ◌+◌, ◌-◌, ◌%◌, ◌^◌, ◌==◌, ◌&&◌, Bool, true, false, nat_le, nat_lt, if◌then◌else◌, List, [], ◌∷◌, ◌++◌, pos, negsuc, ◌*◌}
 use Rattle.rv_insn.specs.declared.instructions.Insn.{Insn}
 use Rattle.rv_insn.specs.declared.instructions.Insn.TheVariants.{Alu, Vector}
 use Rattle.rv_insn.specs.declared.operations.AluOp.TheVariants as alus
@@ -39,19 +39,19 @@ use Rattle.lane_code.specs.Groups.{slots, spare, slot}
 
 -- ---- how values go along with the rounds
 
--- of a counter among these, of which the latest stands first; of those outside the loop nothing is listed
-abbrev pub is_moving : List Counter → List Bool → Counter → Bool
-is_moving [] moves counter = false
-is_moving (latest ∷ others) [] counter = false
-is_moving (latest ∷ others) (move ∷ moves) counter = if same_counter counter latest then move else is_moving others moves counter
+-- how much further each round takes a counter among these, of which the latest stands first; of those outside the loop nothing is listed
+abbrev pub stride_of : List Counter → List ℕ → Counter → ℕ
+stride_of [] strides counter = 0
+stride_of (latest ∷ others) [] counter = 0
+stride_of (latest ∷ others) (stride ∷ strides) counter = if same_counter counter latest then stride else stride_of others strides counter
 
 -- how much further each round takes a sum of counters
-abbrev pub step_of : List Counter → List Bool → List Term → ℕ
-step_of scope moves [] = 0
-step_of scope moves (first ∷ others) = (if is_moving scope moves first.counter then first.stride else 0) + step_of scope moves others
+abbrev pub step_of : List Counter → List ℕ → List Term → ℕ
+step_of scope strides [] = 0
+step_of scope strides (first ∷ others) = stride_of scope strides first.counter * first.stride + step_of scope strides others
 
-abbrev pub step_word : List Counter → List Bool → Linear → ℕ
-step_word scope moves own = step_of scope moves own.terms % 2 ^ 32
+abbrev pub step_word : List Counter → List ℕ → Linear → ℕ
+step_word scope strides own = step_of scope strides own.terms % 2 ^ 32
 
 abbrev pub pace_of_step : ℕ → Pace
 pace_of_step step = if step == 0 then paces.Steady else (if step == 1 then paces.Stepping else paces.Irregular)
@@ -88,17 +88,17 @@ operation_pace op.GreaterOrEqual a b = both_steady a b
 operation_pace op.Equal a b = both_steady a b
 operation_pace op.NotEqual a b = both_steady a b
 
-abbrev pub pace_at : List Counter → List Bool → Expr-F Pace → Pace
-pace_at scope moves (layer.Number n) = paces.Steady
-pace_at scope moves (layer.Linear own) = pace_of_step (step_word scope moves own)
-pace_at scope moves (layer.Binary o a b) = operation_pace o a b
-pace_at scope moves (layer.Divide a c) = both_steady a a
-pace_at scope moves (layer.Remainder a c) = both_steady a a
-pace_at scope moves (layer.Select c a b) = both_steady c (both_steady a b)
-pace_at scope moves (layer.Load source x y) = both_steady x y
+abbrev pub pace_at : List Counter → List ℕ → Expr-F Pace → Pace
+pace_at scope strides (layer.Number n) = paces.Steady
+pace_at scope strides (layer.Linear own) = pace_of_step (step_word scope strides own)
+pace_at scope strides (layer.Binary o a b) = operation_pace o a b
+pace_at scope strides (layer.Divide a c) = both_steady a a
+pace_at scope strides (layer.Remainder a c) = both_steady a a
+pace_at scope strides (layer.Select c a b) = both_steady c (both_steady a b)
+pace_at scope strides (layer.Load source x y) = both_steady x y
 
-unfoldable pub pace_of : List Counter → List Bool → Expr → Pace
-pace_of scope moves e = fold-Expr Pace (pace_at scope moves) e
+unfoldable pub pace_of : List Counter → List ℕ → Expr → Pace
+pace_of scope strides e = fold-Expr Pace (pace_at scope strides) e
 
 abbrev pub is_steady : Pace → Bool
 is_steady paces.Steady = true
@@ -175,12 +175,15 @@ based place =
     literal scratch place.start
     ++ (literal second_scratch place.distance ++ (Alu alus.Mul second_scratch second_scratch 10 ∷ Alu alus.Add scratch scratch second_scratch ∷ []))
 
--- each lane of r becomes the pixel at that column and at the row in the lane of s
-abbrev pub gathered : Place → ℕ → ℕ → List Insn
-gathered place r s =
+-- each lane of r becomes how far the pixel at that column and at the row in the lane of s lies from the first one, whose address is in scratch
+abbrev pub offsets : Place → ℕ → ℕ → List Insn
+offsets place r s =
     literal scratch place.width
-    ++ (Vector (v.MultiplyVx multiplies.Vmul s s scratch true) ∷ Vector (v.ArithmeticVv vvs.Vadd r r s true) ∷ Vector (v.ShiftVi shifts.Vsll r r 2 true) ∷ (based place
-    ++ (Vector (v.LoadElements Bits32 r scratch (addressings.Indexed r) true) ∷ [])))
+    ++ (Vector (v.MultiplyVx multiplies.Vmul s s scratch true) ∷ Vector (v.ArithmeticVv vvs.Vadd r r s true) ∷ Vector (v.ShiftVi shifts.Vsll r r 2 true) ∷ based place)
+
+-- each lane of r becomes the pixel there
+abbrev pub gathered : Place → ℕ → ℕ → List Insn
+gathered place r s = offsets place r s ++ (Vector (v.LoadElements Bits32 r scratch (addressings.Indexed r) true) ∷ [])
 
 -- ---- expressions
 
@@ -213,25 +216,25 @@ fits_by group places (layer.Select c a b) k = has_slot group k && (c.fits k && (
 fits_by group places (layer.Load source x y) k =
     has_slot group k && (are_words (place_of places source).pixels && (if is_dense x y then true else x.fits k && y.fits (k + 1)))
 
-abbrev pub lanes_by : Group → Places → List Counter → List Bool → Expr-F Laned → ℕ → List Insn
-lanes_by group places scope moves (layer.Number n) k = literal scratch n ++ (Vector (v.MoveVx (slot group k) scratch) ∷ [])
-lanes_by group places scope moves (layer.Linear sum) k = linear_code scope sum bottom ++ stepped (step_word scope moves sum) (slot group k)
-lanes_by group places scope moves (layer.Binary o a b) k = a.code k ++ (b.code (k + 1) ++ lanes_operation o (slot group k) (slot group (k + 1)))
-lanes_by group places scope moves (layer.Divide a c) k = a.code k ++ lanes_quotient c (slot group k) (spare group)
-lanes_by group places scope moves (layer.Remainder a c) k = a.code k ++ lanes_remainder c (slot group k) (spare group)
-lanes_by group places scope moves (layer.Select c a b) k =
+abbrev pub lanes_by : Group → Places → List Counter → List ℕ → Expr-F Laned → ℕ → List Insn
+lanes_by group places scope strides (layer.Number n) k = literal scratch n ++ (Vector (v.MoveVx (slot group k) scratch) ∷ [])
+lanes_by group places scope strides (layer.Linear sum) k = linear_code scope sum bottom ++ stepped (step_word scope strides sum) (slot group k)
+lanes_by group places scope strides (layer.Binary o a b) k = a.code k ++ (b.code (k + 1) ++ lanes_operation o (slot group k) (slot group (k + 1)))
+lanes_by group places scope strides (layer.Divide a c) k = a.code k ++ lanes_quotient c (slot group k) (spare group)
+lanes_by group places scope strides (layer.Remainder a c) k = a.code k ++ lanes_remainder c (slot group k) (spare group)
+lanes_by group places scope strides (layer.Select c a b) k =
     c.code k ++ (a.code (k + 1) ++ (b.code (k + 2) ++ lanes_selection (slot group k) (slot group (k + 1)) (slot group (k + 2))))
-lanes_by group places scope moves (layer.Load source x y) k =
+lanes_by group places scope strides (layer.Load source x y) k =
     if is_dense x y then x.own.code bottom ++ (y.own.code (bottom + 1) ++ dense (place_of places source) (slot group k))
     else x.code k ++ (y.code (k + 1) ++ gathered (place_of places source) (slot group k) (slot group (k + 1)))
 
-abbrev pub laned_at : Group → Places → List Counter → List Bool → Expr-F Laned → Laned
-laned_at group places scope moves e = record {
+abbrev pub laned_at : Group → Places → List Counter → List ℕ → Expr-F Laned → Laned
+laned_at group places scope strides e = record {
   own = made_at places scope (map-Expr Laned Made (λ part. part.own) e);
-  pace = pace_at scope moves (map-Expr Laned Pace (λ part. part.pace) e);
+  pace = pace_at scope strides (map-Expr Laned Pace (λ part. part.pace) e);
   fits = fits_by group places e;
-  code = lanes_by group places scope moves e;
+  code = lanes_by group places scope strides e;
 }
 
-unfoldable pub laned : Group → Places → List Counter → List Bool → Expr → Laned
-laned group places scope moves e = fold-Expr Laned (laned_at group places scope moves) e
+unfoldable pub laned : Group → Places → List Counter → List ℕ → Expr → Laned
+laned group places scope strides e = fold-Expr Laned (laned_at group places scope strides) e

@@ -1,5 +1,5 @@
 -- What the code of an expression over lanes leaves, wherever it stands: the expression's value in each round. This project's own.
-use Rattle.std.specs.Prelude.{◌≡◌, ◌<◌, ◌≤◌, ◌⊎◌, ℕ, ◌+◌, ◌*◌, Bool, true, if◌then◌else◌, List, length}
+use Rattle.std.specs.Prelude.{◌≡◌, ◌<◌, ◌≤◌, ◌⊎◌, ℕ, ◌+◌, ◌*◌, true, List, length}
 use Rattle.std.specs.List.{AllByRecursion}
 use Rattle.rv_insn.specs.declared.instructions.Insn.{Insn}
 use Rattle.halide_meaning.specs.Pixel.{Reads}
@@ -14,12 +14,12 @@ use Rattle.scalar_code.specs.Code.{made}
 use Rattle.scalar_code.specs.Evaluation.{Knows, ArePlaces, Loads}
 use Rattle.lane_code.specs.declared.groups.Group.{Group}
 use Rattle.lane_code.specs.Groups.{registers, slot}
-use Rattle.lane_code.specs.Lanes.{is_moving, laned}
+use Rattle.lane_code.specs.Lanes.{stride_of, laned}
 
--- Each round takes the counters that move one further, and leaves the others.
-abbrev pub GoAlong : List Counter → List Bool → (ℕ → Values) → ℕ → Type 0
-GoAlong scope moves at rounds =
-    (round : ℕ) → round < rounds → (counter : Counter) → at round counter ≡ at 0 counter + (if is_moving scope moves counter then round else 0)
+-- Each round takes counters their strides further.
+abbrev pub GoAlong : List Counter → List ℕ → (ℕ → Values) → ℕ → Type 0
+GoAlong scope strides at rounds =
+    (round : ℕ) → round < rounds → (counter : Counter) → at round counter ≡ at 0 counter + round * stride_of scope strides counter
 
 -- lanes of 32 bits are configured in such groups, one for each round
 pub record HasLanes (group : Group) (rounds : ℕ) (f : ℕ → ℕ) : Type 0 where
@@ -41,9 +41,9 @@ pub record LeavesLanes (world : World) (memory : List ℕ) (group : Group) (roun
 
 -- Scalar registers hold what counters stand at in the first round, and memory what each round loads.
 abbrev pub LanesLeave : Type 0
-LanesLeave = (world : World) (harts : ℕ) (memory : List ℕ) (group : Group) (places : Places) (scope : List Counter) (moves : List Bool) (at : ℕ → Values) (reads : Reads) (rounds : ℕ)
-    → length memory ≡ world.size → ArePlaces places → 1 ≤ rounds → GoAlong scope moves at rounds
-    → (e : Expr) (k : ℕ) → (laned group places scope moves e).fits k ≡ true → (made places scope e).is_word ≡ true
+LanesLeave = (world : World) (harts : ℕ) (memory : List ℕ) (group : Group) (places : Places) (scope : List Counter) (strides : List ℕ) (at : ℕ → Values) (reads : Reads) (rounds : ℕ)
+    → length memory ≡ world.size → ArePlaces places → 1 ≤ rounds → GoAlong scope strides at rounds
+    → (e : Expr) (k : ℕ) → (laned group places scope strides e).fits k ≡ true → (made places scope e).is_word ≡ true
     → ((round : ℕ) → round < rounds → AllByRecursion (Loads world places memory reads) (loads reads (at round) e))
     → (f : ℕ → ℕ) → Knows world harts scope (at 0) f → HasLanes group rounds f
-    → LeavesLanes world memory group rounds ((laned group places scope moves e).code k) f k (λ round. value reads (at round) e)
+    → LeavesLanes world memory group rounds ((laned group places scope strides e).code k) f k (λ round. value reads (at round) e)

@@ -40,40 +40,34 @@ pub enum Pace {
 
 // ---- paces
 
-/// Whether a counter moves; `moves` tells it of the latest counters, `scope` has them and those outside of the loop.
-pub fn is_moving(scope: &[Counter], moves: &[bool], counter: Counter) -> bool
-    ensures { result ≡ spec.is_moving scope.now moves.now counter }
+/// How much further each round takes a counter; `strides` has that of the latest counters, `scope` these and those outside of the loop.
+pub fn stride_of(scope: &[Counter], strides: &[u32], counter: Counter) -> u32
+    ensures { result ≡ spec.stride_of scope.now strides.now counter }
 {
     match scope {
-        [] => false,
-        [latest, others @ ..] => match moves {
-            [] => false,
+        [] => 0,
+        [latest, others @ ..] => match strides {
+            [] => 0,
             [first, rest @ ..] => {
                 if same_counter(counter, *latest) {
                     *first
                 } else {
-                    is_moving(others, rest, counter)
+                    stride_of(others, rest, counter)
                 }
             }
         },
     }
 }
 
-fn stride_of(moving: bool, stride: u32) -> u32
-    ensures { result ≡ (if moving then stride else 0) }
-{
-    if moving { stride } else { 0 }
-}
-
 /// How much further each round takes a sum, modulo 2^32.
-fn step_of(scope: &[Counter], moves: &[bool], terms: &[Term]) -> u32
-    ensures { result ≡ spec.step_of scope.now moves.now terms.now % 2 ^ 32 }
+fn step_of(scope: &[Counter], strides: &[u32], terms: &[Term]) -> u32
+    ensures { result ≡ spec.step_of scope.now strides.now terms.now % 2 ^ 32 }
 {
     match terms {
         [] => 0,
         [first, others @ ..] => {
-            let own = stride_of(is_moving(scope, moves, first.counter), first.stride);
-            words::add(own, step_of(scope, moves, others))
+            let own = words::multiply(stride_of(scope, strides, first.counter), first.stride);
+            words::add(own, step_of(scope, strides, others))
         }
     }
 }
@@ -148,32 +142,32 @@ fn operation_pace(operation: Operation, a: Pace, b: Pace) -> Pace
 
 /// How an expression's values go along with the rounds.
 #[tactic(auto, unfolding(crate::specs::Lanes::pace_of))]
-pub fn pace_of(scope: &[Counter], moves: &[bool], e: &Expr) -> Pace
-    ensures { result ≡ spec.pace_of scope.now moves.now e.now }
+pub fn pace_of(scope: &[Counter], strides: &[u32], e: &Expr) -> Pace
+    ensures { result ≡ spec.pace_of scope.now strides.now e.now }
 {
     match e {
         Expr::Number(_) => Pace::Steady,
-        Expr::Linear(own) => pace_of_step(step_of(scope, moves, own.terms.as_slice())),
+        Expr::Linear(own) => pace_of_step(step_of(scope, strides, own.terms.as_slice())),
         Expr::Binary(operation, a, b) => {
-            let first = pace_of(scope, moves, a.get());
-            operation_pace(*operation, first, pace_of(scope, moves, b.get()))
+            let first = pace_of(scope, strides, a.get());
+            operation_pace(*operation, first, pace_of(scope, strides, b.get()))
         }
         Expr::Divide(a, _) => {
-            let own = pace_of(scope, moves, a.get());
+            let own = pace_of(scope, strides, a.get());
             both_steady(own, own)
         }
         Expr::Remainder(a, _) => {
-            let own = pace_of(scope, moves, a.get());
+            let own = pace_of(scope, strides, a.get());
             both_steady(own, own)
         }
         Expr::Select(c, a, b) => {
-            let first = pace_of(scope, moves, c.get());
-            let second = pace_of(scope, moves, a.get());
-            both_steady(first, both_steady(second, pace_of(scope, moves, b.get())))
+            let first = pace_of(scope, strides, c.get());
+            let second = pace_of(scope, strides, a.get());
+            both_steady(first, both_steady(second, pace_of(scope, strides, b.get())))
         }
         Expr::Load(_, x, y) => {
-            let column = pace_of(scope, moves, x.get());
-            both_steady(column, pace_of(scope, moves, y.get()))
+            let column = pace_of(scope, strides, x.get());
+            both_steady(column, pace_of(scope, strides, y.get()))
         }
     }
 }
@@ -341,15 +335,24 @@ fn emit_based(code: &mut Vec<u32>, place: &Place) -> Result<(), AllocError>
     Ok(())
 }
 
-fn emit_gathered(code: &mut Vec<u32>, place: &Place, r: u8, s: u8) -> Result<(), AllocError>
+/// Appends what turns columns in the lanes of `r` and rows in those of `s` into the distances of pixels, in `r`, from the address that x13 then holds.
+pub fn emit_offsets(code: &mut Vec<u32>, place: &Place, r: u8, s: u8) -> Result<(), AllocError>
     requires { (r < 32) × (s < 32) }
-    ensures { OnOk result (Emits code.old.items code.new.items (spec.gathered place.now r s)) }
+    ensures { OnOk result (Emits code.old.items code.new.items (spec.offsets place.now r s)) }
 {
     emit_literal(code, 13, place.width)?;
     multiplication_by(code, MultiplyOp::Vmul, s, s, 13)?;
     arithmetic(code, ArithmeticVvOp::Vadd, r, r, s)?;
     times_four(code, r)?;
     emit_based(code, place)?;
+    Ok(())
+}
+
+fn emit_gathered(code: &mut Vec<u32>, place: &Place, r: u8, s: u8) -> Result<(), AllocError>
+    requires { (r < 32) × (s < 32) }
+    ensures { OnOk result (Emits code.old.items code.new.items (spec.gathered place.now r s)) }
+{
+    emit_offsets(code, place, r, s)?;
     load_at(code, r, 13)?;
     Ok(())
 }
@@ -370,11 +373,11 @@ fn fits_scalars(x: &Expr, y: &Expr) -> bool
 }
 
 /// Whether the lanes of a load at these indexes lie one behind the other, and the scalar stack has room for the point.
-fn is_dense(scope: &[Counter], moves: &[bool], x: &Expr, y: &Expr) -> bool
-    ensures { (group : Groups) (places : AllPlaces) → result ≡ spec.is_dense (spec.laned group places scope.now moves.now x.now) (spec.laned group places scope.now moves.now y.now) }
+fn is_dense(scope: &[Counter], strides: &[u32], x: &Expr, y: &Expr) -> bool
+    ensures { (group : Groups) (places : AllPlaces) → result ≡ spec.is_dense (spec.laned group places scope.now strides.now x.now) (spec.laned group places scope.now strides.now y.now) }
 {
-    let column = is_stepping(pace_of(scope, moves, x));
-    let row = is_steady(pace_of(scope, moves, y));
+    let column = is_stepping(pace_of(scope, strides, x));
+    let row = is_steady(pace_of(scope, strides, y));
     are_all(column, row, fits_scalars(x, y))
 }
 
@@ -398,12 +401,12 @@ pub fn emit_lanes(
     group: Group,
     places: &Places,
     scope: &[Counter],
-    moves: &[bool],
+    strides: &[u32],
     e: &Expr,
     k: u8,
 ) -> Result<u8, CodeFault>
-    ensures ok { IfOk result (λ r. EmitsLanes code.old.items code.new.items group (spec.laned group places.now scope.now moves.now e.now) k r) }
-    ensures err { IfErr result (IsFault ⊥ (FitsLanes (spec.laned group places.now scope.now moves.now e.now) k → ⊥)) }
+    ensures ok { IfOk result (λ r. EmitsLanes code.old.items code.new.items group (spec.laned group places.now scope.now strides.now e.now) k r) }
+    ensures err { IfErr result (IsFault ⊥ (FitsLanes (spec.laned group places.now scope.now strides.now e.now) k → ⊥)) }
 {
     if k >= group.slots() {
         return Err(CodeFault::TooDeep);
@@ -417,30 +420,30 @@ pub fn emit_lanes(
         }
         Expr::Linear(own) => {
             emit_linear(code, scope, own, 20)?;
-            let step = step_of(scope, moves, own.terms.as_slice());
+            let step = step_of(scope, strides, own.terms.as_slice());
             emit_stepped(code, step, r)?;
             Ok(r)
         }
         Expr::Binary(operation, a, b) => {
-            emit_lanes(code, group, places, scope, moves, a.get(), k)?;
-            let s = emit_lanes(code, group, places, scope, moves, b.get(), k + 1)?;
+            emit_lanes(code, group, places, scope, strides, a.get(), k)?;
+            let s = emit_lanes(code, group, places, scope, strides, b.get(), k + 1)?;
             emit_lanes_operation(code, *operation, r, s)?;
             Ok(r)
         }
         Expr::Divide(a, divisor) => {
-            emit_lanes(code, group, places, scope, moves, a.get(), k)?;
+            emit_lanes(code, group, places, scope, strides, a.get(), k)?;
             emit_lanes_quotient(code, *divisor, r, group.spare())?;
             Ok(r)
         }
         Expr::Remainder(a, divisor) => {
-            emit_lanes(code, group, places, scope, moves, a.get(), k)?;
+            emit_lanes(code, group, places, scope, strides, a.get(), k)?;
             emit_lanes_remainder(code, *divisor, r, group.spare())?;
             Ok(r)
         }
         Expr::Select(c, a, b) => {
-            emit_lanes(code, group, places, scope, moves, c.get(), k)?;
-            let s = emit_lanes(code, group, places, scope, moves, a.get(), k + 1)?;
-            let t = emit_lanes(code, group, places, scope, moves, b.get(), k + 2)?;
+            emit_lanes(code, group, places, scope, strides, c.get(), k)?;
+            let s = emit_lanes(code, group, places, scope, strides, a.get(), k + 1)?;
+            let t = emit_lanes(code, group, places, scope, strides, b.get(), k + 2)?;
             emit_lanes_selection(code, r, s, t)?;
             Ok(r)
         }
@@ -449,14 +452,14 @@ pub fn emit_lanes(
             if !are_words(&place) {
                 return Err(CodeFault::TooDeep);
             }
-            if is_dense(scope, moves, x.get(), y.get()) {
+            if is_dense(scope, strides, x.get(), y.get()) {
                 emit_value(code, places, scope, x.get(), 20)?;
                 emit_value(code, places, scope, y.get(), 21)?;
                 emit_dense(code, &place, r)?;
                 return Ok(r);
             }
-            emit_lanes(code, group, places, scope, moves, x.get(), k)?;
-            let s = emit_lanes(code, group, places, scope, moves, y.get(), k + 1)?;
+            emit_lanes(code, group, places, scope, strides, x.get(), k)?;
+            let s = emit_lanes(code, group, places, scope, strides, y.get(), k + 1)?;
             emit_gathered(code, &place, r, s)?;
             Ok(r)
         }

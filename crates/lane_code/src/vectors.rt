@@ -318,6 +318,24 @@ pub fn store_row(code: &mut Vec<u32>, s: u8, r: u8) -> Result<(), AllocError>
     Ok(())
 }
 
+/// Appends a store of words at the distances in the lanes of another group.
+pub fn store_at(code: &mut Vec<u32>, s: u8, r: u8, offsets: u8) -> Result<(), AllocError>
+    requires { (s < 32) × (r < 32) × (offsets < 32) }
+    ensures { OnOk result (Emits code.old.items code.new.items (Vector (v.StoreElements words s r (addressings.Indexed offsets) true) ∷ [])) }
+{
+    let insn = VectorInsn::StoreElements {
+        width: ElementWidth::Bits32,
+        vs3: vector(s),
+        rs1: register(r),
+        addressing: Addressing::Indexed {
+            vs2: vector(offsets),
+        },
+        vm: true,
+    };
+    put_vector(code, insn)?;
+    Ok(())
+}
+
 /// Appends a configuration of so many lanes as a register says, at most as many as a group has.
 pub fn configure(code: &mut Vec<u32>, group: Group, r: u8) -> Result<(), AllocError>
     requires { r < 32 }

@@ -1,11 +1,9 @@
 -- The code of a statement for all rounds at once does the rounds.
-use Rattle.std.proofs.Common.{◌≡◌, ℕ, suc, ◌+◌, ◌-◌, ◌*◌, ◌%◌, ◌^◌, ◌<◌, ◌≤◌, List, [], ◌∷◌, ◌++◌, length, Bool, true, false, refl, ap, ◌∙◌, sym, subst, arith, inl, inr, cond}
-use Rattle.std.specs.Prelude.{◌≢◌, ◌&&◌, not, if◌then◌else◌, nat_lt, Option, Some, None}
-use Rattle.std.proofs.lemmas.Bool.{cases_lt, true≢false}
+use Rattle.std.proofs.Common.{◌≡◌, ℕ, suc, ◌+◌, ◌-◌, ◌<◌, ◌≤◌, List, [], ◌∷◌, length, Bool, true, false, refl, ap, ◌∙◌, sym, subst, arith, inl, inr, cond}
+use Rattle.std.specs.Prelude.{◌==◌, ◌&&◌, if◌then◌else◌, nat_le, nat_lt, Option, Some, None}
+use Rattle.std.proofs.lemmas.Bool.{and_parts, cases_lt, true≢false}
 use Rattle.std.proofs.lemmas.Bool.Decides.{nat_tests}
 use Rattle.rv_insn.specs.declared.instructions.Insn.{Insn}
-use Rattle.rv_insn.specs.declared.operations.AluOp.TheVariants as alus
-use Rattle.lanes.specs.Words as lanes
 use Rattle.halide_meaning.specs.Pixel.{Planes, reads_of}
 use Rattle.loop_ir.specs.declared.expressions.Counter.{Counter}
 use Rattle.loop_ir.specs.declared.statements.LoopKind.{LoopKind}
@@ -17,28 +15,28 @@ use Rattle.loop_ir.specs.declared.statements.Stmt.TheOpen as layer
 use Rattle.loop_ir.specs.declared.statements.Stmt.TheVariants.{rolls-Store, rolls-Sequence, rolls-For, rolls-Bind}
 use Rattle.loop_ir.specs.declared.statements.Stmt.TheVariants as s
 use Rattle.loop_ir.specs.AtOnce.{Effect, effect}
+use Rattle.loop_ir.specs.Rounds.{Rounds, rounds}
+use Rattle.loop_ir.proofs.Rounds.{rounds_bind}
 use Rattle.loop_ir.specs.Counters.{Values, with}
 use Rattle.loop_ir.specs.Running.{whole_value, turns}
 use Rattle.loop_ir.specs.Soundness.{is_sound}
 use Rattle.loop_ir.proofs.AtOnce.{effect_bind}
 use Rattle.loop_ir.proofs.Sound.{sound_store, sound_bind}
 use Rattle.lone_hart.specs.Alone.{World}
-use Rattle.lone_hart.proofs.Paths.{stay}
 use Rattle.scalar_code.specs.Code.{seat, whole_code, bind_code}
 use Rattle.scalar_code.specs.Evaluation.{Knows}
 use Rattle.scalar_code.specs.Doing.{Setting, IsSetting, SoundIn, HoldsFuncs}
 use Rattle.scalar_code.proofs.Binding.{bind-does}
-use Rattle.scalar_code.proofs.Going.{Hits, no_hits, Does, still, does-then, went-hits, went-is}
-use Rattle.scalar_code.proofs.Keeping.{Kept, kept-safe, knows-still}
+use Rattle.scalar_code.proofs.Going.{Hits, no_hits, Does, does-then, went-hits, went-is}
+use Rattle.scalar_code.proofs.Keeping.{knows-still}
 use Rattle.scalar_code.proofs.Looping.{r-high}
-use Rattle.scalar_code.proofs.Values.{alu-sets}
 use Rattle.lane_code.specs.declared.groups.Group.{Group}
-use Rattle.lane_code.specs.Lanes.{is_moving}
-use Rattle.round_code.specs.Rounds.{Rounded, rounded, row_fits, left_over, inside, bind_turns}
+use Rattle.round_code.specs.Rounds.{Rounded, rounded, store_fits, whole_stride, left_over, inside, bind_turns}
 use Rattle.round_code.proofs.Effects.{HitBy, effect_hits, laid, laid-same, laid-cut}
-use Rattle.round_code.proofs.Openings.{IsOpen, value_at, values_at, passing, left_if, value-goes, few-pass, passes, stays-out, still-opening}
+use Rattle.round_code.proofs.Openings.{IsOpen, GoesAlong, goes-parts, value_at, values_at, passing, left_if, few-pass, none-passes, passes, stays-out, still-opening}
+use Rattle.round_code.proofs.Parking.{left_by, parks}
 use Rattle.round_code.proofs.Rounding.{rounded-store, rounded-sequence, rounded-for, rounded-bind, BindFits, bind-parts}
-use Rattle.round_code.proofs.RowCode.{row-parts, row-does}
+use Rattle.round_code.proofs.PixelsCode.{pixels-do}
 
 below : (n k : ℕ) → nat_lt n k ≡ true → n < k
 below n k t = grind (arith, nat_tests)
@@ -51,6 +49,9 @@ not-below n k t = grind (arith, nat_tests)
 
 is-above : (n k : ℕ) → k ≤ n → nat_lt n k ≡ false
 is-above n k l = grind (arith, nat_tests)
+
+at-most : (n k : ℕ) → nat_le n k ≡ true → n ≤ k
+at-most n k t = grind (arith, nat_tests)
 
 none-some : {own : Effect} → None ≡ Some own → ⊥
 none-some e = absurd (cc e)
@@ -68,74 +69,77 @@ module _ (own : Setting) (good : IsSetting own) (group : Group) where
   abbrev AllSound : Stmt → (ℕ → Values) → ℕ → Type 0
   AllSound statement at n = (k : ℕ) → k < n → SoundIn own statement (at k)
 
+  -- no value of a split loop falls from one round to the next
+  abbrev pub NeverFall : Stmt → (ℕ → Values) → ℕ → Type 0
+  NeverFall statement at n = (funcs : Planes) (k : ℕ) → k + 1 < n → (rounds (reads_of own.inputs funcs) statement).steps_up (at k) (at (k + 1)) ≡ true
+
   abbrev Follows : Stmt → Type 0
-  Follows statement = (all : Bool) (scope : List Counter) (moves : List Bool) (at : ℕ → Values) (n : ℕ) → (rounded group own.places statement).fits all scope moves ≡ true → AllSound statement at n
-      → (f : ℕ → ℕ) (memory : List ℕ) (funcs : Planes) → HoldsFuncs own memory funcs → Knows w own.harts scope (at 0) f → IsOpen group all scope moves at n (f 15)
-      → Does own ((rounded group own.places statement).code scope moves) ((rounded group own.places statement).turns scope moves (at 0)) f memory (length scope)
+  Follows statement = (all : Bool) (scope : List Counter) (strides : List ℕ) (at : ℕ → Values) (n : ℕ) → (rounded group own.places statement).fits all scope strides ≡ true → AllSound statement at n → NeverFall statement at n
+      → (f : ℕ → ℕ) (memory : List ℕ) (funcs : Planes) → HoldsFuncs own memory funcs → Knows w own.harts scope (at 0) f → IsOpen group all scope strides at n (f 15)
+      → Does own ((rounded group own.places statement).code all scope strides) ((rounded group own.places statement).turns all scope strides (at 0)) f memory (length scope)
       (after statement at n funcs) (effect_hits (effects statement at funcs) n)
 
   -- of what the same is made of
-  remade : {a b : Rounded} {scope : List Counter} {moves : List Bool} {values : Values} {f : ℕ → ℕ} {memory : List ℕ} {funcs : Planes} {hits : Hits} → a ≡ b
-      → Does own (a.code scope moves) (a.turns scope moves values) f memory (length scope) funcs hits → Does own (b.code scope moves) (b.turns scope moves values) f memory (length scope) funcs hits
-  remade {a} {b} {scope} {moves} {values} {f} {memory} {funcs} {hits} e d = subst (λ c. Does own (c.code scope moves) (c.turns scope moves values) f memory (length scope) funcs hits) e d
+  remade : {a b : Rounded} {all : Bool} {scope : List Counter} {strides : List ℕ} {values : Values} {f : ℕ → ℕ} {memory : List ℕ} {funcs : Planes} {hits : Hits} → a ≡ b
+      → Does own (a.code all scope strides) (a.turns all scope strides values) f memory (length scope) funcs hits → Does own (b.code all scope strides) (b.turns all scope strides values) f memory (length scope) funcs hits
+  remade {a} {b} {all} {scope} {strides} {values} {f} {memory} {funcs} {hits} e d = subst (λ c. Does own (c.code all scope strides) (c.turns all scope strides values) f memory (length scope) funcs hits) e d
 
   at-store : (store : Store) → Follows (s.Store store)
-  at-store store all scope moves at n fits sound f memory funcs holds knows opening =
+  at-store store all scope strides at n fits sound falls f memory funcs holds knows opening =
       let e = rounded-store group own.places store in
-      let fit : row_fits group own.places scope moves store ≡ true = sym (ap (λ (r : Rounded). r.fits all scope moves) e) ∙ fits in
+      let fit : store_fits group own.places scope strides store ≡ true = sym (ap (λ (r : Rounded). r.fits all scope strides) e) ∙ fits in
       remade (sym e)
-      (row-does own good group scope moves at n opening.some opening.along store funcs
+      (pixels-do own good group scope strides at n opening.some opening.along store funcs
       (λ k b. sym (sound_store (reads_of own.inputs funcs) own.written own.loaded store (at k)) ∙ sound k b funcs holds.are_words)
-      (row-parts group own.places scope moves store fit) f memory holds knows opening.count)
+      fit f memory holds knows opening.count)
 
   at-sequence : (first second : Stmt) → Follows (s.Sequence first second)
-  at-sequence first second all scope moves at n fits sound f memory funcs holds knows opening =
-      absurd (true≢false (sym fits ∙ ap (λ (r : Rounded). r.fits all scope moves) (rounded-sequence group own.places first second)))
+  at-sequence first second all scope strides at n fits sound falls f memory funcs holds knows opening =
+      absurd (true≢false (sym fits ∙ ap (λ (r : Rounded). r.fits all scope strides) (rounded-sequence group own.places first second)))
 
   at-for : (counter : Counter) (count : ℕ) (kind : LoopKind) (body : Stmt) → Follows (s.For counter count kind body)
-  at-for counter count kind body all scope moves at n fits sound f memory funcs holds knows opening =
-      absurd (true≢false (sym fits ∙ ap (λ (r : Rounded). r.fits all scope moves) (rounded-for group own.places counter count kind body)))
+  at-for counter count kind body all scope strides at n fits sound falls f memory funcs holds knows opening =
+      absurd (true≢false (sym fits ∙ ap (λ (r : Rounded). r.fits all scope strides) (rounded-for group own.places counter count kind body)))
 
   -- ---- a split loop's value
 
-  abbrev left_by : Bool → ℕ → ℕ → ℕ → ℕ
-  left_by true extent v left = extent - v
-  left_by false extent v left = left
-
-  -- how many rounds are left is parked
-  record Parks (moving : Bool) (r depth : ℕ) (f : ℕ → ℕ) (memory : List ℕ) (funcs : Planes) (left : ℕ) : Type 0 where
-    does : Does own (left_over moving r) (length (left_over moving r)) f memory depth funcs no_hits
-    left_is : does.after 15 ≡ left
-
-  no-parked : (depth q : ℕ) → Kept depth q → q ≢ 15
-  no-parked depth q kept e = let s = kept-safe depth q kept in let a = s.apart in omega (arith, e, a)
-
-  parks : (moving : Bool) (r depth : ℕ) → r < 32 → (f : ℕ → ℕ) (memory : List ℕ) (funcs : Planes) → HoldsFuncs own memory funcs → (v extent left : ℕ) → f r ≡ v → f 13 ≡ extent → f 15 ≡ left → v < extent → extent < 2 ^ 32
-      → Parks moving r depth f memory funcs (left_by moving extent v left)
-  parks true r depth high f memory funcs holds v extent left er e13 e15 l small =
-      let set = alu-sets w memory holds.size alus.Sub f 15 13 r extent v (omega arith) (omega arith) (omega arith) high e13 er in
-      record {
-        does = still own (λ at. at) _ _ set.after holds (λ q kept. set.others q (no-parked depth q kept)) (λ at s. set.line at s);
-        left_is = set.value ∙ (let g : lanes.sub 32 extent v ≡ extent - v = omega (arith, l, small) in g);
-      }
-  parks false r depth high f memory funcs holds v extent left er e13 e15 l small = record {
-    does = still own (λ at. at) _ _ f holds (λ q kept. refl) (λ at s. stay w at f memory);
-    left_is = e15;
-  }
-
-  module _ (counter : Counter) (whole : Whole) (extent : ℕ) (body : Stmt) (inner : Follows body) (all : Bool) (scope : List Counter) (moves : List Bool) (at : ℕ → Values) (n left : ℕ)
-      (fit : BindFits group own.places counter whole extent body all scope moves) (sound : AllSound (s.Bind counter whole extent body) at n) (opening : IsOpen group all scope moves at n left) where
+  module _ (counter : Counter) (whole : Whole) (extent : ℕ) (body : Stmt) (inner : Follows body) (all : Bool) (scope : List Counter) (strides : List ℕ) (at : ℕ → Values) (n left : ℕ)
+      (fit : BindFits group own.places counter whole extent body all scope strides) (sound : AllSound (s.Bind counter whole extent body) at n) (opening : IsOpen group all scope strides at n left)
+      (falls : NeverFall (s.Bind counter whole extent body) at n) where
     abbrev bound : Stmt
     bound = s.Bind counter whole extent body
 
-    abbrev moving : Bool
-    moving = is_moving scope moves whole.inner
+    abbrev stride : ℕ
+    stride = whole_stride scope strides whole
+
+    goes : GoesAlong scope strides whole extent
+    goes = goes-parts scope strides whole extent fit.goes
 
     abbrev first : ℕ
-    first = value_at group all scope moves at n left opening whole fit.goes 0
+    first = value_at scope strides at n opening.along whole extent goes 0
 
     abbrev made : Rounded
     made = rounded group own.places body
+
+    abbrev rounds_in : Planes → Rounds
+    rounds_in funcs = rounds (reads_of own.inputs funcs) body
+
+    abbrev up_both : Planes → ℕ → Bool
+    up_both funcs k =
+        nat_le (whole_value whole (at k)) (whole_value whole (at (k + 1))) && (rounds_in funcs).steps_up (with counter (whole_value whole (at k)) (at k)) (with counter (whole_value whole (at (k + 1))) (at (k + 1)))
+
+    -- what is said of values that go on, by the test
+    up-if : (funcs : Planes) (k : ℕ) → k + 1 < n → (if nat_lt (whole_value whole (at (k + 1))) extent then up_both funcs k else true) ≡ true
+    up-if funcs k b = sym (ap (λ (r : Rounds). r.steps_up (at k) (at (k + 1))) (rounds_bind (reads_of own.inputs funcs) counter whole extent body)) ∙ falls funcs k b
+
+    up-parts : (funcs : Planes) (k : ℕ) → k + 1 < n → whole_value whole (at (k + 1)) < extent
+        → (nat_le (whole_value whole (at k)) (whole_value whole (at (k + 1))) ≡ true) × ((rounds_in funcs).steps_up (with counter (whole_value whole (at k)) (at k)) (with counter (whole_value whole (at (k + 1))) (at (k + 1))) ≡ true)
+    up-parts funcs k b l =
+        and_parts (nat_le (whole_value whole (at k)) (whole_value whole (at (k + 1)))) _
+        (sym (ap (λ t. if t then up_both funcs k else true) (is-below (whole_value whole (at (k + 1))) extent l)) ∙ up-if funcs k b)
+
+    never : (k : ℕ) → k + 1 < n → whole_value whole (at (k + 1)) < extent → whole_value whole (at k) ≤ whole_value whole (at (k + 1))
+    never k b l = at-most (whole_value whole (at k)) (whole_value whole (at (k + 1))) (up-parts own.inputs k b l).0
 
     -- what a round stores, by the test
     of-round : (funcs : Planes) (k : ℕ) (t : Bool) → nat_lt (whole_value whole (at k)) extent ≡ t
@@ -144,19 +148,22 @@ module _ (own : Setting) (good : IsSetting own) (group : Group) where
 
     module _ (l : first < extent) where
       abbrev m : ℕ
-      m = passing group all scope moves at n left opening whole fit.goes extent l
+      m = passing scope strides at n opening.along whole extent goes never l
 
       abbrev inner_at : ℕ → Values
-      inner_at = values_at group all scope moves at n left opening whole fit.goes extent l counter
+      inner_at = values_at scope strides at n opening.along whole extent goes never l group all left opening counter
 
       few : m ≤ n
-      few = few-pass group all scope moves at n left opening whole fit.goes extent l
+      few = few-pass scope strides at n opening.along whole extent goes never l
+
+      under : (k : ℕ) → k < m → whole_value whole (at k) < extent
+      under k b = passes scope strides at n opening.along whole extent goes never l k b
 
       passing-round : (funcs : Planes) (k : ℕ) → k < m → effects bound at funcs k ≡ effects body inner_at funcs k
-      passing-round funcs k b = of-round funcs k true (is-below (whole_value whole (at k)) extent (passes group all scope moves at n left opening whole fit.goes extent l k b))
+      passing-round funcs k b = of-round funcs k true (is-below (whole_value whole (at k)) extent (under k b))
 
       later-round : (funcs : Planes) (k : ℕ) → m ≤ k → k < n → effects bound at funcs k ≡ None
-      later-round funcs k above b = of-round funcs k false (is-above (whole_value whole (at k)) extent (stays-out group all scope moves at n left opening whole fit.goes extent l k above b))
+      later-round funcs k above b = of-round funcs k false (is-above (whole_value whole (at k)) extent (stays-out scope strides at n opening.along whole extent goes never l k above b))
 
       same-after : (funcs : Planes) → after body inner_at m funcs ≡ after bound at n funcs
       same-after funcs =
@@ -173,66 +180,70 @@ module _ (own : Setting) (good : IsSetting own) (group : Group) where
 
       inner-sound : AllSound body inner_at m
       inner-sound k b p words =
-          let t = is-below (whole_value whole (at k)) extent (passes group all scope moves at n left opening whole fit.goes extent l k b) in
+          let t = is-below (whole_value whole (at k)) extent (under k b) in
           sym (ap (λ z. if z then is_sound (reads_of own.inputs p) own.written own.loaded body (inner_at k) else true) t)
           ∙ sym (sound_bind (reads_of own.inputs p) own.written own.loaded counter whole extent body (at k)) ∙ sound k (let f = few in omega (arith, b, f)) p words
 
-      left-same : left_by moving extent first left ≡ left_if group all scope moves at n left opening whole fit.goes extent l moving
-      left-same = by moving
+      inner-falls : NeverFall body inner_at m
+      inner-falls funcs k b = (up-parts funcs k (let f = few in omega (arith, b, f)) (under (k + 1) b)).1
+
+      left-same : left_by own good (suc (length scope)) (stride == 0) all extent first stride left ≡ left_if scope strides at n opening.along whole extent goes never l group all left opening counter (stride == 0) all
+      left-same = by (stride == 0) all
         where
-          by : (t : Bool) → left_by t extent first left ≡ left_if group all scope moves at n left opening whole fit.goes extent l t
-          by true = refl
-          by false = refl
+          by : (t a : Bool) → left_by own good (suc (length scope)) t a extent first stride left ≡ left_if scope strides at n opening.along whole extent goes never l group all left opening counter t a
+          by true a = refl
+          by false true = refl
+          by false false = refl
+
+      abbrev rest : Bool
+      rest = all && stride == 0
 
       abbrev inside_turns : ℕ
-      inside_turns = length (left_over moving (seat (length scope))) + made.turns (counter ∷ scope) (moving ∷ moves) (inner_at 0)
+      inside_turns = length (left_over all stride (seat (length scope))) + made.turns rest (counter ∷ scope) (stride ∷ strides) (inner_at 0)
 
       inside-does : (f : ℕ → ℕ) (memory : List ℕ) (funcs : Planes) → HoldsFuncs own memory funcs → Knows w own.harts (counter ∷ scope) (inner_at 0) f → f (seat (length scope)) ≡ first → f 13 ≡ extent → f 15 ≡ left
-          → Does own (inside made counter moving scope moves) inside_turns f memory (suc (length scope)) (after body inner_at m funcs) (effect_hits (effects body inner_at funcs) m)
+          → Does own (inside made counter all scope strides stride) inside_turns f memory (suc (length scope)) (after body inner_at m funcs) (effect_hits (effects body inner_at funcs) m)
       inside-does f memory funcs holds knows ec e13 e15 =
-          let a = parks moving (seat (length scope)) (suc (length scope)) (r-high own (length scope) fit.seat_is) f memory funcs holds first extent left ec e13 e15 l fit.extent_is in
+          let a = parks own good (suc (length scope)) stride (seat (length scope)) (r-high own (length scope) fit.seat_is) goes.few f memory funcs holds first extent left ec e13 e15 l goes.small opening.small all in
           let kn = knows-still w own.harts (counter ∷ scope) (inner_at 0) f a.does.after knows a.does.keeps in
-          let opening2 = subst (IsOpen group (all && not moving) (counter ∷ scope) (moving ∷ moves) inner_at m) (sym (a.left_is ∙ left-same)) (still-opening group all scope moves at n left opening whole fit.goes extent l counter) in
-          let b = inner (all && not moving) (counter ∷ scope) (moving ∷ moves) inner_at m fit.body_fits inner-sound a.does.after a.does.left funcs a.does.holds kn opening2 in
+          let opening2 = subst (IsOpen group rest (counter ∷ scope) (stride ∷ strides) inner_at m) (sym (a.left_is ∙ left-same)) (still-opening scope strides at n opening.along whole extent goes never l group all left opening counter) in
+          let b = inner rest (counter ∷ scope) (stride ∷ strides) inner_at m fit.body_fits inner-sound inner-falls a.does.after a.does.left funcs a.does.holds kn opening2 in
           went-hits own (λ func x y hit. inr hit) (does-then own a.does b)
 
     abbrev bound_code : List Insn
-    bound_code = bind_code scope whole extent (seat (length scope)) (inside made counter moving scope moves)
+    bound_code = bind_code scope whole extent (seat (length scope)) (inside made counter all scope strides stride)
 
     abbrev bound_turns : ℕ
-    bound_turns = bind_turns made counter whole extent scope moves (at 0) moving
+    bound_turns = bind_turns made counter whole extent all scope strides (at 0) stride
 
     by-test : (t : Bool) → nat_lt first extent ≡ t → (f : ℕ → ℕ) (memory : List ℕ) (funcs : Planes) → HoldsFuncs own memory funcs → Knows w own.harts scope (at 0) f → f 15 ≡ left
         → Does own bound_code bound_turns f memory (length scope) (after bound at n funcs) (effect_hits (effects bound at funcs) n)
     unfolding turns
     by-test true t f memory funcs holds knows e15 =
         let l = below first extent t in
-        let a = bind-does own scope (at 0) fit.seat_is counter whole extent fit.extent_is fit.whole_is (inside made counter moving scope moves) (inside_turns l)
+        let a = bind-does own scope (at 0) fit.seat_is counter whole extent (let s = goes.small in omega (arith, s)) fit.whole_is (inside made counter all scope strides stride) (inside_turns l)
         (λ p. after body (inner_at l) (m l) p) (λ p. effect_hits (effects body (inner_at l) p) (m l)) left
         (λ is g z p h kn ec e13 e15'. inside-does l g z p h kn ec e13 e15') true t f memory funcs holds knows e15 in
         went-hits own (λ func x y hit. hits-inside l funcs func x y hit)
         (went-is own (sym (ap (λ b. length (whole_code scope whole (seat (length scope))) + (if b then 3 + inside_turns l else 4)) t)) (same-after l funcs) a)
     by-test false t f memory funcs holds knows e15 =
-        let no-round : (k : ℕ) → 0 ≤ k → k < n + 0 → effects bound at funcs k ≡ None = λ k low b. none-passes k (omega (arith, b)) in
-        let a = bind-does own scope (at 0) fit.seat_is counter whole extent fit.extent_is fit.whole_is (inside made counter moving scope moves) 0
+        let no-round : (k : ℕ) → 0 ≤ k → k < n + 0 → effects bound at funcs k ≡ None = λ k low b. nothing-stored k (omega (arith, b)) in
+        let a = bind-does own scope (at 0) fit.seat_is counter whole extent (let s = goes.small in omega (arith, s)) fit.whole_is (inside made counter all scope strides stride) 0
         (λ p. p) (λ p. no_hits) left (λ is g z p h kn ec e13 e15'. absurd (true≢false (sym is ∙ t))) false t f memory funcs holds knows e15 in
-        went-hits own (λ func x y hit. none-some (sym (none-passes hit.round hit.below) ∙ hit.is))
-        (went-is own (sym (ap (λ b. length (whole_code scope whole (seat (length scope))) + (if b then 3 + (length (left_over moving (seat (length scope))) + made.turns (counter ∷ scope) (moving ∷ moves) (with counter first (at 0))) else 4)) t))
+        went-hits own (λ func x y hit. none-some (sym (nothing-stored hit.round hit.below) ∙ hit.is))
+        (went-is own (sym (ap (λ b. length (whole_code scope whole (seat (length scope))) + (if b then 3 + (length (left_over all stride (seat (length scope))) + made.turns (all && stride == 0) (counter ∷ scope) (stride ∷ strides) (with counter first (at 0))) else 4)) t))
         (nothing no-round) a)
       where
-        none-passes : (k : ℕ) → k < n → effects bound at funcs k ≡ None
-        none-passes k b =
-            let g = value-goes group all scope moves at n left opening whole fit.goes k b in
-            let o = not-below first extent t in
-            of-round funcs k false (is-above (whole_value whole (at k)) extent (omega (arith, g, o)))
+        nothing-stored : (k : ℕ) → k < n → effects bound at funcs k ≡ None
+        nothing-stored k b = of-round funcs k false (is-above (whole_value whole (at k)) extent (none-passes scope strides at n opening.along whole extent goes never (not-below first extent t) k b))
 
         nothing : ((k : ℕ) → 0 ≤ k → k < n + 0 → effects bound at funcs k ≡ None) → funcs ≡ after bound at n funcs
         nothing none = let e : n + 0 ≡ n = omega arith in sym (laid-cut own.points (effects bound at funcs) n 0 none funcs) ∙ ap (λ k. laid own.points (effects bound at funcs) k funcs) e
 
   at-bind : (counter : Counter) (whole : Whole) (extent : ℕ) (body : Stmt) → Follows body → Follows (s.Bind counter whole extent body)
-  at-bind counter whole extent body inner all scope moves at n fits sound f memory funcs holds knows opening =
+  at-bind counter whole extent body inner all scope strides at n fits sound falls f memory funcs holds knows opening =
       remade (sym (rounded-bind group own.places counter whole extent body))
-      (by-test counter whole extent body inner all scope moves at n (f 15) (bind-parts group own.places counter whole extent body all scope moves fits) sound opening (nat_lt (whole_value whole (at 0)) extent) refl f memory funcs holds knows refl)
+      (by-test counter whole extent body inner all scope strides at n (f 15) (bind-parts group own.places counter whole extent body all scope strides fits) sound opening falls (nat_lt (whole_value whole (at 0)) extent) refl f memory funcs holds knows refl)
 
   by-layer : (X : Type 0) (part : X → Stmt) → ((p : X) → Follows (part p)) → (l : Stmt-F X) → Follows (roll-Stmt (map-Stmt X Stmt part l))
   by-layer X part follows (layer.Store store) = subst Follows (sym (rolls-Store store)) (at-store store)

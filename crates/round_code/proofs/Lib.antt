@@ -3,7 +3,11 @@ pub mod Emission
 pub mod Following
 pub mod Looping
 pub mod Openings
+pub mod Parking
+pub mod PixelsCode
 pub mod Rounding
 pub mod RowCode
 pub mod Rows
+pub mod ScatteredCode
+pub mod Steady
 pub mod Storing

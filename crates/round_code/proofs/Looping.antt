@@ -1,7 +1,7 @@
 -- The code of a loop whose rounds are done at once does the loop.
-use Rattle.std.proofs.Common.{◌≡◌, ℕ, zero, ◌+◌, ◌*◌, ◌^◌, ◌<◌, ◌≤◌, List, [], ◌∷◌, ◌++◌, length, Bool, true, false, refl, ap, ◌∙◌, sym, arith, inr}
+use Rattle.std.proofs.Common.{◌≡◌, ℕ, ◌+◌, ◌-◌, ◌*◌, ◌^◌, ◌<◌, ◌≤◌, List, [], ◌∷◌, length, Bool, true, false, refl, ap, ◌∙◌, sym, arith, inr}
 use Rattle.std.specs.Prelude.{◌≢◌, ◌==◌, ◌&&◌, if◌then◌else◌, nat_lt, pos, Option}
-use Rattle.std.proofs.lemmas.Bool.{and_parts, true≢false}
+use Rattle.std.proofs.lemmas.Bool.{and_parts}
 use Rattle.std.proofs.lemmas.Bool.Decides.{nat_tests}
 use Rattle.rv_insn.specs.declared.operations.AluImmOp.TheVariants as alu_imms
 use Rattle.halide_meaning.specs.Pixel.{Planes, reads_of}
@@ -11,7 +11,7 @@ use Rattle.loop_ir.specs.declared.statements.Stmt.{Stmt}
 use Rattle.loop_ir.specs.declared.statements.Stmt.TheVariants.{For}
 use Rattle.loop_ir.specs.AtOnce.{Effect, effect}
 use Rattle.loop_ir.specs.Counters.{same_counter, Values, with}
-use Rattle.loop_ir.specs.Rounds.{Rounds, rounds, are_apart, is_round_count, may_be_at_once}
+use Rattle.loop_ir.specs.Rounds.{Rounds, rounds, are_apart, all_step_up, is_round_count, may_be_at_once}
 use Rattle.loop_ir.specs.Running.{run}
 use Rattle.loop_ir.specs.Soundness.{is_sound}
 use Rattle.loop_ir.proofs.AtOnce.{in_turn}
@@ -32,12 +32,13 @@ use Rattle.scalar_code.proofs.Values.{imm-sets, literal-sets}
 use Rattle.lane_code.specs.declared.groups.Group.{Group}
 use Rattle.lane_code.specs.declared.groups.Group.TheVariants as groups
 use Rattle.lane_code.specs.Groups.{registers}
-use Rattle.lane_code.specs.Lanes.{is_moving}
+use Rattle.lane_code.specs.Lanes.{stride_of}
 use Rattle.round_code.specs.Doing.{LoopsAreDoneAtOnce}
 use Rattle.round_code.specs.Rounds.{rounded, rounds_code, rounds_turns, rounds_fit}
 use Rattle.round_code.proofs.Effects.{effect_hits, laid}
-use Rattle.round_code.proofs.Following.{follows}
+use Rattle.round_code.proofs.Following.{NeverFall, follows}
 use Rattle.round_code.proofs.Openings.{IsOpen}
+use Rattle.round_code.proofs.Steady.{steps-are-same}
 use Rattle.round_code.proofs.Storing.{hits-at-once}
 
 below : (n k : ℕ) → nat_lt n k ≡ true → n < k
@@ -46,19 +47,19 @@ below n k t = grind (arith, nat_tests)
 is-count : (n k : ℕ) → (n == k) ≡ true → n ≡ k
 is-count n k t = grind (arith, nat_tests)
 
-none-moves : (scope : List Counter) (counter : Counter) → is_moving scope [] counter ≡ false
+none-moves : (scope : List Counter) (counter : Counter) → stride_of scope [] counter ≡ 0
 none-moves [] counter = refl
 none-moves (latest ∷ others) counter = refl
 
 -- all rounds come to the loop's body
 all-open : (group : Group) (scope : List Counter) (counter : Counter) (values : Values) (count left : ℕ) → count ≡ 4 * registers group → left ≡ count
-    → IsOpen group true (counter ∷ scope) (true ∷ []) (λ k. with counter k values) count left
+    → IsOpen group true (counter ∷ scope) (1 ∷ []) (λ k. with counter k values) count left
 all-open group scope counter values count left is parked = record {
   some = some group is;
   along = λ k b c. by-counter (same_counter c counter) k c;
   count = omega (arith, is, parked);
   whole = λ e. is;
-  zero = λ e c m. by-zero (same_counter c counter) c m;
+  small = small-left group is;
 }
   where
     some : (group : Group) → count ≡ 4 * registers group → 1 ≤ count
@@ -66,13 +67,14 @@ all-open group scope counter values count left is parked = record {
     some groups.Two e = omega (arith, e)
     some groups.Four e = omega (arith, e)
 
-    by-counter : (t : Bool) (k : ℕ) (c : Counter) → (if t then k else values c) ≡ (if t then 0 else values c) + (if (if t then true else is_moving scope [] c) then k else 0)
-    by-counter true k c = let e : k ≡ 0 + k = omega arith in e
-    by-counter false k c = let e = ap (λ b. values c + (if b then k else 0)) (none-moves scope c) in (let g : values c ≡ values c + 0 = omega arith in g) ∙ sym e
+    small-left : (group : Group) → count ≡ 4 * registers group → left < 2 ^ 32
+    small-left groups.One e = omega (arith, e, parked)
+    small-left groups.Two e = omega (arith, e, parked)
+    small-left groups.Four e = omega (arith, e, parked)
 
-    by-zero : (t : Bool) (c : Counter) → (if t then true else is_moving scope [] c) ≡ true → (if t then 0 else values c) ≡ 0
-    by-zero true c m = refl
-    by-zero false c m = absurd (true≢false (sym m ∙ none-moves scope c))
+    by-counter : (t : Bool) (k : ℕ) (c : Counter) → (if t then k else values c) ≡ (if t then 0 else values c) + k * (if t then 1 else stride_of scope [] c)
+    by-counter true k c = let e : k ≡ 0 + k * 1 = omega arith in e
+    by-counter false k c = let e = ap (λ s. values c + k * s) (none-moves scope c) in (let g : values c ≡ values c + k * 0 = (let z : k * 0 ≡ 0 = omega arith in omega (arith, z)) in g) ∙ sym e
 
 module _ (own : Setting) (good : IsSetting own) (group : Group) (counter : Counter) (count : ℕ) (body : Stmt) (scope : List Counter) (values : Values)
     (fit : rounds_fit group own.places scope counter count body ≡ true) (sound : SoundIn own (For counter count Vectorized body) values) where
@@ -88,14 +90,14 @@ module _ (own : Setting) (good : IsSetting own) (group : Group) (counter : Count
   few : length scope < 14
   few = below (length scope) 14 (and_parts (has_seat scope) _ fit).0
 
-  rest-fits : (count == 4 * registers group && (rounded group own.places body).fits true (counter ∷ scope) (true ∷ [])) ≡ true
+  rest-fits : (count == 4 * registers group && (rounded group own.places body).fits true (counter ∷ scope) (1 ∷ [])) ≡ true
   rest-fits = (and_parts (has_seat scope) _ fit).1
 
   count-is : count ≡ 4 * registers group
-  count-is = is-count count (4 * registers group) (and_parts (count == 4 * registers group) ((rounded group own.places body).fits true (counter ∷ scope) (true ∷ [])) rest-fits).0
+  count-is = is-count count (4 * registers group) (and_parts (count == 4 * registers group) ((rounded group own.places body).fits true (counter ∷ scope) (1 ∷ [])) rest-fits).0
 
-  body-fits : (rounded group own.places body).fits true (counter ∷ scope) (true ∷ []) ≡ true
-  body-fits = (and_parts (count == 4 * registers group) ((rounded group own.places body).fits true (counter ∷ scope) (true ∷ [])) rest-fits).1
+  body-fits : (rounded group own.places body).fits true (counter ∷ scope) (1 ∷ []) ≡ true
+  body-fits = (and_parts (count == 4 * registers group) ((rounded group own.places body).fits true (counter ∷ scope) (1 ∷ [])) rest-fits).1
 
   small-count : (group : Group) → count ≡ 4 * registers group → count < 2 ^ 32
   small-count groups.One e = omega (arith, e)
@@ -116,9 +118,9 @@ module _ (own : Setting) (good : IsSetting own) (group : Group) (counter : Count
   effects funcs k = effect (reads_of own.inputs funcs) body (at k)
 
   -- all at once
-  pub at-once : (f : ℕ → ℕ) (memory : List ℕ) (funcs : Planes) → HoldsFuncs own memory funcs → Knows w own.harts scope values f
+  pub at-once : NeverFall own good group body at count → (f : ℕ → ℕ) (memory : List ℕ) (funcs : Planes) → HoldsFuncs own memory funcs → Knows w own.harts scope values f
       → Does own (rounds_code group own.places scope counter count body) (rounds_turns group own.places scope counter body values) f memory (length scope) (laid own.points (effects funcs) count funcs) (effect_hits (effects funcs) count)
-  at-once f memory funcs holds knows =
+  at-once falls f memory funcs holds knows =
       let zeroed = imm-sets w memory holds.size alu_imms.Addi f c 0 (pos 0) 0 (r-one own (length scope) few) (r-high own (length scope) few) (omega arith) knows.none in
       let first : Does own (move c 0) 1 f memory (length scope) funcs no_hits = still own (λ at. at) _ _ zeroed.after holds (λ q kept. zeroed.others q (kept-apart (length scope) q few kept)) (λ at s. zeroed.line at s) in
       let k1 = knows-still w own.harts scope values f zeroed.after knows first.keeps in
@@ -127,8 +129,8 @@ module _ (own : Setting) (good : IsSetting own) (group : Group) (counter : Count
       let k2 = knows-still w own.harts scope values zeroed.after set.after k1 second.keeps in
       let ec : set.after c ≡ 0 = set.others c c-apart ∙ zeroed.value in
       let k3 = knows-entered w own.harts scope values counter 0 set.after k2 ec (omega arith) in
-      let inner = follows own good group body true (counter ∷ scope) (true ∷ []) at count body-fits each-sound set.after memory funcs holds k3 (all-open group scope counter values count (set.after 15) count-is set.value) in
-      let t = (rounded group own.places body).turns (counter ∷ scope) (true ∷ []) (at 0) in
+      let inner = follows own good group body true (counter ∷ scope) (1 ∷ []) at count body-fits each-sound falls set.after memory funcs holds k3 (all-open group scope counter values count (set.after 15) count-is set.value) in
+      let t = (rounded group own.places body).turns true (counter ∷ scope) (1 ∷ []) (at 0) in
       let sum : 1 + (2 + t) ≡ 3 + t = omega arith in
       went-is own sum refl (went-hits own (λ func x y hit. inr (inr hit)) (does-then own first (does-then own second (went-less own inner))))
 
@@ -136,15 +138,22 @@ module _ (own : Setting) (good : IsSetting own) (group : Group) (counter : Count
   record Apart (funcs : Planes) : Type 0 where
     one : (rounds (reads_of own.inputs funcs) body).is_one_store ≡ true
     apart : are_apart (rounds (reads_of own.inputs funcs) body) at count ≡ true
+    up : all_step_up (rounds (reads_of own.inputs funcs) body) at count ≡ true
 
   apart-parts : (funcs : Planes) → may_be_at_once (reads_of own.inputs funcs) (For counter count Vectorized body) values ≡ true → Apart funcs
   apart-parts funcs may =
       let r = rounds (reads_of own.inputs funcs) body in
       let e = sym (ap (λ (own : Rounds). own.may_be_at_once values) (rounds_for (reads_of own.inputs funcs) counter count Vectorized body)) ∙ may in
-      let a = and_parts (is_round_count count && (r.is_one_store && are_apart r at count)) _ e in
+      let a = and_parts (is_round_count count && (r.is_one_store && (are_apart r at count && all_step_up r at count))) _ e in
       let b = and_parts (is_round_count count) _ a.0 in
-      let d = and_parts r.is_one_store (are_apart r at count) b.1 in
-      record { one = d.0; apart = d.1 }
+      let d = and_parts r.is_one_store (are_apart r at count && all_step_up r at count) b.1 in
+      let g = and_parts (are_apart r at count) (all_step_up r at count) d.1 in
+      record { one = d.0; apart = g.0; up = g.1 }
+
+  never-falls : (funcs : Planes) → Apart funcs → NeverFall own good group body at count
+  never-falls funcs a other k b =
+      ap (λ (f : Values → Values → Bool). f (at k) (at (k + 1))) (steps-are-same (reads_of own.inputs other) (reads_of own.inputs funcs) body)
+      ∙ each-turn (count - 1) (λ round. (rounds (reads_of own.inputs funcs) body).steps_up (at round) (at (round + 1))) a.up k (omega (arith, b))
 
   pub loop-does : (f : ℕ → ℕ) (memory : List ℕ) (funcs : Planes) → may_be_at_once (reads_of own.inputs funcs) (For counter count Vectorized body) values ≡ true → HoldsFuncs own memory funcs → Knows w own.harts scope values f
       → Does own (rounds_code group own.places scope counter count body) (rounds_turns group own.places scope counter body values) f memory (length scope)
@@ -153,7 +162,7 @@ module _ (own : Setting) (good : IsSetting own) (group : Group) (counter : Count
       let a = apart-parts funcs may in
       let same = run_for own.points own.inputs counter count Vectorized body values funcs ∙ in_turn own.points own.inputs body at funcs count a.one a.apart in
       went-hits own (λ func x y h. hits-at-once own.points own.inputs body at funcs a.one count a.apart func x y (sym (hit-for own.points own.inputs func x y counter count Vectorized body values funcs) ∙ h))
-      (went-is own refl (sym same) (at-once f memory funcs holds knows))
+      (went-is own refl (sym same) (at-once (never-falls funcs a) f memory funcs holds knows))
 
 pub loops-done : LoopsAreDoneAtOnce
 loops-done own good group counter count body scope values fit sound f memory funcs may holds knows =

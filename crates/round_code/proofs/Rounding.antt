@@ -1,6 +1,6 @@
 -- What is made of a statement for all rounds at once, in terms of its parts.
 use Rattle.std.proofs.Common.{◌≡◌, ◌<◌, ◌^◌, Bool, true, List, ◌∷◌, length, ap, sym, ◌∙◌, arith}
-use Rattle.std.specs.Prelude.{ℕ, ◌&&◌, not, nat_lt}
+use Rattle.std.specs.Prelude.{ℕ, ◌==◌, ◌&&◌, nat_lt}
 use Rattle.std.proofs.lemmas.Bool.{and_parts}
 use Rattle.std.proofs.lemmas.Bool.Decides.{nat_tests}
 use Rattle.loop_ir.specs.declared.expressions.Counter.{Counter}
@@ -12,10 +12,9 @@ use Rattle.loop_ir.specs.declared.statements.Stmt.TheOpen as layer
 use Rattle.loop_ir.specs.declared.statements.Stmt.TheVariants.{rolls-Store, rolls-Sequence, rolls-For, rolls-Bind}
 use Rattle.loop_ir.specs.declared.statements.Stmt.TheVariants as s
 use Rattle.scalar_code.specs.declared.places.Places.{Places}
-use Rattle.scalar_code.specs.Fitting.{is_word, fits_whole, has_seat}
+use Rattle.scalar_code.specs.Fitting.{fits_whole, has_seat}
 use Rattle.lane_code.specs.declared.groups.Group.{Group}
-use Rattle.lane_code.specs.Lanes.{is_moving}
-use Rattle.round_code.specs.Rounds.{Rounded, rounded, rounded_at, whole_goes, inside, bind_fits}
+use Rattle.round_code.specs.Rounds.{Rounded, rounded, rounded_at, whole_stride, whole_goes, inside, bind_fits}
 
 pub is-below : (n k : ℕ) → nat_lt n k ≡ true → n < k
 is-below n k t = grind (arith, nat_tests)
@@ -41,23 +40,21 @@ module _ (group : Group) (places : Places) where
   rounded-bind counter whole extent body = ap of (sym (rolls-Bind counter whole extent body)) ∙ fold-roll-Stmt Rounded (rounded_at group places) (layer.Bind counter whole extent body)
 
   -- the tests of a split loop's value
-  pub record BindFits (counter : Counter) (whole : Whole) (extent : ℕ) (body : Stmt) (all : Bool) (scope : List Counter) (moves : List Bool) : Type 0 where
+  pub record BindFits (counter : Counter) (whole : Whole) (extent : ℕ) (body : Stmt) (all : Bool) (scope : List Counter) (strides : List ℕ) : Type 0 where
     pub seat_is : length scope < 14
-    pub goes : whole_goes group all scope moves whole ≡ true
+    pub goes : whole_goes scope strides whole extent ≡ true
     pub whole_is : fits_whole whole ≡ true
-    pub extent_is : extent < 2 ^ 32
-    pub body_fits : (rounded group places body).fits (all && not (is_moving scope moves whole.inner)) (counter ∷ scope) (is_moving scope moves whole.inner ∷ moves) ≡ true
-    pub short : length (inside (rounded group places body) counter (is_moving scope moves whole.inner) scope moves) < 2 ^ 17
+    pub body_fits : (rounded group places body).fits (all && whole_stride scope strides whole == 0) (counter ∷ scope) (whole_stride scope strides whole ∷ strides) ≡ true
+    pub short : length (inside (rounded group places body) counter all scope strides (whole_stride scope strides whole)) < 2 ^ 17
 
-  pub bind-parts : (counter : Counter) (whole : Whole) (extent : ℕ) (body : Stmt) (all : Bool) (scope : List Counter) (moves : List Bool)
-      → (rounded group places (s.Bind counter whole extent body)).fits all scope moves ≡ true → BindFits counter whole extent body all scope moves
-  bind-parts counter whole extent body all scope moves fits =
-      let m = is_moving scope moves whole.inner in
+  pub bind-parts : (counter : Counter) (whole : Whole) (extent : ℕ) (body : Stmt) (all : Bool) (scope : List Counter) (strides : List ℕ)
+      → (rounded group places (s.Bind counter whole extent body)).fits all scope strides ≡ true → BindFits counter whole extent body all scope strides
+  bind-parts counter whole extent body all scope strides fits =
+      let m = whole_stride scope strides whole in
       let r = rounded group places body in
-      let k : bind_fits group r counter whole extent all scope moves m ≡ true = sym (ap (λ (r : Rounded). r.fits all scope moves) (rounded-bind counter whole extent body)) ∙ fits in
+      let k : bind_fits r counter whole extent all scope strides m ≡ true = sym (ap (λ (r : Rounded). r.fits all scope strides) (rounded-bind counter whole extent body)) ∙ fits in
       let a = and_parts (has_seat scope) _ k in
-      let b = and_parts (whole_goes group all scope moves whole) _ a.1 in
+      let b = and_parts (whole_goes scope strides whole extent) _ a.1 in
       let c = and_parts (fits_whole whole) _ b.1 in
-      let d = and_parts (is_word extent) _ c.1 in
-      let e = and_parts (r.fits (all && not m) (counter ∷ scope) (m ∷ moves)) (nat_lt (length (inside r counter m scope moves)) (2 ^ 17)) d.1 in
-      record { seat_is = is-below (length scope) 14 a.0; goes = b.0; whole_is = c.0; extent_is = is-below extent (2 ^ 32) d.0; body_fits = e.0; short = is-below (length (inside r counter m scope moves)) (2 ^ 17) e.1 }
+      let e = and_parts (r.fits (all && m == 0) (counter ∷ scope) (m ∷ strides)) (nat_lt (length (inside r counter all scope strides m)) (2 ^ 17)) c.1 in
+      record { seat_is = is-below (length scope) 14 a.0; goes = b.0; whole_is = c.0; body_fits = e.0; short = is-below (length (inside r counter all scope strides m)) (2 ^ 17) e.1 }

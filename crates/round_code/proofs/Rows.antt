@@ -1,6 +1,6 @@
--- Pixels that one instruction stores, one behind the other.
+-- Pixels that one instruction stores.
 use Rattle.std.proofs.Common.{◌≡◌, ℕ, zero, suc, ◌+◌, ◌*◌, ◌%◌, ◌^◌, ◌<◌, ◌≤◌, List, [], ◌∷◌, ◌++◌, length, Bool, true, false, refl, ap, ◌∙◌, sym, subst, arith, inl, inr}
-use Rattle.std.specs.Prelude.{◌⊎◌, ◌==◌, if◌then◌else◌, map, Option, Some}
+use Rattle.std.specs.Prelude.{◌==◌, if◌then◌else◌, map, Option, Some}
 use Rattle.std.proofs.lemmas.Bool.{cases_eq}
 use Rattle.memory.specs.Addresses.{byte_at, AreBytes}
 use Rattle.memory.specs.Access.{Word, access_at, touched}
@@ -10,10 +10,9 @@ use Rattle.halide_pipeline.specs.declared.expressions.Source.TheVariants as sour
 use Rattle.halide_meaning.specs.Pixel.{Planes, reads_of}
 use Rattle.loop_ir.specs.AtOnce.{Effect}
 use Rattle.loop_ir.specs.Running.{turns}
-use Rattle.lone_hart.specs.Alone.{World, Keeps, is_in}
+use Rattle.lone_hart.specs.Alone.{World, is_in}
 use Rattle.lone_hart.specs.Paths.{stored_at}
 use Rattle.lone_hart.specs.LaneMemory.{firsts, accesses_to, AllWritable, stored_lanes}
-use Rattle.lone_hart.proofs.Flags.{firsts-same}
 use Rattle.scalar_code.specs.declared.places.Place.{Place}
 use Rattle.scalar_code.specs.Code.{place_of, pixel_bytes}
 use Rattle.scalar_code.specs.Layout.{func_point, address_of, Holds, IsOf, IsElsewhere, MayStore}
@@ -61,8 +60,7 @@ no-turn : (c p x k : ℕ) → c + 4 * (p + x) < 2 ^ 32 → k < 16 → (x + k) % 
 no-turn c p x k low few = omega (arith, low, few)
 
 module _ (own : Setting) (good : IsSetting own) (func n : ℕ) (few : n ≤ 16) (x y v : ℕ → ℕ)
-    (can : (k : ℕ) → k < n → own.written func (x k) (y k) ≡ true) (small : (k : ℕ) → k < n → v k < 2 ^ 32)
-    (along : (k : ℕ) → k < n → x k ≡ (x 0 + k) % 2 ^ 32) (steady : (k : ℕ) → k < n → y k ≡ y 0) where
+    (can : (k : ℕ) → k < n → own.written func (x k) (y k) ≡ true) (small : (k : ℕ) → k < n → v k < 2 ^ 32) where
   abbrev w : World
   w = own.world
 
@@ -81,33 +79,11 @@ module _ (own : Setting) (good : IsSetting own) (func n : ℕ) (few : n ≤ 16) 
   words-at : (k : ℕ) → k < n → (i j : ℕ) → address_of w own.places (func_point func i j) ≡ place.start + place.distance * w.hart + 4 * (j * place.width + i)
   words-at k b i j = ap (λ p. place.start + place.distance * w.hart + pixel_bytes p * (j * place.width + i)) (may k b).are_words
 
-  column : (k : ℕ) → k < n → x k ≡ x 0 + k
-  column k b =
-      let low = (may 0 (omega (arith, b))).low in
-      let e = words-at k b (x 0) (y 0) in
-      along k b ∙ no-turn (place.start + place.distance * w.hart) (y 0 * place.width) (x 0) k (omega (arith, low, e)) (omega (arith, b, few))
+  pub spot-is : (k : ℕ) → k < n → spot k ≡ place.start + place.distance * w.hart + 4 * (y k * place.width + x k)
+  spot-is k b = words-at k b (x k) (y k)
 
-  from-first : (k : ℕ) → k < n → spot k ≡ address_of w own.places (func_point func (x 0 + k) (y 0))
-  from-first k b = ap (λ i. address_of w own.places (func_point func i (y k))) (column k b) ∙ ap (λ j. address_of w own.places (func_point func (x 0 + k) j)) (steady k b)
-
-  -- each address is so far from the first
-  pub row-address : (k : ℕ) → k < n → lanes.add 32 (spot 0) (k * 4) ≡ spot k
-  row-address k b =
-      let c = place.start + place.distance * w.hart in
-      let p = y 0 * place.width in
-      let e0 = words-at k b (x 0) (y 0) in
-      let ek : spot k ≡ c + 4 * (p + (x 0 + k)) = from-first k b ∙ words-at k b (x 0 + k) (y 0) in
-      let low0 = (may 0 (omega (arith, b))).low in
-      let lowk = (may k b).low in
-      ap (λ a. lanes.add 32 a (k * 4)) e0 ∙ row-goes c p (x 0) k (omega (arith, low0, e0)) (omega (arith, lowk, ek)) ∙ sym ek
-
-  written-row : (k : ℕ) → k < n → own.written func (x 0 + k) (y 0) ≡ true
-  written-row k b = ap (λ i. own.written func i (y 0)) (sym (column k b)) ∙ ap (own.written func (x k)) (sym (steady k b)) ∙ can k b
-
-  pub row-keeps : Keeps w (touched (accesses_to Word n spot))
-  row-keeps =
-      subst (λ spots. Keeps w (touched (map (access_at Word) spots))) (firsts-same 0 n (λ k. address_of w own.places (func_point func (x 0 + k) (y 0))) spot (λ k lo hi. sym (from-first k (omega (arith, hi)))))
-      (good.rows n func (x 0) (y 0) written-row)
+  pub low-spot : (k : ℕ) → k < n → place.start + place.distance * w.hart + 4 * (y k * place.width + x k) < 2 ^ 32
+  low-spot k b = let low = (may k b).low in let e = spot-is k b in omega (arith, low, e)
 
   pub all-writable : AllWritable w Word n spot
   all-writable = record {
@@ -115,8 +91,31 @@ module _ (own : Setting) (good : IsSetting own) (func n : ℕ) (few : n ≤ 16) 
     above = λ k b. (may k b).may.above;
     below = λ k b. (may k b).may.below;
     may = λ k b. (may k b).may.may;
-    keeps = row-keeps;
+    keeps = good.at_once n func x y can;
   }
+
+  -- ---- pixels one behind the other
+
+  module _ (along : (k : ℕ) → k < n → x k ≡ (x 0 + k) % 2 ^ 32) (steady : (k : ℕ) → k < n → y k ≡ y 0) where
+    column : (k : ℕ) → k < n → x k ≡ x 0 + k
+    column k b =
+        let low = (may 0 (omega (arith, b))).low in
+        let e = words-at k b (x 0) (y 0) in
+        along k b ∙ no-turn (place.start + place.distance * w.hart) (y 0 * place.width) (x 0) k (omega (arith, low, e)) (omega (arith, b, few))
+
+    from-first : (k : ℕ) → k < n → spot k ≡ address_of w own.places (func_point func (x 0 + k) (y 0))
+    from-first k b = ap (λ i. address_of w own.places (func_point func i (y k))) (column k b) ∙ ap (λ j. address_of w own.places (func_point func (x 0 + k) j)) (steady k b)
+
+    -- each address is so far from the first
+    pub row-address : (k : ℕ) → k < n → lanes.add 32 (spot 0) (k * 4) ≡ spot k
+    row-address k b =
+        let c = place.start + place.distance * w.hart in
+        let p = y 0 * place.width in
+        let e0 = words-at k b (x 0) (y 0) in
+        let ek : spot k ≡ c + 4 * (p + (x 0 + k)) = from-first k b ∙ words-at k b (x 0 + k) (y 0) in
+        let low0 = (may 0 (omega (arith, b))).low in
+        let lowk = (may k b).low in
+        ap (λ a. lanes.add 32 a (k * 4)) e0 ∙ row-goes c p (x 0) k (omega (arith, low0, e0)) (omega (arith, lowk, ek)) ∙ sym ek
 
   -- ---- what memory holds behind so many of them
 

@@ -5,10 +5,10 @@ use Rattle.scalar_code.specs.Words.{Emits}
 use Rattle.round_code.specs.Rounds.{Rounded}
 
 -- A statement can be done for all rounds at once.
-abbrev pub FitsRounds : Rounded → Bool → List Counter → List Bool → Type 0
-FitsRounds own all scope moves = own.fits all scope moves ≡ true
+abbrev pub FitsRounds : Rounded → Bool → List Counter → List ℕ → Type 0
+FitsRounds own all scope strides = own.fits all scope strides ≡ true
 
 -- words of the code are appended that does so
-pub record EmitsRounds (old new : List ℕ) (own : Rounded) (all : Bool) (scope : List Counter) (moves : List Bool) : Type 0 where
-  pub emits : Emits old new (own.code scope moves)
-  pub can : FitsRounds own all scope moves
+pub record EmitsRounds (old new : List ℕ) (own : Rounded) (all : Bool) (scope : List Counter) (strides : List ℕ) : Type 0 where
+  pub emits : Emits old new (own.code all scope strides)
+  pub can : FitsRounds own all scope strides

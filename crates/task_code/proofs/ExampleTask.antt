@@ -1,13 +1,13 @@
 -- The example meets what is asked of tasks.
 use Rattle.std.proofs.Common.{◌≡◌, ℕ, zero, suc, ◌+◌, ◌*◌, ◌%◌, ◌^◌, ◌<◌, List, [], ◌∷◌, ◌++◌, length, true, refl, ap, ◌∙◌, sym, subst, arith}
-use Rattle.std.specs.Prelude.{◌==◌, ◌&&◌, nat_lt, if◌then◌else◌, pos, Some}
+use Rattle.std.specs.Prelude.{◌==◌, ◌&&◌, map, nat_lt, if◌then◌else◌, pos, Some}
 use Rattle.std.specs.List.{list_all}
 use Rattle.std.proofs.lemmas.Bool.{and_parts, true≢false}
 use Rattle.std.proofs.lemmas.Bool.Decides.{nat_tests}
 use Rattle.rv_insn.specs.declared.instructions.Insn.{Insn}
 use Rattle.rv_insn.specs.declared.instructions.Insn.TheVariants.{Store as Save}
 use Rattle.rv_insn.specs.declared.operations.StoreOp.TheVariants as save_ops
-use Rattle.memory.specs.Access.{Word, number_in}
+use Rattle.memory.specs.Access.{Word, access_at, number_in, touched}
 use Rattle.halide_pipeline.specs.declared.expressions.Source.{Source}
 use Rattle.halide_pipeline.specs.declared.expressions.Source.TheVariants as sources
 use Rattle.halide_meaning.specs.Pixel.{Planes, Reads, reads_of}
@@ -24,6 +24,7 @@ use Rattle.loop_ir.specs.Rounds.{Rounds}
 use Rattle.loop_ir.proofs.Rounds.{rounds_store}
 use Rattle.loop_ir.proofs.Sound.{sound_store}
 use Rattle.loop_ir.proofs.Trees.{run_store}
+use Rattle.lone_hart.specs.LaneMemory.{firsts}
 use Rattle.lone_hart.specs.Paths.{Stand, end, Path}
 use Rattle.scalar_code.specs.Code.{leaf, Deep, deep, deep_at, deep_leaf, is_linear, linear_code, literal, move, addressed}
 use Rattle.task_code.specs.Code.{task_code, restored}
@@ -31,7 +32,7 @@ use Rattle.scalar_code.specs.Evaluation.{IsPlace, ArePlaces}
 use Rattle.scalar_code.specs.Fitting.{has_room, is_word}
 use Rattle.task_code.specs.Fitting.{fits_task, task_turns}
 use Rattle.scalar_code.specs.Layout.{func_point, address_of, size_of, IsAt, MayStore, MayLoad, Laid}
-use Rattle.scalar_code.specs.Doing.{IsSetting, RowsMayBeWritten, SoundIn, HoldsFuncs}
+use Rattle.scalar_code.specs.Doing.{IsSetting, MayBeWrittenAtOnce, SoundIn, HoldsFuncs}
 use Rattle.task_code.specs.Doing.{AtOnceIn}
 use Rattle.task_code.specs.Example.{example_counter, counted, example_store, example_phase, example_place, example_places, example_ticket, example_text, example_data, example_world, nothing, its_points, is_its_point, example_setting, ExampleIsDone}
 use Rattle.scalar_code.proofs.Spelling.{stand-spelled}
@@ -189,6 +190,14 @@ starts-empty zero l = refl
 starts-empty (suc zero) l = refl
 starts-empty (suc (suc n)) l = absurd (omega (arith, l))
 
+-- so many words have four times as many bytes
+words-long : (i n : ℕ) (a : ℕ → ℕ) → length (touched (map (access_at Word) (firsts i n a))) ≡ 4 * n
+words-long i zero a = refl
+words-long i (suc n) a = let e = words-long (suc i) n a in let g : length (touched (map (access_at Word) (firsts i (suc n) a))) ≡ suc (suc (suc (suc (length (touched (map (access_at Word) (firsts (suc i) n a))))))) = refl in omega (arith, e, g)
+
+are-words : (n k : ℕ) → n ≡ 4 * k → (n % 4 == 0) ≡ true
+are-words n k e = let r : n % 4 ≡ 0 = omega (arith, e) in grind (arith, nat_tests, r)
+
 module _ (task : ℕ) (small : task < 2) where
   -- what holds of the task's own point holds of each point that may be loaded
   of-loaded : (P : Point → Type 0) → P (func_point 0 task 0) → (source : Source) (x y : ℕ) → is_its_point task (record { source = source; x = x; y = y }) ≡ true → P (record { source = source; x = x; y = y })
@@ -217,18 +226,11 @@ module _ (task : ℕ) (small : task < 2) where
     };
   }
 
-  rows-are : RowsMayBeWritten (example_setting task)
-  rows-are zero func x y is = λ address owner there owned. absurd (true≢false (sym there))
-  rows-are (suc zero) func x y is = let may = laid-is.stores func (x + 0) y (is 0 (omega arith)) in may.may.keeps
-  rows-are (suc (suc n)) func x y is =
-      let a = is-its task func (x + 0) y (is 0 (omega arith)) in
-      let b = is-its task func (x + 1) y (is 1 (omega arith)) in
-      let ca = a.column_is in
-      let cb = b.column_is in
-      absurd (omega (arith, ca, cb))
+  at-once-are : MayBeWrittenAtOnce (example_setting task)
+  at-once-are n func x y is = λ address owner there owned. are-words _ n (words-long 0 n (λ k. address_of (example_world task) example_places (func_point func (x k) (y k))))
 
   good : IsSetting (example_setting task)
-  good = record { are_places = are-places; laid = laid-is; have = λ func x y is. is; are_words = λ place x y lx ly. omega arith; rows = rows-are }
+  good = record { are_places = are-places; laid = laid-is; have = λ func x y is. is; are_words = λ place x y lx ly. omega arith; at_once = at-once-are }
 
   once-is : AtOnceIn (example_setting task) example_phase.body (task_values (Some example_counter) task)
   once-is funcs are = ap (λ (r : Rounds). r.may_be_at_once (task_values (Some example_counter) task)) (rounds_store (reads_of nothing funcs) example_store)

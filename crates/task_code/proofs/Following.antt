@@ -16,7 +16,7 @@ use Rattle.loop_ir.specs.declared.statements.Stmt.TheVariants.{rolls-Store, roll
 use Rattle.loop_ir.specs.declared.statements.Stmt.TheVariants as s
 use Rattle.loop_ir.specs.declared.statements.LoopKind.TheVariants as kinds
 use Rattle.loop_ir.specs.Counters.{Values, with}
-use Rattle.loop_ir.specs.Rounds.{Rounds, rounds, are_apart, is_round_count, is_vectorized, may_be_at_once}
+use Rattle.loop_ir.specs.Rounds.{Rounds, rounds, are_apart, all_step_up, is_round_count, is_vectorized, may_be_at_once}
 use Rattle.loop_ir.proofs.Rounds.{rounds_sequence, rounds_for, rounds_bind}
 use Rattle.loop_ir.specs.Expressions.{value}
 use Rattle.loop_ir.specs.Running.{run, whole_value}
@@ -111,7 +111,7 @@ module _ (own : Setting) (good : IsSetting own) where
       let each = λ (i : ℕ) (l : i < count) (p : Planes) (words : AreWords p). each-turn count (λ turn. is_sound (reads_of own.inputs p) own.written own.loaded body (at turn))
       (sym (sound_for (reads_of own.inputs p) own.written own.loaded counter count kind body values) ∙ sound p words) i l in
       let each-once = λ (i : ℕ) (l : i < count) (p : Planes) (words : AreWords p). each-turn count (λ turn. may_be_at_once (reads_of own.inputs p) body (at turn))
-      (and_parts (not (is_vectorized kind) || (is_round_count count && ((rounds (reads_of own.inputs p) body).is_one_store && are_apart (rounds (reads_of own.inputs p) body) at count))) (every count (λ turn. may_be_at_once (reads_of own.inputs p) body (at turn)))
+      (and_parts (not (is_vectorized kind) || (is_round_count count && ((rounds (reads_of own.inputs p) body).is_one_store && (are_apart (rounds (reads_of own.inputs p) body) at count && all_step_up (rounds (reads_of own.inputs p) body) at count)))) (every count (λ turn. may_be_at_once (reads_of own.inputs p) body (at turn)))
       (sym (ap (λ (r : Rounds). r.may_be_at_once values) (rounds_for (reads_of own.inputs p) counter count kind body)) ∙ once p words)).1 i l in
       let a = loop-does own scope values (below (length scope) 14 k.0) counter count (below count (2 ^ 32) j.0) (stmt_code own.places body (counter ∷ scope))
       (λ i. stmt_turns own.places body (counter ∷ scope) (at i)) (λ i p. after body (at i) p) (λ i p. hits body (at i) p)

@@ -2,7 +2,7 @@
 -- premise of it is one that nothing meets. This project's own.
 --
 -- Task t stores 7 + t at column t of the only buffer, which lies behind the phase's two words.
-use Rattle.std.specs.Prelude.{◌≡◌, ◌<◌, ℕ, ◌+◌, ◌*◌, ◌-◌, ◌/◌, ◌==◌, ◌&&◌, nat_lt, if◌then◌else◌, Bool, false, List, [], ◌∷◌, length, replicate, Some, None}
+use Rattle.std.specs.Prelude.{◌%◌, ◌≡◌, ◌<◌, ℕ, ◌+◌, ◌*◌, ◌-◌, ◌/◌, ◌==◌, ◌&&◌, nat_lt, if◌then◌else◌, Bool, false, List, [], ◌∷◌, length, replicate, Some, None}
 use Rattle.memory.specs.Addresses.{text_start}
 use Rattle.memory.specs.Access.{word_at}
 use Rattle.halide_pipeline.specs.declared.expressions.Source.TheVariants as sources
@@ -136,11 +136,12 @@ example_data = replicate 16 0
 abbrev pub example_uses : ℕ → Use
 example_uses address = if nat_lt address 0x00200008 then Control else (if nat_lt address 0x00200010 then Owned ((address - 0x00200008) / 4) else Fixed)
 
-abbrev pub writes_a_word : ℕ → List ℕ → Bool
-writes_a_word task places = length places == 4
+-- a turn writes whole words
+abbrev pub writes_words : ℕ → List ℕ → Bool
+writes_words task places = length places % 4 == 0
 
 abbrev pub example_world : ℕ → World
-example_world task = record { text = example_text; size = 16; uses = example_uses; rule = writes_a_word; job = Task task; hart = 0 }
+example_world task = record { text = example_text; size = 16; uses = example_uses; rule = writes_words; job = Task task; hart = 0 }
 
 abbrev pub nothing : Planes
 nothing place x y = 0

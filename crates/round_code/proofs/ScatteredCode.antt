@@ -1,0 +1,283 @@
+-- The code of pixels that lie anywhere stores them.
+use Rattle.std.proofs.Common.{◌≡◌, ℕ, ◌+◌, ◌*◌, ◌^◌, ◌<◌, ◌≤◌, List, [], ◌∷◌, ◌++◌, length, true, refl, ap, ◌∙◌, sym, subst, arith, inl, inr}
+use Rattle.std.specs.Prelude.{◌⊎◌, ◌&&◌, min, Option, Some, None}
+use Rattle.std.specs.List.{list_all, AllByRecursion}
+use Rattle.std.proofs.lemmas.Bool.{and_parts}
+use Rattle.std.proofs.lemmas.List.Folds.{list_all-append}
+use Rattle.rv_insn.specs.declared.instructions.Insn.{Insn}
+use Rattle.rv_insn.specs.declared.instructions.Insn.TheVariants.{Vector}
+use Rattle.rv_insn.specs.declared.vector_instructions.VectorInsn.TheVariants as v
+use Rattle.rv_insn.specs.declared.vector_instructions.Addressing.TheVariants as addressings
+use Rattle.rv_insn.specs.declared.vector_operations.ElementWidth.TheVariants.{Bits32}
+use Rattle.vector_unit.specs.VectorState.{most_elements}
+use Rattle.memory.specs.Access.{Word, touched}
+use Rattle.lanes.specs.Words as lanes
+use Rattle.halide_pipeline.specs.declared.expressions.Source.TheVariants as sources
+use Rattle.halide_meaning.specs.Pixel.{Planes, Reads, reads_of}
+use Rattle.loop_ir.specs.declared.expressions.Counter.{Counter}
+use Rattle.loop_ir.specs.declared.expressions.Expr.{Expr}
+use Rattle.loop_ir.specs.declared.statements.Store.{Store}
+use Rattle.loop_ir.specs.declared.statements.Stmt.TheVariants as s
+use Rattle.loop_ir.specs.AtOnce.{Effect, effect}
+use Rattle.loop_ir.specs.Counters.{Values}
+use Rattle.loop_ir.specs.Expressions.{value, loads}
+use Rattle.loop_ir.specs.Soundness.{store_loads, is_sound_store}
+use Rattle.loop_ir.proofs.AtOnce.{effect_store}
+use Rattle.lone_hart.specs.Alone.{World, is_in}
+use Rattle.lone_hart.specs.Paths.{Path, Line, end, configure, lane, vl_number, vtype_number}
+use Rattle.lone_hart.specs.LaneMemory.{accesses_to, stored_lanes, AllWritable}
+use Rattle.lone_hart.proofs.Configurations.{configure-by}
+use Rattle.lone_hart.proofs.LaneStores.{stores, stores-write}
+use Rattle.scalar_code.specs.declared.places.Place.{Place}
+use Rattle.scalar_code.specs.declared.places.Places.{Places}
+use Rattle.scalar_code.specs.Code.{place_of}
+use Rattle.scalar_code.specs.Evaluation.{Knows, Loads}
+use Rattle.scalar_code.specs.Layout.{func_point, address_of, IsOf}
+use Rattle.scalar_code.specs.Doing.{Setting, IsSetting, HoldsFuncs}
+use Rattle.scalar_code.proofs.Spilling.{all-loaded}
+use Rattle.scalar_code.proofs.Keeping.{Kept, kept-safe, knows-still}
+use Rattle.scalar_code.proofs.Going.{no_hits, Does, still, lines-then, went-hits, went-is}
+use Rattle.lane_code.specs.declared.groups.Group.{Group}
+use Rattle.lane_code.specs.Groups.{registers, slot, vtype_of}
+use Rattle.lane_code.specs.Lanes.{laned, offsets}
+use Rattle.lane_code.specs.Leaving.{GoAlong, HasLanes, IsKept}
+use Rattle.lane_code.proofs.Evaluation.{lanes-leave, values-go, slot-there}
+use Rattle.lane_code.proofs.LanedParts.{own-is}
+use Rattle.lane_code.proofs.Offsets.{offsets-reach, offset-address}
+use Rattle.lane_code.proofs.Slots.{SlotLies, slot-lies}
+use Rattle.lane_code.proofs.Rows.{lanes-kept, few-rounds, slot-still}
+use Rattle.round_code.specs.Rounds.{scattered_code, scattered_fits}
+use Rattle.round_code.proofs.Effects.{HitBy, effect_hits, laid, laid-same}
+use Rattle.round_code.proofs.RowCode.{supported, most, few-lanes, has-lanes, configured-others}
+use Rattle.round_code.proofs.Rows.{lanes-same, spot-is, low-spot, all-writable, row-holds, row-touched}
+
+abbrev of_some : Effect → Option Effect → Effect
+of_some other None = other
+of_some other (Some own) = own
+
+-- the tests of an expression in a slot
+pub record SlotFits (group : Group) (places : Places) (scope : List Counter) (strides : List ℕ) (e : Expr) (k : ℕ) : Type 0 where
+  pub fits : (laned group places scope strides e).fits k ≡ true
+  pub word : (laned group places scope strides e).own.is_word ≡ true
+
+-- and of a store
+pub record ScatteredFits (group : Group) (places : Places) (scope : List Counter) (strides : List ℕ) (store : Store) : Type 0 where
+  pub value_fits : SlotFits group places scope strides store.value 0
+  pub x_fits : SlotFits group places scope strides store.x 1
+  pub y_fits : SlotFits group places scope strides store.y 2
+
+pub scattered-parts : (group : Group) (places : Places) (scope : List Counter) (strides : List ℕ) (store : Store) → scattered_fits group places scope strides store ≡ true → ScatteredFits group places scope strides store
+scattered-parts group places scope strides store is =
+    let lv = laned group places scope strides store.value in
+    let lx = laned group places scope strides store.x in
+    let ly = laned group places scope strides store.y in
+    let a = and_parts (lv.fits 0 && lv.own.is_word) _ is in
+    let b = and_parts (lx.fits 1 && lx.own.is_word) (ly.fits 2 && ly.own.is_word) a.1 in
+    let c = and_parts (lv.fits 0) lv.own.is_word a.0 in
+    let d = and_parts (lx.fits 1) lx.own.is_word b.0 in
+    let e = and_parts (ly.fits 2) ly.own.is_word b.1 in
+    record { value_fits = record { fits = c.0; word = c.1 }; x_fits = record { fits = d.0; word = d.1 }; y_fits = record { fits = e.0; word = e.1 } }
+
+module _ (own : Setting) (good : IsSetting own) (group : Group) (scope : List Counter) (strides : List ℕ) (at : ℕ → Values) (n : ℕ)
+    (some : 1 ≤ n) (go : GoAlong scope strides at n) (store : Store) (funcs : Planes)
+    (sound : (k : ℕ) → k < n → is_sound_store (reads_of own.inputs funcs) own.written own.loaded store (at k) ≡ true) (fit : ScatteredFits group own.places scope strides store) where
+  abbrev w : World
+  w = own.world
+
+  abbrev depth : ℕ
+  depth = length scope
+
+  abbrev reads : Reads
+  reads = reads_of own.inputs funcs
+
+  abbrev x : ℕ → ℕ
+  x k = value reads (at k) store.x
+
+  abbrev y : ℕ → ℕ
+  y k = value reads (at k) store.y
+
+  abbrev pixel : ℕ → ℕ
+  pixel k = value reads (at k) store.value
+
+  abbrev place : Place
+  place = place_of own.places (sources.Func store.func)
+
+  -- all that a round loads may be loaded
+  record Sounds (k : ℕ) : Type 0 where
+    writes : own.written store.func (x k) (y k) ≡ true
+    of_x : list_all own.loaded (loads reads (at k) store.x) ≡ true
+    of_y : list_all own.loaded (loads reads (at k) store.y) ≡ true
+    of_value : list_all own.loaded (loads reads (at k) store.value) ≡ true
+
+  sounds : (k : ℕ) → k < n → Sounds k
+  sounds k b =
+      let t = and_parts (own.written store.func (x k) (y k)) (list_all own.loaded (store_loads reads (at k) store)) (sound k b) in
+      let p = and_parts (list_all own.loaded (loads reads (at k) store.x)) _ (sym (list_all-append own.loaded (loads reads (at k) store.x) (loads reads (at k) store.y ++ loads reads (at k) store.value)) ∙ t.1) in
+      let q = and_parts (list_all own.loaded (loads reads (at k) store.y)) (list_all own.loaded (loads reads (at k) store.value)) (sym (list_all-append own.loaded (loads reads (at k) store.y) (loads reads (at k) store.value)) ∙ p.1) in
+      record { writes = t.0; of_x = p.0; of_y = q.0; of_value = q.1 }
+
+  loaded : (e : Expr) → ((k : ℕ) → k < n → list_all own.loaded (loads reads (at k) e) ≡ true) → (memory : List ℕ) → HoldsFuncs own memory funcs
+      → (k : ℕ) → k < n → AllByRecursion (Loads w own.places memory reads) (loads reads (at k) e)
+  loaded e may memory holds k b = all-loaded own good scope (at k) funcs memory holds (loads reads (at k) e) (may k b)
+
+  kept-low : (q : ℕ) → Kept depth q → q < 32
+  kept-low q kept = let s = kept-safe depth q kept in let o = s.outside in omega (arith, o)
+
+  above-scratch : (q : ℕ) → (q < 13) ⊎ (15 < q) → (q < 13) ⊎ (14 < q)
+  above-scratch q (inl l) = inl l
+  above-scratch q (inr l) = inr (omega (arith, l))
+
+  kept-in : (k q : ℕ) → Kept depth q → IsKept group k q
+  kept-in k q kept = let s = kept-safe depth q kept in inl (s.outside, above-scratch q s.apart)
+
+  module _ (memory : List ℕ) (holds : HoldsFuncs own memory funcs) where
+    lies : (e : Expr) (k : ℕ) → (laned group own.places scope strides e).fits k ≡ true → SlotLies group k
+    lies e k fits = slot-lies group k (slot-there w own.harts memory group own.places scope strides at reads n holds.size good.are_places some go e k fits)
+
+    lanes-few : {f : ℕ → ℕ} → HasLanes group n f → n ≤ 4 * registers group
+    lanes-few {f} has = few-rounds w memory holds.size group n f has
+
+    -- lines that keep what code of a slot keeps
+    abbrev quiet : (code : List Insn) (k : ℕ) (f after : ℕ → ℕ) → ((q : ℕ) → IsKept group k q → after q ≡ f q) → Line w code f memory after memory → Does own code (length code) f memory depth funcs no_hits
+    quiet code k f after keeps line = still own (λ at. at) (λ at. end at code) (length code) after holds (λ q kept. keeps q (kept-in k q kept)) (λ at s. line at s)
+
+    has-still : (k : ℕ) (f after : ℕ → ℕ) → ((q : ℕ) → IsKept group k q → after q ≡ f q) → HasLanes group n f → HasLanes group n after
+    has-still k f after keeps has = lanes-kept w memory holds.size group n f after (keeps vl_number (inr (inl (inl refl)))) (keeps vtype_number (inr (inl (inr refl)))) has
+
+    abbrev stored_at : ℕ → Effect
+    stored_at k = record { func = store.func; x = x k; y = y k; pixel = pixel k }
+
+    abbrev pixels_at : ℕ → Option Effect
+    pixels_at k = Some (stored_at k)
+
+    small : (k : ℕ) → k < n → pixel k < 2 ^ 32
+    small =
+        let go' = values-go w own.harts memory group own.places scope strides at reads n holds.size good.are_places some go store.value
+        (sym (ap (λ m. m.is_word) (own-is group own.places scope strides store.value)) ∙ fit.value_fits.word) (loaded store.value (λ k b. (sounds k b).of_value) memory holds) in
+        go'.small
+
+    module _ (few : n ≤ 16) where
+      abbrev can : (k : ℕ) → k < n → own.written store.func (x k) (y k) ≡ true
+      can k b = (sounds k b).writes
+
+      abbrev spots : ℕ → ℕ
+      spots k = address_of w own.places (func_point store.func (x k) (y k))
+
+      hit-one : (func i j byte : ℕ) → HitBy pixels_at n func i j → IsOf w own.places func i j byte → is_in byte (touched (accesses_to Word n spots)) ≡ true
+      hit-one func i j byte hit of =
+          let r = hit.round in
+          let e : stored_at r ≡ hit.stored = ap (of_some hit.stored) hit.is in
+          let ef = ap (λ (a : Effect). a.func) e ∙ hit.func_is in
+          let ex = ap (λ (a : Effect). a.x) e ∙ hit.x_is in
+          let ey = ap (λ (a : Effect). a.y) e ∙ hit.y_is in
+          row-touched own good store.func n few x y pixel can small r byte hit.below
+          (subst (λ a. IsOf w own.places a (x r) (y r) byte) (sym ef) (subst (λ a. IsOf w own.places func a (y r) byte) (sym ex) (subst (λ a. IsOf w own.places func i a byte) (sym ey) of)))
+
+      abbrev last_code : List Insn
+      last_code = Vector (v.StoreElements Bits32 (slot group 0) 13 (addressings.Indexed (slot group 1)) true) ∷ []
+
+      -- the last instruction
+      stored-does : SlotLies group 0 → SlotLies group 1 → (f : ℕ → ℕ) → HasLanes group n f → ((k : ℕ) → k < n → lanes.add 32 (f 13) (f (lane (slot group 1) k)) ≡ spots k) → ((k : ℕ) → k < n → f (lane (slot group 0) k) ≡ pixel k)
+          → Does own last_code 1 f memory depth (laid own.points pixels_at n funcs) (effect_hits pixels_at n)
+      stored-does lies0 lies1 f has places values =
+          let count = has.count in
+          let writable : AllWritable w Word (f vl_number) spots = subst (λ k. AllWritable w Word k spots) (sym count) (all-writable own good store.func n few x y pixel can small) in
+          let where-is : (k : ℕ) → k < f vl_number → lanes.add 32 (f 13) (f (lane (slot group 1) k)) ≡ spots k = λ k b. places k (omega (arith, b, count)) in
+          let left-is : stored_lanes memory Word (f vl_number) spots (λ k. f (lane (slot group 0) k)) ≡ stored_lanes memory Word n spots pixel =
+          ap (λ k. stored_lanes memory Word k spots (λ k. f (lane (slot group 0) k))) count ∙ lanes-same memory n spots (λ k. f (lane (slot group 0) k)) pixel values in
+          let line = stores w f memory holds.size (registers group) has.configured (addressings.Indexed (slot group 1)) (slot group 0) 13 spots lies0.is_group (omega arith) lies1.is_group where-is writable in
+          let row = row-holds own good store.func n few x y pixel can small n (omega arith) memory funcs holds in
+          record {
+            after = f;
+            left = stored_lanes memory Word n spots pixel;
+            path = λ at s. subst (λ m. Path w at (at + 4) 1 f memory f m) left-is (line at s);
+            keeps = λ q kept. refl;
+            holds = row.holds;
+            elsewhere = row.elsewhere;
+            are_bytes = row.are_bytes;
+            writes = λ func i j byte at hit of s.
+                stores-write w f memory holds.size (registers group) has.configured (addressings.Indexed (slot group 1)) (slot group 0) 13 spots lies0.is_group (omega arith) lies1.is_group where-is writable at byte s.0
+                (subst (λ k. is_in byte (touched (accesses_to Word k spots)) ≡ true) (sym count) (hit-one func i j byte hit of));
+          }
+
+      abbrev value_code : List Insn
+      value_code = (laned group own.places scope strides store.value).code 0
+
+      abbrev x_code : List Insn
+      x_code = (laned group own.places scope strides store.x).code 1
+
+      abbrev y_code : List Insn
+      y_code = (laned group own.places scope strides store.y).code 2
+
+      abbrev offsets_code : List Insn
+      offsets_code = offsets place (slot group 1) (slot group 2)
+
+      tail-does : (f : ℕ → ℕ) → Knows w own.harts scope (at 0) f → HasLanes group n f
+          → Does own (value_code ++ (x_code ++ (y_code ++ (offsets_code ++ last_code)))) (length (value_code ++ (x_code ++ (y_code ++ (offsets_code ++ last_code))))) f memory depth (laid own.points pixels_at n funcs) (effect_hits pixels_at n)
+      tail-does f knows has =
+          let lies0 = lies store.value 0 fit.value_fits.fits in
+          let lies1 = lies store.x 1 fit.x_fits.fits in
+          let lies2 = lies store.y 2 fit.y_fits.fits in
+          let room = lanes-few has in
+          let a = lanes-leave w own.harts memory group own.places scope strides at reads n holds.size good.are_places some go store.value 0 fit.value_fits.fits
+          (sym (ap (λ m. m.is_word) (own-is group own.places scope strides store.value)) ∙ fit.value_fits.word) (loaded store.value (λ k b. (sounds k b).of_value) memory holds) f knows has in
+          let fa = a.after in
+          let da = quiet value_code 0 f fa a.keeps (λ at s. a.line at s) in
+          let ka = knows-still w own.harts scope (at 0) f fa knows da.keeps in
+          let la = has-still 0 f fa a.keeps has in
+          let b = lanes-leave w own.harts memory group own.places scope strides at reads n holds.size good.are_places some go store.x 1 fit.x_fits.fits
+          (sym (ap (λ m. m.is_word) (own-is group own.places scope strides store.x)) ∙ fit.x_fits.word) (loaded store.x (λ k b. (sounds k b).of_x) memory holds) fa ka la in
+          let fb = b.after in
+          let db = quiet x_code 1 fa fb b.keeps (λ at s. b.line at s) in
+          let kb = knows-still w own.harts scope (at 0) fa fb ka db.keeps in
+          let lb = has-still 1 fa fb b.keeps la in
+          let c = lanes-leave w own.harts memory group own.places scope strides at reads n holds.size good.are_places some go store.y 2 fit.y_fits.fits
+          (sym (ap (λ m. m.is_word) (own-is group own.places scope strides store.y)) ∙ fit.y_fits.word) (loaded store.y (λ k b. (sounds k b).of_y) memory holds) fb kb lb in
+          let fc = c.after in
+          let dc = quiet y_code 2 fb fc c.keeps (λ at s. c.line at s) in
+          let kc = knows-still w own.harts scope (at 0) fb fc kb dc.keeps in
+          let lc = has-still 2 fb fc c.keeps lb in
+          let above1 : slot group 0 + registers group ≤ slot group 1 = (let e = lies0.next in omega (arith, e)) in
+          let above2 : slot group 1 + registers group ≤ slot group 2 = (let e = lies1.next in omega (arith, e)) in
+          let above3 : slot group 0 + registers group ≤ slot group 2 = omega (arith, above1, above2) in
+          let x_there : (i : ℕ) → i < n → fc (lane (slot group 1) i) ≡ x i = λ i b'. c.keeps (lane (slot group 1) i) (slot-still w memory holds.size group n 1 2 lies1 i b' room above2) ∙ b.value i b' in
+          let d = offsets-reach w memory holds.size group n 1 lies1 place x y (low-spot own good store.func n few x y pixel can small) (good.are_places (sources.Func store.func)) (slot group 2) fc lies2.is_group above2 lc x_there c.value kc.number in
+          let fd = d.after in
+          let dd = quiet offsets_code 1 fc fd d.keeps (λ at s. d.line at s) in
+          let ld = has-still 1 fc fd d.keeps lc in
+          let places : (k : ℕ) → k < n → lanes.add 32 (fd 13) (fd (lane (slot group 1) k)) ≡ spots k =
+          λ k b'. offset-address w memory holds.size group n 1 lies1 place x y (low-spot own good store.func n few x y pixel can small) (good.are_places (sources.Func store.func)) fd d.holds k b' ∙ sym (spot-is own good store.func n few x y pixel can small k b') in
+          let values : (k : ℕ) → k < n → fd (lane (slot group 0) k) ≡ pixel k =
+          λ k b'. d.keeps (lane (slot group 0) k) (slot-still w memory holds.size group n 0 1 lies0 k b' room above1) ∙ c.keeps (lane (slot group 0) k) (slot-still w memory holds.size group n 0 2 lies0 k b' room above3)
+          ∙ b.keeps (lane (slot group 0) k) (slot-still w memory holds.size group n 0 1 lies0 k b' room above1) ∙ a.value k b' in
+          lines-then own da (lines-then own db (lines-then own dc (lines-then own dd (stored-does lies0 lies1 fd ld places values))))
+
+  -- ---- the whole
+
+  abbrev of_store : ℕ → Option Effect
+  of_store k = effect reads (s.Store store) (at k)
+
+  abbrev own_pixels : ℕ → Option Effect
+  own_pixels k = Some (record { func = store.func; x = x k; y = y k; pixel = pixel k })
+
+  of-store : (k : ℕ) → own_pixels k ≡ of_store k
+  of-store k = sym (effect_store reads store (at k))
+
+  hit-store : (func i j : ℕ) → HitBy of_store n func i j → HitBy own_pixels n func i j
+  hit-store func i j hit = record { round = hit.round; below = hit.below; stored = hit.stored; is = of-store hit.round ∙ hit.is; func_is = hit.func_is; x_is = hit.x_is; y_is = hit.y_is }
+
+  pub scattered-does : (f : ℕ → ℕ) (memory : List ℕ) (holds : HoldsFuncs own memory funcs) → Knows w own.harts scope (at 0) f → min (f 15) (4 * registers group) ≡ n
+      → Does own (scattered_code group own.places scope strides store) (length (scattered_code group own.places scope strides store)) f memory depth (laid own.points of_store n funcs) (effect_hits of_store n)
+  scattered-does f memory holds knows count =
+      let m = most group in
+      let room = few-lanes group in
+      let n' = min (f 15) (most_elements (vtype_of group)) in
+      let en : n' ≡ n = ap (min (f 15)) m ∙ count in
+      let f1 = configure f n' (vtype_of group) in
+      let same : (q : ℕ) → q < 32 → f1 q ≡ f q = λ q low. configured-others f n' (vtype_of group) q low in
+      let has : HasLanes group n f1 = subst (λ k. HasLanes group k f1) en (has-lanes group f n' (omega (arith, m))) in
+      let first : Does own (Vector (v.Vsetvli 0 15 (vtype_of group)) ∷ []) 1 f memory depth funcs no_hits = still own (λ at. at) _ _ f1 holds (λ q kept. same q (kept-low q kept))
+      (λ at s. configure-by w f memory holds.size 15 (vtype_of group) (omega arith) (omega arith) (supported group) at s) in
+      let knows1 = knows-still w own.harts scope (at 0) f f1 knows first.keeps in
+      let rest = tail-does memory holds (omega (arith, count, room)) f1 knows1 has in
+      went-hits own hit-store (went-is own refl (laid-same own.points own_pixels of_store n (λ k b. of-store k) funcs) (lines-then own first rest))
