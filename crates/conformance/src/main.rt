@@ -52,7 +52,7 @@ mod turns;
 use crate::algorithms::{push_reading, push_verdict};
 use crate::assemblies::{push_listing, push_object};
 use crate::commands::{push_drawing, push_image, push_lines, push_renewal, push_replay, push_talk};
-use crate::compilations::push_compilation;
+use crate::compilations::{push_accesses, push_compilation};
 use crate::failures::Failure;
 use crate::invocations::push_invocation;
 use crate::runs::{push_resumption, push_run};
@@ -137,6 +137,7 @@ fn push_answer(
         "run" => push_run(rt, alloc, parts, out),
         "resume" => push_resumption(rt, alloc, parts, out),
         "compile" => push_compilation(alloc, parts, out),
+        "accesses" => push_accesses(alloc, parts, out),
         "words" => push_invocation(alloc, parts, out),
         _ => Err(Failure::Malformed("an unknown kind of case")),
     }
