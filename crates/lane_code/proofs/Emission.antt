@@ -156,19 +156,20 @@ module _ (group : Group) (places : Places) (scope : List Counter) (strides : Lis
           low = low;
         })
 
-    pub dense-emitted : (source : Source) (a b x y : Expr) (place : Place) (c0 c1 c2 c3 : List ℕ) → own ≡ e.Load source a b → x ≡ a → y ≡ b → place ≡ place_of places source → are_words place.pixels ≡ true → is_dense (of a) (of b) ≡ true
-        → EmitsValue c0 c1 (made places scope x) 20 → EmitsValue c1 c2 (made places scope y) 21 → Emits c2 c3 (dense place r) → EmitsLanes c0 c3 group (of own) k r
+    pub dense-emitted : (source : Source) (a b x y : Expr) (place : Place) (u : ℕ) (c0 c1 c2 c3 : List ℕ) → own ≡ e.Load source a b → x ≡ a → y ≡ b → place ≡ place_of places source → u ≡ spare group → is_dense (of a) (of b) ≡ true
+        → EmitsValue c0 c1 (made places scope x) 20 → EmitsValue c1 c2 (made places scope y) 21 → Emits c2 c3 (dense place r u) → EmitsLanes c0 c3 group (of own) k r
     unfolding laned
-    dense-emitted source a b x y place c0 c1 c2 c3 is ex ey ep words dense-is first second last =
+    dense-emitted source a b x y place u c0 c1 c2 c3 is ex ey ep eu dense-is first second last =
         let one = subst (λ z. EmitsValue c0 c1 z 20) (ap (made places scope) ex ∙ sym (own-is group places scope strides a)) first in
         let two = subst (λ z. EmitsValue c1 c2 z 21) (ap (made places scope) ey ∙ sym (own-is group places scope strides b)) second in
-        let three : Emits c2 c3 (dense (place_of places source) (slot group k)) = subst (λ p. Emits c2 c3 (dense p (slot group k))) ep (subst (λ d. Emits c2 c3 (dense place d)) slot_is last) in
-        let whole : Emits c0 c3 ((of a).own.code 20 ++ ((of b).own.code 21 ++ dense (place_of places source) (slot group k))) = emits_then one.emits (emits_then two.emits three) in
+        let three : Emits c2 c3 (dense (place_of places source) (slot group k) (spare group)) =
+        subst (λ p. Emits c2 c3 (dense p (slot group k) (spare group))) ep (subst (λ d. Emits c2 c3 (dense place d (spare group))) slot_is (subst (λ q. Emits c2 c3 (dense place r q)) eu last)) in
+        let whole : Emits c0 c3 ((of a).own.code 20 ++ ((of b).own.code 21 ++ dense (place_of places source) (slot group k) (spare group))) = emits_then one.emits (emits_then two.emits three) in
         subst (λ z. EmitsLanes c0 c3 group z k r) (sym (ap of is ∙ folds.at_load Laned (laned_at group places scope strides) source a b))
         (record {
-          emits = subst (λ t. Emits c0 c3 (if t then (of a).own.code 20 ++ ((of b).own.code 21 ++ dense (place_of places source) (slot group k)) else (of a).code k ++ ((of b).code (k + 1) ++ gathered (place_of places source) (slot group k) (slot group (k + 1))))) (sym dense-is) whole;
+          emits = subst (λ t. Emits c0 c3 (if t then (of a).own.code 20 ++ ((of b).own.code 21 ++ dense (place_of places source) (slot group k) (spare group)) else (of a).code k ++ ((of b).code (k + 1) ++ gathered (place_of places source) (slot group k) (slot group (k + 1))))) (sym dense-is) whole;
           can = record {
-            fits = both _ _ slot-true (both _ _ (sym (ap (λ p. are_words p.pixels) ep) ∙ words) (ap (λ t. if t then true else (of a).fits k && (of b).fits (k + 1)) dense-is));
+            fits = both _ _ slot-true (ap (λ t. if t then true else are_words (place_of places source).pixels && ((of a).fits k && (of b).fits (k + 1))) dense-is);
             is_word = both _ _ one.is_word two.is_word;
           };
           slot_is = slot_is;
@@ -186,9 +187,11 @@ module _ (group : Group) (places : Places) (scope : List Counter) (strides : Lis
         let whole : Emits c0 c3 ((of a).code k ++ ((of b).code (k + 1) ++ gathered (place_of places source) (slot group k) (slot group (k + 1)))) = emits_then one.emits (emits_then two.emits three) in
         subst (λ z. EmitsLanes c0 c3 group z k r) (sym (ap of is ∙ folds.at_load Laned (laned_at group places scope strides) source a b))
         (record {
-          emits = subst (λ t. Emits c0 c3 (if t then (of a).own.code 20 ++ ((of b).own.code 21 ++ dense (place_of places source) (slot group k)) else (of a).code k ++ ((of b).code (k + 1) ++ gathered (place_of places source) (slot group k) (slot group (k + 1))))) (sym not-dense) whole;
+          emits = subst (λ t. Emits c0 c3 (if t then (of a).own.code 20 ++ ((of b).own.code 21 ++ dense (place_of places source) (slot group k) (spare group)) else (of a).code k ++ ((of b).code (k + 1) ++ gathered (place_of places source) (slot group k) (slot group (k + 1))))) (sym not-dense) whole;
           can = record {
-            fits = both _ _ slot-true (both _ _ (sym (ap (λ q. are_words q.pixels) ep) ∙ words) (ap (λ t. if t then true else (of a).fits k && (of b).fits (k + 1)) not-dense ∙ both _ _ one.can.fits two.can.fits));
+            fits = both _ _ slot-true
+                (ap (λ t. if t then true else are_words (place_of places source).pixels && ((of a).fits k && (of b).fits (k + 1))) not-dense
+                ∙ both _ _ (sym (ap (λ q. are_words q.pixels) ep) ∙ words) (both _ _ one.can.fits two.can.fits));
             is_word = both _ _ one.can.is_word two.can.is_word;
           };
           slot_is = slot_is;
@@ -222,8 +225,8 @@ module _ (group : Group) (places : Places) (scope : List Counter) (strides : Lis
   no-first own k source a b x is ex not-dense none can =
       let w = loaded own k source a b is can in
       let t = and_parts (has_slot group k) _ w.fits in
-      let u = and_parts (are_words (place_of places source).pixels) _ t.1 in
-      let z = and_parts ((of a).fits k) ((of b).fits (k + 1)) (sym (ap (λ q. if q then true else (of a).fits k && (of b).fits (k + 1)) not-dense) ∙ u.1) in
+      let u = and_parts (are_words (place_of places source).pixels) _ (sym (ap (λ q. if q then true else are_words (place_of places source).pixels && ((of a).fits k && (of b).fits (k + 1))) not-dense) ∙ t.1) in
+      let z = and_parts ((of a).fits k) ((of b).fits (k + 1)) u.1 in
       none (subst (λ q. FitsLanes (of q) k) (sym ex) (record { fits = z.0; is_word = (words-first own k source a b is can).0 }))
 
   pub no-third : (own : Expr) (k : ℕ) (c a b z : Expr) → own ≡ e.Select c a b → z ≡ b → (FitsLanes (of z) (k + 2) → ⊥) → FitsLanes (of own) k → ⊥

@@ -48,6 +48,7 @@ use Rattle.lane_code.proofs.Operations as operations
 use Rattle.lane_code.proofs.Quotients.{quotient-leaves, remainder-leaves}
 use Rattle.lane_code.proofs.Pacing.{Holds, linear-goes, step-holds, both-hold, operation-hold}
 use Rattle.lane_code.proofs.Points.{stepped-leaves, dense-leaves, gathered-leaves}
+use Rattle.lane_code.proofs.ByteRows.{dense-bytes}
 
 at-most : (n k : ℕ) → nat_le n k ≡ true → n ≤ k
 at-most n k t = grind (arith, nat_tests)
@@ -276,11 +277,11 @@ module _ (w : World) (harts : ℕ) (m : List ℕ) (group : Group) (places : Plac
       b.value))
 
   -- a load of lanes that lie in a row
-  dense-code : (source : Source) (x y : Laned) (sx sy : Family) (pixel : ℕ → ℕ) → (place_of places source).pixels ≡ pixels.Words → is_dense x y ≡ true
+  dense-code : (source : Source) (x y : Laned) (sx sy : Family) (pixel : ℕ → ℕ) → is_dense x y ≡ true
       → one.Comes w harts m places scope (at 0) reads l all x.own (sx 0) → one.Comes w harts m places scope (at 0) reads l all y.own (sy 0) → Holds x.pace n (values sx) → Holds y.pace n (values sy)
       → ((i : ℕ) → i < n → LoadsAt w (place_of places source) m (values sx i) (values sy i) (pixel i))
-      → Code (λ k. x.own.code 20 ++ (y.own.code 21 ++ dense (place_of places source) (slot group k))) (has_slot group) pixel
-  dense-code source x y sx sy pixel words is cx cy px py can k f fits knows has =
+      → Code (λ k. x.own.code 20 ++ (y.own.code 21 ++ dense (place_of places source) (slot group k) (spare group))) (has_slot group) pixel
+  dense-code source x y sx sy pixel is cx cy px py can k f fits knows has =
       let t = and_parts (is_stepping x.pace) _ is in
       let u = and_parts (is_steady y.pace) _ t.1 in
       let z = and_parts (nat_le x.own.need 12) (nat_le y.own.need 11) u.1 in
@@ -293,9 +294,18 @@ module _ (w : World) (harts : ℕ) (m : List ℕ) (group : Group) (places : Plac
       let kb = knows-kept w harts scope (at 0) a.after b.after 21 (inr (omega arith)) ka b.keeps in
       let high : (q c : ℕ) → 32 ≤ q → Free c q = λ q c h. (inr (omega (arith, h)), inr (inr (omega (arith, h)))) in
       let has2 = lanes-kept w m l group n f b.after (b.keeps vl_number (high vl_number 21 (omega arith)) ∙ a.keeps vl_number (high vl_number 20 (omega arith))) (b.keeps 33 (high 33 21 (omega arith)) ∙ a.keeps 33 (high 33 20 (omega arith))) has in
+      let e20 = b.keeps 20 (inr (omega arith), inr (inl (omega arith))) ∙ a.value in
+      let along = stepping-is x.pace n (values sx) t.0 px in
+      let steady = steady-is y.pace n (values sy) u.0 py in
       value-first w m l group n k lies a (omega arith) (value-first w m l group n k lies b (omega arith)
-      (dense-leaves w m l group n k lies (place_of places source) words (values sx) (values sy) pixel can b.after has2 (all source) some
-      (b.keeps 20 (inr (omega arith), inr (inl (omega arith))) ∙ a.value) b.value kb.number (stepping-is x.pace n (values sx) t.0 px) (steady-is y.pace n (values sy) u.0 py)))
+      (by-pixels (place_of places source).pixels k b.after
+      (λ words. dense-leaves w m l group n k lies (place_of places source) words (values sx) (values sy) pixel can b.after has2 (all source) some e20 b.value kb.number along steady)
+      (λ bytes. dense-bytes w m l group n k lies (place_of places source) bytes (values sx) (values sy) pixel can b.after has2 (all source) some e20 b.value kb.number along steady)))
+    where
+      by-pixels : (p : Pixels) (k : ℕ) (f : ℕ → ℕ) → (p ≡ pixels.Words → Leaves w m l group n (dense (place_of places source) (slot group k) (spare group)) f k pixel)
+          → (p ≡ pixels.Bytes → Leaves w m l group n (dense (place_of places source) (slot group k) (spare group)) f k pixel) → Leaves w m l group n (dense (place_of places source) (slot group k) (spare group)) f k pixel
+      by-pixels pixels.Words k f words bytes = words refl
+      by-pixels pixels.Bytes k f words bytes = bytes refl
 
   -- and of lanes that lie anywhere
   gathered-code : (source : Source) (p q : ℕ → List Insn) (fx fy : ℕ → Bool) (x y pixel : ℕ → ℕ) → (place_of places source).pixels ≡ pixels.Words → Code p fx x → Code q fy y → ((k : ℕ) → fy k ≡ true → k < slots group)
@@ -417,11 +427,12 @@ module _ (w : World) (harts : ℕ) (m : List ℕ) (group : Group) (places : Plac
         paced = both-hold x.left.pace y.left.pace n (reads source) (values x.right) (values y.right) cx.paced cy.paced;
         leaves = λ k f fits knows has.
             let u = and_parts (has_slot group k) _ fits in
-            let z = and_parts (are_words (place_of places source).pixels) _ u.1 in
+            by-test (is_dense x.left y.left) pixel k f (λ d. dense-code source x.left y.left x.right y.right pixel d one-x one-y cx.paced cy.paced can k f u.0 knows has)
+            (λ e.
+            let z = and_parts (are_words (place_of places source).pixels) _ e in
             let words = words-are (place_of places source).pixels z.0 in
-            by-test (is_dense x.left y.left) pixel k f (λ d. dense-code source x.left y.left x.right y.right pixel words d one-x one-y cx.paced cy.paced can k f u.0 knows has)
-            (λ e. gathered-code source x.left.code y.left.code x.left.fits y.left.fits (values x.right) (values y.right) pixel words cx.leaves cy.leaves y.is.slot_is can k f (both-true (has_slot group k) _ u.0 e) knows has)
-            z.1;
+            gathered-code source x.left.code y.left.code x.left.fits y.left.fits (values x.right) (values y.right) pixel words cx.leaves cy.leaves y.is.slot_is can k f (both-true (has_slot group k) _ u.0 z.1) knows has)
+            u.1;
       }
     where
       both-true : (a b : Bool) → a ≡ true → b ≡ true → (a && b) ≡ true

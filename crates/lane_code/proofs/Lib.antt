@@ -5,6 +5,7 @@ pub mod Offsets
 pub mod Operations
 pub mod Pacing
 pub mod Points
+pub mod ByteRows
 pub mod Quotients
 pub mod Rows
 pub mod Slots

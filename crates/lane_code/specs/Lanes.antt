@@ -8,7 +8,7 @@ use Rattle.rv_insn.specs.declared.instructions.Insn.TheVariants.{Alu, Vector}
 use Rattle.rv_insn.specs.declared.operations.AluOp.TheVariants as alus
 use Rattle.rv_insn.specs.declared.vector_instructions.VectorInsn.TheVariants as v
 use Rattle.rv_insn.specs.declared.vector_instructions.Addressing.TheVariants as addressings
-use Rattle.rv_insn.specs.declared.vector_operations.ElementWidth.TheVariants.{Bits32}
+use Rattle.rv_insn.specs.declared.vector_operations.ElementWidth.TheVariants.{Bits8, Bits32}
 use Rattle.rv_insn.specs.declared.vector_operations.ArithmeticVvOp.TheVariants as vvs
 use Rattle.rv_insn.specs.declared.vector_operations.ArithmeticVxOp.TheVariants as vxs
 use Rattle.rv_insn.specs.declared.vector_operations.ArithmeticViOp.TheVariants as vis
@@ -165,9 +165,15 @@ stepped step r =
 
 -- ---- pixels
 
+-- Pixels that lie one behind the other, from the address in the first register of the scalar stack on: bytes wait in u, which is scratch,
+-- and each becomes a lane.
+abbrev pub row_load : Pixels → ℕ → ℕ → List Insn
+row_load pixels.Words r u = Vector (v.LoadElements Bits32 r bottom addressings.UnitStride true) ∷ []
+row_load pixels.Bytes r u = Vector (v.LoadElements Bits8 u bottom addressings.UnitStride true) ∷ Vector (v.ExtendBytes r u true) ∷ []
+
 -- lanes that lie one behind the other, from the point at the first two registers of the scalar stack on
-abbrev pub dense : Place → ℕ → List Insn
-dense place r = addressed place bottom (bottom + 1) ++ (Vector (v.LoadElements Bits32 r bottom addressings.UnitStride true) ∷ [])
+abbrev pub dense : Place → ℕ → ℕ → List Insn
+dense place r u = addressed place bottom (bottom + 1) ++ row_load place.pixels r u
 
 -- the address of a buffer's first pixel, of the hart's own copy
 abbrev pub based : Place → List Insn
@@ -214,7 +220,7 @@ fits_by group places (layer.Divide a c) k = has_slot group k && a.fits k
 fits_by group places (layer.Remainder a c) k = has_slot group k && a.fits k
 fits_by group places (layer.Select c a b) k = has_slot group k && (c.fits k && (a.fits (k + 1) && b.fits (k + 2)))
 fits_by group places (layer.Load source x y) k =
-    has_slot group k && (are_words (place_of places source).pixels && (if is_dense x y then true else x.fits k && y.fits (k + 1)))
+    has_slot group k && (if is_dense x y then true else are_words (place_of places source).pixels && (x.fits k && y.fits (k + 1)))
 
 abbrev pub lanes_by : Group → Places → List Counter → List ℕ → Expr-F Laned → ℕ → List Insn
 lanes_by group places scope strides (layer.Number n) k = literal scratch n ++ (Vector (v.MoveVx (slot group k) scratch) ∷ [])
@@ -225,7 +231,7 @@ lanes_by group places scope strides (layer.Remainder a c) k = a.code k ++ lanes_
 lanes_by group places scope strides (layer.Select c a b) k =
     c.code k ++ (a.code (k + 1) ++ (b.code (k + 2) ++ lanes_selection (slot group k) (slot group (k + 1)) (slot group (k + 2))))
 lanes_by group places scope strides (layer.Load source x y) k =
-    if is_dense x y then x.own.code bottom ++ (y.own.code (bottom + 1) ++ dense (place_of places source) (slot group k))
+    if is_dense x y then x.own.code bottom ++ (y.own.code (bottom + 1) ++ dense (place_of places source) (slot group k) (spare group))
     else x.code k ++ (y.code (k + 1) ++ gathered (place_of places source) (slot group k) (slot group (k + 1)))
 
 abbrev pub laned_at : Group → Places → List Counter → List ℕ → Expr-F Laned → Laned

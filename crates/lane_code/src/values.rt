@@ -12,8 +12,8 @@ ghost use Rattle.scalar_code.specs.Words.{Emits};
 
 use crate::groups::Group;
 use crate::vectors::{
-    arithmetic, arithmetic_by, clear, comparison, complement, lane_numbers, load_at, load_row,
-    merge, merge_one, multiplication, multiplication_by, spread, test_nonzero, test_sign,
+    arithmetic, arithmetic_by, clear, comparison, complement, lane_numbers, load_at, load_byte_row,
+    load_row, merge, merge_one, multiplication, multiplication_by, spread, test_nonzero, test_sign,
     times_four,
 };
 use halide_pipeline::{Operation, words};
@@ -316,12 +316,24 @@ fn emit_stepped(code: &mut Vec<u32>, step: u32, r: u8) -> Result<(), AllocError>
     Ok(())
 }
 
-fn emit_dense(code: &mut Vec<u32>, place: &Place, r: u8) -> Result<(), AllocError>
-    requires { r < 32 }
-    ensures { OnOk result (Emits code.old.items code.new.items (spec.dense place.now r)) }
+/// Appends a load of the pixels from the address in x20 on.
+fn emit_row_load(code: &mut Vec<u32>, pixels: Pixels, r: u8, u: u8) -> Result<(), AllocError>
+    requires { (r < 32) × (u < 32) }
+    ensures { OnOk result (Emits code.old.items code.new.items (spec.row_load pixels r u)) }
+{
+    match pixels {
+        Pixels::Words => load_row(code, r, 20)?,
+        Pixels::Bytes => load_byte_row(code, r, 20, u)?,
+    }
+    Ok(())
+}
+
+fn emit_dense(code: &mut Vec<u32>, place: &Place, r: u8, u: u8) -> Result<(), AllocError>
+    requires { (r < 32) × (u < 32) }
+    ensures { OnOk result (Emits code.old.items code.new.items (spec.dense place.now r u)) }
 {
     emit_addressed(code, place, 20, 21)?;
-    load_row(code, r, 20)?;
+    emit_row_load(code, place.pixels, r, u)?;
     Ok(())
 }
 
@@ -394,7 +406,7 @@ fn are_words(place: &Place) -> bool
 ///
 /// # Errors
 ///
-/// Memory ran out, or the code can't be made: the slots don't suffice, pixels are bytes, or a divisor is 0.
+/// Memory ran out, or the code can't be made: the slots don't suffice, bytes don't lie one behind the other, or a divisor is 0.
 #[tactic(auto, unfolding(crate::specs::Lanes::laned))]
 pub fn emit_lanes(
     code: &mut Vec<u32>,
@@ -449,14 +461,14 @@ pub fn emit_lanes(
         }
         Expr::Load(source, x, y) => {
             let place = place_of(places, *source);
-            if !are_words(&place) {
-                return Err(CodeFault::TooDeep);
-            }
             if is_dense(scope, strides, x.get(), y.get()) {
                 emit_value(code, places, scope, x.get(), 20)?;
                 emit_value(code, places, scope, y.get(), 21)?;
-                emit_dense(code, &place, r)?;
+                emit_dense(code, &place, r, group.spare())?;
                 return Ok(r);
+            }
+            if !are_words(&place) {
+                return Err(CodeFault::TooDeep);
             }
             emit_lanes(code, group, places, scope, strides, x.get(), k)?;
             let s = emit_lanes(code, group, places, scope, strides, y.get(), k + 1)?;

@@ -4,7 +4,7 @@ ghost use Rattle.std.specs.Prelude.{◌≡◌, ◌<◌, ◌≤ℤ◌, [], ◌∷
 ghost use Rattle.rv_insn.specs.declared.instructions.Insn.TheVariants.{Vector};
 ghost use Rattle.rv_insn.specs.declared.vector_instructions.VectorInsn.TheVariants as v;
 ghost use Rattle.rv_insn.specs.declared.vector_instructions.Addressing.TheVariants as addressings;
-ghost use Rattle.rv_insn.specs.declared.vector_operations.ElementWidth.TheVariants.{Bits32 as words};
+ghost use Rattle.rv_insn.specs.declared.vector_operations.ElementWidth.TheVariants.{Bits8 as bytes, Bits32 as words};
 ghost use Rattle.rv_insn.specs.declared.vector_operations.ShiftViOp.TheVariants.{Vsll as shift_left};
 ghost use Rattle.rv_insn.specs.declared.vector_operations.CompareVxOp.TheVariants.{Vmslt as less};
 ghost use Rattle.rv_insn.specs.declared.vector_operations.CompareViOp.TheVariants.{Vmsne as not_equal};
@@ -283,6 +283,46 @@ pub fn load_row(code: &mut Vec<u32>, d: u8, r: u8) -> Result<(), AllocError>
         vm: true,
     };
     put_vector(code, insn)?;
+    Ok(())
+}
+
+/// Appends a load of bytes one behind the other, into one register.
+fn load_bytes(code: &mut Vec<u32>, d: u8, r: u8) -> Result<(), AllocError>
+    requires { (d < 32) × (r < 32) }
+    ensures { OnOk result (Emits code.old.items code.new.items (Vector (v.LoadElements bytes d r addressings.UnitStride true) ∷ [])) }
+{
+    let insn = VectorInsn::LoadElements {
+        width: ElementWidth::Bits8,
+        vd: vector(d),
+        rs1: register(r),
+        addressing: Addressing::UnitStride,
+        vm: true,
+    };
+    put_vector(code, insn)?;
+    Ok(())
+}
+
+/// Appends what makes lanes of a register's bytes.
+fn extend_bytes(code: &mut Vec<u32>, d: u8, a: u8) -> Result<(), AllocError>
+    requires { (d < 32) × (a < 32) }
+    ensures { OnOk result (Emits code.old.items code.new.items (Vector (v.ExtendBytes d a true) ∷ [])) }
+{
+    let insn = VectorInsn::ExtendBytes {
+        vd: vector(d),
+        vs2: vector(a),
+        vm: true,
+    };
+    put_vector(code, insn)?;
+    Ok(())
+}
+
+/// Appends a load of bytes one behind the other as lanes, by way of a register.
+pub fn load_byte_row(code: &mut Vec<u32>, d: u8, r: u8, by: u8) -> Result<(), AllocError>
+    requires { (d < 32) × ((r < 32) × (by < 32)) }
+    ensures { OnOk result (Emits code.old.items code.new.items (Vector (v.LoadElements bytes by r addressings.UnitStride true) ∷ Vector (v.ExtendBytes d by true) ∷ [])) }
+{
+    load_bytes(code, by, r)?;
+    extend_bytes(code, d, by)?;
     Ok(())
 }
 

@@ -269,6 +269,7 @@ own-byte-lies pipeline schedule boxes number owners task hart address o p =
 pub memory-holds-funcs : (pipeline : Pipeline) (schedule : Schedule) (boxes : List (Option SourceBox)) (number : ℕ) (owners : Owners) → MemoryHoldsFuncs pipeline schedule boxes number owners
 memory-holds-funcs pipeline schedule boxes number owners text memory harts task hart inputs earlier points written loaded it size_is bytes answer has may = record {
   size = size_is;
+  are_bytes = bytes;
   are_words = λ place x y lx ly. word-small text memory (address_at pipeline schedule boxes hart (sources.Func place) x y) bytes;
   holds = λ point e. holds-at pipeline schedule boxes number owners task hart it text memory bytes inputs earlier answer has point.source point.x point.y (may point e);
 }

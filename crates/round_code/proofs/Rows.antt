@@ -138,6 +138,7 @@ module _ (own : Setting) (good : IsSetting own) (func n : ℕ) (few : n ≤ 16) 
       record {
         holds = record {
           size = ap length (sym e) ∙ size-stays m (spot k) (v k) ∙ h.size;
+          are_bytes = subst AreBytes e (bytes-stay m (spot k) (v k) h.are_bytes);
           are_words = words-put own.points func (x k) (y k) (v k) p h.are_words (small k b);
           holds = subst (λ z. Holds-in z (laid own.points own_effect (suc k) funcs)) e
               (stored-holds w own.places own.written own.loaded good.laid own.points own.inputs p m func (x k) (y k) (v k) is (good.have func (x k) (y k) is) h.size (small k b) h.holds);

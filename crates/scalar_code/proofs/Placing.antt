@@ -117,6 +117,7 @@ module _ (own : Setting) (good : IsSetting own) where
           keeps = λ q kept. refl;
           holds = record {
             size = size-stays memory a v ∙ holds.size;
+            are_bytes = bytes-stay memory a v holds.are_bytes;
             are_words = words-put own.points store.func x y v funcs holds.are_words small;
             holds = stored-holds w own.places own.written own.loaded good.laid own.points own.inputs funcs memory store.func x y v is (good.have store.func x y is) holds.size small holds.holds;
           };

@@ -133,7 +133,7 @@ module _ (own : Setting) (good : IsSetting own) (scope : List Counter) (values :
   loads-may : (memory : List ℕ) → HoldsFuncs own memory funcs → (point : Point) → own.loaded point ≡ true → Loads w own.places memory reads point
   loads-may memory holds point is =
       let may = good.laid.loads point is in
-      record { low = may.low; may = may.may; holds = holds.holds point is; is_word = small point.source point.x point.y may.column may.row }
+      record { low = may.low; may = may.may; holds = holds.holds point is; is_word = small point.source point.x point.y may.column may.row; are_bytes = holds.are_bytes }
     where
       small : (source : Source) (x y : ℕ) → x < 2 ^ 32 → y < 2 ^ 32 → reads_of own.inputs funcs source x y < 2 ^ 32
       small (sources.Input k) x y lx ly = good.are_words k x y lx ly
@@ -233,6 +233,7 @@ module _ (own : Setting) (good : IsSetting own) (scope : List Counter) (values :
             stays = λ q k. let k0 = k.0 in a.others q (λ e. omega (arith, e, k0)) (λ e. omega (arith, e, k0)) (λ e. omega (arith, e, k0));
             holds = record {
               size = size-stays memory (frame n) v ∙ l;
+              are_bytes = bytes-stay memory (frame n) v holds.are_bytes;
               are_words = holds.are_words;
               holds = λ point is. number-other (place_of own.places point.source).pixels w.text memory (frame n) (address_of w own.places point) v (good.laid.frame.apart n point within is) ∙ holds.holds point is;
             };

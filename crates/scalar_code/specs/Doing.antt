@@ -47,9 +47,10 @@ abbrev pub SoundIn : Setting → Stmt → Values → Type 0
 SoundIn own statement values =
     (funcs : Planes) → AreWords funcs → is_sound (reads_of own.inputs funcs) own.written own.loaded statement values ≡ true
 
--- memory holds these buffers
+-- memory holds bytes, and these buffers
 pub record HoldsFuncs (own : Setting) (memory : List ℕ) (funcs : Planes) : Type 0 where
   pub size : length memory ≡ own.world.size
+  pub are_bytes : AreBytes memory
   pub are_words : AreWords funcs
   pub holds : Holds own.world own.places own.loaded memory (reads_of own.inputs funcs)
 

@@ -3,6 +3,7 @@
 use Rattle.std.specs.Prelude.{◌≡◌, ◌<◌, ◌≤◌, ℕ, ◌+◌, ◌^◌, true, List, length}
 use Rattle.std.specs.List.{AllByRecursion}
 use Rattle.memory.specs.Access.{number_in}
+use Rattle.memory.specs.Addresses.{AreBytes}
 use Rattle.rv_insn.specs.declared.operations.LoadOp.{LoadOp}
 use Rattle.rv_insn.specs.declared.operations.LoadOp.TheVariants as load_ops
 use Rattle.hart_core.specs.Alu.{load_size}
@@ -43,12 +44,13 @@ abbrev pub load_op : Pixels → LoadOp
 load_op pixels.Words = load_ops.Lw
 load_op pixels.Bytes = load_ops.Lbu
 
--- a point of a source may be loaded, and memory holds there what reads of it answer
+-- a point of a source may be loaded, and memory, which holds bytes, has there what reads of it answer
 pub record LoadsAt (world : World) (place : Place) (memory : List ℕ) (x y pixel : ℕ) : Type 0 where
   pub low : address place world.hart x y < 2 ^ 32
   pub may : Readable world (load_size (load_op place.pixels)) (address place world.hart x y)
   pub holds : number_in world.text memory (load_size (load_op place.pixels)) (address place world.hart x y) ≡ pixel
   pub is_word : pixel < 2 ^ 32
+  pub are_bytes : AreBytes memory
 
 abbrev pub Loads : World → Places → List ℕ → Reads → Point → Type 0
 Loads world places memory reads point = LoadsAt world (place_of places point.source) memory point.x point.y (reads point.source point.x point.y)

@@ -1,6 +1,6 @@
 -- The example meets what is asked of tasks.
 use Rattle.std.proofs.Common.{◌≡◌, ℕ, zero, suc, ◌+◌, ◌*◌, ◌%◌, ◌^◌, ◌<◌, List, [], ◌∷◌, ◌++◌, length, true, refl, ap, ◌∙◌, sym, subst, arith}
-use Rattle.std.specs.Prelude.{◌==◌, ◌&&◌, map, nat_lt, if◌then◌else◌, pos, Some}
+use Rattle.std.specs.Prelude.{◌==◌, ◌&&◌, map, nat_lt, if◌then◌else◌, pos, Some, slice_index, replicate}
 use Rattle.std.specs.List.{list_all}
 use Rattle.std.proofs.lemmas.Bool.{and_parts, true≢false}
 use Rattle.std.proofs.lemmas.Bool.Decides.{nat_tests}
@@ -185,6 +185,11 @@ may-load zero l = record { column = omega arith; row = omega arith; low = omega 
 may-load (suc zero) l = record { column = omega arith; row = omega arith; low = omega arith; may = record { aligned = refl; above = omega arith; below = omega arith; may = (refl, (refl, (refl, (refl, tt)))) } }
 may-load (suc (suc n)) l = absurd (omega (arith, l))
 
+zeros : (n i : ℕ) → slice_index (replicate n 0) i ≡ 0
+zeros zero i = refl
+zeros (suc n) zero = refl
+zeros (suc n) (suc i) = zeros n i
+
 starts-empty : (task : ℕ) → task < 2 → number_in example_text example_data Word (address_of (example_world task) example_places (func_point 0 task 0)) ≡ 0
 starts-empty zero l = refl
 starts-empty (suc zero) l = refl
@@ -238,6 +243,7 @@ module _ (task : ℕ) (small : task < 2) where
   holds-nothing : HoldsFuncs (example_setting task) example_data nothing
   holds-nothing = record {
     size = refl;
+    are_bytes = λ i. let z = zeros 16 i in omega (arith, z);
     are_words = λ place x y lx ly. omega arith;
     holds = λ point is. of-loaded (λ p. number_in example_text example_data (size_of example_places p) (address_of (example_world task) example_places p) ≡ 0) (starts-empty task small) point.source point.x point.y is ∙ sym (empty point.source point.x point.y);
   }
