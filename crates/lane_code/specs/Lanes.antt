@@ -1,6 +1,6 @@
 -- The code of expressions over lanes: the values of an expression in all rounds of a loop at once, a lane for each.
 --
--- Scalar registers hold what counters stand at in the first round. A counter strides if each round takes it one further; all others stay.
+-- Scalar registers hold what counters stand at in the first round. Each round takes a counter its stride further; one with a stride of 0 stays.
 -- This project's own.
 use Rattle.std.specs.Prelude.{ℕ, ◌+◌, ◌-◌, ◌%◌, ◌^◌, ◌==◌, ◌&&◌, Bool, true, false, nat_le, nat_lt, if◌then◌else◌, List, [], ◌∷◌, ◌++◌, pos, negsuc, ◌*◌}
 use Rattle.rv_insn.specs.declared.instructions.Insn.{Insn}
@@ -181,7 +181,8 @@ based place =
     literal scratch place.start
     ++ (literal second_scratch place.distance ++ (Alu alus.Mul second_scratch second_scratch 10 ∷ Alu alus.Add scratch scratch second_scratch ∷ []))
 
--- each lane of r becomes how far the pixel at that column and at the row in the lane of s lies from the first one, whose address is in scratch
+-- In a buffer of words, each lane of r becomes how many bytes the pixel at that column and at the row in the lane of s lies behind the first one,
+-- whose address is in scratch.
 abbrev pub offsets : Place → ℕ → ℕ → List Insn
 offsets place r s =
     literal scratch place.width

@@ -1,7 +1,8 @@
 -- Vectorized loops of phases: their rounds may be done at once.
 --
--- Each has 4, 8 or 16 rounds of one store at most, and no round loads a point at which an earlier round of the same run stores
--- (`loop_ir/specs/Rounds.antt`): what code asks for that loads for all rounds before it stores for any.
+-- Each has 4, 8 or 16 rounds of one store at most, no round loads a point at which an earlier round of the same run stores, and no value of a split
+-- loop falls from a round to the next (`loop_ir/specs/Rounds.antt`): what code asks for that loads for all rounds before it stores for any, and
+-- leaves out the last ones where guards forbid them.
 -- This project's own.
 use Rattle.std.specs.Prelude.{◌≡◌, ◌<◌, ℕ, Bool, true, Option, Some, None}
 use Rattle.halide_meaning.specs.Pixel.{Reads}

@@ -65,7 +65,7 @@ GoesAround func counts own body made =
     (outside : List Loop) → MayBeAtOnce func counts (own ∷ outside) body → (is_vectorized_loop own ≡ true → MayBeVectorized func counts own outside body)
     → MayBeAtOnce func counts outside made
 
--- Of loops, the innermost first, that one alone may be vectorized, and then a body may be.
+-- Of loops, the innermost first, that one alone may be vectorized, and then only around a body that may be.
 abbrev pub MayBeAround : ℕ → loops.Values → List Loop → List Loop → Stmt → Type 0
 MayBeAround func counts [] outside body = Unit {0}
 MayBeAround func counts (own ∷ others) outside body =
@@ -88,7 +88,7 @@ pub record StoreMayBeVectorized (func : ℕ) (extents : Extents) (splits : List 
   pub count : is_round_count (loops.counts extents splits own.id) ≡ true
   pub apart : KeepsRoundsApart func extents splits own outside leaf
 
--- Of loops, the innermost first, that one alone may be vectorized, and then the store under it may be.
+-- Of loops, the innermost first, that one alone may be vectorized, and then only over a store that may be.
 abbrev pub MayBeUnder : ℕ → Extents → List Split → List Loop → List Loop → Stmt → Type 0
 MayBeUnder func extents splits [] outside leaf = Unit {0}
 MayBeUnder func extents splits (own ∷ others) outside leaf =

@@ -1,7 +1,7 @@
 -- The code of loops whose rounds are done at once: each round's pixel in a lane, and one instruction that stores them all.
 --
--- A round is a store behind the values of split loops and their guards. The register that is parked holds how many rounds are left; of these as many
--- are done as there are lanes. A split loop's value that goes further with each round is cut off by its extent, so the first rounds are done. `all` says
+-- A round is a store behind the values of split loops and their guards. What is parked says how many rounds are left; of these as many are done as there
+-- are lanes. A split loop's value that goes further with each round is cut off by its extent, so the first rounds are done. `all` says
 -- that no round is left out so far.
 -- This project's own.
 use Rattle.std.specs.Prelude.{ℕ, ◌+◌, ◌-◌, ◌*◌, ◌^◌, ◌==◌, ◌&&◌, Bool, true, false, nat_le, nat_lt, if◌then◌else◌, List, [], ◌∷◌, ◌++◌, length, Option, Some, None}
@@ -82,7 +82,7 @@ pixels_code group places scope strides store =
 abbrev pub whole_stride : List Counter → List ℕ → Whole → ℕ
 whole_stride scope strides whole = stride_of scope strides whole.outer * whole.factor + stride_of scope strides whole.inner
 
--- Where the outer loop's part is cut off, it stays.
+-- The outer loop's part goes along as its counter does: it is cut off nowhere, or stays.
 abbrev pub outer_goes : Option ℕ → ℕ → Bool
 outer_goes None stride = true
 outer_goes (Some last) stride = stride == 0
@@ -91,6 +91,7 @@ abbrev pub whole_goes : List Counter → List ℕ → Whole → ℕ → Bool
 whole_goes scope strides whole extent =
     outer_goes whole.last (stride_of scope strides whole.outer) && (nat_lt (whole_stride scope strides whole) (2 ^ 16) && nat_lt extent (2 ^ 31))
 
+-- how much further each round takes it, where it goes along with the rounds
 abbrev pub step_taken : List Counter → List ℕ → Whole → ℕ → Option ℕ
 step_taken scope strides whole extent = if whole_goes scope strides whole extent then Some (whole_stride scope strides whole) else None
 

@@ -136,7 +136,7 @@ example_data = replicate 16 0
 abbrev pub example_uses : ℕ → Use
 example_uses address = if nat_lt address 0x00200008 then Control else (if nat_lt address 0x00200010 then Owned ((address - 0x00200008) / 4) else Fixed)
 
--- a turn writes whole words
+-- the bytes that a turn writes are a multiple of four
 abbrev pub writes_words : ℕ → List ℕ → Bool
 writes_words task places = length places % 4 == 0
 
