@@ -29,6 +29,19 @@ picture 1 1
 2
 """
 
+# Four turns of one hart, and none.
+RUN_LOG = bytes.fromhex("48524c31010000000100000000000000000400000000000000")
+NO_TURN = bytes.fromhex("48524c31010000000000000000000000")
+
+RUN_DUMP = """hart 0 finished pc 0x0001000c turns 4
+  x5 0x00200000
+  x6 0x00000001
+  x11 0x00000001
+  vl 0 vtype 0x80000000
+picture 1 1
+1
+"""
+
 LOOP = "start: li x5,-1\nbeq x5,x0,start\n"
 
 # Three words and no data, to be started at the first word.
@@ -170,6 +183,30 @@ def compilations(file, _):
     faulty = Command("compile", [("algorithm", "x\n"), ("schedule", "x\n"), ("picture", "x\n")], None)
     faulty.case(file, "nothing is judged where a file can't be read", ["picture 7 0", "page 8 0"], ["refused file picture"])
     faulty.case(file, "nothing is written where a text is refused", ["page 8 0"], ["refused parse 1 line 1"])
+
+
+def runs(file, _):
+    """The log is written whole before the dump is begun."""
+    turns = "1099511627776\n"
+    log, text = digits(RUN_LOG), written(RUN_DUMP)
+    begun = Command("run", [("image", COUNTER), ("turns", turns)], RUN_DUMP)
+    begun.case(file, "a few bytes at a time", ["image 7", "new 9", "page 9"], log + text)
+    begun.failing_reads(file, "image")
+    resumed = Command("resume", [("image", COUNTER), ("log", NO_TURN), ("turns", turns)], RUN_DUMP)
+    resumed.case(file, "a few bytes at a time", ["image 7", "log 7", "new 9", "page 9"], log + text)
+    resumed.failing_reads(file, "image")
+    resumed.failing_reads(file, "log")
+    for command in begun, resumed:
+        for calls in range(-(-len(RUN_LOG) // 9)):
+            answer = digits(RUN_LOG[:calls * 9]) + ["refused file page"]
+            command.case(file, f"write {calls} of the log fails", [f"new 9 {calls}", "page 9 0"], answer)
+        for calls in range(-(-len(RUN_DUMP) // 9)):
+            answer = log + written(RUN_DUMP[:calls * 9]) + ["refused file page"]
+            command.case(file, f"write {calls} of the dump fails", ["new 9", f"page 9 {calls}"], answer)
+    cases = [("an old log that is none", b"HRL1", "refused log 2"), ("an old log of nine harts", b"HRL1\t" + bytes(11), "refused log 3")]
+    for name, old, why in cases:
+        Command("resume", [("image", COUNTER), ("log", old), ("turns", turns)], None).case(file, name, ["new 9 0", "page 9 0"], [why])
+    Command("run", [("image", b"HRV1"), ("turns", turns)], None).case(file, "no image", ["new 9 0", "page 9 0"], ["refused load 2"])
 
 
 def talks(file, _):

@@ -138,7 +138,11 @@ pub fn pictures_of<'a>(
 }
 
 /// What the command wrote, or why it refused. A backslash ends a text whose last line has no line feed.
-fn push_answer(answered: Result<(), Fault>, page: &Page, out: &mut String) -> Result<(), Failure> {
+pub fn push_answer(
+    answered: Result<(), Fault>,
+    page: &Page,
+    out: &mut String,
+) -> Result<(), Failure> {
     push_bytes(&page.bytes, out)?;
     if !matches!(page.bytes.last(), None | Some(b'\n')) {
         out.push_str("\\\n")?;

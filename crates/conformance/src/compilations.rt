@@ -5,13 +5,14 @@ use crate::commands::{pictures_of, push_digits, push_stored, texts_of};
 use crate::devices::devices_of;
 use crate::failures::Failure;
 use case_files::Part;
-use engines::{compile_bytes, replay_bytes};
+use disassembler::write_lines;
+use engines::{Fault, compile_bytes, replay_bytes};
 use loader::{Image, read_image};
 use std::alloc::{AllocError, Global};
-use tapes::{empty_page, tape_of};
+use tapes::{Page, empty_page, tape_of};
 
-/// An image that is stored without its words, and the picture that one hart leaves; or the bytes up to a refusal.
-pub fn push_compilation(alloc: Global, parts: &[Part], out: &mut String) -> Result<(), Failure> {
+/// What compiling the texts of a case stores, and how it ended.
+fn compiled(alloc: Global, parts: &[Part]) -> Result<(Page, Result<(), Fault>), Failure> {
     let (parts, devices) = devices_of(parts);
     let [algorithm, schedule, inputs @ ..] = parts else {
         return Err(Failure::Malformed("not two parts"));
@@ -28,12 +29,49 @@ pub fn push_compilation(alloc: Global, parts: &[Part], out: &mut String) -> Resu
         pictures.as_mut_slice(),
         &mut page,
     );
+    Ok((page, answered))
+}
+
+/// An image that is stored without its words, and the picture that one hart leaves; or the bytes up to a refusal.
+pub fn push_compilation(alloc: Global, parts: &[Part], out: &mut String) -> Result<(), Failure> {
+    let (page, answered) = compiled(alloc, parts)?;
     if answered.is_err() {
         return push_stored(answered, &page, out);
     }
     let image = read_image(alloc, &page.bytes)?;
     push_data(&page.bytes, &image, out)?;
     push_left(alloc, &page.bytes, out)
+}
+
+/// How many lines of a compiled image's listing are vector loads and stores, of each kind.
+pub fn push_accesses(alloc: Global, parts: &[Part], out: &mut String) -> Result<(), Failure> {
+    let (page, answered) = compiled(alloc, parts)?;
+    if answered.is_err() {
+        return push_stored(answered, &page, out);
+    }
+    let image = read_image(alloc, &page.bytes)?;
+    let mut lines = Vec::new(alloc);
+    write_lines(image.words(), &mut lines)?;
+    let Ok(listing) = str::from_utf8(&lines) else {
+        return Err(Failure::Malformed("the listing is no text"));
+    };
+    push_count(listing, "vle8.v", out)?;
+    push_count(listing, "vle32.v", out)?;
+    push_count(listing, "vluxei32.v", out)?;
+    push_count(listing, "vse32.v", out)?;
+    push_count(listing, "vsuxei32.v", out)?;
+    Ok(())
+}
+
+/// A mnemonic, and how many lines begin with it.
+fn push_count(listing: &str, mnemonic: &str, out: &mut String) -> Result<(), AllocError> {
+    let mut count = 0_usize;
+    for line in listing.lines() {
+        if line.trim_start().starts_with(mnemonic) {
+            count = count.wrapping_add(1);
+        }
+    }
+    writeln!(out, "{mnemonic} {count}")
 }
 
 /// How many bytes the data have, those that are stored, and where the output lies.

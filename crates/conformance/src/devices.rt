@@ -48,7 +48,20 @@ impl Devices<'_> {
     pub fn page(&self, alloc: Global) -> Result<Page, Failure>
         ensures { IfOk result (λ page. page.failures ≡ 0) }
     {
-        let Setting { step, calls_left } = self.setting("page")?;
+        self.written(alloc, "page")
+    }
+
+    /// The log that a run writes. Its lines have the name `new`; its own name is `page` too.
+    pub fn new_log(&self, alloc: Global) -> Result<Page, Failure>
+        ensures { IfOk result (λ page. page.failures ≡ 0) }
+    {
+        self.written(alloc, "new")
+    }
+
+    fn written(&self, alloc: Global, name: &str) -> Result<Page, Failure>
+        ensures { IfOk result (λ page. page.failures ≡ 0) }
+    {
+        let Setting { step, calls_left } = self.setting(name)?;
         let mut page = empty_page(alloc);
         page.step = step;
         page.writes_left = calls_left;

@@ -18,17 +18,21 @@
 //! | `renew` | `image` | the renewed image's bytes, in hexadecimal |
 //! | `replay` | `image`, `log`: lines in hexadecimal | the dump |
 //! | `debug` | `image`, `log`: lines in hexadecimal; `lines` | the talk |
+//! | `run` | `image`; `turns`: how many a hart makes at most | the bytes of the log of one hart, in hexadecimal, and the dump |
+//! | `resume` | `image`, `log`; `turns` | the same, from where a log of one hart ends |
 //! | `compile` | `algorithm`, `schedule`, any number of `picture` | the image without its words, and the picture that one hart leaves |
+//! | `accesses` | `algorithm`, `schedule`, any number of `picture` | how many lines of the image's listing are vector loads and stores, by mnemonic |
 //! | `words` | `words`: a word of a command line each line | the command and its files, or the refusal's first line |
 //!
 //! Images and logs always stand in hexadecimal. The cases of `draw` and of those from `asm` to `compile` go through the engines; a last part
 //! `devices` says how their files give and take bytes: a line `NAME STEP` for at most so many bytes a call, `NAME STEP CALLS` where the
-//! call behind so many fails. What is written is `page`.
+//! call behind so many fails. What is written is `page`; the log that a run writes has the lines of `new`.
 //!
 //! A refusal stands in place of an answer, or behind what was written before, as `hrv` prints it; a backslash ends a text without a
 //! last line feed there. A case that isn't one of these is answered `malformed: ` and why.
 //!
-//! - [`algorithms`], [`schedules`], [`assemblies`], [`turns`], [`commands`], [`compilations`], [`invocations`]: the answers, a module each for one family.
+//! - [`algorithms`], [`schedules`], [`assemblies`], [`turns`], [`commands`], [`runs`], [`compilations`], [`invocations`]: the answers, a module each for
+//!   one family.
 //! - [`devices`]: files in memory.
 //! - [`harts`]: what a hart holds, as lines.
 //! - [`failures`]: what stands in place of an answer.
@@ -42,20 +46,23 @@ mod devices;
 mod failures;
 mod harts;
 mod invocations;
+mod runs;
 mod schedules;
 mod turns;
 
 use crate::algorithms::{push_reading, push_verdict};
 use crate::assemblies::{push_listing, push_object};
 use crate::commands::{push_drawing, push_image, push_lines, push_renewal, push_replay, push_talk};
-use crate::compilations::push_compilation;
+use crate::compilations::{push_accesses, push_compilation};
 use crate::failures::Failure;
 use crate::invocations::push_invocation;
+use crate::runs::{push_resumption, push_run};
 use crate::schedules::push_schedule;
 use crate::turns::push_changes;
 use case_files::{Case, read_cases};
 use std::alloc::{AllocError, Global};
 use std::rt::{Env, Files};
+use std::sync::Wait;
 use std::thread::Threads;
 use std::{env, fs, io};
 
@@ -67,7 +74,7 @@ fn main(rt: HostRuntime) -> io::Result<()> {
 }
 
 /// Prints what is answered to the cases of a file.
-fn print_file<R: Files + Print + AllocGlobal + Threads + Sync>(
+fn print_file<R: Files + Print + AllocGlobal + Threads + Wait + Sync>(
     rt: &R,
     path: &str,
 ) -> io::Result<()> {
@@ -81,7 +88,10 @@ fn print_file<R: Files + Print + AllocGlobal + Threads + Sync>(
 }
 
 /// Prints what is answered to each case.
-fn print_cases<R: Print + AllocGlobal + Threads + Sync>(rt: &R, cases: &[Case]) -> io::Result<()> {
+fn print_cases<R: Print + AllocGlobal + Threads + Wait + Sync>(
+    rt: &R,
+    cases: &[Case],
+) -> io::Result<()> {
     for case in cases {
         let text = answer(rt, rt.alloc(), case)?;
         print!(rt; "{text}")?;
@@ -90,7 +100,11 @@ fn print_cases<R: Print + AllocGlobal + Threads + Sync>(rt: &R, cases: &[Case]) 
 }
 
 /// A case's heading and the answer to it, or what stands in its place.
-fn answer(rt: &(impl Threads + Sync), alloc: Global, case: &Case) -> Result<String, AllocError> {
+fn answer(
+    rt: &(impl Threads + Wait + Sync),
+    alloc: Global,
+    case: &Case,
+) -> Result<String, AllocError> {
     let mut text = String::new(alloc);
     let Case { kind, name, .. } = case;
     writeln!(text, "== {kind} {name}")?;
@@ -102,7 +116,7 @@ fn answer(rt: &(impl Threads + Sync), alloc: Global, case: &Case) -> Result<Stri
 
 /// Appends the answer to a case.
 fn push_answer(
-    rt: &(impl Threads + Sync),
+    rt: &(impl Threads + Wait + Sync),
     alloc: Global,
     case: &Case,
     out: &mut String,
@@ -121,7 +135,10 @@ fn push_answer(
         "renew" => push_renewal(alloc, parts, out),
         "replay" => push_replay(alloc, parts, out),
         "debug" => push_talk(alloc, parts, out),
+        "run" => push_run(rt, alloc, parts, out),
+        "resume" => push_resumption(rt, alloc, parts, out),
         "compile" => push_compilation(alloc, parts, out),
+        "accesses" => push_accesses(alloc, parts, out),
         "words" => push_invocation(alloc, parts, out),
         _ => Err(Failure::Malformed("an unknown kind of case")),
     }
