@@ -1,0 +1,66 @@
+"""Cases of vectorized loops: an algorithm, a schedule, and the sizes of boxes, worked out by hand."""
+
+from collections import namedtuple
+
+# The points of each Func's box that is computed at root, in order of the text, those of boxes computed at a loop, whether the data have frames, and
+# how many tasks each phase has.
+Facts = namedtuple("Facts", "roots privates frames tasks", defaults=((), False, (1,)))
+
+FRAMES = 8 * 4096
+
+
+def layout(inputs, facts, width, height):
+    """The lines `data` and `output`; the output's Func is the last one at root."""
+    size = 8 * len(facts.tasks)
+    for words in inputs:
+        points = [int(word) for word in words[2:] if word.isdigit()]
+        count = points[0] * (points[1] if len(points) > 1 else 1)
+        size += (count + 3) // 4 * 4 if words[-1] == "u8" else 4 * count
+    output = 0x00200000 + size + 4 * sum(facts.roots[:-1])
+    size += 4 * sum(facts.roots) + 32 * sum(facts.privates) + FRAMES * facts.frames
+    return [f"data {size}", f"output 0x{output:08x} {width} {height or 1} {4 * width}"]
+
+
+def row(factor, way="guard", name="f"):
+    """Vectors of so many pixels of a row."""
+    return f"{name} split x xo xi {factor} {way}\n{name} vectorize xi"
+
+
+def one(definition, width, factor, way="guard", inputs="input in 37"):
+    """A Func of one argument by vectors."""
+    return f"{inputs}\nfunc f(x) = {definition}\noutput f {width}", row(factor, way), Facts((width,))
+
+
+NESTED = "in(x) - (in(x+1) * (in(x+2) + (in(x+3) - (in(x+4) * {}))))"
+
+CASES = [
+    (f"bytes one behind the other by {factor}", *one("in(x) * 3 - in(x+1)", 36, factor, inputs="input in 37 u8")) for factor in (4, 8, 16)
+] + [
+    (f"bytes that lie anywhere by {factor}", *one("in(36-x) * 1000 + in(clamp(x*3-5, 0, 36))", 37, factor, inputs="input in 37 u8")) for factor in (4, 8, 16)
+] + [
+    ("a byte that stays", *one("in(5) + in(x)", 37, 8, inputs="input in 37 u8")),
+    ("a word that stays", *one("in(5) - in(x)", 37, 8)),
+    ("vectors that overlap", *one("in(x) - x * x", 37, 16, "shift")),
+    ("masks of sixteen lanes", *one("select(in(x) % 2 == 1, min(in(x), 7), max(in(x), x - 20)) + (in(x) >= 3) - (x < 9)", 37, 16)),
+    ("quotients and remainders of both signs", *one("(0 - in(x)) / 7 * 100 + (x - 18) % 5 - in(x) / 3 % 4", 37, 8)),
+    ("quotients and remainders by 2147483647", *one("(0 - in(x)) / 2147483647 + in(x) % 2147483647", 37, 4)),
+    ("a stack of six by sixteen", *one(NESTED.format("in(x)"), 32, 16)),
+    ("a stack of seven by sixteen", *one(NESTED.format("in(x+5)"), 32, 16)[:2], Facts((32,), frames=True)),
+    ("a stack of seven by eight", *one(NESTED.format("in(x+5)"), 32, 8)),
+    ("an index that runs along both arguments", "input in 30\nfunc f(x,y) = in(x+y) * 2 + in(x-y+7)\noutput f 20 8", row(8), Facts((160,))),
+    ("every third pixel, rounded up", "input in 23\nfunc f(x) = in(x) + 1\noutput f 23",
+     "f split x xo xi 3 guard\nf split xo p q 4 guard\nf reorder q xi p\nf vectorize q", Facts((23,))),
+    ("an outer loop of a shift split", "input in 20\nfunc f(x) = in(x) * 5\noutput f 20",
+     "f split x xo xi 8 shift\nf split xo p q 4 guard\nf reorder q xi p\nf vectorize q", Facts((20,))),
+    ("a shift split of a shift split's outer loop", "input in 40\nfunc f(x) = in(x) * 5 - in(39-x)\noutput f 40",
+     "f split x xo xi 8 shift\nf split xo p q 4 shift\nf reorder q xi p\nf vectorize q", Facts((40,))),
+    ("two guards", "input in 37\nfunc f(x) = in(x) * 5\noutput f 37",
+     "f split x xo xi 10 guard\nf split xi p q 4 guard\nf vectorize q", Facts((37,))),
+    ("columns", "input in 5 9\nfunc f(x,y) = in(x,y) - y * 3\noutput f 5 9", "f split y yo yi 4 guard\nf reorder yi x yo\nf vectorize yi", Facts((45,))),
+    ("rows of a Func at a loop", "input in 20 9\nfunc g(x,y) = in(x,y) * 2\nfunc f(x,y) = g(x,y) + g(x+1,y+1)\noutput f 19 8",
+     "f split y yo yi 2 guard\nf parallel yo\ng compute_at f yo\n" + row(16, name="g"), Facts((152,), (60,), tasks=(4,))),
+    ("both stages by vectors", "input in 20 9\nfunc g(x,y) = in(x,y) * 2\nfunc f(x,y) = g(x,y) + g(x+1,y+1)\noutput f 19 8",
+     "g compute_root\n" + row(8, name="g") + "\n" + row(4) + "\nf parallel y", Facts((180, 152), tasks=(1, 8))),
+    ("an update's argument in place", "input in 13\nfunc f(x) = in(x)\nupdate f(x) = f(x) * 2 + in(r) - x over r 0 5\noutput f 13",
+     "f.0 split x xo xi 4 guard\nf.0 reorder xi r xo\nf.0 vectorize xi", Facts((13,), tasks=(1, 1))),
+]
