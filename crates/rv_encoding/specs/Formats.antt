@@ -1,6 +1,6 @@
 -- Each instruction's row of the table, by cases, and what it is for a word to fit a row with given fields.
 -- A reader need not believe this file: the public clauses speak of rv_insn's `Means` alone, and `Means` is proved to be `StandsFor`.
-use Rattle.std.specs.Prelude.{◌≡◌, ℕ, ℤ, List, [], ◌∷◌, map}
+use Rattle.std.specs.Prelude.{◌≡◌, ℕ, ℤ, Bool, Option, Some, None, List, [], ◌∷◌, map}
 use Rattle.rv_insn.specs.Encoding.{Holds, Row, field_of}
 use Rattle.rv_insn.specs.Table.{u_type, j_type, b_type, i_type, s_type, r_type, amo_type, whole_word}
 use Rattle.rv_insn.specs.Meaning.{fields_of}
@@ -53,6 +53,20 @@ vector_shape_of (v.Vsetivli rd length vtype) = vsetivli_type []
 vector_shape_of (v.Vsetvl rd rs1 rs2) = vsetvl_type []
 vector_shape_of (v.LoadElements width vd rs1 addressing vm) = access_shape 0b0000111 width addressing
 vector_shape_of (v.StoreElements width vs3 rs1 addressing vm) = access_shape 0b0100111 width addressing
+
+-- vd, vs2 and vm of an operation on elements under a mask, whose word has a third operand beside them
+abbrev pub operands_in : VectorInsn → Option (ℕ × ℕ × Bool)
+operands_in (v.ArithmeticVv op vd vs2 vs1 vm) = Some (vd, vs2, vm)
+operands_in (v.ArithmeticVx op vd vs2 rs1 vm) = Some (vd, vs2, vm)
+operands_in (v.ArithmeticVi op vd vs2 imm vm) = Some (vd, vs2, vm)
+operands_in (v.ShiftVi op vd vs2 amount vm) = Some (vd, vs2, vm)
+operands_in (v.CompareVv op vd vs2 vs1 vm) = Some (vd, vs2, vm)
+operands_in (v.CompareVx op vd vs2 rs1 vm) = Some (vd, vs2, vm)
+operands_in (v.CompareVi op vd vs2 imm vm) = Some (vd, vs2, vm)
+operands_in (v.MultiplyVv op vd vs2 vs1 vm) = Some (vd, vs2, vm)
+operands_in (v.MultiplyVx op vd vs2 rs1 vm) = Some (vd, vs2, vm)
+operands_in (v.Reduce op vd vs2 vs1 vm) = Some (vd, vs2, vm)
+operands_in other = None
 
 -- the row of operations on three registers, by funct3 and funct6
 abbrev pub registers_shape : ℕ → ℕ → Row

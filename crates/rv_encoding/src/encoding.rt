@@ -5,6 +5,7 @@ ghost use Rattle.rv_insn.specs.Meaning.{Means};
 ghost use Rattle.rv_insn.specs.Encoding.{bit_of};
 ghost use Rattle.rv_insn.specs.Table.{r_type, i_type, s_type, b_type, u_type, j_type, amo_type, whole_word};
 ghost use Rattle.rv_encoding.specs.Formats.{Stands, StandsFor};
+ghost use Rattle.rv_encoding.specs.Operations.{store_funct3 as store_key, shift_funct3 as shift_key, shift_funct7 as shift_second_key, alu_funct3 as alu_key, alu_funct7 as alu_second_key};
 
 use crate::keys::{
     alu_funct3, alu_funct7, alu_imm_funct3, branch_funct3, load_funct3, shift_funct3, shift_funct7,
@@ -13,40 +14,36 @@ use crate::keys::{
 use crate::opcodes;
 use crate::packing::{digits_12, digits_20, pack_b, pack_i, pack_j, pack_r, pack_s, pack_u};
 use crate::vector_encoding::vector_word;
-use rv_insn::{BranchOffset, Imm12, Imm20, Insn, JumpOffset, Reg, ShiftAmount};
+use rv_insn::{
+    AluOp, BranchOffset, Imm12, Imm20, Insn, JumpOffset, Reg, ShiftAmount, ShiftOp, StoreOp,
+};
 
 #[tactic(auto, using(crate::proofs::Formats::r_made), unfolding(crate::specs::Decoding::rd_of, crate::specs::Decoding::rs1_of, crate::specs::Decoding::rs2_of))]
-fn r_word(opcode: u32, funct3: u32, funct7: u32, rd: Reg, rs1: Reg, rs2: Reg) -> u32
-    requires opcode { opcode < 2 ^ 7 }
-    requires funct3 { funct3 < 2 ^ 3 }
-    requires funct7 { funct7 < 2 ^ 7 }
-    ensures { Stands result (r_type [] opcode funct3 funct7) (pos rd ∷ pos rs1 ∷ pos rs2 ∷ []) }
+fn alu_word(op: AluOp, rd: Reg, rs1: Reg, rs2: Reg) -> u32
+    ensures { Stands result (r_type [] 0b0110011 (alu_key op) (alu_second_key op)) (pos rd ∷ pos rs1 ∷ pos rs2 ∷ []) }
 {
     pack_r(
-        opcode,
+        opcodes::OP,
         rd.number() as u32,
-        funct3,
+        alu_funct3(op),
         rs1.number() as u32,
         rs2.number() as u32,
-        funct7,
+        alu_funct7(op),
     )
 }
 
 // The amount of a shift stands where the R format has its second source.
 #[tactic(auto, using(crate::proofs::Formats::r_made), unfolding(crate::specs::Decoding::rd_of, crate::specs::Decoding::rs1_of, crate::specs::Decoding::rs2_of))]
-fn shift_word(opcode: u32, funct3: u32, funct7: u32, rd: Reg, rs1: Reg, amount: ShiftAmount) -> u32
-    requires opcode { opcode < 2 ^ 7 }
-    requires funct3 { funct3 < 2 ^ 3 }
-    requires funct7 { funct7 < 2 ^ 7 }
-    ensures { Stands result (r_type [] opcode funct3 funct7) (pos rd ∷ pos rs1 ∷ pos amount ∷ []) }
+fn shift_word(op: ShiftOp, rd: Reg, rs1: Reg, amount: ShiftAmount) -> u32
+    ensures { Stands result (r_type [] 0b0010011 (shift_key op) (shift_second_key op)) (pos rd ∷ pos rs1 ∷ pos amount ∷ []) }
 {
     pack_r(
-        opcode,
+        opcodes::OP_IMM,
         rd.number() as u32,
-        funct3,
+        shift_funct3(op),
         rs1.number() as u32,
         amount.value() as u32,
-        funct7,
+        shift_funct7(op),
     )
 }
 
@@ -66,14 +63,12 @@ fn i_word(opcode: u32, funct3: u32, rd: Reg, rs1: Reg, imm: Imm12) -> u32
 }
 
 #[tactic(auto, using(crate::proofs::Formats::s_made), unfolding(crate::specs::Decoding::s_immediate_of, crate::specs::Decoding::rs1_of, crate::specs::Decoding::rs2_of))]
-fn s_word(opcode: u32, funct3: u32, rs1: Reg, rs2: Reg, imm: Imm12) -> u32
-    requires opcode { opcode < 2 ^ 7 }
-    requires funct3 { funct3 < 2 ^ 3 }
-    ensures { Stands result (s_type [] opcode funct3) (pos rs1 ∷ pos rs2 ∷ imm ∷ []) }
+fn store_word(op: StoreOp, rs1: Reg, rs2: Reg, imm: Imm12) -> u32
+    ensures { Stands result (s_type [] 0b0100011 (store_key op)) (pos rs1 ∷ pos rs2 ∷ imm ∷ []) }
 {
     pack_s(
-        opcode,
-        funct3,
+        opcodes::STORE,
+        store_funct3(op),
         rs1.number() as u32,
         rs2.number() as u32,
         digits_12(imm.value()),
@@ -149,9 +144,7 @@ fn word_of(insn: &Insn) -> u32
             offset,
         } => b_word(opcodes::BRANCH, branch_funct3(op), rs1, rs2, offset),
         Insn::Load { op, rd, rs1, imm } => i_word(opcodes::LOAD, load_funct3(op), rd, rs1, imm),
-        Insn::Store { op, rs1, rs2, imm } => {
-            s_word(opcodes::STORE, store_funct3(op), rs1, rs2, imm)
-        }
+        Insn::Store { op, rs1, rs2, imm } => store_word(op, rs1, rs2, imm),
         Insn::AluImm { op, rd, rs1, imm } => {
             i_word(opcodes::OP_IMM, alu_imm_funct3(op), rd, rs1, imm)
         }
@@ -160,17 +153,8 @@ fn word_of(insn: &Insn) -> u32
             rd,
             rs1,
             amount,
-        } => shift_word(
-            opcodes::OP_IMM,
-            shift_funct3(op),
-            shift_funct7(op),
-            rd,
-            rs1,
-            amount,
-        ),
-        Insn::Alu { op, rd, rs1, rs2 } => {
-            r_word(opcodes::OP, alu_funct3(op), alu_funct7(op), rd, rs1, rs2)
-        }
+        } => shift_word(op, rd, rs1, amount),
+        Insn::Alu { op, rd, rs1, rs2 } => alu_word(op, rd, rs1, rs2),
         Insn::AmoaddW {
             rd,
             rs1,

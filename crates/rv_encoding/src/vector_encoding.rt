@@ -1,11 +1,11 @@
 //! Encoding of the vector instructions.
 
-ghost use Rattle.std.specs.Prelude.{◌≡◌, ◌<◌, ◌^◌, ℕ, pos, [], ◌∷◌, ◌++◌};
+ghost use Rattle.std.specs.Prelude.{◌≡◌, ◌<◌, ◌^◌, ℕ, None, Some, IfSome, pos, [], ◌∷◌, ◌++◌};
 ghost use Rattle.rv_insn.specs.Encoding.{bit_of};
 ghost use Rattle.rv_insn.specs.Addressing.{offset_fields};
 ghost use Rattle.rv_insn.specs.VectorMeaning.{vector_fields_of};
 ghost use Rattle.rv_insn.specs.VectorTable.{opivi_type, merge_vi_type, move_vi_type, to_scalar_type, from_scalar_type, numbers_type, extend_type, vsetvli_type, vsetivli_type, vsetvl_type, unit_type};
-ghost use Rattle.rv_encoding.specs.Formats.{Stands, vector_shape_of, registers_shape, merge_shape, move_shape, offset_shape, access_shape};
+ghost use Rattle.rv_encoding.specs.Formats.{Stands, vector_shape_of, registers_shape, merge_shape, move_shape, offset_shape, access_shape, operands_in};
 
 use crate::opcodes;
 use crate::packing::{digits_5, pack_i, pack_r, pack_v};
@@ -304,123 +304,106 @@ fn access_word(
     }
 }
 
+/// What stands in the word of an operation on elements beside its third operand.
+#[derive(Clone, Copy)]
+struct Operands {
+    vd: VReg,
+    vs2: VReg,
+    vm: bool,
+}
+
+/// Those of an operation on elements, or None where the instruction is another.
+fn operands_of(insn: &VectorInsn) -> Option<Operands>
+    ensures some { IfSome result (λ own. operands_in insn.now ≡ Some (own.vd, own.vs2, own.vm)) }
+    ensures none { result ≡ None → operands_in insn.now ≡ None }
+{
+    match *insn {
+        VectorInsn::ArithmeticVv { vd, vs2, vm, .. }
+        | VectorInsn::ArithmeticVx { vd, vs2, vm, .. }
+        | VectorInsn::ArithmeticVi { vd, vs2, vm, .. }
+        | VectorInsn::ShiftVi { vd, vs2, vm, .. }
+        | VectorInsn::CompareVv { vd, vs2, vm, .. }
+        | VectorInsn::CompareVx { vd, vs2, vm, .. }
+        | VectorInsn::CompareVi { vd, vs2, vm, .. }
+        | VectorInsn::MultiplyVv { vd, vs2, vm, .. }
+        | VectorInsn::MultiplyVx { vd, vs2, vm, .. }
+        | VectorInsn::Reduce { vd, vs2, vm, .. } => Some(Operands { vd, vs2, vm }),
+        _ => None,
+    }
+}
+
+fn with_vector(funct3: u32, funct6: u32, own: Operands, vs1: VReg) -> u32
+    requires funct3 { funct3 < 2 ^ 3 }
+    requires funct6 { funct6 < 2 ^ 6 }
+    ensures { Stands result (registers_shape funct3 funct6) (pos own.vd ∷ pos own.vs2 ∷ pos vs1 ∷ pos (bit_of own.vm) ∷ []) }
+{
+    registers_word(funct3, funct6, own.vd, own.vs2, vs1.number() as u32, own.vm)
+}
+
+fn with_scalar(funct3: u32, funct6: u32, own: Operands, rs1: Reg) -> u32
+    requires funct3 { funct3 < 2 ^ 3 }
+    requires funct6 { funct6 < 2 ^ 6 }
+    ensures { Stands result (registers_shape funct3 funct6) (pos own.vd ∷ pos own.vs2 ∷ pos rs1 ∷ pos (bit_of own.vm) ∷ []) }
+{
+    registers_word(funct3, funct6, own.vd, own.vs2, rs1.number() as u32, own.vm)
+}
+
+fn with_immediate(funct6: u32, own: Operands, imm: Imm5) -> u32
+    requires { funct6 < 2 ^ 6 }
+    ensures { Stands result (opivi_type [] funct6) (pos own.vd ∷ pos own.vs2 ∷ imm ∷ pos (bit_of own.vm) ∷ []) }
+{
+    immediate_word(funct6, own.vd, own.vs2, imm, own.vm)
+}
+
+/// The word of an operation on elements.
+fn operation_word(insn: &VectorInsn, own: Operands) -> u32
+    requires { operands_in insn.now ≡ Some (own.vd, own.vs2, own.vm) }
+    ensures { Stands result (vector_shape_of insn.now) (vector_fields_of insn.now) }
+{
+    match *insn {
+        VectorInsn::ArithmeticVv { op, vs1, .. } => {
+            with_vector(OPIVV, arithmetic_vv_funct6(op), own, vs1)
+        }
+        VectorInsn::ArithmeticVx { op, rs1, .. } => {
+            with_scalar(OPIVX, arithmetic_vx_funct6(op), own, rs1)
+        }
+        VectorInsn::ArithmeticVi { op, imm, .. } => {
+            with_immediate(arithmetic_vi_funct6(op), own, imm)
+        }
+        VectorInsn::ShiftVi { op, amount, .. } => registers_word(
+            OPIVI,
+            shift_vi_funct6(op),
+            own.vd,
+            own.vs2,
+            amount.value() as u32,
+            own.vm,
+        ),
+        VectorInsn::CompareVv { op, vs1, .. } => {
+            with_vector(OPIVV, compare_vv_funct6(op), own, vs1)
+        }
+        VectorInsn::CompareVx { op, rs1, .. } => {
+            with_scalar(OPIVX, compare_vx_funct6(op), own, rs1)
+        }
+        VectorInsn::CompareVi { op, imm, .. } => with_immediate(compare_vi_funct6(op), own, imm),
+        VectorInsn::MultiplyVv { op, vs1, .. } => {
+            with_vector(OPMVV, multiply_funct6(op), own, vs1)
+        }
+        VectorInsn::MultiplyVx { op, rs1, .. } => {
+            with_scalar(OPMVX, multiply_funct6(op), own, rs1)
+        }
+        VectorInsn::Reduce { op, vs1, .. } => with_vector(OPMVV, reduction_funct6(op), own, vs1),
+        _ => unreachable!(),
+    }
+}
+
 /// The word of a vector instruction.
 pub fn vector_word(insn: VectorInsn) -> u32
     ensures { Stands result (vector_shape_of insn) (vector_fields_of insn) }
 {
+    if let Some(own) = operands_of(&insn) {
+        return operation_word(&insn, own);
+    }
     match insn {
-        VectorInsn::ArithmeticVv {
-            op,
-            vd,
-            vs2,
-            vs1,
-            vm,
-        } => registers_word(
-            OPIVV,
-            arithmetic_vv_funct6(op),
-            vd,
-            vs2,
-            vs1.number() as u32,
-            vm,
-        ),
-        VectorInsn::ArithmeticVx {
-            op,
-            vd,
-            vs2,
-            rs1,
-            vm,
-        } => registers_word(
-            OPIVX,
-            arithmetic_vx_funct6(op),
-            vd,
-            vs2,
-            rs1.number() as u32,
-            vm,
-        ),
-        VectorInsn::ArithmeticVi {
-            op,
-            vd,
-            vs2,
-            imm,
-            vm,
-        } => immediate_word(arithmetic_vi_funct6(op), vd, vs2, imm, vm),
-        VectorInsn::ShiftVi {
-            op,
-            vd,
-            vs2,
-            amount,
-            vm,
-        } => registers_word(
-            OPIVI,
-            shift_vi_funct6(op),
-            vd,
-            vs2,
-            amount.value() as u32,
-            vm,
-        ),
-        VectorInsn::CompareVv {
-            op,
-            vd,
-            vs2,
-            vs1,
-            vm,
-        } => registers_word(
-            OPIVV,
-            compare_vv_funct6(op),
-            vd,
-            vs2,
-            vs1.number() as u32,
-            vm,
-        ),
-        VectorInsn::CompareVx {
-            op,
-            vd,
-            vs2,
-            rs1,
-            vm,
-        } => registers_word(
-            OPIVX,
-            compare_vx_funct6(op),
-            vd,
-            vs2,
-            rs1.number() as u32,
-            vm,
-        ),
-        VectorInsn::CompareVi {
-            op,
-            vd,
-            vs2,
-            imm,
-            vm,
-        } => immediate_word(compare_vi_funct6(op), vd, vs2, imm, vm),
-        VectorInsn::MultiplyVv {
-            op,
-            vd,
-            vs2,
-            vs1,
-            vm,
-        } => registers_word(OPMVV, multiply_funct6(op), vd, vs2, vs1.number() as u32, vm),
-        VectorInsn::MultiplyVx {
-            op,
-            vd,
-            vs2,
-            rs1,
-            vm,
-        } => registers_word(OPMVX, multiply_funct6(op), vd, vs2, rs1.number() as u32, vm),
-        VectorInsn::Reduce {
-            op,
-            vd,
-            vs2,
-            vs1,
-            vm,
-        } => registers_word(
-            OPMVV,
-            reduction_funct6(op),
-            vd,
-            vs2,
-            vs1.number() as u32,
-            vm,
-        ),
         VectorInsn::MergeVv { vd, vs2, vs1 } => merge_word(OPIVV, vd, vs2, vs1.number() as u32),
         VectorInsn::MergeVx { vd, vs2, rs1 } => merge_word(OPIVX, vd, vs2, rs1.number() as u32),
         VectorInsn::MergeVi { vd, vs2, imm } => merge_immediate_word(vd, vs2, imm),
@@ -448,5 +431,6 @@ pub fn vector_word(insn: VectorInsn) -> u32
             addressing,
             vm,
         } => access_word(opcodes::STORE_VECTOR, width, vs3, rs1, addressing, vm),
+        _ => unreachable!(),
     }
 }
