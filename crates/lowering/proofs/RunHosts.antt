@@ -1,8 +1,8 @@
 -- A host whose innermost loop is vectorized stores its points by the runs of that loop. Nests of Funcs at its loops store none of them.
 use Rattle.std.proofs.Common.{◌≡◌, ℕ, zero, suc, ◌^◌, inl, inr, ◌<◌, ◌≤◌, Bool, true, false, cond, List, [], ◌∷◌, ◌++◌, Option, Some, None, refl, sym, ap, subst, ◌∙◌, arith, true≢false}
-use Rattle.std.specs.Prelude.{◌==◌, ◌&&◌, ◌||◌, not, slice_get}
+use Rattle.std.specs.Prelude.{◌==◌, ◌&&◌, ◌||◌, nat_lt, not, slice_get}
 use Rattle.std.specs.List.{AllByRecursion, list_all, list_any}
-use Rattle.std.proofs.lemmas.Bool.{and_from, eq-eqb, eqb-true, ne_eqb, cases_eq}
+use Rattle.std.proofs.lemmas.Bool.{and_from, eq-eqb, eqb-true, ne_eqb, cases_eq, lt-ltb}
 use Rattle.std.proofs.lemmas.List.Folds.{list_any-append}
 use Rattle.halide_pipeline.specs.declared.definitions.Func.{Func}
 use Rattle.halide_pipeline.specs.declared.expressions.Variable.TheVariants as variables
@@ -18,7 +18,7 @@ use Rattle.schedule.specs.Accepted.{IsAccepted}
 use Rattle.stage_loops.specs.declared.extents.Extents.{Extents}
 use Rattle.stage_loops.specs.Counts as loops
 use Rattle.stage_loops.specs.Iterations.{parallel}
-use Rattle.stage_loops.specs.Reach.{wholes}
+use Rattle.stage_loops.specs.Reach.{AreTurns, wholes}
 use Rattle.stage_loops.specs.Stages.{IsStageOf, KeepsRules}
 use Rattle.stage_loops.specs.Visits.{upto, nest, over_loops, visit_of, is_slice}
 use Rattle.stage_loops.proofs.Nesting.{nest-append}
@@ -32,9 +32,10 @@ use Rattle.loop_ir.specs.Soundness.{every, is_sound}
 use Rattle.loop_ir.proofs.Runs.{others_store_in_no_run}
 use Rattle.nest_lowering.specs.Nests.{loops_of, put_loops, AreSmall, Repeats}
 use Rattle.nest_lowering.specs.Rounds.{IsLeaf, is_vectorized_loop}
+use Rattle.nest_lowering.proofs.Rounds.{turns_more}
 use Rattle.lowering.specs.Hosting.{hosting, in_runs_first, IsNestAt, IsNestOf, HasNests, None_left, One_more, HasLoops, No_loops, One_outside, HasOutermost}
 use Rattle.lowering.specs.PurePhases.{MissesPure, whole_at}
-use Rattle.lowering.specs.Runs.{innermost, is_in_run, is_vectorized_first}
+use Rattle.lowering.specs.Runs.{innermost, outside_innermost, are_turns, is_in_run, is_vectorized_first}
 use Rattle.lowering.proofs.Facts.{hosted_before}
 use Rattle.lowering.proofs.Filling.{loops_hosting}
 use Rattle.lowering.proofs.HostRounds.{no_nests, none_hosted, later_plain, no_loops_is}
@@ -62,6 +63,12 @@ every_passes : (n : ℕ) (test : ℕ → Bool) → ((turn : ℕ) → turn < n �
 unfolding every
 every_passes zero test each = refl
 every_passes (suc n) test each = and_from (every n test) (test n) (every_passes n test (λ turn below. each turn (omega (arith, below)))) (each n (omega arith))
+
+-- loops that are in their turns pass the test on them
+turns_pass : (counts : loops.Values) (own : List Loop) (turned : loops.Values) → AreTurns counts own turned → are_turns counts own turned ≡ true
+turns_pass counts [] turned are = refl
+turns_pass counts (first ∷ others) turned are =
+    and_from (nat_lt (turned first.id) (counts first.id)) (are_turns counts others turned) (lt-ltb (turned first.id) (counts first.id) are.0) (turns_pass counts others turned are.1)
 
 -- none of the turns stores where none of the lists has the point
 every_misses : {A : Type 0} (n most : ℕ) → n ≤ most → (test : ℕ → Bool) (hit : A → Bool) (lists : ℕ → List A) → ((turn : ℕ) → turn < most → test turn ≡ not (list_any hit (lists turn)))
@@ -135,16 +142,25 @@ module _ (pipeline : Pipeline) (schedule : Schedule) (boxes : Boxes) (accepted :
         ∙ ap (λ (t : loops.Values). list_all (λ inner. missed store (put_loops host inner (hosting host turned))) (listed [] t)) (loops_hosting host turned)
         ∙ all_miss turned (listed [] turned) words
 
+    in_turns : (own : Loop) (outside : List Loop) → stage.loops ≡ own ∷ outside → (turned : loops.Values) → AreTurns counts outside turned
+        → are_turns counts (outside_innermost stage.loops) (loops_of host (hosting host turned)) ≡ true
+    in_turns own outside loops_are turned are =
+        ap (λ (t : loops.Values). are_turns counts (outside_innermost stage.loops) t) (loops_hosting host turned)
+        ∙ ap (λ (ls : List Loop). are_turns counts (outside_innermost ls) turned) loops_are
+        ∙ turns_pass counts outside turned are
+
     -- what is expected of a run is what the innermost loop lists
-    expected_is : (own : Loop) (outside : List Loop) → stage.loops ≡ own ∷ outside → (turned : loops.Values) → expected (hosting host turned) ≡ list_any (is_at x y) (listed (own ∷ []) turned)
-    expected_is own outside loops_are turned =
-        ap (λ (t : loops.Values). list_any (is_slice x y) (nest counts (innermost stage.loops) (over_loops extents plan.pure.splits (λ whole. visit_of extents whole ∷ [])) t)) (loops_hosting host turned)
+    expected_is : (own : Loop) (outside : List Loop) → stage.loops ≡ own ∷ outside → (turned : loops.Values) → AreTurns counts outside turned → expected (hosting host turned) ≡ list_any (is_at x y) (listed (own ∷ []) turned)
+    expected_is own outside loops_are turned are =
+        ap (λ (b : Bool). b && list_any (is_slice x y) (nest counts (innermost stage.loops) (over_loops extents plan.pure.splits (λ whole. visit_of extents whole ∷ [])) (loops_of host (hosting host turned))))
+        (in_turns own outside loops_are turned are)
+        ∙ ap (λ (t : loops.Values). list_any (is_slice x y) (nest counts (innermost stage.loops) (over_loops extents plan.pure.splits (λ whole. visit_of extents whole ∷ [])) t)) (loops_hosting host turned)
         ∙ ap (λ (ls : List Loop). list_any (is_slice x y) (nest counts (innermost ls) (over_loops extents plan.pure.splits (λ whole. visit_of extents whole ∷ [])) turned)) loops_are
         ∙ ap (list_any (is_slice x y)) (visits_of_wholes extents plan.pure.splits (own ∷ []) turned)
         ∙ any_map (is_slice x y) (visit_of extents) (listed (own ∷ []) turned)
 
     -- the vectorized loop
-    module _ (own : Loop) (outside : List Loop) (loops_are : stage.loops ≡ own ∷ outside) (turned : loops.Values) (small : AreSmall turned) (words : AllByRecursion AreWords (listed (own ∷ []) turned)) where
+    module _ (own : Loop) (outside : List Loop) (loops_are : stage.loops ≡ own ∷ outside) (turned : loops.Values) (small : AreSmall turned) (are : AreTurns counts outside turned) (words : AllByRecursion AreWords (listed (own ∷ []) turned)) where
       abbrev lists : ℕ → List loops.Values
       lists turn = listed [] (loops.with own.id turn turned)
 
@@ -156,7 +172,7 @@ module _ (pipeline : Pipeline) (schedule : Schedule) (boxes : Boxes) (accepted :
       pub vector_runs : are_same (every (counts own.id) (λ round. missed leaf (with (record { func = host; id = own.id }) round (hosting host turned)))) (not (expected (hosting host turned))) ≡ true
       vector_runs =
           ap (λ (b : Bool). are_same b (not (expected (hosting host turned)))) (every_misses (counts own.id) (counts own.id) (omega arith) (λ round. missed leaf (with (record { func = host; id = own.id }) round (hosting host turned))) (is_at x y) lists round_misses)
-          ∙ ap (λ (b : Bool). are_same (not (list_any (is_at x y) (listed (own ∷ []) turned))) (not b)) (expected_is own outside loops_are turned)
+          ∙ ap (λ (b : Bool). are_same (not (list_any (is_at x y) (listed (own ∷ []) turned))) (not b)) (expected_is own outside loops_are turned are)
           ∙ same_as_itself (not (list_any (is_at x y) (listed (own ∷ []) turned)))
 
     behind : (ls : List Loop) (own : Loop) (outside : List Loop) → (ls ++ own ∷ []) ++ outside ≡ ls ++ own ∷ outside
@@ -171,10 +187,13 @@ module _ (pipeline : Pipeline) (schedule : Schedule) (boxes : Boxes) (accepted :
         by_test false e = refl
 
     pub loops_run : (inside : List Loop) (made : Stmt) → HasLoops pipeline schedule boxes host counts leaf inside made → (outside : List Loop) → stage.loops ≡ inside ++ outside → is_vectorized_first inside ≡ true
-        → (turned : loops.Values) → AreSmall turned → AllByRecursion AreWords (listed inside turned) → Runs made turned
-    loops_run _ _ No_loops outside loops_are first turned small words = absurd (true≢false (sym first))
-    loops_run _ made (One_outside inside mid inner body _ within nested does around run_around) outside loops_are first turned small words =
-        by_inside inside within refl (λ first_in turn below words_in. loops_run inside inner within (mid ∷ outside) here first_in (loops.with mid.id turn turned) (small_with mid.id turn turned (omega (arith, below, few mid.id)) small) words_in)
+        → (turned : loops.Values) → AreSmall turned → AreTurns counts outside turned → AllByRecursion AreWords (listed inside turned) → Runs made turned
+    loops_run _ _ No_loops outside loops_are first turned small are words = absurd (true≢false (sym first))
+    loops_run _ made (One_outside inside mid inner body _ within nested does around run_around) outside loops_are first turned small are words =
+        by_inside inside within refl
+        (λ first_in turn below words_in.
+        loops_run inside inner within (mid ∷ outside) here first_in (loops.with mid.id turn turned) (small_with mid.id turn turned (omega (arith, below, few mid.id)) small)
+        (turns_more counts mid turn below outside turned are) words_in)
       where
         here : stage.loops ≡ inside ++ mid ∷ outside
         here = loops_are ∙ behind inside mid outside
@@ -189,7 +208,7 @@ module _ (pipeline : Pipeline) (schedule : Schedule) (boxes : Boxes) (accepted :
             let body_is = no_nests pipeline schedule boxes (record { func = host; inside = mid.id }) (none_hosted pipeline schedule boxes accepted host func plan plan_is extents is kept few leaf store bound store_is leaf_is mid outside now v) 0 inner body nested ∙ inner_is in
             run_around.vector v reads x y expected (hosting host turned)
             ∙ ap (λ (b : Stmt). are_same (every (counts mid.id) (λ round. missed b (with (record { func = host; id = mid.id }) round (hosting host turned)))) (not (expected (hosting host turned)))) body_is
-            ∙ vector_runs mid outside now turned small (subst (λ (ls : List Loop). AllByRecursion AreWords (listed (ls ++ mid ∷ []) turned)) e words)
+            ∙ vector_runs mid outside now turned small are (subst (λ (ls : List Loop). AllByRecursion AreWords (listed (ls ++ mid ∷ []) turned)) e words)
         by_inside (one ∷ before) more e told =
             let now : stage.loops ≡ (one ∷ before) ++ mid ∷ outside = subst (λ (ls : List Loop). stage.loops ≡ ls ++ mid ∷ outside) e here in
             let first_in : is_vectorized_first inside ≡ true = subst (λ (ls : List Loop). is_vectorized_first ls ≡ true) (sym e) (subst (λ (ls : List Loop). is_vectorized_first (ls ++ mid ∷ []) ≡ true) e first) in

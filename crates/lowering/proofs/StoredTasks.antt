@@ -21,9 +21,9 @@ use Rattle.schedule.specs.Accepted.{IsAccepted}
 use Rattle.stage_loops.specs.declared.extents.Extents.{Extents}
 use Rattle.stage_loops.specs.Counts as loops
 use Rattle.stage_loops.specs.Iterations.{parallel, iteration, iteration_count, count_of}
-use Rattle.stage_loops.specs.Reach.{wholes}
+use Rattle.stage_loops.specs.Reach.{AreTurns, wholes}
 use Rattle.stage_loops.specs.Stages.{IsStageOf, KeepsRules, IsVisitOf}
-use Rattle.stage_loops.specs.Visits.{Visit, visit_of, is_slice}
+use Rattle.stage_loops.specs.Visits.{Visit, zeros, visit_of, is_slice}
 use Rattle.bounds.specs.declared.boxes.SourceBox.{SourceBox}
 use Rattle.bounds.specs.declared.verdict.Boxes.{Boxes}
 use Rattle.bounds.specs.Verdict.{inferred}
@@ -39,6 +39,7 @@ use Rattle.loop_ir.specs.Stores.{is_stored_by, is_stored_by_task}
 use Rattle.nest_lowering.specs.Nests.{AreSmall}
 use Rattle.nest_lowering.specs.Rounds.{IsLeaf, is_vectorized_loop}
 use Rattle.nest_lowering.proofs.Few.{few_turns}
+use Rattle.nest_lowering.proofs.Rounds.{turns_more}
 use Rattle.lowering.specs.Hosting.{HasLoops, HasOutermost, IsBody, hosting}
 use Rattle.lowering.specs.Planes.{box_points, owns}
 use Rattle.lowering.specs.PurePhases.{IsAtRoot, IsStoreOf, inside_of, counter_of}
@@ -159,6 +160,11 @@ module _ (pipeline : Pipeline) (schedule : Schedule) (boxes : Boxes) (rules : Is
     few_so id =
         few_turns extents stage.splits (few pipeline schedule boxes place func plan own accepted is places.Root tt at) (splits pipeline schedule boxes place func plan own accepted is places.Root tt at) id
 
+    -- a task is a turn of the parallel loop
+    task_turns : (found : Option Loop) → number < count_of (loops.counts extents stage.splits) found → AreTurns (loops.counts extents stage.splits) (outside_of place extents stage facts.1 found) (now found)
+    task_turns None l = tt
+    task_turns (Some own) l = turns_more (loops.counts extents stage.splits) own number l [] zeros tt
+
     inside_first : (found : Option Loop) → parallel stage ≡ found → is_vectorized_first (inside_of found stage.loops) ≡ true
     inside_first found e = by_lists found (inside_of found stage.loops) e (loops_by place extents stage facts.1 found e)
       where
@@ -174,7 +180,8 @@ module _ (pipeline : Pipeline) (schedule : Schedule) (boxes : Boxes) (rules : Is
         runs.begun_runs pipeline schedule boxes accepted reads place x y func plan at.plan_is extents facts.0 facts.1 few_so store store_of.misses body.leaf body.bound store_is (body.leaf_is store_is) found body.inner phase.body begun (now found)
         (runs.loops_run pipeline schedule boxes accepted reads place x y func plan at.plan_is extents facts.0 facts.1 few_so store store_of.misses body.leaf body.bound store_is (body.leaf_is store_is) (inside_of found stage.loops) body.inner
         (subst (λ (o : Option Loop). HasLoops pipeline schedule boxes place (loops.counts extents stage.splits) body.leaf (inside_of o stage.loops) body.inner) e body.looped)
-        (outside_of place extents stage facts.1 found) (loops_by place extents stage facts.1 found e) (inside_first found e) (now found) (small unread number below x y found l) words_so)
+        (outside_of place extents stage facts.1 found) (loops_by place extents stage facts.1 found e) (inside_first found e) (now found) (small unread number below x y found l)
+        (task_turns found l) words_so)
 
     task_runs : stores_in_runs reads place x y (is_in_run extents stage place x y) phase.body (task_values phase.counter number) ≡ true
     task_runs =

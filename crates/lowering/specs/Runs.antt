@@ -2,7 +2,7 @@
 --
 -- The innermost loop alone of a stage that is accepted may be vectorized.
 -- This project's own.
-use Rattle.std.specs.Prelude.{◌≡◌, ◌<◌, ℕ, Bool, true, false, List, [], ◌∷◌}
+use Rattle.std.specs.Prelude.{◌≡◌, ◌<◌, ℕ, ◌&&◌, nat_lt, Bool, true, false, List, [], ◌∷◌}
 use Rattle.std.specs.List.{list_any}
 use Rattle.halide_meaning.specs.Pixel.{Reads}
 use Rattle.schedule_lines.specs.declared.stages.Loop.{Loop}
@@ -31,12 +31,23 @@ innermost (own ∷ outside) = own ∷ []
 abbrev pub run_of : Extents → Stage → loops.Values → List Visit
 run_of extents stage turns = nest (counts extents stage.splits) (innermost stage.loops) (over_loops extents stage.splits (λ whole. visit_of extents whole ∷ [])) turns
 
--- The run visits the point, while the loops of the Func at a place are in the turns that counters stand at.
+abbrev pub outside_innermost : List Loop → List Loop
+outside_innermost [] = []
+outside_innermost (own ∷ outside) = outside
+
+-- Each of these loops is in one of its turns.
+abbrev pub are_turns : loops.Values → List Loop → loops.Values → Bool
+are_turns counts [] turns = true
+are_turns counts (own ∷ outside) turns = nat_lt (turns own.id) (counts own.id) && are_turns counts outside turns
+
+-- The run visits the point, while the other loops of the Func at a place are in the turns that counters stand at, and these are turns of theirs.
 abbrev pub is_in_run : Extents → Stage → ℕ → ℕ → ℕ → Values → Bool
-is_in_run extents stage place x y values = list_any (is_slice x y) (run_of extents stage (loops_of place values))
+is_in_run extents stage place x y values =
+    are_turns (counts extents stage.splits) (outside_innermost stage.loops) (loops_of place values) && list_any (is_slice x y) (run_of extents stage (loops_of place values))
 
 -- Where the stage of the Func at a place is vectorized, each task of the phase stores points of the Func in vectorized loops of the Func alone,
--- and each run of such a loop stores exactly at the points that the stage visits in the run, however loads are answered.
+-- and each run of such a loop stores exactly at the points that the stage visits in the run, while its other loops are in some of their turns, however
+-- loads are answered.
 abbrev pub StoresInRuns : ℕ → Extents → Stage → Phase → Type 0
 StoresInRuns place extents stage phase =
     is_vectorized_first stage.loops ≡ true → (task : ℕ) → task < phase.tasks → (reads : Reads) (x y : ℕ)

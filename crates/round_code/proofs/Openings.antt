@@ -59,7 +59,7 @@ small-turn : (a : ℕ) → a % 2 ^ 32 < 2 ^ 32
 small-turn a = omega arith
 
 -- a value that doesn't turn over
-next-value : (v k s now next : ℕ) → now ≡ v + k * s → next ≡ (v + (k + 1) * s) % 2 ^ 32 → now ≤ next → now < 2 ^ 31 → s < 2 ^ 16 → next ≡ v + (k + 1) * s
+next-value : (v k s now next : ℕ) → now ≡ v + k * s → next ≡ (v + (k + 1) * s) % 2 ^ 32 → now ≤ next → now < 2 ^ 31 → s < 2 ^ 31 → next ≡ v + (k + 1) * s
 next-value v k s now next e g up small few =
     let p : (k + 1) * s ≡ k * s + s = grind arith in
     omega (arith, e, g, up, small, few, p)
@@ -81,21 +81,21 @@ round-outside extent v s k some l =
     let up : k + 1 ≤ rounds_left extent v s = (le-div_iff_mul-le {k = s} {x = k + 1} {y = extent - v + (s - 1)} some).1 (omega (arith, l, p, some)) in
     omega (arith, up)
 
-pub few-left : (extent v s : ℕ) → extent < 2 ^ 31 → s < 2 ^ 16 → rounds_left extent v s < 2 ^ 32
+pub few-left : (extent v s : ℕ) → extent < 2 ^ 31 → s < 2 ^ 31 → rounds_left extent v s < 2 ^ 32
 few-left extent v s small few = let d = div-le_self (extent - v + (s - 1)) s in omega (arith, d, small, few)
 
 -- ---- a split loop's value
 
 pub record GoesAlong (scope : List Counter) (strides : List ℕ) (whole : Whole) (extent : ℕ) : Type 0 where
   pub outer : outer_goes whole.last (stride_of scope strides whole.outer) ≡ true
-  pub few : whole_stride scope strides whole < 2 ^ 16
+  pub few : whole_stride scope strides whole < 2 ^ 31
   pub small : extent < 2 ^ 31
 
 pub goes-parts : (scope : List Counter) (strides : List ℕ) (whole : Whole) (extent : ℕ) → whole_goes scope strides whole extent ≡ true → GoesAlong scope strides whole extent
 goes-parts scope strides whole extent t =
     let a = and_parts (outer_goes whole.last (stride_of scope strides whole.outer)) _ t in
-    let b = and_parts (nat_lt (whole_stride scope strides whole) (2 ^ 16)) (nat_lt extent (2 ^ 31)) a.1 in
-    record { outer = a.0; few = is-below (whole_stride scope strides whole) (2 ^ 16) b.0; small = is-below extent (2 ^ 31) b.1 }
+    let b = and_parts (nat_lt (whole_stride scope strides whole) (2 ^ 31)) (nat_lt extent (2 ^ 31)) a.1 in
+    record { outer = a.0; few = is-below (whole_stride scope strides whole) (2 ^ 31) b.0; small = is-below extent (2 ^ 31) b.1 }
 
 -- where neither turns over
 value-by : (last : Option ℕ) (o i f so si k : ℕ) → outer_goes last so ≡ true

@@ -24,7 +24,7 @@ use Rattle.round_code.proofs.Openings.{rounds_left, few-left, not-zero}
 take-off : (a b : ℕ) → b < a → a < 2 ^ 32 → lanes.sub 32 a b ≡ a - b
 take-off a b l small = omega (arith, l, small)
 
-put-on : (extent v s : ℕ) → extent < 2 ^ 31 → s < 2 ^ 16 → lanes.add 32 (extent - v) (s - 1) ≡ extent - v + (s - 1)
+put-on : (extent v s : ℕ) → extent < 2 ^ 31 → s < 2 ^ 31 → lanes.add 32 (extent - v) (s - 1) ≡ extent - v + (s - 1)
 put-on extent v s small few = omega (arith, small, few)
 
 by-one : (x : ℕ) → x ≡ (x + (1 - 1)) / 1
@@ -50,7 +50,7 @@ module _ (own : Setting) (good : IsSetting own) (depth : ℕ) where
     number_is : does.after d ≡ number
     others : (q : ℕ) → q ≢ d → q ≢ 14 → does.after q ≡ f q
 
-  module _ (s d r : ℕ) (low : 13 ≤ d) (high : d ≤ 15) (apart : d ≢ 14) (rh : r < 32) (some : 1 ≤ s) (few : s < 2 ^ 16) (f : ℕ → ℕ) (memory : List ℕ) (funcs : Planes) (holds : HoldsFuncs own memory funcs)
+  module _ (s d r : ℕ) (low : 13 ≤ d) (high : d ≤ 15) (apart : d ≢ 14) (rh : r < 32) (some : 1 ≤ s) (few : s < 2 ^ 31) (f : ℕ → ℕ) (memory : List ℕ) (funcs : Planes) (holds : HoldsFuncs own memory funcs)
       (v extent : ℕ) (er : f r ≡ v) (e13 : f 13 ≡ extent) (l : v < extent) (small : extent < 2 ^ 31) where
     first : Sets w memory holds.size (Alu alus.Sub d 13 r ∷ []) f d (lanes.sub 32 extent v)
     first = alu-sets w memory holds.size alus.Sub f d 13 r extent v (omega (arith, low)) (omega (arith, high)) (omega arith) rh e13 er
@@ -113,7 +113,7 @@ module _ (own : Setting) (good : IsSetting own) (depth : ℕ) where
     pub does : Does own code (length code) f memory depth funcs no_hits
     pub left_is : does.after 15 ≡ left
 
-  module _ (s r : ℕ) (rh : r < 32) (few : s < 2 ^ 16) (f : ℕ → ℕ) (memory : List ℕ) (funcs : Planes) (holds : HoldsFuncs own memory funcs)
+  module _ (s r : ℕ) (rh : r < 32) (few : s < 2 ^ 31) (f : ℕ → ℕ) (memory : List ℕ) (funcs : Planes) (holds : HoldsFuncs own memory funcs)
       (v extent left : ℕ) (er : f r ≡ v) (e13 : f 13 ≡ extent) (e15 : f 15 ≡ left) (l : v < extent) (small : extent < 2 ^ 31) (ll : left < 2 ^ 32) where
     by-all : 1 ≤ s → (all : Bool) → Parks (if all then rounds_below s 15 r else rounds_below s 13 r ++ lesser) f memory funcs (left_by false all extent v s left)
     by-all some true =

@@ -89,7 +89,7 @@ outer_goes (Some last) stride = stride == 0
 
 abbrev pub whole_goes : List Counter → List ℕ → Whole → ℕ → Bool
 whole_goes scope strides whole extent =
-    outer_goes whole.last (stride_of scope strides whole.outer) && (nat_lt (whole_stride scope strides whole) (2 ^ 16) && nat_lt extent (2 ^ 31))
+    outer_goes whole.last (stride_of scope strides whole.outer) && (nat_lt (whole_stride scope strides whole) (2 ^ 31) && nat_lt extent (2 ^ 31))
 
 -- how much further each round takes it, where it goes along with the rounds
 abbrev pub step_taken : List Counter → List ℕ → Whole → ℕ → Option ℕ

@@ -123,7 +123,7 @@ fn step_taken(scope: &[Counter], strides: &[u32], whole: &Whole, extent: u32) ->
 {
     let stride = whole_stride(scope, strides, whole);
     let outer = outer_goes(whole.last, stride_of(scope, strides, whole.outer));
-    if outer && stride < 1 << 16 && extent < 1 << 31 {
+    if outer && stride < 1 << 31 && extent < 1 << 31 {
         Some(stride as u32)
     } else {
         None
