@@ -1,10 +1,10 @@
 //! What the scalar instructions compute, from the numbers of registers and immediates.
 
 ghost use Rattle.std.specs.Prelude.{◌≡◌};
-ghost use Rattle.hart_core.specs.Alu.{computed as computed_of, computed_with_immediate as computed_with_immediate_of, shifted as shifted_of, is_taken as is_taken_of};
+ghost use Rattle.hart_core.specs.Alu.{computed as computed_of, computed_with_immediate as computed_with_immediate_of, shifted as shifted_of, is_taken as is_taken_of, extended};
 
 use lanes::LaneKind;
-use rv_insn::{AluImmOp, AluOp, BranchOp, ShiftOp};
+use rv_insn::{AluImmOp, AluOp, BranchOp, Imm12, ShiftAmount, ShiftOp};
 
 /// The result of an operation on the numbers of `rs1` and `rs2`.
 #[inline(always)]
@@ -34,9 +34,10 @@ pub fn computed(op: AluOp, a: u32, b: u32) -> u32
 }
 
 /// The result of an operation on the number of `rs1` and the extended immediate.
-pub fn computed_with_immediate(op: AluImmOp, a: u32, b: u32) -> u32
-    ensures { result ≡ computed_with_immediate_of op a b }
+pub fn computed_with_immediate(op: AluImmOp, a: u32, imm: Imm12) -> u32
+    ensures { result ≡ computed_with_immediate_of op a (extended imm) }
 {
+    let b = extend(imm);
     match op {
         AluImmOp::Addi => a.add(b),
         AluImmOp::Slti => u32::from(a.less_signed(b)),
@@ -48,9 +49,10 @@ pub fn computed_with_immediate(op: AluImmOp, a: u32, b: u32) -> u32
 }
 
 /// The number of `rs1` shifted by an amount.
-pub fn shifted(op: ShiftOp, a: u32, amount: u32) -> u32
+pub fn shifted(op: ShiftOp, a: u32, amount: ShiftAmount) -> u32
     ensures { result ≡ shifted_of op a amount }
 {
+    let amount = u32::from(amount.value());
     match op {
         ShiftOp::Slli => a.shift_left(amount),
         ShiftOp::Srli => a.shift_right_logical(amount),
@@ -70,4 +72,11 @@ pub fn is_taken(op: BranchOp, a: u32, b: u32) -> bool
         BranchOp::Bltu => a.less_unsigned(b),
         BranchOp::Bgeu => b.less_or_equal_unsigned(a),
     }
+}
+
+/// An immediate as a word, its sign extended.
+pub fn extend(imm: Imm12) -> u32
+    ensures { result ≡ extended imm }
+{
+    imm.value().cast_unsigned()
 }

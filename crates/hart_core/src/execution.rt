@@ -1,18 +1,20 @@
 //! What a hart does in a turn.
 
-ghost use Rattle.std.specs.Prelude.{◌≡◌, None, Some, length, IfOk, OnOk, IfErr, OnErr};
+ghost use Rattle.std.specs.Prelude.{◌≡◌, false, None, Some, length, IfOk, OnOk, IfErr, OnErr};
 ghost use Rattle.rv_insn.specs.declared.instructions.Insn.TheVariants as insns;
-ghost use Rattle.hart_core.specs.Alu.{extended, plus};
-ghost use Rattle.hart_core.specs.Scalar.{jump_fault, linked};
+ghost use Rattle.hart_core.specs.Alu.{plus};
+ghost use Rattle.hart_core.specs.Scalar.{jump_fault, jump_of, jumped, linked};
 ghost use Rattle.hart_core.specs.HartState.{register, at_pc};
 ghost use Rattle.hart_core.specs.Turn.{step, step_with, fault, IsDone};
 
 use crate::accesses::{load, store};
-use crate::alu::{computed, computed_with_immediate, is_taken, shifted};
+use crate::alu::{computed, computed_with_immediate, extend, is_taken, shifted};
 use crate::harts::{Hart, Status};
 use memory::{Bytes, read_for_amo, write_u32};
 use rv_encoding::decode;
-use rv_insn::{Imm12, Insn, Outcome, Reg, Trap, VectorInsn};
+use rv_insn::{
+    BranchOffset, BranchOp, Imm12, Insn, LoadOp, Outcome, Reg, StoreOp, Trap, VectorInsn,
+};
 
 impl Hart {
     /// One turn of the hart: the instruction that stands at the program counter, or nothing where the
@@ -94,70 +96,123 @@ impl Hart {
     {
         match *insn {
             Insn::Lui { rd, imm } => Ok(self.give(rd, imm.value() << 12)),
-            Insn::Auipc { rd, imm } => {
-                let sum = self.pc().wrapping_add(imm.value() << 12);
-                Ok(self.give(rd, sum))
-            }
-            Insn::Jal { rd, offset } => {
-                let target = self.pc().wrapping_add(offset.bytes().cast_unsigned());
-                self.jump_and_link(rd, target)
-            }
-            Insn::Jalr { rd, rs1, imm } => {
-                let target = self.address(rs1, imm) & !1;
-                self.jump_and_link(rd, target)
-            }
+            Insn::Auipc { rd, imm } => Ok(self.give(rd, self.pc().wrapping_add(imm.value() << 12))),
+            Insn::Jal { rd, offset } => self.jump_and_link(rd, self.target(offset.bytes())),
+            Insn::Jalr { rd, rs1, imm } => self.jump_and_link(rd, self.address(rs1, imm) & !1),
             Insn::Branch {
                 op,
                 rs1,
                 rs2,
                 offset,
-            } => {
-                if is_taken(op, self.register(rs1), self.register(rs2)) {
-                    let target = self.pc().wrapping_add(offset.bytes().cast_unsigned());
-                    self.jump(target)
-                } else {
-                    Ok(self.advance())
-                }
-            }
-            Insn::Load { op, rd, rs1, imm } => {
-                let value = load(op, memory, self.address(rs1, imm))?;
-                Ok(self.give(rd, value))
-            }
-            Insn::Store { op, rs1, rs2, imm } => {
-                store(op, memory, self.address(rs1, imm), self.register(rs2))?;
-                Ok(self.advance())
-            }
+            } => self.branch(op, rs1, rs2, offset),
+            Insn::Load { op, rd, rs1, imm } => self.load(op, rd, rs1, imm, memory),
+            Insn::Store { op, rs1, rs2, imm } => self.store(op, rs1, rs2, imm, memory),
             Insn::AluImm { op, rd, rs1, imm } => {
-                let value = computed_with_immediate(op, self.register(rs1), extend(imm));
-                Ok(self.give(rd, value))
+                Ok(self.give(rd, computed_with_immediate(op, self.register(rs1), imm)))
             }
             Insn::Shift {
                 op,
                 rd,
                 rs1,
                 amount,
-            } => {
-                let value = shifted(op, self.register(rs1), u32::from(amount.value()));
-                Ok(self.give(rd, value))
-            }
+            } => Ok(self.give(rd, shifted(op, self.register(rs1), amount))),
             Insn::Alu { op, rd, rs1, rs2 } => {
-                let value = computed(op, self.register(rs1), self.register(rs2));
-                Ok(self.give(rd, value))
+                Ok(self.give(rd, computed(op, self.register(rs1), self.register(rs2))))
             }
-            Insn::AmoaddW { rd, rs1, rs2, .. } => {
-                let address = self.register(rs1);
-                let old = read_for_amo(memory, address)?;
-                write_u32(memory, address, old.wrapping_add(self.register(rs2)))?;
-                Ok(self.give(rd, old))
-            }
+            Insn::AmoaddW { rd, rs1, rs2, .. } => self.add_in_memory(rd, rs1, rs2, memory),
             Insn::Fence => Ok(self.advance()),
-            Insn::Ecall => {
-                self.finish();
-                Ok(Outcome::Finished)
-            }
+            Insn::Ecall => Ok(self.finish()),
             Insn::Ebreak => Err(Trap::Breakpoint),
             Insn::Vector(ref insn) => self.execute_vector(insn, memory),
         }
+    }
+
+    #[inline(always)]
+    fn load<M: Bytes>(
+        &mut self,
+        op: LoadOp,
+        rd: Reg,
+        rs1: Reg,
+        imm: Imm12,
+        memory: &mut M,
+    ) -> Result<Outcome, Trap>
+        ensures ok { IfOk result (λ outcome. IsDone (M.text memory.old) (M.memory memory.old) self.old (insns.Load op rd rs1 imm) self.new (M.memory memory.new) outcome) }
+        ensures trap { IfErr result (λ trap. fault (length (M.text memory.old)) (length (M.memory memory.old)) (insns.Load op rd rs1 imm) self.old ≡ Some trap) }
+        ensures hart { OnErr result (self.new ≡ self.old) }
+        ensures memory { OnErr result (M.memory memory.new ≡ M.memory memory.old) }
+        ensures text { M.text memory.new ≡ M.text memory.old }
+    {
+        let value = load(op, memory, self.address(rs1, imm))?;
+        Ok(self.give(rd, value))
+    }
+
+    #[inline(always)]
+    fn store<M: Bytes>(
+        &mut self,
+        op: StoreOp,
+        rs1: Reg,
+        rs2: Reg,
+        imm: Imm12,
+        memory: &mut M,
+    ) -> Result<Outcome, Trap>
+        ensures ok { IfOk result (λ outcome. IsDone (M.text memory.old) (M.memory memory.old) self.old (insns.Store op rs1 rs2 imm) self.new (M.memory memory.new) outcome) }
+        ensures trap { IfErr result (λ trap. fault (length (M.text memory.old)) (length (M.memory memory.old)) (insns.Store op rs1 rs2 imm) self.old ≡ Some trap) }
+        ensures hart { OnErr result (self.new ≡ self.old) }
+        ensures memory { OnErr result (M.memory memory.new ≡ M.memory memory.old) }
+        ensures text { M.text memory.new ≡ M.text memory.old }
+    {
+        store(op, memory, self.address(rs1, imm), self.register(rs2))?;
+        Ok(self.advance())
+    }
+
+    /// Adds a register to a word in memory, whose number before goes to `rd`.
+    #[inline(always)]
+    fn add_in_memory<M: Bytes>(
+        &mut self,
+        rd: Reg,
+        rs1: Reg,
+        rs2: Reg,
+        memory: &mut M,
+    ) -> Result<Outcome, Trap>
+        ensures ok { IfOk result (λ outcome. IsDone (M.text memory.old) (M.memory memory.old) self.old (insns.AmoaddW rd rs1 rs2 false false) self.new (M.memory memory.new) outcome) }
+        ensures trap { IfErr result (λ trap. fault (length (M.text memory.old)) (length (M.memory memory.old)) (insns.AmoaddW rd rs1 rs2 false false) self.old ≡ Some trap) }
+        ensures hart { OnErr result (self.new ≡ self.old) }
+        ensures memory { OnErr result (M.memory memory.new ≡ M.memory memory.old) }
+        ensures text { M.text memory.new ≡ M.text memory.old }
+    {
+        let address = self.register(rs1);
+        let old = read_for_amo(memory, address)?;
+        write_u32(memory, address, old.wrapping_add(self.register(rs2)))?;
+        Ok(self.give(rd, old))
+    }
+
+    /// Goes on at an offset where the comparison holds, else at the next instruction.
+    #[inline(always)]
+    fn branch(
+        &mut self,
+        op: BranchOp,
+        rs1: Reg,
+        rs2: Reg,
+        offset: BranchOffset,
+    ) -> Result<Outcome, Trap>
+        ensures ok { IfOk result (λ outcome. outcome ≡ Outcome.Stepped) }
+        ensures allowed { OnOk result (jump_fault (jump_of (insns.Branch op rs1 rs2 offset) self.old) ≡ None) }
+        ensures hart { OnOk result (self.new ≡ jumped self.old (jump_of (insns.Branch op rs1 rs2 offset) self.old)) }
+        ensures err { IfErr result (λ trap. jump_fault (jump_of (insns.Branch op rs1 rs2 offset) self.old) ≡ Some trap) }
+        ensures unchanged { OnErr result (self.new ≡ self.old) }
+    {
+        if is_taken(op, self.register(rs1), self.register(rs2)) {
+            self.jump(self.target(offset.bytes()))
+        } else {
+            Ok(self.advance())
+        }
+    }
+
+    /// So many bytes from the program counter, modulo 2^32.
+    fn target(&self, offset: i32) -> u32
+        ensures { result ≡ plus self.now.pc offset }
+    {
+        self.pc().wrapping_add(offset.cast_unsigned())
     }
 
     /// A register plus an immediate, modulo 2^32.
@@ -196,11 +251,4 @@ impl Hart {
         self.set_register(rd, link);
         Ok(outcome)
     }
-}
-
-/// An immediate as a word, its sign extended.
-fn extend(imm: Imm12) -> u32
-    ensures { result ≡ extended imm }
-{
-    imm.value().cast_unsigned()
 }

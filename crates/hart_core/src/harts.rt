@@ -147,10 +147,12 @@ impl Hart {
     }
 
     /// Stops for good, as ECALL does.
-    pub(crate) fn finish(&mut self)
-        ensures { self.new ≡ with_status self.old Status.Finished }
+    pub(crate) fn finish(&mut self) -> Outcome
+        ensures hart { self.new ≡ with_status self.old Status.Finished }
+        ensures outcome { result ≡ Outcome.Finished }
     {
         self.status = Status::Finished;
+        Outcome::Finished
     }
 
     /// Stops for good at a trap. Nothing but the status changes.
