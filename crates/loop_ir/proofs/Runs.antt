@@ -15,7 +15,7 @@ use Rattle.loop_ir.specs.declared.statements.Stmt.TheVariants as s
 use Rattle.loop_ir.specs.Counters.{Values, with}
 use Rattle.loop_ir.specs.Rounds.{is_vectorized, all_but, all_points}
 use Rattle.loop_ir.specs.Running.{whole_value}
-use Rattle.loop_ir.specs.Runs.{is_about, is_about_at, Runs, runs, runs_at, are_runs_at, stores_in_runs, point_of, RunsMissWhatIsSound, OthersStoreInNoRun}
+use Rattle.loop_ir.specs.Runs.{is_about, is_about_at, Runs, runs, runs_at, stores_in_runs, point_of, RunsMissWhatIsSound, OthersStoreInNoRun}
 use Rattle.loop_ir.specs.Soundness.{every, is_sound, is_sound_at}
 
 -- ---- which Func a statement is about

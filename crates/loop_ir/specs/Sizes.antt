@@ -1,9 +1,11 @@
--- How many words of code without vectors a statement may ask for, in one copy of each loop's body: a bound for whoever makes such code of it,
--- wherever the values of its expressions stand. This project's own.
-use Rattle.std.specs.Prelude.{ℕ, ◌+◌, ◌*◌, Bool, true, false, if◌then◌else◌, length}
+-- How many words of code a statement may ask for, with a copy of the body of an unrolled loop for each of its rounds: a bound
+-- for whoever makes such code of it, wherever the values of its expressions stand. This project's own.
+use Rattle.std.specs.Prelude.{ℕ, ◌+◌, ◌*◌, ◌&&◌, Bool, true, false, nat_lt, if◌then◌else◌, length}
 use Rattle.loop_ir.specs.declared.expressions.Expr.{Expr, fold-Expr}
 use Rattle.loop_ir.specs.declared.expressions.Expr.TheOpen.{Expr-F}
 use Rattle.loop_ir.specs.declared.expressions.Expr.TheOpen as layer
+use Rattle.loop_ir.specs.declared.statements.LoopKind.{LoopKind}
+use Rattle.loop_ir.specs.declared.statements.LoopKind.TheVariants as kinds
 use Rattle.loop_ir.specs.declared.statements.Store.{Store}
 use Rattle.loop_ir.specs.declared.statements.Stmt.{Stmt, fold-Stmt}
 use Rattle.loop_ir.specs.declared.statements.Stmt.TheOpen.{Stmt-F}
@@ -47,11 +49,30 @@ size e = (size_of e).words
 abbrev pub store_size : Store → ℕ
 store_size store = size store.x + size store.y + size store.value + 14
 
+-- whether a loop is laid out, one copy of its body a round
+abbrev pub is_laid_out : LoopKind → Bool
+is_laid_out kinds.Serial = false
+is_laid_out kinds.Unrolled = true
+is_laid_out kinds.Vectorized = false
+
+-- there is a copy for each round; a loop of no rounds is counted
+abbrev pub are_copies : Bool → ℕ → Bool
+are_copies is_laid count = is_laid && nat_lt 0 count
+
+-- of a loop in so many turns, with a body of so many words: one that is laid out asks for a word at first and another one behind each copy
+abbrev pub loop_size : Bool → ℕ → ℕ → ℕ
+loop_size is_laid count body = if are_copies is_laid count then count * (body + 1) + 1 else body + 7
+
+-- and with what stands around its rounds where they are done at once
+abbrev pub loop_room : Bool → ℕ → ℕ → ℕ
+loop_room is_laid count body = loop_size is_laid count body + 31
+
+-- A split loop's value takes 14 words with the test on it, and 11 more where they count how many rounds are left behind it.
 abbrev pub whole_at : Stmt-F ℕ → ℕ
 whole_at (parts.Store store) = store_size store
 whole_at (parts.Sequence first second) = first + second
-whole_at (parts.For counter count kind body) = body + 7
-whole_at (parts.Bind counter whole extent body) = body + 14
+whole_at (parts.For counter count kind body) = loop_room (is_laid_out kind) count body
+whole_at (parts.Bind counter whole extent body) = body + 25
 
 -- of all of a statement
 unfoldable pub whole_size : Stmt → ℕ

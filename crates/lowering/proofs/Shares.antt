@@ -1,7 +1,8 @@
 -- What a host's loops ask for with the nests at them, and what all phases do: each Func at a loop stands at one loop of one host.
-use Rattle.std.proofs.Common.{◌≡◌, ℕ, zero, suc, ◌+◌, ◌*◌, ◌-◌, ◌<◌, ◌≤◌, Bool, true, false, List, [], ◌∷◌, ◌++◌, length, Option, Some, None, refl, sym, ap, subst, ◌∙◌, arith, inl, inr, length-append, append-nil}
+use Rattle.std.proofs.Common.{◌≡◌, ℕ, zero, suc, ◌+◌, ◌*◌, ◌-◌, ◌<◌, ◌≤◌, Bool, true, false, List, [], ◌∷◌, ◌++◌, length, Option, Some, None, refl, sym, ap, subst, ◌∙◌, arith, inl, inr, length-append, append_assoc, append-nil}
 use Rattle.std.specs.Prelude.{◌==◌, ◌&&◌, if◌then◌else◌, slice_get, not}
 use Rattle.std.proofs.lemmas.Bool.{and_from}
+use Rattle.std.proofs.Math.Nat.{add-mul, mul-add, mul_assoc, mul_comm, mul_right_comm}
 use Rattle.std.proofs.lemmas.Bool.Decides.{nat_tests}
 use Rattle.std.proofs.lemmas.Option.{slice_get_past, slice_get_within}
 use Rattle.halide_pipeline.specs.declared.definitions.Func.{Func}
@@ -9,7 +10,8 @@ use Rattle.halide_pipeline.specs.declared.definitions.Update.{Update}
 use Rattle.halide_pipeline.specs.Pipelines.{Pipeline}
 use Rattle.schedule_lines.specs.declared.stages.Loop.{Loop}
 use Rattle.schedule_lines.specs.declared.stages.Stage.{Stage}
-use Rattle.schedule_lines.specs.Loops.{same_id}
+use Rattle.schedule_lines.specs.declared.stages.Mark.TheVariants as marks
+use Rattle.schedule_lines.specs.Loops.{is_marked, same_id}
 use Rattle.schedule_lines.specs.Making.{total}
 use Rattle.schedule.specs.declared.plans.FuncPlan.{FuncPlan}
 use Rattle.schedule.specs.declared.schedules.Schedule.{Schedule}
@@ -25,17 +27,20 @@ use Rattle.stage_loops.proofs.Ids.{same_id-self, cases_id}
 use Rattle.stage_loops.proofs.Nesting.{has_id}
 use Rattle.stage_loops.proofs.Selecting.{Unique}
 use Rattle.schedule.specs.Legal.{is_inlined, is_root}
-use Rattle.weights.specs.Weight.{flags_of, is_computed, update_nodes}
+use Rattle.weights.specs.Copies.{copies, all_copies, host_copies, copies_from}
+use Rattle.weights.specs.Weight.{flags_of, is_computed, update_nodes, stage_weight}
 use Rattle.bounds.specs.declared.boxes.SourceBox.{SourceBox}
 use Rattle.bounds.specs.declared.verdict.Boxes.{Boxes}
 use Rattle.loop_ir.specs.declared.statements.Phase.{Phase}
 use Rattle.loop_ir.specs.declared.statements.Stmt.{Stmt}
-use Rattle.loop_ir.specs.Sizes.{whole_size}
+use Rattle.loop_ir.specs.Sizes.{loop_room, whole_size}
 use Rattle.lowering.specs.HostedFuncs.{is_computed_at, is_at_loop, is_at_loop_of}
 use Rattle.lowering.specs.Hosting.{IsNestAt, IsNestOf, HasNests, None_left, One_more, HasLoops, No_loops, One_outside, HasOutermost, IsBody, size_first}
 use Rattle.lowering.specs.PurePhases.{IsAtRoot, is_at_root, inside_of}
 use Rattle.lowering.specs.Lowered as lowered
-use Rattle.lowering.specs.Sizes.{IsLight, stage_share, update_share, shares, func_share, phase_share, words_of, summed, hosted_share, hosted_shares}
+use Rattle.lowering.specs.Sizes.{IsLight, update_share, shares, func_share, placed_share, phase_share, words_of, summed, hosted_share, hosted_shares}
+use Rattle.schedule.specs.Standing.{pure_loops_of}
+use Rattle.lowering.proofs.Copies.{ArePaid, Paid, times-most, times-some, copies-some, loop-paid, last-copies, paid-at, copies-at}
 use Rattle.lowering.proofs.TaskRounds.{outside_of, loops_by}
 
 -- ---- sums over places
@@ -80,13 +85,13 @@ module _ (pipeline : Pipeline) (schedule : Schedule) (boxes : Boxes) where
   loop_share at None plan own = 0
   loop_share at (Some func) None own = 0
   loop_share at (Some func) (Some plan) None = 0
-  loop_share at (Some func) (Some plan) (Some own) = if is_computed_at at own then func_share flags pipeline.funcs func plan else 0
+  loop_share at (Some func) (Some plan) (Some own) = if is_computed_at at own then placed_share flags pipeline.funcs schedule.funcs func plan own else 0
 
   abbrev share_at : LoopPlace → ℕ → ℕ
   share_at at place = loop_share at (slice_get pipeline.funcs place) (slice_get schedule.funcs place) (slice_get schedule.standings place)
 
   abbrev hosted_at : ℕ → ℕ → ℕ
-  hosted_at host place = hosted_share flags pipeline.funcs host (slice_get pipeline.funcs place) (slice_get schedule.funcs place) (slice_get schedule.standings place)
+  hosted_at host place = hosted_share flags pipeline.funcs schedule.funcs host (slice_get pipeline.funcs place) (slice_get schedule.funcs place) (slice_get schedule.standings place)
 
   abbrev count : ℕ
   count = length schedule.standings
@@ -95,38 +100,47 @@ module _ (pipeline : Pipeline) (schedule : Schedule) (boxes : Boxes) where
   computed-there at own reached is =
       and_from own.is_reached (is_at_loop at own.place) reached (ap (is_at_loop at) is ∙ and_from (at.func == at.func) (same_id at.inside at.inside) (grind (arith, nat_tests)) (same_id-self at.inside))
 
-  -- the nests of a Func at a loop
-  nest-size : (at : LoopPlace) (place : ℕ) (made : Stmt) → IsNestOf pipeline schedule boxes at place made → whole_size made ≤ 64 * share_at at place
-  nest-size at place made is =
-      let shared : share_at at place ≡ func_share flags pipeline.funcs is.func is.plan
-      = ap (λ (f : Option Func). loop_share at f (slice_get schedule.funcs place) (slice_get schedule.standings place)) is.parts.func_is
-      ∙ ap (λ (p : Option FuncPlan). loop_share at (Some is.func) p (slice_get schedule.standings place)) is.parts.plan_is
-      ∙ ap (λ (o : Option Standing). loop_share at (Some is.func) (Some is.plan) o) is.parts.there.standing
-      ∙ ap (λ (t : Bool). if t then func_share flags pipeline.funcs is.func is.plan else 0) (computed-there at is.parts.standing is.parts.there.reached is.parts.placed_is) in
-      let l = is.small in
-      omega (arith, shared, l)
+  -- the nests of a Func at a loop, in each copy of the code around them
+  module _ (at : LoopPlace) (copied : ℕ) (copied_is : host_copies schedule.funcs (places.At at) ≡ copied) where
+    nest-size : (place : ℕ) (made : Stmt) → IsNestOf pipeline schedule boxes at place made → whole_size made * copied ≤ 64 * share_at at place
+    nest-size place made is =
+        let own = is.parts.standing in
+        let shared : share_at at place ≡ placed_share flags pipeline.funcs schedule.funcs is.func is.plan own
+        = ap (λ (f : Option Func). loop_share at f (slice_get schedule.funcs place) (slice_get schedule.standings place)) is.parts.func_is
+        ∙ ap (λ (p : Option FuncPlan). loop_share at (Some is.func) p (slice_get schedule.standings place)) is.parts.plan_is
+        ∙ ap (λ (o : Option Standing). loop_share at (Some is.func) (Some is.plan) o) is.parts.there.standing
+        ∙ ap (λ (t : Bool). if t then placed_share flags pipeline.funcs schedule.funcs is.func is.plan own else 0) (computed-there at own is.parts.there.reached is.parts.placed_is) in
+        let whole = func_share flags pipeline.funcs is.func is.plan in
+        let here : placed_share flags pipeline.funcs schedule.funcs is.func is.plan own ≡ whole * copied
+        = ap (λ (p : Place). whole * host_copies schedule.funcs p) is.parts.placed_is ∙ ap (λ (n : ℕ). whole * n) copied_is in
+        let l = times-most (whole_size made) (64 * whole) copied is.small in
+        let a = mul_assoc 64 whole copied in
+        omega (arith, shared, here, l, a)
 
-  found-size : (at : LoopPlace) (place : ℕ) (found : Option Stmt) → IsNestAt pipeline schedule boxes at place found → size_first found ≤ 64 * share_at at place
-  found-size at place None is = omega arith
-  found-size at place (Some made) is = nest-size at place made is
+    found-size : (place : ℕ) (found : Option Stmt) → IsNestAt pipeline schedule boxes at place found → size_first found * copied ≤ 64 * share_at at place
+    found-size place None is = omega arith
+    found-size place (Some made) is = nest-size place made is
 
-  none-past : (at : LoopPlace) (place : ℕ) (found : Option Stmt) → IsNestAt pipeline schedule boxes at place found → count ≤ place → size_first found ≡ 0
-  none-past at place None is past = refl
-  none-past at place (Some made) is past = absurd (let l = slice_get_within schedule.standings place is.parts.standing is.parts.there.standing in omega (arith, l, past))
+    none-past : (place : ℕ) (found : Option Stmt) → IsNestAt pipeline schedule boxes at place found → count ≤ place → size_first found ≡ 0
+    none-past place None is past = refl
+    none-past place (Some made) is past = absurd (let l = slice_get_within schedule.standings place is.parts.standing is.parts.there.standing in omega (arith, l, past))
 
-  nests-size : (at : LoopPlace) (from : ℕ) (inside made : Stmt) → HasNests pipeline schedule boxes at from inside made → (n : ℕ) → count ≤ from + n
-      → whole_size made ≤ whole_size inside + 64 * summed (share_at at) from n
-  nests-size at _ inside _ (None_left from _ past) n most = omega arith
-  nests-size at _ _ _ (One_more from found inside rest made is others first) zero most =
-      let e = first.size_is in
-      let z = none-past at from found is (omega (arith, most)) in
-      let r = nests-size at (suc from) inside rest others 0 (omega (arith, most)) in
-      omega (arith, e, z, r)
-  nests-size at _ _ _ (One_more from found inside rest made is others first) (suc n) most =
-      let e = first.size_is in
-      let f = found-size at from found is in
-      let r = nests-size at (suc from) inside rest others n (omega (arith, most)) in
-      omega (arith, e, f, r)
+    both-size : (made found rest : ℕ) → made ≡ found + rest → made * copied ≡ found * copied + rest * copied
+    both-size made found rest e = ap (λ (n : ℕ). n * copied) e ∙ add-mul found rest copied
+
+    nests-size : (from : ℕ) (inside made : Stmt) → HasNests pipeline schedule boxes at from inside made → (n : ℕ) → count ≤ from + n
+        → whole_size made * copied ≤ whole_size inside * copied + 64 * summed (share_at at) from n
+    nests-size _ inside _ (None_left from _ past) n most = omega arith
+    nests-size _ _ _ (One_more from found inside rest made is others first) zero most =
+        let e = both-size (whole_size made) (size_first found) (whole_size rest) first.size_is in
+        let z = ap (λ (n : ℕ). n * copied) (none-past from found is (omega (arith, most))) in
+        let r = nests-size (suc from) inside rest others 0 (omega (arith, most)) in
+        omega (arith, e, z, r)
+    nests-size _ _ _ (One_more from found inside rest made is others first) (suc n) most =
+        let e = both-size (whole_size made) (size_first found) (whole_size rest) first.size_is in
+        let f = found-size from found is in
+        let r = nests-size (suc from) inside rest others n (omega (arith, most)) in
+        omega (arith, e, f, r)
 
   -- all that are at these loops of a host
   abbrev sums : ℕ → Option Func → Option FuncPlan → Option Standing → List Loop → ℕ
@@ -156,16 +170,43 @@ module _ (pipeline : Pipeline) (schedule : Schedule) (boxes : Boxes) where
       let m = summed-more (around host inside) (share_at (record { func = host; inside = own.id })) 0 n in
       omega (arith, l, m)
 
-  loops-size : (host : ℕ) (counts : loops.Values) (leaf : Stmt) (own : List Loop) (made : Stmt) → HasLoops pipeline schedule boxes host counts leaf own made
-      → whole_size made ≤ 7 * length own + whole_size leaf + 64 * summed (around host own) 0 count
-  loops-size host counts leaf _ _ No_loops = omega arith
-  loops-size host counts leaf _ _ (One_outside inside own inner body made has nests does goes run_goes) =
-      let e = does.size_is in
-      let n = nests-size (record { func = host; inside = own.id }) 0 inner body nests count (omega arith) in
-      let i = loops-size host counts leaf inside inner has in
-      let l = length-append inside (own ∷ []) in
-      let s = summed-around host inside own count in
-      omega (arith, e, n, i, l, s)
+  -- what stands in a loop is made in each of its copies
+  around-paid : (made body inner own outside all leaf loops nests before : ℕ) → made ≤ own * (body + 39) → body * (own * outside) ≤ inner * (own * outside) + nests → own * outside ≤ all
+      → inner * (own * outside) ≤ all * (leaf + 39 * loops) + before → made * outside ≤ all * (leaf + 39 * suc loops) + (before + nests)
+  around-paid made body inner own outside all leaf loops nests before few more some so_far =
+      let t = times-most made (own * (body + 39)) outside few in
+      let e : own * (body + 39) * outside ≡ body * (own * outside) + 39 * (own * outside) = mul_right_comm own (body + 39) outside ∙ mul_comm (own * outside) (body + 39) ∙ add-mul body 39 (own * outside) in
+      let f = ap (λ (z : ℕ). all * z) (let g : leaf + 39 * suc loops ≡ leaf + 39 * loops + 39 = omega arith in g) ∙ mul-add all (leaf + 39 * loops) 39 in
+      omega (arith, t, e, f, some, more, so_far)
+
+  module _ (host : ℕ) (counts : loops.Values) (all : List Loop) (paid : ArePaid counts all) (unique : Unique all) (all_is : pure_loops_of (slice_get schedule.funcs host) ≡ all) where
+    copied-here : (inside : List Loop) (own : Loop) (outside : List Loop) → inside ++ own ∷ outside ≡ all → host_copies schedule.funcs (places.At (record { func = host; inside = own.id })) ≡ copies own * all_copies outside
+    copied-here inside own outside e =
+        ap (copies_from own.id) (all_is ∙ sym e) ∙ copies-at inside own outside (subst Unique (sym e) unique)
+
+    loops-size : (leaf : Stmt) (own : List Loop) (made : Stmt) → HasLoops pipeline schedule boxes host counts leaf own made → (outside : List Loop) → own ++ outside ≡ all
+        → whole_size made * all_copies outside ≤ all_copies all * (whole_size leaf + 39 * length own) + 64 * summed (around host own) 0 count
+    loops-size leaf _ _ No_loops outside e =
+        let k : whole_size leaf * all_copies outside ≡ whole_size leaf * all_copies all = ap (λ (ls : List Loop). whole_size leaf * all_copies ls) e in
+        let c = mul_comm (whole_size leaf) (all_copies all) in
+        let z = ap (λ (n : ℕ). all_copies all * n) (let g : whole_size leaf + 39 * 0 ≡ whole_size leaf = omega arith in g) in
+        omega (arith, k, c, z)
+    loops-size leaf _ _ (One_outside inside own inner body made has nests does goes run_goes) outside e =
+        let here : inside ++ own ∷ outside ≡ all = sym (append_assoc inside (own ∷ []) outside) ∙ e in
+        let all_paid : ArePaid counts (inside ++ own ∷ outside) = subst (ArePaid counts) (sym here) paid in
+        let few = loop-paid counts own (whole_size body) (paid-at counts inside own outside all_paid) in
+        let size = does.size_is in
+        let n = nests-size (record { func = host; inside = own.id }) (copies own * all_copies outside) (copied-here inside own outside here) 0 inner body nests count (omega arith) in
+        let i = loops-size leaf inside inner has (own ∷ outside) here in
+        let c = last-copies counts inside (own ∷ outside) all_paid in
+        let ca = ap all_copies here in
+        let l = length-append inside (own ∷ []) in
+        let s = summed-around host inside own count in
+        let p = around-paid (whole_size made) (whole_size body) (whole_size inner) (copies own) (all_copies outside) (all_copies all) (whole_size leaf) (length inside)
+        (64 * summed (share_at (record { func = host; inside = own.id })) 0 count) (64 * summed (around host inside) 0 count) (omega (arith, few, size)) n (omega (arith, c, ca)) i in
+        let m : length (inside ++ own ∷ []) ≡ suc (length inside) = omega (arith, l) in
+        let f = ap (λ (k : ℕ). all_copies all * (whole_size leaf + 39 * k)) m in
+        omega (arith, p, f, s)
 
   -- ---- each Func at a loop of the host stands at one of its loops
 
@@ -238,17 +279,17 @@ module _ (pipeline : Pipeline) (schedule : Schedule) (boxes : Boxes) where
   sums-none host func plan own none (first ∷ others) = omega (arith, none (record { func = host; inside = first.id }), sums-none host func plan own none others)
 
   sums-are : (host : ℕ) (func : Func) (plan : FuncPlan) (own : Standing) (all : List Loop)
-      → sums host (Some func) (Some plan) (Some own) all ≡ among host (func_share flags pipeline.funcs func plan) own.is_reached own.place all
+      → sums host (Some func) (Some plan) (Some own) all ≡ among host (placed_share flags pipeline.funcs schedule.funcs func plan own) own.is_reached own.place all
   sums-are host func plan own [] = refl
   sums-are host func plan own (first ∷ others) = omega (arith, sums-are host func plan own others)
 
-  sums-once : (host : ℕ) (func : Option Func) (plan : Option FuncPlan) (own : Option Standing) (all : List Loop) → Unique all → sums host func plan own all ≤ hosted_share flags pipeline.funcs host func plan own
+  sums-once : (host : ℕ) (func : Option Func) (plan : Option FuncPlan) (own : Option Standing) (all : List Loop) → Unique all → sums host func plan own all ≤ hosted_share flags pipeline.funcs schedule.funcs host func plan own
   sums-once host None plan own all unique = let z = sums-none host None plan own (λ at. refl) all in omega (arith, z)
   sums-once host (Some func) None own all unique = let z = sums-none host (Some func) None own (λ at. refl) all in omega (arith, z)
   sums-once host (Some func) (Some plan) None all unique = let z = sums-none host (Some func) (Some plan) None (λ at. refl) all in omega (arith, z)
   sums-once host (Some func) (Some plan) (Some own) all unique =
       let e = sums-are host func plan own all in
-      let l = among-once host (func_share flags pipeline.funcs func plan) own.is_reached own.place all unique in
+      let l = among-once host (placed_share flags pipeline.funcs schedule.funcs func plan own) own.is_reached own.place all unique in
       omega (arith, e, l)
 
   around-once : (host : ℕ) (all : List Loop) → Unique all → summed (around host all) 0 count ≤ hosted_shares pipeline schedule host
@@ -257,28 +298,53 @@ module _ (pipeline : Pipeline) (schedule : Schedule) (boxes : Boxes) where
 
   -- ---- what a task does
 
-  module _ (host : ℕ) (extents : Extents) (stage : Stage) (kept : KeepsRules stage) where
-    outermost-size : (found : Option Loop) (inside : List Loop) (inner body : Stmt) (n : ℕ) → HasOutermost pipeline schedule boxes host found inner body
-        → whole_size inner ≤ n + 64 * summed (around host inside) 0 count → whole_size body ≤ n + 64 * summed (around host (inside ++ outside_of host extents stage kept found)) 0 count
-    outermost-size None inside inner body n is few =
-        let e = ap whole_size is in
-        subst (λ (own : List Loop). whole_size body ≤ n + 64 * summed (around host own) 0 count) (sym (append-nil inside)) (omega (arith, e, few))
-    outermost-size (Some own) inside inner body n nests few =
-        let l = nests-size (record { func = host; inside = own.id }) 0 inner body nests count (omega arith) in
-        let s = summed-around host inside own count in
-        omega (arith, few, l, s)
+  module _ (host : ℕ) (plan : FuncPlan) (extents : Extents) (store body : Stmt) (plan_is : slice_get schedule.funcs host ≡ Some plan) (kept : KeepsRules plan.pure) (unique : Unique plan.pure.loops)
+      (paid : ArePaid (loops.counts extents plan.pure.splits) plan.pure.loops) (is : IsBody pipeline schedule boxes host plan.pure extents store body) where
+    abbrev stage : Stage
+    stage = plan.pure
 
-  pub body-size : (host : ℕ) (stage : Stage) (extents : Extents) (store body : Stmt) → KeepsRules stage → Unique stage.loops → IsBody pipeline schedule boxes host stage extents store body
-      → whole_size body ≤ 7 * length (inside_of (parallel stage) stage.loops) + (14 * length stage.splits + whole_size store) + 64 * hosted_shares pipeline schedule host
-  body-size host stage extents store body kept unique is =
-      let e = is.size_is in
-      let inside = inside_of (parallel stage) stage.loops in
-      let i = loops-size host (loops.counts extents stage.splits) is.leaf inside is.inner is.looped in
-      let o = outermost-size host extents stage kept (parallel stage) inside is.inner body (7 * length inside + whole_size is.leaf) is.begun i in
-      let all-are = loops_by host extents stage kept (parallel stage) refl in
-      let all = ap (λ (own : List Loop). summed (around host own) 0 count) all-are in
-      let l = around-once host stage.loops unique in
-      omega (arith, e, o, all, l)
+    abbrev counted : loops.Values
+    counted = loops.counts extents stage.splits
+
+    abbrev copied : ℕ
+    copied = all_copies stage.loops
+
+    all_is : pure_loops_of (slice_get schedule.funcs host) ≡ stage.loops
+    all_is = ap pure_loops_of plan_is
+
+    ends : (inside outside : List Loop) → inside ++ outside ≡ stage.loops → (n : ℕ) → n ≤ copied * (whole_size is.leaf + 39 * length inside) + 64 * summed (around host (inside ++ outside)) 0 count
+        → n ≤ copied * (25 * length stage.splits + whole_size store + 39 * length stage.loops) + 64 * hosted_shares pipeline schedule host
+    ends inside outside e n few =
+        let z = is.size_is in
+        let l = length-append inside outside in
+        let le = ap (λ (ls : List Loop). length ls) e in
+        let s = ap (λ (ls : List Loop). summed (around host ls) 0 count) e in
+        let o = around-once host stage.loops unique in
+        let m = times-most (whole_size is.leaf + 39 * length inside) (25 * length stage.splits + whole_size store + 39 * length stage.loops) copied (omega (arith, z, l, le)) in
+        let c = mul_comm copied (whole_size is.leaf + 39 * length inside) in
+        let d = mul_comm copied (25 * length stage.splits + whole_size store + 39 * length stage.loops) in
+        omega (arith, few, m, s, o, c, d)
+
+    by-outermost : (found : Option Loop) → HasOutermost pipeline schedule boxes host found is.inner body → HasLoops pipeline schedule boxes host counted is.leaf (inside_of found stage.loops) is.inner
+        → inside_of found stage.loops ++ outside_of host extents stage kept found ≡ stage.loops
+        → whole_size body ≤ copied * (25 * length stage.splits + whole_size store + 39 * length stage.loops) + 64 * hosted_shares pipeline schedule host
+    by-outermost None begun looped e =
+        let i = loops-size host counted stage.loops paid unique all_is is.leaf stage.loops is.inner looped [] e in
+        let b = ap whole_size begun in
+        let s = ap (λ (ls : List Loop). summed (around host ls) 0 count) (append-nil stage.loops) in
+        ends stage.loops [] e (whole_size body) (omega (arith, i, b, s))
+    by-outermost (Some own) begun looped e =
+        let inside = inside_of (Some own) stage.loops in
+        let i = loops-size host counted stage.loops paid unique all_is is.leaf inside is.inner looped (own ∷ []) e in
+        let n = nests-size (record { func = host; inside = own.id }) (copies own * 1) (copied-here host counted stage.loops paid unique all_is inside own [] e) 0 is.inner body begun count (omega arith) in
+        let p = paid-at counted inside own [] (subst (ArePaid counted) (sym e) paid) in
+        let t = times-some (copies own) (whole_size body) p.some in
+        let q = ap (λ (z : ℕ). whole_size body * z) (let g : copies own * 1 ≡ copies own = omega arith in g) ∙ mul_comm (whole_size body) (copies own) in
+        let s = summed-around host inside own count in
+        ends inside (own ∷ []) e (whole_size body) (omega (arith, i, n, t, s, q))
+
+    pub body-size : whole_size body ≤ copied * (25 * length stage.splits + whole_size store + 39 * length stage.loops) + 64 * hosted_shares pipeline schedule host
+    body-size = by-outermost (parallel stage) is.begun is.looped (sym (loops_by host extents stage kept (parallel stage) refl))
 
   -- ---- all phases
 
@@ -299,9 +365,9 @@ module _ (pipeline : Pipeline) (schedule : Schedule) (boxes : Boxes) where
   stage-light place func plan own _ _ (lowered.Updating at update stage phase it tasks private_is bytes does touches few stores rounds) = few.1
 
   pub update-light : (place : ℕ) (func : Func) (plan : FuncPlan) (at : ℕ) (update : Update) (stage : Stage) (phase : Phase) → slice_get func.updates at ≡ Some update → slice_get plan.updates at ≡ Some stage
-      → whole_size phase.body + 24 ≤ 64 * stage_share (update_nodes flags pipeline.funcs update) stage → IsLight pipeline schedule place func plan (suc at) phase
+      → whole_size phase.body + 24 ≤ 64 * stage_weight (update_nodes flags pipeline.funcs update) stage → IsLight pipeline schedule place func plan (suc at) phase
   update-light place func plan at update stage phase update-is stage-is light =
-      let own : update_share flags pipeline.funcs (slice_get func.updates at) (slice_get plan.updates at) ≡ stage_share (update_nodes flags pipeline.funcs update) stage
+      let own : update_share flags pipeline.funcs (slice_get func.updates at) (slice_get plan.updates at) ≡ stage_weight (update_nodes flags pipeline.funcs update) stage
       = ap (λ (u : Option Update). update_share flags pipeline.funcs u (slice_get plan.updates at)) update-is ∙ ap (λ (s : Option Stage). update_share flags pipeline.funcs (Some update) s) stage-is in
       omega (arith, own, light)
 
@@ -318,7 +384,7 @@ module _ (pipeline : Pipeline) (schedule : Schedule) (boxes : Boxes) where
   root_share place None plan own = 0
   root_share place (Some func) None own = 0
   root_share place (Some func) (Some plan) None = 0
-  root_share place (Some func) (Some plan) (Some own) = if is_at_root own then func_share flags pipeline.funcs func plan else 0
+  root_share place (Some func) (Some plan) (Some own) = if is_at_root own then placed_share flags pipeline.funcs schedule.funcs func plan own else 0
 
   abbrev root_at : ℕ → ℕ
   root_at place = root_share place (slice_get pipeline.funcs place) (slice_get schedule.funcs place) (slice_get schedule.standings place)
@@ -331,7 +397,9 @@ module _ (pipeline : Pipeline) (schedule : Schedule) (boxes : Boxes) where
       ap (λ (f : Option Func). root_share place f (slice_get schedule.funcs place) (slice_get schedule.standings place)) at.func_is
       ∙ ap (λ (p : Option FuncPlan). root_share place (Some func) p (slice_get schedule.standings place)) at.plan_is
       ∙ ap (λ (o : Option Standing). root_share place (Some func) (Some plan) o) at.there.standing
-      ∙ ap (λ (t : Bool). if t then func_share flags pipeline.funcs func plan else 0) (and_from at.standing.is_reached (is_root at.standing.place) at.there.reached (ap is_root at.placed_is))
+      ∙ ap (λ (t : Bool). if t then placed_share flags pipeline.funcs schedule.funcs func plan at.standing else 0) (and_from at.standing.is_reached (is_root at.standing.place) at.there.reached (ap is_root at.placed_is))
+      ∙ ap (λ (p : Place). func_share flags pipeline.funcs func plan * host_copies schedule.funcs p) at.placed_is
+      ∙ (let g : func_share flags pipeline.funcs func plan * 1 ≡ func_share flags pipeline.funcs func plan = omega arith in g)
 
   pub phases-light : (place : ℕ) (phases : List Phase) → lowered.AreLowered pipeline schedule boxes place phases → words_of phases ≤ 64 * summed with_hosted 0 place
   phases-light _ _ lowered.No_func = omega arith
@@ -360,7 +428,7 @@ module _ (pipeline : Pipeline) (schedule : Schedule) (boxes : Boxes) where
   computed_share None plan own = 0
   computed_share (Some func) None own = 0
   computed_share (Some func) (Some plan) None = 0
-  computed_share (Some func) (Some plan) (Some own) = if is_computed own then func_share flags pipeline.funcs func plan else 0
+  computed_share (Some func) (Some plan) (Some own) = if is_computed own then placed_share flags pipeline.funcs schedule.funcs func plan own else 0
 
   abbrev computed_at : ℕ → ℕ
   computed_at place = computed_share (slice_get pipeline.funcs place) (slice_get schedule.funcs place) (slice_get schedule.standings place)
@@ -394,11 +462,11 @@ module _ (pipeline : Pipeline) (schedule : Schedule) (boxes : Boxes) where
     placed-once false place m = let z = summed-none 0 m in omega (arith, z)
 
   once-at : (m k : ℕ) (func : Option Func) (plan : Option FuncPlan) (own : Option Standing)
-      → root_share k func plan own + summed (λ h. hosted_share flags pipeline.funcs h func plan own) 0 m ≤ computed_share func plan own
+      → root_share k func plan own + summed (λ h. hosted_share flags pipeline.funcs schedule.funcs h func plan own) 0 m ≤ computed_share func plan own
   once-at m k None plan own = let z = summed-none 0 m in omega (arith, z)
   once-at m k (Some func) None own = let z = summed-none 0 m in omega (arith, z)
   once-at m k (Some func) (Some plan) None = let z = summed-none 0 m in omega (arith, z)
-  once-at m k (Some func) (Some plan) (Some own) = placed-once (func_share flags pipeline.funcs func plan) own.is_reached own.place m
+  once-at m k (Some func) (Some plan) (Some own) = placed-once (placed_share flags pipeline.funcs schedule.funcs func plan own) own.is_reached own.place m
 
   -- past the last standing nothing is
   none-after : (place : ℕ) → count ≤ place → root_at place ≡ 0

@@ -1,5 +1,5 @@
 -- Stores and nests ask for no more words of code than their share in the weight gives them.
-use Rattle.std.proofs.Common.{◌≡◌, ℕ, suc, ◌+◌, ◌*◌, ◌-◌, ◌≤◌, Bool, true, false, List, [], ◌∷◌, length, Option, Some, None, refl, sym, subst, arith, length-append, length-take}
+use Rattle.std.proofs.Common.{◌≡◌, ℕ, suc, ◌+◌, ◌*◌, ◌-◌, ◌≤◌, Bool, true, false, List, [], ◌∷◌, length, Option, Some, None, refl, sym, subst, arith, length-append}
 use Rattle.std.specs.Prelude.{cond, is_some, slice_get}
 use Rattle.halide_pipeline.specs.declared.definitions.Func.{Func}
 use Rattle.halide_pipeline.specs.declared.definitions.Update.{Update}
@@ -34,7 +34,6 @@ use Rattle.loop_ir.specs.Sizes.{kept, size, size_of, whole_size}
 use Rattle.loop_ir.proofs.Sizes.{whole_store}
 use Rattle.expression_lowering.specs.Sizing.{IsGiven}
 use Rattle.expression_lowering.proofs.Sizing.{linear_size}
-use Rattle.lowering.specs.PurePhases.{inside_of}
 use Rattle.lowering.specs.Sizes.{counted, second_counted, update_counted, IsGivenIndex}
 use Rattle.lowering.proofs.Registers.{count-same, at-most}
 
@@ -136,8 +135,3 @@ pub more-loops : (func : Func) (update : Option Update) (stage : Stage) → IsSt
 more-loops func update stage is =
     let grown : Grown (first_loops func update) stage.loops stage.splits = by_making (Grown (first_loops func update)) (grown-stays (is_some update) (first_loops func update)) is.made in
     omega (arith, grown.count, length-total stage.loops, some-loop func update)
-
--- loops inside a parallel one are no more than all
-pub inside-fewer : (found : Option Loop) (all : List Loop) → length (inside_of found all) ≤ length all
-inside-fewer None all = omega arith
-inside-fewer (Some own) all = let l = length-take (length all - 1) all in omega (arith, l)

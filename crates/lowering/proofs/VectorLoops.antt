@@ -40,14 +40,14 @@ use Rattle.nest_lowering.specs.Rounds.{is_vectorized_loop}
 -- ---- what is asked of loops
 
 -- an inner loop has as many turns as the factor of its split
-abbrev fits : Values → Loop → Option ℕ → Bool
+abbrev pub fits : Values → Loop → Option ℕ → Bool
 fits counted own None = true
 fits counted own (Some factor) = counted own.id == factor
 
-abbrev is_fine : Values → Values → List Loop → Loop → Bool
+abbrev pub is_fine : Values → Values → List Loop → Loop → Bool
 is_fine strided counted start own = nat_le 1 (strided own.id) && (fits counted own own.inner_of && has_variable own.variable start)
 
-abbrev flaw : Values → Values → List Loop → Loop → ℕ
+abbrev pub flaw : Values → Values → List Loop → Loop → ℕ
 flaw strided counted start own = cond (is_fine strided counted start own) 0 1
 
 same_total : (f g : Loop → ℕ) (loops : List Loop) → ((own : Loop) → 1 ≤ total (has_id own.id) loops → f own ≡ g own) → total f loops ≡ total g loops
@@ -253,6 +253,9 @@ module _ (func : Func) (update : Option Update) (extents : Extents) (stage : Sta
       (fine_stays extents (is_some update) start
       (record { is_sound = sound start (plain func update); flawless = all_begun extents start start (first_bare func update) (λ v e. e); even = λ e id. refl }))
       is.made
+
+  pub stage_flawless : total (flaw (strides stage.splits) (counts extents stage.splits) start) stage.loops ≡ 0
+  stage_flawless = stage_fine.flawless
 
   pub all_even : is_some update ≡ true → (id : LoopId) → is_uneven stage.splits id ≡ false
   all_even = stage_fine.even

@@ -13,8 +13,9 @@ use Rattle.halide_pipeline.specs.Words as word
 use Rattle.halide_meaning.specs.Pixel.{Plane, Planes, Reads, reads_of, with_plane, points, stage, pixels}
 use Rattle.reads.specs.Points.{Point, Agree, Hold}
 use Rattle.schedule_lines.specs.declared.stages.Loop.{Loop}
-use Rattle.schedule_lines.specs.declared.stages.LoopId.{LoopId}
+use Rattle.schedule_lines.specs.declared.stages.Mark.TheVariants as marks
 use Rattle.schedule_lines.specs.declared.stages.Stage.{Stage}
+use Rattle.schedule_lines.specs.Loops.{is_marked}
 use Rattle.schedule.specs.declared.plans.FuncPlan.{FuncPlan}
 use Rattle.schedule.specs.declared.schedules.Schedule.{Schedule}
 use Rattle.schedule.specs.declared.standings.LoopPlace.{LoopPlace}
@@ -34,7 +35,7 @@ use Rattle.loop_ir.specs.Buffers.{Points}
 use Rattle.loop_ir.specs.Counters.{Values, no_values, with}
 use Rattle.loop_ir.specs.Depths.{depth}
 use Rattle.loop_ir.specs.Needs.{greatest_need}
-use Rattle.loop_ir.specs.Sizes.{whole_size}
+use Rattle.loop_ir.specs.Sizes.{loop_room, whole_size}
 use Rattle.loop_ir.specs.Running.{run, turns}
 use Rattle.loop_ir.specs.Soundness.{every, is_sound}
 use Rattle.loop_ir.specs.Stores.{Trace, trace}
@@ -128,16 +129,16 @@ StoresInIt place made =
     → (trace points inputs func x y made values so_far).is_stored ≡ so_far.is_stored
 
 -- It does another one in so many turns of a loop.
-pub record DoesTurns (host : ℕ) (id : LoopId) (count : ℕ) (body made : Stmt) : Type 0 where
+pub record DoesTurns (host : ℕ) (own : Loop) (count : ℕ) (body made : Stmt) : Type 0 where
   pub runs : (points : Points) (inputs : Planes) (values : Values) (funcs : Planes)
-      → run points inputs made values funcs ≡ turns count (λ turn. run points inputs body (with (record { func = host; id = id }) turn values)) funcs
+      → run points inputs made values funcs ≡ turns count (λ turn. run points inputs body (with (record { func = host; id = own.id }) turn values)) funcs
   pub traces : (points : Points) (inputs : Planes) (place x y : ℕ) (values : Values) (so_far : Trace)
-      → trace points inputs place x y made values so_far ≡ turns count (λ turn. trace points inputs place x y body (with (record { func = host; id = id }) turn values)) so_far
+      → trace points inputs place x y made values so_far ≡ turns count (λ turn. trace points inputs place x y body (with (record { func = host; id = own.id }) turn values)) so_far
   pub sound : (reads : Reads) (written : Points) (loaded : Point → Bool) (values : Values)
-      → is_sound reads written loaded made values ≡ every count (λ turn. is_sound reads written loaded body (with (record { func = host; id = id }) turn values))
+      → is_sound reads written loaded made values ≡ every count (λ turn. is_sound reads written loaded body (with (record { func = host; id = own.id }) turn values))
   pub depth_is : depth made ≡ suc (depth body)
   pub need_is : greatest_need made ≡ greatest_need body
-  pub size_is : whole_size made ≡ whole_size body + 7
+  pub size_is : whole_size made ≡ loop_room (is_marked marks.Unrolled own) count (whole_size body)
 
 module _ (pipeline : Pipeline) (schedule : Schedule) (boxes : Boxes) where
   -- What the pure definition reads of other Funcs, wherever its arguments lie in its box, is answered as by their pixels, while the loops
@@ -240,7 +241,7 @@ module _ (pipeline : Pipeline) (schedule : Schedule) (boxes : Boxes) where
   pub data HasLoops (host : ℕ) (counts : loops.Values) (leaf : Stmt) : List Loop → Stmt → Type 0 where
     No_loops : HasLoops host counts leaf [] leaf
     One_outside : (inside : List Loop) (own : Loop) (inner body made : Stmt) → HasLoops host counts leaf inside inner
-        → HasNests (record { func = host; inside = own.id }) 0 inner body → DoesTurns host own.id (counts own.id) body made
+        → HasNests (record { func = host; inside = own.id }) 0 inner body → DoesTurns host own (counts own.id) body made
         → GoesAround host counts own body made → RunsAround host counts own body made
         → HasLoops host counts leaf (inside ++ own ∷ []) made
 
@@ -255,7 +256,7 @@ module _ (pipeline : Pipeline) (schedule : Schedule) (boxes : Boxes) where
     pub bound : Repeats host leaf store (wholes extents stage.splits [])
     pub depth_is : depth leaf ≡ length stage.splits + depth store
     pub need_is : greatest_need leaf ≡ greatest_need store
-    pub size_is : whole_size leaf ≡ 14 * length stage.splits + whole_size store
+    pub size_is : whole_size leaf ≡ 25 * length stage.splits + whole_size store
     pub leaf_is : IsLeaf store → IsLeaf leaf
     pub looped : HasLoops host (loops.counts extents stage.splits) leaf (inside_of (parallel stage) stage.loops) inner
     pub begun : HasOutermost host (parallel stage) inner body

@@ -1,5 +1,6 @@
--- How many words of code the phases of a schedule ask for: no more than 64 for each unit that its stages weigh. One copy of a stage's code
--- is what is spoken of, so a stage has a share in the weight, the nodes of its expressions and its loops, whatever the factors of unrolled loops.
+-- How many words of code the phases of a schedule ask for: no more than 64 for each unit that its stages weigh. A stage's share in the weight
+-- is the nodes of its expressions and its loops, in each copy of its code that its unrolled loops make; that of a Func at a loop of a host counts
+-- in each copy of the code around it too.
 -- This project's own.
 use Rattle.std.specs.Prelude.{◌≡◌, ◌≤◌, ℕ, zero, suc, ◌+◌, ◌*◌, Bool, if◌then◌else◌, List, [], ◌∷◌, length, slice_get, Option, Some, None}
 use Rattle.halide_pipeline.specs.declared.definitions.Func.{Func}
@@ -12,7 +13,8 @@ use Rattle.schedule.specs.declared.schedules.Schedule.{Schedule}
 use Rattle.schedule.specs.declared.standings.Standing.{Standing}
 use Rattle.inlining.specs.Inlining.{inlined, flagged}
 use Rattle.inlining.specs.Weights.{counting}
-use Rattle.weights.specs.Weight.{flags_of, nodes_in, update_nodes}
+use Rattle.weights.specs.Copies.{host_copies}
+use Rattle.weights.specs.Weight.{flags_of, nodes_in, update_nodes, stage_weight}
 use Rattle.loop_ir.specs.declared.expressions.Expr as loop
 use Rattle.loop_ir.specs.declared.expressions.Expr.TheVariants as e
 use Rattle.loop_ir.specs.declared.statements.Phase.{Phase}
@@ -42,18 +44,14 @@ IsGivenIndex flags funcs place (Some own) made = IsGiven (size made) (counted fl
 
 -- ---- stages
 
--- a stage whose expressions have so many nodes
-abbrev pub stage_share : ℕ → Stage → ℕ
-stage_share nodes stage = nodes + length stage.loops
-
 abbrev pub update_share : List Bool → List Func → Option Update → Option Stage → ℕ
 update_share flags funcs None stage = 0
 update_share flags funcs (Some update) None = 0
-update_share flags funcs (Some update) (Some stage) = stage_share (update_nodes flags funcs update) stage
+update_share flags funcs (Some update) (Some stage) = stage_weight (update_nodes flags funcs update) stage
 
 -- of a Func's pure definition and its first so many updates
 abbrev pub shares : List Bool → List Func → Func → FuncPlan → ℕ → ℕ
-shares flags funcs func plan zero = stage_share (nodes_in flags funcs func.pure) plan.pure
+shares flags funcs func plan zero = stage_weight (nodes_in flags funcs func.pure) plan.pure
 shares flags funcs func plan (suc n) = shares flags funcs func plan n + update_share flags funcs (slice_get func.updates n) (slice_get plan.updates n)
 
 abbrev pub func_share : List Bool → List Func → Func → FuncPlan → ℕ
@@ -66,23 +64,27 @@ abbrev pub summed : (ℕ → ℕ) → ℕ → ℕ → ℕ
 summed f at zero = 0
 summed f at (suc n) = f at + summed f (suc at) n
 
-abbrev pub hosted_share : List Bool → List Func → ℕ → Option Func → Option FuncPlan → Option Standing → ℕ
-hosted_share flags funcs host None plan own = 0
-hosted_share flags funcs host (Some func) None own = 0
-hosted_share flags funcs host (Some func) (Some plan) None = 0
-hosted_share flags funcs host (Some func) (Some plan) (Some own) = if is_hosted host own then func_share flags funcs func plan else 0
+-- in each copy of the code around it
+abbrev pub placed_share : List Bool → List Func → List FuncPlan → Func → FuncPlan → Standing → ℕ
+placed_share flags funcs plans func plan own = func_share flags funcs func plan * host_copies plans own.place
+
+abbrev pub hosted_share : List Bool → List Func → List FuncPlan → ℕ → Option Func → Option FuncPlan → Option Standing → ℕ
+hosted_share flags funcs plans host None plan own = 0
+hosted_share flags funcs plans host (Some func) None own = 0
+hosted_share flags funcs plans host (Some func) (Some plan) None = 0
+hosted_share flags funcs plans host (Some func) (Some plan) (Some own) = if is_hosted host own then placed_share flags funcs plans func plan own else 0
 
 -- of all Funcs that are computed at loops of the host
 abbrev pub hosted_shares : Pipeline → Schedule → ℕ → ℕ
 hosted_shares pipeline schedule host =
-    summed (λ place. hosted_share (flags_of schedule.standings) pipeline.funcs host (slice_get pipeline.funcs place) (slice_get schedule.funcs place) (slice_get schedule.standings place)) 0 (length schedule.standings)
+    summed (λ place. hosted_share (flags_of schedule.standings) pipeline.funcs schedule.funcs host (slice_get pipeline.funcs place) (slice_get schedule.funcs place) (slice_get schedule.standings place)) 0 (length schedule.standings)
 
 -- ---- phases
 
 -- what the stage with this number weighs of a Func at root, with the Funcs at the loops of its pure definition
 abbrev pub phase_share : Pipeline → Schedule → ℕ → Func → FuncPlan → ℕ → ℕ
 phase_share pipeline schedule place func plan zero =
-    stage_share (nodes_in (flags_of schedule.standings) pipeline.funcs func.pure) plan.pure
+    stage_weight (nodes_in (flags_of schedule.standings) pipeline.funcs func.pure) plan.pure
     + hosted_shares pipeline schedule place
 phase_share pipeline schedule place func plan (suc at) = update_share (flags_of schedule.standings) pipeline.funcs (slice_get func.updates at) (slice_get plan.updates at)
 

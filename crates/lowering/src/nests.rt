@@ -5,7 +5,7 @@ ghost use Rattle.halide_pipeline.specs.WellFormed.{IsWellFormed};
 ghost use Rattle.schedule.specs.Accepted.{IsAccepted};
 ghost use Rattle.schedule.specs.declared.standings.Place.TheVariants as places;
 ghost use Rattle.bounds.specs.Verdict.{inferred};
-ghost use Rattle.weights.specs.Weight.{flags_of, nodes_in};
+ghost use Rattle.weights.specs.Weight.{flags_of, nodes_in, stage_weight};
 ghost use Rattle.loop_ir.specs.Depths.{depth};
 ghost use Rattle.loop_ir.specs.Needs.{greatest_need};
 ghost use Rattle.loop_ir.specs.Runs.{is_about};
@@ -15,7 +15,7 @@ ghost use Rattle.lowering.specs.PurePhases.{IsComputedAt, IsStoreOf};
 ghost use Rattle.lowering.specs.Rounds.{MayAlwaysBeAtOnce};
 ghost use Rattle.nest_lowering.specs.Rounds.{IsLeaf};
 ghost use Rattle.lowering.specs.Registers.{most_need, taken};
-ghost use Rattle.lowering.specs.Sizes.{counted, stage_share};
+ghost use Rattle.lowering.specs.Sizes.{counted};
 
 use crate::corners::{corner_of, corners_of};
 use crate::stores::pure_store;
@@ -91,7 +91,7 @@ pub fn pure_nest(
     ensures few { IfOk result (λ made. depth made ≤ 9) }
     ensures at_once { IfOk result MayAlwaysBeAtOnce }
     ensures needs { IfOk result (λ made. greatest_need made ≤ most_need pipeline.now schedule.now) }
-    ensures sizes { IfOk result (λ made. whole_size made ≤ 64 * stage_share (nodes_in (flags_of schedule.now.standings) pipeline.now.funcs func.now.pure) plan.now.pure) }
+    ensures sizes { IfOk result (λ made. whole_size made ≤ 64 * stage_weight (nodes_in (flags_of schedule.now.standings) pipeline.now.funcs func.now.pure) plan.now.pure) }
 {
     let placed = Place::At(at);
     let extents = extents_of(own);

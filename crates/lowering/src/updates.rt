@@ -7,7 +7,7 @@ ghost use Rattle.stage_loops.specs.Counts.{AreSplits, counts};
 ghost use Rattle.stage_loops.specs.Iterations as iterations;
 ghost use Rattle.stage_loops.specs.Reach.{wholes};
 ghost use Rattle.inlining.specs.Inlining.{flagged};
-ghost use Rattle.weights.specs.Weight.{flags_of, update_nodes};
+ghost use Rattle.weights.specs.Weight.{flags_of, stage_weight, update_nodes};
 ghost use Rattle.bounds.specs.Boxes.{IsBox};
 ghost use Rattle.bounds.specs.Verdict.{inferred};
 ghost use Rattle.loop_ir.specs.Depths.{depth, task_depth};
@@ -17,11 +17,12 @@ ghost use Rattle.loop_ir.specs.Sizes.{whole_size};
 ghost use Rattle.expression_lowering.specs.Sizing.{AreShort, IsShort};
 ghost use Rattle.nest_lowering.specs.Nests.{AreFew, Repeats};
 ghost use Rattle.nest_lowering.specs.Rounds.{IsLeaf, MayBeAtOnce, MayBeUnder};
+ghost use Rattle.nest_lowering.specs.Sizes.{nest_size};
 ghost use Rattle.schedule_lines.specs.declared.stages.Loop.{Loop};
 ghost use Rattle.lowering.specs.Hosting.{StoresInIt};
 ghost use Rattle.lowering.specs.PurePhases as pure;
 ghost use Rattle.lowering.specs.Registers.{most_need, update_taken};
-ghost use Rattle.lowering.specs.Sizes.{stage_share, update_counted};
+ghost use Rattle.lowering.specs.Sizes.{update_counted};
 ghost use Rattle.lowering.specs.Rounds.{MayAlwaysBeAtOnce, RoundsMayBeAtOnce};
 ghost use Rattle.lowering.specs.Stages.{DoesStage};
 ghost use Rattle.lowering.specs.Stored.{StoresWhatItNames};
@@ -162,7 +163,7 @@ fn body_of(
     ensures repeats { IfOk result (λ made. Repeats place made store (wholes extents stage.now.splits (pure.inside_of (iterations.parallel stage.now) stage.now.loops))) }
     ensures depth { IfOk result (λ made. depth made ≡ length (pure.inside_of (iterations.parallel stage.now) stage.now.loops) + (length stage.now.splits + depth store)) }
     ensures needs { IfOk result (λ made. greatest_need made ≡ greatest_need store) }
-    ensures sizes { IfOk result (λ made. whole_size made ≡ 7 * length (pure.inside_of (iterations.parallel stage.now) stage.now.loops) + (14 * length stage.now.splits + whole_size store)) }
+    ensures sizes { IfOk result (λ made. whole_size made ≡ nest_size (counts extents stage.now.splits) (pure.inside_of (iterations.parallel stage.now) stage.now.loops) (25 * length stage.now.splits + whole_size store)) }
 {
     let splits = stage.splits.as_slice();
     let made = with_nest(alloc, place, extents, splits, inside_parallel(stage), store)?;
@@ -185,7 +186,7 @@ fn nest_of(
     ensures depth { IfOk result (λ made. depth made ≡ length stage.now.loops + (length stage.now.splits + depth store)) }
     ensures needs { IfOk result (λ made. greatest_need made ≡ greatest_need store) }
     ensures about { IfOk result (λ made. is_about place made ≡ is_about place store) }
-    ensures sizes { IfOk result (λ made. whole_size made ≡ 7 * length stage.now.loops + (14 * length stage.now.splits + whole_size store)) }
+    ensures sizes { IfOk result (λ made. whole_size made ≡ nest_size (counts extents stage.now.splits) stage.now.loops (25 * length stage.now.splits + whole_size store)) }
 {
     let made = with_nest(
         alloc,
@@ -227,7 +228,7 @@ pub fn update_phase(
     ensures touches { IfOk result (TouchesItsOwn pipeline.now schedule.now boxes.now place (spec.owns_update of.now.own.now of.now.update.now of.now.stage.now)) }
     ensures few { IfOk result (λ phase. task_depth phase ≤ 14) }
     ensures needs { IfOk result (λ phase. greatest_need phase.body ≤ most_need pipeline.now schedule.now) }
-    ensures sizes { IfOk result (λ phase. whole_size phase.body + 24 ≤ 64 * stage_share (update_nodes (flags_of schedule.now.standings) pipeline.now.funcs of.now.update.now) of.now.stage.now) }
+    ensures sizes { IfOk result (λ phase. whole_size phase.body + 24 ≤ 64 * stage_weight (update_nodes (flags_of schedule.now.standings) pipeline.now.funcs of.now.update.now) of.now.stage.now) }
     ensures few_tasks { IfOk result (λ phase. phase.tasks ≤ 2 ^ 31) }
     ensures rounds { IfOk result RoundsMayBeAtOnce }
     ensures stores { IfOk result (StoresWhatItNames pipeline.now schedule.now boxes.now place of.now.func.now of.now.at of.now.own.now of.now.update.now of.now.stage.now) }
@@ -279,7 +280,7 @@ pub fn update_nest(
     ensures at_once { IfOk result MayAlwaysBeAtOnce }
     ensures about { IfOk result (λ made. is_about place made ≡ true) }
     ensures needs { IfOk result (λ made. greatest_need made ≤ most_need pipeline.now schedule.now) }
-    ensures sizes { IfOk result (λ made. AreShort corners.now → whole_size made ≤ 64 * stage_share (update_nodes (flags_of schedule.now.standings) pipeline.now.funcs of.now.update.now) of.now.stage.now) }
+    ensures sizes { IfOk result (λ made. AreShort corners.now → whole_size made ≤ 64 * stage_weight (update_nodes (flags_of schedule.now.standings) pipeline.now.funcs of.now.update.now) of.now.stage.now) }
 {
     // What every pipeline keeps is known once its parts are read.
     let _funcs = pipeline.funcs();

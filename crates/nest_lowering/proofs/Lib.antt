@@ -4,3 +4,4 @@ pub mod Wholes
 pub mod Nesting
 pub mod Rounds
 pub mod Runs
+pub mod Sizing

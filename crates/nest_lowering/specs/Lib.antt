@@ -1,3 +1,4 @@
 pub mod Nests
 pub mod Rounds
 pub mod Runs
+pub mod Sizes

@@ -7,7 +7,7 @@ ghost use Rattle.loop_ir.specs.Buffers.{Points};
 ghost use Rattle.loop_ir.specs.Counters.{Values, with};
 ghost use Rattle.loop_ir.specs.Depths.{depth};
 ghost use Rattle.loop_ir.specs.Needs.{greatest_need};
-ghost use Rattle.loop_ir.specs.Sizes.{whole_size};
+ghost use Rattle.loop_ir.specs.Sizes.{is_laid_out, loop_room, whole_size};
 ghost use Rattle.loop_ir.specs.Rounds.{is_vectorized, rounds, rounds_at};
 ghost use Rattle.loop_ir.specs.Running.{run, turns};
 ghost use Rattle.loop_ir.specs.Runs.{is_about, is_about_at, runs, runs_at};
@@ -18,7 +18,10 @@ ghost use Rattle.loop_ir.specs.declared.statements.Stmt.{Stmt};
 ghost use Rattle.nest_lowering.specs.Nests.{AreFew, Repeats};
 ghost use Rattle.nest_lowering.specs.Rounds.{GoesAround, MayBeAround, MayBeAtOnce, is_vectorized_loop};
 ghost use Rattle.nest_lowering.specs.Runs.{RunsAround};
+ghost use Rattle.nest_lowering.specs.Sizes.{nest_size};
+ghost use Rattle.schedule_lines.specs.Loops.{is_marked};
 ghost use Rattle.schedule_lines.specs.declared.stages.Loop.{Loop};
+ghost use Rattle.schedule_lines.specs.declared.stages.Mark.TheVariants as marks;
 ghost use Rattle.stage_loops.specs.Counts as counts;
 ghost use Rattle.stage_loops.specs.Visits.{nest, upto};
 
@@ -33,7 +36,8 @@ use std::alloc::{AllocError, Global};
 /// How the rounds of a loop are to be made. Those of the parallel loop are tasks of their own where it is not among
 /// the loops of a nest.
 fn kind_of(own: &Loop) -> LoopKind
-    ensures { is_vectorized result ≡ is_vectorized_loop own.now }
+    ensures vectorized { is_vectorized result ≡ is_vectorized_loop own.now }
+    ensures unrolled { is_laid_out result ≡ is_marked marks.Unrolled own.now }
 {
     match own.marked {
         Some(marked) => match marked.mark {
@@ -61,7 +65,7 @@ fn looped(
         → is_sound reads written loaded made values ≡ every count (λ turn. is_sound reads written loaded body (with counter turn values))) }
     ensures depth { IfOk result (λ made. depth made ≡ suc (depth body)) }
     ensures needs { IfOk result (λ made. greatest_need made ≡ greatest_need body) }
-    ensures sizes { IfOk result (λ made. whole_size made ≡ whole_size body + 7) }
+    ensures sizes { IfOk result (λ made. whole_size made ≡ loop_room (is_laid_out kind) count (whole_size body)) }
     ensures rounds { IfOk result (λ made. (reads : Reads) → rounds reads made ≡ rounds_at reads (layer.For counter count kind (rounds reads body))) }
     ensures about { IfOk result (λ made. (place : ℕ) → is_about place made ≡ is_about_at place (layer.For counter count kind (is_about place body))) }
     ensures in_runs { IfOk result (λ made. (reads : Reads) (place x y : ℕ) (expected : Values → Bool)
@@ -95,7 +99,7 @@ pub fn loop_once(
         → Repeats func made leaf (λ outer. upto (counts.counts sizes.now.extents sizes.now.splits own.now.id) (λ turn. list (counts.with own.now.id turn outer)))) }
     ensures depth { IfOk result (λ made. depth made ≡ suc (depth body)) }
     ensures needs { IfOk result (λ made. greatest_need made ≡ greatest_need body) }
-    ensures sizes { IfOk result (λ made. whole_size made ≡ whole_size body + 7) }
+    ensures sizes { IfOk result (λ made. whole_size made ≡ loop_room (is_marked marks.Unrolled own.now) (counts.counts sizes.now.extents sizes.now.splits own.now.id) (whole_size body)) }
     ensures rounds { IfOk result (GoesAround func (counts.counts sizes.now.extents sizes.now.splits) own.now body) }
     ensures about { IfOk result (λ made. is_about func made ≡ is_about func body) }
     ensures in_runs { IfOk result (RunsAround func (counts.counts sizes.now.extents sizes.now.splits) own.now body) }
@@ -125,7 +129,7 @@ pub fn with_loops(
         → Repeats func made leaf (nest (counts.counts sizes.now.extents sizes.now.splits) loops.now list)) }
     ensures depth { IfOk result (λ made. depth made ≡ length loops.now + depth body) }
     ensures needs { IfOk result (λ made. greatest_need made ≡ greatest_need body) }
-    ensures sizes { IfOk result (λ made. whole_size made ≡ 7 * length loops.now + whole_size body) }
+    ensures sizes { IfOk result (λ made. whole_size made ≡ nest_size (counts.counts sizes.now.extents sizes.now.splits) loops.now (whole_size body)) }
     ensures rounds { IfOk result (λ made. (outside : List Loop) → MayBeAtOnce func (counts.counts sizes.now.extents sizes.now.splits) (loops.now ++ outside) body
         → MayBeAround func (counts.counts sizes.now.extents sizes.now.splits) loops.now outside body
         → MayBeAtOnce func (counts.counts sizes.now.extents sizes.now.splits) outside made) }

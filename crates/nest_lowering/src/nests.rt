@@ -7,6 +7,7 @@ ghost use Rattle.loop_ir.specs.Runs.{is_about};
 ghost use Rattle.loop_ir.specs.Sizes.{whole_size};
 ghost use Rattle.nest_lowering.specs.Nests.{AreFew, Repeats};
 ghost use Rattle.nest_lowering.specs.Rounds.{IsLeaf, MayBeAtOnce, MayBeUnder};
+ghost use Rattle.nest_lowering.specs.Sizes.{nest_size};
 ghost use Rattle.schedule_lines.specs.declared.stages.Loop.{Loop};
 ghost use Rattle.stage_loops.specs.Counts as counts;
 ghost use Rattle.stage_loops.specs.Reach.{wholes};
@@ -37,7 +38,7 @@ pub fn with_nest(
     ensures repeats { IfOk result (λ made. Repeats func made body (wholes extents splits.now loops.now)) }
     ensures depth { IfOk result (λ made. depth made ≡ length loops.now + (length splits.now + depth body)) }
     ensures needs { IfOk result (λ made. greatest_need made ≡ greatest_need body) }
-    ensures sizes { IfOk result (λ made. whole_size made ≡ 7 * length loops.now + (14 * length splits.now + whole_size body)) }
+    ensures sizes { IfOk result (λ made. whole_size made ≡ nest_size (counts.counts extents splits.now) loops.now (25 * length splits.now + whole_size body)) }
     ensures rounds { IfOk result (λ made. (outside : List Loop) → IsLeaf body → MayBeUnder func extents splits.now loops.now outside body
         → MayBeAtOnce func (counts.counts extents splits.now) outside made) }
     ensures about { IfOk result (λ made. is_about func made ≡ is_about func body) }

@@ -68,7 +68,7 @@ fn bound(
         ≡ (if nat_lt (whole_value whole values) extent then is_sound reads written loaded body (with counter (whole_value whole values) values) else true)) }
     ensures depth { IfOk result (λ made. depth made ≡ suc (depth body)) }
     ensures needs { IfOk result (λ made. greatest_need made ≡ greatest_need body) }
-    ensures sizes { IfOk result (λ made. whole_size made ≡ whole_size body + 14) }
+    ensures sizes { IfOk result (λ made. whole_size made ≡ whole_size body + 25) }
     ensures rounds { IfOk result (λ made. (reads : Reads) → rounds reads made ≡ rounds_at reads (layer.Bind counter whole extent (rounds reads body))) }
     ensures about { IfOk result (λ made. (of : ℕ) → is_about of made ≡ is_about of body) }
 {
@@ -91,7 +91,7 @@ fn split_once(
         → (leaf : Stmt) (list : counts.Values → List counts.Values) → Repeats func body leaf list → Repeats func made leaf (split_body before place split list)) }
     ensures depth { IfOk result (λ made. depth made ≡ suc (depth body)) }
     ensures needs { IfOk result (λ made. greatest_need made ≡ greatest_need body) }
-    ensures sizes { IfOk result (λ made. whole_size made ≡ whole_size body + 14) }
+    ensures sizes { IfOk result (λ made. whole_size made ≡ whole_size body + 25) }
     ensures leaf { IfOk result (λ made. IsLeaf body → IsLeaf made) }
     ensures about { IfOk result (λ made. (of : ℕ) → is_about of made ≡ is_about of body) }
 {
@@ -129,7 +129,7 @@ pub fn with_splits(
     ensures repeats { IfOk result (λ made. (leaf : Stmt) (list : counts.Values → List counts.Values) → Repeats func body leaf list → Repeats func made leaf (over_loops extents splits.now list)) }
     ensures depth { IfOk result (λ made. depth made ≡ length splits.now + depth body) }
     ensures needs { IfOk result (λ made. greatest_need made ≡ greatest_need body) }
-    ensures sizes { IfOk result (λ made. whole_size made ≡ 14 * length splits.now + whole_size body) }
+    ensures sizes { IfOk result (λ made. whole_size made ≡ 25 * length splits.now + whole_size body) }
     ensures leaf { IfOk result (λ made. IsLeaf body → IsLeaf made) }
     ensures about { IfOk result (λ made. (of : ℕ) → is_about of made ≡ is_about of body) }
 {

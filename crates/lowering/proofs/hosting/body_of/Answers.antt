@@ -21,7 +21,7 @@ returns c = record {
       (c.in_ok-leaf.ensures.repeats c.args.store (λ whole. whole ∷ []) (repeats_itself c.args.host c.args.store));
   depth_is = c.in_ok-leaf.ensures.depth ∙ ap (λ (l : List Split). length l + depth c.args.store) c.as_slice-splits.ensures;
   need_is = c.in_ok-leaf.ensures.needs;
-  size_is = c.in_ok-leaf.ensures.sizes ∙ ap (λ (l : List Split). 14 * length l + whole_size c.args.store) c.as_slice-splits.ensures;
+  size_is = c.in_ok-leaf.ensures.sizes ∙ ap (λ (l : List Split). 25 * length l + whole_size c.args.store) c.as_slice-splits.ensures;
   leaf_is = c.in_ok-leaf.ensures.leaf;
   looped = subst (λ (l : List Split). HasLoops c.args.pipeline.now c.args.schedule.now c.args.boxes.now c.args.host (counts c.args.extents l) c.in_ok-leaf.leaf (inside_of (parallel c.args.stage.now) c.args.stage.now.loops) c.in_ok-inner.inner) c.as_slice-splits.ensures
       (subst (λ (ls : List Loop). HasLoops c.args.pipeline.now c.args.schedule.now c.args.boxes.now c.args.host (counts c.args.extents c.as_slice-splits.result.now) c.in_ok-leaf.leaf ls c.in_ok-inner.inner) c.inside_parallel-inside.ensures

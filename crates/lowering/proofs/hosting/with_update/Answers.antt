@@ -9,9 +9,9 @@ use Rattle.loop_ir.specs.Rounds.{may_be_at_once}
 use Rattle.loop_ir.specs.Runs.{is_about}
 use Rattle.halide_pipeline.specs.declared.definitions.Update.{Update}
 use Rattle.schedule_lines.specs.declared.stages.Stage.{Stage}
-use Rattle.weights.specs.Weight.{flags_of, update_nodes}
+use Rattle.weights.specs.Weight.{flags_of, update_nodes, stage_weight}
 use Rattle.expression_lowering.specs.Sizing.{AreShort}
-use Rattle.lowering.specs.Sizes.{stage_share, update_share}
+use Rattle.lowering.specs.Sizes.{update_share}
 use Rattle.lowering.proofs.hosting.with_update.Goals as goal
 
 pub returns-in_default : goal.returns-in_default
@@ -61,7 +61,7 @@ pub returns-clause-sizes : goal.returns-clause-sizes
 returns-clause-sizes c =
     let flags = flags_of c.args.schedule.now.standings in
     let own : update_share flags c.args.pipeline.now.funcs (slice_get c.args.of.now.func.now.updates c.args.of.now.at) (slice_get c.args.of.now.plan.now.updates c.args.of.now.at)
-    ≡ stage_share (update_nodes flags c.args.pipeline.now.funcs c.args.of.now.update.now) c.args.of.now.stage.now
+    ≡ stage_weight (update_nodes flags c.args.pipeline.now.funcs c.args.of.now.update.now) c.args.of.now.stage.now
     = ap (λ (u : Option Update). update_share flags c.args.pipeline.now.funcs u (slice_get c.args.of.now.plan.now.updates c.args.of.now.at)) c.requires.update.update_is
     ∙ ap (λ (s : Option Stage). update_share flags c.args.pipeline.now.funcs (Some c.args.of.now.update.now) s) c.requires.update.stage_is in
     let next = c.in_ok-next.ensures.sizes (subst AreShort (sym c.deref-2.ensures.value) c.in_ok-corners.ensures.short) in

@@ -15,7 +15,9 @@ use Rattle.schedule.specs.declared.standings.Place.{Place}
 use Rattle.lowering.proofs.Registers.{pure-most}
 use Rattle.nest_lowering.specs.Rounds.{MayBeUnder}
 use Rattle.lowering.proofs.PureRounds.{pure_under}
-use Rattle.weights.specs.Weight.{flags_of}
+use Rattle.weights.specs.Weight.{flags_of, nodes_in}
+use Rattle.loop_ir.specs.Sizes.{whole_size}
+use Rattle.lowering.proofs.Copies.{nest-light, same-nest}
 use Rattle.lowering.proofs.Sizes.{more-loops, pure-counted}
 use Rattle.lowering.proofs.nests.pure_nest.Goals as goal
 
@@ -96,9 +98,9 @@ returns-clause-sizes c =
     let hosted = hosted_before c.args.pipeline.now c.args.schedule.now c.requires.accepted c.args.place c.requires.parts.standing c.requires.parts.there c.args.at c.requires.parts.placed_is in
     let facts = staged c.args.pipeline.now c.args.schedule.now c.args.boxes.now c.args.place c.args.func.now c.args.plan.now c.args.own.now c.requires.accepted c.requires.boxes (places.At c.args.at) hosted c.requires.parts in
     let more = more-loops c.args.func.now None c.args.plan.now.pure facts.0 in
-    let el = ap (λ (x : List Loop). length x) c.as_slice-2.ensures in
-    let es = ap (λ (x : List Split). length x) c.as_slice.ensures in
-    let same = c.in_ok-made.ensures.sizes in
     let given = c.in_ok-store.ensures.sizes in
     let counts = pure-counted c.args.pipeline.now c.store_of.ensures.rules (flags_of c.args.schedule.now.standings) c.args.place c.args.func.now c.requires.parts.func_is in
-    omega (arith, more, el, es, same, given, counts)
+    nest-light c.args.func.now None c.extents_of-extents.result c.args.plan.now.pure facts.0 (whole_size c.in_ok-store.store)
+    (nodes_in (flags_of c.args.schedule.now.standings) c.args.pipeline.now.funcs c.args.func.now.pure) more (omega (arith, given, counts)) (whole_size c.in_ok-made.made)
+    (same-nest c.extents_of-extents.result c.as_slice.result.now c.args.plan.now.pure.splits c.as_slice-2.result.now c.args.plan.now.pure.loops (whole_size c.in_ok-made.made) (whole_size c.in_ok-store.store)
+    c.as_slice.ensures c.as_slice-2.ensures c.in_ok-made.ensures.sizes)

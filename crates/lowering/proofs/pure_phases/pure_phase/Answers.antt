@@ -1,4 +1,4 @@
-use Rattle.std.proofs.Common.{◌≤◌, ◌+◌, None, Option, sym, ap, subst, ◌∙◌, refl, arith}
+use Rattle.std.proofs.Common.{◌≤◌, ◌+◌, None, Option, length, sym, ap, subst, ◌∙◌, refl, arith}
 use Rattle.schedule.specs.declared.standings.Place.{Place}
 use Rattle.schedule.specs.declared.standings.Place.TheVariants as places
 use Rattle.stage_loops.specs.declared.extents.Extents.{Extents}
@@ -23,9 +23,14 @@ use Rattle.lowering.proofs.PureRounds.{pure_under}
 use Rattle.lowering.proofs.TaskRounds.{outside_of, loops_by, tasks_at_once}
 use Rattle.lowering.proofs.Facts.{staged}
 use Rattle.stage_loops.proofs.FirstLoops.{plain, sound_made}
-use Rattle.weights.specs.Weight.{flags_of}
+use Rattle.weights.specs.Weight.{flags_of, nodes_in}
 use Rattle.lowering.proofs.Shares.{body-size}
-use Rattle.lowering.proofs.Sizes.{inside-fewer, more-loops, pure-counted}
+use Rattle.stage_loops.specs.Counts as loops
+use Rattle.weights.specs.Copies.{all_copies}
+use Rattle.loop_ir.specs.Sizes.{whole_size}
+use Rattle.lowering.specs.Sizes.{hosted_shares}
+use Rattle.lowering.proofs.Copies.{stage-paid, copies-some, is-light}
+use Rattle.lowering.proofs.Sizes.{more-loops, pure-counted}
 use Rattle.lowering.proofs.pure_phases.pure_phase.Goals as goal
 
 -- src/pure_phases.rt:159:9
@@ -141,9 +146,12 @@ pub returns-clause-light : goal.returns-clause-light
 returns-clause-light c =
     let facts = staged c.args.pipeline.now c.args.schedule.now c.args.boxes.now c.args.place c.args.func.now c.args.plan.now c.args.own.now c.requires.accepted c.requires.boxes places.Root tt c.requires.at in
     let more = more-loops c.args.func.now None c.args.plan.now.pure facts.0 in
-    let fewer = inside-fewer (iterations.parallel c.args.plan.now.pure) c.args.plan.now.pure.loops in
-    let whole = body-size c.args.pipeline.now c.args.schedule.now c.args.boxes.now c.args.place c.args.plan.now.pure c.extents_of-extents.result c.in_ok-store.store c.in_ok-body.body facts.1
-    (sound_made (plain c.args.func.now None) facts.0.made).unique c.in_ok-body.ensures in
+    let paid = stage-paid c.args.func.now None c.extents_of-extents.result c.args.plan.now.pure facts.0 in
+    let whole = body-size c.args.pipeline.now c.args.schedule.now c.args.boxes.now c.args.place c.args.plan.now c.extents_of-extents.result c.in_ok-store.store c.in_ok-body.body c.requires.at.plan_is facts.1
+    (sound_made (plain c.args.func.now None) facts.0.made).unique paid c.in_ok-body.ensures in
     let given = c.in_ok-store.ensures.sizes in
     let counts = pure-counted c.args.pipeline.now c.inputs.ensures.rules (flags_of c.args.schedule.now.standings) c.args.place c.args.func.now c.requires.at.func_is in
-    omega (arith, more, fewer, whole, given, counts)
+    let light = is-light (whole_size c.in_ok-body.body) (all_copies c.args.plan.now.pure.loops) (length c.args.plan.now.pure.splits) (whole_size c.in_ok-store.store)
+    (nodes_in (flags_of c.args.schedule.now.standings) c.args.pipeline.now.funcs c.args.func.now.pure) (length c.args.plan.now.pure.loops) (hosted_shares c.args.pipeline.now c.args.schedule.now c.args.place)
+    (copies-some (loops.counts c.extents_of-extents.result c.args.plan.now.pure.splits) c.args.plan.now.pure.loops paid) more (omega (arith, given, counts)) whole in
+    omega (arith, light)

@@ -4,7 +4,9 @@ use Rattle.schedule_lines.specs.declared.stages.Split.{Split}
 use Rattle.stage_loops.specs.Counts.{counts}
 use Rattle.stage_loops.specs.Iterations as iterations
 use Rattle.nest_lowering.specs.Rounds.{IsLeaf, MayBeAtOnce, MayBeUnder}
+use Rattle.loop_ir.specs.Sizes.{whole_size}
 use Rattle.lowering.specs.PurePhases as pure
+use Rattle.lowering.proofs.Copies.{same-nest}
 use Rattle.lowering.proofs.updates.body_of.Goals as goal
 
 pub returns-clause-rounds : goal.returns-clause-rounds
@@ -13,3 +15,8 @@ returns-clause-rounds c =
     → MayBeAtOnce c.args.place (counts c.args.extents l) outside c.in_ok-made.made) c.as_slice-splits.ensures
     (subst (λ (ls : List Loop). (outside : List Loop) → IsLeaf c.args.store → MayBeUnder c.args.place c.args.extents c.as_slice-splits.result.now ls outside c.args.store
     → MayBeAtOnce c.args.place (counts c.args.extents c.as_slice-splits.result.now) outside c.in_ok-made.made) c.inside_parallel.ensures c.in_ok-made.ensures.rounds)
+
+pub returns-clause-sizes : goal.returns-clause-sizes
+returns-clause-sizes c =
+    same-nest c.args.extents c.as_slice-splits.result.now c.args.stage.now.splits c.inside_parallel.result.now (pure.inside_of (iterations.parallel c.args.stage.now) c.args.stage.now.loops)
+    (whole_size c.in_ok-made.made) (whole_size c.args.store) c.as_slice-splits.ensures c.inside_parallel.ensures c.in_ok-made.ensures.sizes

@@ -2,6 +2,8 @@ use Rattle.std.proofs.Common.{List, subst}
 use Rattle.schedule_lines.specs.declared.stages.Loop.{Loop}
 use Rattle.schedule_lines.specs.declared.stages.Split.{Split}
 use Rattle.stage_loops.specs.Counts.{counts}
+use Rattle.loop_ir.specs.Sizes.{whole_size}
+use Rattle.lowering.proofs.Copies.{same-nest}
 use Rattle.nest_lowering.specs.Rounds.{IsLeaf, MayBeAtOnce, MayBeUnder}
 use Rattle.lowering.proofs.updates.nest_of.Goals as goal
 
@@ -11,3 +13,8 @@ returns-clause-rounds c =
     → MayBeAtOnce c.args.place (counts c.args.extents l) outside c.in_ok-made.made) c.as_slice.ensures
     (subst (λ (ls : List Loop). (outside : List Loop) → IsLeaf c.args.store → MayBeUnder c.args.place c.args.extents c.as_slice.result.now ls outside c.args.store
     → MayBeAtOnce c.args.place (counts c.args.extents c.as_slice.result.now) outside c.in_ok-made.made) c.as_slice-2.ensures c.in_ok-made.ensures.rounds)
+
+pub returns-clause-sizes : goal.returns-clause-sizes
+returns-clause-sizes c =
+    same-nest c.args.extents c.as_slice.result.now c.args.stage.now.splits c.as_slice-2.result.now c.args.stage.now.loops
+    (whole_size c.in_ok-made.made) (whole_size c.args.store) c.as_slice.ensures c.as_slice-2.ensures c.in_ok-made.ensures.sizes

@@ -3,7 +3,7 @@ use Rattle.stage_loops.specs.declared.extents.Extents.{Extents}
 use Rattle.stage_loops.specs.Reach.{wholes}
 use Rattle.nest_lowering.specs.Nests.{AreFew, Repeats}
 use Rattle.inlining.specs.Inlining.{flagged}
-use Rattle.weights.specs.Weight.{flags_of}
+use Rattle.weights.specs.Weight.{flags_of, update_nodes}
 use Rattle.lowering.proofs.Alone.{update_alone, nest_alone}
 use Rattle.lowering.proofs.UpdateNests.{does_nest, sound_nest}
 use Rattle.lowering.proofs.UpdateStages.{splits, few, few_loops, is_box, place_small}
@@ -14,6 +14,8 @@ use Rattle.lowering.proofs.RoundsApart.{update_under}
 use Rattle.lowering.proofs.UpdateStages.{staged}
 use Rattle.halide_pipeline.specs.declared.expressions.Source.TheVariants as sources
 use Rattle.expression_lowering.proofs.Sizing.{short_of}
+use Rattle.loop_ir.specs.Sizes.{whole_size}
+use Rattle.lowering.proofs.Copies.{nest-light}
 use Rattle.lowering.proofs.Sizes.{more-loops, update-counted}
 use Rattle.lowering.proofs.updates.update_nest.Goals as goal
 
@@ -85,7 +87,7 @@ pub returns-clause-sizes : goal.returns-clause-sizes
 returns-clause-sizes c = λ short.
     let facts = staged c.args.pipeline.now c.args.schedule.now c.requires.accepted c.args.place c.args.of.now.func.now c.args.of.now.plan.now c.requires.computed.standing c.requires.computed.func_is c.requires.computed.there c.args.of.now.at c.args.of.now.update.now c.args.of.now.stage.now c.requires.at in
     let more = more-loops c.args.of.now.func.now (Some c.args.of.now.update.now) c.args.of.now.stage.now facts.0 in
-    let same = c.in_ok-made.ensures.sizes in
     let given = c.in_ok-store.ensures.sizes short (short_of c.args.corners.now (sources.Func c.args.place) c.args.corner.now short (sym c.requires.corner)) in
     let counts = update-counted c.args.pipeline.now c.funcs-funcs.ensures.rules (flags_of c.args.schedule.now.standings) c.args.place c.args.of.now.at c.args.of.now.func.now c.args.of.now.update.now c.requires.computed.func_is c.requires.at.update_is in
-    omega (arith, more, same, given, counts)
+    nest-light c.args.of.now.func.now (Some c.args.of.now.update.now) c.update_extents-extents.result c.args.of.now.stage.now facts.0 (whole_size c.in_ok-store.store)
+    (update_nodes (flags_of c.args.schedule.now.standings) c.args.pipeline.now.funcs c.args.of.now.update.now) more (omega (arith, given, counts)) (whole_size c.in_ok-made.made) c.in_ok-made.ensures.sizes

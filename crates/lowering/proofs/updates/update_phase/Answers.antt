@@ -19,8 +19,10 @@ use Rattle.nest_lowering.proofs.Few.{few_turns}
 use Rattle.lowering.proofs.RoundsApart.{update_under, counted_at_root}
 use Rattle.lowering.proofs.TaskRounds.{outside_of, loops_by, tasks_at_once}
 use Rattle.lowering.proofs.UpdateStages.{staged}
-use Rattle.weights.specs.Weight.{flags_of}
-use Rattle.lowering.proofs.Sizes.{inside-fewer, more-loops, update-counted}
+use Rattle.weights.specs.Weight.{flags_of, update_nodes}
+use Rattle.loop_ir.specs.Sizes.{whole_size}
+use Rattle.lowering.proofs.Copies.{task-light}
+use Rattle.lowering.proofs.Sizes.{more-loops, update-counted}
 use Rattle.lowering.proofs.updates.update_phase.Goals as goal
 
 -- src/updates.rt:120:9
@@ -142,8 +144,7 @@ pub returns-clause-sizes : goal.returns-clause-sizes
 returns-clause-sizes c =
     let facts = staged c.args.pipeline.now c.args.schedule.now c.requires.accepted c.args.place c.args.of.now.func.now c.args.of.now.plan.now c.requires.root.standing c.requires.root.func_is c.requires.root.there c.args.of.now.at c.args.of.now.update.now c.args.of.now.stage.now c.requires.at in
     let more = more-loops c.args.of.now.func.now (Some c.args.of.now.update.now) c.args.of.now.stage.now facts.0 in
-    let fewer = inside-fewer (iterations.parallel c.args.of.now.stage.now) c.args.of.now.stage.now.loops in
-    let same = c.in_ok-body.ensures.sizes in
     let given = c.in_ok-store.ensures.sizes in
     let counts = update-counted c.args.pipeline.now c.inputs.ensures.rules (flags_of c.args.schedule.now.standings) c.args.place c.args.of.now.at c.args.of.now.func.now c.args.of.now.update.now c.requires.root.func_is c.requires.at.update_is in
-    omega (arith, more, fewer, same, given, counts)
+    task-light c.args.of.now.func.now (Some c.args.of.now.update.now) c.update_extents-extents.result c.args.of.now.stage.now facts.0 (whole_size c.in_ok-store.store)
+    (update_nodes (flags_of c.args.schedule.now.standings) c.args.pipeline.now.funcs c.args.of.now.update.now) more (omega (arith, given, counts)) (iterations.parallel c.args.of.now.stage.now) (whole_size c.in_ok-body.body) c.in_ok-body.ensures.sizes

@@ -1,6 +1,8 @@
 use Rattle.nest_lowering.proofs.Nesting.{nested_repeats}
 use Rattle.stage_loops.specs.Counts as loops
+use Rattle.loop_ir.specs.Sizes.{whole_size}
 use Rattle.nest_lowering.proofs.Rounds.{goes_around_more}
+use Rattle.nest_lowering.proofs.Sizing.{nested_size}
 use Rattle.nest_lowering.proofs.loops.+with_loops.Goals as goal
 
 pub returns-in_ok-made-in-len1-up-clause-repeats : goal.returns-in_ok-made-in-len1-up-clause-repeats
@@ -12,3 +14,8 @@ pub returns-in_ok-made-in-len1-up-clause-rounds : goal.returns-in_ok-made-in-len
 returns-in_ok-made-in-len1-up-clause-rounds t c =
     goes_around_more c.args.func (loops.counts c.args.sizes.now.extents c.args.sizes.now.splits) c.args.loops.now c.own-item.result c.in_ok-made-in-len1-up.made c.in_ok-inner-in-len1-up.inner c.args.body
     c.in-len1-up.len_at_least c.own-item.is c.in_ok-inner-in-len1-up.ensures.rounds c.in_ok-made-in-len1-up.ensures.rounds
+
+pub returns-in_ok-made-in-len1-up-clause-sizes : goal.returns-in_ok-made-in-len1-up-clause-sizes
+returns-in_ok-made-in-len1-up-clause-sizes t c =
+    nested_size (loops.counts c.args.sizes.now.extents c.args.sizes.now.splits) c.args.loops.now c.own-item.result (whole_size c.in_ok-made-in-len1-up.made) (whole_size c.in_ok-inner-in-len1-up.inner)
+    (whole_size c.args.body) c.in-len1-up.len_at_least c.own-item.is c.in_ok-inner-in-len1-up.ensures.sizes c.in_ok-made-in-len1-up.ensures.sizes

@@ -1,10 +1,12 @@
 use Rattle.std.proofs.Common.{ℕ, subst}
 use Rattle.stage_loops.specs.Counts as loops
 use Rattle.stage_loops.specs.Visits.{upto}
+use Rattle.loop_ir.specs.Sizes.{whole_size}
 use Rattle.nest_lowering.specs.Nests.{Repeats}
 use Rattle.nest_lowering.proofs.Repeating.{loop_repeats}
 use Rattle.nest_lowering.proofs.Rounds.{goes_around}
 use Rattle.nest_lowering.proofs.Runs.{loop_about, loop_runs}
+use Rattle.nest_lowering.proofs.Sizing.{once_size}
 use Rattle.nest_lowering.proofs.loops.loop_once.Goals as goal
 
 pub returns-clause-repeats : goal.returns-clause-repeats
@@ -14,15 +16,20 @@ returns-clause-repeats c = λ leaf list repeats.
 
 pub returns-clause-rounds : goal.returns-clause-rounds
 returns-clause-rounds c =
-    goes_around c.args.func (loops.counts c.args.sizes.now.extents c.args.sizes.now.splits) c.args.own.now c.args.body c.in_ok-made.made c.kind_of-kind.result c.kind_of-kind.ensures
+    goes_around c.args.func (loops.counts c.args.sizes.now.extents c.args.sizes.now.splits) c.args.own.now c.args.body c.in_ok-made.made c.kind_of-kind.result c.kind_of-kind.ensures.vectorized
     c.extent_of-count.result c.extent_of-count.ensures.is c.extent_of-count.ensures.few c.in_ok-made.ensures.rounds
 
 pub returns-clause-about : goal.returns-clause-about
 returns-clause-about c =
-    loop_about c.args.func (loops.counts c.args.sizes.now.extents c.args.sizes.now.splits) c.args.own.now c.args.body c.in_ok-made.made c.kind_of-kind.result c.kind_of-kind.ensures
+    loop_about c.args.func (loops.counts c.args.sizes.now.extents c.args.sizes.now.splits) c.args.own.now c.args.body c.in_ok-made.made c.kind_of-kind.result c.kind_of-kind.ensures.vectorized
     c.extent_of-count.result c.extent_of-count.ensures.is c.in_ok-made.ensures.about
 
 pub returns-clause-in_runs : goal.returns-clause-in_runs
 returns-clause-in_runs c =
-    loop_runs c.args.func (loops.counts c.args.sizes.now.extents c.args.sizes.now.splits) c.args.own.now c.args.body c.in_ok-made.made c.kind_of-kind.result c.kind_of-kind.ensures
+    loop_runs c.args.func (loops.counts c.args.sizes.now.extents c.args.sizes.now.splits) c.args.own.now c.args.body c.in_ok-made.made c.kind_of-kind.result c.kind_of-kind.ensures.vectorized
     c.extent_of-count.result c.extent_of-count.ensures.is c.in_ok-made.ensures.in_runs
+
+pub returns-clause-sizes : goal.returns-clause-sizes
+returns-clause-sizes c =
+    once_size (loops.counts c.args.sizes.now.extents c.args.sizes.now.splits) c.args.own.now c.kind_of-kind.result c.kind_of-kind.ensures.unrolled c.extent_of-count.result c.extent_of-count.ensures.is
+    (whole_size c.in_ok-made.made) (whole_size c.args.body) c.in_ok-made.ensures.sizes

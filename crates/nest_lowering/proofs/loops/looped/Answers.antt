@@ -1,4 +1,4 @@
-use Rattle.std.proofs.Common.{◌+◌, suc, ap, ◌∙◌}
+use Rattle.std.proofs.Common.{suc, ap, ◌∙◌}
 use Rattle.loop_ir.specs.declared.statements.Stmt.{Stmt}
 use Rattle.loop_ir.specs.declared.statements.Stmt.TheOpen as layer
 use Rattle.loop_ir.specs.Counters.{with}
@@ -7,7 +7,7 @@ use Rattle.loop_ir.specs.Needs.{greatest_need}
 use Rattle.loop_ir.specs.Rounds.{rounds, rounds_at}
 use Rattle.loop_ir.specs.Running.{run, turns}
 use Rattle.loop_ir.specs.Runs.{is_about, is_about_at, runs, runs_at}
-use Rattle.loop_ir.specs.Sizes.{whole_size}
+use Rattle.loop_ir.specs.Sizes.{is_laid_out, loop_room, whole_size}
 use Rattle.loop_ir.specs.Soundness.{every, is_sound}
 use Rattle.loop_ir.specs.Stores.{trace}
 use Rattle.loop_ir.proofs.Depths.{depth_for}
@@ -57,4 +57,4 @@ returns-clause-in_runs c = λ reads place x y expected.
     ∙ ap (λ (own : Stmt). runs_at reads place x y expected (layer.For c.args.counter c.args.count c.args.kind (runs reads place x y expected own))) c.in_ok-body.ensures
 
 pub returns-clause-sizes : goal.returns-clause-sizes
-returns-clause-sizes c = whole_for c.args.counter c.args.count c.args.kind c.in_ok-body.body ∙ ap (λ (own : Stmt). whole_size own + 7) c.in_ok-body.ensures
+returns-clause-sizes c = whole_for c.args.counter c.args.count c.args.kind c.in_ok-body.body ∙ ap (λ (own : Stmt). loop_room (is_laid_out c.args.kind) c.args.count (whole_size own)) c.in_ok-body.ensures

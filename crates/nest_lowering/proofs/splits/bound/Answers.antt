@@ -54,4 +54,4 @@ pub returns-clause-about : goal.returns-clause-about
 returns-clause-about c = λ of. about_bind of c.args.counter c.args.whole c.args.extent c.in_ok-body.body ∙ ap (is_about of) c.in_ok-body.ensures
 
 pub returns-clause-sizes : goal.returns-clause-sizes
-returns-clause-sizes c = whole_bind c.args.counter c.args.whole c.args.extent c.in_ok-body.body ∙ ap (λ (own : Stmt). whole_size own + 14) c.in_ok-body.ensures
+returns-clause-sizes c = whole_bind c.args.counter c.args.whole c.args.extent c.in_ok-body.body ∙ ap (λ (own : Stmt). whole_size own + 25) c.in_ok-body.ensures
