@@ -30,14 +30,14 @@ use Rattle.scalar_code.specs.declared.places.Pixels.{Pixels}
 use Rattle.scalar_code.specs.declared.places.Pixels.TheVariants as pixels
 use Rattle.scalar_code.specs.declared.places.Place.{Place}
 use Rattle.scalar_code.specs.Code.{place_of, pixel_bytes, address, frames_of, frame_words}
-use Rattle.scalar_code.specs.Evaluation.{load_op}
+use Rattle.scalar_code.specs.Evaluation.{load_op, word_start}
 use Rattle.scalar_code.specs.Layout.{IsAt, MayStore, MayLoad, OwnsFrame, Laid}
 use Rattle.scalar_code.proofs.FrameUses.{frames-lie}
 use Rattle.phase_memory.specs.Uses.{Owners, greatest, use_of_owner, use_of, width_in, points_in, width_of, copy_bytes}
 use Rattle.phase_memory.specs.Points.{RootPoint, PrivatePoint, InputPoint, part, address_at, IsWordOf}
 use Rattle.phase_memory.specs.Settings.{OneOwner, places, size, uses, task_world, IsWritten, IsLoaded, Touches, TasksAreLaid}
 use Rattle.phase_memory.proofs.Listing.{privates-four}
-use Rattle.phase_memory.proofs.There.{within, privates-start, total-four, roots-are-there, copies-are-there, word-inputs-are-there, byte-inputs-are-there, root-place, copies-place, input-place-is}
+use Rattle.phase_memory.proofs.There.{within, privates-start, total-four, roots-are-there, copies-are-there, word-inputs-are-there, byte-inputs-are-there, byte-words-are-there, root-place, copies-place, input-place-is}
 
 -- ---- owners
 
@@ -277,8 +277,8 @@ module _ (pipeline : Pipeline) (schedule : Schedule) (boxes : List (Option Sourc
           record { column = omega (arith, c0, k); row = omega (arith, c1, k) }
 
   loadable : (source : Source) (x y w : ℕ) (s : Size) → (place_of (places pipeline schedule boxes) source).width ≡ w → x < w → load_size (load_op (place_of (places pipeline schedule boxes) source).pixels) ≡ s
-      → at source x y < 2 ^ 32 → Readable world s (at source x y) → MayLoad world (places pipeline schedule boxes) (record { source = source; x = x; y = y })
-  loadable source x y w s wide l size_is low may =
+      → at source x y < 2 ^ 32 → Readable world s (at source x y) → Readable world Word (word_start (at source x y)) → MayLoad world (places pipeline schedule boxes) (record { source = source; x = x; y = y })
+  loadable source x y w s wide l size_is low may whole =
       let c = near (place_of (places pipeline schedule boxes) source) x y (omega (arith, wide, l)) low in
       let c0 = c.column in
       let c1 = c.row in
@@ -287,7 +287,12 @@ module _ (pipeline : Pipeline) (schedule : Schedule) (boxes : List (Option Sourc
         row = omega (arith, c1);
         low = low;
         may = subst (λ z. Readable world z (at source x y)) (sym size_is) may;
+        whole = whole;
       }
+
+  -- a word holds itself
+  itself : (a : ℕ) → Readable world Word a → Readable world Word (word_start a)
+  itself a may = let o = may.aligned in let e : a ≡ a / 4 * 4 = omega (arith, o) in subst (Readable world Word) e may
 
   root-loaded : (func x y : ℕ) → RootPoint pipeline schedule boxes func x y → (func ≡ owners.func → owners.owns task x y ≡ true) → Readable world Word (at (sources.Func func) x y)
   root-loaded func x y r own = elim (cases_eq func owners.func) [
@@ -301,9 +306,9 @@ module _ (pipeline : Pipeline) (schedule : Schedule) (boxes : List (Option Sourc
       let there = word-inputs-are-there pipeline schedule boxes hart place x y p e in
       let is = input-place-is pipeline schedule boxes place x y p false e in
       let b = there.below in
+      let may = readable (at (sources.Input place) x y) (λ byte. InputPart place (4 * (y * p.input.width + x) + byte)) Fixed there (λ byte l. ap (use_of boxes number owners) (there.parts byte l)) tt in
       loadable (sources.Input place) x y p.input.width Word (ap (λ (z : Place). z.width) is) p.column (ap (λ (z : Place). load_size (load_op z.pixels)) is)
-      (lower (at (sources.Input place) x y) (omega (arith, b)))
-      (readable (at (sources.Input place) x y) (λ byte. InputPart place (4 * (y * p.input.width + x) + byte)) Fixed there (λ byte l. ap (use_of boxes number owners) (there.parts byte l)) tt)
+      (lower (at (sources.Input place) x y) (omega (arith, b))) may (itself (at (sources.Input place) x y) may)
   input-loaded place x y p true e =
       let there = byte-inputs-are-there pipeline schedule boxes hart place x y p e in
       let is = input-place-is pipeline schedule boxes place x y p true e in
@@ -316,16 +321,20 @@ module _ (pipeline : Pipeline) (schedule : Schedule) (boxes : List (Option Sourc
         below = there.below;
         may = (subst (λ v. MayRead (Task task) hart v) (sym (ap (use_of boxes number owners) there.is_part)) tt, tt);
       })
+      (let held = byte-words-are-there pipeline schedule boxes hart place x y p e in
+      readable (word_start (at (sources.Input place) x y)) (λ byte. InputPart place ((y * p.input.width + x) / 4 * 4 + byte)) Fixed held (λ byte l. ap (use_of boxes number owners) (held.parts byte l)) tt)
 
   pub loaded_at : (source : Source) (x y : ℕ) → IsLoaded pipeline schedule boxes number owners task source x y → MayLoad world (places pipeline schedule boxes) (record { source = source; x = x; y = y })
   loaded_at (sources.Input place) x y p = input-loaded place x y p p.input.is_bytes refl
   loaded_at (sources.Func func) x y (inl r) =
       let is = root-place pipeline schedule boxes func x y r.0 in
       loadable (sources.Func func) x y (extent r.0.own.x) Word (ap (λ (z : Place). z.width) is) r.0.column (ap (λ (z : Place). load_size (load_op z.pixels)) is) (root-lower func x y r.0) (root-loaded func x y r.0 r.1)
+      (itself (at (sources.Func func) x y) (root-loaded func x y r.0 r.1))
   loaded_at (sources.Func func) x y (inr p) =
       let is = copies-place pipeline schedule boxes func x y p in
-      loadable (sources.Func func) x y (extent p.own.x) Word (ap (λ (z : Place). z.width) is) p.column (ap (λ (z : Place). load_size (load_op z.pixels)) is) (copy-lower func x y p)
-      (readable (at (sources.Func func) x y) (copy_part func x y p) (Private hart) (copy-there func x y p) (copy-byte func x y p) refl)
+      let may = readable (at (sources.Func func) x y) (copy_part func x y p) (Private hart) (copy-there func x y p) (copy-byte func x y p) refl in
+      loadable (sources.Func func) x y (extent p.own.x) Word (ap (λ (z : Place). z.width) is) p.column (ap (λ (z : Place). load_size (load_op z.pixels)) is) (copy-lower func x y p) may
+      (itself (at (sources.Func func) x y) may)
 
   -- ---- bytes that meet
 

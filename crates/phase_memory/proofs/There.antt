@@ -1,5 +1,5 @@
 -- Points of buffers lie where the layout has them.
-use Rattle.std.proofs.Common.{◌≡◌, ℕ, suc, ◌+◌, ◌*◌, ◌/◌, ◌%◌, ◌<◌, ◌≤◌, List, [], ◌∷◌, length, Option, Some, Bool, refl, ap, ◌∙◌, arith}
+use Rattle.std.proofs.Common.{◌≡◌, ℕ, suc, ◌+◌, ◌*◌, ◌/◌, ◌%◌, ◌<◌, ◌≤◌, List, [], ◌∷◌, length, Option, Some, Bool, true, refl, ap, ◌∙◌, arith}
 use Rattle.std.specs.Prelude.{slice_get, slice_index, if◌then◌else◌}
 use Rattle.std.specs.List.{AllByRecursion}
 use Rattle.std.proofs.Math.Nat.{mul-le-mul_right}
@@ -12,14 +12,15 @@ use Rattle.schedule.specs.declared.standings.Standing.{Standing}
 use Rattle.bounds.specs.declared.boxes.SourceBox.{SourceBox}
 use Rattle.bounds.specs.Boxes.{extent, points}
 use Rattle.bounds.specs.Layout.{data_start, laid_in, laid_out, root_bytes, private_bytes, placed, total}
-use Rattle.data_parts.specs.Parts.{Sizes, sizes_of, part_at}
+use Rattle.data_parts.specs.Parts.{Input as InputPart, Sizes, sizes_of, part_at}
 use Rattle.data_parts.specs.Finding.{inputs_at, roots_at, privates_at}
 use Rattle.data_parts.proofs.Finding.{parts-end, parts-aligned, inputs-found, roots-found, copies-found}
 use Rattle.scalar_code.specs.declared.places.Pixels.TheVariants as pixels
 use Rattle.scalar_code.specs.declared.places.Place.{Place}
 use Rattle.scalar_code.specs.Code.{place_of, address}
+use Rattle.scalar_code.specs.Evaluation.{word_start}
 use Rattle.phase_memory.specs.Places.{input_place, func_place, places_of}
-use Rattle.phase_memory.specs.Points.{RootPoint, PrivatePoint, InputPoint, address_at, RootsAreThere, CopiesAreThere, WordInputsAreThere, ByteInputsAreThere}
+use Rattle.phase_memory.specs.Points.{RootPoint, PrivatePoint, InputPoint, IsWordOf, address_at, RootsAreThere, CopiesAreThere, WordInputsAreThere, ByteInputsAreThere}
 use Rattle.phase_memory.proofs.Listing.{there-below, placed-length, input-at, input-size, sizes-length, inputs-four, func-at, root-size, private-size, root-below, private-below, roots-four, privates-four}
 
 -- the number of a point, by rows
@@ -188,6 +189,34 @@ byte-inputs-are-there pipeline schedule boxes hart place x y p bytes =
       above = omega (arith, at, e0);
       below = omega (arith, at, e1, all, size, few);
       is_part = ap (part_at s) at ∙ inputs-found s place k (omega (arith, size, few));
+    }
+
+-- the word that holds such a byte is padded with others of the input
+pub byte-words-are-there : (pipeline : Pipeline) (schedule : Schedule) (boxes : List (Option SourceBox)) (hart place x y : ℕ) → (point : InputPoint pipeline schedule boxes place x y) → point.input.is_bytes ≡ true
+    → IsWordOf pipeline schedule boxes (word_start (address_at pipeline schedule boxes hart (sources.Input place) x y)) (λ byte. InputPart place ((y * point.input.width + x) / 4 * 4 + byte))
+byte-words-are-there pipeline schedule boxes hart place x y p bytes =
+    let s = sizes_of pipeline schedule boxes in
+    let r = slice_index (placed (inputs_at s) s.inputs) place in
+    let own = p.input in
+    let k = y * own.width + x in
+    let few = within own.width own.height x y p.column p.row in
+    let there = input-place-at pipeline schedule boxes place own p.input_is ∙ ap (λ b. record { start = r; width = own.width; distance = 0; pixels = if b then pixels.Bytes else pixels.Words }) bytes in
+    let at : address_at pipeline schedule boxes hart (sources.Input place) x y ≡ r + k = ap (λ z. address z hart x y) there ∙ (let q : r + 0 * hart + 1 * k ≡ r + k = omega arith in q) in
+    let size : slice_index s.inputs place ≡ (own.width * own.height + 3) / 4 * 4 = input-size pipeline.inputs place own p.input_is ∙ ap (λ b. if b then (own.width * own.height + 3) / 4 * 4 else own.width * own.height * 4) bytes in
+    let below : place < length s.inputs = let a = there-below pipeline.inputs place own p.input_is in let b = sizes-length pipeline.inputs in omega (arith, a, b) in
+    let ends = parts-end (inputs_at s) s.inputs place below in
+    let e0 = ends.0 in
+    let e1 = ends.1 in
+    let all = inputs-within pipeline schedule boxes in
+    let four : r % 4 ≡ 0 = parts-aligned (inputs_at s) s.inputs place below (let q : inputs_at s % 4 ≡ 0 = omega arith in q) (inputs-four pipeline.inputs) in
+    let start : word_start (address_at pipeline schedule boxes hart (sources.Input place) x y) ≡ r + k / 4 * 4 = ap word_start at ∙ (let q : (r + k) / 4 * 4 ≡ r + k / 4 * 4 = omega (arith, four) in q) in
+    record {
+      aligned = ap (λ n. n % 4) start ∙ (let q : (r + k / 4 * 4) % 4 ≡ 0 = omega (arith, four) in q);
+      above = omega (arith, start, e0);
+      below = omega (arith, start, e1, all, size, few);
+      parts = λ byte l.
+          let q : word_start (address_at pipeline schedule boxes hart (sources.Input place) x y) + byte ≡ r + (k / 4 * 4 + byte) = omega (arith, start) in
+          ap (part_at s) q ∙ inputs-found s place (k / 4 * 4 + byte) (omega (arith, size, few, l));
     }
 
 -- ---- how buffers lie

@@ -8,6 +8,8 @@ pub mod FrameUses
 pub mod Going
 pub mod Keeping
 pub mod Looping
+pub mod Copying
+pub mod CopyWords
 pub mod Numbers
 pub mod Placing
 pub mod Quotients

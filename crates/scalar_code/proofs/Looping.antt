@@ -1,6 +1,6 @@
 -- The code of a loop does its turns, and the code of a test makes its body or passes it by.
 use Rattle.std.proofs.Common.{◌≡◌, ℕ, zero, suc, ◌+◌, ◌-◌, ◌*◌, ◌%◌, ◌^◌, ◌<◌, ◌≤◌, List, [], ◌∷◌, ◌++◌, length, true, false, refl, ap, ◌∙◌, sym, subst, arith, inl, inr}
-use Rattle.std.specs.Prelude.{◌≢◌, ◌⊎◌, Bool, ◌&&◌, nat_lt, pos}
+use Rattle.std.specs.Prelude.{◌≢◌, ◌⊎◌, Bool, nat_lt, pos}
 use Rattle.std.proofs.lemmas.Bool.{and_parts, cases_lt}
 use Rattle.loop_ir.specs.Soundness.{every}
 use Rattle.std.proofs.lemmas.Bool.Decides.{nat_tests}

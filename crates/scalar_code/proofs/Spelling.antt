@@ -1,5 +1,5 @@
 -- Words that spell instructions stand in the text that they are a part of.
-use Rattle.std.proofs.Common.{◌≡◌, ℕ, suc, ◌+◌, ◌-◌, ◌*◌, ◌/◌, ◌%◌, ◌<◌, ◌≤◌, List, [], ◌∷◌, ◌++◌, length, Some, false, refl, ap, ◌∙◌, sym, subst, arith, append_assoc, length-append}
+use Rattle.std.proofs.Common.{◌≡◌, ℕ, suc, ◌+◌, ◌-◌, ◌*◌, ◌/◌, ◌%◌, ◌<◌, ◌≤◌, List, [], ◌∷◌, ◌++◌, length, Some, false, refl, ap, ◌∙◌, sym, subst, arith, append_assoc, append-nil, length-append}
 use Rattle.std.specs.Prelude.{nat_lt, slice_get}
 use Rattle.std.proofs.Math.Seq.{get_or-append_seam}
 use Rattle.std.proofs.lemmas.Option.{slice_get-get_or}
@@ -22,6 +22,10 @@ emits_then {a} {b} {c} {is} {js} x y = record {
   appended = y.appended ∙ ap (λ z. z ++ y.words) x.appended ∙ append_assoc a x.words y.words;
   spelled = spell-append x.words y.words is js x.spelled y.spelled;
 }
+
+-- no words
+pub emits-none : (old : List ℕ) → Emits old old []
+emits-none old = record { words = []; appended = sym (append-nil old); spelled = tt }
 
 pub emits-is : {a b : List ℕ} {is js : List Insn} → Emits a b is → is ≡ js → Emits a b js
 emits-is {a} {b} {is} {js} x e = subst (Emits a b) e x

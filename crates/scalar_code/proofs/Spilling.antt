@@ -133,7 +133,7 @@ module _ (own : Setting) (good : IsSetting own) (scope : List Counter) (values :
   loads-may : (memory : List ℕ) → HoldsFuncs own memory funcs → (point : Point) → own.loaded point ≡ true → Loads w own.places memory reads point
   loads-may memory holds point is =
       let may = good.laid.loads point is in
-      record { low = may.low; may = may.may; holds = holds.holds point is; is_word = small point.source point.x point.y may.column may.row; are_bytes = holds.are_bytes }
+      record { low = may.low; may = may.may; holds = holds.holds point is; is_word = small point.source point.x point.y may.column may.row; are_bytes = holds.are_bytes; whole = may.whole }
     where
       small : (source : Source) (x y : ℕ) → x < 2 ^ 32 → y < 2 ^ 32 → reads_of own.inputs funcs source x y < 2 ^ 32
       small (sources.Input k) x y lx ly = good.are_words k x y lx ly

@@ -5,7 +5,7 @@
 -- x15 holds a store's column or address while its other parts are made,
 -- and before that how many rounds of a vectorized loop are left. Behind a task's last statement x13 to x16 are set anew.
 -- Values of an expression that the stack has no room for wait in the hart's frame, from its first word on.
-use Rattle.std.specs.Prelude.{◌≡◌, ◌<◌, ◌≤◌, ℕ, ◌+◌, ◌-◌, ◌*◌, ◌/◌, ◌%◌, ◌^◌, ◌==◌, ◌&&◌, Bool, true, false, nat_le, nat_lt, if◌then◌else◌, List, [], ◌∷◌, ◌++◌, length, ℤ, pos, negsuc, max, slice_index_or, Option, Some, None}
+use Rattle.std.specs.Prelude.{◌≡◌, ◌<◌, ◌≤◌, ℕ, zero, suc, ◌+◌, ◌-◌, ◌*◌, ◌/◌, ◌%◌, ◌^◌, ◌==◌, ◌&&◌, Bool, true, false, nat_le, nat_lt, if◌then◌else◌, List, [], ◌∷◌, ◌++◌, length, ℤ, pos, negsuc, max, slice_index_or, Option, Some, None}
 use Rattle.rv_insn.specs.declared.instructions.Insn.{Insn}
 use Rattle.rv_insn.specs.declared.instructions.Insn.TheVariants.{Lui, Jal, Branch, Load, Store as Save, AluImm, Shift, Alu}
 use Rattle.rv_insn.specs.declared.operations.BranchOp.TheVariants as branches
@@ -28,6 +28,7 @@ use Rattle.loop_ir.specs.declared.expressions.Term.{Term}
 use Rattle.loop_ir.specs.declared.statements.Store.{Store}
 use Rattle.loop_ir.specs.declared.statements.Whole.{Whole}
 use Rattle.loop_ir.specs.Counters.{same_counter}
+use Rattle.loop_ir.specs.Sizes.{are_copies}
 use Rattle.scalar_code.specs.Words.{Emits}
 use Rattle.scalar_code.specs.declared.places.Place.{Place}
 use Rattle.scalar_code.specs.declared.places.Pixels.{Pixels}
@@ -385,6 +386,19 @@ loop_tail r words = AluImm alu_imms.Addi r r (pos 1) ∷ Jal 0 (back (words + 5)
 
 abbrev pub loop_code : ℕ → ℕ → List Insn → List Insn
 loop_code r n body = move r 0 ++ (test r n (length body + 3) ++ (body ++ loop_tail r (length body)))
+
+-- so many copies of the body, each with the next value's turn behind it
+unfoldable pub copies_code : ℕ → ℕ → List Insn → List Insn
+copies_code r zero body = []
+copies_code r (suc n) body = copies_code r n body ++ (body ++ AluImm alu_imms.Addi r r (pos 1) ∷ [])
+
+-- a loop that is laid out: a copy of its body for each round, and no jump
+abbrev pub laid_out_code : ℕ → ℕ → List Insn → List Insn
+laid_out_code r n body = move r 0 ++ copies_code r n body
+
+-- a loop's rounds in turn, laid out or counted
+abbrev pub turns_code : Bool → ℕ → ℕ → List Insn → List Insn
+turns_code is_laid r n body = if are_copies is_laid n then laid_out_code r n body else loop_code r n body
 
 -- r becomes at most so much
 abbrev pub bounded : Option ℕ → ℕ → List Insn

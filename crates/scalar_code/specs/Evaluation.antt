@@ -1,8 +1,8 @@
 -- What the code of an expression leaves: the expression's value, where registers hold the counters and memory what is loaded.
 -- This project's own.
-use Rattle.std.specs.Prelude.{◌≡◌, ◌<◌, ◌≤◌, ℕ, ◌+◌, ◌^◌, true, List, length}
+use Rattle.std.specs.Prelude.{◌≡◌, ◌<◌, ◌≤◌, ℕ, ◌+◌, ◌*◌, ◌/◌, ◌^◌, true, List, length}
 use Rattle.std.specs.List.{AllByRecursion}
-use Rattle.memory.specs.Access.{number_in}
+use Rattle.memory.specs.Access.{Word, number_in}
 use Rattle.memory.specs.Addresses.{AreBytes}
 use Rattle.rv_insn.specs.declared.operations.LoadOp.{LoadOp}
 use Rattle.rv_insn.specs.declared.operations.LoadOp.TheVariants as load_ops
@@ -44,13 +44,18 @@ abbrev pub load_op : Pixels → LoadOp
 load_op pixels.Words = load_ops.Lw
 load_op pixels.Bytes = load_ops.Lbu
 
--- a point of a source may be loaded, and memory, which holds bytes, has there what reads of it answer
+-- where the word begins that holds a byte
+abbrev pub word_start : ℕ → ℕ
+word_start byte = byte / 4 * 4
+
+-- a point of a source may be loaded, as may the word that holds it, and memory, which holds bytes, has there what reads of it answer
 pub record LoadsAt (world : World) (place : Place) (memory : List ℕ) (x y pixel : ℕ) : Type 0 where
   pub low : address place world.hart x y < 2 ^ 32
   pub may : Readable world (load_size (load_op place.pixels)) (address place world.hart x y)
   pub holds : number_in world.text memory (load_size (load_op place.pixels)) (address place world.hart x y) ≡ pixel
   pub is_word : pixel < 2 ^ 32
   pub are_bytes : AreBytes memory
+  pub whole : Readable world Word (word_start (address place world.hart x y))
 
 abbrev pub Loads : World → Places → List ℕ → Reads → Point → Type 0
 Loads world places memory reads point = LoadsAt world (place_of places point.source) memory point.x point.y (reads point.source point.x point.y)

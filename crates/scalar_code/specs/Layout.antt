@@ -13,7 +13,7 @@ use Rattle.lone_hart.specs.Uses.{Private, Task}
 use Rattle.scalar_code.specs.declared.places.Pixels.TheVariants as pixels
 use Rattle.scalar_code.specs.declared.places.Places.{Places}
 use Rattle.scalar_code.specs.Code.{place_of, pixel_bytes, address, frames_of, frame_words}
-use Rattle.scalar_code.specs.Evaluation.{load_op}
+use Rattle.scalar_code.specs.Evaluation.{load_op, word_start}
 
 -- ---- one point
 
@@ -49,12 +49,13 @@ pub record MayStore (world : World) (places : Places) (func x y : ℕ) : Type 0 
   pub low : address_of world places (func_point func x y) < 2 ^ 32
   pub may : Writable world Word (address_of world places (func_point func x y))
 
--- a point of any source may be loaded
+-- a point of any source may be loaded, and the word that holds it
 pub record MayLoad (world : World) (places : Places) (point : Point) : Type 0 where
   pub column : point.x < 2 ^ 32
   pub row : point.y < 2 ^ 32
   pub low : address_of world places point < 2 ^ 32
   pub may : Readable world (size_of places point) (address_of world places point)
+  pub whole : Readable world Word (word_start (address_of world places point))
 
 -- the address of a word of the hart's frame
 abbrev pub frame_word : World → Places → ℕ → ℕ

@@ -1,6 +1,7 @@
 //! The code of loops and of tests on split loops, around the words of their bodies.
 
-ghost use Rattle.std.specs.Prelude.{◌≡◌, ℕ, List, ◌+◌, ◌^◌, ◌<◌, ◌≤◌, [], ◌∷◌, ◌++◌, length, OnErr, OnOk, IfErr, IfOk, true};
+ghost use Rattle.std.specs.Prelude.{◌≡◌, ℕ, List, ◌+◌, ◌*◌, ◌^◌, ◌<◌, ◌≤◌, [], ◌∷◌, ◌++◌, length, OnErr, OnOk, IfErr, IfOk, true};
+ghost use Rattle.loop_ir.specs.Sizes as sizes;
 ghost use Rattle.rv_insn.specs.declared.instructions.Insn.{Insn as Instruction};
 ghost use Rattle.scalar_code.specs.Code as spec;
 ghost use Rattle.scalar_code.specs.Faults.{IsFault};
@@ -47,7 +48,7 @@ pub fn append(code: &mut Vec<u32>, more: &[u32]) -> Result<(), AllocError>
 }
 
 /// Appends a loop of so many rounds around the words of its body, whose counter has this register.
-pub fn emit_loop(code: &mut Vec<u32>, r: u8, count: u32, body: &[u32]) -> Result<(), CodeFault>
+fn emit_loop(code: &mut Vec<u32>, r: u8, count: u32, body: &[u32]) -> Result<(), CodeFault>
     requires { r < 32 }
     ensures ok { OnOk result (((insns : List Instruction) → Emits [] body.now insns → Emits code.old.items code.new.items (spec.loop_code r count insns)) × (count < 2 ^ 32)) }
     ensures err { IfErr result (IsFault (2 ^ 18 ≤ length body.now + 7) ⊥) }
@@ -61,6 +62,68 @@ pub fn emit_loop(code: &mut Vec<u32>, r: u8, count: u32, body: &[u32]) -> Result
     append(code, body)?;
     alu_small(code, AluImmOp::Addi, r, r, 1)?;
     jump_back(code, words + 5)?;
+    Ok(())
+}
+
+/// Appends so many copies of the words of a loop's body, each with the turn of its counter's next value behind it.
+fn emit_copies(code: &mut Vec<u32>, r: u8, count: u32, body: &[u32]) -> Result<(), AllocError>
+    requires { r < 32 }
+    ensures { OnOk result ((insns : List Instruction) → Emits [] body.now insns → Emits code.old.items code.new.items (spec.copies_code r count insns)) }
+{
+    for _made in 0..count {
+        append(code, body)?;
+        alu_small(code, AluImmOp::Addi, r, r, 1)?;
+    }
+    Ok(())
+}
+
+/// Whether so many copies of so many words, each with one behind it, are as many words as a text may have.
+fn are_long(count: u32, words: usize) -> bool
+    requires { words < 2 ^ 62 }
+    ensures { result ≡ true → 2 ^ 18 ≤ count * (words + 1) + 1 }
+{
+    (count as u64).saturating_mul(words as u64 + 1) >= 1 << 18
+}
+
+/// Appends the rounds of a loop one behind the other, a copy of its body's words for each; the counter has this register.
+fn emit_laid_out(code: &mut Vec<u32>, r: u8, count: u32, body: &[u32]) -> Result<(), CodeFault>
+    requires { r < 32 }
+    ensures ok { OnOk result ((insns : List Instruction) → Emits [] body.now insns → Emits code.old.items code.new.items (spec.laid_out_code r count insns)) }
+    ensures small { OnOk result (count < 2 ^ 32) }
+    ensures err { IfErr result (IsFault (2 ^ 18 ≤ count * (length body.now + 1) + 1) ⊥) }
+{
+    if are_long(count, body.len()) {
+        return Err(CodeFault::TooLong);
+    }
+    emit_move(code, r, 0)?;
+    emit_copies(code, r, count, body)?;
+    Ok(())
+}
+
+/// Whether there is a copy of a loop's body for each round.
+pub fn are_copies(is_laid: bool, count: u32) -> bool
+    ensures { result ≡ sizes.are_copies is_laid count }
+{
+    is_laid && count > 0
+}
+
+/// Appends the rounds of a loop in turn around the words of its body: laid out, or counted.
+pub fn emit_turns(
+    code: &mut Vec<u32>,
+    is_laid: bool,
+    r: u8,
+    count: u32,
+    body: &[u32],
+) -> Result<(), CodeFault>
+    requires { r < 32 }
+    ensures ok { OnOk result (((insns : List Instruction) → Emits [] body.now insns → Emits code.old.items code.new.items (spec.turns_code is_laid r count insns)) × (count < 2 ^ 32)) }
+    ensures err { IfErr result (IsFault (2 ^ 18 ≤ sizes.loop_size is_laid count (length body.now)) ⊥) }
+{
+    if are_copies(is_laid, count) {
+        emit_laid_out(code, r, count, body)?;
+        return Ok(());
+    }
+    emit_loop(code, r, count, body)?;
     Ok(())
 }
 
