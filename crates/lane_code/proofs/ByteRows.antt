@@ -1,5 +1,5 @@
 -- Lanes of pixels that are bytes and lie one behind the other.
-use Rattle.std.proofs.Common.{◌≡◌, ℕ, ◌+◌, ◌*◌, ◌%◌, ◌^◌, ◌<◌, ◌≤◌, List, [], ◌∷◌, ◌++◌, length, Bool, true, false, ap, ◌∙◌, refl, sym, subst, arith, inl, inr}
+use Rattle.std.proofs.Common.{◌≡◌, ℕ, ◌+◌, ◌*◌, ◌%◌, ◌^◌, ◌<◌, ◌≤◌, List, [], ◌∷◌, ◌++◌, length, Bool, true, false, ap, ◌∙◌, sym, subst, arith, inl, inr}
 use Rattle.std.specs.Prelude.{◌⊎◌, ◌-◌, ◌/◌, if◌then◌else◌, nat_lt, slice_index}
 use Rattle.rv_insn.specs.declared.instructions.Insn.{Insn}
 use Rattle.rv_insn.specs.declared.instructions.Insn.TheVariants.{Vector}
@@ -26,7 +26,7 @@ use Rattle.lane_code.specs.Groups.{registers, slot, spare}
 use Rattle.lane_code.specs.Lanes.{dense, row_load}
 use Rattle.lane_code.specs.Leaving.{IsKept}
 use Rattle.lane_code.proofs.Slots.{SlotLies, spare-is}
-use Rattle.lane_code.proofs.Rows.{Writes, Lanes, Leaves, writes, lanes-kept, few-rounds, last, value-first}
+use Rattle.lane_code.proofs.Rows.{Lanes, Leaves, writes, lanes-kept, few-rounds, last, value-first}
 
 one-byte : (t : Bool) (p q : ℕ) → p < 256 → q < 256 → (if t then p else q) < 256
 one-byte true p q a b = a

@@ -23,7 +23,7 @@ use Rattle.scalar_code.specs.Words.{Emits}
 use Rattle.scalar_code.proofs.Spelling.{emits_then}
 use Rattle.lane_code.specs.declared.groups.Group.{Group}
 use Rattle.lane_code.specs.Groups.{slots, slot, spare}
-use Rattle.lane_code.specs.Lanes.{Laned, laned, laned_at, are_words, is_dense, is_stepping, is_steady, has_slot, step_word, stepped, lanes_operation, lanes_quotient, lanes_remainder, lanes_selection, dense, gathered}
+use Rattle.lane_code.specs.Lanes.{Laned, laned, laned_at, is_reached, is_dense, is_stepping, is_steady, has_slot, step_word, stepped, lanes_operation, lanes_quotient, lanes_remainder, lanes_selection, dense, gathered}
 use Rattle.lane_code.specs.Emitting.{FitsLanes, EmitsLanes}
 use Rattle.lane_code.proofs.LanedParts.{own-is}
 
@@ -169,14 +169,14 @@ module _ (group : Group) (places : Places) (scope : List Counter) (strides : Lis
         (record {
           emits = subst (λ t. Emits c0 c3 (if t then (of a).own.code 20 ++ ((of b).own.code 21 ++ dense (place_of places source) (slot group k) (spare group)) else (of a).code k ++ ((of b).code (k + 1) ++ gathered (place_of places source) (slot group k) (slot group (k + 1))))) (sym dense-is) whole;
           can = record {
-            fits = both _ _ slot-true (ap (λ t. if t then true else are_words (place_of places source).pixels && ((of a).fits k && (of b).fits (k + 1))) dense-is);
+            fits = both _ _ slot-true (ap (λ t. if t then true else is_reached (place_of places source) && ((of a).fits k && (of b).fits (k + 1))) dense-is);
             is_word = both _ _ one.is_word two.is_word;
           };
           slot_is = slot_is;
           low = low;
         })
 
-    pub gathered-emitted : (source : Source) (a b x y : Expr) (place : Place) (p s : ℕ) (c0 c1 c2 c3 : List ℕ) → own ≡ e.Load source a b → x ≡ a → y ≡ b → place ≡ place_of places source → are_words place.pixels ≡ true → is_dense (of a) (of b) ≡ false
+    pub gathered-emitted : (source : Source) (a b x y : Expr) (place : Place) (p s : ℕ) (c0 c1 c2 c3 : List ℕ) → own ≡ e.Load source a b → x ≡ a → y ≡ b → place ≡ place_of places source → is_reached place ≡ true → is_dense (of a) (of b) ≡ false
         → EmitsLanes c0 c1 group (of x) k p → EmitsLanes c1 c2 group (of y) (k + 1) s → Emits c2 c3 (gathered place r s) → EmitsLanes c0 c3 group (of own) k r
     unfolding laned
     gathered-emitted source a b x y place p s c0 c1 c2 c3 is ex ey ep words not-dense first second last =
@@ -190,8 +190,8 @@ module _ (group : Group) (places : Places) (scope : List Counter) (strides : Lis
           emits = subst (λ t. Emits c0 c3 (if t then (of a).own.code 20 ++ ((of b).own.code 21 ++ dense (place_of places source) (slot group k) (spare group)) else (of a).code k ++ ((of b).code (k + 1) ++ gathered (place_of places source) (slot group k) (slot group (k + 1))))) (sym not-dense) whole;
           can = record {
             fits = both _ _ slot-true
-                (ap (λ t. if t then true else are_words (place_of places source).pixels && ((of a).fits k && (of b).fits (k + 1))) not-dense
-                ∙ both _ _ (sym (ap (λ q. are_words q.pixels) ep) ∙ words) (both _ _ one.can.fits two.can.fits));
+                (ap (λ t. if t then true else is_reached (place_of places source) && ((of a).fits k && (of b).fits (k + 1))) not-dense
+                ∙ both _ _ (sym (ap is_reached ep) ∙ words) (both _ _ one.can.fits two.can.fits));
             is_word = both _ _ one.can.is_word two.can.is_word;
           };
           slot_is = slot_is;
@@ -225,7 +225,7 @@ module _ (group : Group) (places : Places) (scope : List Counter) (strides : Lis
   no-first own k source a b x is ex not-dense none can =
       let w = loaded own k source a b is can in
       let t = and_parts (has_slot group k) _ w.fits in
-      let u = and_parts (are_words (place_of places source).pixels) _ (sym (ap (λ q. if q then true else are_words (place_of places source).pixels && ((of a).fits k && (of b).fits (k + 1))) not-dense) ∙ t.1) in
+      let u = and_parts (is_reached (place_of places source)) _ (sym (ap (λ q. if q then true else is_reached (place_of places source) && ((of a).fits k && (of b).fits (k + 1))) not-dense) ∙ t.1) in
       let z = and_parts ((of a).fits k) ((of b).fits (k + 1)) u.1 in
       none (subst (λ q. FitsLanes (of q) k) (sym ex) (record { fits = z.0; is_word = (words-first own k source a b is can).0 }))
 

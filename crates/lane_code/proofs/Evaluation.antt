@@ -39,7 +39,7 @@ use Rattle.lane_code.specs.declared.groups.Group.{Group}
 use Rattle.lane_code.specs.declared.values.Pace.{Pace}
 use Rattle.lane_code.specs.declared.values.Pace.TheVariants as paces
 use Rattle.lane_code.specs.Groups.{registers, slots, slot, spare}
-use Rattle.lane_code.specs.Lanes.{is_steady, is_stepping, step_word, Laned, are_words, is_dense, has_slot, laned_at, laned, pace_of, lanes_selection, lanes_quotient, lanes_remainder, stepped, gathered, dense, lanes_operation, both_steady}
+use Rattle.lane_code.specs.Lanes.{is_steady, is_stepping, step_word, Laned, are_reached, is_reached, is_dense, has_slot, laned_at, laned, pace_of, lanes_selection, lanes_quotient, lanes_remainder, stepped, gathered, dense, lanes_operation, both_steady}
 use Rattle.lane_code.specs.Leaving.{GoAlong, IsKept, LanesLeave}
 use Rattle.lane_code.proofs.Slots.{SlotLies, slot-lies, is-below}
 use Rattle.lane_code.proofs.Rows.{Writes, Lanes, Leaves, writes, lanes-kept, few-rounds, last, scalar-first, value-first, same-values, slot-kept, slot-still, kept-more}
@@ -49,6 +49,7 @@ use Rattle.lane_code.proofs.Quotients.{quotient-leaves, remainder-leaves}
 use Rattle.lane_code.proofs.Pacing.{Holds, linear-goes, step-holds, both-hold, operation-hold}
 use Rattle.lane_code.proofs.Points.{stepped-leaves, dense-leaves, gathered-leaves}
 use Rattle.lane_code.proofs.ByteRows.{dense-bytes}
+use Rattle.lane_code.proofs.ByteGathers.{gathered-bytes}
 
 at-most : (n k : ℕ) → nat_le n k ≡ true → n ≤ k
 at-most n k t = grind (arith, nat_tests)
@@ -66,9 +67,14 @@ stepping-is paces.Steady n x t h = absurd (cc t)
 stepping-is paces.Stepping n x t h = h
 stepping-is paces.Irregular n x t h = absurd (cc t)
 
-words-are : (p : Pixels) → are_words p ≡ true → p ≡ pixels.Words
-words-are pixels.Words t = refl
-words-are pixels.Bytes t = absurd (cc t)
+-- bytes that are reached lie in a buffer without copies that begins at a word
+bytes-lie : (p : Pixels) (distance start : ℕ) → are_reached p distance start ≡ true → p ≡ pixels.Bytes → (distance ≡ 0) × (start % 4 ≡ 0)
+bytes-lie pixels.Words distance start t e = absurd (cc e)
+bytes-lie pixels.Bytes distance start t e =
+    let b = and_parts (distance == 0) (start % 4 == 0) t in
+    let d : (distance == 0) ≡ true = b.0 in
+    let s : (start % 4 == 0) ≡ true = b.1 in
+    (grind (arith, nat_tests, d), grind (arith, nat_tests, s))
 
 -- an expression's values in all rounds
 abbrev Family : Type 0
@@ -308,17 +314,26 @@ module _ (w : World) (harts : ℕ) (m : List ℕ) (group : Group) (places : Plac
       by-pixels pixels.Bytes k f words bytes = bytes refl
 
   -- and of lanes that lie anywhere
-  gathered-code : (source : Source) (p q : ℕ → List Insn) (fx fy : ℕ → Bool) (x y pixel : ℕ → ℕ) → (place_of places source).pixels ≡ pixels.Words → Code p fx x → Code q fy y → ((k : ℕ) → fy k ≡ true → k < slots group)
+  gathered-code : (source : Source) (p q : ℕ → List Insn) (fx fy : ℕ → Bool) (x y pixel : ℕ → ℕ) → is_reached (place_of places source) ≡ true → Code p fx x → Code q fy y → ((k : ℕ) → fy k ≡ true → k < slots group)
       → ((i : ℕ) → i < n → LoadsAt w (place_of places source) m (x i) (y i) (pixel i))
       → Code (λ k. p k ++ (q (k + 1) ++ gathered (place_of places source) (slot group k) (slot group (k + 1)))) (λ k. has_slot group k && (fx k && fy (k + 1))) pixel
-  gathered-code source p q fx fy x y pixel words cx cy slot-y can k f fits knows has =
+  gathered-code source p q fx fy x y pixel reached cx cy slot-y can k f fits knows has =
       let t = and_parts (has_slot group k) _ fits in
       let u = and_parts (fx k) (fy (k + 1)) t.1 in
       let pair = pair-lies k (is-below k (slots group) t.0) (slot-y (k + 1) u.1) in
       let e = pair.first.next in
       two-leave k f p q _ fx fy x y pixel pair cx cy u.0 u.1 knows has
       (λ f' knows' has' hx hy.
-      gathered-leaves w m l group n k pair.first (place_of places source) words x y pixel can (slot group (k + 1)) f' pair.second.is_group (omega (arith, e)) has' (all source) hx hy knows'.number)
+      by-pixels (place_of places source).pixels k f'
+      (λ words. gathered-leaves w m l group n k pair.first (place_of places source) words x y pixel can (slot group (k + 1)) f' pair.second.is_group (omega (arith, e)) has' (all source) hx hy knows'.number)
+      (λ bytes.
+      let lie = bytes-lie (place_of places source).pixels (place_of places source).distance (place_of places source).start reached bytes in
+      gathered-bytes w m l group n k pair.first (place_of places source) bytes lie.0 lie.1 x y pixel can (slot group (k + 1)) f' pair.second.is_group (omega (arith, e)) has' (all source) hx hy))
+    where
+      by-pixels : (t : Pixels) (k : ℕ) (f : ℕ → ℕ) → (t ≡ pixels.Words → Leaves w m l group n (gathered (place_of places source) (slot group k) (slot group (k + 1))) f k pixel)
+          → (t ≡ pixels.Bytes → Leaves w m l group n (gathered (place_of places source) (slot group k) (slot group (k + 1))) f k pixel) → Leaves w m l group n (gathered (place_of places source) (slot group k) (slot group (k + 1))) f k pixel
+      by-pixels pixels.Words k f words bytes = words refl
+      by-pixels pixels.Bytes k f words bytes = bytes refl
 
   binary-code : (o : Operation) (p q : ℕ → List Insn) (fa fb : ℕ → Bool) (x y : ℕ → ℕ) → Code p fa x → Code q fb y → operations.Small w m l group n x → operations.Small w m l group n y → ((k : ℕ) → fb k ≡ true → k < slots group)
       → Code (λ k. p k ++ (q (k + 1) ++ lanes_operation o (slot group k) (slot group (k + 1)))) (λ k. has_slot group k && (fa k && fb (k + 1))) (λ i. word.applied o (x i) (y i))
@@ -429,9 +444,8 @@ module _ (w : World) (harts : ℕ) (m : List ℕ) (group : Group) (places : Plac
             let u = and_parts (has_slot group k) _ fits in
             by-test (is_dense x.left y.left) pixel k f (λ d. dense-code source x.left y.left x.right y.right pixel d one-x one-y cx.paced cy.paced can k f u.0 knows has)
             (λ e.
-            let z = and_parts (are_words (place_of places source).pixels) _ e in
-            let words = words-are (place_of places source).pixels z.0 in
-            gathered-code source x.left.code y.left.code x.left.fits y.left.fits (values x.right) (values y.right) pixel words cx.leaves cy.leaves y.is.slot_is can k f (both-true (has_slot group k) _ u.0 z.1) knows has)
+            let z = and_parts (is_reached (place_of places source)) _ e in
+            gathered-code source x.left.code y.left.code x.left.fits y.left.fits (values x.right) (values y.right) pixel z.0 cx.leaves cy.leaves y.is.slot_is can k f (both-true (has_slot group k) _ u.0 z.1) knows has)
             u.1;
       }
     where

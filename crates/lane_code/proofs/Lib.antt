@@ -6,6 +6,7 @@ pub mod Operations
 pub mod Pacing
 pub mod Points
 pub mod ByteRows
+pub mod ByteGathers
 pub mod Quotients
 pub mod Rows
 pub mod Slots

@@ -27,7 +27,7 @@ use Rattle.scalar_code.proofs.Addresses.{addressed-leaves}
 use Rattle.scalar_code.proofs.Values.{literal-sets}
 use Rattle.lane_code.specs.declared.groups.Group.{Group}
 use Rattle.lane_code.specs.Groups.{registers, slot, spare}
-use Rattle.lane_code.specs.Lanes.{stepped, dense, row_load, offsets, gathered}
+use Rattle.lane_code.specs.Lanes.{stepped, dense, row_load, offsets, gathered_by, gathered}
 use Rattle.lane_code.proofs.Slots.{SlotLies}
 use Rattle.lane_code.proofs.Rows.{Writes, Lanes, Leaves, writes, writes-lanes, lanes-kept, few-rounds, last, slot-first, scalar-first, value-first}
 use Rattle.lane_code.proofs.Offsets.{offsets-reach, offset-address}
@@ -173,9 +173,10 @@ module _ (w : World) (m : List ℕ) (l : length m ≡ w.size) (group : Group) (n
         let has5 = lanes-kept w m l group n f f5 (d.keeps vl_number (inr (inl (inl refl)))) (d.keeps vtype_number (inr (inl (inr refl)))) has in
         let end = loaded-last f5 (addressings.Indexed r) 13 has5 low-13 lies.is_group
         (λ i b. offset-address w m l group n k lies place x y low-is is f5 d.holds i b) in
-        record {
+        subst (λ p. Leaves w m l group n (gathered_by p place r s) f k pixel) (sym words)
+        (record {
           after = end.after;
           line = line-then w (offsets place r s) (Vector (v.LoadElements Bits32 r 13 (addressings.Indexed r) true) ∷ []) f f5 end.after m m m d.line end.line;
           value = end.value;
           keeps = λ q kept. end.keeps q kept ∙ d.keeps q kept;
-        }
+        })

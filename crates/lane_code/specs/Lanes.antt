@@ -188,9 +188,23 @@ offsets place r s =
     literal scratch place.width
     ++ (Vector (v.MultiplyVx multiplies.Vmul s s scratch true) ∷ Vector (v.ArithmeticVv vvs.Vadd r r s true) ∷ Vector (v.ShiftVi shifts.Vsll r r 2 true) ∷ based place)
 
--- each lane of r becomes the pixel there
+-- Each lane of r becomes the byte with that number. It is cut out of the word that holds it, where a buffer without copies begins at a
+-- word: the lowest bits of 8 times its number, in the lane of s, say how many bits lie before it.
+abbrev pub byte_tail : Place → ℕ → ℕ → List Insn
+byte_tail place r s =
+    Vector (v.ShiftVi shifts.Vsll s r 3 true) ∷ Vector (v.ArithmeticVi vis.Vand r r (negsuc 3) true) ∷ (literal scratch place.start
+    ++ (Vector (v.LoadElements Bits32 r scratch (addressings.Indexed r) true) ∷ Vector (v.ArithmeticVv vvs.Vsrl r r s true) ∷ (literal scratch 255
+    ++ (Vector (v.ArithmeticVx vxs.Vand r r scratch true) ∷ []))))
+
+-- each lane of r becomes the pixel at that column and at the row in the lane of s
+abbrev pub gathered_by : Pixels → Place → ℕ → ℕ → List Insn
+gathered_by pixels.Words place r s = offsets place r s ++ (Vector (v.LoadElements Bits32 r scratch (addressings.Indexed r) true) ∷ [])
+gathered_by pixels.Bytes place r s =
+    literal scratch place.width
+    ++ (Vector (v.MultiplyVx multiplies.Vmul s s scratch true) ∷ Vector (v.ArithmeticVv vvs.Vadd r r s true) ∷ byte_tail place r s)
+
 abbrev pub gathered : Place → ℕ → ℕ → List Insn
-gathered place r s = offsets place r s ++ (Vector (v.LoadElements Bits32 r scratch (addressings.Indexed r) true) ∷ [])
+gathered place r s = gathered_by place.pixels place r s
 
 -- ---- expressions
 
@@ -205,9 +219,13 @@ pub record Laned : Type 0 where
 abbrev pub has_slot : Group → ℕ → Bool
 has_slot group k = nat_lt k (slots group)
 
-abbrev pub are_words : Pixels → Bool
-are_words pixels.Words = true
-are_words pixels.Bytes = false
+-- Lanes that lie anywhere reach words, and bytes of a buffer without copies that begins at a word.
+abbrev pub are_reached : Pixels → ℕ → ℕ → Bool
+are_reached pixels.Words distance start = true
+are_reached pixels.Bytes distance start = distance == 0 && start % 4 == 0
+
+abbrev pub is_reached : Place → Bool
+is_reached place = are_reached place.pixels place.distance place.start
 
 -- Lanes of a row lie one behind the other where the column goes along with the rounds. The scalar stack has room for the point.
 abbrev pub is_dense : Laned → Laned → Bool
@@ -221,7 +239,7 @@ fits_by group places (layer.Divide a c) k = has_slot group k && a.fits k
 fits_by group places (layer.Remainder a c) k = has_slot group k && a.fits k
 fits_by group places (layer.Select c a b) k = has_slot group k && (c.fits k && (a.fits (k + 1) && b.fits (k + 2)))
 fits_by group places (layer.Load source x y) k =
-    has_slot group k && (if is_dense x y then true else are_words (place_of places source).pixels && (x.fits k && y.fits (k + 1)))
+    has_slot group k && (if is_dense x y then true else is_reached (place_of places source) && (x.fits k && y.fits (k + 1)))
 
 abbrev pub lanes_by : Group → Places → List Counter → List ℕ → Expr-F Laned → ℕ → List Insn
 lanes_by group places scope strides (layer.Number n) k = literal scratch n ++ (Vector (v.MoveVx (slot group k) scratch) ∷ [])

@@ -3,6 +3,7 @@
 ghost use Rattle.std.specs.Prelude.{◌≡◌, List, ◌%◌, ◌^◌, ◌<◌, ◌&&◌, if◌then◌else◌, nat_le, IfErr, IfOk, OnOk};
 ghost use Rattle.loop_ir.specs.declared.expressions.Counter.{Counter as Counts};
 ghost use Rattle.lane_code.specs.declared.groups.Group.{Group as Groups};
+ghost use Rattle.scalar_code.specs.declared.places.Pixels.TheVariants.{Bytes as bytes, Words as words_of};
 ghost use Rattle.scalar_code.specs.declared.places.Places.{Places as AllPlaces};
 ghost use Rattle.scalar_code.specs.Code.{made};
 ghost use Rattle.scalar_code.specs.Faults.{IsFault};
@@ -12,9 +13,9 @@ ghost use Rattle.scalar_code.specs.Words.{Emits};
 
 use crate::groups::Group;
 use crate::vectors::{
-    arithmetic, arithmetic_by, clear, comparison, complement, lane_numbers, load_at, load_byte_row,
-    load_row, merge, merge_one, multiplication, multiplication_by, spread, test_nonzero, test_sign,
-    times_four,
+    arithmetic, arithmetic_by, clear, clear_low_bits, comparison, complement, lane_numbers,
+    load_at, load_byte_row, load_row, merge, merge_one, multiplication, multiplication_by, spread,
+    test_nonzero, test_sign, times_eight, times_four,
 };
 use halide_pipeline::{Operation, words};
 use loop_ir::expressions::{Counter, Expr, Term, same_counter};
@@ -360,12 +361,48 @@ pub fn emit_offsets(code: &mut Vec<u32>, place: &Place, r: u8, s: u8) -> Result<
     Ok(())
 }
 
+fn emit_words_gathered(code: &mut Vec<u32>, place: &Place, r: u8, s: u8) -> Result<(), AllocError>
+    requires { (r < 32) × (s < 32) }
+    ensures { OnOk result (Emits code.old.items code.new.items (spec.gathered_by words_of place.now r s)) }
+{
+    emit_offsets(code, place, r, s)?;
+    load_at(code, r, 13)?;
+    Ok(())
+}
+
+fn emit_byte_tail(code: &mut Vec<u32>, place: &Place, r: u8, s: u8) -> Result<(), AllocError>
+    requires { (r < 32) × (s < 32) }
+    ensures { OnOk result (Emits code.old.items code.new.items (spec.byte_tail place.now r s)) }
+{
+    times_eight(code, s, r)?;
+    clear_low_bits(code, r)?;
+    emit_literal(code, 13, place.start)?;
+    load_at(code, r, 13)?;
+    arithmetic(code, ArithmeticVvOp::Vsrl, r, r, s)?;
+    emit_literal(code, 13, 255)?;
+    arithmetic_by(code, ArithmeticVxOp::Vand, r, r, 13)?;
+    Ok(())
+}
+
+fn emit_bytes_gathered(code: &mut Vec<u32>, place: &Place, r: u8, s: u8) -> Result<(), AllocError>
+    requires { (r < 32) × (s < 32) }
+    ensures { OnOk result (Emits code.old.items code.new.items (spec.gathered_by bytes place.now r s)) }
+{
+    emit_literal(code, 13, place.width)?;
+    multiplication_by(code, MultiplyOp::Vmul, s, s, 13)?;
+    arithmetic(code, ArithmeticVvOp::Vadd, r, r, s)?;
+    emit_byte_tail(code, place, r, s)?;
+    Ok(())
+}
+
 fn emit_gathered(code: &mut Vec<u32>, place: &Place, r: u8, s: u8) -> Result<(), AllocError>
     requires { (r < 32) × (s < 32) }
     ensures { OnOk result (Emits code.old.items code.new.items (spec.gathered place.now r s)) }
 {
-    emit_offsets(code, place, r, s)?;
-    load_at(code, r, 13)?;
+    match place.pixels {
+        Pixels::Words => emit_words_gathered(code, place, r, s)?,
+        Pixels::Bytes => emit_bytes_gathered(code, place, r, s)?,
+    }
     Ok(())
 }
 
@@ -393,12 +430,13 @@ fn is_dense(scope: &[Counter], strides: &[u32], x: &Expr, y: &Expr) -> bool
     are_all(column, row, fits_scalars(x, y))
 }
 
-fn are_words(place: &Place) -> bool
-    ensures { result ≡ spec.are_words place.now.pixels }
+/// Whether lanes that lie anywhere reach a buffer's pixels.
+fn is_reached(place: &Place) -> bool
+    ensures { result ≡ spec.is_reached place.now }
 {
     match place.pixels {
         Pixels::Words => true,
-        Pixels::Bytes => false,
+        Pixels::Bytes => place.distance == 0 && place.start % 4 == 0,
     }
 }
 
@@ -406,7 +444,7 @@ fn are_words(place: &Place) -> bool
 ///
 /// # Errors
 ///
-/// Memory ran out, or the code can't be made: the slots don't suffice, bytes don't lie one behind the other, or a divisor is 0.
+/// Memory ran out, or the code can't be made: the slots don't suffice, bytes can't be reached, or a divisor is 0.
 #[tactic(auto, unfolding(crate::specs::Lanes::laned))]
 pub fn emit_lanes(
     code: &mut Vec<u32>,
@@ -467,7 +505,7 @@ pub fn emit_lanes(
                 emit_dense(code, &place, r, group.spare())?;
                 return Ok(r);
             }
-            if !are_words(&place) {
+            if !is_reached(&place) {
                 return Err(CodeFault::TooDeep);
             }
             emit_lanes(code, group, places, scope, strides, x.get(), k)?;

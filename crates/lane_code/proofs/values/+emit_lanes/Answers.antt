@@ -34,7 +34,7 @@ returns-then-is_dense-clause-ok t c =
 
 pub returns-in_ok-emit_gathered-in-Load-clause-ok : goal.returns-in_ok-emit_gathered-in-Load-clause-ok
 returns-in_ok-emit_gathered-in-Load-clause-ok t c =
-    gathered-emitted c.args.group c.args.places.now c.args.scope.now c.args.strides.now c.args.e.now c.args.k c.slot-r.result (let n = c.if-k-slots.false in let s = c.slots.ensures in omega (arith, n, s)) c.slot-r.ensures.0 c.slot-r.ensures.1 c.in-Load.source c.in-Load.x c.in-Load.y _ _ c.place_of-place.result _ _ _ _ _ _ c.in-Load.is c.get-in-Load-3.ensures c.get-in-Load-4.ensures c.place_of-place.ensures (sym c.are_words.ensures ∙ c.if-not-are_words.false) (ap (λ x. is_dense (laned c.args.group c.args.places.now c.args.scope.now c.args.strides.now x) (laned c.args.group c.args.places.now c.args.scope.now c.args.strides.now c.in-Load.y)) (sym c.get-in-Load.ensures) ∙ ap (λ y. is_dense (laned c.args.group c.args.places.now c.args.scope.now c.args.strides.now c.get-in-Load.result.now) (laned c.args.group c.args.places.now c.args.scope.now c.args.strides.now y)) (sym c.get-in-Load-2.ensures) ∙ sym (c.is_dense.ensures c.args.group c.args.places.now) ∙ c.if-is_dense.false) c.in_ok-emit_lanes-in-Load.ensures.ok c.in_ok-s-in-Load.ensures.ok c.in_ok-emit_gathered-in-Load.ensures
+    gathered-emitted c.args.group c.args.places.now c.args.scope.now c.args.strides.now c.args.e.now c.args.k c.slot-r.result (let n = c.if-k-slots.false in let s = c.slots.ensures in omega (arith, n, s)) c.slot-r.ensures.0 c.slot-r.ensures.1 c.in-Load.source c.in-Load.x c.in-Load.y _ _ c.place_of-place.result _ _ _ _ _ _ c.in-Load.is c.get-in-Load-3.ensures c.get-in-Load-4.ensures c.place_of-place.ensures (sym c.is_reached.ensures ∙ c.if-not-is_reached.false) (ap (λ x. is_dense (laned c.args.group c.args.places.now c.args.scope.now c.args.strides.now x) (laned c.args.group c.args.places.now c.args.scope.now c.args.strides.now c.in-Load.y)) (sym c.get-in-Load.ensures) ∙ ap (λ y. is_dense (laned c.args.group c.args.places.now c.args.scope.now c.args.strides.now c.get-in-Load.result.now) (laned c.args.group c.args.places.now c.args.scope.now c.args.strides.now y)) (sym c.get-in-Load-2.ensures) ∙ sym (c.is_dense.ensures c.args.group c.args.places.now) ∙ c.if-is_dense.false) c.in_ok-emit_lanes-in-Load.ensures.ok c.in_ok-s-in-Load.ensures.ok c.in_ok-emit_gathered-in-Load.ensures
 
 pub returns-in_err-t-in-Select-clause-err : goal.returns-in_err-t-in-Select-clause-err
 returns-in_err-t-in-Select-clause-err t c =
