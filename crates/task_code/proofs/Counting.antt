@@ -1,6 +1,7 @@
 -- Words that are counted up to a number are as many as may be asked for, or that number.
-use Rattle.std.proofs.Common.{◌≡◌, ℕ, ◌+◌, ◌*◌, ◌≤◌, length, Bool, true, false, ap, ◌∙◌, sym, arith}
+use Rattle.std.proofs.Common.{◌≡◌, ℕ, zero, suc, inl, inr, ◌+◌, ◌*◌, ◌≤◌, length, Bool, true, false, ap, ◌∙◌, sym, subst, arith}
 use Rattle.std.specs.Prelude.{if◌then◌else◌, min}
+use Rattle.std.proofs.lemmas.Bool.{cases_lt}
 use Rattle.halide_pipeline.specs.declared.expressions.Operation.{Operation}
 use Rattle.halide_pipeline.specs.declared.expressions.Source.{Source}
 use Rattle.loop_ir.specs.declared.expressions.Counter.{Counter}
@@ -12,7 +13,7 @@ use Rattle.loop_ir.specs.declared.statements.Store.{Store}
 use Rattle.loop_ir.specs.declared.statements.Stmt.{Stmt}
 use Rattle.loop_ir.specs.declared.statements.Stmt.TheVariants as s
 use Rattle.loop_ir.specs.declared.statements.Whole.{Whole}
-use Rattle.loop_ir.specs.Sizes.{Size, kept, size, size_of, whole_size, store_size}
+use Rattle.loop_ir.specs.Sizes.{Size, kept, size, size_of, are_copies, is_laid_out, loop_size, loop_room, whole_size, store_size}
 use Rattle.loop_ir.proofs.Sizes.{size_number, size_linear, size_binary, size_divide, size_remainder, size_select, size_load, whole_store, whole_sequence, whole_for, whole_bind}
 
 -- what a sum up to the number promises
@@ -71,6 +72,27 @@ select-sized own c a b x y z k l m p q r is ex ey ez ek el em first second last 
     let eq = second (size c + size a) (size b) ep (of-it z b m ez em) in
     last (size c + size a + size b) 33 eq (let g : 33 ≡ min 33 262144 = omega arith in g) ∙ words-of own (e.Select c a b) (size c + size a + size b + 33) is (ap (λ (w : Size). w.words) (size_select c a b))
 
+-- ---- copies
+
+-- so many times a number that is counted up to the limit
+times-is : (count size n : ℕ) → size ≡ min n 262144 → min (count * size) 262144 ≡ min (count * n) 262144
+times-is zero size n e = omega arith
+times-is (suc k) size n e = elim (cases_lt n 262144) [
+  | inl l ↦ let same : size ≡ n = omega (arith, e, l) in ap (λ (z : ℕ). min (suc k * z) 262144) same
+  | inr l ↦ omega (arith, e, l)
+]
+
+one : 1 ≡ min 1 262144
+one = omega arith
+
+-- a loop that is laid out, from the sizes of a copy, of all copies and of the loop
+pub laid-size : (laid : Bool) (count body copy copies r : ℕ) → are_copies laid count ≡ true → Sums body 1 copy → copies ≡ min (count * copy) 262144 → Sums copies 1 r
+    → (n : ℕ) → body ≡ min n 262144 → r ≡ min (loop_size laid count n) 262144
+laid-size laid count body copy copies r e first all last n is =
+    let a = first n 1 is one in
+    let b = last (count * (n + 1)) 1 (all ∙ times-is count copy (n + 1) a) one in
+    subst (λ (t : Bool). r ≡ min (if t then count * (n + 1) + 1 else n + 7) 262144) (sym e) b
+
 -- ---- statements
 
 of-part : (x a : Stmt) (k : ℕ) → x ≡ a → k ≡ min (whole_size x) 262144 → k ≡ min (whole_size a) 262144
@@ -86,10 +108,13 @@ pub sequence-whole : (own a b x y : Stmt) (k l r : ℕ) → own ≡ s.Sequence a
 sequence-whole own a b x y k l r is ex ey ek el sum =
     sum (whole_size a) (whole_size b) (of-part x a k ex ek) (of-part y b l ey el) ∙ whole-of own (s.Sequence a b) (whole_size a + whole_size b) is (whole_sequence a b)
 
-pub for-whole : (own body x : Stmt) (counter : Counter) (count : ℕ) (kind : LoopKind) (k r : ℕ) → own ≡ s.For counter count kind body → x ≡ body → k ≡ min (whole_size x) 262144 → Sums k 7 r → r ≡ min (whole_size own) 262144
-for-whole own body x counter count kind k r is ex ek sum =
-    sum (whole_size body) 7 (of-part x body k ex ek) (let g : 7 ≡ min 7 262144 = omega arith in g) ∙ whole-of own (s.For counter count kind body) (whole_size body + 7) is (whole_for counter count kind body)
+pub for-whole : (own body x : Stmt) (counter : Counter) (count : ℕ) (kind : LoopKind) (laid : Bool) (k l r : ℕ) → own ≡ s.For counter count kind body → x ≡ body → laid ≡ is_laid_out kind → k ≡ min (whole_size x) 262144
+    → ((n : ℕ) → k ≡ min n 262144 → l ≡ min (loop_size laid count n) 262144) → Sums l 31 r → r ≡ min (whole_size own) 262144
+for-whole own body x counter count kind laid k l r is ex el ek sized sum =
+    sum (loop_size laid count (whole_size body)) 31 (sized (whole_size body) (of-part x body k ex ek)) (let g : 31 ≡ min 31 262144 = omega arith in g)
+    ∙ ap (λ (b : Bool). min (loop_room b count (whole_size body)) 262144) el
+    ∙ whole-of own (s.For counter count kind body) (loop_room (is_laid_out kind) count (whole_size body)) is (whole_for counter count kind body)
 
-pub bind-whole : (own body x : Stmt) (counter : Counter) (whole : Whole) (extent k r : ℕ) → own ≡ s.Bind counter whole extent body → x ≡ body → k ≡ min (whole_size x) 262144 → Sums k 14 r → r ≡ min (whole_size own) 262144
+pub bind-whole : (own body x : Stmt) (counter : Counter) (whole : Whole) (extent k r : ℕ) → own ≡ s.Bind counter whole extent body → x ≡ body → k ≡ min (whole_size x) 262144 → Sums k 25 r → r ≡ min (whole_size own) 262144
 bind-whole own body x counter whole extent k r is ex ek sum =
-    sum (whole_size body) 14 (of-part x body k ex ek) (let g : 14 ≡ min 14 262144 = omega arith in g) ∙ whole-of own (s.Bind counter whole extent body) (whole_size body + 14) is (whole_bind counter whole extent body)
+    sum (whole_size body) 25 (of-part x body k ex ek) (let g : 25 ≡ min 25 262144 = omega arith in g) ∙ whole-of own (s.Bind counter whole extent body) (whole_size body + 25) is (whole_bind counter whole extent body)

@@ -181,8 +181,8 @@ may-store (suc zero) l = record {
 may-store (suc (suc n)) l = absurd (omega (arith, l))
 
 may-load : (task : ℕ) → task < 2 → MayLoad (example_world task) example_places (func_point 0 task 0)
-may-load zero l = record { column = omega arith; row = omega arith; low = omega arith; may = record { aligned = refl; above = omega arith; below = omega arith; may = (refl, (refl, (refl, (refl, tt)))) } }
-may-load (suc zero) l = record { column = omega arith; row = omega arith; low = omega arith; may = record { aligned = refl; above = omega arith; below = omega arith; may = (refl, (refl, (refl, (refl, tt)))) } }
+may-load zero l = record { column = omega arith; row = omega arith; low = omega arith; may = record { aligned = refl; above = omega arith; below = omega arith; may = (refl, (refl, (refl, (refl, tt)))) }; whole = record { aligned = refl; above = omega arith; below = omega arith; may = (refl, (refl, (refl, (refl, tt)))) } }
+may-load (suc zero) l = record { column = omega arith; row = omega arith; low = omega arith; may = record { aligned = refl; above = omega arith; below = omega arith; may = (refl, (refl, (refl, (refl, tt)))) }; whole = record { aligned = refl; above = omega arith; below = omega arith; may = (refl, (refl, (refl, (refl, tt)))) } }
 may-load (suc (suc n)) l = absurd (omega (arith, l))
 
 zeros : (n i : ℕ) → slice_index (replicate n 0) i ≡ 0

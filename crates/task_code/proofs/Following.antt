@@ -1,6 +1,6 @@
 -- The code of a statement does the statement.
-use Rattle.std.proofs.Common.{◌≡◌, ℕ, ◌+◌, ◌^◌, ◌<◌, List, ◌∷◌, length, Bool, true, false, refl, ap, ◌∙◌, sym, subst, arith}
-use Rattle.std.specs.Prelude.{◌==◌, ◌&&◌, ◌||◌, not, if◌then◌else◌, nat_lt, Option, Some, None}
+use Rattle.std.proofs.Common.{◌≡◌, ℕ, zero, suc, ◌+◌, ◌^◌, ◌<◌, List, ◌∷◌, length, Bool, true, false, refl, ap, ◌∙◌, sym, subst, arith}
+use Rattle.std.specs.Prelude.{◌⊎◌, ◌==◌, ◌&&◌, ◌||◌, not, if◌then◌else◌, nat_lt, Option, Some, None}
 use Rattle.std.proofs.lemmas.Bool.{and_parts, or_cases, true≢false}
 use Rattle.std.proofs.lemmas.Bool.Decides.{nat_tests}
 use Rattle.rv_insn.specs.declared.instructions.Insn.{Insn}
@@ -19,14 +19,15 @@ use Rattle.loop_ir.specs.Counters.{Values, with}
 use Rattle.loop_ir.specs.Rounds.{Rounds, rounds, are_apart, all_step_up, is_round_count, is_vectorized, may_be_at_once}
 use Rattle.loop_ir.proofs.Rounds.{rounds_sequence, rounds_for, rounds_bind}
 use Rattle.loop_ir.specs.Expressions.{value}
-use Rattle.loop_ir.specs.Running.{run, whole_value}
+use Rattle.loop_ir.specs.Running.{run, turns, whole_value}
+use Rattle.loop_ir.specs.Sizes.{are_copies, is_laid_out}
 use Rattle.loop_ir.specs.Soundness.{every, is_sound}
 use Rattle.loop_ir.proofs.Trees.{run_store, run_sequence, run_for, run_bind}
 use Rattle.loop_ir.proofs.Sound.{sound_store, sound_sequence, sound_for, sound_bind}
-use Rattle.scalar_code.specs.Code.{seat, whole_code}
-use Rattle.task_code.specs.Code.{stmt_code}
+use Rattle.scalar_code.specs.Code.{seat, laid_out_code, loop_code, turns_code, whole_code}
+use Rattle.task_code.specs.Code.{stmt_code, turns_of}
 use Rattle.scalar_code.specs.Evaluation.{Knows}
-use Rattle.scalar_code.specs.Fitting.{is_word, has_seat, fits_whole}
+use Rattle.scalar_code.specs.Fitting.{is_word, has_seat, fits_whole, total}
 use Rattle.task_code.specs.Code.{stmt_turns}
 use Rattle.task_code.specs.Fitting.{fits}
 use Rattle.scalar_code.specs.Layout.{AreWords}
@@ -36,6 +37,7 @@ use Rattle.scalar_code.proofs.Keeping.{knows-still}
 use Rattle.scalar_code.proofs.Going.{Hits, hits_if, Does, went-hits, went-is, does-then}
 use Rattle.scalar_code.proofs.Tracing.{hit, made, hit_before, hit-store, hit-sequence, hit-for, hit-first, hit-later, hit-bind}
 use Rattle.scalar_code.proofs.Placing.{store-does}
+use Rattle.scalar_code.proofs.Copying.{laid-does}
 use Rattle.scalar_code.proofs.Looping.{each-turn, loop-does}
 use Rattle.scalar_code.proofs.Binding.{bind-does}
 use Rattle.round_code.specs.Rounds.{rounds_code, rounds_turns, rounds_fit}
@@ -99,11 +101,27 @@ module _ (own : Setting) (good : IsSetting own) where
       (went-hits own (λ func x y h. or_cases (hit own.points own.inputs func x y first values funcs) (hit own.points own.inputs func x y second values middle) (sym (hit-sequence own.points own.inputs func x y first second values funcs) ∙ h))
       (went-is own (sym (turns-sequence own.places first second scope values)) (sym (run_sequence own.points own.inputs first second values funcs)) (does-then own a b)))
 
+  -- rounds in turn, laid out or counted
+  module _ (is_laid : Bool) (scope : List Counter) (values : Values) (few : length scope < 14) (counter : Counter) (n : ℕ) (small : n < 2 ^ 32) (code : List Insn)
+      (t : ℕ → ℕ) (one : ℕ → Planes → Planes) (body_hits : ℕ → Planes → Hits)
+      (does : (i : ℕ) (f : ℕ → ℕ) (memory : List ℕ) (funcs : Planes) → i < n → HoldsFuncs own memory funcs → Knows own.world own.harts (counter ∷ scope) (with counter i values) f
+      → Does own code (t i) f memory (suc (length scope)) (one i funcs) (body_hits i funcs)) where
+    turns-done : (points : ℕ → Planes → Hits) → ((funcs : Planes) (func x y : ℕ) → points zero funcs func x y → ⊥)
+        → ((i : ℕ) (funcs : Planes) (func x y : ℕ) → points (suc i) funcs func x y → points i funcs func x y ⊎ body_hits i (turns i one funcs) func x y)
+        → (f : ℕ → ℕ) (memory : List ℕ) (funcs : Planes) → HoldsFuncs own memory funcs → Knows own.world own.harts scope values f
+        → Does own (turns_code is_laid (seat (length scope)) n code) (turns_of is_laid n t) f memory (length scope) (turns n one funcs) (points n funcs)
+    turns-done points none more f memory funcs holds knows = by-kind (are_copies is_laid n)
+      where
+        by-kind : (b : Bool) → Does own (if b then laid_out_code (seat (length scope)) n code else loop_code (seat (length scope)) n code)
+            (if b then 1 + total n (λ turn. t turn + 1) else 1 + (total n (λ turn. 3 + (t turn + 2)) + 4)) f memory (length scope) (turns n one funcs) (points n funcs)
+        by-kind true = laid-does own scope values few counter n small code t one body_hits does points none more f memory funcs holds knows
+        by-kind false = loop-does own scope values few counter n small code t one body_hits does points none more f memory funcs holds knows
+
   -- a loop's rounds in turn
   in-turn : (counter : Counter) (count : ℕ) (kind : LoopKind) (body : Stmt) → Follows body → (scope : List Counter) (values : Values) → fits own.places (s.For counter count kind body) scope ≡ true
       → SoundIn own (s.For counter count kind body) values → AtOnceIn own (s.For counter count kind body) values
       → (f : ℕ → ℕ) (memory : List ℕ) (funcs : Planes) → HoldsFuncs own memory funcs → Knows own.world own.harts scope values f
-      → Does own (in_turn own.places scope counter count body) (turns_in_turn own.places scope counter count body values) f memory (length scope) (after (s.For counter count kind body) values funcs) (hits (s.For counter count kind body) values funcs)
+      → Does own (in_turn own.places scope counter count kind body) (turns_in_turn own.places scope counter count kind body values) f memory (length scope) (after (s.For counter count kind body) values funcs) (hits (s.For counter count kind body) values funcs)
   in-turn counter count kind body inner scope values is sound once f memory funcs holds knows =
       let k = and_parts (has_seat scope) (is_word count && fits own.places body (counter ∷ scope)) (sym (fits-for own.places counter count kind body scope) ∙ is) in
       let j = and_parts (is_word count) (fits own.places body (counter ∷ scope)) k.1 in
@@ -113,7 +131,7 @@ module _ (own : Setting) (good : IsSetting own) where
       let each-once = λ (i : ℕ) (l : i < count) (p : Planes) (words : AreWords p). each-turn count (λ turn. may_be_at_once (reads_of own.inputs p) body (at turn))
       (and_parts (not (is_vectorized kind) || (is_round_count count && ((rounds (reads_of own.inputs p) body).is_one_store && (are_apart (rounds (reads_of own.inputs p) body) at count && all_step_up (rounds (reads_of own.inputs p) body) at count)))) (every count (λ turn. may_be_at_once (reads_of own.inputs p) body (at turn)))
       (sym (ap (λ (r : Rounds). r.may_be_at_once values) (rounds_for (reads_of own.inputs p) counter count kind body)) ∙ once p words)).1 i l in
-      let a = loop-does own scope values (below (length scope) 14 k.0) counter count (below count (2 ^ 32) j.0) (stmt_code own.places body (counter ∷ scope))
+      let a = turns-done (is_laid_out kind) scope values (below (length scope) 14 k.0) counter count (below count (2 ^ 32) j.0) (stmt_code own.places body (counter ∷ scope))
       (λ i. stmt_turns own.places body (counter ∷ scope) (at i)) (λ i p. after body (at i) p) (λ i p. hits body (at i) p)
       (λ i g m p l o kn. inner (counter ∷ scope) (at i) j.1 (λ q words. each i l q words) (λ q words. each-once i l q words) g m p o kn)
       (λ n p func x y. hit_before own.points own.inputs func x y body at n p ≡ true)
@@ -137,15 +155,15 @@ module _ (own : Setting) (good : IsSetting own) where
   at-for counter count kind body inner scope values is sound once f memory funcs holds knows =
       recoded (sym (code-for own.places counter count kind body scope))
       (went-is own (sym (turns-for own.places counter count kind body scope values)) refl
-      (by-group (group_taken own.places scope counter count kind body (in_turn own.places scope counter count body)) (is-taken own.places scope counter count body kind (in_turn own.places scope counter count body))
+      (by-group (group_taken own.places scope counter count kind body (in_turn own.places scope counter count kind body)) (is-taken own.places scope counter count body kind (in_turn own.places scope counter count kind body))
       (λ group k. rounds-at-once counter count body scope values f memory funcs holds knows group kind k.kind_is k.fits sound once) (in-turn counter count kind body inner scope values is sound once f memory funcs holds knows)))
     where
       by-group : (taken : Option Group) → ((group : Group) → taken ≡ Some group → IsTaken own.places scope counter count body kind group)
           → ((group : Group) → IsTaken own.places scope counter count body kind group
           → Does own (rounds_code group own.places scope counter count body) (rounds_turns group own.places scope counter body values) f memory (length scope) (after (s.For counter count kind body) values funcs) (hits (s.For counter count kind body) values funcs))
-          → Does own (in_turn own.places scope counter count body) (turns_in_turn own.places scope counter count body values) f memory (length scope) (after (s.For counter count kind body) values funcs) (hits (s.For counter count kind body) values funcs)
-          → Does own (code_taken own.places scope counter count body (in_turn own.places scope counter count body) taken)
-          (turns_taken own.places scope counter body values (turns_in_turn own.places scope counter count body values) taken) f memory (length scope) (after (s.For counter count kind body) values funcs) (hits (s.For counter count kind body) values funcs)
+          → Does own (in_turn own.places scope counter count kind body) (turns_in_turn own.places scope counter count kind body values) f memory (length scope) (after (s.For counter count kind body) values funcs) (hits (s.For counter count kind body) values funcs)
+          → Does own (code_taken own.places scope counter count body (in_turn own.places scope counter count kind body) taken)
+          (turns_taken own.places scope counter body values (turns_in_turn own.places scope counter count kind body values) taken) f memory (length scope) (after (s.For counter count kind body) values funcs) (hits (s.For counter count kind body) values funcs)
       by-group None facts at_once does = does
       by-group (Some group) facts at_once does = at_once group (facts group refl)
 

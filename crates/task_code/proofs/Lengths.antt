@@ -1,5 +1,5 @@
 -- Code has no more words than are asked for.
-use Rattle.std.proofs.Common.{◌≡◌, ℕ, ◌+◌, ◌*◌, ◌≤◌, Bool, true, false, List, [], ◌∷◌, ◌++◌, length, Option, Some, None, refl, sym, ap, subst, ◌∙◌, arith, length-append}
+use Rattle.std.proofs.Common.{◌≡◌, ℕ, zero, suc, ◌+◌, ◌*◌, ◌≤◌, Bool, true, false, List, [], ◌∷◌, ◌++◌, length, Option, Some, None, refl, sym, ap, subst, arith, length-append}
 use Rattle.std.specs.Prelude.{pos, if◌then◌else◌}
 use Rattle.rv_insn.specs.declared.instructions.Insn.{Insn}
 use Rattle.rv_insn.specs.declared.instructions.Insn.TheVariants.{Alu, Store as Save}
@@ -14,6 +14,7 @@ use Rattle.loop_ir.specs.declared.expressions.Expr.TheOpen.{Expr-F}
 use Rattle.loop_ir.specs.declared.expressions.Expr.TheOpen as layer
 use Rattle.loop_ir.specs.declared.expressions.Term.{Term}
 use Rattle.loop_ir.specs.declared.statements.LoopKind.{LoopKind}
+use Rattle.loop_ir.specs.declared.statements.LoopKind.TheVariants as kinds
 use Rattle.loop_ir.specs.declared.statements.Store.{Store}
 use Rattle.loop_ir.specs.declared.statements.Whole.{Whole}
 use Rattle.loop_ir.specs.declared.statements.Stmt.{Stmt, ind-Stmt, roll-Stmt, map-Stmt}
@@ -21,17 +22,18 @@ use Rattle.loop_ir.specs.declared.statements.Stmt.TheOpen.{Stmt-F}
 use Rattle.loop_ir.specs.declared.statements.Stmt.TheOpen as parts
 use Rattle.loop_ir.specs.declared.statements.Stmt.TheVariants.{rolls-Store, rolls-Sequence, rolls-For, rolls-Bind}
 use Rattle.loop_ir.specs.declared.statements.Stmt.TheVariants as s
-use Rattle.loop_ir.specs.Sizes.{Size, leaf, kept, size, size_at, size_of, whole_size}
+use Rattle.loop_ir.specs.Sizes.{Size, leaf, kept, size, size_at, size_of, are_copies, is_laid_out, loop_size, loop_room, whole_size}
 use Rattle.loop_ir.proofs.Folds.{Both, left_of, right_of, folds_related}
 use Rattle.loop_ir.proofs.Sizes.{whole_store, whole_sequence, whole_for, whole_bind}
 use Rattle.scalar_code.specs.declared.places.Pixels.{Pixels}
 use Rattle.scalar_code.specs.declared.places.Pixels.TheVariants as pixels
 use Rattle.scalar_code.specs.declared.places.Place.{Place}
 use Rattle.scalar_code.specs.declared.places.Places.{Places}
-use Rattle.scalar_code.specs.Code.{Made, Deep, pair, divided, triple, beside, operation, quotient, remainder, selection, literal, move, scaled, raised, copied, addressed, fetch, loading, place_of, terms_code, seat, seat_in, made_at, spill, unspill, frames_of, on_stack, deep_or, deep_leaf, deep_at, deep, second_code, value_code, store_code, loop_code, loop_tail, test, bounded, whole_code, bind_code}
+use Rattle.scalar_code.specs.Code.{Made, Deep, pair, divided, triple, beside, operation, quotient, remainder, selection, literal, move, scaled, raised, copied, addressed, fetch, loading, place_of, terms_code, seat, seat_in, made_at, spill, unspill, frames_of, on_stack, deep_or, deep_leaf, deep_at, deep, second_code, value_code, store_code, test, bounded, whole_code, bind_code}
 use Rattle.task_code.specs.Code.{stmt_code, task_scope, restored}
 use Rattle.task_code.specs.Lengths.{StatementsAreShort, TasksAreShort}
-use Rattle.task_code.specs.Code.{group_of_loop}
+use Rattle.task_code.specs.Code.{code_taken, group_of_loop, group_taken}
+use Rattle.task_code.proofs.StmtRefusing.{turns-length}
 use Rattle.task_code.proofs.Taking.{no-longer}
 use Rattle.task_code.proofs.Unrolled.{in_turn, code-store, code-sequence, code-for, code-bind}
 
@@ -231,8 +233,17 @@ store-short places scope store =
     let lv = value-short places scope store.value in
     omega (arith, i, j, k, l, a, lx, ly, lv)
 
-loop-length : (r n : ℕ) (body : List Insn) → length (loop_code r n body) ≡ length body + 7
-loop-length r n body = let l = length-append body (loop_tail r (length body)) in omega (arith, l)
+-- a longer body asks for more
+asks-most : (is_laid : Bool) (n words most : ℕ) → words ≤ most → loop_size is_laid n words ≤ loop_size is_laid n most
+asks-most is_laid n words most few = by-test (are_copies is_laid n)
+  where
+    times-most : (n : ℕ) → n * (words + 1) ≤ n * (most + 1)
+    times-most zero = omega arith
+    times-most (suc n) = let r = times-most n in omega (arith, r, few)
+
+    by-test : (b : Bool) → (if b then n * (words + 1) + 1 else words + 7) ≤ (if b then n * (most + 1) + 1 else most + 7)
+    by-test true = let t = times-most n in omega (arith, t)
+    by-test false = omega (arith, few)
 
 bounded-length : (last : Option ℕ) (r : ℕ) → length (bounded last r) ≤ 6
 bounded-length None r = omega arith
@@ -269,12 +280,29 @@ module _ (places : Places) where
   at-for : (counter : Counter) (count : ℕ) (kind : LoopKind) (body : Stmt) → IsShort body → IsShort (s.For counter count kind body)
   at-for counter count kind body inner scope =
       let e = ap (λ (is : List Insn). length is) (code-for places counter count kind body scope) in
-      let plain = in_turn places scope counter count body in
-      let i = loop-length (seat (length scope)) count (stmt_code places body (counter ∷ scope)) in
       let w = whole_for counter count kind body in
-      let j = inner (counter ∷ scope) in
-      let s = no-longer places scope counter count body plain (group_of_loop places scope counter count kind body) (omega (arith, i, j)) in
-      omega (arith, e, s, w)
+      let l = by-kind kind in
+      omega (arith, e, l, w)
+    where
+      turns-few : (kind : LoopKind) → length (in_turn places scope counter count kind body) ≤ loop_size (is_laid_out kind) count (whole_size body)
+      turns-few kind =
+          let i = turns-length (is_laid_out kind) (seat (length scope)) count (stmt_code places body (counter ∷ scope)) in
+          let m = asks-most (is_laid_out kind) count (length (stmt_code places body (counter ∷ scope))) (whole_size body) (inner (counter ∷ scope)) in
+          omega (arith, i, m)
+
+      plain-room : {n : ℕ} → n ≤ whole_size body + 7 → n ≤ whole_size body + 38
+      plain-room l = omega (arith, l)
+
+      all-room : {n : ℕ} → n ≤ whole_size body + 38 → n ≤ whole_size body + 7 + 31
+      all-room l = omega (arith, l)
+
+      by-kind : (kind : LoopKind) → length (code_taken places scope counter count body (in_turn places scope counter count kind body) (group_taken places scope counter count kind body (in_turn places scope counter count kind body)))
+          ≤ loop_room (is_laid_out kind) count (whole_size body)
+      by-kind kinds.Serial = let l = turns-few kinds.Serial in omega (arith, l)
+      by-kind kinds.Unrolled = let l = turns-few kinds.Unrolled in omega (arith, l)
+      by-kind kinds.Vectorized =
+          let plain = in_turn places scope counter count kinds.Vectorized body in
+          all-room (no-longer places scope counter count body plain (group_of_loop places scope counter count kinds.Vectorized body) (plain-room (turns-few kinds.Vectorized)))
 
   at-bind : (counter : Counter) (whole : Whole) (extent : ℕ) (body : Stmt) → IsShort body → IsShort (s.Bind counter whole extent body)
   at-bind counter whole extent body inner scope =

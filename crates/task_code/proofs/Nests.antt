@@ -1,5 +1,5 @@
 -- Words of parts of a statement, put together, and room for all.
-use Rattle.std.proofs.Common.{◌≡◌, ℕ, ◌^◌, ◌<◌, ◌≤◌, List, [], ◌∷◌, ◌++◌, length, true, ◌∙◌, sym, subst, arith}
+use Rattle.std.proofs.Common.{◌≡◌, ℕ, ◌^◌, ◌<◌, ◌≤◌, List, [], ◌∷◌, ◌++◌, length, Bool, true, ◌∙◌, sym, subst, arith}
 use Rattle.std.specs.Prelude.{nat_le, nat_lt}
 use Rattle.std.proofs.lemmas.Bool.{and_from}
 use Rattle.std.proofs.lemmas.Bool.Decides.{nat_tests}
@@ -11,8 +11,9 @@ use Rattle.loop_ir.specs.declared.statements.Store.{Store}
 use Rattle.loop_ir.specs.declared.statements.Stmt.{Stmt}
 use Rattle.loop_ir.specs.declared.statements.Stmt.TheVariants as s
 use Rattle.loop_ir.specs.declared.statements.Whole.{Whole}
+use Rattle.loop_ir.specs.Sizes.{is_laid_out}
 use Rattle.scalar_code.specs.declared.places.Places.{Places}
-use Rattle.scalar_code.specs.Code.{Deep, EmitsDeep, deep, frame_words, seat, store_code, loop_code, bind_code}
+use Rattle.scalar_code.specs.Code.{Deep, EmitsDeep, deep, frame_words, seat, store_code, turns_code, bind_code}
 use Rattle.task_code.specs.Code.{stmt_code, task_scope, restored}
 use Rattle.scalar_code.specs.Fitting.{is_word, has_room, has_seat, fits_store, fits_whole}
 use Rattle.task_code.specs.Fitting.{fits}
@@ -65,13 +66,15 @@ inner-emitted places start made slice view items wanted x body es em ev ew ex a 
     (subst (λ z. EmitsStmt [] z places x view) (sym em)
     (subst (λ z. EmitsStmt z made places x view) es a)))
 
-pub for-emitted : (places : Places) (scope : List Counter) (own body x : Stmt) (counter : Counter) (count r : ℕ) (kind : LoopKind) (inner start turns slice c0 c1 : List ℕ)
-    → own ≡ s.For counter count kind body → x ≡ body → r ≡ seat (length scope) → length scope < 14 → EmitsStmt [] inner places body (counter ∷ scope)
-    → ((insns : List Insn) → Emits [] inner insns → Emits start turns (loop_code r count insns)) × (count < 2 ^ 32) → start ≡ [] → slice ≡ turns
+pub for-emitted : (places : Places) (scope : List Counter) (own body x : Stmt) (counter : Counter) (count r : ℕ) (kind : LoopKind) (laid : Bool) (inner start turns slice c0 c1 : List ℕ)
+    → own ≡ s.For counter count kind body → x ≡ body → laid ≡ is_laid_out kind → r ≡ seat (length scope) → length scope < 14 → EmitsStmt [] inner places body (counter ∷ scope)
+    → ((insns : List Insn) → Emits [] inner insns → Emits start turns (turns_code laid r count insns)) × (count < 2 ^ 32) → start ≡ [] → slice ≡ turns
     → ((plain : List Insn) → Emits [] slice plain → Emits c0 c1 (code_taken places scope counter count x plain (group_taken places scope counter count kind x plain))) → EmitsStmt c0 c1 places own scope
-for-emitted places scope own body x counter count r kind inner start turns slice c0 c1 e ex er few part loop e0 es taken =
-    let plain = in_turn places scope counter count body in
-    let code : Emits start turns plain = subst (λ q. Emits start turns (loop_code q count (stmt_code places body (counter ∷ scope)))) er (loop.0 (stmt_code places body (counter ∷ scope)) part.emits) in
+for-emitted places scope own body x counter count r kind laid inner start turns slice c0 c1 e ex el er few part loop e0 es taken =
+    let plain = in_turn places scope counter count kind body in
+    let code : Emits start turns plain =
+    subst (λ q. Emits start turns (turns_code (is_laid_out kind) q count (stmt_code places body (counter ∷ scope)))) er
+    (subst (λ (b : Bool). Emits start turns (turns_code b r count (stmt_code places body (counter ∷ scope)))) el (loop.0 (stmt_code places body (counter ∷ scope)) part.emits)) in
     let all = taken plain (subst (λ z. Emits [] z plain) (sym es) (subst (λ z. Emits z turns plain) e0 code)) in
     subst (λ z. EmitsStmt c0 c1 places z scope) (sym e) (record {
       emits = emits-is (subst (λ y. Emits c0 c1 (code_taken places scope counter count y plain (group_taken places scope counter count kind y plain))) ex all) (sym (code-for places counter count kind body scope));

@@ -1,7 +1,11 @@
 -- What is too long or too deep in a part of a statement is so in the whole.
-use Rattle.std.proofs.Common.{◌≡◌, ℕ, ◌+◌, ◌^◌, ◌≤◌, List, [], ◌∷◌, ◌++◌, length, Option, Some, None, inl, inr, refl, ap, ◌∙◌, sym, subst, arith, length-append}
-use Rattle.std.specs.Prelude.{Result, IfErr, IsErrAnd}
+use Rattle.std.proofs.Common.{◌≡◌, ℕ, zero, suc, ◌+◌, ◌*◌, ◌^◌, ◌≤◌, Bool, true, false, List, [], ◌∷◌, ◌++◌, length, Option, Some, None, inl, inr, refl, ap, ◌∙◌, sym, subst, arith, length-append}
+use Rattle.std.proofs.lemmas.Bool.{and_parts}
+use Rattle.std.proofs.lemmas.Bool.Decides.{nat_tests}
+use Rattle.std.specs.Prelude.{pos, nat_lt, if◌then◌else◌, Result, IfErr, IsErrAnd}
 use Rattle.rv_insn.specs.declared.instructions.Insn.{Insn}
+use Rattle.rv_insn.specs.declared.instructions.Insn.TheVariants.{AluImm}
+use Rattle.rv_insn.specs.declared.operations.AluImmOp.TheVariants as alu_imms
 use Rattle.loop_ir.specs.declared.expressions.Counter.{Counter}
 use Rattle.loop_ir.specs.declared.statements.LoopKind.{LoopKind}
 use Rattle.loop_ir.specs.declared.statements.Phase.{Phase}
@@ -11,11 +15,12 @@ use Rattle.loop_ir.specs.declared.statements.Stmt.TheVariants as s
 use Rattle.loop_ir.specs.declared.statements.Whole.{Whole}
 use Rattle.loop_ir.specs.Depths.{depth, count_of}
 use Rattle.loop_ir.specs.Needs.{greatest_need}
+use Rattle.loop_ir.specs.Sizes.{are_copies, is_laid_out, loop_size}
 use Rattle.loop_ir.proofs.Depths.{depth_sequence, depth_for, depth_bind}
 use Rattle.loop_ir.proofs.Needs.{greatest_store, greatest_sequence, greatest_for, greatest_bind}
 use Rattle.scalar_code.specs.declared.CodeFault.{CodeFault}
 use Rattle.scalar_code.specs.declared.places.Places.{Places}
-use Rattle.scalar_code.specs.Code.{seat, loop_code, loop_tail, bind_code, test, whole_code}
+use Rattle.scalar_code.specs.Code.{seat, copies_code, laid_out_code, loop_code, turns_code, loop_tail, bind_code, test, whole_code}
 use Rattle.task_code.specs.Code.{stmt_code, task_scope, restored}
 use Rattle.scalar_code.specs.Faults.{IsLong, HasRoom, FitsStore}
 use Rattle.task_code.specs.Faults.{IsStmtFault, IsTaskFault, FitsStmt}
@@ -31,8 +36,38 @@ use Rattle.task_code.proofs.Unrolled.{in_turn, code-sequence, code-for, code-bin
 long-is : (a b : List Insn) → a ≡ b → length b ≡ length a
 long-is a b e = ap length (sym e)
 
-loop-length : (r n : ℕ) (body : List Insn) → length (loop_code r n body) ≡ length body + 7
-loop-length r n body = omega (arith, length-append body (loop_tail r (length body)))
+copies-length : (r n : ℕ) (body : List Insn) → length (copies_code r n body) ≡ n * (length body + 1)
+unfolding copies_code
+copies-length r zero body = let g : 0 ≡ 0 * (length body + 1) = omega arith in g
+copies-length r (suc n) body =
+    let one = body ++ AluImm alu_imms.Addi r r (pos 1) ∷ [] in
+    let l = copies-length r n body in
+    let a = length-append (copies_code r n body) one in
+    let b = length-append body (AluImm alu_imms.Addi r r (pos 1) ∷ []) in
+    omega (arith, l, a, b)
+
+-- as many words as a loop of its kind asks for
+pub turns-length : (is_laid : Bool) (r n : ℕ) (body : List Insn) → length (turns_code is_laid r n body) ≡ loop_size is_laid n (length body)
+turns-length is_laid r n body = by-test (are_copies is_laid n)
+  where
+    by-test : (b : Bool) → length (if b then laid_out_code r n body else loop_code r n body) ≡ (if b then n * (length body + 1) + 1 else length body + 7)
+    by-test true = let l = copies-length r n body in omega (arith, l)
+    by-test false = omega (arith, length-append body (loop_tail r (length body)))
+
+some-rounds : (n : ℕ) → nat_lt 0 n ≡ true → 1 ≤ n
+some-rounds n t = grind (arith, nat_tests)
+
+-- a loop asks for no fewer words than its body has
+asks-more : (is_laid : Bool) (n words : ℕ) → words ≤ loop_size is_laid n words
+asks-more is_laid n words = by-test (are_copies is_laid n) refl
+  where
+    as-many : (n : ℕ) → 1 ≤ n → words ≤ n * (words + 1)
+    as-many zero some = absurd (omega (arith, some))
+    as-many (suc n) some = omega arith
+
+    by-test : (b : Bool) → are_copies is_laid n ≡ b → words ≤ (if b then n * (words + 1) + 1 else words + 7)
+    by-test true e = let m = as-many n (some-rounds n (and_parts is_laid (nat_lt 0 n) e).1) in omega (arith, m)
+    by-test false e = omega arith
 
 bind-length : (scope : List Counter) (whole : Whole) (extent r : ℕ) (body : List Insn) → length body + 4 ≤ length (bind_code scope whole extent r body)
 bind-length scope whole extent r body =
@@ -103,16 +138,16 @@ module _ (places : Places) where
   -- ---- loops
 
   -- a loop whose rounds in turn are too long is as long
-  for-grown : (counter : Counter) (count : ℕ) (kind : LoopKind) (body : Stmt) (scope : List Counter) → 2 ^ 18 ≤ length (stmt_code places body (counter ∷ scope)) + 7 → IsLong (stmt_code places (s.For counter count kind body) scope)
+  for-grown : (counter : Counter) (count : ℕ) (kind : LoopKind) (body : Stmt) (scope : List Counter) → 2 ^ 18 ≤ loop_size (is_laid_out kind) count (length (stmt_code places body (counter ∷ scope))) → IsLong (stmt_code places (s.For counter count kind body) scope)
   for-grown counter count kind body scope long =
-      let plain = in_turn places scope counter count body in
-      let n = loop-length (seat (length scope)) count (stmt_code places body (counter ∷ scope)) in
+      let plain = in_turn places scope counter count kind body in
+      let n = turns-length (is_laid_out kind) (seat (length scope)) count (stmt_code places body (counter ∷ scope)) in
       let e = ap length (code-for places counter count kind body scope ∙ long-stays places scope counter count body plain (group_of_loop places scope counter count kind body) (omega (arith, n, long))) in
       omega (arith, n, e, long)
 
   for-is : (counter : Counter) (count : ℕ) (kind : LoopKind) (body : Stmt) (scope : List Counter) → IsPart body (counter ∷ scope) (s.For counter count kind body) scope
   for-is counter count kind body scope = record {
-    long = λ long. for-grown counter count kind body scope (omega (arith, long));
+    long = λ long. let m = asks-more (is_laid_out kind) count (length (stmt_code places body (counter ∷ scope))) in for-grown counter count kind body scope (omega (arith, long, m));
     room = let g = greatest_for counter count kind body in let d = depth_for counter count kind body in
         less-fits body (s.For counter count kind body) (length (counter ∷ scope)) (length scope) (omega (arith, g)) (omega (arith, d));
   }
@@ -121,11 +156,11 @@ module _ (places : Places) where
       → items ≡ counter ∷ scope → IsPart x view own scope
   for-part own body x counter count kind scope view items e ex ev ei = whole-is own e (of-same x view ex (ev ∙ ei) (for-is counter count kind body scope))
 
-  pub for-long : (own body : Stmt) (counter : Counter) (count : ℕ) (kind : LoopKind) (scope : List Counter) (inner : List ℕ) → own ≡ s.For counter count kind body
-      → EmitsStmt [] inner places body (counter ∷ scope) → 2 ^ 18 ≤ length inner + 7 → IsLong (stmt_code places own scope)
-  for-long own body counter count kind scope inner e part long =
+  pub for-long : (own body : Stmt) (counter : Counter) (count : ℕ) (kind : LoopKind) (laid : Bool) (scope : List Counter) (inner : List ℕ) → own ≡ s.For counter count kind body → laid ≡ is_laid_out kind
+      → EmitsStmt [] inner places body (counter ∷ scope) → 2 ^ 18 ≤ loop_size laid count (length inner) → IsLong (stmt_code places own scope)
+  for-long own body counter count kind laid scope inner e el part long =
       let n = emits-length inner (stmt_code places body (counter ∷ scope)) part.emits in
-      subst (λ (y : Stmt). IsLong (stmt_code places y scope)) (sym e) (for-grown counter count kind body scope (omega (arith, n, long)))
+      subst (λ (y : Stmt). IsLong (stmt_code places y scope)) (sym e) (for-grown counter count kind body scope (subst (λ (k : ℕ). 2 ^ 18 ≤ loop_size (is_laid_out kind) count k) n (subst (λ (b : Bool). 2 ^ 18 ≤ loop_size b count (length inner)) el long)))
 
   pub for-seatless : (own body : Stmt) (counter : Counter) (count : ℕ) (kind : LoopKind) (scope : List Counter) → own ≡ s.For counter count kind body → 14 ≤ length scope
       → FitsStmt places own (length scope) → ⊥

@@ -1,5 +1,5 @@
 -- When a loop's rounds are done at once.
-use Rattle.std.proofs.Common.{◌≡◌, ℕ, ◌+◌, ◌^◌, ◌<◌, ◌≤◌, List, [], ◌++◌, length, Bool, true, false, refl, ap, ◌∙◌, sym, subst, arith}
+use Rattle.std.proofs.Common.{◌≡◌, ℕ, ◌+◌, ◌^◌, ◌≤◌, List, [], ◌++◌, length, Bool, true, false, refl, ap, ◌∙◌, sym, subst, arith}
 use Rattle.std.specs.Prelude.{◌&&◌, min, nat_le, nat_lt, if◌then◌else◌, Option, Some, None}
 use Rattle.std.proofs.lemmas.Bool.{and_parts, true≢false}
 use Rattle.std.proofs.lemmas.Bool.Decides.{nat_tests}
@@ -74,25 +74,25 @@ module _ (places : Places) (scope : List Counter) (counter : Counter) (count : �
 
   -- ---- its words
 
-  pub no-longer : (plain : List Insn) (own : Option Group) → length plain ≤ whole_size body + 7 → length (code_taken places scope counter count body plain (if_short places scope counter count body plain own)) ≤ whole_size body + 7
+  pub no-longer : (plain : List Insn) (own : Option Group) → length plain ≤ whole_size body + 38 → length (code_taken places scope counter count body plain (if_short places scope counter count body plain own)) ≤ whole_size body + 38
   no-longer plain None few = few
   no-longer plain (Some group) few = by-test (is_short body plain (rounds group)) refl
     where
-      by-test : (t : Bool) → is_short body plain (rounds group) ≡ t → length (code_taken places scope counter count body plain (if t then Some group else None)) ≤ whole_size body + 7
+      by-test : (t : Bool) → is_short body plain (rounds group) ≡ t → length (code_taken places scope counter count body plain (if t then Some group else None)) ≤ whole_size body + 38
       by-test true e =
-          let l = at-most (length (rounds group)) (min (whole_size body + 7) (2 ^ 18)) (and_parts (nat_lt (length plain) (2 ^ 18)) (nat_le (length (rounds group)) (min (whole_size body + 7) (2 ^ 18))) e).1 in
+          let l = at-most (length (rounds group)) (min (whole_size body + 38) (2 ^ 18)) (and_parts (nat_lt (length plain) (2 ^ 18)) (nat_le (length (rounds group)) (min (whole_size body + 38) (2 ^ 18))) e).1 in
           omega (arith, l)
       by-test false e = few
 
   pub long-stays : (plain : List Insn) (own : Option Group) → 2 ^ 18 ≤ length plain → code_taken places scope counter count body plain (if_short places scope counter count body plain own) ≡ plain
   long-stays plain None l = refl
   long-stays plain (Some group) l =
-      ap (λ t. code_taken places scope counter count body plain (if t then Some group else None)) (false-first (nat_lt (length plain) (2 ^ 18)) (nat_le (length (rounds group)) (min (whole_size body + 7) (2 ^ 18))) (is-long (length plain) l))
+      ap (λ t. code_taken places scope counter count body plain (if t then Some group else None)) (false-first (nat_lt (length plain) (2 ^ 18)) (nat_le (length (rounds group)) (min (whole_size body + 38) (2 ^ 18))) (is-long (length plain) l))
 
   -- ---- words that are appended
 
   abbrev most : ℕ
-  most = min (whole_size body + 7) (2 ^ 18)
+  most = min (whole_size body + 38) (2 ^ 18)
 
   abbrev takes : Bool → List ℕ → List ℕ → Bool
   takes found made turns = found && (nat_lt (length turns) (2 ^ 18) && nat_le (length made) most)

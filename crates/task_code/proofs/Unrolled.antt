@@ -13,10 +13,11 @@ use Rattle.loop_ir.specs.declared.statements.Stmt.TheVariants.{rolls-Store, roll
 use Rattle.loop_ir.specs.declared.statements.Stmt.TheVariants as s
 use Rattle.loop_ir.specs.Counters.{Values, with}
 use Rattle.loop_ir.specs.Running.{whole_value}
+use Rattle.loop_ir.specs.Sizes.{is_laid_out}
 use Rattle.scalar_code.specs.declared.places.Places.{Places}
-use Rattle.scalar_code.specs.Code.{seat, store_code, loop_code, whole_code, bind_code}
-use Rattle.task_code.specs.Code.{Coded, coded, coded_at, stmt_code, stmt_turns, code_taken, turns_taken, group_taken}
-use Rattle.scalar_code.specs.Fitting.{is_word, has_seat, fits_store, fits_whole, total}
+use Rattle.scalar_code.specs.Code.{seat, store_code, turns_code, whole_code, bind_code}
+use Rattle.task_code.specs.Code.{Coded, coded, coded_at, stmt_code, stmt_turns, code_taken, turns_taken, turns_of, group_taken}
+use Rattle.scalar_code.specs.Fitting.{is_word, has_seat, fits_store, fits_whole}
 use Rattle.task_code.specs.Fitting.{fits_at, fits}
 
 module _ (places : Places) where
@@ -62,8 +63,8 @@ module _ (places : Places) where
   -- ---- code
 
   -- the rounds of a loop in turn
-  abbrev pub in_turn : List Counter → Counter → ℕ → Stmt → List Insn
-  in_turn scope counter count body = loop_code (seat (length scope)) count (stmt_code places body (counter ∷ scope))
+  abbrev pub in_turn : List Counter → Counter → ℕ → LoopKind → Stmt → List Insn
+  in_turn scope counter count kind body = turns_code (is_laid_out kind) (seat (length scope)) count (stmt_code places body (counter ∷ scope))
 
   pub code-store : (store : Store) (scope : List Counter) → stmt_code places (s.Store store) scope ≡ store_code places scope store
   code-store store scope = ap (λ (c : Coded). c.code scope) (coded-store store)
@@ -72,9 +73,9 @@ module _ (places : Places) where
   code-sequence first second scope = ap (λ (c : Coded). c.code scope) (coded-sequence first second)
 
   pub code-for : (counter : Counter) (count : ℕ) (kind : LoopKind) (body : Stmt) (scope : List Counter) → stmt_code places (s.For counter count kind body) scope
-      ≡ code_taken places scope counter count body (in_turn scope counter count body) (group_taken places scope counter count kind body (in_turn scope counter count body))
+      ≡ code_taken places scope counter count body (in_turn scope counter count kind body) (group_taken places scope counter count kind body (in_turn scope counter count kind body))
   code-for counter count kind body scope =
-      let plain = in_turn scope counter count body in
+      let plain = in_turn scope counter count kind body in
       ap (λ (c : Coded). c.code scope) (coded-for counter count kind body) ∙ ap (λ b. code_taken places scope counter count b plain (group_taken places scope counter count kind b plain)) (own-is body)
 
   pub code-bind : (counter : Counter) (whole : Whole) (extent : ℕ) (body : Stmt) (scope : List Counter)
@@ -114,14 +115,14 @@ module _ (places : Places) where
       → stmt_turns places (s.Sequence first second) scope values ≡ stmt_turns places first scope values + stmt_turns places second scope values
   turns-sequence first second scope values = ap (λ (c : Coded). c.turns scope values) (coded-sequence first second)
 
-  abbrev pub turns_in_turn : List Counter → Counter → ℕ → Stmt → Values → ℕ
-  turns_in_turn scope counter count body values = 1 + (total count (λ turn. 3 + (stmt_turns places body (counter ∷ scope) (with counter turn values) + 2)) + 4)
+  abbrev pub turns_in_turn : List Counter → Counter → ℕ → LoopKind → Stmt → Values → ℕ
+  turns_in_turn scope counter count kind body values = turns_of (is_laid_out kind) count (λ turn. stmt_turns places body (counter ∷ scope) (with counter turn values))
 
   pub turns-for : (counter : Counter) (count : ℕ) (kind : LoopKind) (body : Stmt) (scope : List Counter) (values : Values) → stmt_turns places (s.For counter count kind body) scope values
-      ≡ turns_taken places scope counter body values (turns_in_turn scope counter count body values) (group_taken places scope counter count kind body (in_turn scope counter count body))
+      ≡ turns_taken places scope counter body values (turns_in_turn scope counter count kind body values) (group_taken places scope counter count kind body (in_turn scope counter count kind body))
   turns-for counter count kind body scope values =
-      let plain = in_turn scope counter count body in
-      let n = turns_in_turn scope counter count body values in
+      let plain = in_turn scope counter count kind body in
+      let n = turns_in_turn scope counter count kind body values in
       ap (λ (c : Coded). c.turns scope values) (coded-for counter count kind body) ∙ ap (λ b. turns_taken places scope counter b values n (group_taken places scope counter count kind b plain)) (own-is body)
 
   pub turns-bind : (counter : Counter) (whole : Whole) (extent : ℕ) (body : Stmt) (scope : List Counter) (values : Values)

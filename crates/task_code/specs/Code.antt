@@ -1,6 +1,7 @@
 -- The code of statements and of a task, as lists of instructions. This project's own.
 --
--- A vectorized loop's rounds are done at once where they can be, in no more words than the loop may ask for.
+-- A vectorized loop's rounds are done at once where they can be, in no more words than the loop may ask for. An unrolled loop is laid out: a
+-- copy of its body for each round, one behind the other. One of no rounds is counted.
 use Rattle.std.specs.Prelude.{ℕ, ◌+◌, ◌^◌, ◌&&◌, Bool, min, nat_le, nat_lt, if◌then◌else◌, List, [], ◌∷◌, ◌++◌, length, Option, Some, None}
 use Rattle.rv_insn.specs.declared.instructions.Insn.{Insn}
 use Rattle.loop_ir.specs.declared.expressions.Counter.{Counter}
@@ -13,9 +14,9 @@ use Rattle.loop_ir.specs.declared.statements.Stmt.TheOpen as parts
 use Rattle.loop_ir.specs.declared.statements.Stmt.TheVariants as stmts
 use Rattle.loop_ir.specs.Counters.{Values, with}
 use Rattle.loop_ir.specs.Running.{whole_value}
-use Rattle.loop_ir.specs.Sizes.{whole_size}
+use Rattle.loop_ir.specs.Sizes.{are_copies, is_laid_out, whole_size}
 use Rattle.scalar_code.specs.declared.places.Places.{Places}
-use Rattle.scalar_code.specs.Code.{seat, literal, store_code, loop_code, whole_code, bind_code}
+use Rattle.scalar_code.specs.Code.{seat, literal, store_code, turns_code, whole_code, bind_code}
 use Rattle.scalar_code.specs.Fitting.{total}
 use Rattle.lane_code.specs.declared.groups.Group.{Group}
 use Rattle.lane_code.specs.Groups.{group_of_rounds}
@@ -35,7 +36,7 @@ group_of_loop places scope counter count kinds.Vectorized body = fitting places 
 
 -- Their code takes no more words than the loop may ask for, and that of the rounds in turn isn't longer than a jump reaches.
 abbrev pub is_short : Stmt → List Insn → List Insn → Bool
-is_short body in_turn at_once = nat_lt (length in_turn) (2 ^ 18) && nat_le (length at_once) (min (whole_size body + 7) (2 ^ 18))
+is_short body in_turn at_once = nat_lt (length in_turn) (2 ^ 18) && nat_le (length at_once) (min (whole_size body + 38) (2 ^ 18))
 
 abbrev pub if_short : Places → List Counter → Counter → ℕ → Stmt → List Insn → Option Group → Option Group
 if_short places scope counter count body in_turn None = None
@@ -62,12 +63,15 @@ pub record Coded : Type 0 where
   pub code : List Counter → List Insn
   pub turns : List Counter → Values → ℕ
 
-abbrev pub turn_by_turn : List Counter → Counter → ℕ → Coded → List Insn
-turn_by_turn scope counter count body = loop_code (seat (length scope)) count (body.code (counter ∷ scope))
+abbrev pub turn_by_turn : List Counter → Counter → ℕ → LoopKind → Coded → List Insn
+turn_by_turn scope counter count kind body = turns_code (is_laid_out kind) (seat (length scope)) count (body.code (counter ∷ scope))
 
--- A test takes three turns where the body is made, and one more where it is passed by; a round, two behind its body.
-abbrev pub loop_turns : List Counter → Counter → ℕ → Coded → Values → ℕ
-loop_turns scope counter count body values = 1 + (total count (λ turn. 3 + (body.turns (counter ∷ scope) (with counter turn values) + 2)) + 4)
+-- A test takes three turns where the body is made, and one more where it is passed by; a round, two behind its body, and one in a copy.
+abbrev pub turns_of : Bool → ℕ → (ℕ → ℕ) → ℕ
+turns_of is_laid count body = if are_copies is_laid count then 1 + total count (λ turn. body turn + 1) else 1 + (total count (λ turn. 3 + (body turn + 2)) + 4)
+
+abbrev pub loop_turns : List Counter → Counter → ℕ → LoopKind → Coded → Values → ℕ
+loop_turns scope counter count kind body values = turns_of (is_laid_out kind) count (λ turn. body.turns (counter ∷ scope) (with counter turn values))
 
 abbrev pub coded_at : Places → Stmt-F Coded → Coded
 coded_at places (parts.Store store) = record {
@@ -82,8 +86,8 @@ coded_at places (parts.Sequence first second) = record {
 }
 coded_at places (parts.For counter count kind body) = record {
   own = stmts.For counter count kind body.own;
-  code = λ scope. code_taken places scope counter count body.own (turn_by_turn scope counter count body) (group_taken places scope counter count kind body.own (turn_by_turn scope counter count body));
-  turns = λ scope values. turns_taken places scope counter body.own values (loop_turns scope counter count body values) (group_taken places scope counter count kind body.own (turn_by_turn scope counter count body));
+  code = λ scope. code_taken places scope counter count body.own (turn_by_turn scope counter count kind body) (group_taken places scope counter count kind body.own (turn_by_turn scope counter count kind body));
+  turns = λ scope values. turns_taken places scope counter body.own values (loop_turns scope counter count kind body values) (group_taken places scope counter count kind body.own (turn_by_turn scope counter count kind body));
 }
 coded_at places (parts.Bind counter whole extent body) = record {
   own = stmts.Bind counter whole extent body.own;

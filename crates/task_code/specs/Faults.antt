@@ -1,5 +1,5 @@
 -- Why no code of a statement or a task is given: for each fault what stands then. This project's own.
-use Rattle.std.specs.Prelude.{◌≡◌, ◌≤◌, ◌<◌, ◌⊎◌, ℕ, ◌+◌, ◌^◌, List, length}
+use Rattle.std.specs.Prelude.{◌≤◌, ℕ, ◌+◌, List, length}
 use Rattle.loop_ir.specs.declared.expressions.Counter.{Counter}
 use Rattle.loop_ir.specs.declared.statements.Phase.{Phase}
 use Rattle.loop_ir.specs.declared.statements.Stmt.{Stmt}

@@ -4,7 +4,8 @@ ghost use Rattle.std.specs.Prelude.{◌≡◌, ℕ, ◌+◌, ◌*◌, ◌^◌, �
 ghost use Rattle.loop_ir.specs.Sizes as spec;
 
 use loop_ir::expressions::Expr;
-use loop_ir::statements::{Stmt, Store};
+use loop_ir::statements::{LoopKind, Stmt, Store};
+use scalar_code::loops::are_copies;
 
 fn plus(a: u32, b: u32) -> u32
     requires { (a ≤ 2 ^ 18) × (b ≤ 2 ^ 18) }
@@ -76,6 +77,41 @@ fn store_size(store: &Store) -> u32
     )
 }
 
+/// Whether a loop of this kind is laid out, one copy of its body a round.
+pub(crate) fn is_laid_out(kind: LoopKind) -> bool
+    ensures { result ≡ spec.is_laid_out kind }
+{
+    match kind {
+        LoopKind::Serial => false,
+        LoopKind::Unrolled => true,
+        LoopKind::Vectorized => false,
+    }
+}
+
+/// So many times a size.
+fn times(count: u32, size: u32) -> u32
+    ensures { (result ≤ 2 ^ 18) × (result ≡ min (count * size) (2 ^ 18)) }
+{
+    let product = (count as u64).saturating_mul(size as u64);
+    if product < 1 << 18 {
+        product as u32
+    } else {
+        1 << 18
+    }
+}
+
+/// Of a loop in so many turns around a body of so many words.
+fn loop_size(is_laid: bool, count: u32, body: u32) -> u32
+    requires { body ≤ 2 ^ 18 }
+    ensures { (result ≤ 2 ^ 18) × ((n : ℕ) → body ≡ min n (2 ^ 18) → result ≡ min (spec.loop_size is_laid count n) (2 ^ 18)) }
+{
+    if are_copies(is_laid, count) {
+        plus(times(count, plus(body, 1)), 1)
+    } else {
+        plus(body, 7)
+    }
+}
+
 /// Of all of a statement, or 2^18 where it is more.
 fn whole_size(stmt: &Stmt) -> u32
     ensures { (result ≤ 2 ^ 18) × (result ≡ min (spec.whole_size stmt.now) (2 ^ 18)) }
@@ -83,14 +119,17 @@ fn whole_size(stmt: &Stmt) -> u32
     match stmt {
         Stmt::Store(store) => store_size(store),
         Stmt::Sequence(first, second) => plus(whole_size(first.get()), whole_size(second.get())),
-        Stmt::For(_, _, _, body) => plus(whole_size(body.get()), 7),
-        Stmt::Bind(_, _, _, body) => plus(whole_size(body.get()), 14),
+        Stmt::For(_, count, kind, body) => {
+            let turns = loop_size(is_laid_out(*kind), *count, whole_size(body.get()));
+            plus(turns, 31)
+        }
+        Stmt::Bind(_, _, _, body) => plus(whole_size(body.get()), 25),
     }
 }
 
-/// Of a loop around a statement.
-pub(crate) fn loop_size(body: &Stmt) -> u32
-    ensures { result ≡ min (spec.whole_size body.now + 7) (2 ^ 18) }
+/// Of a loop around a statement whose rounds are made at once.
+pub(crate) fn at_once_size(body: &Stmt) -> u32
+    ensures { result ≡ min (spec.whole_size body.now + 38) (2 ^ 18) }
 {
-    plus(whole_size(body), 7)
+    plus(whole_size(body), 38)
 }

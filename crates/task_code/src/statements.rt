@@ -11,7 +11,7 @@ ghost use Rattle.task_code.specs.Taking.{EmitsAtOnce};
 ghost use Rattle.task_code.specs.Tasks.{EmitsStmt, EmitsTask};
 ghost use Rattle.scalar_code.specs.Words.{Emits};
 
-use crate::sizes::loop_size;
+use crate::sizes::{at_once_size, is_laid_out};
 use halide_pipeline::Source;
 use lane_code::groups::Group;
 use loop_ir::expressions::Counter;
@@ -21,7 +21,7 @@ use scalar_code::CodeFault;
 use scalar_code::expressions::{emit_number, place_of};
 use scalar_code::frames::emit_deep;
 use scalar_code::instructions::{emit_literal, store_word};
-use scalar_code::loops::{append, emit_bind, emit_loop, emit_move, next_seat, with_counter};
+use scalar_code::loops::{append, emit_bind, emit_move, emit_turns, next_seat, with_counter};
 use scalar_code::operations::emit_addressed;
 use scalar_code::places::Places;
 use std::alloc::{AllocError, Global};
@@ -107,7 +107,7 @@ fn emit_taken(
         kind,
         body,
     )?;
-    let most = loop_size(body);
+    let most = at_once_size(body);
     if is_taken(found, at_once.len(), in_turn.len(), most) {
         append(code, at_once.as_slice())?;
         return Ok(());
@@ -143,7 +143,8 @@ fn emit_stmt(
             let mut inner = Vec::new(alloc);
             emit_stmt(alloc, &mut inner, places, within.as_slice(), body.get())?;
             let mut in_turn = Vec::new(alloc);
-            emit_loop(&mut in_turn, r, *count, inner.as_slice())?;
+            let is_laid = is_laid_out(*kind);
+            emit_turns(&mut in_turn, is_laid, r, *count, inner.as_slice())?;
             emit_taken(
                 alloc,
                 code,

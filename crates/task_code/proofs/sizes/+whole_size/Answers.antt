@@ -14,8 +14,8 @@ returns-in-Sequence t c = (
 pub returns-in-For : goal.returns-in-For
 returns-in-For t c = (
   c.plus-in-For.ensures.0,
-  for-whole c.args.stmt.now c.in-For.body c.get-in-For.result.now c.in-For.field-0 c.in-For.field-1 c.in-For.field-2 c.whole_size-in-For.result c.plus-in-For.result c.in-For.is c.get-in-For.ensures c.whole_size-in-For.ensures.1
-      c.plus-in-For.ensures.1,
+  for-whole c.args.stmt.now c.in-For.body c.get-in-For.result.now c.in-For.field-0 c.in-For.count c.in-For.kind c.is_laid_out.result c.whole_size-in-For.result c.loop_size-turns.result c.plus-in-For.result c.in-For.is c.get-in-For.ensures c.is_laid_out.ensures
+      c.whole_size-in-For.ensures.1 c.loop_size-turns.ensures.1 c.plus-in-For.ensures.1,
 )
 
 pub returns-in-Bind : goal.returns-in-Bind

@@ -15,12 +15,12 @@ returns-in_ok-emit_stmt-in-Sequence-2-clause-ok t c =
 
 pub returns-in_ok-emit_taken-in-For-clause-ok : goal.returns-in_ok-emit_taken-in-For-clause-ok
 returns-in_ok-emit_taken-in-For-clause-ok t c =
-    for-emitted c.args.places.now c.args.scope.now c.args.stmt.now c.in-For.body c.get-in-For-2.result.now c.in-For.counter c.in-For.count c.in_ok-r-in-For.r c.in-For.kind c.as_slice-in-For.result.now
-    c.new-in_turn.result.items c.emit_loop.new.code.items c.as_slice-in-For-2.result.now _ _ c.in-For.is c.get-in-For-2.ensures c.in_ok-r-in-For.ensures.ok.0 c.in_ok-r-in-For.ensures.ok.1.1
+    for-emitted c.args.places.now c.args.scope.now c.args.stmt.now c.in-For.body c.get-in-For-2.result.now c.in-For.counter c.in-For.count c.in_ok-r-in-For.r c.in-For.kind c.is_laid_out-is_laid.result c.as_slice-in-For.result.now
+    c.new-in_turn.result.items c.emit_turns.new.code.items c.as_slice-in-For-2.result.now _ _ c.in-For.is c.get-in-For-2.ensures c.is_laid_out-is_laid.ensures c.in_ok-r-in-For.ensures.ok.0 c.in_ok-r-in-For.ensures.ok.1.1
     (inner-emitted c.args.places.now c.new-inner.result.items c.emit_stmt-in-For.new.code.items c.as_slice-in-For.result.now c.as_slice.result.now c.in_ok-within-in-For.within.items
     (c.in-For.counter ∷ c.args.scope.now) c.get-in-For.result.now c.in-For.body
     c.new-inner.ensures.items c.as_slice-in-For.ensures.value c.as_slice.ensures.value c.in_ok-within-in-For.ensures c.get-in-For.ensures c.in_ok-emit_stmt-in-For.ensures.ok)
-    c.in_ok-emit_loop-in-For.ensures.ok c.new-in_turn.ensures.items c.as_slice-in-For-2.ensures.value c.in_ok-emit_taken-in-For.ensures
+    c.in_ok-emit_turns-in-For.ensures.ok c.new-in_turn.ensures.items c.as_slice-in-For-2.ensures.value c.in_ok-emit_taken-in-For.ensures
 
 pub returns-in_ok-emit_bind-in-Bind-clause-ok : goal.returns-in_ok-emit_bind-in-Bind-clause-ok
 returns-in_ok-emit_bind-in-Bind-clause-ok t c =
@@ -51,14 +51,14 @@ pub returns-in_err-emit_stmt-in-For-clause-err : goal.returns-in_err-emit_stmt-i
 returns-in_err-emit_stmt-in-For-clause-err t c =
     part-passed c.args.places.now c.from_residual-in_err-emit_stmt-in-For.result c.in_err-emit_stmt-in-For.field-0.0 c.from_residual-in_err-emit_stmt-in-For.ensures.1 (for-part c.args.places.now c.args.stmt.now c.in-For.body _ c.in-For.counter c.in-For.count c.in-For.kind c.args.scope.now _ _ c.in-For.is c.get-in-For.ensures c.as_slice.ensures.value c.in_ok-within-in-For.ensures) c.in_err-emit_stmt-in-For.ensures.err
 
-pub returns-in_err-emit_loop-in-For-clause-err : goal.returns-in_err-emit_loop-in-For-clause-err
-returns-in_err-emit_loop-in-For-clause-err t c =
-    passed c.from_residual-in_err-emit_loop-in-For.result c.in_err-emit_loop-in-For.field-0.0 c.from_residual-in_err-emit_loop-in-For.ensures.1
-    (for-long c.args.places.now c.args.stmt.now c.in-For.body c.in-For.counter c.in-For.count c.in-For.kind c.args.scope.now c.as_slice-in-For.result.now c.in-For.is
+pub returns-in_err-emit_turns-in-For-clause-err : goal.returns-in_err-emit_turns-in-For-clause-err
+returns-in_err-emit_turns-in-For-clause-err t c =
+    passed c.from_residual-in_err-emit_turns-in-For.result c.in_err-emit_turns-in-For.field-0.0 c.from_residual-in_err-emit_turns-in-For.ensures.1
+    (for-long c.args.places.now c.args.stmt.now c.in-For.body c.in-For.counter c.in-For.count c.in-For.kind c.is_laid_out-is_laid.result c.args.scope.now c.as_slice-in-For.result.now c.in-For.is c.is_laid_out-is_laid.ensures
     (inner-emitted c.args.places.now c.new-inner.result.items c.emit_stmt-in-For.new.code.items c.as_slice-in-For.result.now c.as_slice.result.now c.in_ok-within-in-For.within.items
     (c.in-For.counter ∷ c.args.scope.now) c.get-in-For.result.now c.in-For.body
     c.new-inner.ensures.items c.as_slice-in-For.ensures.value c.as_slice.ensures.value c.in_ok-within-in-For.ensures c.get-in-For.ensures c.in_ok-emit_stmt-in-For.ensures.ok))
-    (λ deep. absurd deep) c.in_err-emit_loop-in-For.ensures.err
+    (λ deep. absurd deep) c.in_err-emit_turns-in-For.ensures.err
 
 pub returns-in_err-r-in-Bind-clause-err : goal.returns-in_err-r-in-Bind-clause-err
 returns-in_err-r-in-Bind-clause-err t c =
