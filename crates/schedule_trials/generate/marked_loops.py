@@ -1,10 +1,10 @@
-"""Cases of vectorized loops: an algorithm, a schedule, and the sizes of boxes, worked out by hand."""
+"""Cases of vectorized and of unrolled loops: an algorithm, a schedule, and the sizes of boxes, worked out by hand."""
 
 from collections import namedtuple
 
-# The points of each Func's box that is computed at root, in order of the text, those of boxes computed at a loop, whether the data have frames, and
-# how many tasks each phase has.
-Facts = namedtuple("Facts", "roots privates frames tasks", defaults=((), False, (1,)))
+# The points of each Func's box that is computed at root, in order of the text, those of boxes computed at a loop, whether the data have frames,
+# how many tasks each phase has, and how great the numbers of pictures are.
+Facts = namedtuple("Facts", "roots privates frames tasks greatest", defaults=((), False, (1,), 1000))
 
 FRAMES = 8 * 4096
 
@@ -43,9 +43,11 @@ CASES = [
     ("vectors that overlap", *one("in(x) - x * x", 37, 16, "shift")),
     ("masks of sixteen lanes", *one("select(in(x) % 2 == 1, min(in(x), 7), max(in(x), x - 20)) + (in(x) >= 3) - (x < 9)", 37, 16)),
     ("quotients and remainders of both signs", *one("(0 - in(x)) / 7 * 100 + (x - 18) % 5 - in(x) / 3 % 4", 37, 8)),
-    ("quotients and remainders by 2147483647", *one("(0 - in(x)) / 2147483647 + in(x) % 2147483647", 37, 4)),
+    ("quotients and remainders by 2147483647", *one("(0 - in(x)) / 2147483647 + in(x) % 2147483647", 37, 4)[:2], Facts((37,), greatest=2**31 - 1)),
     ("a stack of six by sixteen", *one(NESTED.format("in(x)"), 32, 16)),
     ("a stack of seven by sixteen", *one(NESTED.format("in(x+5)"), 32, 16)[:2], Facts((32,), frames=True)),
+    ("reads that lie anywhere, six deep by sixteen", *one("in(36-x) - (in(35-x) * (in(34-x) + (in(33-x) - (in(32-x) * in(5)))))", 32, 16)),
+    ("reads that lie anywhere, seven deep by sixteen", *one("in(36-x) - (in(35-x) * (in(34-x) + (in(33-x) - (in(32-x) * in(31-x)))))", 32, 16)[:2], Facts((32,), frames=True)),
     ("a stack of seven by eight", *one(NESTED.format("in(x+5)"), 32, 8)),
     ("an index that runs along both arguments", "input in 30\nfunc f(x,y) = in(x+y) * 2 + in(x-y+7)\noutput f 20 8", row(8), Facts((160,))),
     ("every third pixel, rounded up", "input in 23\nfunc f(x) = in(x) + 1\noutput f 23",
@@ -63,4 +65,15 @@ CASES = [
      "g compute_root\n" + row(8, name="g") + "\n" + row(4) + "\nf parallel y", Facts((180, 152), tasks=(1, 8))),
     ("an update's argument in place", "input in 13\nfunc f(x) = in(x)\nupdate f(x) = f(x) * 2 + in(r) - x over r 0 5\noutput f 13",
      "f.0 split x xo xi 4 guard\nf.0 reorder xi r xo\nf.0 vectorize xi", Facts((13,), tasks=(1, 1))),
+    ("copies of four rounds", "input in 37\nfunc f(x) = (in(clamp(x-1,0,36)) + in(x)) / 3\noutput f 37", "f split x xo xi 4 guard\nf unroll xi", Facts((37,))),
+    ("copies in copies, with guards", "input in 8\nfunc f(x,y) = in(clamp(x+y,0,7)) + x*y\noutput f 7 5",
+     "f split x xo xi 4 guard\nf split y yo yi 2 guard\nf unroll xi\nf reorder xi yi xo yo\nf unroll yi\nf parallel yo", Facts((35,), tasks=(3,))),
+    ("copies of rounds at once", "input in 37\nfunc f(x) = in(x) * 5 - in(36-x)\noutput f 37",
+     "f split x xo xi 4 guard\nf vectorize xi\nf split xo p q 3 guard\nf unroll q", Facts((37,))),
+    ("a Func at a loop around copies", "input in 8\nfunc g(x) = in(clamp(x,0,7)) * 3\nfunc f(x) = g(x) + g(x+1)\noutput f 8",
+     "f split x xo xi 4 shift\nf unroll xi\ng compute_at f xo", Facts((8,), (9,))),
+    ("a Func at the loop that is laid out", "input in 8\nfunc g(x) = in(clamp(x,0,7)) * 3\nfunc f(x) = g(x) + g(x+1)\noutput f 8",
+     "f split x xo xi 4 guard\nf unroll xi\ng compute_at f xi", Facts((8,), (2,))),
+    ("copies of an update", "input in 13\nfunc f(x) = in(x)\nupdate f(x) = f(x) * 2 + in(r) - x over r 0 5\noutput f 13",
+     "f.0 split x xo xi 4 guard\nf.0 reorder xi r xo\nf.0 unroll xi", Facts((13,), tasks=(1, 1))),
 ]
