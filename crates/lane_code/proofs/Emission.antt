@@ -1,5 +1,5 @@
 -- The code of each kind of expression over lanes, in terms of its parts.
-use Rattle.std.proofs.Common.{◌≡◌, ℕ, ◌+◌, ◌^◌, ◌<◌, ◌≤◌, List, [], ◌∷◌, ◌++◌, Bool, true, false, refl, ap, ◌∙◌, sym, subst, arith}
+use Rattle.std.proofs.Common.{◌≡◌, ℕ, ◌+◌, ◌%◌, ◌^◌, ◌<◌, ◌≤◌, List, [], ◌∷◌, ◌++◌, Bool, true, false, refl, ap, ◌∙◌, sym, subst, arith}
 use Rattle.std.specs.Prelude.{◌==◌, ◌&&◌, if◌then◌else◌, nat_lt, nat_le, max}
 use Rattle.std.proofs.lemmas.Bool.{and_parts}
 use Rattle.std.proofs.lemmas.Bool.Decides.{nat_tests}
@@ -13,6 +13,7 @@ use Rattle.loop_ir.specs.declared.expressions.Expr.TheOpen.{Expr-F}
 use Rattle.loop_ir.specs.declared.expressions.Expr.TheOpen as layer
 use Rattle.loop_ir.specs.declared.expressions.Expr.TheVariants as e
 use Rattle.loop_ir.specs.declared.expressions.Linear.{Linear}
+use Rattle.loop_ir.specs.declared.expressions.Term.{Term}
 use Rattle.loop_ir.specs.Needs.{Need, beside_first, divisor_need, need_at, need_of}
 use Rattle.loop_ir.proofs.Folds as folds
 use Rattle.scalar_code.specs.declared.places.Place.{Place}
@@ -22,8 +23,10 @@ use Rattle.scalar_code.specs.Faults.{FitsStack}
 use Rattle.scalar_code.specs.Words.{Emits}
 use Rattle.scalar_code.proofs.Spelling.{emits_then}
 use Rattle.lane_code.specs.declared.groups.Group.{Group}
+use Rattle.lane_code.specs.declared.goings.Going.{Going}
 use Rattle.lane_code.specs.Groups.{slots, slot, spare}
-use Rattle.lane_code.specs.Lanes.{Laned, laned, laned_at, is_reached, is_dense, is_stepping, is_steady, has_slot, step_word, stepped, lanes_operation, lanes_quotient, lanes_remainder, lanes_selection, dense, gathered}
+use Rattle.lane_code.specs.Lanes.{Laned, laned, laned_at, is_reached, is_dense, is_stepping, is_steady, has_slot, step_of, stepped, lanes_operation, lanes_quotient, lanes_remainder, lanes_selection, dense, gathered}
+use Rattle.lane_code.specs.Straying.{strayed}
 use Rattle.lane_code.specs.Emitting.{FitsLanes, EmitsLanes}
 use Rattle.lane_code.proofs.LanedParts.{own-is}
 
@@ -33,9 +36,9 @@ both a b x y = rw (x, y) refl
 is-true : (n k : ℕ) → n < k → nat_lt n k ≡ true
 is-true n k l = grind (arith, nat_tests)
 
-module _ (group : Group) (places : Places) (scope : List Counter) (strides : List ℕ) where
+module _ (group : Group) (places : Places) (scope : List Counter) (goings : List Going) where
   abbrev of : Expr → Laned
-  of = laned group places scope strides
+  of = laned group places scope goings
 
   -- a value on the scalar stack needs as many registers as were counted, where no divisor is 0
   record Counted (m : Made) (n : Need) : Type 0 where
@@ -80,7 +83,7 @@ module _ (group : Group) (places : Places) (scope : List Counter) (strides : Lis
 
   pub fits-stack : (own : Expr) (r most : ℕ) → most + r ≤ 32 → nat_le (of own).own.need most ≡ true → (of own).own.is_word ≡ true → FitsStack own r
   fits-stack own r most room few is =
-      let m = own-is group places scope strides own in
+      let m = own-is group places scope goings own in
       let n : (of own).own.need ≤ most = grind (arith, nat_tests, few) in
       let s = (counted own).same (sym (ap (λ x. x.is_word) m) ∙ is) in
       let q = ap (λ x. x.need) m in
@@ -93,14 +96,22 @@ module _ (group : Group) (places : Places) (scope : List Counter) (strides : Lis
     pub number-emitted : (n : ℕ) (c0 c1 c2 : List ℕ) → own ≡ e.Number n → Emits c0 c1 (literal 13 n) → n < 2 ^ 32 → Emits c1 c2 (Vector (v.MoveVx r 13) ∷ []) → EmitsLanes c0 c2 group (of own) k r
     unfolding laned
     number-emitted n c0 c1 c2 is a small b =
-        subst (λ x. EmitsLanes c0 c2 group x k r) (sym (ap of is ∙ folds.at_number Laned (laned_at group places scope strides) n))
+        subst (λ x. EmitsLanes c0 c2 group x k r) (sym (ap of is ∙ folds.at_number Laned (laned_at group places scope goings) n))
         (record { emits = emits_then a (subst (λ d. Emits c1 c2 (Vector (v.MoveVx d 13) ∷ [])) slot_is b); can = record { fits = slot-true; is_word = is-true n (2 ^ 32) small }; slot_is = slot_is; low = low })
 
-    pub linear-emitted : (sum : Linear) (s : ℕ) (c0 c1 c2 : List ℕ) → own ≡ e.Linear sum → s ≡ step_word scope strides sum → Emits c0 c1 (linear_code scope sum 20) × (is_linear sum ≡ true) → Emits c1 c2 (stepped s r) → EmitsLanes c0 c2 group (of own) k r
+    pub linear-emitted : (sum : Linear) (u : ℕ) (terms : List Term) (c0 c1 c2 : List ℕ) → own ≡ e.Linear sum → u ≡ spare group → terms ≡ sum.terms → Emits c0 c1 (linear_code scope sum 20) × (is_linear sum ≡ true)
+        → Emits c1 c2 (stepped (step_of scope goings terms % 2 ^ 32) r ++ strayed scope goings terms r u) → EmitsLanes c0 c2 group (of own) k r
     unfolding laned
-    linear-emitted sum s c0 c1 c2 is es a b =
-        subst (λ x. EmitsLanes c0 c2 group x k r) (sym (ap of is ∙ folds.at_linear Laned (laned_at group places scope strides) sum))
-        (record { emits = emits_then a.0 (subst (λ z. Emits c1 c2 (stepped z (slot group k))) es (subst (λ d. Emits c1 c2 (stepped s d)) slot_is b)); can = record { fits = slot-true; is_word = a.1 }; slot_is = slot_is; low = low })
+    linear-emitted sum u terms c0 c1 c2 is eu et a b =
+        subst (λ x. EmitsLanes c0 c2 group x k r) (sym (ap of is ∙ folds.at_linear Laned (laned_at group places scope goings) sum))
+        (record {
+          emits = emits_then a.0 (subst (λ ts. Emits c1 c2 (stepped (step_of scope goings ts % 2 ^ 32) (slot group k) ++ strayed scope goings ts (slot group k) (spare group))) et
+              (subst (λ q. Emits c1 c2 (stepped (step_of scope goings terms % 2 ^ 32) (slot group k) ++ strayed scope goings terms (slot group k) q)) eu
+              (subst (λ d. Emits c1 c2 (stepped (step_of scope goings terms % 2 ^ 32) d ++ strayed scope goings terms d u)) slot_is b)));
+          can = record { fits = slot-true; is_word = a.1 };
+          slot_is = slot_is;
+          low = low;
+        })
 
     pub binary-emitted : (o : Operation) (a b x y : Expr) (p s : ℕ) (c0 c1 c2 c3 : List ℕ) → own ≡ e.Binary o a b → x ≡ a → y ≡ b → EmitsLanes c0 c1 group (of x) k p → EmitsLanes c1 c2 group (of y) (k + 1) s → Emits c2 c3 (lanes_operation o r s)
         → EmitsLanes c0 c3 group (of own) k r
@@ -108,7 +119,7 @@ module _ (group : Group) (places : Places) (scope : List Counter) (strides : Lis
     binary-emitted o a b x y p s c0 c1 c2 c3 is ex ey first second last =
         let one = subst (λ z. EmitsLanes c0 c1 group (of z) k p) ex first in
         let two = subst (λ z. EmitsLanes c1 c2 group (of z) (k + 1) s) ey second in
-        subst (λ z. EmitsLanes c0 c3 group z k r) (sym (ap of is ∙ folds.at_binary Laned (laned_at group places scope strides) o a b))
+        subst (λ z. EmitsLanes c0 c3 group z k r) (sym (ap of is ∙ folds.at_binary Laned (laned_at group places scope goings) o a b))
         (record {
           emits = emits_then one.emits (emits_then two.emits (subst (λ d. Emits c2 c3 (lanes_operation o d (slot group (k + 1)))) slot_is (subst (λ d. Emits c2 c3 (lanes_operation o r d)) two.slot_is last)));
           can = record { fits = both _ _ slot-true (both _ _ one.can.fits two.can.fits); is_word = both _ _ one.can.is_word two.can.is_word };
@@ -120,7 +131,7 @@ module _ (group : Group) (places : Places) (scope : List Counter) (strides : Lis
     unfolding laned
     divide-emitted a x c p u c0 c1 c2 is ex eu first last =
         let one = subst (λ z. EmitsLanes c0 c1 group (of z) k p) ex first in
-        subst (λ z. EmitsLanes c0 c2 group z k r) (sym (ap of is ∙ folds.at_divide Laned (laned_at group places scope strides) a c))
+        subst (λ z. EmitsLanes c0 c2 group z k r) (sym (ap of is ∙ folds.at_divide Laned (laned_at group places scope goings) a c))
         (record {
           emits = emits_then one.emits (subst (λ d. Emits c1 c2 (lanes_quotient c d (spare group))) slot_is (subst (λ d. Emits c1 c2 (lanes_quotient c r d)) eu last.0));
           can = record { fits = both _ _ slot-true one.can.fits; is_word = both _ _ one.can.is_word (both _ _ (is-true 0 c last.1.0) (is-true c (2 ^ 32) last.1.1)) };
@@ -132,7 +143,7 @@ module _ (group : Group) (places : Places) (scope : List Counter) (strides : Lis
     unfolding laned
     remainder-emitted a x c p u c0 c1 c2 is ex eu first last =
         let one = subst (λ z. EmitsLanes c0 c1 group (of z) k p) ex first in
-        subst (λ z. EmitsLanes c0 c2 group z k r) (sym (ap of is ∙ folds.at_remainder Laned (laned_at group places scope strides) a c))
+        subst (λ z. EmitsLanes c0 c2 group z k r) (sym (ap of is ∙ folds.at_remainder Laned (laned_at group places scope goings) a c))
         (record {
           emits = emits_then one.emits (subst (λ d. Emits c1 c2 (lanes_remainder c d (spare group))) slot_is (subst (λ d. Emits c1 c2 (lanes_remainder c r d)) eu last.0));
           can = record { fits = both _ _ slot-true one.can.fits; is_word = both _ _ one.can.is_word (both _ _ (is-true 0 c last.1.0) (is-true c (2 ^ 32) last.1.1)) };
@@ -147,7 +158,7 @@ module _ (group : Group) (places : Places) (scope : List Counter) (strides : Lis
         let one = subst (λ q. EmitsLanes c0 c1 group (of q) k p) ex first in
         let two = subst (λ q. EmitsLanes c1 c2 group (of q) (k + 1) s) ey second in
         let three = subst (λ q. EmitsLanes c2 c3 group (of q) (k + 2) t) ez third in
-        subst (λ q. EmitsLanes c0 c4 group q k r) (sym (ap of is ∙ folds.at_select Laned (laned_at group places scope strides) c a b))
+        subst (λ q. EmitsLanes c0 c4 group q k r) (sym (ap of is ∙ folds.at_select Laned (laned_at group places scope goings) c a b))
         (record {
           emits = emits_then one.emits (emits_then two.emits (emits_then three.emits
               (subst (λ d. Emits c3 c4 (lanes_selection d (slot group (k + 1)) (slot group (k + 2)))) slot_is (subst (λ d. Emits c3 c4 (lanes_selection r d (slot group (k + 2)))) two.slot_is (subst (λ d. Emits c3 c4 (lanes_selection r s d)) three.slot_is last)))));
@@ -160,12 +171,12 @@ module _ (group : Group) (places : Places) (scope : List Counter) (strides : Lis
         → EmitsValue c0 c1 (made places scope x) 20 → EmitsValue c1 c2 (made places scope y) 21 → Emits c2 c3 (dense place r u) → EmitsLanes c0 c3 group (of own) k r
     unfolding laned
     dense-emitted source a b x y place u c0 c1 c2 c3 is ex ey ep eu dense-is first second last =
-        let one = subst (λ z. EmitsValue c0 c1 z 20) (ap (made places scope) ex ∙ sym (own-is group places scope strides a)) first in
-        let two = subst (λ z. EmitsValue c1 c2 z 21) (ap (made places scope) ey ∙ sym (own-is group places scope strides b)) second in
+        let one = subst (λ z. EmitsValue c0 c1 z 20) (ap (made places scope) ex ∙ sym (own-is group places scope goings a)) first in
+        let two = subst (λ z. EmitsValue c1 c2 z 21) (ap (made places scope) ey ∙ sym (own-is group places scope goings b)) second in
         let three : Emits c2 c3 (dense (place_of places source) (slot group k) (spare group)) =
         subst (λ p. Emits c2 c3 (dense p (slot group k) (spare group))) ep (subst (λ d. Emits c2 c3 (dense place d (spare group))) slot_is (subst (λ q. Emits c2 c3 (dense place r q)) eu last)) in
         let whole : Emits c0 c3 ((of a).own.code 20 ++ ((of b).own.code 21 ++ dense (place_of places source) (slot group k) (spare group))) = emits_then one.emits (emits_then two.emits three) in
-        subst (λ z. EmitsLanes c0 c3 group z k r) (sym (ap of is ∙ folds.at_load Laned (laned_at group places scope strides) source a b))
+        subst (λ z. EmitsLanes c0 c3 group z k r) (sym (ap of is ∙ folds.at_load Laned (laned_at group places scope goings) source a b))
         (record {
           emits = subst (λ t. Emits c0 c3 (if t then (of a).own.code 20 ++ ((of b).own.code 21 ++ dense (place_of places source) (slot group k) (spare group)) else (of a).code k ++ ((of b).code (k + 1) ++ gathered (place_of places source) (slot group k) (slot group (k + 1))))) (sym dense-is) whole;
           can = record {
@@ -185,7 +196,7 @@ module _ (group : Group) (places : Places) (scope : List Counter) (strides : Lis
         let three : Emits c2 c3 (gathered (place_of places source) (slot group k) (slot group (k + 1))) =
         subst (λ q. Emits c2 c3 (gathered q (slot group k) (slot group (k + 1)))) ep (subst (λ d. Emits c2 c3 (gathered place d (slot group (k + 1)))) slot_is (subst (λ d. Emits c2 c3 (gathered place r d)) two.slot_is last)) in
         let whole : Emits c0 c3 ((of a).code k ++ ((of b).code (k + 1) ++ gathered (place_of places source) (slot group k) (slot group (k + 1)))) = emits_then one.emits (emits_then two.emits three) in
-        subst (λ z. EmitsLanes c0 c3 group z k r) (sym (ap of is ∙ folds.at_load Laned (laned_at group places scope strides) source a b))
+        subst (λ z. EmitsLanes c0 c3 group z k r) (sym (ap of is ∙ folds.at_load Laned (laned_at group places scope goings) source a b))
         (record {
           emits = subst (λ t. Emits c0 c3 (if t then (of a).own.code 20 ++ ((of b).own.code 21 ++ dense (place_of places source) (slot group k) (spare group)) else (of a).code k ++ ((of b).code (k + 1) ++ gathered (place_of places source) (slot group k) (slot group (k + 1))))) (sym not-dense) whole;
           can = record {
@@ -200,9 +211,9 @@ module _ (group : Group) (places : Places) (scope : List Counter) (strides : Lis
 
   -- ---- what can't be made of a part can't be made of the whole
 
-  loaded : (own : Expr) (k : ℕ) (source : Source) (a b : Expr) → own ≡ e.Load source a b → FitsLanes (of own) k → FitsLanes (laned_at group places scope strides (layer.Load source (of a) (of b))) k
+  loaded : (own : Expr) (k : ℕ) (source : Source) (a b : Expr) → own ≡ e.Load source a b → FitsLanes (of own) k → FitsLanes (laned_at group places scope goings (layer.Load source (of a) (of b))) k
   unfolding laned
-  loaded own k source a b is can = subst (λ z. FitsLanes z k) (ap of is ∙ folds.at_load Laned (laned_at group places scope strides) source a b) can
+  loaded own k source a b is can = subst (λ z. FitsLanes z k) (ap of is ∙ folds.at_load Laned (laned_at group places scope goings) source a b) can
 
   words-first : (own : Expr) (k : ℕ) (source : Source) (a b : Expr) → own ≡ e.Load source a b → FitsLanes (of own) k → ((of a).own.is_word ≡ true) × ((of b).own.is_word ≡ true)
   words-first own k source a b is can = and_parts (of a).own.is_word (of b).own.is_word (loaded own k source a b is can).is_word
@@ -232,7 +243,7 @@ module _ (group : Group) (places : Places) (scope : List Counter) (strides : Lis
   pub no-third : (own : Expr) (k : ℕ) (c a b z : Expr) → own ≡ e.Select c a b → z ≡ b → (FitsLanes (of z) (k + 2) → ⊥) → FitsLanes (of own) k → ⊥
   unfolding laned
   no-third own k c a b z is ez none can =
-      let w = subst (λ q. FitsLanes q k) (ap of is ∙ folds.at_select Laned (laned_at group places scope strides) c a b) can in
+      let w = subst (λ q. FitsLanes q k) (ap of is ∙ folds.at_select Laned (laned_at group places scope goings) c a b) can in
       let t = and_parts (has_slot group k) _ w.fits in
       let u = and_parts ((of c).fits k) _ t.1 in
       let p = and_parts ((of a).fits (k + 1)) ((of b).fits (k + 2)) u.1 in

@@ -1,5 +1,5 @@
 -- The code of an expression over lanes leaves its values.
-use Rattle.std.proofs.Common.{◌≡◌, ℕ, ◌+◌, ◌%◌, ◌^◌, ◌<◌, ◌≤◌, List, [], ◌∷◌, ◌++◌, length, Bool, true, false, ap, ◌∙◌, refl, sym, subst, arith, inl, inr}
+use Rattle.std.proofs.Common.{◌≡◌, ℕ, ◌+◌, ◌*◌, ◌%◌, ◌^◌, ◌<◌, ◌≤◌, List, [], ◌∷◌, ◌++◌, length, Bool, true, false, ap, ◌∙◌, refl, sym, subst, arith, inl, inr}
 use Rattle.std.specs.Prelude.{◌⊎◌, ◌==◌, ◌&&◌, if◌then◌else◌, nat_lt, nat_le}
 use Rattle.std.specs.List.{AllByRecursion}
 use Rattle.std.proofs.lemmas.Bool.{and_parts}
@@ -29,25 +29,28 @@ use Rattle.lone_hart.proofs.VectorRows as rows
 use Rattle.scalar_code.specs.declared.places.Pixels.{Pixels}
 use Rattle.scalar_code.specs.declared.places.Pixels.TheVariants as pixels
 use Rattle.scalar_code.specs.declared.places.Places.{Places}
-use Rattle.scalar_code.specs.Code.{literal, place_of, is_linear, linear_code, made as one_round}
+use Rattle.scalar_code.specs.Code.{literal, place_of, is_linear, are_words, linear_code, made as one_round}
 use Rattle.scalar_code.specs.Evaluation.{Knows, ArePlaces, LoadsAt, Loads}
 use Rattle.scalar_code.specs.Values.{Free}
 use Rattle.scalar_code.proofs.Evaluation as one
 use Rattle.scalar_code.proofs.Seats.{is-seat-in, knows-kept}
 use Rattle.scalar_code.proofs.Values.{literal-sets}
 use Rattle.lane_code.specs.declared.groups.Group.{Group}
+use Rattle.lane_code.specs.declared.groups.Group.TheVariants as groups
+use Rattle.lane_code.specs.declared.goings.Going.{Going}
 use Rattle.lane_code.specs.declared.values.Pace.{Pace}
 use Rattle.lane_code.specs.declared.values.Pace.TheVariants as paces
 use Rattle.lane_code.specs.Groups.{registers, slots, slot, spare}
-use Rattle.lane_code.specs.Lanes.{is_steady, is_stepping, step_word, Laned, are_reached, is_reached, is_dense, has_slot, laned_at, laned, pace_of, lanes_selection, lanes_quotient, lanes_remainder, stepped, gathered, dense, lanes_operation, both_steady}
+use Rattle.lane_code.specs.Lanes.{is_steady, is_stepping, step_word, summed, Laned, are_reached, is_reached, is_dense, has_slot, laned_at, laned, pace_of, lanes_selection, lanes_quotient, lanes_remainder, gathered, dense, lanes_operation, both_steady}
 use Rattle.lane_code.specs.Leaving.{GoAlong, IsKept, LanesLeave}
 use Rattle.lane_code.proofs.Slots.{SlotLies, slot-lies, is-below}
 use Rattle.lane_code.proofs.Rows.{Writes, Lanes, Leaves, writes, lanes-kept, few-rounds, last, scalar-first, value-first, same-values, slot-kept, slot-still, kept-more}
 use Rattle.lane_code.proofs.LanedParts.{own-is, pace-is}
 use Rattle.lane_code.proofs.Operations as operations
 use Rattle.lane_code.proofs.Quotients.{quotient-leaves, remainder-leaves}
-use Rattle.lane_code.proofs.Pacing.{Holds, linear-goes, step-holds, both-hold, operation-hold}
+use Rattle.lane_code.proofs.Pacing.{Holds, linear-goes, linear-holds, both-hold, operation-hold}
 use Rattle.lane_code.proofs.Points.{stepped-leaves, dense-leaves, gathered-leaves}
+use Rattle.lane_code.proofs.Straying.{strayed-leaves}
 use Rattle.lane_code.proofs.ByteRows.{dense-bytes}
 use Rattle.lane_code.proofs.ByteGathers.{gathered-bytes}
 
@@ -108,8 +111,8 @@ module _ (reads : Reads) (at : ℕ → Values) (i : ℕ) where
   unfolding seen
   family-is e = folds_related Is (family_at reads at) (seen_at reads (at i)) family-level e
 
-module _ (w : World) (harts : ℕ) (m : List ℕ) (group : Group) (places : Places) (scope : List Counter) (strides : List ℕ) (at : ℕ → Values) (reads : Reads) (n : ℕ)
-    (l : length m ≡ w.size) (all : ArePlaces places) (some : 1 ≤ n) (go : GoAlong scope strides at n) where
+module _ (w : World) (harts : ℕ) (m : List ℕ) (group : Group) (places : Places) (scope : List Counter) (goings : List Going) (at : ℕ → Values) (reads : Reads) (n : ℕ)
+    (l : length m ≡ w.size) (all : ArePlaces places) (some : 1 ≤ n) (go : GoAlong scope goings at n) where
   abbrev g : ℕ
   g = registers group
 
@@ -202,7 +205,7 @@ module _ (w : World) (harts : ℕ) (m : List ℕ) (group : Group) (places : Plac
       (make b.after (known-still a.after b.after (k + 1) ka b.keeps) (has-still a.after b.after (k + 1) ha b.keeps)
       (λ i lt. b.keeps (lane (slot group k) i) (slot-kept w m l group n k lies.first i lt few) ∙ a.value i lt) b.value)
 
-  one-level : (y : Expr-F (Both Evaluates)) → One (laned_at group places scope strides (left_of Evaluates y)) (family_at reads at (right_of Evaluates y))
+  one-level : (y : Expr-F (Both Evaluates)) → One (laned_at group places scope goings (left_of Evaluates y)) (family_at reads at (right_of Evaluates y))
   unfolding family_at
   one-level (layer.Number x) = one.level w harts m places scope (at 0) reads l all (layer.Number x)
   one-level (layer.Linear own) = one.level w harts m places scope (at 0) reads l all (layer.Linear own)
@@ -243,15 +246,27 @@ module _ (w : World) (harts : ℕ) (m : List ℕ) (group : Group) (places : Plac
   unfolding linear_value
   linear-small own i = word-small _
 
-  linear-code : (own : Linear) → is_linear own ≡ true → Code (λ k. linear_code scope own 20 ++ stepped (step_word scope strides own) (slot group k)) (has_slot group) (λ i. linear_value (at i) own)
+  few-sixteen : (group : Group) → n ≤ 4 * registers group → n ≤ 16
+  few-sixteen groups.One few = omega (arith, few)
+  few-sixteen groups.Two few = omega (arith, few)
+  few-sixteen groups.Four few = omega (arith, few)
+
+  linear-code : (own : Linear) → is_linear own ≡ true → Code (λ k. linear_code scope own 20 ++ summed scope goings own (slot group k) (spare group)) (has_slot group) (λ i. linear_value (at i) own)
   unfolding family_at
   linear-code own is k f fits knows has =
       let lies = slot-lies group k (is-below k (slots group) fits) in
+      let words = (and_parts (nat_lt own.number (2 ^ 32)) (are_words own.terms) is).1 in
+      let step = step_word scope goings own in
+      let v0 = linear_value (at 0) own in
       let c = one-level (layer.Linear own) is tt in
       let a = c.leaves 20 f (inr (omega arith)) (omega arith) knows in
+      let ka = knows-kept w harts scope (at 0) f a.after 20 (inr (omega arith)) knows a.keeps in
       let has1 = lanes-kept w m l group n f a.after (a.keeps vl_number (inr (omega arith), inr (inr (omega arith)))) (a.keeps 33 (inr (omega arith), inr (inr (omega arith)))) has in
-      let b = stepped-leaves w m l group n k lies a.after (linear_value (at 0) own) (step_word scope strides own) has1 a.value (linear-small own 0) (word-small _) in
-      value-first w m l group n k lies a (omega arith) (same-values w m l group n k lies (λ i lt. sym (linear-goes scope strides at n go own i lt)) b)
+      let b = stepped-leaves w m l group n k lies a.after v0 step has1 a.value (linear-small own 0) (word-small _) in
+      let kb = known-still a.after b.after k ka b.keeps in
+      let has2 = has-still a.after b.after k has1 b.keeps in
+      let d = strayed-leaves w m l group n k lies scope (at 0) goings own.terms go.can words (few-sixteen group (few-rounds w m l group n f has)) b.after has2 kb.counters (λ i. v0 + i * step) b.value in
+      value-first w m l group n k lies a (omega arith) (same-values w m l group n k lies (λ i lt. sym (linear-goes scope goings at n go own i lt)) (followed b d))
 
   beside : {js ks : List Insn} {f : ℕ → ℕ} {k j : ℕ} {y z : ℕ → ℕ} → slot group k ≤ slot group j → (b : Leaves w m l group n js f j y) → Leaves w m l group n ks b.after k z → Leaves w m l group n (js ++ ks) f k z
   beside {js} {ks} {f} {k} {j} {y} {z} above b c = record {
@@ -365,12 +380,12 @@ module _ (w : World) (harts : ℕ) (m : List ℕ) (group : Group) (places : Plac
   word-below : (x : ℕ) → nat_lt x (2 ^ 32) ≡ true → x < 2 ^ 32
   word-below x t = is-below x (2 ^ 32) t
 
-  rounds-level : (y : Expr-F (Both Evaluates)) → Rounds (laned_at group places scope strides (left_of Evaluates y)) (family_at reads at (right_of Evaluates y))
+  rounds-level : (y : Expr-F (Both Evaluates)) → Rounds (laned_at group places scope goings (left_of Evaluates y)) (family_at reads at (right_of Evaluates y))
   unfolding family_at
   rounds-level (layer.Number x) is loaded = record { small = λ i lt. word-below x is; paced = λ i lt. refl; leaves = number-code x (word-below x is) }
   rounds-level (layer.Linear own) is loaded = record {
     small = λ i lt. linear-small own i;
-    paced = step-holds n (step_word scope strides own) (λ i. linear_value (at i) own) (linear-small own 0) (λ i lt. linear-goes scope strides at n go own i lt);
+    paced = linear-holds scope goings at n go own (linear-small own 0);
     leaves = linear-code own is;
   }
   rounds-level (layer.Binary o a b) is loaded =
@@ -457,7 +472,7 @@ module _ (w : World) (harts : ℕ) (m : List ℕ) (group : Group) (places : Plac
       by-test true pixel k f a b e = a refl
       by-test false pixel k f a b e = b e
 
-  slot-level : (y : Expr-F (Both Evaluates)) (k : ℕ) → (laned_at group places scope strides (left_of Evaluates y)).fits k ≡ true → k < slots group
+  slot-level : (y : Expr-F (Both Evaluates)) (k : ℕ) → (laned_at group places scope goings (left_of Evaluates y)).fits k ≡ true → k < slots group
   slot-level (layer.Number x) k fits = is-below k (slots group) fits
   slot-level (layer.Linear own) k fits = is-below k (slots group) fits
   slot-level (layer.Binary o a b) k fits = is-below k (slots group) (and_parts (has_slot group k) _ fits).0
@@ -466,18 +481,18 @@ module _ (w : World) (harts : ℕ) (m : List ℕ) (group : Group) (places : Plac
   slot-level (layer.Select c a b) k fits = is-below k (slots group) (and_parts (has_slot group k) _ fits).0
   slot-level (layer.Load source x y) k fits = is-below k (slots group) (and_parts (has_slot group k) _ fits).0
 
-  level : (y : Expr-F (Both Evaluates)) → Evaluates (laned_at group places scope strides (left_of Evaluates y)) (family_at reads at (right_of Evaluates y))
+  level : (y : Expr-F (Both Evaluates)) → Evaluates (laned_at group places scope goings (left_of Evaluates y)) (family_at reads at (right_of Evaluates y))
   level y = record { of_one = one-level y; of_all = rounds-level y; slot_is = slot-level y }
 
-  evaluates : (e : Expr) → Evaluates (laned group places scope strides e) (fold-Expr Family (family_at reads at) e)
+  evaluates : (e : Expr) → Evaluates (laned group places scope goings e) (fold-Expr Family (family_at reads at) e)
   unfolding laned
-  evaluates e = folds_related Evaluates (laned_at group places scope strides) (family_at reads at) level e
+  evaluates e = folds_related Evaluates (laned_at group places scope goings) (family_at reads at) level e
 
 pub lanes-leave : LanesLeave
-lanes-leave w harts m group places scope strides at reads n l all some go e k fits is loaded f knows has =
-    let own = laned group places scope strides e in
+lanes-leave w harts m group places scope goings at reads n l all some go e k fits is loaded f knows has =
+    let own = laned group places scope goings e in
     let s = fold-Expr Family (family_at reads at) e in
-    let c = (evaluates w harts m group places scope strides at reads n l all some go e).of_all (ap (λ x. x.is_word) (own-is group places scope strides e) ∙ is)
+    let c = (evaluates w harts m group places scope goings at reads n l all some go e).of_all (ap (λ x. x.is_word) (own-is group places scope goings e) ∙ is)
     (λ i lt. subst (λ (x : Seen). AllByRecursion (Loads w places m reads) x.points) (sym (family-is reads at i e)) (loaded i lt)) in
     let a = c.leaves k f fits knows has in
     record {
@@ -494,24 +509,24 @@ holds-same paces.Steady n v u some same h = λ i l. sym (same i l) ∙ h i l ∙
 holds-same paces.Stepping n v u some same h = λ i l. sym (same i l) ∙ h i l ∙ ap (λ x. (x + i) % 2 ^ 32) (same 0 some)
 holds-same paces.Irregular n v u some same h = tt
 
-module _ (w : World) (harts : ℕ) (m : List ℕ) (group : Group) (places : Places) (scope : List Counter) (strides : List ℕ) (at : ℕ → Values) (reads : Reads) (n : ℕ)
-    (l : length m ≡ w.size) (all : ArePlaces places) (some : 1 ≤ n) (go : GoAlong scope strides at n) (e : Expr) where
-  pub slot-there : (k : ℕ) → (laned group places scope strides e).fits k ≡ true → k < slots group
-  slot-there = (evaluates w harts m group places scope strides at reads n l all some go e).slot_is
+module _ (w : World) (harts : ℕ) (m : List ℕ) (group : Group) (places : Places) (scope : List Counter) (goings : List Going) (at : ℕ → Values) (reads : Reads) (n : ℕ)
+    (l : length m ≡ w.size) (all : ArePlaces places) (some : 1 ≤ n) (go : GoAlong scope goings at n) (e : Expr) where
+  pub slot-there : (k : ℕ) → (laned group places scope goings e).fits k ≡ true → k < slots group
+  slot-there = (evaluates w harts m group places scope goings at reads n l all some go e).slot_is
 
   -- they are words, and go along with the rounds as their pace says
   pub record Go : Type 0 where
     pub small : (i : ℕ) → i < n → value reads (at i) e < 2 ^ 32
-    pub paced : Holds (pace_of scope strides e) n (λ i. value reads (at i) e)
+    pub paced : Holds (pace_of scope goings e) n (λ i. value reads (at i) e)
 
   pub values-go : (one_round places scope e).is_word ≡ true → ((i : ℕ) → i < n → AllByRecursion (Loads w places m reads) (loads reads (at i) e)) → Go
   values-go is loaded =
       let s = fold-Expr Family (family_at reads at) e in
-      let c = (evaluates w harts m group places scope strides at reads n l all some go e).of_all (ap (λ x. x.is_word) (own-is group places scope strides e) ∙ is)
+      let c = (evaluates w harts m group places scope goings at reads n l all some go e).of_all (ap (λ x. x.is_word) (own-is group places scope goings e) ∙ is)
       (λ i lt. subst (λ (x : Seen). AllByRecursion (Loads w places m reads) x.points) (sym (family-is reads at i e)) (loaded i lt)) in
       let same : (i : ℕ) → (s i).value ≡ value reads (at i) e = λ i. ap (λ (x : Seen). x.value) (family-is reads at i e) ∙ values_are_seen reads (at i) e in
       record {
         small = λ i lt. subst (λ x. x < 2 ^ 32) (same i) (c.small i lt);
-        paced = subst (λ p. Holds p n (λ i. value reads (at i) e)) (pace-is group places scope strides e)
-            (holds-same (laned group places scope strides e).pace n (λ i. (s i).value) (λ i. value reads (at i) e) some (λ i lt. same i) c.paced);
+        paced = subst (λ p. Holds p n (λ i. value reads (at i) e)) (pace-is group places scope goings e)
+            (holds-same (laned group places scope goings e).pace n (λ i. (s i).value) (λ i. value reads (at i) e) some (λ i lt. same i) c.paced);
       }

@@ -11,3 +11,5 @@ pub mod Quotients
 pub mod Rows
 pub mod Slots
 pub mod Stepping
+pub mod Straying
+pub mod Strays

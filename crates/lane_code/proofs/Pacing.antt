@@ -1,9 +1,9 @@
 -- How values go along with the rounds.
-use Rattle.std.proofs.Common.{◌≡◌, ℕ, suc, ◌+◌, ◌-◌, ◌*◌, ◌%◌, ◌^◌, ◌<◌, ◌≤◌, List, [], ◌∷◌, length, get_or, true, false, ap, ◌∙◌, sym, arith, inl, inr}
+use Rattle.std.proofs.Common.{◌≡◌, ℕ, suc, ◌+◌, ◌-◌, ◌*◌, ◌%◌, ◌^◌, ◌<◌, ◌≤◌, List, [], ◌∷◌, length, get_or, Bool, true, false, refl, ap, ◌∙◌, sym, arith, inl, inr}
 use Rattle.std.specs.Prelude.{◌==◌, take, drop}
 use Rattle.std.proofs.lemmas.Nat.{mul-mod_second}
 use Rattle.std.proofs.Math.Seq.{take-length}
-use Rattle.std.proofs.lemmas.Bool.{cases_eq}
+use Rattle.std.proofs.lemmas.Bool.{and_parts, cases_eq, true≢false}
 use Rattle.std.proofs.lemmas.Bool.Decides.{nat_tests}
 use Rattle.halide_pipeline.specs.declared.expressions.Operation.{Operation}
 use Rattle.halide_pipeline.specs.declared.expressions.Operation.TheVariants as op
@@ -15,8 +15,12 @@ use Rattle.loop_ir.specs.Counters.{Values}
 use Rattle.loop_ir.specs.Expressions.{sum_of, linear_value}
 use Rattle.lane_code.specs.declared.values.Pace.{Pace}
 use Rattle.lane_code.specs.declared.values.Pace.TheVariants as paces
-use Rattle.lane_code.specs.Lanes.{stride_of, step_of, step_word, pace_of_step, both_steady, sum_pace, difference_pace, operation_pace}
+use Rattle.lane_code.specs.declared.goings.Going.{Going}
+use Rattle.lane_code.specs.declared.goings.Going.TheVariants as goes
+use Rattle.lane_code.specs.Goings.{going_of, even_stride, is_even, are_even}
+use Rattle.lane_code.specs.Lanes.{stride_of, step_of, step_word, pace_of_step, sum_of_pace, linear_pace, both_steady, sum_pace, difference_pace, operation_pace}
 use Rattle.lane_code.specs.Leaving.{GoAlong}
+use Rattle.lane_code.proofs.Straying.{away, gone-is, stray_of}
 
 -- ---- products and remainders
 
@@ -28,37 +32,51 @@ rest-times i s = mul-mod_second i s (2 ^ 32)
 
 -- ---- sums of counters
 
-moved : (a i t s : ℕ) → (a + i * t) * s ≡ a * s + i * (t * s)
-moved a i t s = grind arith
+-- what a counter adds to a sum, from what it adds in the first round on
+taken : (a i e d s rest more own : ℕ) → a * s + (i * e + d) * s + (rest + i * more + own) ≡ a * s + rest + i * (e * s + more) + (d * s + own)
+taken a i e d s rest more own = grind arith
 
-gathered : (a b i s t : ℕ) → a + i * s + (b + i * t) ≡ a + b + i * (s + t)
-gathered a b i s t = grind arith
-
-pub sum-goes : (scope : List Counter) (strides : List ℕ) (at : ℕ → Values) (n : ℕ) → GoAlong scope strides at n → (terms : List Term) (i : ℕ) → i < n
-    → sum_of (at i) terms ≡ sum_of (at 0) terms + i * step_of scope strides terms
-sum-goes scope strides at n go [] i l = omega arith
-sum-goes scope strides at n go (first ∷ others) i l =
+pub sum-goes : (scope : List Counter) (goings : List Going) (at : ℕ → Values) (n : ℕ) → GoAlong scope goings at n → (terms : List Term) (i : ℕ) → i < n
+    → sum_of (at i) terms ≡ sum_of (at 0) terms + i * step_of scope goings terms + stray_of scope goings (at 0) terms i
+sum-goes scope goings at n go [] i l = let z : i * 0 ≡ 0 = omega arith in (let e : 0 ≡ 0 + i * 0 + 0 = omega (arith, z) in e)
+sum-goes scope goings at n go (first ∷ others) i l =
     let c = first.counter in
     let s = first.stride in
-    let t = stride_of scope strides c in
-    ap (λ x. x * s + sum_of (at i) others) (go i l c)
-    ∙ ap (λ x. x + sum_of (at i) others) (moved (at 0 c) i t s)
-    ∙ ap (λ x. at 0 c * s + i * (t * s) + x) (sum-goes scope strides at n go others i l)
-    ∙ gathered (at 0 c * s) (sum_of (at 0) others) i (t * s) (step_of scope strides others)
+    let going = going_of scope goings c in
+    let e : at i c ≡ at 0 c + (i * even_stride going + away going (at 0) i) = go.along i l c ∙ ap (λ x. at 0 c + x) (gone-is going (at 0) i) in
+    ap (λ x. x * s + sum_of (at i) others) e
+    ∙ ap (λ x. x + sum_of (at i) others) (spread (at 0 c) (i * even_stride going + away going (at 0) i) s)
+    ∙ ap (λ x. at 0 c * s + (i * even_stride going + away going (at 0) i) * s + x) (sum-goes scope goings at n go others i l)
+    ∙ taken (at 0 c) i (even_stride going) (away going (at 0) i) s (sum_of (at 0) others) (step_of scope goings others) (stray_of scope goings (at 0) others i)
 
-further : (v p q : ℕ) → p % 2 ^ 32 ≡ q % 2 ^ 32 → (v + p) % 2 ^ 32 ≡ (v % 2 ^ 32 + q) % 2 ^ 32
-further v p q e = omega (arith, e)
+further : (v p q d : ℕ) → p % 2 ^ 32 ≡ q % 2 ^ 32 → (v + p + d) % 2 ^ 32 ≡ (v % 2 ^ 32 + q + d) % 2 ^ 32
+further v p q d e = omega (arith, e)
 
--- a sum in a round is the first round's and so many steps
-pub linear-goes : (scope : List Counter) (strides : List ℕ) (at : ℕ → Values) (n : ℕ) → GoAlong scope strides at n → (own : Linear) (i : ℕ) → i < n
-    → linear_value (at i) own ≡ (linear_value (at 0) own + i * step_word scope strides own) % 2 ^ 32
+-- a sum in a round is the first round's, so many steps, and how far those counters go that are cut off
+pub linear-goes : (scope : List Counter) (goings : List Going) (at : ℕ → Values) (n : ℕ) → GoAlong scope goings at n → (own : Linear) (i : ℕ) → i < n
+    → linear_value (at i) own ≡ (linear_value (at 0) own + i * step_word scope goings own + stray_of scope goings (at 0) own.terms i) % 2 ^ 32
 unfolding linear_value
-linear-goes scope strides at n go own i l =
-    let s = step_of scope strides own.terms in
-    let a : own.number + (sum_of (at 0) own.terms + i * s) ≡ own.number + sum_of (at 0) own.terms + i * s = omega arith in
-    ap (λ x. (own.number + x) % 2 ^ 32) (sum-goes scope strides at n go own.terms i l)
+linear-goes scope goings at n go own i l =
+    let s = step_of scope goings own.terms in
+    let d = stray_of scope goings (at 0) own.terms i in
+    let p = i * s in
+    let a : own.number + (sum_of (at 0) own.terms + p + d) ≡ own.number + sum_of (at 0) own.terms + p + d = omega arith in
+    ap (λ x. (own.number + x) % 2 ^ 32) (sum-goes scope goings at n go own.terms i l)
     ∙ ap (λ x. x % 2 ^ 32) a
-    ∙ further (own.number + sum_of (at 0) own.terms) (i * s) (i * (s % 2 ^ 32)) (sym (rest-times i s))
+    ∙ further (own.number + sum_of (at 0) own.terms) (i * s) (i * (s % 2 ^ 32)) d (sym (rest-times i s))
+
+-- of counters that are cut off nowhere, nothing of it
+never-strays : (going : Going) (values : Values) (i : ℕ) → is_even going ≡ true → away going values i ≡ 0
+never-strays (goes.Even stride most) values i t = refl
+never-strays (goes.Once stride most cut) values i t = absurd (true≢false (sym t))
+never-strays (goes.Twice stride first second) values i t = absurd (true≢false (sym t))
+
+none-strays : (scope : List Counter) (goings : List Going) (values : Values) (terms : List Term) (i : ℕ) → are_even scope goings terms ≡ true → stray_of scope goings values terms i ≡ 0
+none-strays scope goings values [] i t = refl
+none-strays scope goings values (first ∷ others) i t =
+    let a = and_parts (is_even (going_of scope goings first.counter)) (are_even scope goings others) t in
+    ap (λ z. z * first.stride + stray_of scope goings values others i) (never-strays (going_of scope goings first.counter) values i a.0)
+    ∙ (let z : 0 * first.stride ≡ 0 = omega arith in let r = none-strays scope goings values others i a.1 in omega (arith, z, r))
 
 -- ---- paces
 
@@ -82,6 +100,20 @@ step-holds n s v small go = elim (cases_eq s 0) [
         | inr y ↦ let u : (s == 1) ≡ false = grind (arith, nat_tests, y) in rw (t, u) tt
       ]
 ]
+
+still-sum : (a b c v : ℕ) → v ≡ (a + b + c) % 2 ^ 32 → c ≡ 0 → v ≡ (a + b) % 2 ^ 32
+still-sum a b c v e z = omega (arith, e, z)
+
+pub linear-holds : (scope : List Counter) (goings : List Going) (at : ℕ → Values) (n : ℕ) → GoAlong scope goings at n → (own : Linear) → linear_value (at 0) own < 2 ^ 32
+    → Holds (linear_pace scope goings own) n (λ i. linear_value (at i) own)
+linear-holds scope goings at n go own small = by-test (are_even scope goings own.terms) refl
+  where
+    by-test : (t : Bool) → are_even scope goings own.terms ≡ t → Holds (sum_of_pace t (step_word scope goings own)) n (λ i. linear_value (at i) own)
+    by-test true e =
+        step-holds n (step_word scope goings own) (λ i. linear_value (at i) own) small
+        (λ i l. still-sum (linear_value (at 0) own) (i * step_word scope goings own) (stray_of scope goings (at 0) own.terms i) (linear_value (at i) own) (linear-goes scope goings at n go own i l)
+        (none-strays scope goings (at 0) own.terms i e))
+    by-test false e = tt
 
 -- a value that is made of two
 pub both-hold : (a b : Pace) (n : ℕ) (h : ℕ → ℕ → ℕ) (x y : ℕ → ℕ) → Holds a n x → Holds b n y → Holds (both_steady a b) n (λ i. h (x i) (y i))
@@ -128,14 +160,14 @@ unfolding word.add
 step-moves own rest product step o e = omega (arith, o, e)
 
 -- of a list of terms that isn't empty, as code takes it apart
-pub step-taken : (scope : List Counter) (strides : List ℕ) (terms : List Term) (other : Term) (own rest result t : ℕ) → 1 ≤ length terms
-    → t ≡ stride_of scope strides (get_or terms 0 other).counter → own ≡ word.multiply t (get_or terms 0 other).stride
-    → rest ≡ step_of scope strides (take (length terms - 1) (drop 1 terms)) % 2 ^ 32 → result ≡ word.add own rest → result ≡ step_of scope strides terms % 2 ^ 32
+pub step-taken : (scope : List Counter) (goings : List Going) (terms : List Term) (other : Term) (own rest result t : ℕ) → 1 ≤ length terms
+    → t ≡ stride_of scope goings (get_or terms 0 other).counter → own ≡ word.multiply t (get_or terms 0 other).stride
+    → rest ≡ step_of scope goings (take (length terms - 1) (drop 1 terms)) % 2 ^ 32 → result ≡ word.add own rest → result ≡ step_of scope goings terms % 2 ^ 32
 unfolding word.multiply
-step-taken scope strides [] other own rest result t some et eo er e = absurd (omega (arith, some))
-step-taken scope strides (first ∷ terms) other own rest result t some et eo er e =
+step-taken scope goings [] other own rest result t some et eo er e = absurd (omega (arith, some))
+step-taken scope goings (first ∷ terms) other own rest result t some et eo er e =
     let n : suc (length terms) - 1 ≡ length terms = omega arith in
     let left : take (suc (length terms) - 1) terms ≡ terms = ap (λ (k : ℕ). take k terms) n ∙ take-length terms in
-    let er' : rest ≡ step_of scope strides terms % 2 ^ 32 = er ∙ ap (λ ts. step_of scope strides ts % 2 ^ 32) left in
-    let eo' : own ≡ (stride_of scope strides first.counter * first.stride) % 2 ^ 32 = eo ∙ ap (λ z. (z * first.stride) % 2 ^ 32) et in
-    e ∙ step-moves own rest (stride_of scope strides first.counter * first.stride) (step_of scope strides terms) eo' er'
+    let er' : rest ≡ step_of scope goings terms % 2 ^ 32 = er ∙ ap (λ ts. step_of scope goings ts % 2 ^ 32) left in
+    let eo' : own ≡ (stride_of scope goings first.counter * first.stride) % 2 ^ 32 = eo ∙ ap (λ z. (z * first.stride) % 2 ^ 32) et in
+    e ∙ step-moves own rest (stride_of scope goings first.counter * first.stride) (step_of scope goings terms) eo' er'

@@ -1,6 +1,6 @@
 -- The code of expressions over lanes: the values of an expression in all rounds of a loop at once, a lane for each.
 --
--- Scalar registers hold what counters stand at in the first round. Each round takes a counter its stride further; one with a stride of 0 stays.
+-- Scalar registers hold what counters stand at in the first round.
 -- This project's own.
 use Rattle.std.specs.Prelude.{ℕ, ◌+◌, ◌-◌, ◌%◌, ◌^◌, ◌==◌, ◌&&◌, Bool, true, false, nat_le, nat_lt, if◌then◌else◌, List, [], ◌∷◌, ◌++◌, pos, negsuc, ◌*◌}
 use Rattle.rv_insn.specs.declared.instructions.Insn.{Insn}
@@ -26,7 +26,6 @@ use Rattle.loop_ir.specs.declared.expressions.Expr.TheOpen.{Expr-F}
 use Rattle.loop_ir.specs.declared.expressions.Expr.TheOpen as layer
 use Rattle.loop_ir.specs.declared.expressions.Linear.{Linear}
 use Rattle.loop_ir.specs.declared.expressions.Term.{Term}
-use Rattle.loop_ir.specs.Counters.{same_counter}
 use Rattle.lane_code.specs.declared.groups.Group.{Group}
 use Rattle.lane_code.specs.declared.values.Pace.{Pace}
 use Rattle.lane_code.specs.declared.values.Pace.TheVariants as paces
@@ -35,26 +34,34 @@ use Rattle.scalar_code.specs.declared.places.Pixels.TheVariants as pixels
 use Rattle.scalar_code.specs.declared.places.Place.{Place}
 use Rattle.scalar_code.specs.declared.places.Places.{Places}
 use Rattle.scalar_code.specs.Code.{scratch, second_scratch, bottom, literal, linear_code, addressed, place_of, Made, made_at}
+use Rattle.lane_code.specs.declared.goings.Going.{Going}
+use Rattle.lane_code.specs.Goings.{going_of, even_stride, are_even}
 use Rattle.lane_code.specs.Groups.{slots, spare, slot}
+use Rattle.lane_code.specs.Straying.{strayed}
 
 -- ---- how values go along with the rounds
 
--- how much further each round takes a counter among these, of which the latest stands first; of those outside the loop nothing is listed
-abbrev pub stride_of : List Counter → List ℕ → Counter → ℕ
-stride_of [] strides counter = 0
-stride_of (latest ∷ others) [] counter = 0
-stride_of (latest ∷ others) (stride ∷ strides) counter = if same_counter counter latest then stride else stride_of others strides counter
+-- how much further each round takes a counter that is cut off nowhere; others are told by `Straying`
+abbrev pub stride_of : List Counter → List Going → Counter → ℕ
+stride_of scope goings counter = even_stride (going_of scope goings counter)
 
 -- how much further each round takes a sum of counters
-abbrev pub step_of : List Counter → List ℕ → List Term → ℕ
-step_of scope strides [] = 0
-step_of scope strides (first ∷ others) = stride_of scope strides first.counter * first.stride + step_of scope strides others
+abbrev pub step_of : List Counter → List Going → List Term → ℕ
+step_of scope goings [] = 0
+step_of scope goings (first ∷ others) = stride_of scope goings first.counter * first.stride + step_of scope goings others
 
-abbrev pub step_word : List Counter → List ℕ → Linear → ℕ
-step_word scope strides own = step_of scope strides own.terms % 2 ^ 32
+abbrev pub step_word : List Counter → List Going → Linear → ℕ
+step_word scope goings own = step_of scope goings own.terms % 2 ^ 32
 
 abbrev pub pace_of_step : ℕ → Pace
 pace_of_step step = if step == 0 then paces.Steady else (if step == 1 then paces.Stepping else paces.Irregular)
+
+-- nothing is known of a sum with a counter that is cut off
+abbrev pub sum_of_pace : Bool → ℕ → Pace
+sum_of_pace even step = if even then pace_of_step step else paces.Irregular
+
+abbrev pub linear_pace : List Counter → List Going → Linear → Pace
+linear_pace scope goings own = sum_of_pace (are_even scope goings own.terms) (step_word scope goings own)
 
 abbrev pub both_steady : Pace → Pace → Pace
 both_steady paces.Steady paces.Steady = paces.Steady
@@ -88,17 +95,17 @@ operation_pace op.GreaterOrEqual a b = both_steady a b
 operation_pace op.Equal a b = both_steady a b
 operation_pace op.NotEqual a b = both_steady a b
 
-abbrev pub pace_at : List Counter → List ℕ → Expr-F Pace → Pace
-pace_at scope strides (layer.Number n) = paces.Steady
-pace_at scope strides (layer.Linear own) = pace_of_step (step_word scope strides own)
-pace_at scope strides (layer.Binary o a b) = operation_pace o a b
-pace_at scope strides (layer.Divide a c) = both_steady a a
-pace_at scope strides (layer.Remainder a c) = both_steady a a
-pace_at scope strides (layer.Select c a b) = both_steady c (both_steady a b)
-pace_at scope strides (layer.Load source x y) = both_steady x y
+abbrev pub pace_at : List Counter → List Going → Expr-F Pace → Pace
+pace_at scope goings (layer.Number n) = paces.Steady
+pace_at scope goings (layer.Linear own) = linear_pace scope goings own
+pace_at scope goings (layer.Binary o a b) = operation_pace o a b
+pace_at scope goings (layer.Divide a c) = both_steady a a
+pace_at scope goings (layer.Remainder a c) = both_steady a a
+pace_at scope goings (layer.Select c a b) = both_steady c (both_steady a b)
+pace_at scope goings (layer.Load source x y) = both_steady x y
 
-unfoldable pub pace_of : List Counter → List ℕ → Expr → Pace
-pace_of scope strides e = fold-Expr Pace (pace_at scope strides) e
+unfoldable pub pace_of : List Counter → List Going → Expr → Pace
+pace_of scope goings e = fold-Expr Pace (pace_at scope goings) e
 
 abbrev pub is_steady : Pace → Bool
 is_steady paces.Steady = true
@@ -162,6 +169,10 @@ stepped step r =
     if step == 0 then Vector (v.MoveVx r bottom) ∷ []
     else (if step == 1 then Vector (v.ElementNumbers r true) ∷ Vector (v.ArithmeticVx vxs.Vadd r r bottom true) ∷ []
     else Vector (v.ElementNumbers r true) ∷ (literal scratch step ++ (Vector (v.MultiplyVx multiplies.Vmul r r scratch true) ∷ Vector (v.ArithmeticVx vxs.Vadd r r bottom true) ∷ [])))
+
+-- each lane of r becomes the sum's value in its round, from that of the first round in the first register of the scalar stack; u is scratch
+abbrev pub summed : List Counter → List Going → Linear → ℕ → ℕ → List Insn
+summed scope goings own r u = stepped (step_word scope goings own) r ++ strayed scope goings own.terms r u
 
 -- ---- pixels
 
@@ -241,25 +252,25 @@ fits_by group places (layer.Select c a b) k = has_slot group k && (c.fits k && (
 fits_by group places (layer.Load source x y) k =
     has_slot group k && (if is_dense x y then true else is_reached (place_of places source) && (x.fits k && y.fits (k + 1)))
 
-abbrev pub lanes_by : Group → Places → List Counter → List ℕ → Expr-F Laned → ℕ → List Insn
-lanes_by group places scope strides (layer.Number n) k = literal scratch n ++ (Vector (v.MoveVx (slot group k) scratch) ∷ [])
-lanes_by group places scope strides (layer.Linear sum) k = linear_code scope sum bottom ++ stepped (step_word scope strides sum) (slot group k)
-lanes_by group places scope strides (layer.Binary o a b) k = a.code k ++ (b.code (k + 1) ++ lanes_operation o (slot group k) (slot group (k + 1)))
-lanes_by group places scope strides (layer.Divide a c) k = a.code k ++ lanes_quotient c (slot group k) (spare group)
-lanes_by group places scope strides (layer.Remainder a c) k = a.code k ++ lanes_remainder c (slot group k) (spare group)
-lanes_by group places scope strides (layer.Select c a b) k =
+abbrev pub lanes_by : Group → Places → List Counter → List Going → Expr-F Laned → ℕ → List Insn
+lanes_by group places scope goings (layer.Number n) k = literal scratch n ++ (Vector (v.MoveVx (slot group k) scratch) ∷ [])
+lanes_by group places scope goings (layer.Linear sum) k = linear_code scope sum bottom ++ summed scope goings sum (slot group k) (spare group)
+lanes_by group places scope goings (layer.Binary o a b) k = a.code k ++ (b.code (k + 1) ++ lanes_operation o (slot group k) (slot group (k + 1)))
+lanes_by group places scope goings (layer.Divide a c) k = a.code k ++ lanes_quotient c (slot group k) (spare group)
+lanes_by group places scope goings (layer.Remainder a c) k = a.code k ++ lanes_remainder c (slot group k) (spare group)
+lanes_by group places scope goings (layer.Select c a b) k =
     c.code k ++ (a.code (k + 1) ++ (b.code (k + 2) ++ lanes_selection (slot group k) (slot group (k + 1)) (slot group (k + 2))))
-lanes_by group places scope strides (layer.Load source x y) k =
+lanes_by group places scope goings (layer.Load source x y) k =
     if is_dense x y then x.own.code bottom ++ (y.own.code (bottom + 1) ++ dense (place_of places source) (slot group k) (spare group))
     else x.code k ++ (y.code (k + 1) ++ gathered (place_of places source) (slot group k) (slot group (k + 1)))
 
-abbrev pub laned_at : Group → Places → List Counter → List ℕ → Expr-F Laned → Laned
-laned_at group places scope strides e = record {
+abbrev pub laned_at : Group → Places → List Counter → List Going → Expr-F Laned → Laned
+laned_at group places scope goings e = record {
   own = made_at places scope (map-Expr Laned Made (λ part. part.own) e);
-  pace = pace_at scope strides (map-Expr Laned Pace (λ part. part.pace) e);
+  pace = pace_at scope goings (map-Expr Laned Pace (λ part. part.pace) e);
   fits = fits_by group places e;
-  code = lanes_by group places scope strides e;
+  code = lanes_by group places scope goings e;
 }
 
-unfoldable pub laned : Group → Places → List Counter → List ℕ → Expr → Laned
-laned group places scope strides e = fold-Expr Laned (laned_at group places scope strides) e
+unfoldable pub laned : Group → Places → List Counter → List Going → Expr → Laned
+laned group places scope goings e = fold-Expr Laned (laned_at group places scope goings) e

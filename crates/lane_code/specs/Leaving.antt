@@ -14,12 +14,14 @@ use Rattle.scalar_code.specs.Code.{made}
 use Rattle.scalar_code.specs.Evaluation.{Knows, ArePlaces, Loads}
 use Rattle.lane_code.specs.declared.groups.Group.{Group}
 use Rattle.lane_code.specs.Groups.{registers, slot}
-use Rattle.lane_code.specs.Lanes.{stride_of, laned}
+use Rattle.lane_code.specs.declared.goings.Going.{Going}
+use Rattle.lane_code.specs.Goings.{going_of, gone, can_go}
+use Rattle.lane_code.specs.Lanes.{laned}
 
--- Each round takes counters their strides further.
-abbrev pub GoAlong : List Counter → List ℕ → (ℕ → Values) → ℕ → Type 0
-GoAlong scope strides at rounds =
-    (round : ℕ) → round < rounds → (counter : Counter) → at round counter ≡ at 0 counter + round * stride_of scope strides counter
+-- Each round takes counters as far as they go, within the limits.
+pub record GoAlong (scope : List Counter) (goings : List Going) (at : ℕ → Values) (rounds : ℕ) : Type 0 where
+  pub along : (round : ℕ) → round < rounds → (counter : Counter) → at round counter ≡ at 0 counter + gone (going_of scope goings counter) (at 0) round
+  pub can : (counter : Counter) → can_go (going_of scope goings counter) ≡ true
 
 -- lanes of 32 bits are configured in such groups, one for each round
 pub record HasLanes (group : Group) (rounds : ℕ) (f : ℕ → ℕ) : Type 0 where
@@ -41,9 +43,9 @@ pub record LeavesLanes (world : World) (memory : List ℕ) (group : Group) (roun
 
 -- Scalar registers hold what counters stand at in the first round, and memory what each round loads.
 abbrev pub LanesLeave : Type 0
-LanesLeave = (world : World) (harts : ℕ) (memory : List ℕ) (group : Group) (places : Places) (scope : List Counter) (strides : List ℕ) (at : ℕ → Values) (reads : Reads) (rounds : ℕ)
-    → length memory ≡ world.size → ArePlaces places → 1 ≤ rounds → GoAlong scope strides at rounds
-    → (e : Expr) (k : ℕ) → (laned group places scope strides e).fits k ≡ true → (made places scope e).is_word ≡ true
+LanesLeave = (world : World) (harts : ℕ) (memory : List ℕ) (group : Group) (places : Places) (scope : List Counter) (goings : List Going) (at : ℕ → Values) (reads : Reads) (rounds : ℕ)
+    → length memory ≡ world.size → ArePlaces places → 1 ≤ rounds → GoAlong scope goings at rounds
+    → (e : Expr) (k : ℕ) → (laned group places scope goings e).fits k ≡ true → (made places scope e).is_word ≡ true
     → ((round : ℕ) → round < rounds → AllByRecursion (Loads world places memory reads) (loads reads (at round) e))
     → (f : ℕ → ℕ) → Knows world harts scope (at 0) f → HasLanes group rounds f
-    → LeavesLanes world memory group rounds ((laned group places scope strides e).code k) f k (λ round. value reads (at round) e)
+    → LeavesLanes world memory group rounds ((laned group places scope goings e).code k) f k (λ round. value reads (at round) e)

@@ -1,11 +1,13 @@
 //! The machine code of expressions over lanes: the values of an expression in all rounds of a vectorized loop at once.
 //!
+//! - [`goings`]: how counters go along with the rounds (`specs/Goings.antt`, `specs/Straying.antt`).
 //! - [`groups`]: groups of vector registers, a lane for each round (`specs/Groups.antt`).
 //! - [`values`]: appends the code of an expression's values (`specs/Lanes.antt`).
 //! - [`vectors`]: appends single vector instructions.
 //! - [`laws`]: **what that code leaves, wherever it stands** (`specs/Leaving.antt`).
 #![tactic(auto)]
 
+pub mod goings;
 pub mod groups;
 pub mod laws;
 pub mod values;

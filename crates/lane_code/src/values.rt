@@ -1,6 +1,6 @@
 //! The code of expressions over lanes, one for each round of a loop.
 
-ghost use Rattle.std.specs.Prelude.{◌≡◌, List, ◌%◌, ◌^◌, ◌<◌, ◌&&◌, if◌then◌else◌, nat_le, IfErr, IfOk, OnOk};
+ghost use Rattle.std.specs.Prelude.{◌≡◌, ◌++◌, List, ◌%◌, ◌^◌, ◌<◌, ◌&&◌, if◌then◌else◌, nat_le, IfErr, IfOk, OnOk};
 ghost use Rattle.loop_ir.specs.declared.expressions.Counter.{Counter as Counts};
 ghost use Rattle.lane_code.specs.declared.groups.Group.{Group as Groups};
 ghost use Rattle.scalar_code.specs.declared.places.Pixels.TheVariants.{Bytes as bytes, Words as words_of};
@@ -8,9 +8,12 @@ ghost use Rattle.scalar_code.specs.declared.places.Places.{Places as AllPlaces};
 ghost use Rattle.scalar_code.specs.Code.{made};
 ghost use Rattle.scalar_code.specs.Faults.{IsFault};
 ghost use Rattle.lane_code.specs.Emitting.{EmitsLanes, FitsLanes};
+ghost use Rattle.lane_code.specs.Goings.{are_even as are_all_even};
 ghost use Rattle.lane_code.specs.Lanes as spec;
+ghost use Rattle.lane_code.specs.Straying.{strayed};
 ghost use Rattle.scalar_code.specs.Words.{Emits};
 
+use crate::goings::{Going, are_even, emit_strayed, even_stride, going_of};
 use crate::groups::Group;
 use crate::vectors::{
     arithmetic, arithmetic_by, clear, clear_low_bits, comparison, complement, lane_numbers,
@@ -18,7 +21,7 @@ use crate::vectors::{
     test_nonzero, test_sign, times_eight, times_four,
 };
 use halide_pipeline::{Operation, words};
-use loop_ir::expressions::{Counter, Expr, Term, same_counter};
+use loop_ir::expressions::{Counter, Expr, Term};
 use rv_insn::{AluOp, ArithmeticVvOp, ArithmeticVxOp, CompareVvOp, MultiplyOp};
 use scalar_code::CodeFault;
 use scalar_code::expressions::{emit_linear, emit_number, emit_value, place_of};
@@ -41,34 +44,22 @@ pub enum Pace {
 
 // ---- paces
 
-/// How much further each round takes a counter; `strides` has that of the latest counters, `scope` these and those outside of the loop.
-pub fn stride_of(scope: &[Counter], strides: &[u32], counter: Counter) -> u32
-    ensures { result ≡ spec.stride_of scope.now strides.now counter }
+/// How much further each round takes a counter that is cut off nowhere.
+fn stride_of(scope: &[Counter], goings: &[Going], counter: Counter) -> u32
+    ensures { result ≡ spec.stride_of scope.now goings.now counter }
 {
-    match scope {
-        [] => 0,
-        [latest, others @ ..] => match strides {
-            [] => 0,
-            [first, rest @ ..] => {
-                if same_counter(counter, *latest) {
-                    *first
-                } else {
-                    stride_of(others, rest, counter)
-                }
-            }
-        },
-    }
+    even_stride(going_of(scope, goings, counter))
 }
 
 /// How much further each round takes a sum, modulo 2^32.
-fn step_of(scope: &[Counter], strides: &[u32], terms: &[Term]) -> u32
-    ensures { result ≡ spec.step_of scope.now strides.now terms.now % 2 ^ 32 }
+fn step_of(scope: &[Counter], goings: &[Going], terms: &[Term]) -> u32
+    ensures { result ≡ spec.step_of scope.now goings.now terms.now % 2 ^ 32 }
 {
     match terms {
         [] => 0,
         [first, others @ ..] => {
-            let own = words::multiply(stride_of(scope, strides, first.counter), first.stride);
-            words::add(own, step_of(scope, strides, others))
+            let own = words::multiply(stride_of(scope, goings, first.counter), first.stride);
+            words::add(own, step_of(scope, goings, others))
         }
     }
 }
@@ -83,6 +74,24 @@ fn pace_of_step(step: u32) -> Pace
     } else {
         Pace::Irregular
     }
+}
+
+/// How a sum goes along, of whose counters none is cut off, or some are.
+fn sum_of_pace(even: bool, step: u32) -> Pace
+    ensures { result ≡ spec.sum_of_pace even step }
+{
+    if even {
+        pace_of_step(step)
+    } else {
+        Pace::Irregular
+    }
+}
+
+fn linear_pace(scope: &[Counter], goings: &[Going], terms: &[Term]) -> Pace
+    ensures { result ≡ spec.sum_of_pace (are_all_even scope.now goings.now terms.now) (spec.step_of scope.now goings.now terms.now % 2 ^ 32) }
+{
+    let even = are_even(scope, goings, terms);
+    sum_of_pace(even, step_of(scope, goings, terms))
 }
 
 fn both_steady(a: Pace, b: Pace) -> Pace
@@ -143,32 +152,32 @@ fn operation_pace(operation: Operation, a: Pace, b: Pace) -> Pace
 
 /// How an expression's values go along with the rounds.
 #[tactic(auto, unfolding(crate::specs::Lanes::pace_of))]
-pub fn pace_of(scope: &[Counter], strides: &[u32], e: &Expr) -> Pace
-    ensures { result ≡ spec.pace_of scope.now strides.now e.now }
+pub fn pace_of(scope: &[Counter], goings: &[Going], e: &Expr) -> Pace
+    ensures { result ≡ spec.pace_of scope.now goings.now e.now }
 {
     match e {
         Expr::Number(_) => Pace::Steady,
-        Expr::Linear(own) => pace_of_step(step_of(scope, strides, own.terms.as_slice())),
+        Expr::Linear(own) => linear_pace(scope, goings, own.terms.as_slice()),
         Expr::Binary(operation, a, b) => {
-            let first = pace_of(scope, strides, a.get());
-            operation_pace(*operation, first, pace_of(scope, strides, b.get()))
+            let first = pace_of(scope, goings, a.get());
+            operation_pace(*operation, first, pace_of(scope, goings, b.get()))
         }
         Expr::Divide(a, _) => {
-            let own = pace_of(scope, strides, a.get());
+            let own = pace_of(scope, goings, a.get());
             both_steady(own, own)
         }
         Expr::Remainder(a, _) => {
-            let own = pace_of(scope, strides, a.get());
+            let own = pace_of(scope, goings, a.get());
             both_steady(own, own)
         }
         Expr::Select(c, a, b) => {
-            let first = pace_of(scope, strides, c.get());
-            let second = pace_of(scope, strides, a.get());
-            both_steady(first, both_steady(second, pace_of(scope, strides, b.get())))
+            let first = pace_of(scope, goings, c.get());
+            let second = pace_of(scope, goings, a.get());
+            both_steady(first, both_steady(second, pace_of(scope, goings, b.get())))
         }
         Expr::Load(_, x, y) => {
-            let column = pace_of(scope, strides, x.get());
-            both_steady(column, pace_of(scope, strides, y.get()))
+            let column = pace_of(scope, goings, x.get());
+            both_steady(column, pace_of(scope, goings, y.get()))
         }
     }
 }
@@ -317,6 +326,24 @@ fn emit_stepped(code: &mut Vec<u32>, step: u32, r: u8) -> Result<(), AllocError>
     Ok(())
 }
 
+/// Appends what leaves a sum's values, from that of the first round in x20; `u` is scratch.
+fn emit_summed(
+    code: &mut Vec<u32>,
+    scope: &[Counter],
+    goings: &[Going],
+    terms: &[Term],
+    r: u8,
+    u: u8,
+) -> Result<(), AllocError>
+    requires { (r < 32) × (u < 32) }
+    ensures { OnOk result (Emits code.old.items code.new.items (spec.stepped (spec.step_of scope.now goings.now terms.now % 2 ^ 32) r ++ strayed scope.now goings.now terms.now r u)) }
+{
+    let step = step_of(scope, goings, terms);
+    emit_stepped(code, step, r)?;
+    emit_strayed(code, scope, goings, terms, r, u)?;
+    Ok(())
+}
+
 /// Appends a load of the pixels from the address in x20 on.
 fn emit_row_load(code: &mut Vec<u32>, pixels: Pixels, r: u8, u: u8) -> Result<(), AllocError>
     requires { (r < 32) × (u < 32) }
@@ -422,11 +449,11 @@ fn fits_scalars(x: &Expr, y: &Expr) -> bool
 }
 
 /// Whether the lanes of a load at these indexes lie one behind the other, and the scalar stack has room for the point.
-fn is_dense(scope: &[Counter], strides: &[u32], x: &Expr, y: &Expr) -> bool
-    ensures { (group : Groups) (places : AllPlaces) → result ≡ spec.is_dense (spec.laned group places scope.now strides.now x.now) (spec.laned group places scope.now strides.now y.now) }
+fn is_dense(scope: &[Counter], goings: &[Going], x: &Expr, y: &Expr) -> bool
+    ensures { (group : Groups) (places : AllPlaces) → result ≡ spec.is_dense (spec.laned group places scope.now goings.now x.now) (spec.laned group places scope.now goings.now y.now) }
 {
-    let column = is_stepping(pace_of(scope, strides, x));
-    let row = is_steady(pace_of(scope, strides, y));
+    let column = is_stepping(pace_of(scope, goings, x));
+    let row = is_steady(pace_of(scope, goings, y));
     are_all(column, row, fits_scalars(x, y))
 }
 
@@ -451,12 +478,12 @@ pub fn emit_lanes(
     group: Group,
     places: &Places,
     scope: &[Counter],
-    strides: &[u32],
+    goings: &[Going],
     e: &Expr,
     k: u8,
 ) -> Result<u8, CodeFault>
-    ensures ok { IfOk result (λ r. EmitsLanes code.old.items code.new.items group (spec.laned group places.now scope.now strides.now e.now) k r) }
-    ensures err { IfErr result (IsFault ⊥ (FitsLanes (spec.laned group places.now scope.now strides.now e.now) k → ⊥)) }
+    ensures ok { IfOk result (λ r. EmitsLanes code.old.items code.new.items group (spec.laned group places.now scope.now goings.now e.now) k r) }
+    ensures err { IfErr result (IsFault ⊥ (FitsLanes (spec.laned group places.now scope.now goings.now e.now) k → ⊥)) }
 {
     if k >= group.slots() {
         return Err(CodeFault::TooDeep);
@@ -470,36 +497,35 @@ pub fn emit_lanes(
         }
         Expr::Linear(own) => {
             emit_linear(code, scope, own, 20)?;
-            let step = step_of(scope, strides, own.terms.as_slice());
-            emit_stepped(code, step, r)?;
+            emit_summed(code, scope, goings, own.terms.as_slice(), r, group.spare())?;
             Ok(r)
         }
         Expr::Binary(operation, a, b) => {
-            emit_lanes(code, group, places, scope, strides, a.get(), k)?;
-            let s = emit_lanes(code, group, places, scope, strides, b.get(), k + 1)?;
+            emit_lanes(code, group, places, scope, goings, a.get(), k)?;
+            let s = emit_lanes(code, group, places, scope, goings, b.get(), k + 1)?;
             emit_lanes_operation(code, *operation, r, s)?;
             Ok(r)
         }
         Expr::Divide(a, divisor) => {
-            emit_lanes(code, group, places, scope, strides, a.get(), k)?;
+            emit_lanes(code, group, places, scope, goings, a.get(), k)?;
             emit_lanes_quotient(code, *divisor, r, group.spare())?;
             Ok(r)
         }
         Expr::Remainder(a, divisor) => {
-            emit_lanes(code, group, places, scope, strides, a.get(), k)?;
+            emit_lanes(code, group, places, scope, goings, a.get(), k)?;
             emit_lanes_remainder(code, *divisor, r, group.spare())?;
             Ok(r)
         }
         Expr::Select(c, a, b) => {
-            emit_lanes(code, group, places, scope, strides, c.get(), k)?;
-            let s = emit_lanes(code, group, places, scope, strides, a.get(), k + 1)?;
-            let t = emit_lanes(code, group, places, scope, strides, b.get(), k + 2)?;
+            emit_lanes(code, group, places, scope, goings, c.get(), k)?;
+            let s = emit_lanes(code, group, places, scope, goings, a.get(), k + 1)?;
+            let t = emit_lanes(code, group, places, scope, goings, b.get(), k + 2)?;
             emit_lanes_selection(code, r, s, t)?;
             Ok(r)
         }
         Expr::Load(source, x, y) => {
             let place = place_of(places, *source);
-            if is_dense(scope, strides, x.get(), y.get()) {
+            if is_dense(scope, goings, x.get(), y.get()) {
                 emit_value(code, places, scope, x.get(), 20)?;
                 emit_value(code, places, scope, y.get(), 21)?;
                 emit_dense(code, &place, r, group.spare())?;
@@ -508,8 +534,8 @@ pub fn emit_lanes(
             if !is_reached(&place) {
                 return Err(CodeFault::TooDeep);
             }
-            emit_lanes(code, group, places, scope, strides, x.get(), k)?;
-            let s = emit_lanes(code, group, places, scope, strides, y.get(), k + 1)?;
+            emit_lanes(code, group, places, scope, goings, x.get(), k)?;
+            let s = emit_lanes(code, group, places, scope, goings, y.get(), k + 1)?;
             emit_gathered(code, &place, r, s)?;
             Ok(r)
         }

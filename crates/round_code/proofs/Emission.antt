@@ -1,6 +1,6 @@
 -- Words of parts of a loop whose rounds are done at once, put together, and what can't be done.
-use Rattle.std.proofs.Common.{◌≡◌, ℕ, ◌+◌, ◌-◌, ◌*◌, ◌^◌, ◌<◌, ◌≤◌, List, [], ◌∷◌, ◌++◌, length, Bool, true, false, refl, ap, ◌∙◌, sym, subst, arith}
-use Rattle.std.specs.Prelude.{◌≢◌, ◌==◌, ◌&&◌, nat_le, nat_lt, if◌then◌else◌, Option, Some, None}
+use Rattle.std.proofs.Common.{◌≡◌, ℕ, ◌-◌, ◌*◌, ◌^◌, ◌<◌, ◌≤◌, List, [], ◌∷◌, ◌++◌, length, Bool, true, false, ap, ◌∙◌, sym, subst, arith}
+use Rattle.std.specs.Prelude.{◌≢◌, ◌==◌, ◌&&◌, nat_le, nat_lt, if◌then◌else◌, Option, Some}
 use Rattle.std.proofs.lemmas.Bool.{and_from, true≢false}
 use Rattle.std.proofs.lemmas.Bool.Decides.{nat_tests}
 use Rattle.rv_insn.specs.declared.instructions.Insn.{Insn}
@@ -24,25 +24,20 @@ use Rattle.scalar_code.specs.Fitting.{fits_whole, has_seat}
 use Rattle.scalar_code.specs.Words.{Emits}
 use Rattle.scalar_code.proofs.Spelling.{emits_then, emits-is, emits-length}
 use Rattle.lane_code.specs.declared.groups.Group.{Group}
+use Rattle.lane_code.specs.declared.goings.Cut.{Cut}
+use Rattle.lane_code.specs.declared.goings.Going.{Going}
+use Rattle.lane_code.specs.declared.goings.Going.TheVariants as goes
 use Rattle.lane_code.specs.Emitting.{EmitsLanes, FitsLanes}
 use Rattle.lane_code.specs.Groups.{registers, slot, vtype_of}
 use Rattle.lane_code.specs.Lanes.{laned, offsets}
+use Rattle.lane_code.specs.Straying.{room_code}
 use Rattle.lane_code.proofs.Emission.{fits-stack}
 use Rattle.lane_code.proofs.LanedParts.{own-is}
 use Rattle.round_code.specs.Emitting.{EmitsRounds, FitsRounds}
-use Rattle.round_code.specs.Rounds.{Rounded, rounded, is_row, row_fits, row_code, scattered_fits, scattered_code, store_fits, pixels_code, whole_stride, whole_goes, step_taken, rounds_below, lesser, left_over, inside, rounds_code, rounds_fit}
+use Rattle.round_code.specs.Rounds.{Rounded, rounded, is_row, row_fits, row_code, scattered_fits, scattered_code, store_fits, pixels_code, going_taken, rounds_below, lesser, even_left, divided_up, below_cap, below_cut, left_over, is_still, inside, bind_fits, bound_code, rounds_code, rounds_fit}
 use Rattle.round_code.proofs.RowCode.{row-parts}
 use Rattle.round_code.proofs.ScatteredCode.{scattered-parts}
-use Rattle.round_code.proofs.Rounding.{rounded-store, rounded-sequence, rounded-for, rounded-bind, bind-parts}
-
--- a step is taken where a value goes along
-record Goes (goes : Bool) (m stride : ℕ) : Type 0 where
-  is_going : goes ≡ true
-  step_is : m ≡ stride
-
-step-of : (goes : Bool) (m stride : ℕ) → Some m ≡ (if goes then Some stride else None) → Goes goes m stride
-step-of true m stride e = record { is_going = refl; step_is = cc e }
-step-of false m stride e = absurd (cc e)
+use Rattle.round_code.proofs.Rounding.{rounded-store, rounded-sequence, rounded-for, rounded-bind, BindFits, bind-parts}
 
 is-short : (n k : ℕ) → n < k → nat_lt n k ≡ true
 is-short n k l = grind (arith, nat_tests)
@@ -53,31 +48,53 @@ pub below-more : (s d r : ℕ) (old new : List ℕ) → s ≢ 1
     → Emits old new (Alu alus.Sub d 13 r ∷ (literal 14 (s - 1) ++ (Alu alus.Add d d 14 ∷ (literal 14 s ++ (Alu alus.Divu d d 14 ∷ []))))) → Emits old new (rounds_below s d r)
 below-more s d r old new n a = let t : (s == 1) ≡ false = grind (arith, nat_tests, n) in rw t a
 
-pub left-lesser : (all : Bool) (s r : ℕ) (old new : List ℕ) → all ≡ false → s ≢ 0 → Emits old new (rounds_below s 13 r ++ lesser) → Emits old new (left_over all s r)
+pub left-lesser : (all : Bool) (s r : ℕ) (old new : List ℕ) → all ≡ false → s ≢ 0 → Emits old new (rounds_below s 13 r ++ lesser) → Emits old new (even_left all s r)
 left-lesser all s r old new e n a = let t : (s == 0) ≡ false = grind (arith, nat_tests, n) in rw (t, e) a
+
+pub divided-emitted : (n k : ℕ) (c0 c1 c2 c3 c4 : List ℕ) → k ≡ n - 1 → Emits c0 c1 (literal 14 k) → Emits c1 c2 (Alu alus.Add 13 13 14 ∷ []) → Emits c2 c3 (literal 14 n) → Emits c3 c4 (Alu alus.Divu 13 13 14 ∷ [])
+    → Emits c0 c4 (divided_up n)
+divided-emitted n k c0 c1 c2 c3 c4 e a b c d = emits_then (subst (λ q. Emits c0 c1 (literal 14 q)) e a) (emits_then b (emits_then c d))
+
+pub cap-emitted : (scope : List Counter) (last : Option ℕ) (most : ℕ) (inner own : Counter) (factor : ℕ) (c0 c1 c2 c3 c4 c5 c6 : List ℕ) → last ≡ Some most
+    → Emits c0 c1 (room_code scope most inner own 20) → Emits c1 c2 (Alu alus.Sltu 20 20 13 ∷ []) → Emits c2 c3 (divided_up factor) → Emits c3 c4 (literal 14 (2 ^ 28)) → Emits c4 c5 (Alu alus.Mul 20 20 14 ∷ [])
+    → Emits c5 c6 (Alu alus.Add 13 13 20 ∷ []) → Emits c0 c6 (below_cap scope last inner own factor)
+cap-emitted scope last most inner own factor c0 c1 c2 c3 c4 c5 c6 is a b c d e f =
+    subst (λ (q : Option ℕ). Emits c0 c6 (below_cap scope q inner own factor)) (sym is) (emits_then a (emits_then b (emits_then c (emits_then d (emits_then e f)))))
+
+pub once-left : (scope : List Counter) (all : Bool) (going : Going) (stride most : ℕ) (cut : Cut) (r : ℕ) (c0 c1 c2 c3 c4 : List ℕ) → going ≡ goes.Once stride most cut
+    → Emits c0 c1 (Alu alus.Sub 13 13 r ∷ []) → Emits c1 c2 (below_cut scope cut) → Emits c2 c3 (divided_up stride) → Emits c3 c4 lesser → Emits c0 c4 (left_over scope all going r)
+once-left scope all going stride most cut r c0 c1 c2 c3 c4 is a b c d = subst (λ (q : Going). Emits c0 c4 (left_over scope all q r)) (sym is) (emits_then a (emits_then b (emits_then c d)))
+
+pub twice-left : (scope : List Counter) (all : Bool) (going : Going) (stride : ℕ) (first second : Cut) (r : ℕ) (c0 c1 c2 c3 c4 c5 : List ℕ) → going ≡ goes.Twice stride first second
+    → Emits c0 c1 (Alu alus.Sub 13 13 r ∷ []) → Emits c1 c2 (below_cut scope second) → Emits c2 c3 (below_cut scope first) → Emits c3 c4 (divided_up stride) → Emits c4 c5 lesser
+    → Emits c0 c5 (left_over scope all going r)
+twice-left scope all going stride first second r c0 c1 c2 c3 c4 c5 is a b c d e = subst (λ (q : Going). Emits c0 c5 (left_over scope all q r)) (sym is) (emits_then a (emits_then b (emits_then c (emits_then d e))))
+
+pub even-left : (scope : List Counter) (all : Bool) (going : Going) (stride most : ℕ) (r : ℕ) (c0 c1 : List ℕ) → going ≡ goes.Even stride most → Emits c0 c1 (even_left all stride r) → Emits c0 c1 (left_over scope all going r)
+even-left scope all going stride most r c0 c1 is a = subst (λ (q : Going). Emits c0 c1 (left_over scope all q r)) (sym is) a
 
 -- ---- a store
 
-module _ (group : Group) (places : Places) (scope : List Counter) (strides : List ℕ) (store : Store) where
+module _ (group : Group) (places : Places) (scope : List Counter) (goings : List Going) (store : Store) where
   pub row-emitted : (place : Place) (r : ℕ) (c0 c1 c2 c3 c4 c5 c6 c7 : List ℕ) → Emits c0 c1 (Vector (v.Vsetvli 0 15 (vtype_of group)) ∷ []) → EmitsValue c1 c2 (made places scope store.x) 20
       → Emits c2 c3 (move 15 20) → EmitsValue c3 c4 (made places scope store.y) 20 → place ≡ place_of places (sources.Func store.func) → Emits c4 c5 (addressed place 15 20)
-      → EmitsLanes c5 c6 group (laned group places scope strides store.value) 0 r → Emits c6 c7 (Vector (v.StoreElements Bits32 r 15 addressings.UnitStride true) ∷ [])
-      → Emits c0 c7 (row_code group places scope strides store) × (row_fits group places scope strides store ≡ true)
+      → EmitsLanes c5 c6 group (laned group places scope goings store.value) 0 r → Emits c6 c7 (Vector (v.StoreElements Bits32 r 15 addressings.UnitStride true) ∷ [])
+      → Emits c0 c7 (row_code group places scope goings store) × (row_fits group places scope goings store ≡ true)
   row-emitted place r c0 c1 c2 c3 c4 c5 c6 c7 first x moved y ep reached lanes last =
-      let l = laned group places scope strides store.value in (
+      let l = laned group places scope goings store.value in (
         emits_then first (emits_then x.emits (emits_then moved (emits_then y.emits (emits_then (subst (λ p. Emits c4 c5 (addressed p 15 20)) ep reached) (emits_then lanes.emits
             (subst (λ d. Emits c6 c7 (Vector (v.StoreElements Bits32 d 15 addressings.UnitStride true) ∷ [])) lanes.slot_is last)))))),
         and_from (made places scope store.x).is_word _ x.is_word (and_from (made places scope store.y).is_word _ y.is_word (and_from (l.fits 0) l.own.is_word lanes.can.fits lanes.can.is_word)),
       )
 
-  pub scattered-emitted : (place : Place) (r p t : ℕ) (c0 c1 c2 c3 c4 c5 c6 : List ℕ) → Emits c0 c1 (Vector (v.Vsetvli 0 15 (vtype_of group)) ∷ []) → EmitsLanes c1 c2 group (laned group places scope strides store.value) 0 r
-      → EmitsLanes c2 c3 group (laned group places scope strides store.x) 1 p → EmitsLanes c3 c4 group (laned group places scope strides store.y) 2 t → place ≡ place_of places (sources.Func store.func)
+  pub scattered-emitted : (place : Place) (r p t : ℕ) (c0 c1 c2 c3 c4 c5 c6 : List ℕ) → Emits c0 c1 (Vector (v.Vsetvli 0 15 (vtype_of group)) ∷ []) → EmitsLanes c1 c2 group (laned group places scope goings store.value) 0 r
+      → EmitsLanes c2 c3 group (laned group places scope goings store.x) 1 p → EmitsLanes c3 c4 group (laned group places scope goings store.y) 2 t → place ≡ place_of places (sources.Func store.func)
       → Emits c4 c5 (offsets place p t) → Emits c5 c6 (Vector (v.StoreElements Bits32 r 13 (addressings.Indexed p) true) ∷ [])
-      → Emits c0 c6 (scattered_code group places scope strides store) × (scattered_fits group places scope strides store ≡ true)
+      → Emits c0 c6 (scattered_code group places scope goings store) × (scattered_fits group places scope goings store ≡ true)
   scattered-emitted place r p t c0 c1 c2 c3 c4 c5 c6 first value x y ep reached last =
-      let lv = laned group places scope strides store.value in
-      let lx = laned group places scope strides store.x in
-      let ly = laned group places scope strides store.y in
+      let lv = laned group places scope goings store.value in
+      let lx = laned group places scope goings store.x in
+      let ly = laned group places scope goings store.y in
       let own = place_of places (sources.Func store.func) in
       let far : Emits c4 c5 (offsets own (slot group 1) (slot group 2)) = subst (λ q. Emits c4 c5 (offsets q (slot group 1) (slot group 2))) ep (subst (λ d. Emits c4 c5 (offsets place d (slot group 2))) x.slot_is (subst (λ d. Emits c4 c5 (offsets place p d)) y.slot_is reached)) in
       let end : Emits c5 c6 (Vector (v.StoreElements Bits32 (slot group 0) 13 (addressings.Indexed (slot group 1)) true) ∷ []) =
@@ -88,45 +105,45 @@ module _ (group : Group) (places : Places) (scope : List Counter) (strides : Lis
       )
 
   -- what a row asks for
-  pub fits-x : is_row places scope strides store ≡ true → row_fits group places scope strides store ≡ true → FitsStack store.x 20
+  pub fits-x : is_row places scope goings store ≡ true → row_fits group places scope goings store ≡ true → FitsStack store.x 20
   fits-x row is =
-      let k = row-parts group places scope strides store row is in
-      let o = own-is group places scope strides store.x in
-      fits-stack group places scope strides store.x 20 12 (omega arith) (ap (λ m. nat_le m.need 12) o ∙ k.few_x) (ap (λ m. m.is_word) o ∙ k.word_x)
+      let k = row-parts group places scope goings store row is in
+      let o = own-is group places scope goings store.x in
+      fits-stack group places scope goings store.x 20 12 (omega arith) (ap (λ m. nat_le m.need 12) o ∙ k.few_x) (ap (λ m. m.is_word) o ∙ k.word_x)
 
-  pub fits-y : is_row places scope strides store ≡ true → row_fits group places scope strides store ≡ true → FitsStack store.y 20
+  pub fits-y : is_row places scope goings store ≡ true → row_fits group places scope goings store ≡ true → FitsStack store.y 20
   fits-y row is =
-      let k = row-parts group places scope strides store row is in
-      let o = own-is group places scope strides store.y in
-      fits-stack group places scope strides store.y 20 12 (omega arith) (ap (λ m. nat_le m.need 12) o ∙ k.few_y) (ap (λ m. m.is_word) o ∙ k.word_y)
+      let k = row-parts group places scope goings store row is in
+      let o = own-is group places scope goings store.y in
+      fits-stack group places scope goings store.y 20 12 (omega arith) (ap (λ m. nat_le m.need 12) o ∙ k.few_y) (ap (λ m. m.is_word) o ∙ k.word_y)
 
-  pub fits-row : is_row places scope strides store ≡ true → row_fits group places scope strides store ≡ true → FitsLanes (laned group places scope strides store.value) 0
-  fits-row row is = let k = row-parts group places scope strides store row is in record { fits = k.fits; is_word = k.word }
+  pub fits-row : is_row places scope goings store ≡ true → row_fits group places scope goings store ≡ true → FitsLanes (laned group places scope goings store.value) 0
+  fits-row row is = let k = row-parts group places scope goings store row is in record { fits = k.fits; is_word = k.word }
 
   -- and pixels that lie anywhere
-  pub fits-value : scattered_fits group places scope strides store ≡ true → FitsLanes (laned group places scope strides store.value) 0
-  fits-value is = let k = scattered-parts group places scope strides store is in record { fits = k.value_fits.fits; is_word = k.value_fits.word }
+  pub fits-value : scattered_fits group places scope goings store ≡ true → FitsLanes (laned group places scope goings store.value) 0
+  fits-value is = let k = scattered-parts group places scope goings store is in record { fits = k.value_fits.fits; is_word = k.value_fits.word }
 
-  pub fits-column : scattered_fits group places scope strides store ≡ true → FitsLanes (laned group places scope strides store.x) 1
-  fits-column is = let k = scattered-parts group places scope strides store is in record { fits = k.x_fits.fits; is_word = k.x_fits.word }
+  pub fits-column : scattered_fits group places scope goings store ≡ true → FitsLanes (laned group places scope goings store.x) 1
+  fits-column is = let k = scattered-parts group places scope goings store is in record { fits = k.x_fits.fits; is_word = k.x_fits.word }
 
-  pub fits-line : scattered_fits group places scope strides store ≡ true → FitsLanes (laned group places scope strides store.y) 2
-  fits-line is = let k = scattered-parts group places scope strides store is in record { fits = k.y_fits.fits; is_word = k.y_fits.word }
+  pub fits-line : scattered_fits group places scope goings store ≡ true → FitsLanes (laned group places scope goings store.y) 2
+  fits-line is = let k = scattered-parts group places scope goings store is in record { fits = k.y_fits.fits; is_word = k.y_fits.word }
 
   -- either of them
-  pub row-chosen : (c0 c1 : List ℕ) → is_row places scope strides store ≡ true → Emits c0 c1 (row_code group places scope strides store) × (row_fits group places scope strides store ≡ true)
-      → Emits c0 c1 (pixels_code group places scope strides store) × (store_fits group places scope strides store ≡ true)
-  row-chosen c0 c1 t x = (subst (λ b. Emits c0 c1 (if b then row_code group places scope strides store else scattered_code group places scope strides store)) (sym t) x.0, ap (λ b. if b then row_fits group places scope strides store else scattered_fits group places scope strides store) t ∙ x.1)
+  pub row-chosen : (c0 c1 : List ℕ) → is_row places scope goings store ≡ true → Emits c0 c1 (row_code group places scope goings store) × (row_fits group places scope goings store ≡ true)
+      → Emits c0 c1 (pixels_code group places scope goings store) × (store_fits group places scope goings store ≡ true)
+  row-chosen c0 c1 t x = (subst (λ b. Emits c0 c1 (if b then row_code group places scope goings store else scattered_code group places scope goings store)) (sym t) x.0, ap (λ b. if b then row_fits group places scope goings store else scattered_fits group places scope goings store) t ∙ x.1)
 
-  pub scattered-chosen : (c0 c1 : List ℕ) → is_row places scope strides store ≡ false → Emits c0 c1 (scattered_code group places scope strides store) × (scattered_fits group places scope strides store ≡ true)
-      → Emits c0 c1 (pixels_code group places scope strides store) × (store_fits group places scope strides store ≡ true)
-  scattered-chosen c0 c1 t x = (subst (λ b. Emits c0 c1 (if b then row_code group places scope strides store else scattered_code group places scope strides store)) (sym t) x.0, ap (λ b. if b then row_fits group places scope strides store else scattered_fits group places scope strides store) t ∙ x.1)
+  pub scattered-chosen : (c0 c1 : List ℕ) → is_row places scope goings store ≡ false → Emits c0 c1 (scattered_code group places scope goings store) × (scattered_fits group places scope goings store ≡ true)
+      → Emits c0 c1 (pixels_code group places scope goings store) × (store_fits group places scope goings store ≡ true)
+  scattered-chosen c0 c1 t x = (subst (λ b. Emits c0 c1 (if b then row_code group places scope goings store else scattered_code group places scope goings store)) (sym t) x.0, ap (λ b. if b then row_fits group places scope goings store else scattered_fits group places scope goings store) t ∙ x.1)
 
-  pub row-asked : is_row places scope strides store ≡ true → store_fits group places scope strides store ≡ true → row_fits group places scope strides store ≡ true
-  row-asked t is = sym (ap (λ b. if b then row_fits group places scope strides store else scattered_fits group places scope strides store) t) ∙ is
+  pub row-asked : is_row places scope goings store ≡ true → store_fits group places scope goings store ≡ true → row_fits group places scope goings store ≡ true
+  row-asked t is = sym (ap (λ b. if b then row_fits group places scope goings store else scattered_fits group places scope goings store) t) ∙ is
 
-  pub scattered-asked : is_row places scope strides store ≡ false → store_fits group places scope strides store ≡ true → scattered_fits group places scope strides store ≡ true
-  scattered-asked t is = sym (ap (λ b. if b then row_fits group places scope strides store else scattered_fits group places scope strides store) t) ∙ is
+  pub scattered-asked : is_row places scope goings store ≡ false → store_fits group places scope goings store ≡ true → scattered_fits group places scope goings store ≡ true
+  scattered-asked t is = sym (ap (λ b. if b then row_fits group places scope goings store else scattered_fits group places scope goings store) t) ∙ is
 
 -- ---- statements
 
@@ -134,106 +151,102 @@ module _ (group : Group) (places : Places) where
   abbrev of : Stmt → Rounded
   of = rounded group places
 
-  abbrev Fits : Stmt → Bool → List Counter → List ℕ → Type 0
-  Fits own all scope strides = FitsRounds (of own) all scope strides
+  abbrev Fits : Stmt → Bool → List Counter → List Going → Type 0
+  Fits own all scope goings = FitsRounds (of own) all scope goings
 
   -- what a statement is decides
-  of-kind : (own kind : Stmt) (all : Bool) (scope : List Counter) (strides : List ℕ) → own ≡ kind → Fits own all scope strides → Fits kind all scope strides
-  of-kind own kind all scope strides e is = subst (λ (y : Stmt). Fits y all scope strides) e is
+  of-kind : (own kind : Stmt) (all : Bool) (scope : List Counter) (goings : List Going) → own ≡ kind → Fits own all scope goings → Fits kind all scope goings
+  of-kind own kind all scope goings e is = subst (λ (y : Stmt). Fits y all scope goings) e is
 
-  pub no-sequence : (own first second : Stmt) (all : Bool) (scope : List Counter) (strides : List ℕ) → own ≡ s.Sequence first second → Fits own all scope strides → ⊥
-  no-sequence own first second all scope strides e is =
-      true≢false (sym (of-kind own (s.Sequence first second) all scope strides e is) ∙ ap (λ (r : Rounded). r.fits all scope strides) (rounded-sequence group places first second))
+  pub no-sequence : (own first second : Stmt) (all : Bool) (scope : List Counter) (goings : List Going) → own ≡ s.Sequence first second → Fits own all scope goings → ⊥
+  no-sequence own first second all scope goings e is =
+      true≢false (sym (of-kind own (s.Sequence first second) all scope goings e is) ∙ ap (λ (r : Rounded). r.fits all scope goings) (rounded-sequence group places first second))
 
-  pub no-for : (own : Stmt) (counter : Counter) (count : ℕ) (kind : LoopKind) (body : Stmt) (all : Bool) (scope : List Counter) (strides : List ℕ) → own ≡ s.For counter count kind body → Fits own all scope strides → ⊥
-  no-for own counter count kind body all scope strides e is =
-      true≢false (sym (of-kind own (s.For counter count kind body) all scope strides e is) ∙ ap (λ (r : Rounded). r.fits all scope strides) (rounded-for group places counter count kind body))
+  pub no-for : (own : Stmt) (counter : Counter) (count : ℕ) (kind : LoopKind) (body : Stmt) (all : Bool) (scope : List Counter) (goings : List Going) → own ≡ s.For counter count kind body → Fits own all scope goings → ⊥
+  no-for own counter count kind body all scope goings e is =
+      true≢false (sym (of-kind own (s.For counter count kind body) all scope goings e is) ∙ ap (λ (r : Rounded). r.fits all scope goings) (rounded-for group places counter count kind body))
 
-  pub store-asked : (own : Stmt) (store : Store) (all : Bool) (scope : List Counter) (strides : List ℕ) → own ≡ s.Store store → Fits own all scope strides → store_fits group places scope strides store ≡ true
-  store-asked own store all scope strides e is =
-      sym (ap (λ (r : Rounded). r.fits all scope strides) (rounded-store group places store)) ∙ of-kind own (s.Store store) all scope strides e is
+  pub store-asked : (own : Stmt) (store : Store) (all : Bool) (scope : List Counter) (goings : List Going) → own ≡ s.Store store → Fits own all scope goings → store_fits group places scope goings store ≡ true
+  store-asked own store all scope goings e is =
+      sym (ap (λ (r : Rounded). r.fits all scope goings) (rounded-store group places store)) ∙ of-kind own (s.Store store) all scope goings e is
 
-  pub store-emitted : (own : Stmt) (store : Store) (all : Bool) (scope : List Counter) (strides : List ℕ) (c0 c1 : List ℕ) → own ≡ s.Store store
-      → Emits c0 c1 (pixels_code group places scope strides store) × (store_fits group places scope strides store ≡ true) → EmitsRounds c0 c1 (of own) all scope strides
-  store-emitted own store all scope strides c0 c1 e x =
+  pub store-emitted : (own : Stmt) (store : Store) (all : Bool) (scope : List Counter) (goings : List Going) (c0 c1 : List ℕ) → own ≡ s.Store store
+      → Emits c0 c1 (pixels_code group places scope goings store) × (store_fits group places scope goings store ≡ true) → EmitsRounds c0 c1 (of own) all scope goings
+  store-emitted own store all scope goings c0 c1 e x =
       let r = rounded-store group places store in
-      subst (λ (y : Stmt). EmitsRounds c0 c1 (of y) all scope strides) (sym e)
-      (record { emits = emits-is x.0 (sym (ap (λ (m : Rounded). m.code all scope strides) r)); can = ap (λ (m : Rounded). m.fits all scope strides) r ∙ x.1 })
+      subst (λ (y : Stmt). EmitsRounds c0 c1 (of y) all scope goings) (sym e)
+      (record { emits = emits-is x.0 (sym (ap (λ (m : Rounded). m.code all scope goings) r)); can = ap (λ (m : Rounded). m.fits all scope goings) r ∙ x.1 })
 
-  module _ (own body x : Stmt) (counter : Counter) (whole : Whole) (extent : ℕ) (all : Bool) (scope : List Counter) (strides : List ℕ) (is : own ≡ s.Bind counter whole extent body) where
+  module _ (own body x : Stmt) (counter : Counter) (whole : Whole) (extent : ℕ) (all : Bool) (scope : List Counter) (goings : List Going) (is : own ≡ s.Bind counter whole extent body) where
     abbrev Parts : Type 0
-    Parts = Fits own all scope strides
+    Parts = Fits own all scope goings
 
     pub no-seat : 14 ≤ length scope → Parts → ⊥
-    no-seat many fits = let k = bind-parts group places counter whole extent body all scope strides (of-kind own (s.Bind counter whole extent body) all scope strides is fits) in let l = k.seat_is in omega (arith, many, l)
+    no-seat many fits = let k = bind-parts group places counter whole extent body all scope goings (of-kind own (s.Bind counter whole extent body) all scope goings is fits) in let l = k.seat_is in omega (arith, many, l)
 
-    pub no-goes : (result : Option ℕ) → result ≡ step_taken scope strides whole extent → ((m : ℕ) → result ≡ Some m → ⊥) → Parts → ⊥
-    no-goes result t none fits =
-        let k = bind-parts group places counter whole extent body all scope strides (of-kind own (s.Bind counter whole extent body) all scope strides is fits) in
-        none (whole_stride scope strides whole) (t ∙ ap (λ b. if b then Some (whole_stride scope strides whole) else None) k.goes)
+    parts : Parts → BindFits group places counter whole extent body all scope goings
+    parts fits = bind-parts group places counter whole extent body all scope goings (of-kind own (s.Bind counter whole extent body) all scope goings is fits)
 
-    module _ (m : ℕ) (rest : Bool) (view within : List Counter) (seen along : List ℕ) (em : Some m ≡ step_taken scope strides whole extent) (er : rest ≡ (all && m == 0)) (ev : view ≡ within) (ew : within ≡ counter ∷ scope)
-        (es : seen ≡ along) (ea : along ≡ m ∷ strides) (ex : x ≡ body) where
-      abbrev stride : ℕ
-      stride = whole_stride scope strides whole
+    pub no-goes : (result : Option Going) → result ≡ going_taken scope goings counter whole extent → ((m : Going) → result ≡ Some m → ⊥) → Parts → ⊥
+    no-goes result t none fits = let k = parts fits in none k.going (t ∙ k.taken)
 
-      goes-on : Goes (whole_goes scope strides whole extent) m stride
-      goes-on = step-of (whole_goes scope strides whole extent) m stride em
-
-      m-is : m ≡ stride
-      m-is = goes-on.step_is
+    module _ (m : Going) (rest : Bool) (view within : List Counter) (seen along : List Going) (em : Some m ≡ going_taken scope goings counter whole extent) (er : rest ≡ (all && is_still m)) (ev : view ≡ within) (ew : within ≡ counter ∷ scope)
+        (es : seen ≡ along) (ea : along ≡ m ∷ goings) (ex : x ≡ body) where
+      m-is : (k : BindFits group places counter whole extent body all scope goings) → k.going ≡ m
+      m-is k = let e : Some k.going ≡ Some m = sym k.taken ∙ sym em in cc e
 
       -- the body's part, as it was asked for
-      recast : (P : Bool → List Counter → List ℕ → Stmt → Type 0) → P (all && stride == 0) (counter ∷ scope) (stride ∷ strides) body → P rest view seen x
+      recast : (P : Bool → List Counter → List Going → Stmt → Type 0) → P (all && is_still m) (counter ∷ scope) (m ∷ goings) body → P rest view seen x
       recast P p =
           subst (λ y. P rest view seen y) (sym ex)
-          (subst (λ z. P rest view z body) (sym (es ∙ ea ∙ ap (λ b. b ∷ strides) m-is))
-          (subst (λ z. P rest z (stride ∷ strides) body) (sym (ev ∙ ew))
-          (subst (λ z. P z (counter ∷ scope) (stride ∷ strides) body) (sym (er ∙ ap (λ b. all && b == 0) m-is)) p)))
+          (subst (λ z. P rest view z body) (sym (es ∙ ea))
+          (subst (λ z. P rest z (m ∷ goings) body) (sym (ev ∙ ew))
+          (subst (λ z. P z (counter ∷ scope) (m ∷ goings) body) (sym er) p)))
 
-      cast : (P : Bool → List Counter → List ℕ → Stmt → Type 0) → P rest view seen x → P (all && stride == 0) (counter ∷ scope) (stride ∷ strides) body
+      cast : (P : Bool → List Counter → List Going → Stmt → Type 0) → P rest view seen x → P (all && is_still m) (counter ∷ scope) (m ∷ goings) body
       cast P p =
-          subst (λ z. P z (counter ∷ scope) (stride ∷ strides) body) (er ∙ ap (λ b. all && b == 0) m-is)
-          (subst (λ z. P rest z (stride ∷ strides) body) (ev ∙ ew)
-          (subst (λ z. P rest view z body) (es ∙ ea ∙ ap (λ b. b ∷ strides) m-is)
+          subst (λ z. P z (counter ∷ scope) (m ∷ goings) body) er
+          (subst (λ z. P rest z (m ∷ goings) body) (ev ∙ ew)
+          (subst (λ z. P rest view z body) (es ∙ ea)
           (subst (λ y. P rest view seen y) ex p)))
 
       pub no-body : (Fits x rest view seen → ⊥) → Parts → ⊥
       no-body none fits =
-          let k = bind-parts group places counter whole extent body all scope strides (of-kind own (s.Bind counter whole extent body) all scope strides is fits) in
-          none (recast (λ a b c y. Fits y a b c) k.body_fits)
+          let k = parts fits in
+          none (recast (λ a b c y. Fits y a b c) (subst (λ (g : Going). Fits body (all && is_still g) (counter ∷ scope) (g ∷ goings)) (m-is k) k.body_fits))
 
-      module _ (r : ℕ) (start c1 c2 slice : List ℕ) (eh : r ≡ seat (length scope)) (e0 : start ≡ []) (left : Emits start c1 (left_over all m r)) (inner : EmitsRounds c1 c2 (of x) rest view seen) where
+      module _ (r : ℕ) (sight : List Counter) (start c1 c2 slice : List ℕ) (eh : r ≡ seat (length scope)) (ei : sight ≡ within) (e0 : start ≡ []) (left : Emits start c1 (left_over sight all m r)) (inner : EmitsRounds c1 c2 (of x) rest view seen) where
         abbrev body_code : List Insn
-        body_code = inside (of body) counter all scope strides stride
+        body_code = inside (of body) counter all scope goings m
 
         inside-emitted : Emits [] c2 body_code
         inside-emitted =
-            let a : Emits [] c1 (left_over all stride (seat (length scope))) =
-            subst (λ q. Emits [] c1 (left_over all stride q)) eh (subst (λ b. Emits [] c1 (left_over all b r)) m-is (subst (λ z. Emits z c1 (left_over all m r)) e0 left)) in
+            let a : Emits [] c1 (left_over (counter ∷ scope) all m (seat (length scope))) =
+            subst (λ z. Emits [] c1 (left_over z all m (seat (length scope)))) (ei ∙ ew) (subst (λ q. Emits [] c1 (left_over sight all m q)) eh (subst (λ z. Emits z c1 (left_over sight all m r)) e0 left)) in
             emits_then a (cast (λ a b c y. EmitsRounds c1 c2 (of y) a b c) inner).emits
 
         pub too-long : 2 ^ 17 ≤ length c2 → Parts → ⊥
         too-long long fits =
-            let k = bind-parts group places counter whole extent body all scope strides (of-kind own (s.Bind counter whole extent body) all scope strides is fits) in
+            let k = parts fits in
             let n = emits-length c2 body_code inside-emitted in
-            let l = k.short in
+            let l = subst (λ (g : Going). length (inside (of body) counter all scope goings g) < 2 ^ 17) (m-is k) k.short in
             omega (arith, long, n, l)
 
         pub bind-emitted : (c0 c3 : List ℕ) → slice ≡ c2 → length scope < 14 → length c2 < 2 ^ 17
-            → ((insns : List Insn) → Emits [] slice insns → Emits c0 c3 (bind_code scope whole extent r insns)) × ((fits_whole whole ≡ true) × (extent < 2 ^ 32)) → EmitsRounds c0 c3 (of own) all scope strides
+            → ((insns : List Insn) → Emits [] slice insns → Emits c0 c3 (bind_code scope whole extent r insns)) × ((fits_whole whole ≡ true) × (extent < 2 ^ 32)) → EmitsRounds c0 c3 (of own) all scope goings
         bind-emitted c0 c3 el few short bound =
             let code = bound.0 body_code (subst (λ z. Emits [] z body_code) (sym el) inside-emitted) in
             let n = emits-length c2 body_code inside-emitted in
             let k = rounded-bind group places counter whole extent body in
             let b = cast (λ a b c y. EmitsRounds c1 c2 (of y) a b c) inner in
-            subst (λ (y : Stmt). EmitsRounds c0 c3 (of y) all scope strides) (sym is)
+            subst (λ (y : Stmt). EmitsRounds c0 c3 (of y) all scope goings) (sym is)
             (record {
-              emits = emits-is (subst (λ q. Emits c0 c3 (bind_code scope whole extent q body_code)) eh code) (sym (ap (λ (m : Rounded). m.code all scope strides) k));
-              can = ap (λ (m : Rounded). m.fits all scope strides) k
-                  ∙ and_from (has_seat scope) _ (is-short (length scope) 14 few) (and_from (whole_goes scope strides whole extent) _ goes-on.is_going (and_from (fits_whole whole) _ bound.1.0
-                  (and_from ((of body).fits (all && stride == 0) (counter ∷ scope) (stride ∷ strides)) (nat_lt (length body_code) (2 ^ 17)) b.can
-                  (is-short (length body_code) (2 ^ 17) (omega (arith, n, short))))));
+              emits = emits-is (subst (λ q. Emits c0 c3 (bind_code scope whole extent q body_code)) eh code) (ap (λ (g : Option Going). bound_code (of body) counter whole extent all scope goings g) em ∙ sym (ap (λ (m : Rounded). m.code all scope goings) k));
+              can = ap (λ (m : Rounded). m.fits all scope goings) k
+                  ∙ sym (ap (λ (g : Option Going). bind_fits (of body) counter whole all scope goings g) em)
+                  ∙ and_from (has_seat scope) _ (is-short (length scope) 14 few) (and_from (fits_whole whole) _ bound.1.0
+                  (and_from ((of body).fits (all && is_still m) (counter ∷ scope) (m ∷ goings)) (nat_lt (length body_code) (2 ^ 17)) b.can
+                  (is-short (length body_code) (2 ^ 17) (omega (arith, n, short)))));
             })
 
   -- ---- a loop
@@ -242,10 +255,10 @@ module _ (group : Group) (places : Places) where
   is-equal n k e = grind (arith, nat_tests)
 
   pub loop-emitted : (scope : List Counter) (counter : Counter) (count : ℕ) (body : Stmt) (r : ℕ) (view within : List Counter) (c0 c1 c2 c3 : List ℕ) → r ≡ seat (length scope) → length scope < 14
-      → count ≡ 4 * registers group → view ≡ within → within ≡ counter ∷ scope → Emits c0 c1 (move r 0) → Emits c1 c2 (literal 15 count) → EmitsRounds c2 c3 (of body) true view (1 ∷ [])
+      → count ≡ 4 * registers group → view ≡ within → within ≡ counter ∷ scope → Emits c0 c1 (move r 0) → Emits c1 c2 (literal 15 count) → EmitsRounds c2 c3 (of body) true view (goes.Even 1 16 ∷ [])
       → Emits c0 c3 (rounds_code group places scope counter count body) × (rounds_fit group places scope counter count body ≡ true)
   loop-emitted scope counter count body r view within c0 c1 c2 c3 eh few ec ev ew first second inner =
-      let b = subst (λ z. EmitsRounds c2 c3 (of body) true z (1 ∷ [])) (ev ∙ ew) inner in (
+      let b = subst (λ z. EmitsRounds c2 c3 (of body) true z (goes.Even 1 16 ∷ [])) (ev ∙ ew) inner in (
         emits_then (subst (λ q. Emits c0 c1 (move q 0)) eh first) (emits_then second b.emits),
-        and_from (has_seat scope) _ (is-short (length scope) 14 few) (and_from (count == 4 * registers group) ((of body).fits true (counter ∷ scope) (1 ∷ [])) (is-equal count (4 * registers group) ec) b.can),
+        and_from (has_seat scope) _ (is-short (length scope) 14 few) (and_from (count == 4 * registers group) ((of body).fits true (counter ∷ scope) (goes.Even 1 16 ∷ [])) (is-equal count (4 * registers group) ec) b.can),
       )

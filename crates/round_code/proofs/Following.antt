@@ -1,6 +1,6 @@
 -- The code of a statement for all rounds at once does the rounds.
-use Rattle.std.proofs.Common.{◌≡◌, ℕ, suc, ◌+◌, ◌-◌, ◌<◌, ◌≤◌, List, [], ◌∷◌, length, Bool, true, false, refl, ap, ◌∙◌, sym, subst, arith, inl, inr, cond}
-use Rattle.std.specs.Prelude.{◌==◌, ◌&&◌, if◌then◌else◌, nat_le, nat_lt, Option, Some, None}
+use Rattle.std.proofs.Common.{◌≡◌, ℕ, suc, ◌+◌, ◌-◌, ◌<◌, ◌≤◌, List, ◌∷◌, length, Bool, true, false, refl, ap, ◌∙◌, sym, subst, arith, inl, inr, cond}
+use Rattle.std.specs.Prelude.{◌&&◌, if◌then◌else◌, nat_le, nat_lt, Option, Some, None}
 use Rattle.std.proofs.lemmas.Bool.{and_parts, cases_lt, true≢false}
 use Rattle.std.proofs.lemmas.Bool.Decides.{nat_tests}
 use Rattle.rv_insn.specs.declared.instructions.Insn.{Insn}
@@ -23,7 +23,7 @@ use Rattle.loop_ir.specs.Soundness.{is_sound}
 use Rattle.loop_ir.proofs.AtOnce.{effect_bind}
 use Rattle.loop_ir.proofs.Sound.{sound_store, sound_bind}
 use Rattle.lone_hart.specs.Alone.{World}
-use Rattle.scalar_code.specs.Code.{seat, whole_code, bind_code}
+use Rattle.scalar_code.specs.Code.{seat, whole_code}
 use Rattle.scalar_code.specs.Evaluation.{Knows}
 use Rattle.scalar_code.specs.Doing.{Setting, IsSetting, SoundIn, HoldsFuncs}
 use Rattle.scalar_code.proofs.Binding.{bind-does}
@@ -31,10 +31,11 @@ use Rattle.scalar_code.proofs.Going.{Hits, no_hits, Does, does-then, went-hits, 
 use Rattle.scalar_code.proofs.Keeping.{knows-still}
 use Rattle.scalar_code.proofs.Looping.{r-high}
 use Rattle.lane_code.specs.declared.groups.Group.{Group}
-use Rattle.round_code.specs.Rounds.{Rounded, rounded, store_fits, whole_stride, left_over, inside, bind_turns}
+use Rattle.lane_code.specs.declared.goings.Going.{Going}
+use Rattle.round_code.specs.Rounds.{Rounded, rounded, store_fits, going_taken, is_still, left_over, inside, bound_code, bind_turns}
 use Rattle.round_code.proofs.Effects.{HitBy, effect_hits, laid, laid-same, laid-cut}
-use Rattle.round_code.proofs.Openings.{IsOpen, GoesAlong, goes-parts, value_at, values_at, passing, left_if, few-pass, none-passes, passes, stays-out, still-opening}
-use Rattle.round_code.proofs.Parking.{left_by, parks}
+use Rattle.round_code.proofs.Openings.{IsOpen, Taken, taken-parts, few-rounds, can, value_at, values_at, passing, few-pass, none-passes, passes, stays-out, still-opening}
+use Rattle.round_code.proofs.CutParking.{parks}
 use Rattle.round_code.proofs.Rounding.{rounded-store, rounded-sequence, rounded-for, rounded-bind, BindFits, bind-parts}
 use Rattle.round_code.proofs.PixelsCode.{pixels-do}
 
@@ -74,49 +75,52 @@ module _ (own : Setting) (good : IsSetting own) (group : Group) where
   NeverFall statement at n = (funcs : Planes) (k : ℕ) → k + 1 < n → (rounds (reads_of own.inputs funcs) statement).steps_up (at k) (at (k + 1)) ≡ true
 
   abbrev Follows : Stmt → Type 0
-  Follows statement = (all : Bool) (scope : List Counter) (strides : List ℕ) (at : ℕ → Values) (n : ℕ) → (rounded group own.places statement).fits all scope strides ≡ true → AllSound statement at n → NeverFall statement at n
-      → (f : ℕ → ℕ) (memory : List ℕ) (funcs : Planes) → HoldsFuncs own memory funcs → Knows w own.harts scope (at 0) f → IsOpen group all scope strides at n (f 15)
-      → Does own ((rounded group own.places statement).code all scope strides) ((rounded group own.places statement).turns all scope strides (at 0)) f memory (length scope)
+  Follows statement = (all : Bool) (scope : List Counter) (goings : List Going) (at : ℕ → Values) (n : ℕ) → (rounded group own.places statement).fits all scope goings ≡ true → AllSound statement at n → NeverFall statement at n
+      → (f : ℕ → ℕ) (memory : List ℕ) (funcs : Planes) → HoldsFuncs own memory funcs → Knows w own.harts scope (at 0) f → IsOpen group all scope goings at n (f 15)
+      → Does own ((rounded group own.places statement).code all scope goings) ((rounded group own.places statement).turns all scope goings (at 0)) f memory (length scope)
       (after statement at n funcs) (effect_hits (effects statement at funcs) n)
 
   -- of what the same is made of
-  remade : {a b : Rounded} {all : Bool} {scope : List Counter} {strides : List ℕ} {values : Values} {f : ℕ → ℕ} {memory : List ℕ} {funcs : Planes} {hits : Hits} → a ≡ b
-      → Does own (a.code all scope strides) (a.turns all scope strides values) f memory (length scope) funcs hits → Does own (b.code all scope strides) (b.turns all scope strides values) f memory (length scope) funcs hits
-  remade {a} {b} {all} {scope} {strides} {values} {f} {memory} {funcs} {hits} e d = subst (λ c. Does own (c.code all scope strides) (c.turns all scope strides values) f memory (length scope) funcs hits) e d
+  remade : {a b : Rounded} {all : Bool} {scope : List Counter} {goings : List Going} {values : Values} {f : ℕ → ℕ} {memory : List ℕ} {funcs : Planes} {hits : Hits} → a ≡ b
+      → Does own (a.code all scope goings) (a.turns all scope goings values) f memory (length scope) funcs hits → Does own (b.code all scope goings) (b.turns all scope goings values) f memory (length scope) funcs hits
+  remade {a} {b} {all} {scope} {goings} {values} {f} {memory} {funcs} {hits} e d = subst (λ c. Does own (c.code all scope goings) (c.turns all scope goings values) f memory (length scope) funcs hits) e d
 
   at-store : (store : Store) → Follows (s.Store store)
-  at-store store all scope strides at n fits sound falls f memory funcs holds knows opening =
+  at-store store all scope goings at n fits sound falls f memory funcs holds knows opening =
       let e = rounded-store group own.places store in
-      let fit : store_fits group own.places scope strides store ≡ true = sym (ap (λ (r : Rounded). r.fits all scope strides) e) ∙ fits in
+      let fit : store_fits group own.places scope goings store ≡ true = sym (ap (λ (r : Rounded). r.fits all scope goings) e) ∙ fits in
       remade (sym e)
-      (pixels-do own good group scope strides at n opening.some opening.along store funcs
+      (pixels-do own good group scope goings at n opening.some opening.along store funcs
       (λ k b. sym (sound_store (reads_of own.inputs funcs) own.written own.loaded store (at k)) ∙ sound k b funcs holds.are_words)
       fit f memory holds knows opening.count)
 
   at-sequence : (first second : Stmt) → Follows (s.Sequence first second)
-  at-sequence first second all scope strides at n fits sound falls f memory funcs holds knows opening =
-      absurd (true≢false (sym fits ∙ ap (λ (r : Rounded). r.fits all scope strides) (rounded-sequence group own.places first second)))
+  at-sequence first second all scope goings at n fits sound falls f memory funcs holds knows opening =
+      absurd (true≢false (sym fits ∙ ap (λ (r : Rounded). r.fits all scope goings) (rounded-sequence group own.places first second)))
 
   at-for : (counter : Counter) (count : ℕ) (kind : LoopKind) (body : Stmt) → Follows (s.For counter count kind body)
-  at-for counter count kind body all scope strides at n fits sound falls f memory funcs holds knows opening =
-      absurd (true≢false (sym fits ∙ ap (λ (r : Rounded). r.fits all scope strides) (rounded-for group own.places counter count kind body)))
+  at-for counter count kind body all scope goings at n fits sound falls f memory funcs holds knows opening =
+      absurd (true≢false (sym fits ∙ ap (λ (r : Rounded). r.fits all scope goings) (rounded-for group own.places counter count kind body)))
 
   -- ---- a split loop's value
 
-  module _ (counter : Counter) (whole : Whole) (extent : ℕ) (body : Stmt) (inner : Follows body) (all : Bool) (scope : List Counter) (strides : List ℕ) (at : ℕ → Values) (n left : ℕ)
-      (fit : BindFits group own.places counter whole extent body all scope strides) (sound : AllSound (s.Bind counter whole extent body) at n) (opening : IsOpen group all scope strides at n left)
+  module _ (counter : Counter) (whole : Whole) (extent : ℕ) (body : Stmt) (inner : Follows body) (all : Bool) (scope : List Counter) (goings : List Going) (at : ℕ → Values) (n left : ℕ)
+      (fit : BindFits group own.places counter whole extent body all scope goings) (sound : AllSound (s.Bind counter whole extent body) at n) (opening : IsOpen group all scope goings at n left)
       (falls : NeverFall (s.Bind counter whole extent body) at n) where
     abbrev bound : Stmt
     bound = s.Bind counter whole extent body
 
-    abbrev stride : ℕ
-    stride = whole_stride scope strides whole
+    abbrev going : Going
+    going = fit.going
 
-    goes : GoesAlong scope strides whole extent
-    goes = goes-parts scope strides whole extent fit.goes
+    taken : Taken scope goings counter whole extent going
+    taken = taken-parts scope goings counter whole extent going fit.taken
+
+    most : n ≤ 16
+    most = few-rounds group all scope goings at n left opening
 
     abbrev first : ℕ
-    first = value_at scope strides at n opening.along whole extent goes 0
+    first = value_at scope goings at n opening.along opening.low most counter whole extent going taken 0
 
     abbrev made : Rounded
     made = rounded group own.places body
@@ -148,22 +152,22 @@ module _ (own : Setting) (good : IsSetting own) (group : Group) where
 
     module _ (l : first < extent) where
       abbrev m : ℕ
-      m = passing scope strides at n opening.along whole extent goes never l
+      m = passing scope goings at n opening.along opening.low most counter whole extent going taken never l
 
       abbrev inner_at : ℕ → Values
-      inner_at = values_at scope strides at n opening.along whole extent goes never l group all left opening counter
+      inner_at = values_at scope goings at n opening.along opening.low most counter whole extent going taken
 
       few : m ≤ n
-      few = few-pass scope strides at n opening.along whole extent goes never l
+      few = few-pass scope goings at n opening.along opening.low most counter whole extent going taken never l
 
       under : (k : ℕ) → k < m → whole_value whole (at k) < extent
-      under k b = passes scope strides at n opening.along whole extent goes never l k b
+      under k b = passes scope goings at n opening.along opening.low most counter whole extent going taken never l k b
 
       passing-round : (funcs : Planes) (k : ℕ) → k < m → effects bound at funcs k ≡ effects body inner_at funcs k
       passing-round funcs k b = of-round funcs k true (is-below (whole_value whole (at k)) extent (under k b))
 
       later-round : (funcs : Planes) (k : ℕ) → m ≤ k → k < n → effects bound at funcs k ≡ None
-      later-round funcs k above b = of-round funcs k false (is-above (whole_value whole (at k)) extent (stays-out scope strides at n opening.along whole extent goes never l k above b))
+      later-round funcs k above b = of-round funcs k false (is-above (whole_value whole (at k)) extent (stays-out scope goings at n opening.along opening.low most counter whole extent going taken never l k above b))
 
       same-after : (funcs : Planes) → after body inner_at m funcs ≡ after bound at n funcs
       same-after funcs =
@@ -187,63 +191,65 @@ module _ (own : Setting) (good : IsSetting own) (group : Group) where
       inner-falls : NeverFall body inner_at m
       inner-falls funcs k b = (up-parts funcs k (let f = few in omega (arith, b, f)) (under (k + 1) b)).1
 
-      left-same : left_by own good (suc (length scope)) (stride == 0) all extent first stride left ≡ left_if scope strides at n opening.along whole extent goes never l group all left opening counter (stride == 0) all
-      left-same = by (stride == 0) all
-        where
-          by : (t a : Bool) → left_by own good (suc (length scope)) t a extent first stride left ≡ left_if scope strides at n opening.along whole extent goes never l group all left opening counter t a
-          by true a = refl
-          by false true = refl
-          by false false = refl
-
       abbrev rest : Bool
-      rest = all && stride == 0
+      rest = all && is_still going
 
       abbrev inside_turns : ℕ
-      inside_turns = length (left_over all stride (seat (length scope))) + made.turns rest (counter ∷ scope) (stride ∷ strides) (inner_at 0)
+      inside_turns = length (left_over (counter ∷ scope) all going (seat (length scope))) + made.turns rest (counter ∷ scope) (going ∷ goings) (inner_at 0)
 
       inside-does : (f : ℕ → ℕ) (memory : List ℕ) (funcs : Planes) → HoldsFuncs own memory funcs → Knows w own.harts (counter ∷ scope) (inner_at 0) f → f (seat (length scope)) ≡ first → f 13 ≡ extent → f 15 ≡ left
-          → Does own (inside made counter all scope strides stride) inside_turns f memory (suc (length scope)) (after body inner_at m funcs) (effect_hits (effects body inner_at funcs) m)
+          → Does own (inside made counter all scope goings going) inside_turns f memory (suc (length scope)) (after body inner_at m funcs) (effect_hits (effects body inner_at funcs) m)
       inside-does f memory funcs holds knows ec e13 e15 =
-          let a = parks own good (suc (length scope)) stride (seat (length scope)) (r-high own (length scope) fit.seat_is) goes.few f memory funcs holds first extent left ec e13 e15 l goes.small opening.small all in
+          let a = parks own good (suc (length scope)) (counter ∷ scope) (inner_at 0) (seat (length scope)) (r-high own (length scope) fit.seat_is) f memory funcs holds knows.counters first extent left ec e13 e15 l taken.small opening.small
+          going (can scope goings at n opening.along opening.low most counter whole extent going taken) all in
           let kn = knows-still w own.harts (counter ∷ scope) (inner_at 0) f a.does.after knows a.does.keeps in
-          let opening2 = subst (IsOpen group rest (counter ∷ scope) (stride ∷ strides) inner_at m) (sym (a.left_is ∙ left-same)) (still-opening scope strides at n opening.along whole extent goes never l group all left opening counter) in
-          let b = inner rest (counter ∷ scope) (stride ∷ strides) inner_at m fit.body_fits inner-sound inner-falls a.does.after a.does.left funcs a.does.holds kn opening2 in
+          let opening2 = subst (IsOpen group rest (counter ∷ scope) (going ∷ goings) inner_at m) (sym a.left_is) (still-opening scope goings at n opening.along opening.low most counter whole extent going taken never l group all left opening) in
+          let b = inner rest (counter ∷ scope) (going ∷ goings) inner_at m fit.body_fits inner-sound inner-falls a.does.after a.does.left funcs a.does.holds kn opening2 in
           went-hits own (λ func x y hit. inr hit) (does-then own a.does b)
 
-    abbrev bound_code : List Insn
-    bound_code = bind_code scope whole extent (seat (length scope)) (inside made counter all scope strides stride)
+    abbrev code : List Insn
+    code = bound_code made counter whole extent all scope goings (Some going)
 
-    abbrev bound_turns : ℕ
-    bound_turns = bind_turns made counter whole extent all scope strides (at 0) stride
+    abbrev code_turns : ℕ
+    code_turns = bind_turns made counter whole extent all scope goings (at 0) (Some going)
 
     by-test : (t : Bool) → nat_lt first extent ≡ t → (f : ℕ → ℕ) (memory : List ℕ) (funcs : Planes) → HoldsFuncs own memory funcs → Knows w own.harts scope (at 0) f → f 15 ≡ left
-        → Does own bound_code bound_turns f memory (length scope) (after bound at n funcs) (effect_hits (effects bound at funcs) n)
+        → Does own code code_turns f memory (length scope) (after bound at n funcs) (effect_hits (effects bound at funcs) n)
     unfolding turns
     by-test true t f memory funcs holds knows e15 =
         let l = below first extent t in
-        let a = bind-does own scope (at 0) fit.seat_is counter whole extent (let s = goes.small in omega (arith, s)) fit.whole_is (inside made counter all scope strides stride) (inside_turns l)
+        let a = bind-does own scope (at 0) fit.seat_is counter whole extent (let s = taken.small in omega (arith, s)) fit.whole_is (inside made counter all scope goings going) (inside_turns l)
         (λ p. after body (inner_at l) (m l) p) (λ p. effect_hits (effects body (inner_at l) p) (m l)) left
         (λ is g z p h kn ec e13 e15'. inside-does l g z p h kn ec e13 e15') true t f memory funcs holds knows e15 in
         went-hits own (λ func x y hit. hits-inside l funcs func x y hit)
         (went-is own (sym (ap (λ b. length (whole_code scope whole (seat (length scope))) + (if b then 3 + inside_turns l else 4)) t)) (same-after l funcs) a)
     by-test false t f memory funcs holds knows e15 =
         let no-round : (k : ℕ) → 0 ≤ k → k < n + 0 → effects bound at funcs k ≡ None = λ k low b. nothing-stored k (omega (arith, b)) in
-        let a = bind-does own scope (at 0) fit.seat_is counter whole extent (let s = goes.small in omega (arith, s)) fit.whole_is (inside made counter all scope strides stride) 0
+        let a = bind-does own scope (at 0) fit.seat_is counter whole extent (let s = taken.small in omega (arith, s)) fit.whole_is (inside made counter all scope goings going) 0
         (λ p. p) (λ p. no_hits) left (λ is g z p h kn ec e13 e15'. absurd (true≢false (sym is ∙ t))) false t f memory funcs holds knows e15 in
         went-hits own (λ func x y hit. none-some (sym (nothing-stored hit.round hit.below) ∙ hit.is))
-        (went-is own (sym (ap (λ b. length (whole_code scope whole (seat (length scope))) + (if b then 3 + (length (left_over all stride (seat (length scope))) + made.turns (all && stride == 0) (counter ∷ scope) (stride ∷ strides) (with counter first (at 0))) else 4)) t))
+        (went-is own (sym (ap (λ b. length (whole_code scope whole (seat (length scope))) + (if b then 3 + (length (left_over (counter ∷ scope) all going (seat (length scope))) + made.turns (all && is_still going) (counter ∷ scope) (going ∷ goings) (with counter first (at 0))) else 4)) t))
         (nothing no-round) a)
       where
         nothing-stored : (k : ℕ) → k < n → effects bound at funcs k ≡ None
-        nothing-stored k b = of-round funcs k false (is-above (whole_value whole (at k)) extent (none-passes scope strides at n opening.along whole extent goes never (not-below first extent t) k b))
+        nothing-stored k b = of-round funcs k false (is-above (whole_value whole (at k)) extent (none-passes scope goings at n opening.along opening.low most counter whole extent going taken never (not-below first extent t) k b))
 
         nothing : ((k : ℕ) → 0 ≤ k → k < n + 0 → effects bound at funcs k ≡ None) → funcs ≡ after bound at n funcs
         nothing none = let e : n + 0 ≡ n = omega arith in sym (laid-cut own.points (effects bound at funcs) n 0 none funcs) ∙ ap (λ k. laid own.points (effects bound at funcs) k funcs) e
 
+  -- what is made of the value that goes along so
+  by-going : (counter : Counter) (whole : Whole) (extent : ℕ) (body : Stmt) (all : Bool) (scope : List Counter) (goings : List Going) (values : Values) {f : ℕ → ℕ} {memory : List ℕ} {funcs : Planes} {hits : Hits} (a b : Option Going) → b ≡ a
+      → Does own (bound_code (rounded group own.places body) counter whole extent all scope goings a) (bind_turns (rounded group own.places body) counter whole extent all scope goings values a) f memory (length scope) funcs hits
+      → Does own (bound_code (rounded group own.places body) counter whole extent all scope goings b) (bind_turns (rounded group own.places body) counter whole extent all scope goings values b) f memory (length scope) funcs hits
+  by-going counter whole extent body all scope goings values {f} {memory} {funcs} {hits} a b e d =
+      subst (λ (g : Option Going). Does own (bound_code (rounded group own.places body) counter whole extent all scope goings g) (bind_turns (rounded group own.places body) counter whole extent all scope goings values g) f memory (length scope) funcs hits) (sym e) d
+
   at-bind : (counter : Counter) (whole : Whole) (extent : ℕ) (body : Stmt) → Follows body → Follows (s.Bind counter whole extent body)
-  at-bind counter whole extent body inner all scope strides at n fits sound falls f memory funcs holds knows opening =
+  at-bind counter whole extent body inner all scope goings at n fits sound falls f memory funcs holds knows opening =
+      let fit = bind-parts group own.places counter whole extent body all scope goings fits in
       remade (sym (rounded-bind group own.places counter whole extent body))
-      (by-test counter whole extent body inner all scope strides at n (f 15) (bind-parts group own.places counter whole extent body all scope strides fits) sound opening falls (nat_lt (whole_value whole (at 0)) extent) refl f memory funcs holds knows refl)
+      (by-going counter whole extent body all scope goings (at 0) (Some fit.going) (going_taken scope goings counter whole extent) fit.taken
+      (by-test counter whole extent body inner all scope goings at n (f 15) fit sound opening falls (nat_lt (whole_value whole (at 0)) extent) refl f memory funcs holds knows refl))
 
   by-layer : (X : Type 0) (part : X → Stmt) → ((p : X) → Follows (part p)) → (l : Stmt-F X) → Follows (roll-Stmt (map-Stmt X Stmt part l))
   by-layer X part follows (layer.Store store) = subst Follows (sym (rolls-Store store)) (at-store store)

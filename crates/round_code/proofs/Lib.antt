@@ -11,3 +11,6 @@ pub mod Rows
 pub mod ScatteredCode
 pub mod Steady
 pub mod Storing
+pub mod Moving
+pub mod Counting
+pub mod CutParking

@@ -1,5 +1,5 @@
 -- The code of a loop whose rounds are done at once does the loop.
-use Rattle.std.proofs.Common.{◌≡◌, ℕ, ◌+◌, ◌-◌, ◌*◌, ◌^◌, ◌<◌, ◌≤◌, List, [], ◌∷◌, length, Bool, true, false, refl, ap, ◌∙◌, sym, arith, inr}
+use Rattle.std.proofs.Common.{◌≡◌, ℕ, ◌+◌, ◌-◌, ◌*◌, ◌^◌, ◌<◌, ◌≤◌, List, [], ◌∷◌, length, Bool, true, false, refl, ap, ◌∙◌, sym, subst, arith, inl, inr}
 use Rattle.std.specs.Prelude.{◌≢◌, ◌==◌, ◌&&◌, if◌then◌else◌, nat_lt, pos, Option}
 use Rattle.std.proofs.lemmas.Bool.{and_parts}
 use Rattle.std.proofs.lemmas.Bool.Decides.{nat_tests}
@@ -30,13 +30,16 @@ use Rattle.scalar_code.proofs.Looping.{r-one, r-high}
 use Rattle.scalar_code.proofs.Tracing.{hit-for}
 use Rattle.scalar_code.proofs.Values.{imm-sets, literal-sets}
 use Rattle.lane_code.specs.declared.groups.Group.{Group}
+use Rattle.lane_code.specs.declared.goings.Going.{Going}
 use Rattle.lane_code.specs.declared.groups.Group.TheVariants as groups
 use Rattle.lane_code.specs.Groups.{registers}
-use Rattle.lane_code.specs.Lanes.{stride_of}
+use Rattle.lane_code.specs.declared.goings.Going.TheVariants as goes
+use Rattle.lane_code.specs.Goings.{going_of, gone, can_go}
 use Rattle.round_code.specs.Doing.{LoopsAreDoneAtOnce}
 use Rattle.round_code.specs.Rounds.{rounded, rounds_code, rounds_turns, rounds_fit}
 use Rattle.round_code.proofs.Effects.{effect_hits, laid}
 use Rattle.round_code.proofs.Following.{NeverFall, follows}
+use Rattle.round_code.proofs.Moving.{IsBelow}
 use Rattle.round_code.proofs.Openings.{IsOpen}
 use Rattle.round_code.proofs.Steady.{steps-are-same}
 use Rattle.round_code.proofs.Storing.{hits-at-once}
@@ -47,16 +50,17 @@ below n k t = grind (arith, nat_tests)
 is-count : (n k : ℕ) → (n == k) ≡ true → n ≡ k
 is-count n k t = grind (arith, nat_tests)
 
-none-moves : (scope : List Counter) (counter : Counter) → stride_of scope [] counter ≡ 0
+none-moves : (scope : List Counter) (counter : Counter) → going_of scope [] counter ≡ goes.Even 0 0
 none-moves [] counter = refl
 none-moves (latest ∷ others) counter = refl
 
 -- all rounds come to the loop's body
 all-open : (group : Group) (scope : List Counter) (counter : Counter) (values : Values) (count left : ℕ) → count ≡ 4 * registers group → left ≡ count
-    → IsOpen group true (counter ∷ scope) (1 ∷ []) (λ k. with counter k values) count left
+    → IsOpen group true (counter ∷ scope) (goes.Even 1 16 ∷ []) (λ k. with counter k values) count left
 all-open group scope counter values count left is parked = record {
   some = some group is;
-  along = λ k b c. by-counter (same_counter c counter) k c;
+  along = record { along = λ k b c. by-counter (same_counter c counter) k c; can = λ c. by-can (same_counter c counter) c };
+  low = λ k b c. by-low (same_counter c counter) k b c;
   count = omega (arith, is, parked);
   whole = λ e. is;
   small = small-left group is;
@@ -72,9 +76,23 @@ all-open group scope counter values count left is parked = record {
     small-left groups.Two e = omega (arith, e, parked)
     small-left groups.Four e = omega (arith, e, parked)
 
-    by-counter : (t : Bool) (k : ℕ) (c : Counter) → (if t then k else values c) ≡ (if t then 0 else values c) + k * (if t then 1 else stride_of scope [] c)
+    few : (group : Group) → count ≡ 4 * registers group → count ≤ 16
+    few groups.One e = omega (arith, e)
+    few groups.Two e = omega (arith, e)
+    few groups.Four e = omega (arith, e)
+
+    by-counter : (t : Bool) (k : ℕ) (c : Counter) → (if t then k else values c) ≡ (if t then 0 else values c) + gone (if t then goes.Even 1 16 else going_of scope [] c) (with counter 0 values) k
     by-counter true k c = let e : k ≡ 0 + k * 1 = omega arith in e
-    by-counter false k c = let e = ap (λ s. values c + k * s) (none-moves scope c) in (let g : values c ≡ values c + k * 0 = (let z : k * 0 ≡ 0 = omega arith in omega (arith, z)) in g) ∙ sym e
+    by-counter false k c =
+        (let g : values c ≡ values c + k * 0 = (let z : k * 0 ≡ 0 = omega arith in omega (arith, z)) in g) ∙ sym (ap (λ (g : Going). values c + gone g (with counter 0 values) k) (none-moves scope c))
+
+    by-can : (t : Bool) (c : Counter) → can_go (if t then goes.Even 1 16 else going_of scope [] c) ≡ true
+    by-can true c = refl
+    by-can false c = ap (λ (g : Going). can_go g) (none-moves scope c)
+
+    by-low : (t : Bool) (k : ℕ) → k < count → (c : Counter) → IsBelow (if t then goes.Even 1 16 else going_of scope [] c) (if t then k else values c)
+    by-low true k b c = inr (let f = few group is in omega (arith, b, f))
+    by-low false k b c = subst (λ (g : Going). IsBelow g (values c)) (sym (none-moves scope c)) (inl refl)
 
 module _ (own : Setting) (good : IsSetting own) (group : Group) (counter : Counter) (count : ℕ) (body : Stmt) (scope : List Counter) (values : Values)
     (fit : rounds_fit group own.places scope counter count body ≡ true) (sound : SoundIn own (For counter count Vectorized body) values) where
@@ -90,14 +108,14 @@ module _ (own : Setting) (good : IsSetting own) (group : Group) (counter : Count
   few : length scope < 14
   few = below (length scope) 14 (and_parts (has_seat scope) _ fit).0
 
-  rest-fits : (count == 4 * registers group && (rounded group own.places body).fits true (counter ∷ scope) (1 ∷ [])) ≡ true
+  rest-fits : (count == 4 * registers group && (rounded group own.places body).fits true (counter ∷ scope) (goes.Even 1 16 ∷ [])) ≡ true
   rest-fits = (and_parts (has_seat scope) _ fit).1
 
   count-is : count ≡ 4 * registers group
-  count-is = is-count count (4 * registers group) (and_parts (count == 4 * registers group) ((rounded group own.places body).fits true (counter ∷ scope) (1 ∷ [])) rest-fits).0
+  count-is = is-count count (4 * registers group) (and_parts (count == 4 * registers group) ((rounded group own.places body).fits true (counter ∷ scope) (goes.Even 1 16 ∷ [])) rest-fits).0
 
-  body-fits : (rounded group own.places body).fits true (counter ∷ scope) (1 ∷ []) ≡ true
-  body-fits = (and_parts (count == 4 * registers group) ((rounded group own.places body).fits true (counter ∷ scope) (1 ∷ [])) rest-fits).1
+  body-fits : (rounded group own.places body).fits true (counter ∷ scope) (goes.Even 1 16 ∷ []) ≡ true
+  body-fits = (and_parts (count == 4 * registers group) ((rounded group own.places body).fits true (counter ∷ scope) (goes.Even 1 16 ∷ [])) rest-fits).1
 
   small-count : (group : Group) → count ≡ 4 * registers group → count < 2 ^ 32
   small-count groups.One e = omega (arith, e)
@@ -129,8 +147,8 @@ module _ (own : Setting) (good : IsSetting own) (group : Group) (counter : Count
       let k2 = knows-still w own.harts scope values zeroed.after set.after k1 second.keeps in
       let ec : set.after c ≡ 0 = set.others c c-apart ∙ zeroed.value in
       let k3 = knows-entered w own.harts scope values counter 0 set.after k2 ec (omega arith) in
-      let inner = follows own good group body true (counter ∷ scope) (1 ∷ []) at count body-fits each-sound falls set.after memory funcs holds k3 (all-open group scope counter values count (set.after 15) count-is set.value) in
-      let t = (rounded group own.places body).turns true (counter ∷ scope) (1 ∷ []) (at 0) in
+      let inner = follows own good group body true (counter ∷ scope) (goes.Even 1 16 ∷ []) at count body-fits each-sound falls set.after memory funcs holds k3 (all-open group scope counter values count (set.after 15) count-is set.value) in
+      let t = (rounded group own.places body).turns true (counter ∷ scope) (goes.Even 1 16 ∷ []) (at 0) in
       let sum : 1 + (2 + t) ≡ 3 + t = omega arith in
       went-is own sum refl (went-hits own (λ func x y hit. inr (inr hit)) (does-then own first (does-then own second (went-less own inner))))
 

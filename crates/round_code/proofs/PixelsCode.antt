@@ -13,6 +13,7 @@ use Rattle.scalar_code.specs.Evaluation.{Knows}
 use Rattle.scalar_code.specs.Doing.{Setting, IsSetting, HoldsFuncs}
 use Rattle.scalar_code.proofs.Going.{Does}
 use Rattle.lane_code.specs.declared.groups.Group.{Group}
+use Rattle.lane_code.specs.declared.goings.Going.{Going}
 use Rattle.lane_code.specs.Groups.{registers}
 use Rattle.lane_code.specs.Leaving.{GoAlong}
 use Rattle.round_code.specs.Rounds.{is_row, row_code, row_fits, scattered_code, scattered_fits, store_fits, pixels_code}
@@ -20,8 +21,8 @@ use Rattle.round_code.proofs.Effects.{effect_hits, laid}
 use Rattle.round_code.proofs.RowCode.{row-parts, row-does}
 use Rattle.round_code.proofs.ScatteredCode.{scattered-parts, scattered-does}
 
-module _ (own : Setting) (good : IsSetting own) (group : Group) (scope : List Counter) (strides : List ℕ) (at : ℕ → Values) (n : ℕ)
-    (some : 1 ≤ n) (go : GoAlong scope strides at n) (store : Store) (funcs : Planes)
+module _ (own : Setting) (good : IsSetting own) (group : Group) (scope : List Counter) (goings : List Going) (at : ℕ → Values) (n : ℕ)
+    (some : 1 ≤ n) (go : GoAlong scope goings at n) (store : Store) (funcs : Planes)
     (sound : (k : ℕ) → k < n → is_sound_store (reads_of own.inputs funcs) own.written own.loaded store (at k) ≡ true) where
   abbrev of_store : ℕ → Option Effect
   of_store k = effect (reads_of own.inputs funcs) (s.Store store) (at k)
@@ -29,14 +30,14 @@ module _ (own : Setting) (good : IsSetting own) (group : Group) (scope : List Co
   abbrev Stores : List Insn → (ℕ → ℕ) → List ℕ → Type 0
   Stores code f memory = Does own code (length code) f memory (length scope) (laid own.points of_store n funcs) (effect_hits of_store n)
 
-  by-test : (t : Bool) → is_row own.places scope strides store ≡ t
-      → (if t then row_fits group own.places scope strides store else scattered_fits group own.places scope strides store) ≡ true
+  by-test : (t : Bool) → is_row own.places scope goings store ≡ t
+      → (if t then row_fits group own.places scope goings store else scattered_fits group own.places scope goings store) ≡ true
       → (f : ℕ → ℕ) (memory : List ℕ) → HoldsFuncs own memory funcs → Knows own.world own.harts scope (at 0) f → min (f 15) (4 * registers group) ≡ n
-      → Stores (if t then row_code group own.places scope strides store else scattered_code group own.places scope strides store) f memory
-  by-test true row fits f memory holds knows count = row-does own good group scope strides at n some go store funcs sound (row-parts group own.places scope strides store row fits) f memory holds knows count
-  by-test false row fits f memory holds knows count = scattered-does own good group scope strides at n some go store funcs sound (scattered-parts group own.places scope strides store fits) f memory holds knows count
+      → Stores (if t then row_code group own.places scope goings store else scattered_code group own.places scope goings store) f memory
+  by-test true row fits f memory holds knows count = row-does own good group scope goings at n some go store funcs sound (row-parts group own.places scope goings store row fits) f memory holds knows count
+  by-test false row fits f memory holds knows count = scattered-does own good group scope goings at n some go store funcs sound (scattered-parts group own.places scope goings store fits) f memory holds knows count
 
-  pub pixels-do : store_fits group own.places scope strides store ≡ true
+  pub pixels-do : store_fits group own.places scope goings store ≡ true
       → (f : ℕ → ℕ) (memory : List ℕ) → HoldsFuncs own memory funcs → Knows own.world own.harts scope (at 0) f → min (f 15) (4 * registers group) ≡ n
-      → Stores (pixels_code group own.places scope strides store) f memory
-  pixels-do fits f memory holds knows count = by-test (is_row own.places scope strides store) refl fits f memory holds knows count
+      → Stores (pixels_code group own.places scope goings store) f memory
+  pixels-do fits f memory holds knows count = by-test (is_row own.places scope goings store) refl fits f memory holds knows count

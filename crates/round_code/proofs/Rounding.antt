@@ -1,7 +1,7 @@
 -- What is made of a statement for all rounds at once, in terms of its parts.
-use Rattle.std.proofs.Common.{◌≡◌, ◌<◌, ◌^◌, Bool, true, List, ◌∷◌, length, ap, sym, ◌∙◌, arith}
-use Rattle.std.specs.Prelude.{ℕ, ◌==◌, ◌&&◌, nat_lt}
-use Rattle.std.proofs.lemmas.Bool.{and_parts}
+use Rattle.std.proofs.Common.{◌≡◌, ◌<◌, ◌^◌, Bool, true, List, ◌∷◌, length, refl, ap, sym, ◌∙◌, arith}
+use Rattle.std.specs.Prelude.{ℕ, ◌&&◌, nat_lt, Option, Some, None}
+use Rattle.std.proofs.lemmas.Bool.{and_parts, true≢false}
 use Rattle.std.proofs.lemmas.Bool.Decides.{nat_tests}
 use Rattle.loop_ir.specs.declared.expressions.Counter.{Counter}
 use Rattle.loop_ir.specs.declared.statements.LoopKind.{LoopKind}
@@ -14,7 +14,8 @@ use Rattle.loop_ir.specs.declared.statements.Stmt.TheVariants as s
 use Rattle.scalar_code.specs.declared.places.Places.{Places}
 use Rattle.scalar_code.specs.Fitting.{fits_whole, has_seat}
 use Rattle.lane_code.specs.declared.groups.Group.{Group}
-use Rattle.round_code.specs.Rounds.{Rounded, rounded, rounded_at, whole_stride, whole_goes, inside, bind_fits}
+use Rattle.lane_code.specs.declared.goings.Going.{Going}
+use Rattle.round_code.specs.Rounds.{Rounded, rounded, rounded_at, going_taken, is_still, inside, bind_fits}
 
 pub is-below : (n k : ℕ) → nat_lt n k ≡ true → n < k
 is-below n k t = grind (arith, nat_tests)
@@ -40,21 +41,25 @@ module _ (group : Group) (places : Places) where
   rounded-bind counter whole extent body = ap of (sym (rolls-Bind counter whole extent body)) ∙ fold-roll-Stmt Rounded (rounded_at group places) (layer.Bind counter whole extent body)
 
   -- the tests of a split loop's value
-  pub record BindFits (counter : Counter) (whole : Whole) (extent : ℕ) (body : Stmt) (all : Bool) (scope : List Counter) (strides : List ℕ) : Type 0 where
+  pub record BindFits (counter : Counter) (whole : Whole) (extent : ℕ) (body : Stmt) (all : Bool) (scope : List Counter) (goings : List Going) : Type 0 where
+    pub going : Going
+    pub taken : going_taken scope goings counter whole extent ≡ Some going
     pub seat_is : length scope < 14
-    pub goes : whole_goes scope strides whole extent ≡ true
     pub whole_is : fits_whole whole ≡ true
-    pub body_fits : (rounded group places body).fits (all && whole_stride scope strides whole == 0) (counter ∷ scope) (whole_stride scope strides whole ∷ strides) ≡ true
-    pub short : length (inside (rounded group places body) counter all scope strides (whole_stride scope strides whole)) < 2 ^ 17
+    pub body_fits : (rounded group places body).fits (all && is_still going) (counter ∷ scope) (going ∷ goings) ≡ true
+    pub short : length (inside (rounded group places body) counter all scope goings going) < 2 ^ 17
 
-  pub bind-parts : (counter : Counter) (whole : Whole) (extent : ℕ) (body : Stmt) (all : Bool) (scope : List Counter) (strides : List ℕ)
-      → (rounded group places (s.Bind counter whole extent body)).fits all scope strides ≡ true → BindFits counter whole extent body all scope strides
-  bind-parts counter whole extent body all scope strides fits =
-      let m = whole_stride scope strides whole in
+  bound-parts : (counter : Counter) (whole : Whole) (extent : ℕ) (body : Stmt) (all : Bool) (scope : List Counter) (goings : List Going) (own : Option Going) → going_taken scope goings counter whole extent ≡ own
+      → bind_fits (rounded group places body) counter whole all scope goings own ≡ true → BindFits counter whole extent body all scope goings
+  bound-parts counter whole extent body all scope goings None e fits = absurd (true≢false (sym fits))
+  bound-parts counter whole extent body all scope goings (Some going) e fits =
       let r = rounded group places body in
-      let k : bind_fits r counter whole extent all scope strides m ≡ true = sym (ap (λ (r : Rounded). r.fits all scope strides) (rounded-bind counter whole extent body)) ∙ fits in
-      let a = and_parts (has_seat scope) _ k in
-      let b = and_parts (whole_goes scope strides whole extent) _ a.1 in
-      let c = and_parts (fits_whole whole) _ b.1 in
-      let e = and_parts (r.fits (all && m == 0) (counter ∷ scope) (m ∷ strides)) (nat_lt (length (inside r counter all scope strides m)) (2 ^ 17)) c.1 in
-      record { seat_is = is-below (length scope) 14 a.0; goes = b.0; whole_is = c.0; body_fits = e.0; short = is-below (length (inside r counter all scope strides m)) (2 ^ 17) e.1 }
+      let a = and_parts (has_seat scope) _ fits in
+      let b = and_parts (fits_whole whole) _ a.1 in
+      let c = and_parts (r.fits (all && is_still going) (counter ∷ scope) (going ∷ goings)) (nat_lt (length (inside r counter all scope goings going)) (2 ^ 17)) b.1 in
+      record { going = going; taken = e; seat_is = is-below (length scope) 14 a.0; whole_is = b.0; body_fits = c.0; short = is-below (length (inside r counter all scope goings going)) (2 ^ 17) c.1 }
+
+  pub bind-parts : (counter : Counter) (whole : Whole) (extent : ℕ) (body : Stmt) (all : Bool) (scope : List Counter) (goings : List Going)
+      → (rounded group places (s.Bind counter whole extent body)).fits all scope goings ≡ true → BindFits counter whole extent body all scope goings
+  bind-parts counter whole extent body all scope goings fits =
+      bound-parts counter whole extent body all scope goings (going_taken scope goings counter whole extent) refl (sym (ap (λ (r : Rounded). r.fits all scope goings) (rounded-bind counter whole extent body)) ∙ fits)

@@ -1,5 +1,5 @@
 -- The code of a row stores its pixels.
-use Rattle.std.proofs.Common.{◌≡◌, ℕ, ◌+◌, ◌*◌, ◌%◌, ◌^◌, ◌<◌, ◌≤◌, List, [], ◌∷◌, ◌++◌, length, true, false, refl, ap, ◌∙◌, sym, subst, arith, inl, inr}
+use Rattle.std.proofs.Common.{◌≡◌, ℕ, ◌+◌, ◌*◌, ◌%◌, ◌^◌, ◌<◌, ◌≤◌, List, [], ◌∷◌, ◌++◌, length, true, refl, ap, ◌∙◌, sym, subst, arith, inl, inr}
 use Rattle.std.specs.Prelude.{◌≢◌, ◌⊎◌, nat_le, min, pos, Option, Some, None}
 use Rattle.std.specs.List.{list_all, AllByRecursion}
 use Rattle.std.proofs.lemmas.Bool.{and_parts, and_from, true≢false}
@@ -47,6 +47,7 @@ use Rattle.scalar_code.proofs.Reaching.{addressed-reaches}
 use Rattle.scalar_code.proofs.Going.{no_hits, Does, still, lines-then, went-hits, went-is}
 use Rattle.scalar_code.proofs.Placing.{evaluated, by-set}
 use Rattle.lane_code.specs.declared.groups.Group.{Group}
+use Rattle.lane_code.specs.declared.goings.Going.{Going}
 use Rattle.lane_code.specs.declared.groups.Group.TheVariants as groups
 use Rattle.lane_code.specs.declared.values.Pace.{Pace}
 use Rattle.lane_code.specs.declared.values.Pace.TheVariants as paces
@@ -135,30 +136,30 @@ of_some other None = other
 of_some other (Some own) = own
 
 -- the tests of a row
-pub record RowFits (group : Group) (places : Places) (scope : List Counter) (strides : List ℕ) (store : Store) : Type 0 where
-  pub stepping : is_stepping (pace_of scope strides store.x) ≡ true
-  pub steady : is_steady (pace_of scope strides store.y) ≡ true
+pub record RowFits (group : Group) (places : Places) (scope : List Counter) (goings : List Going) (store : Store) : Type 0 where
+  pub stepping : is_stepping (pace_of scope goings store.x) ≡ true
+  pub steady : is_steady (pace_of scope goings store.y) ≡ true
   pub few_x : nat_le (made places scope store.x).need 12 ≡ true
   pub few_y : nat_le (made places scope store.y).need 12 ≡ true
   pub word_x : (made places scope store.x).is_word ≡ true
   pub word_y : (made places scope store.y).is_word ≡ true
-  pub fits : (laned group places scope strides store.value).fits 0 ≡ true
-  pub word : (laned group places scope strides store.value).own.is_word ≡ true
+  pub fits : (laned group places scope goings store.value).fits 0 ≡ true
+  pub word : (laned group places scope goings store.value).own.is_word ≡ true
 
-pub row-parts : (group : Group) (places : Places) (scope : List Counter) (strides : List ℕ) (store : Store) → is_row places scope strides store ≡ true → row_fits group places scope strides store ≡ true
-    → RowFits group places scope strides store
-row-parts group places scope strides store row is =
-    let a = and_parts (is_stepping (pace_of scope strides store.x)) _ row in
-    let b = and_parts (is_steady (pace_of scope strides store.y)) _ a.1 in
+pub row-parts : (group : Group) (places : Places) (scope : List Counter) (goings : List Going) (store : Store) → is_row places scope goings store ≡ true → row_fits group places scope goings store ≡ true
+    → RowFits group places scope goings store
+row-parts group places scope goings store row is =
+    let a = and_parts (is_stepping (pace_of scope goings store.x)) _ row in
+    let b = and_parts (is_steady (pace_of scope goings store.y)) _ a.1 in
     let c = and_parts (nat_le (made places scope store.x).need 12) (nat_le (made places scope store.y).need 12) b.1 in
     let e = and_parts (made places scope store.x).is_word _ is in
     let f = and_parts (made places scope store.y).is_word _ e.1 in
-    let g = and_parts ((laned group places scope strides store.value).fits 0) (laned group places scope strides store.value).own.is_word f.1 in
+    let g = and_parts ((laned group places scope goings store.value).fits 0) (laned group places scope goings store.value).own.is_word f.1 in
     record { stepping = a.0; steady = b.0; few_x = c.0; few_y = c.1; word_x = e.0; word_y = f.0; fits = g.0; word = g.1 }
 
-module _ (own : Setting) (good : IsSetting own) (group : Group) (scope : List Counter) (strides : List ℕ) (at : ℕ → Values) (n : ℕ)
-    (some : 1 ≤ n) (go : GoAlong scope strides at n) (store : Store) (funcs : Planes)
-    (sound : (k : ℕ) → k < n → is_sound_store (reads_of own.inputs funcs) own.written own.loaded store (at k) ≡ true) (fit : RowFits group own.places scope strides store) where
+module _ (own : Setting) (good : IsSetting own) (group : Group) (scope : List Counter) (goings : List Going) (at : ℕ → Values) (n : ℕ)
+    (some : 1 ≤ n) (go : GoAlong scope goings at n) (store : Store) (funcs : Planes)
+    (sound : (k : ℕ) → k < n → is_sound_store (reads_of own.inputs funcs) own.written own.loaded store (at k) ≡ true) (fit : RowFits group own.places scope goings store) where
   abbrev w : World
   w = own.world
 
@@ -244,19 +245,19 @@ module _ (own : Setting) (good : IsSetting own) (group : Group) (scope : List Co
 
   small-pixel : (memory : List ℕ) → HoldsFuncs own memory funcs → (k : ℕ) → k < n → pixel k < 2 ^ 32
   small-pixel memory holds =
-      let go' = values-go w own.harts memory group own.places scope strides at reads n holds.size good.are_places some go store.value
-      (sym (ap (λ m. m.is_word) (own-is group own.places scope strides store.value)) ∙ fit.word) (loaded store.value (λ k b. (sounds k b).of_value) memory holds) in
+      let go' = values-go w own.harts memory group own.places scope goings at reads n holds.size good.are_places some go store.value
+      (sym (ap (λ m. m.is_word) (own-is group own.places scope goings store.value)) ∙ fit.word) (loaded store.value (λ k b. (sounds k b).of_value) memory holds) in
       go'.small
 
   along-x : (memory : List ℕ) → HoldsFuncs own memory funcs → (k : ℕ) → k < n → x k ≡ (x 0 + k) % 2 ^ 32
   along-x memory holds =
-      let go' = values-go w own.harts memory group own.places scope strides at reads n holds.size good.are_places some go store.x fit.word_x (loaded store.x (λ k b. (sounds k b).of_x) memory holds) in
-      subst (λ p. Holds p n x) (stepping-is (pace_of scope strides store.x) fit.stepping) go'.paced
+      let go' = values-go w own.harts memory group own.places scope goings at reads n holds.size good.are_places some go store.x fit.word_x (loaded store.x (λ k b. (sounds k b).of_x) memory holds) in
+      subst (λ p. Holds p n x) (stepping-is (pace_of scope goings store.x) fit.stepping) go'.paced
 
   steady-y : (memory : List ℕ) → HoldsFuncs own memory funcs → (k : ℕ) → k < n → y k ≡ y 0
   steady-y memory holds =
-      let go' = values-go w own.harts memory group own.places scope strides at reads n holds.size good.are_places some go store.y fit.word_y (loaded store.y (λ k b. (sounds k b).of_y) memory holds) in
-      subst (λ p. Holds p n y) (steady-is (pace_of scope strides store.y) fit.steady) go'.paced
+      let go' = values-go w own.harts memory group own.places scope goings at reads n holds.size good.are_places some go store.y fit.word_y (loaded store.y (λ k b. (sounds k b).of_y) memory holds) in
+      subst (λ p. Holds p n y) (steady-is (pace_of scope goings store.y) fit.steady) go'.paced
 
   abbrev stored_at : ℕ → Effect
   stored_at k = record { func = store.func; x = x k; y = y k; pixel = pixel k }
@@ -321,16 +322,16 @@ module _ (own : Setting) (good : IsSetting own) (group : Group) (scope : List Co
 
     -- from the parked address on
     abbrev lanes_code : List Insn
-    lanes_code = (laned group own.places scope strides store.value).code 0
+    lanes_code = (laned group own.places scope goings store.value).code 0
 
     pub tail-does : (f : ℕ → ℕ) → Knows w own.harts scope (at 0) f → HasLanes group n f → f 15 ≡ first_spot
         → Does own (lanes_code ++ (Vector (v.StoreElements Bits32 (slot group 0) 15 addressings.UnitStride true) ∷ [])) (length (lanes_code ++ (Vector (v.StoreElements Bits32 (slot group 0) 15 addressings.UnitStride true) ∷ [])))
         f memory depth (laid own.points pixels_at n funcs) (effect_hits pixels_at n)
     tail-does f knows has e15 =
-        let there = slot-there w own.harts memory group own.places scope strides at reads n holds.size good.are_places some go store.value 0 fit.fits in
+        let there = slot-there w own.harts memory group own.places scope goings at reads n holds.size good.are_places some go store.value 0 fit.fits in
         let lies = slot-lies group 0 there in
-        let a = lanes-leave w own.harts memory group own.places scope strides at reads n holds.size good.are_places some go store.value 0 fit.fits
-        (sym (ap (λ m. m.is_word) (own-is group own.places scope strides store.value)) ∙ fit.word) (loaded store.value (λ k b. (sounds k b).of_value) memory holds) f knows has in
+        let a = lanes-leave w own.harts memory group own.places scope goings at reads n holds.size good.are_places some go store.value 0 fit.fits
+        (sym (ap (λ m. m.is_word) (own-is group own.places scope goings store.value)) ∙ fit.word) (loaded store.value (λ k b. (sounds k b).of_value) memory holds) f knows has in
         let first : Does own lanes_code (length lanes_code) f memory depth funcs no_hits = still own (λ at. at) _ _ a.after holds
         (λ q kept. let s = kept-safe depth q kept in a.keeps q (inl (s.outside, above-scratch q s.apart))) (λ at s. a.line at s) in
         let has1 = lanes-kept w memory holds.size group n f a.after (a.keeps vl_number (inr (inl (inl refl)))) (a.keeps vtype_number (inr (inl (inr refl)))) has in
@@ -348,7 +349,7 @@ module _ (own : Setting) (good : IsSetting own) (group : Group) (scope : List Co
 
   abbrev behind_group : List Insn
   behind_group = expr_code own.places scope store.x 20 ++ (move 15 20 ++ (expr_code own.places scope store.y 20
-      ++ (addressed place 15 20 ++ ((laned group own.places scope strides store.value).code 0 ++ (Vector (v.StoreElements Bits32 (slot group 0) 15 addressings.UnitStride true) ∷ [])))))
+      ++ (addressed place 15 20 ++ ((laned group own.places scope goings store.value).code 0 ++ (Vector (v.StoreElements Bits32 (slot group 0) 15 addressings.UnitStride true) ∷ [])))))
 
   lanes-stay : (f g : ℕ → ℕ) (memory : List ℕ) → HoldsFuncs own memory funcs → ((q : ℕ) → 31 < q → g q ≡ f q) → HasLanes group n f → HasLanes group n g
   lanes-stay f g memory holds same has = lanes-kept w memory holds.size group n f g (same vl_number (omega arith)) (same vtype_number (omega arith)) has
@@ -392,7 +393,7 @@ module _ (own : Setting) (good : IsSetting own) (group : Group) (scope : List Co
   hit-store func i j hit = record { round = hit.round; below = hit.below; stored = hit.stored; is = of-store hit.round ∙ hit.is; func_is = hit.func_is; x_is = hit.x_is; y_is = hit.y_is }
 
   pub row-does : (f : ℕ → ℕ) (memory : List ℕ) (holds : HoldsFuncs own memory funcs) → Knows w own.harts scope (at 0) f → min (f 15) (4 * registers group) ≡ n
-      → Does own (row_code group own.places scope strides store) (length (row_code group own.places scope strides store)) f memory depth (laid own.points of_store n funcs) (effect_hits of_store n)
+      → Does own (row_code group own.places scope goings store) (length (row_code group own.places scope goings store)) f memory depth (laid own.points of_store n funcs) (effect_hits of_store n)
   row-does f memory holds knows count =
       let m = most group in
       let room = few-lanes group in

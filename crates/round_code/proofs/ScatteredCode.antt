@@ -38,6 +38,7 @@ use Rattle.scalar_code.proofs.Spilling.{all-loaded}
 use Rattle.scalar_code.proofs.Keeping.{Kept, kept-safe, knows-still}
 use Rattle.scalar_code.proofs.Going.{no_hits, Does, still, lines-then, went-hits, went-is}
 use Rattle.lane_code.specs.declared.groups.Group.{Group}
+use Rattle.lane_code.specs.declared.goings.Going.{Going}
 use Rattle.lane_code.specs.Groups.{registers, slot, vtype_of}
 use Rattle.lane_code.specs.Lanes.{laned, offsets}
 use Rattle.lane_code.specs.Leaving.{GoAlong, HasLanes, IsKept}
@@ -56,21 +57,21 @@ of_some other None = other
 of_some other (Some own) = own
 
 -- the tests of an expression in a slot
-pub record SlotFits (group : Group) (places : Places) (scope : List Counter) (strides : List ℕ) (e : Expr) (k : ℕ) : Type 0 where
-  pub fits : (laned group places scope strides e).fits k ≡ true
-  pub word : (laned group places scope strides e).own.is_word ≡ true
+pub record SlotFits (group : Group) (places : Places) (scope : List Counter) (goings : List Going) (e : Expr) (k : ℕ) : Type 0 where
+  pub fits : (laned group places scope goings e).fits k ≡ true
+  pub word : (laned group places scope goings e).own.is_word ≡ true
 
 -- and of a store
-pub record ScatteredFits (group : Group) (places : Places) (scope : List Counter) (strides : List ℕ) (store : Store) : Type 0 where
-  pub value_fits : SlotFits group places scope strides store.value 0
-  pub x_fits : SlotFits group places scope strides store.x 1
-  pub y_fits : SlotFits group places scope strides store.y 2
+pub record ScatteredFits (group : Group) (places : Places) (scope : List Counter) (goings : List Going) (store : Store) : Type 0 where
+  pub value_fits : SlotFits group places scope goings store.value 0
+  pub x_fits : SlotFits group places scope goings store.x 1
+  pub y_fits : SlotFits group places scope goings store.y 2
 
-pub scattered-parts : (group : Group) (places : Places) (scope : List Counter) (strides : List ℕ) (store : Store) → scattered_fits group places scope strides store ≡ true → ScatteredFits group places scope strides store
-scattered-parts group places scope strides store is =
-    let lv = laned group places scope strides store.value in
-    let lx = laned group places scope strides store.x in
-    let ly = laned group places scope strides store.y in
+pub scattered-parts : (group : Group) (places : Places) (scope : List Counter) (goings : List Going) (store : Store) → scattered_fits group places scope goings store ≡ true → ScatteredFits group places scope goings store
+scattered-parts group places scope goings store is =
+    let lv = laned group places scope goings store.value in
+    let lx = laned group places scope goings store.x in
+    let ly = laned group places scope goings store.y in
     let a = and_parts (lv.fits 0 && lv.own.is_word) _ is in
     let b = and_parts (lx.fits 1 && lx.own.is_word) (ly.fits 2 && ly.own.is_word) a.1 in
     let c = and_parts (lv.fits 0) lv.own.is_word a.0 in
@@ -78,9 +79,9 @@ scattered-parts group places scope strides store is =
     let e = and_parts (ly.fits 2) ly.own.is_word b.1 in
     record { value_fits = record { fits = c.0; word = c.1 }; x_fits = record { fits = d.0; word = d.1 }; y_fits = record { fits = e.0; word = e.1 } }
 
-module _ (own : Setting) (good : IsSetting own) (group : Group) (scope : List Counter) (strides : List ℕ) (at : ℕ → Values) (n : ℕ)
-    (some : 1 ≤ n) (go : GoAlong scope strides at n) (store : Store) (funcs : Planes)
-    (sound : (k : ℕ) → k < n → is_sound_store (reads_of own.inputs funcs) own.written own.loaded store (at k) ≡ true) (fit : ScatteredFits group own.places scope strides store) where
+module _ (own : Setting) (good : IsSetting own) (group : Group) (scope : List Counter) (goings : List Going) (at : ℕ → Values) (n : ℕ)
+    (some : 1 ≤ n) (go : GoAlong scope goings at n) (store : Store) (funcs : Planes)
+    (sound : (k : ℕ) → k < n → is_sound_store (reads_of own.inputs funcs) own.written own.loaded store (at k) ≡ true) (fit : ScatteredFits group own.places scope goings store) where
   abbrev w : World
   w = own.world
 
@@ -131,8 +132,8 @@ module _ (own : Setting) (good : IsSetting own) (group : Group) (scope : List Co
   kept-in k q kept = let s = kept-safe depth q kept in inl (s.outside, above-scratch q s.apart)
 
   module _ (memory : List ℕ) (holds : HoldsFuncs own memory funcs) where
-    lies : (e : Expr) (k : ℕ) → (laned group own.places scope strides e).fits k ≡ true → SlotLies group k
-    lies e k fits = slot-lies group k (slot-there w own.harts memory group own.places scope strides at reads n holds.size good.are_places some go e k fits)
+    lies : (e : Expr) (k : ℕ) → (laned group own.places scope goings e).fits k ≡ true → SlotLies group k
+    lies e k fits = slot-lies group k (slot-there w own.harts memory group own.places scope goings at reads n holds.size good.are_places some go e k fits)
 
     lanes-few : {f : ℕ → ℕ} → HasLanes group n f → n ≤ 4 * registers group
     lanes-few {f} has = few-rounds w memory holds.size group n f has
@@ -152,8 +153,8 @@ module _ (own : Setting) (good : IsSetting own) (group : Group) (scope : List Co
 
     small : (k : ℕ) → k < n → pixel k < 2 ^ 32
     small =
-        let go' = values-go w own.harts memory group own.places scope strides at reads n holds.size good.are_places some go store.value
-        (sym (ap (λ m. m.is_word) (own-is group own.places scope strides store.value)) ∙ fit.value_fits.word) (loaded store.value (λ k b. (sounds k b).of_value) memory holds) in
+        let go' = values-go w own.harts memory group own.places scope goings at reads n holds.size good.are_places some go store.value
+        (sym (ap (λ m. m.is_word) (own-is group own.places scope goings store.value)) ∙ fit.value_fits.word) (loaded store.value (λ k b. (sounds k b).of_value) memory holds) in
         go'.small
 
     module _ (few : n ≤ 16) where
@@ -201,13 +202,13 @@ module _ (own : Setting) (good : IsSetting own) (group : Group) (scope : List Co
           }
 
       abbrev value_code : List Insn
-      value_code = (laned group own.places scope strides store.value).code 0
+      value_code = (laned group own.places scope goings store.value).code 0
 
       abbrev x_code : List Insn
-      x_code = (laned group own.places scope strides store.x).code 1
+      x_code = (laned group own.places scope goings store.x).code 1
 
       abbrev y_code : List Insn
-      y_code = (laned group own.places scope strides store.y).code 2
+      y_code = (laned group own.places scope goings store.y).code 2
 
       abbrev offsets_code : List Insn
       offsets_code = offsets place (slot group 1) (slot group 2)
@@ -219,20 +220,20 @@ module _ (own : Setting) (good : IsSetting own) (group : Group) (scope : List Co
           let lies1 = lies store.x 1 fit.x_fits.fits in
           let lies2 = lies store.y 2 fit.y_fits.fits in
           let room = lanes-few has in
-          let a = lanes-leave w own.harts memory group own.places scope strides at reads n holds.size good.are_places some go store.value 0 fit.value_fits.fits
-          (sym (ap (λ m. m.is_word) (own-is group own.places scope strides store.value)) ∙ fit.value_fits.word) (loaded store.value (λ k b. (sounds k b).of_value) memory holds) f knows has in
+          let a = lanes-leave w own.harts memory group own.places scope goings at reads n holds.size good.are_places some go store.value 0 fit.value_fits.fits
+          (sym (ap (λ m. m.is_word) (own-is group own.places scope goings store.value)) ∙ fit.value_fits.word) (loaded store.value (λ k b. (sounds k b).of_value) memory holds) f knows has in
           let fa = a.after in
           let da = quiet value_code 0 f fa a.keeps (λ at s. a.line at s) in
           let ka = knows-still w own.harts scope (at 0) f fa knows da.keeps in
           let la = has-still 0 f fa a.keeps has in
-          let b = lanes-leave w own.harts memory group own.places scope strides at reads n holds.size good.are_places some go store.x 1 fit.x_fits.fits
-          (sym (ap (λ m. m.is_word) (own-is group own.places scope strides store.x)) ∙ fit.x_fits.word) (loaded store.x (λ k b. (sounds k b).of_x) memory holds) fa ka la in
+          let b = lanes-leave w own.harts memory group own.places scope goings at reads n holds.size good.are_places some go store.x 1 fit.x_fits.fits
+          (sym (ap (λ m. m.is_word) (own-is group own.places scope goings store.x)) ∙ fit.x_fits.word) (loaded store.x (λ k b. (sounds k b).of_x) memory holds) fa ka la in
           let fb = b.after in
           let db = quiet x_code 1 fa fb b.keeps (λ at s. b.line at s) in
           let kb = knows-still w own.harts scope (at 0) fa fb ka db.keeps in
           let lb = has-still 1 fa fb b.keeps la in
-          let c = lanes-leave w own.harts memory group own.places scope strides at reads n holds.size good.are_places some go store.y 2 fit.y_fits.fits
-          (sym (ap (λ m. m.is_word) (own-is group own.places scope strides store.y)) ∙ fit.y_fits.word) (loaded store.y (λ k b. (sounds k b).of_y) memory holds) fb kb lb in
+          let c = lanes-leave w own.harts memory group own.places scope goings at reads n holds.size good.are_places some go store.y 2 fit.y_fits.fits
+          (sym (ap (λ m. m.is_word) (own-is group own.places scope goings store.y)) ∙ fit.y_fits.word) (loaded store.y (λ k b. (sounds k b).of_y) memory holds) fb kb lb in
           let fc = c.after in
           let dc = quiet y_code 2 fb fc c.keeps (λ at s. c.line at s) in
           let kc = knows-still w own.harts scope (at 0) fb fc kb dc.keeps in
@@ -267,7 +268,7 @@ module _ (own : Setting) (good : IsSetting own) (group : Group) (scope : List Co
   hit-store func i j hit = record { round = hit.round; below = hit.below; stored = hit.stored; is = of-store hit.round ∙ hit.is; func_is = hit.func_is; x_is = hit.x_is; y_is = hit.y_is }
 
   pub scattered-does : (f : ℕ → ℕ) (memory : List ℕ) (holds : HoldsFuncs own memory funcs) → Knows w own.harts scope (at 0) f → min (f 15) (4 * registers group) ≡ n
-      → Does own (scattered_code group own.places scope strides store) (length (scattered_code group own.places scope strides store)) f memory depth (laid own.points of_store n funcs) (effect_hits of_store n)
+      → Does own (scattered_code group own.places scope goings store) (length (scattered_code group own.places scope goings store)) f memory depth (laid own.points of_store n funcs) (effect_hits of_store n)
   scattered-does f memory holds knows count =
       let m = most group in
       let room = few-lanes group in

@@ -1,10 +1,10 @@
 -- The code of loops whose rounds are done at once: each round's pixel in a lane, and one instruction that stores them all.
 --
 -- A round is a store behind the values of split loops and their guards. What is parked says how many rounds are left; of these as many are done as there
--- are lanes. A split loop's value that goes further with each round is cut off by its extent, so the first rounds are done. `all` says
+-- are lanes. A split loop's value that goes further with each round is tested against its extent, so the first rounds are done. `all` says
 -- that no round is left out so far.
 -- This project's own.
-use Rattle.std.specs.Prelude.{ℕ, ◌+◌, ◌-◌, ◌*◌, ◌^◌, ◌==◌, ◌&&◌, Bool, true, false, nat_le, nat_lt, if◌then◌else◌, List, [], ◌∷◌, ◌++◌, length, Option, Some, None}
+use Rattle.std.specs.Prelude.{ℕ, ◌+◌, ◌-◌, ◌*◌, ◌^◌, ◌==◌, ◌&&◌, Bool, true, false, not, nat_le, nat_lt, if◌then◌else◌, List, [], ◌∷◌, ◌++◌, length, Option, Some, None}
 use Rattle.rv_insn.specs.declared.instructions.Insn.{Insn}
 use Rattle.rv_insn.specs.declared.instructions.Insn.TheVariants.{Alu, Vector}
 use Rattle.rv_insn.specs.declared.operations.AluOp.TheVariants as alus
@@ -18,82 +18,119 @@ use Rattle.loop_ir.specs.declared.statements.Stmt.{Stmt, fold-Stmt}
 use Rattle.loop_ir.specs.declared.statements.Stmt.TheOpen.{Stmt-F}
 use Rattle.loop_ir.specs.declared.statements.Stmt.TheOpen as parts
 use Rattle.loop_ir.specs.declared.statements.Whole.{Whole}
-use Rattle.loop_ir.specs.Counters.{Values, with}
+use Rattle.loop_ir.specs.Counters.{same_counter, Values, with}
 use Rattle.loop_ir.specs.Running.{whole_value}
 use Rattle.scalar_code.specs.declared.places.Places.{Places}
 use Rattle.scalar_code.specs.Code.{scratch, second_scratch, parked, bottom, literal, move, addressed, place_of, expr_code, made, seat, whole_code, bind_code}
 use Rattle.scalar_code.specs.Fitting.{fits_whole, has_seat}
 use Rattle.lane_code.specs.declared.groups.Group.{Group}
 use Rattle.lane_code.specs.Groups.{registers, slot, vtype_of}
-use Rattle.lane_code.specs.Lanes.{stride_of, is_stepping, is_steady, pace_of, laned, offsets}
+use Rattle.lane_code.specs.declared.goings.Cut.{Cut}
+use Rattle.lane_code.specs.declared.goings.Going.{Going}
+use Rattle.lane_code.specs.declared.goings.Going.TheVariants as goes
+use Rattle.lane_code.specs.Goings.{going_of, is_rate, is_small, all_spare}
+use Rattle.lane_code.specs.Lanes.{is_stepping, is_steady, pace_of, laned, offsets}
+use Rattle.lane_code.specs.Straying.{room_code}
 
 -- ---- a row of pixels
 
 -- Columns go one further with each round and rows stay, so pixels lie one behind the other; the scalar stack has room for the first point.
-abbrev pub is_row : Places → List Counter → List ℕ → Store → Bool
-is_row places scope strides store =
-    is_stepping (pace_of scope strides store.x) && (is_steady (pace_of scope strides store.y)
+abbrev pub is_row : Places → List Counter → List Going → Store → Bool
+is_row places scope goings store =
+    is_stepping (pace_of scope goings store.x) && (is_steady (pace_of scope goings store.y)
     && (nat_le (made places scope store.x).need 12 && nat_le (made places scope store.y).need 12))
 
 -- The stack of lanes has room for the values.
-abbrev pub row_fits : Group → Places → List Counter → List ℕ → Store → Bool
-row_fits group places scope strides store =
+abbrev pub row_fits : Group → Places → List Counter → List Going → Store → Bool
+row_fits group places scope goings store =
     (made places scope store.x).is_word && ((made places scope store.y).is_word
-    && ((laned group places scope strides store.value).fits 0 && (laned group places scope strides store.value).own.is_word))
+    && ((laned group places scope goings store.value).fits 0 && (laned group places scope goings store.value).own.is_word))
 
 -- lanes are configured, the first pixel's address is parked, and the pixels are stored
-abbrev pub row_code : Group → Places → List Counter → List ℕ → Store → List Insn
-row_code group places scope strides store =
+abbrev pub row_code : Group → Places → List Counter → List Going → Store → List Insn
+row_code group places scope goings store =
     Vector (v.Vsetvli 0 parked (vtype_of group))
     ∷ (expr_code places scope store.x bottom ++ (move parked bottom ++ (expr_code places scope store.y bottom
     ++ (addressed (place_of places (sources.Func store.func)) parked bottom
-    ++ ((laned group places scope strides store.value).code 0 ++ (Vector (v.StoreElements Bits32 (slot group 0) parked addressings.UnitStride true) ∷ []))))))
+    ++ ((laned group places scope goings store.value).code 0 ++ (Vector (v.StoreElements Bits32 (slot group 0) parked addressings.UnitStride true) ∷ []))))))
 
 -- ---- pixels that lie anywhere
 
 -- The stack of lanes has room for the values, and above them for columns, and above these for rows.
-abbrev pub scattered_fits : Group → Places → List Counter → List ℕ → Store → Bool
-scattered_fits group places scope strides store =
-    ((laned group places scope strides store.value).fits 0 && (laned group places scope strides store.value).own.is_word)
-    && (((laned group places scope strides store.x).fits 1 && (laned group places scope strides store.x).own.is_word)
-    && ((laned group places scope strides store.y).fits 2 && (laned group places scope strides store.y).own.is_word))
+abbrev pub scattered_fits : Group → Places → List Counter → List Going → Store → Bool
+scattered_fits group places scope goings store =
+    ((laned group places scope goings store.value).fits 0 && (laned group places scope goings store.value).own.is_word)
+    && (((laned group places scope goings store.x).fits 1 && (laned group places scope goings store.x).own.is_word)
+    && ((laned group places scope goings store.y).fits 2 && (laned group places scope goings store.y).own.is_word))
 
 -- lanes are configured, values, columns and rows are made, and each pixel is stored at its distance from the buffer's first
-abbrev pub scattered_code : Group → Places → List Counter → List ℕ → Store → List Insn
-scattered_code group places scope strides store =
+abbrev pub scattered_code : Group → Places → List Counter → List Going → Store → List Insn
+scattered_code group places scope goings store =
     Vector (v.Vsetvli 0 parked (vtype_of group))
-    ∷ ((laned group places scope strides store.value).code 0 ++ ((laned group places scope strides store.x).code 1 ++ ((laned group places scope strides store.y).code 2
+    ∷ ((laned group places scope goings store.value).code 0 ++ ((laned group places scope goings store.x).code 1 ++ ((laned group places scope goings store.y).code 2
     ++ (offsets (place_of places (sources.Func store.func)) (slot group 1) (slot group 2)
     ++ (Vector (v.StoreElements Bits32 (slot group 0) scratch (addressings.Indexed (slot group 1)) true) ∷ [])))))
 
 -- ---- one store
 
-abbrev pub store_fits : Group → Places → List Counter → List ℕ → Store → Bool
-store_fits group places scope strides store =
-    if is_row places scope strides store then row_fits group places scope strides store else scattered_fits group places scope strides store
+abbrev pub store_fits : Group → Places → List Counter → List Going → Store → Bool
+store_fits group places scope goings store =
+    if is_row places scope goings store then row_fits group places scope goings store else scattered_fits group places scope goings store
 
-abbrev pub pixels_code : Group → Places → List Counter → List ℕ → Store → List Insn
-pixels_code group places scope strides store =
-    if is_row places scope strides store then row_code group places scope strides store else scattered_code group places scope strides store
+abbrev pub pixels_code : Group → Places → List Counter → List Going → Store → List Insn
+pixels_code group places scope goings store =
+    if is_row places scope goings store then row_code group places scope goings store else scattered_code group places scope goings store
 
 -- ---- the value of a split loop
-
--- how much further each round takes it
-abbrev pub whole_stride : List Counter → List ℕ → Whole → ℕ
-whole_stride scope strides whole = stride_of scope strides whole.outer * whole.factor + stride_of scope strides whole.inner
 
 -- The outer loop's part goes along as its counter does: it is cut off nowhere, or stays.
 abbrev pub outer_goes : Option ℕ → ℕ → Bool
 outer_goes None stride = true
 outer_goes (Some last) stride = stride == 0
 
-abbrev pub whole_goes : List Counter → List ℕ → Whole → ℕ → Bool
-whole_goes scope strides whole extent =
-    outer_goes whole.last (stride_of scope strides whole.outer) && (nat_lt (whole_stride scope strides whole) (2 ^ 31) && nat_lt extent (2 ^ 31))
+abbrev pub cut_of : Whole → Counter → Cut
+cut_of whole own = record { factor = whole.factor; last = whole.last; inner = whole.inner; own = own }
 
--- how much further each round takes it, where it goes along with the rounds
-abbrev pub step_taken : List Counter → List ℕ → Whole → ℕ → Option ℕ
-step_taken scope strides whole extent = if whole_goes scope strides whole extent then Some (whole_stride scope strides whole) else None
+abbrev pub if_so : Bool → Going → Option Going
+if_so true going = Some going
+if_so false going = None
+
+-- The values below a bound of an outer counter that goes along, times the factor, don't turn over.
+abbrev pub may_cut : Whole → ℕ → Bool
+may_cut whole most = nat_le (most * whole.factor) (2 ^ 32) && is_small whole.last
+
+-- Two counters go so much further with each round. Under a shift the outer one's part is cut off; then the inner one has to stay.
+abbrev pub goes_evenly : Whole → Counter → ℕ → ℕ → ℕ → ℕ → Option Going
+goes_evenly whole own extent outer most inner =
+    if outer_goes whole.last outer then if_so (nat_lt (outer * whole.factor + inner) (2 ^ 31)) (goes.Even (outer * whole.factor + inner) extent)
+    else if_so (inner == 0 && (is_rate (outer * whole.factor) && may_cut whole most)) (goes.Once outer extent (cut_of whole own))
+
+-- The outer counter is cut off already.
+abbrev pub goes_twice : Whole → Counter → ℕ → ℕ → Cut → ℕ → Option Going
+goes_twice whole own stride most cut inner =
+    if_so (inner == 0 && (((nat_lt (stride * cut.factor) (2 ^ 24) && is_small cut.last) && is_rate (stride * cut.factor * whole.factor)) && may_cut whole most))
+    (goes.Twice stride cut (cut_of whole own))
+
+-- how a counter goes along that stands at a split loop's value below an extent, if that is known, from how the outer counter and the inner one do
+abbrev pub goes_by : Whole → Counter → ℕ → Going → Going → Option Going
+goes_by whole own extent (goes.Even outer most) (goes.Even inner least) = goes_evenly whole own extent outer most inner
+goes_by whole own extent (goes.Even outer most) (goes.Once stride least cut) = if_so (outer == 0) (goes.Once stride extent cut)
+goes_by whole own extent (goes.Even outer most) (goes.Twice stride first second) = if_so (outer == 0) (goes.Twice stride first second)
+goes_by whole own extent (goes.Once stride most cut) (goes.Even inner least) = goes_twice whole own stride most cut inner
+goes_by whole own extent (goes.Once stride most cut) (goes.Once other least last) = None
+goes_by whole own extent (goes.Once stride most cut) (goes.Twice other first second) = None
+goes_by whole own extent (goes.Twice stride first second) inner = None
+
+-- Cuts go on naming what they named, and an extent is small.
+abbrev pub may_bind : List Going → Counter → Whole → ℕ → Bool
+may_bind goings own whole extent = not (same_counter whole.inner own) && (all_spare own goings && nat_lt extent (2 ^ 31))
+
+-- how it goes along behind the test on an extent
+abbrev pub going_taken : List Counter → List Going → Counter → Whole → ℕ → Option Going
+going_taken scope goings own whole extent =
+    if may_bind goings own whole extent then goes_by whole own extent (going_of scope goings whole.outer) (going_of scope goings whole.inner) else None
+
+-- ---- how many rounds are left
 
 -- Behind the test on an extent the scratch register holds it. So many rounds are left from a value on below it.
 abbrev pub rounds_below : ℕ → ℕ → ℕ → List Insn
@@ -107,46 +144,81 @@ abbrev pub lesser : List Insn
 lesser =
     Alu alus.Sub second_scratch parked scratch ∷ Alu alus.Sltu parked parked scratch ∷ Alu alus.Mul second_scratch second_scratch parked ∷ Alu alus.Add parked scratch second_scratch ∷ []
 
--- what parks how many rounds are left behind the test on a value that goes along
-abbrev pub left_over : Bool → ℕ → ℕ → List Insn
-left_over all stride r = if stride == 0 then [] else (if all then rounds_below stride parked r else rounds_below stride scratch r ++ lesser)
+-- where the value goes a stride further with each
+abbrev pub even_left : Bool → ℕ → ℕ → List Insn
+even_left all stride r = if stride == 0 then [] else (if all then rounds_below stride parked r else rounds_below stride scratch r ++ lesser)
+
+-- scratch becomes its quotient by a literal, rounded up
+abbrev pub divided_up : ℕ → List Insn
+divided_up n =
+    literal second_scratch (n - 1) ++ (Alu alus.Add scratch scratch second_scratch ∷ (literal second_scratch n ++ (Alu alus.Divu scratch scratch second_scratch ∷ [])))
+
+-- A value goes less far than scratch says where its outer counter goes less far than scratch says then. Where the room of a shift ends
+-- before, all rounds pass: then scratch becomes more than any outer counter goes.
+abbrev pub below_cap : List Counter → Option ℕ → Counter → Counter → ℕ → List Insn
+below_cap scope None inner own factor = divided_up factor
+below_cap scope (Some last) inner own factor =
+    room_code scope last inner own bottom ++ (Alu alus.Sltu bottom bottom scratch ∷ (divided_up factor
+    ++ (literal second_scratch (2 ^ 28) ++ (Alu alus.Mul bottom bottom second_scratch ∷ Alu alus.Add scratch scratch bottom ∷ []))))
+
+abbrev pub below_cut : List Counter → Cut → List Insn
+below_cut scope cut = below_cap scope cut.last cut.inner cut.own cut.factor
+
+-- what parks how many rounds are left behind the test on a value that goes along; `scope` has the counter that stands at it
+abbrev pub left_over : List Counter → Bool → Going → ℕ → List Insn
+left_over scope all (goes.Even stride most) r = even_left all stride r
+left_over scope all (goes.Once stride most cut) r = Alu alus.Sub scratch scratch r ∷ (below_cut scope cut ++ (divided_up stride ++ lesser))
+left_over scope all (goes.Twice stride first second) r =
+    Alu alus.Sub scratch scratch r ∷ (below_cut scope second ++ (below_cut scope first ++ (divided_up stride ++ lesser)))
+
+abbrev pub is_still : Going → Bool
+is_still (goes.Even stride most) = stride == 0
+is_still (goes.Once stride most cut) = false
+is_still (goes.Twice stride first second) = false
 
 -- ---- rounds
 
 -- what is made of a statement, where all rounds come to it or only the first ones: whether it can be done for all of them at once; the code that does so; and
 -- in how many turns, from the values of counters in the first round
 pub record Rounded : Type 0 where
-  pub fits : Bool → List Counter → List ℕ → Bool
-  pub code : Bool → List Counter → List ℕ → List Insn
-  pub turns : Bool → List Counter → List ℕ → Values → ℕ
+  pub fits : Bool → List Counter → List Going → Bool
+  pub code : Bool → List Counter → List Going → List Insn
+  pub turns : Bool → List Counter → List Going → Values → ℕ
 
--- behind the test on a value that goes so far with each round
-abbrev pub inside : Rounded → Counter → Bool → List Counter → List ℕ → ℕ → List Insn
-inside body counter all scope strides stride = left_over all stride (seat (length scope)) ++ body.code (all && stride == 0) (counter ∷ scope) (stride ∷ strides)
+-- behind the test on a value that goes along
+abbrev pub inside : Rounded → Counter → Bool → List Counter → List Going → Going → List Insn
+inside body counter all scope goings going =
+    left_over (counter ∷ scope) all going (seat (length scope)) ++ body.code (all && is_still going) (counter ∷ scope) (going ∷ goings)
 
-abbrev pub bind_fits : Rounded → Counter → Whole → ℕ → Bool → List Counter → List ℕ → ℕ → Bool
-bind_fits body counter whole extent all scope strides stride =
-    has_seat scope && (whole_goes scope strides whole extent && (fits_whole whole
-    && (body.fits (all && stride == 0) (counter ∷ scope) (stride ∷ strides) && nat_lt (length (inside body counter all scope strides stride)) (2 ^ 17))))
+abbrev pub bind_fits : Rounded → Counter → Whole → Bool → List Counter → List Going → Option Going → Bool
+bind_fits body counter whole all scope goings None = false
+bind_fits body counter whole all scope goings (Some going) =
+    has_seat scope && (fits_whole whole
+    && (body.fits (all && is_still going) (counter ∷ scope) (going ∷ goings) && nat_lt (length (inside body counter all scope goings going)) (2 ^ 17)))
 
-abbrev pub bind_turns : Rounded → Counter → Whole → ℕ → Bool → List Counter → List ℕ → Values → ℕ → ℕ
-bind_turns body counter whole extent all scope strides values stride =
+abbrev pub bound_code : Rounded → Counter → Whole → ℕ → Bool → List Counter → List Going → Option Going → List Insn
+bound_code body counter whole extent all scope goings None = []
+bound_code body counter whole extent all scope goings (Some going) = bind_code scope whole extent (seat (length scope)) (inside body counter all scope goings going)
+
+abbrev pub bind_turns : Rounded → Counter → Whole → ℕ → Bool → List Counter → List Going → Values → Option Going → ℕ
+bind_turns body counter whole extent all scope goings values None = 0
+bind_turns body counter whole extent all scope goings values (Some going) =
     length (whole_code scope whole (seat (length scope)))
     + (if nat_lt (whole_value whole values) extent
-    then 3 + (length (left_over all stride (seat (length scope))) + body.turns (all && stride == 0) (counter ∷ scope) (stride ∷ strides) (with counter (whole_value whole values) values)) else 4)
+    then 3 + (length (left_over (counter ∷ scope) all going (seat (length scope))) + body.turns (all && is_still going) (counter ∷ scope) (going ∷ goings) (with counter (whole_value whole values) values)) else 4)
 
 abbrev pub rounded_at : Group → Places → Stmt-F Rounded → Rounded
 rounded_at group places (parts.Store store) = record {
-  fits = λ all scope strides. store_fits group places scope strides store;
-  code = λ all scope strides. pixels_code group places scope strides store;
-  turns = λ all scope strides values. length (pixels_code group places scope strides store);
+  fits = λ all scope goings. store_fits group places scope goings store;
+  code = λ all scope goings. pixels_code group places scope goings store;
+  turns = λ all scope goings values. length (pixels_code group places scope goings store);
 }
-rounded_at group places (parts.Sequence first second) = record { fits = λ all scope strides. false; code = λ all scope strides. []; turns = λ all scope strides values. 0 }
-rounded_at group places (parts.For counter count kind body) = record { fits = λ all scope strides. false; code = λ all scope strides. []; turns = λ all scope strides values. 0 }
+rounded_at group places (parts.Sequence first second) = record { fits = λ all scope goings. false; code = λ all scope goings. []; turns = λ all scope goings values. 0 }
+rounded_at group places (parts.For counter count kind body) = record { fits = λ all scope goings. false; code = λ all scope goings. []; turns = λ all scope goings values. 0 }
 rounded_at group places (parts.Bind counter whole extent body) = record {
-  fits = λ all scope strides. bind_fits body counter whole extent all scope strides (whole_stride scope strides whole);
-  code = λ all scope strides. bind_code scope whole extent (seat (length scope)) (inside body counter all scope strides (whole_stride scope strides whole));
-  turns = λ all scope strides values. bind_turns body counter whole extent all scope strides values (whole_stride scope strides whole);
+  fits = λ all scope goings. bind_fits body counter whole all scope goings (going_taken scope goings counter whole extent);
+  code = λ all scope goings. bound_code body counter whole extent all scope goings (going_taken scope goings counter whole extent);
+  turns = λ all scope goings values. bind_turns body counter whole extent all scope goings values (going_taken scope goings counter whole extent);
 }
 
 unfoldable pub rounded : Group → Places → Stmt → Rounded
@@ -157,11 +229,11 @@ rounded group places statement = fold-Stmt Rounded (rounded_at group places) sta
 -- Its counter stands at its first value, and all rounds are left.
 abbrev pub rounds_code : Group → Places → List Counter → Counter → ℕ → Stmt → List Insn
 rounds_code group places scope counter count body =
-    move (seat (length scope)) 0 ++ (literal parked count ++ (rounded group places body).code true (counter ∷ scope) (1 ∷ []))
+    move (seat (length scope)) 0 ++ (literal parked count ++ (rounded group places body).code true (counter ∷ scope) (goes.Even 1 16 ∷ []))
 
 abbrev pub rounds_turns : Group → Places → List Counter → Counter → Stmt → Values → ℕ
-rounds_turns group places scope counter body values = 3 + (rounded group places body).turns true (counter ∷ scope) (1 ∷ []) (with counter 0 values)
+rounds_turns group places scope counter body values = 3 + (rounded group places body).turns true (counter ∷ scope) (goes.Even 1 16 ∷ []) (with counter 0 values)
 
 abbrev pub rounds_fit : Group → Places → List Counter → Counter → ℕ → Stmt → Bool
 rounds_fit group places scope counter count body =
-    has_seat scope && (count == 4 * registers group && (rounded group places body).fits true (counter ∷ scope) (1 ∷ []))
+    has_seat scope && (count == 4 * registers group && (rounded group places body).fits true (counter ∷ scope) (goes.Even 1 16 ∷ []))

@@ -1,17 +1,19 @@
 //! The code of loops whose rounds are done at once.
 
-ghost use Rattle.std.specs.Prelude.{◌≡◌, ◌<◌, ◌==◌, ◌&&◌, ◌∷◌, OnOk, IfErr, IfOk, true};
+ghost use Rattle.std.specs.Prelude.{◌≡◌, ◌<◌, ◌*◌, ◌^◌, ◌==◌, ◌&&◌, ◌∷◌, nat_lt, OnOk, IfErr, IfOk, true};
 ghost use Rattle.scalar_code.specs.declared.places.Places.{Places as AllPlaces};
 ghost use Rattle.scalar_code.specs.Faults.{IsFault};
 ghost use Rattle.scalar_code.specs.Words.{Emits};
+ghost use Rattle.lane_code.specs.Goings.{is_rate as is_rate_of, is_small as is_small_last};
 ghost use Rattle.round_code.specs.Emitting.{EmitsRounds, FitsRounds};
 ghost use Rattle.round_code.specs.Rounds as spec;
 
 use halide_pipeline::Source;
+use lane_code::goings::{Cut, Going, all_spare, emit_room, going_of, is_rate, is_small};
 use lane_code::groups::Group;
-use lane_code::values::{emit_lanes, emit_offsets, is_steady, is_stepping, pace_of, stride_of};
+use lane_code::values::{emit_lanes, emit_offsets, is_steady, is_stepping, pace_of};
 use lane_code::vectors::{configure, store_at, store_row};
-use loop_ir::expressions::Counter;
+use loop_ir::expressions::{Counter, same_counter};
 use loop_ir::statements::{Stmt, Store, Whole};
 use rv_insn::AluOp;
 use scalar_code::CodeFault;
@@ -24,11 +26,11 @@ use scalar_code::places::Places;
 use std::alloc::{AllocError, Global};
 
 /// Whether a store's pixels lie one behind the other, and the scalar stack has room for their first point.
-fn is_row(scope: &[Counter], strides: &[u32], store: &Store) -> bool
-    ensures { (places : AllPlaces) → result ≡ spec.is_row places scope.now strides.now store.now }
+fn is_row(scope: &[Counter], goings: &[Going], store: &Store) -> bool
+    ensures { (places : AllPlaces) → result ≡ spec.is_row places scope.now goings.now store.now }
 {
-    is_stepping(pace_of(scope, strides, &store.x))
-        && is_steady(pace_of(scope, strides, &store.y))
+    is_stepping(pace_of(scope, goings, &store.x))
+        && is_steady(pace_of(scope, goings, &store.y))
         && need(&store.x) <= 12
         && need(&store.y) <= 12
 }
@@ -39,11 +41,11 @@ fn emit_row(
     group: Group,
     places: &Places,
     scope: &[Counter],
-    strides: &[u32],
+    goings: &[Going],
     store: &Store,
 ) -> Result<(), CodeFault>
-    ensures ok { OnOk result (Emits code.old.items code.new.items (spec.row_code group places.now scope.now strides.now store.now) × (spec.row_fits group places.now scope.now strides.now store.now ≡ true)) }
-    ensures err { IfErr result (IsFault ⊥ (spec.is_row places.now scope.now strides.now store.now ≡ true → spec.row_fits group places.now scope.now strides.now store.now ≡ true → ⊥)) }
+    ensures ok { OnOk result (Emits code.old.items code.new.items (spec.row_code group places.now scope.now goings.now store.now) × (spec.row_fits group places.now scope.now goings.now store.now ≡ true)) }
+    ensures err { IfErr result (IsFault ⊥ (spec.is_row places.now scope.now goings.now store.now ≡ true → spec.row_fits group places.now scope.now goings.now store.now ≡ true → ⊥)) }
 {
     configure(code, group, 15)?;
     emit_value(code, places, scope, &store.x, 20)?;
@@ -51,7 +53,7 @@ fn emit_row(
     emit_value(code, places, scope, &store.y, 20)?;
     let place = place_of(places, Source::Func(store.func));
     emit_addressed(code, &place, 15, 20)?;
-    let r = emit_lanes(code, group, places, scope, strides, &store.value, 0)?;
+    let r = emit_lanes(code, group, places, scope, goings, &store.value, 0)?;
     store_row(code, r, 15)?;
     Ok(())
 }
@@ -62,16 +64,16 @@ fn emit_scattered(
     group: Group,
     places: &Places,
     scope: &[Counter],
-    strides: &[u32],
+    goings: &[Going],
     store: &Store,
 ) -> Result<(), CodeFault>
-    ensures ok { OnOk result (Emits code.old.items code.new.items (spec.scattered_code group places.now scope.now strides.now store.now) × (spec.scattered_fits group places.now scope.now strides.now store.now ≡ true)) }
-    ensures err { IfErr result (IsFault ⊥ (spec.scattered_fits group places.now scope.now strides.now store.now ≡ true → ⊥)) }
+    ensures ok { OnOk result (Emits code.old.items code.new.items (spec.scattered_code group places.now scope.now goings.now store.now) × (spec.scattered_fits group places.now scope.now goings.now store.now ≡ true)) }
+    ensures err { IfErr result (IsFault ⊥ (spec.scattered_fits group places.now scope.now goings.now store.now ≡ true → ⊥)) }
 {
     configure(code, group, 15)?;
-    let r = emit_lanes(code, group, places, scope, strides, &store.value, 0)?;
-    let s = emit_lanes(code, group, places, scope, strides, &store.x, 1)?;
-    let t = emit_lanes(code, group, places, scope, strides, &store.y, 2)?;
+    let r = emit_lanes(code, group, places, scope, goings, &store.value, 0)?;
+    let s = emit_lanes(code, group, places, scope, goings, &store.x, 1)?;
+    let t = emit_lanes(code, group, places, scope, goings, &store.y, 2)?;
     let place = place_of(places, Source::Func(store.func));
     emit_offsets(code, &place, s, t)?;
     store_at(code, r, 13, s)?;
@@ -84,27 +86,18 @@ fn emit_pixels(
     group: Group,
     places: &Places,
     scope: &[Counter],
-    strides: &[u32],
+    goings: &[Going],
     store: &Store,
 ) -> Result<(), CodeFault>
-    ensures ok { OnOk result (Emits code.old.items code.new.items (spec.pixels_code group places.now scope.now strides.now store.now) × (spec.store_fits group places.now scope.now strides.now store.now ≡ true)) }
-    ensures err { IfErr result (IsFault ⊥ (spec.store_fits group places.now scope.now strides.now store.now ≡ true → ⊥)) }
+    ensures ok { OnOk result (Emits code.old.items code.new.items (spec.pixels_code group places.now scope.now goings.now store.now) × (spec.store_fits group places.now scope.now goings.now store.now ≡ true)) }
+    ensures err { IfErr result (IsFault ⊥ (spec.store_fits group places.now scope.now goings.now store.now ≡ true → ⊥)) }
 {
-    if is_row(scope, strides, store) {
-        emit_row(code, group, places, scope, strides, store)?;
+    if is_row(scope, goings, store) {
+        emit_row(code, group, places, scope, goings, store)?;
     } else {
-        emit_scattered(code, group, places, scope, strides, store)?;
+        emit_scattered(code, group, places, scope, goings, store)?;
     }
     Ok(())
-}
-
-/// How much further each round takes a split loop's value.
-fn whole_stride(scope: &[Counter], strides: &[u32], whole: &Whole) -> u64
-    ensures { result ≡ spec.whole_stride scope.now strides.now whole.now }
-{
-    let outer = u64::from(stride_of(scope, strides, whole.outer));
-    let inner = u64::from(stride_of(scope, strides, whole.inner));
-    outer * u64::from(whole.factor) + inner
 }
 
 /// Whether the outer loop's part of a split loop's value goes along as its counter does: it is cut off nowhere, or stays.
@@ -117,14 +110,115 @@ fn outer_goes(last: Option<u32>, stride: u32) -> bool
     }
 }
 
-/// How much further each round takes a split loop's value, where that goes along with the rounds.
-fn step_taken(scope: &[Counter], strides: &[u32], whole: &Whole, extent: u32) -> Option<u32>
-    ensures { result ≡ spec.step_taken scope.now strides.now whole.now extent }
+fn cut_of(whole: &Whole, own: Counter) -> Cut
+    ensures { result ≡ spec.cut_of whole.now own }
 {
-    let stride = whole_stride(scope, strides, whole);
-    let outer = outer_goes(whole.last, stride_of(scope, strides, whole.outer));
-    if outer && stride < 1 << 31 && extent < 1 << 31 {
-        Some(stride as u32)
+    Cut {
+        factor: whole.factor,
+        last: whole.last,
+        inner: whole.inner,
+        own,
+    }
+}
+
+fn if_so(so: bool, going: Going) -> Option<Going>
+    ensures { result ≡ spec.if_so so going }
+{
+    if so { Some(going) } else { None }
+}
+
+/// Whether the values below a bound of an outer counter, times the factor, don't turn over.
+fn may_cut(whole: &Whole, most: u32) -> bool
+    ensures { result ≡ spec.may_cut whole.now most }
+{
+    let product = u64::from(most) * u64::from(whole.factor);
+    product <= 1 << 32 && is_small(whole.last)
+}
+
+/// How a split loop's value goes along whose counters each round takes so much further.
+fn goes_evenly(
+    whole: &Whole,
+    own: Counter,
+    extent: u32,
+    outer: u32,
+    most: u32,
+    inner: u32,
+) -> Option<Going>
+    ensures { result ≡ spec.goes_evenly whole.now own extent outer most inner }
+{
+    if !outer_goes(whole.last, outer) {
+        let so = inner == 0 && is_rate(outer, whole.factor) && may_cut(whole, most);
+        return if_so(so, Going::Once(outer, extent, cut_of(whole, own)));
+    }
+    let stride = u64::from(outer) * u64::from(whole.factor) + u64::from(inner);
+    if stride < 1 << 31 {
+        Some(Going::Even(stride as u32, extent))
+    } else {
+        None
+    }
+}
+
+/// Whether a value may go further as the one that an outer counter stands at does, times a factor.
+fn is_slow(stride: u32, cut: Cut, factor: u32) -> bool
+    ensures { result ≡ ((nat_lt (stride * cut.factor) (2 ^ 24) && is_small_last cut.last) && is_rate_of (stride * cut.factor * factor)) }
+{
+    let once = u64::from(stride) * u64::from(cut.factor);
+    once < 1 << 24 && is_small(cut.last) && is_rate(once as u32, factor)
+}
+
+/// How a split loop's value goes along whose outer counter is cut off.
+fn goes_twice(
+    whole: &Whole,
+    own: Counter,
+    stride: u32,
+    most: u32,
+    cut: Cut,
+    inner: u32,
+) -> Option<Going>
+    ensures { result ≡ spec.goes_twice whole.now own stride most cut inner }
+{
+    let so = inner == 0 && is_slow(stride, cut, whole.factor) && may_cut(whole, most);
+    if_so(so, Going::Twice(stride, cut, cut_of(whole, own)))
+}
+
+/// How a split loop's value goes along, if that is known, from how its counters do.
+fn goes_by(whole: &Whole, own: Counter, extent: u32, outer: Going, inner: Going) -> Option<Going>
+    ensures { result ≡ spec.goes_by whole.now own extent outer inner }
+{
+    match outer {
+        Going::Even(stride, most) => match inner {
+            Going::Even(other, _) => goes_evenly(whole, own, extent, stride, most, other),
+            Going::Once(own, _, cut) => if_so(stride == 0, Going::Once(own, extent, cut)),
+            Going::Twice(_, _, _) => if_so(stride == 0, inner),
+        },
+        Going::Once(stride, most, cut) => match inner {
+            Going::Even(other, _) => goes_twice(whole, own, stride, most, cut, other),
+            Going::Once(_, _, _) => None,
+            Going::Twice(_, _, _) => None,
+        },
+        Going::Twice(_, _, _) => None,
+    }
+}
+
+/// How a split loop's value goes along behind the test on its extent, if that is known.
+fn going_taken(
+    scope: &[Counter],
+    goings: &[Going],
+    own: Counter,
+    whole: &Whole,
+    extent: u32,
+) -> Option<Going>
+    ensures { result ≡ spec.going_taken scope.now goings.now own whole.now extent }
+{
+    if !same_counter(whole.inner, own) && all_spare(own, goings) && extent < 1 << 31 {
+        let outer = going_of(scope, goings, whole.outer);
+        goes_by(
+            whole,
+            own,
+            extent,
+            outer,
+            going_of(scope, goings, whole.inner),
+        )
     } else {
         None
     }
@@ -159,9 +253,9 @@ fn emit_lesser(code: &mut Vec<u32>) -> Result<(), AllocError>
 
 /// Appends what parks how many rounds are left behind the test on a value that goes so much further with each, the extent being in x13; `all`
 /// says that none was left out before.
-fn emit_left_over(code: &mut Vec<u32>, all: bool, stride: u32, r: u8) -> Result<(), AllocError>
+fn emit_even_left(code: &mut Vec<u32>, all: bool, stride: u32, r: u8) -> Result<(), AllocError>
     requires { r < 32 }
-    ensures { OnOk result (Emits code.old.items code.new.items (spec.left_over all stride r)) }
+    ensures { OnOk result (Emits code.old.items code.new.items (spec.even_left all stride r)) }
 {
     if stride == 0 {
         return Ok(());
@@ -175,21 +269,98 @@ fn emit_left_over(code: &mut Vec<u32>, all: bool, stride: u32, r: u8) -> Result<
     Ok(())
 }
 
-/// These strides, and one that stands before them.
-fn with_stride(alloc: Global, strides: &[u32], stride: u32) -> Result<Vec<u32>, AllocError>
-    ensures { IfOk result (λ made. made.items ≡ stride ∷ strides.now) }
+/// Appends what divides x13 by a literal, rounded up.
+fn emit_divided_up(code: &mut Vec<u32>, n: u32) -> Result<(), AllocError>
+    ensures { OnOk result (Emits code.old.items code.new.items (spec.divided_up n)) }
+{
+    emit_literal(code, 14, n.saturating_sub(1))?;
+    alu(code, AluOp::Add, 13, 13, 14)?;
+    emit_literal(code, 14, n)?;
+    alu(code, AluOp::Divu, 13, 13, 14)?;
+    Ok(())
+}
+
+fn emit_below_cap(
+    code: &mut Vec<u32>,
+    scope: &[Counter],
+    last: Option<u32>,
+    inner: Counter,
+    own: Counter,
+    factor: u32,
+) -> Result<(), AllocError>
+    ensures { OnOk result (Emits code.old.items code.new.items (spec.below_cap scope.now last inner own factor)) }
+{
+    match last {
+        None => emit_divided_up(code, factor)?,
+        Some(last) => {
+            emit_room(code, scope, last, inner, own, 20)?;
+            alu(code, AluOp::Sltu, 20, 20, 13)?;
+            emit_divided_up(code, factor)?;
+            emit_literal(code, 14, 1 << 28)?;
+            alu(code, AluOp::Mul, 20, 20, 14)?;
+            alu(code, AluOp::Add, 13, 13, 20)?;
+        }
+    }
+    Ok(())
+}
+
+/// Appends what turns how far a value may go, in x13, into how far its outer counter may.
+fn emit_below_cut(code: &mut Vec<u32>, scope: &[Counter], cut: Cut) -> Result<(), AllocError>
+    ensures { OnOk result (Emits code.old.items code.new.items (spec.below_cut scope.now cut)) }
+{
+    emit_below_cap(code, scope, cut.last, cut.inner, cut.own, cut.factor)?;
+    Ok(())
+}
+
+/// Appends what parks how many rounds are left behind the test on a value that goes along.
+fn emit_left_over(
+    code: &mut Vec<u32>,
+    scope: &[Counter],
+    all: bool,
+    going: Going,
+    r: u8,
+) -> Result<(), AllocError>
+    requires { r < 32 }
+    ensures { OnOk result (Emits code.old.items code.new.items (spec.left_over scope.now all going r)) }
+{
+    match going {
+        Going::Even(stride, _) => emit_even_left(code, all, stride, r)?,
+        Going::Once(stride, _, cut) => {
+            alu(code, AluOp::Sub, 13, 13, r)?;
+            emit_below_cut(code, scope, cut)?;
+            emit_divided_up(code, stride)?;
+            emit_lesser(code)?;
+        }
+        Going::Twice(stride, first, second) => {
+            alu(code, AluOp::Sub, 13, 13, r)?;
+            emit_below_cut(code, scope, second)?;
+            emit_below_cut(code, scope, first)?;
+            emit_divided_up(code, stride)?;
+            emit_lesser(code)?;
+        }
+    }
+    Ok(())
+}
+
+/// These, and one that stands before them.
+fn with_going(alloc: Global, goings: &[Going], going: Going) -> Result<Vec<Going>, AllocError>
+    ensures { IfOk result (λ made. made.items ≡ going ∷ goings.now) }
 {
     let mut made = Vec::new(alloc);
-    made.push(stride)?;
-    made.extend_from_slice(strides)?;
+    made.push(going)?;
+    made.extend_from_slice(goings)?;
     Ok(made)
 }
 
-/// Whether no round is left out behind the test on a value that goes so much further with each.
-fn all_after(all: bool, stride: u32) -> bool
-    ensures { result ≡ (all && stride == 0) }
+/// Whether no round is left out behind the test on a value.
+fn all_after(all: bool, going: Going) -> bool
+    ensures { result ≡ (all && spec.is_still going) }
 {
-    all && stride == 0
+    match going {
+        Going::Even(stride, _) => all && stride == 0,
+        Going::Once(_, _, _) => false,
+        Going::Twice(_, _, _) => false,
+    }
 }
 
 /// Appends what does a statement for all rounds at once.
@@ -199,30 +370,30 @@ fn emit_rounded(
     group: Group,
     places: &Places,
     scope: &[Counter],
-    strides: &[u32],
+    goings: &[Going],
     all: bool,
     stmt: &Stmt,
 ) -> Result<(), CodeFault>
-    ensures ok { OnOk result (EmitsRounds code.old.items code.new.items (spec.rounded group places.now stmt.now) all scope.now strides.now) }
-    ensures err { IfErr result (IsFault ⊥ (FitsRounds (spec.rounded group places.now stmt.now) all scope.now strides.now → ⊥)) }
+    ensures ok { OnOk result (EmitsRounds code.old.items code.new.items (spec.rounded group places.now stmt.now) all scope.now goings.now) }
+    ensures err { IfErr result (IsFault ⊥ (FitsRounds (spec.rounded group places.now stmt.now) all scope.now goings.now → ⊥)) }
 {
     match stmt {
         Stmt::Store(store) => {
-            emit_pixels(code, group, places, scope, strides, store)?;
+            emit_pixels(code, group, places, scope, goings, store)?;
             Ok(())
         }
         Stmt::Sequence(_, _) => Err(CodeFault::TooDeep),
         Stmt::For(_, _, _, _) => Err(CodeFault::TooDeep),
         Stmt::Bind(counter, whole, extent, body) => {
             let r = next_seat(scope)?;
-            let Some(stride) = step_taken(scope, strides, whole, *extent) else {
+            let Some(going) = going_taken(scope, goings, *counter, whole, *extent) else {
                 return Err(CodeFault::TooDeep);
             };
             let within = with_counter(alloc, scope, *counter)?;
-            let along = with_stride(alloc, strides, stride)?;
+            let along = with_going(alloc, goings, going)?;
             let mut inner = Vec::new(alloc);
-            emit_left_over(&mut inner, all, stride, r)?;
-            let rest = all_after(all, stride);
+            emit_left_over(&mut inner, within.as_slice(), all, going, r)?;
+            let rest = all_after(all, going);
             emit_rounded(
                 alloc,
                 &mut inner,
@@ -276,7 +447,7 @@ pub fn emit_rounds(
         group,
         places,
         within.as_slice(),
-        &[1],
+        &[Going::Even(1, 16)],
         true,
         body,
     )?;

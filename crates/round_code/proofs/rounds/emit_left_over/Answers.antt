@@ -1,6 +1,12 @@
-use Rattle.scalar_code.proofs.Spelling.{emits_then}
-use Rattle.round_code.proofs.Emission.{left-lesser}
+use Rattle.round_code.proofs.Emission.{once-left, twice-left}
 use Rattle.round_code.proofs.rounds.emit_left_over.Goals as goal
 
-pub returns-in_ok-emit_lesser : goal.returns-in_ok-emit_lesser
-returns-in_ok-emit_lesser c = left-lesser c.args.all c.args.stride c.args.r _ _ c.if-all.false c.if-stride-eq0.false (emits_then c.in_ok-emit_rounds_below-2.ensures c.in_ok-emit_lesser.ensures)
+pub returns-in_ok-emit_lesser-in-Once : goal.returns-in_ok-emit_lesser-in-Once
+returns-in_ok-emit_lesser-in-Once c =
+    once-left c.args.scope.now c.args.all c.args.going c.in-Once.stride c.in-Once.field-1 c.in-Once.cut c.args.r _ _ _ _ _ c.in-Once.is c.in_ok-alu-in-Once.ensures c.in_ok-emit_below_cut-in-Once.ensures
+    c.in_ok-emit_divided_up-in-Once.ensures c.in_ok-emit_lesser-in-Once.ensures
+
+pub returns-in_ok-emit_lesser-in-Twice : goal.returns-in_ok-emit_lesser-in-Twice
+returns-in_ok-emit_lesser-in-Twice c =
+    twice-left c.args.scope.now c.args.all c.args.going c.in-Twice.stride c.in-Twice.first c.in-Twice.second c.args.r _ _ _ _ _ _ c.in-Twice.is c.in_ok-alu-in-Twice.ensures c.in_ok-emit_below_cut-in-Twice.ensures
+    c.in_ok-emit_below_cut-in-Twice-2.ensures c.in_ok-emit_divided_up-in-Twice.ensures c.in_ok-emit_lesser-in-Twice.ensures

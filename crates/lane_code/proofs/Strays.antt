@@ -1,0 +1,49 @@
+-- The code of how far counters go that are cut off, in terms of its parts.
+use Rattle.std.proofs.Common.{◌≡◌, ℕ, suc, ◌-◌, ◌≤◌, List, [], ◌∷◌, length, get_or, Option, Some, true, ap, ◌∙◌, sym, subst, arith}
+use Rattle.std.specs.Prelude.{take, drop}
+use Rattle.std.proofs.Math.Seq.{take-length}
+use Rattle.rv_insn.specs.declared.instructions.Insn.TheVariants.{Alu, Vector}
+use Rattle.rv_insn.specs.declared.operations.AluOp.TheVariants as alus
+use Rattle.rv_insn.specs.declared.vector_instructions.VectorInsn.TheVariants as v
+use Rattle.rv_insn.specs.declared.vector_operations.ArithmeticVxOp.TheVariants as vxs
+use Rattle.loop_ir.specs.declared.expressions.Counter.{Counter}
+use Rattle.loop_ir.specs.declared.expressions.Term.{Term}
+use Rattle.scalar_code.specs.Code.{seat_in, literal}
+use Rattle.scalar_code.specs.Words.{Emits}
+use Rattle.scalar_code.proofs.Spelling.{emits_then}
+use Rattle.lane_code.specs.declared.goings.Cut.{Cut}
+use Rattle.lane_code.specs.declared.goings.Going.{Going}
+use Rattle.lane_code.specs.declared.goings.Going.TheVariants as goes
+use Rattle.lane_code.specs.Goings.{going_of}
+use Rattle.lane_code.specs.Lanes.{stepped}
+use Rattle.lane_code.specs.Straying.{room_code, counted, capped_lanes, cut_lanes, added, strays, strayed}
+
+pub room-emitted : (scope : List Counter) (last : ℕ) (inner own : Counter) (r s t : ℕ) (c0 c1 c2 c3 : List ℕ) → s ≡ seat_in scope inner → t ≡ seat_in scope own
+    → Emits c0 c1 (literal r last) → Emits c1 c2 (Alu alus.Add r r s ∷ []) → Emits c2 c3 (Alu alus.Sub r r t ∷ []) → Emits c0 c3 (room_code scope last inner own r)
+room-emitted scope last inner own r s t c0 c1 c2 c3 es et a b c =
+    emits_then a (emits_then (subst (λ q. Emits c1 c2 (Alu alus.Add r r q ∷ [])) es b) (subst (λ q. Emits c2 c3 (Alu alus.Sub r r q ∷ [])) et c))
+
+pub capped-emitted : (scope : List Counter) (last : Option ℕ) (most : ℕ) (inner own : Counter) (u : ℕ) (c0 c1 c2 : List ℕ) → last ≡ Some most
+    → Emits c0 c1 (room_code scope most inner own 13) → Emits c1 c2 (Vector (v.ArithmeticVx vxs.Vminu u u 13 true) ∷ []) → Emits c0 c2 (capped_lanes scope last inner own u)
+capped-emitted scope last most inner own u c0 c1 c2 is a b = subst (λ (q : Option ℕ). Emits c0 c2 (capped_lanes scope q inner own u)) (sym is) (emits_then a b)
+
+pub strays-once : (scope : List Counter) (going : Going) (stride most : ℕ) (cut : Cut) (n r u : ℕ) (c0 c1 c2 c3 : List ℕ) → going ≡ goes.Once stride most cut
+    → Emits c0 c1 (counted stride u) → Emits c1 c2 (cut_lanes scope cut u) → Emits c2 c3 (added n r u) → Emits c0 c3 (strays scope going n r u)
+strays-once scope going stride most cut n r u c0 c1 c2 c3 is a b c = subst (λ (q : Going). Emits c0 c3 (strays scope q n r u)) (sym is) (emits_then a (emits_then b c))
+
+pub strays-twice : (scope : List Counter) (going : Going) (stride : ℕ) (first second : Cut) (n r u : ℕ) (c0 c1 c2 c3 c4 : List ℕ) → going ≡ goes.Twice stride first second
+    → Emits c0 c1 (counted stride u) → Emits c1 c2 (cut_lanes scope first u) → Emits c2 c3 (cut_lanes scope second u) → Emits c3 c4 (added n r u) → Emits c0 c4 (strays scope going n r u)
+strays-twice scope going stride first second n r u c0 c1 c2 c3 c4 is a b c d = subst (λ (q : Going). Emits c0 c4 (strays scope q n r u)) (sym is) (emits_then a (emits_then b (emits_then c d)))
+
+-- of a list of terms that isn't empty, as code takes it apart
+pub strayed-emitted : (scope : List Counter) (goings : List Going) (terms : List Term) (other : Term) (going : Going) (r u : ℕ) (c0 c1 c2 : List ℕ) → 1 ≤ length terms
+    → going ≡ going_of scope goings (get_or terms 0 other).counter → Emits c0 c1 (strays scope going (get_or terms 0 other).stride r u)
+    → Emits c1 c2 (strayed scope goings (take (length terms - 1) (drop 1 terms)) r u) → Emits c0 c2 (strayed scope goings terms r u)
+strayed-emitted scope goings [] other going r u c0 c1 c2 some is a b = absurd (omega (arith, some))
+strayed-emitted scope goings (first ∷ terms) other going r u c0 c1 c2 some is a b =
+    let n : suc (length terms) - 1 ≡ length terms = omega arith in
+    let left : take (suc (length terms) - 1) terms ≡ terms = ap (λ (k : ℕ). take k terms) n ∙ take-length terms in
+    emits_then (subst (λ (q : Going). Emits c0 c1 (strays scope q first.stride r u)) is a) (subst (λ ts. Emits c1 c2 (strayed scope goings ts r u)) left b)
+
+pub steps-emitted : (n k r : ℕ) (c0 c1 : List ℕ) → n ≡ k → Emits c0 c1 (stepped n r) → Emits c0 c1 (stepped k r)
+steps-emitted n k r c0 c1 e a = subst (λ q. Emits c0 c1 (stepped q r)) e a
