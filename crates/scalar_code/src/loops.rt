@@ -1,6 +1,6 @@
 //! The code of loops and of tests on split loops, around the words of their bodies.
 
-ghost use Rattle.std.specs.Prelude.{◌≡◌, ℕ, List, ◌+◌, ◌*◌, ◌^◌, ◌<◌, ◌≤◌, [], ◌∷◌, ◌++◌, length, OnErr, OnOk, IfErr, IfOk, true};
+ghost use Rattle.std.specs.Prelude.{◌≡◌, ℕ, List, ◌+◌, ◌*◌, ◌^◌, ◌<◌, ◌≤◌, [], ◌∷◌, ◌++◌, length, OnErr, OnOk, IfErr, IfOk, false, true};
 ghost use Rattle.loop_ir.specs.Sizes as sizes;
 ghost use Rattle.rv_insn.specs.declared.instructions.Insn.{Insn as Instruction};
 ghost use Rattle.scalar_code.specs.Code as spec;
@@ -80,7 +80,8 @@ fn emit_copies(code: &mut Vec<u32>, r: u8, count: u32, body: &[u32]) -> Result<(
 /// Whether so many copies of so many words, each with one behind it, are as many words as a text may have.
 fn are_long(count: u32, words: usize) -> bool
     requires { words < 2 ^ 62 }
-    ensures { result ≡ true → 2 ^ 18 ≤ count * (words + 1) + 1 }
+    ensures many { result ≡ true → 2 ^ 18 ≤ count * (words + 1) + 1 }
+    ensures few { result ≡ false → count * (words + 1) < 2 ^ 18 }
 {
     (count as u64).saturating_mul(words as u64 + 1) >= 1 << 18
 }
