@@ -15,8 +15,20 @@ use crate::origins::Origin;
 use crate::refusals::Refusal;
 use crate::seats::{Batch, Report, Seat};
 use board::{Board, Glance};
-use std::sync::{Mutex, Wait};
+use std::hint;
+use std::sync::atomic::AtomicU64;
+use std::sync::{Mutex, MutexGuard, Wait};
+use std::time::Duration;
 use turn_log::MOST_TURNS;
+
+/// How often a thread looks whether the lock is free before it naps.
+const LOOKS: u32 = 20;
+
+/// How many microseconds a nap is: some dozen batches of turns of another thread.
+const NAP: u64 = 50;
+
+/// After how many naps a thread queues for the lock.
+const NAPS: u32 = 1_000;
 
 /// A machine under one lock, with its log, and a board beside it.
 #[derive(Drop)]
@@ -47,6 +59,24 @@ impl<O: Origin, F: Ledgers> Shared<O, F> {
         }
         self.glances_left -= 1;
         Some(self.board.new_glance())
+    }
+
+    /// What lies under the lock, once it is free.
+    ///
+    /// A thread that finds the lock held naps, and does not queue: the one that has it then takes it again without a call of the system, which
+    /// would cost more than a batch of turns. So that none waits for ever where others always come first, it queues after so many naps.
+    fn locked<R: Wait>(&self, rt: &R) -> MutexGuard<'_, Guarded<O, F>> {
+        let never = AtomicU64::new(0);
+        for _nap in 0..NAPS {
+            for _look in 0..LOOKS {
+                if let Some(guard) = self.guarded.try_lock() {
+                    return guard;
+                }
+                hint::spin_loop();
+            }
+            never.park_timeout(rt, 0, Duration::from_micros(NAP));
+        }
+        self.guarded.lock(rt)
     }
 
     /// One turn of the seat's hart, under the lock. A hart that has stopped makes one too. Waits for the lock.
@@ -110,7 +140,7 @@ impl<O: Origin, F: Ledgers> Shared<O, F> {
         if self.board.stop_asked(glance) {
             return Err(Refusal::StopAsked);
         }
-        let batch = self.guarded.lock(rt).turns(shares, most)?;
+        let batch = self.locked(rt).turns(shares, most)?;
         self.board.add(place, batch.made);
         Ok(batch)
     }
