@@ -24,8 +24,8 @@ use turn_log::MOST_TURNS;
 /// How often a thread looks whether the lock is free before it naps.
 const LOOKS: u32 = 20;
 
-/// How many microseconds a nap is: some dozen batches of turns of another thread.
-const NAP: u64 = 50;
+/// How many microseconds a nap is: some hundred batches of turns of another thread.
+const NAP: u64 = 200;
 
 /// After how many naps a thread queues for the lock.
 const NAPS: u32 = 1_000;
