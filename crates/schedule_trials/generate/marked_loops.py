@@ -3,8 +3,8 @@
 from collections import namedtuple
 
 # The points of each Func's box that is computed at root, in order of the text, those of boxes computed at a loop, whether the data have frames,
-# how many tasks each phase has, and how great the numbers of pictures are.
-Facts = namedtuple("Facts", "roots privates frames tasks greatest", defaults=((), False, (1,), 1000))
+# how many tasks each phase has, how great the numbers of pictures are, and which vectorized loops are vector code.
+Facts = namedtuple("Facts", "roots privates frames tasks greatest code", defaults=((), False, (1,), 1000, "all"))
 
 FRAMES = 8 * 4096
 
@@ -46,8 +46,8 @@ CASES = [
     ("quotients and remainders by 2147483647", *one("(0 - in(x)) / 2147483647 + in(x) % 2147483647", 37, 4)[:2], Facts((37,), greatest=2**31 - 1)),
     ("a stack of six by sixteen", *one(NESTED.format("in(x)"), 32, 16)),
     ("a stack of seven by sixteen", *one(NESTED.format("in(x+5)"), 32, 16)[:2], Facts((32,), frames=True)),
-    ("reads that lie anywhere, six deep by sixteen", *one("in(36-x) - (in(35-x) * (in(34-x) + (in(33-x) - (in(32-x) * in(5)))))", 32, 16)),
-    ("reads that lie anywhere, seven deep by sixteen", *one("in(36-x) - (in(35-x) * (in(34-x) + (in(33-x) - (in(32-x) * in(31-x)))))", 32, 16)[:2], Facts((32,), frames=True)),
+    ("reads that lie anywhere, six deep by sixteen", *one("in(36-x) - (in(35-x) * (in(34-x) + (in(33-x) - (in(32-x) * in(5)))))", 32, 16)[:2], Facts((32,), code="0 of 1")),
+    ("reads that lie anywhere, seven deep by sixteen", *one("in(36-x) - (in(35-x) * (in(34-x) + (in(33-x) - (in(32-x) * in(31-x)))))", 32, 16)[:2], Facts((32,), frames=True, code="0 of 1")),
     ("a stack of seven by eight", *one(NESTED.format("in(x+5)"), 32, 8)),
     ("an index that runs along both arguments", "input in 30\nfunc f(x,y) = in(x+y) * 2 + in(x-y+7)\noutput f 20 8", row(8), Facts((160,))),
     ("every third pixel, rounded up", "input in 23\nfunc f(x) = in(x) + 1\noutput f 23",

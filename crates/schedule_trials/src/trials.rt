@@ -5,13 +5,14 @@ use crate::images::{build, push_control, push_image};
 use crate::nests::push_nests;
 use crate::pictures::{inputs_of, text_of};
 use crate::runs::push_runs;
+use crate::vectors::push_vectors;
 use case_files::Part;
 use halide_parser::parse;
 use picture::{Picture, evaluate};
 use std::alloc::Global;
 use std::thread::Threads;
 
-/// Appends what the image is, the picture, and a line for each way that computes it.
+/// Appends what the image is, the picture, a line for each way that computes it, and which vectorized loops are vector code.
 pub fn push_trial(
     rt: &(impl Threads + Sync),
     alloc: Global,
@@ -30,7 +31,8 @@ pub fn push_trial(
     let wanted = reference(rt, alloc, algorithm, &inputs)?;
     out.push_str(wanted.as_str())?;
     push_nests(alloc, algorithm, schedule, &inputs, wanted.as_str(), out)?;
-    push_runs(alloc, &built, wanted.as_str(), out)
+    push_runs(alloc, &built, wanted.as_str(), out)?;
+    push_vectors(alloc, algorithm, schedule, &built.image, out)
 }
 
 /// The text of the reference picture.

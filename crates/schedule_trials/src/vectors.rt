@@ -1,0 +1,84 @@
+//! Which vectorized loops are vector code.
+//!
+//! Vector code of a loop configures lanes once, and no other code does. So an image has as many such instructions as there are vectorized loops
+//! that are vector code, a loop in copies of an unrolled one once for each copy.
+
+ghost use Rattle.schedule.specs.Accepted.{IsAccepted};
+
+use crate::failures::Failure;
+use bounds::infer;
+use halide_parser::parse;
+use halide_pipeline::Pipeline;
+use loader::Image;
+use loop_ir::statements::{LoopKind, Stmt};
+use lowering::phases::lower;
+use rv_encoding::decode;
+use rv_insn::{Insn, VectorInsn};
+use schedule::{Schedule, read};
+use std::alloc::Global;
+
+/// Appends a line where a schedule vectorizes loops: whether all of them are vector code, or how many of how many.
+pub fn push_vectors(
+    alloc: Global,
+    algorithm: &str,
+    schedule: &str,
+    image: &Image,
+    out: &mut String,
+) -> Result<(), Failure> {
+    let pipeline = parse(algorithm, alloc)?;
+    let schedule = read(schedule, &pipeline, alloc)?;
+    let marked = marked_loops(alloc, &pipeline, &schedule)?;
+    let made = configurations(image);
+    if marked == 0 && made == 0 {
+        return Ok(());
+    }
+    out.push_str("vectorized loops: ")?;
+    if made == marked {
+        out.push_str("all vector code\n")?;
+    } else {
+        writeln!(out, "{made} of {marked} vector code")?;
+    }
+    Ok(())
+}
+
+/// How many vectorized loops the phases have, where unrolled loops are laid out.
+fn marked_loops(alloc: Global, pipeline: &Pipeline, schedule: &Schedule) -> Result<u64, Failure>
+    requires { IsAccepted pipeline.now schedule.now }
+{
+    let boxes = infer(pipeline, schedule, alloc)?;
+    let mut count: u64 = 0;
+    for phase in &lower(alloc, pipeline, schedule, &boxes)? {
+        count = count.wrapping_add(marked_in(&phase.body));
+    }
+    Ok(count)
+}
+
+/// How many a statement has.
+fn marked_in(statement: &Stmt) -> u64 {
+    match statement {
+        Stmt::Store(_) => 0,
+        Stmt::Sequence(first, second) => marked_in(first.get()).wrapping_add(marked_in(
+            second.get(),
+        )),
+        Stmt::For(_, count, kind, body) => {
+            let inside = marked_in(body.get());
+            match kind {
+                LoopKind::Vectorized => inside.wrapping_add(1),
+                LoopKind::Unrolled => inside.wrapping_mul(u64::from(*count).max(1)),
+                LoopKind::Serial => inside,
+            }
+        }
+        Stmt::Bind(_, _, _, body) => marked_in(body.get()),
+    }
+}
+
+/// How many words of an image configure lanes.
+fn configurations(image: &Image) -> u64 {
+    let mut count: u64 = 0;
+    for word in image.words() {
+        if let Some(Insn::Vector(VectorInsn::Vsetvli { .. })) = decode(*word) {
+            count = count.wrapping_add(1);
+        }
+    }
+    count
+}
