@@ -55,9 +55,9 @@ module _ (w : World) (f : ℕ → ℕ) (m : List ℕ) (l : length m ≡ w.size) 
       let here : At (at + 4) f (advanced h) = subst (λ p. At (at + 4) f (at_pc h p)) (sym ep) (at-to at (at + 4) f h st) in
       let left : stored_at m (store_size op) (plus (register h b) z) (kept op (register h v)) ≡ stored_at m (store_size op) a (kept op (f v)) = ap (λ n. stored_at m (store_size op) n (kept op (register h v))) e ∙ ap (λ n. stored_at m (store_size op) a (kept op n)) (st.same v lv) in
       in-front w (Comes (at + 4) f (stored_at m (store_size op) a (kept op (f v)))) 0 at (Store op b v z) h m l st.running st.pc s.0
-      (ap (λ n. or_else (first_fault (length w.text) w.size WritesKind (one_access (store_size op) n)) None) e ∙ store-free (store_size op) (length w.text) w.size a can.aligned can.above can.below)
+      (ap (λ n. or_else (first_fault (length w.text) w.size WritesKind (one_access (store_size op) n)) None) e ∙ store-free (store_size op) (length w.text) w.size a can.there.aligned can.there.above can.there.below)
       tt
-      (subst (λ n. Within (λ c. MayWrite w.job w.hart (w.uses c)) (touched (one_access (store_size op) n))) (sym e) can.may)
+      (subst (λ n. Within (λ c. MayWrite w.job w.hart (w.uses c)) (touched (one_access (store_size op) n))) (sym e) can.there.may)
       (subst (λ n. Keeps w (touched (one_access (store_size op) n))) (sym e) can.keeps)
       (here, left)
 
@@ -65,7 +65,7 @@ module _ (w : World) (f : ℕ → ℕ) (m : List ℕ) (l : length m ≡ w.size) 
   pub store-writes : (op : StoreOp) (b v a : ℕ) (z : ℤ) (at c : ℕ) → b < 32 → plus (f b) z ≡ a → Writable w (store_size op) a → Says w.text at (Store op b v z) → is_in c (touched (one_access (store_size op) a)) ≡ true → Writes w at 1 f m c
   store-writes op b v a z at c lb eb can s i h st =
       let e = store-at b a z h at lb eb st in
-      let d = next-by w.text w.size h at (Store op b v z) st.running st.pc s (ap (λ n. or_else (first_fault (length w.text) w.size WritesKind (one_access (store_size op) n)) None) e ∙ store-free (store_size op) (length w.text) w.size a can.aligned can.above can.below) in
+      let d = next-by w.text w.size h at (Store op b v z) st.running st.pc s (ap (λ n. or_else (first_fault (length w.text) w.size WritesKind (one_access (store_size op) n)) None) e ∙ store-free (store_size op) (length w.text) w.size a can.there.aligned can.there.above can.there.below) in
       inl (ap (λ y. is_in c (writes y h)) d ∙ ap (λ n. is_in c (touched (one_access (store_size op) n))) e ∙ i)
 
   -- ---- jumps

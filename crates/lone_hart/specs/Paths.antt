@@ -136,12 +136,16 @@ pub record Readable (world : World) (size : Size) (address : ℕ) : Type 0 where
   pub below : address + bytes_in size ≤ data_start + world.size
   pub may : Within (λ a. MayRead world.job world.hart (world.uses a)) (touched (one_access size address))
 
--- and one that it may write, by a turn that writes no more
-pub record Writable (world : World) (size : Size) (address : ℕ) : Type 0 where
+-- and one that it may write: by which turns, the rule says
+pub record MayBeWritten (world : World) (size : Size) (address : ℕ) : Type 0 where
   pub aligned : address % bytes_in size ≡ 0
   pub above : data_start ≤ address
   pub below : address + bytes_in size ≤ data_start + world.size
   pub may : Within (λ a. MayWrite world.job world.hart (world.uses a)) (touched (one_access size address))
+
+-- by one that writes no more
+pub record Writable (world : World) (size : Size) (address : ℕ) : Type 0 where
+  pub there : MayBeWritten world size address
   pub keeps : Keeps world (touched (one_access size address))
 
 -- memory after a number is stored
