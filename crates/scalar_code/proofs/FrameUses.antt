@@ -74,10 +74,12 @@ pub frames-lie : FramesLie
 frames-lie w places loaded owns = record {
   low = λ word l. let o = own word l in let a = o.below in let b = o.low in let n = few word l in omega (arith, a, b, n);
   may_write = λ word l. let o = own word l in let a = o.above in let b = o.below in let c = o.aligned in let n = few word l in record {
-    aligned = omega (arith, c);
-    above = omega (arith, a);
-    below = omega (arith, b, n);
-    may = each w places loaded o word n _ (write-byte w places loaded o word n);
+    there = record {
+      aligned = omega (arith, c);
+      above = omega (arith, a);
+      below = omega (arith, b, n);
+      may = each w places loaded o word n _ (write-byte w places loaded o word n);
+    };
     keeps = not-owned w places loaded o word n;
   };
   may_read = λ word l. let o = own word l in let a = o.above in let b = o.below in let c = o.aligned in let n = few word l in record {

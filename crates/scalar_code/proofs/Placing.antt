@@ -1,8 +1,8 @@
 -- The code of a store does the store.
-use Rattle.std.proofs.Common.{◌≡◌, ℕ, ◌+◌, ◌%◌, ◌^◌, ◌<◌, ◌≤◌, List, [], ◌∷◌, ◌++◌, length, true, refl, ap, ◌∙◌, sym, subst, arith, inl, inr}
+use Rattle.std.proofs.Common.{◌≡◌, ℕ, ◌+◌, ◌%◌, ◌^◌, ◌<◌, ◌≤◌, List, [], ◌∷◌, ◌++◌, length, true, false, refl, ap, ◌∙◌, sym, subst, arith, inl, inr}
 use Rattle.std.specs.Prelude.{◌≢◌, nat_le, pos}
 use Rattle.std.specs.List.{list_all}
-use Rattle.std.proofs.lemmas.Bool.{and_parts}
+use Rattle.std.proofs.lemmas.Bool.{and_parts, true≢false}
 use Rattle.std.proofs.lemmas.Bool.Decides.{nat_tests}
 use Rattle.std.proofs.lemmas.List.Folds.{list_all-append}
 use Rattle.rv_insn.specs.declared.instructions.Insn.{Insn}
@@ -21,7 +21,7 @@ use Rattle.loop_ir.specs.Expressions.{value, loads}
 use Rattle.loop_ir.specs.Running.{stored}
 use Rattle.loop_ir.specs.Soundness.{store_loads, is_sound_store}
 use Rattle.lone_hart.specs.Alone.{World}
-use Rattle.lone_hart.specs.Paths.{Path}
+use Rattle.lone_hart.specs.Paths.{Path, Writable}
 use Rattle.lone_hart.proofs.Jumps as rules
 use Rattle.scalar_code.specs.Code.{place_of, addressed, deep, frame_words, store_code, value_code}
 use Rattle.scalar_code.specs.Values.{Free}
@@ -97,9 +97,9 @@ module _ (own : Setting) (good : IsSetting own) where
 
     -- the last instruction
     saved : (store : Store) (f : ℕ → ℕ) (memory : List ℕ) (funcs : Planes) → HoldsFuncs own memory funcs → own.written store.func (value (reads_of own.inputs funcs) values store.x) (value (reads_of own.inputs funcs) values store.y) ≡ true
-        → value (reads_of own.inputs funcs) values store.value < 2 ^ 32 → f 15 ≡ spot store funcs → f 20 ≡ value (reads_of own.inputs funcs) values store.value
+        → own.in_runs store.func ≡ false → value (reads_of own.inputs funcs) values store.value < 2 ^ 32 → f 15 ≡ spot store funcs → f 20 ≡ value (reads_of own.inputs funcs) values store.value
         → Does own (Save save_ops.Sw 15 20 (pos 0) ∷ []) 1 f memory depth (stored own.points (reads_of own.inputs funcs) store values funcs) (store_hits store funcs)
-    saved store f memory funcs holds is small e15 e20 =
+    saved store f memory funcs holds is single small e15 e20 =
         let reads = reads_of own.inputs funcs in
         let x = value reads values store.x in
         let y = value reads values store.y in
@@ -109,7 +109,8 @@ module _ (own : Setting) (good : IsSetting own) where
         let at-a : plus (f 15) (pos 0) ≡ a = ap (λ n. plus n (pos 0)) e15 ∙ no-offset a may.low in
         let m' = put_number memory Word a v in
         let left-is = stored-is memory a (f 20) ∙ ap (put_number memory Word a) e20 in
-        let line = rules.store w f memory holds.size save_ops.Sw 15 20 a (pos 0) (omega arith) (omega arith) at-a may.may in
+        let writable : Writable w Word a = record { there = may.may; keeps = good.at_once 1 store.func (λ k. x) (λ k. y) (λ k b. is) (λ runs. absurd (true≢false (sym runs ∙ single))) } in
+        let line = rules.store w f memory holds.size save_ops.Sw 15 20 a (pos 0) (omega arith) (omega arith) at-a writable in
         record {
           after = f;
           left = m';
@@ -128,7 +129,7 @@ module _ (own : Setting) (good : IsSetting own) where
               ap (λ k. address_of w own.places (func_point k x y)) hit.0 ∙ ap (λ k. address_of w own.places (func_point func k y)) hit.1.0 ∙ ap (λ k. address_of w own.places (func_point func i k)) hit.1.1 in
               let above = of.above in
               let below = of.below in
-              rules.store-writes w f memory holds.size save_ops.Sw 15 20 a (pos 0) at byte (omega arith) at-a may.may s.0 (is-touched a byte (omega (arith, e, above)) (omega (arith, e, below)));
+              rules.store-writes w f memory holds.size save_ops.Sw 15 20 a (pos 0) at byte (omega arith) at-a writable s.0 (is-touched a byte (omega (arith, e, above)) (omega (arith, e, below)));
         }
 
     parked-free : Free 20 15
@@ -138,9 +139,9 @@ module _ (own : Setting) (good : IsSetting own) where
     no-parked q kept e = let s = kept-safe depth q kept in let a = s.apart in omega (arith, e, a)
 
     pub store-does : (store : Store) (f : ℕ → ℕ) (memory : List ℕ) (funcs : Planes) → fits_store own.places scope store ≡ true
-        → is_sound_store (reads_of own.inputs funcs) own.written own.loaded store values ≡ true → HoldsFuncs own memory funcs → Known f
+        → is_sound_store (reads_of own.inputs funcs) own.written own.loaded store values ≡ true → own.in_runs store.func ≡ false → HoldsFuncs own memory funcs → Known f
         → Does own (store_code own.places scope store) (length (store_code own.places scope store)) f memory depth (stored own.points (reads_of own.inputs funcs) store values funcs) (store_hits store funcs)
-    store-does store f memory funcs fits sound holds knows =
+    store-does store f memory funcs fits sound single holds knows =
         let reads = reads_of own.inputs funcs in
         let x = value reads values store.x in
         let y = value reads values store.y in
@@ -171,5 +172,5 @@ module _ (own : Setting) (good : IsSetting own) where
         (λ at s. d.line at s) in
         let kd = knows-still w own.harts scope values fc d.after kc reached.keeps in
         let g = evaluated store.value d.after c.does.left funcs others.1 q.1 c.does.holds kd in
-        let last = saved store g.does.after g.does.left funcs g.does.holds k.0 g.small (g.stays 15 parked-free ∙ d.value) g.value_is in
+        let last = saved store g.does.after g.does.left funcs g.does.holds k.0 single g.small (g.stays 15 parked-free ∙ d.value) g.value_is in
         lines-then own a.does (lines-then own moved (lines-then own c.does (lines-then own reached (lines-then own g.does last))))

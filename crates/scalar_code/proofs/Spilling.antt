@@ -216,8 +216,8 @@ module _ (own : Setting) (good : IsSetting own) (scope : List Counter) (values :
         let a = framed-reaches f memory l e10 in
         let may = good.laid.frame.may_write n within in
         let low = good.laid.frame.low n within in
-        let above = may.above in
-        let below = may.below in
+        let above = may.there.above in
+        let below = may.there.below in
         let g = a.after in
         let at-a : plus (g 13) (pos 0) ≡ frame n = ap (λ k. plus k (pos 0)) a.value ∙ no-offset (frame n) low in
         let g20 : g 20 ≡ v = a.others 20 (λ e. omega (arith, e)) (λ e. omega (arith, e)) (λ e. omega (arith, e)) ∙ e20 in

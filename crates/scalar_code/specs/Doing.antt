@@ -10,6 +10,7 @@ use Rattle.loop_ir.specs.declared.expressions.Counter.{Counter}
 use Rattle.loop_ir.specs.declared.statements.Stmt.{Stmt}
 use Rattle.loop_ir.specs.Buffers.{Points}
 use Rattle.loop_ir.specs.Counters.{Values}
+use Rattle.loop_ir.specs.Runs.{stores_in_runs}
 use Rattle.loop_ir.specs.Soundness.{is_sound, Have}
 use Rattle.loop_ir.specs.Stores.{is_stored_by}
 use Rattle.lone_hart.specs.Alone.{World, Keeps}
@@ -20,7 +21,8 @@ use Rattle.scalar_code.specs.Evaluation.{Knows, ArePlaces}
 use Rattle.scalar_code.specs.Layout.{func_point, address_of, IsOf, Laid, Holds, IsElsewhere, AreWords}
 
 -- what stays while a task is done: where the hart runs and how many there are, where buffers lie and what inputs hold, which points the
--- Funcs' buffers have, which of them may be written, and which points of any source may be loaded
+-- Funcs' buffers have, which of them may be written, and which points of any source may be loaded; at which Funcs' points code stores in whole
+-- runs of vectorized loops alone, and whether a run of such a Func stores at a point, while the counters outside of its loop stand at some values
 pub record Setting : Type 0 where
   pub world : World
   pub harts : ℕ
@@ -29,10 +31,25 @@ pub record Setting : Type 0 where
   pub points : Points
   pub written : Points
   pub loaded : Point → Bool
+  pub in_runs : ℕ → Bool
+  pub run : ℕ → ℕ → ℕ → Values → Bool
 
--- One turn may write several points, if each may be written.
+-- a point is one of so many
+pub record IsAmong (n : ℕ) (x y : ℕ → ℕ) (a b : ℕ) : Type 0 where
+  pub number : ℕ
+  pub below : number < n
+  pub x_is : x number ≡ a
+  pub y_is : y number ≡ b
+
+-- So many points of a Func are those of one run: all at which it stores, and no others.
+pub record AreRun (own : Setting) (n func : ℕ) (x y : ℕ → ℕ) : Type 0 where
+  pub values : Values
+  pub each : (k : ℕ) → k < n → own.run func (x k) (y k) values ≡ true
+  pub all : (a b : ℕ) → own.run func a b values ≡ true → IsAmong n x y a b
+
+-- One turn may write several points, if each may be written, and where their Func is stored in runs, they are a run.
 abbrev pub MayBeWrittenAtOnce : Setting → Type 0
-MayBeWrittenAtOnce own = (n func : ℕ) (x y : ℕ → ℕ) → ((k : ℕ) → k < n → own.written func (x k) (y k) ≡ true)
+MayBeWrittenAtOnce own = (n func : ℕ) (x y : ℕ → ℕ) → ((k : ℕ) → k < n → own.written func (x k) (y k) ≡ true) → (own.in_runs func ≡ true → AreRun own n func x y)
     → Keeps own.world (touched (accesses_to Word n (λ k. address_of own.world own.places (func_point func (x k) (y k)))))
 
 pub record IsSetting (own : Setting) : Type 0 where
@@ -46,6 +63,11 @@ pub record IsSetting (own : Setting) : Type 0 where
 abbrev pub SoundIn : Setting → Stmt → Values → Type 0
 SoundIn own statement values =
     (funcs : Planes) → AreWords funcs → is_sound (reads_of own.inputs funcs) own.written own.loaded statement values ≡ true
+
+-- it stores at points of Funcs that are stored in runs by such runs alone, whatever words buffers hold
+abbrev pub RunsIn : Setting → Stmt → Values → Type 0
+RunsIn own statement values = (funcs : Planes) → AreWords funcs → (func : ℕ) → own.in_runs func ≡ true → (x y : ℕ)
+    → stores_in_runs (reads_of own.inputs funcs) func x y (own.run func x y) statement values ≡ true
 
 -- memory holds bytes, and these buffers
 pub record HoldsFuncs (own : Setting) (memory : List ℕ) (funcs : Planes) : Type 0 where

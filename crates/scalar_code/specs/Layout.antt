@@ -8,7 +8,7 @@ use Rattle.halide_meaning.specs.Pixel.{Planes, Reads}
 use Rattle.reads.specs.Points.{Point}
 use Rattle.loop_ir.specs.Buffers.{Points}
 use Rattle.lone_hart.specs.Alone.{World}
-use Rattle.lone_hart.specs.Paths.{Readable, Writable}
+use Rattle.lone_hart.specs.Paths.{Readable, MayBeWritten, Writable}
 use Rattle.lone_hart.specs.Uses.{Private, Task}
 use Rattle.scalar_code.specs.declared.places.Pixels.TheVariants as pixels
 use Rattle.scalar_code.specs.declared.places.Places.{Places}
@@ -43,11 +43,11 @@ pub record IsOf (world : World) (places : Places) (func x y byte : ℕ) : Type 0
 
 -- ---- all points
 
--- a point of a Func may be written, a word at a time
+-- a point of a Func may be written, as a word
 pub record MayStore (world : World) (places : Places) (func x y : ℕ) : Type 0 where
   pub are_words : (place_of places (sources.Func func)).pixels ≡ pixels.Words
   pub low : address_of world places (func_point func x y) < 2 ^ 32
-  pub may : Writable world Word (address_of world places (func_point func x y))
+  pub may : MayBeWritten world Word (address_of world places (func_point func x y))
 
 -- a point of any source may be loaded, and the word that holds it
 pub record MayLoad (world : World) (places : Places) (point : Point) : Type 0 where
