@@ -20,7 +20,7 @@ one-in b other rest is = by-test (b == other) refl is
     by-test false e i = inr i
 
 -- one of the four bytes of a word
-in-word : (a b : ℕ) → is_in b (a ∷ (a + 1) ∷ (a + 2) ∷ (a + 3) ∷ []) ≡ true → (a ≤ b) × (b < a + 4)
+pub in-word : (a b : ℕ) → is_in b (a ∷ (a + 1) ∷ (a + 2) ∷ (a + 3) ∷ []) ≡ true → (a ≤ b) × (b < a + 4)
 in-word a b is = first (one-in b a ((a + 1) ∷ (a + 2) ∷ (a + 3) ∷ []) is)
   where
     fourth : (b ≡ a + 3) ⊎ (is_in b [] ≡ true) → (a ≤ b) × (b < a + 4)
@@ -62,13 +62,13 @@ module _ (w : World) (places : Places) (loaded : Point → Bool) (own : OwnsFram
       first-there : w.uses (at + 0) ≡ Private w.hart → w.uses at ≡ Private w.hart
       first-there e = let z : at + 0 ≡ at = omega arith in subst (λ b. w.uses b ≡ Private w.hart) z e
 
+  unowned : (byte task : ℕ) → at ≤ byte → byte < at + 4 → w.uses byte ≡ Owned task → ⊥
+  unowned byte task l h owned =
+      let e : w.uses byte ≡ Private w.hart = own.uses byte (omega (arith, l)) (omega (arith, h, few)) in
+      cc
+
   not-owned : (address task : ℕ) → is_in address (touched (one_access Word at)) ≡ true → w.uses address ≡ Owned task → w.rule task (touched (one_access Word at)) ≡ true
-  not-owned address task is owned =
-      let k = in-word at address is in
-      let l = k.0 in
-      let h = k.1 in
-      let e : w.uses address ≡ Private w.hart = own.uses address (omega (arith, l)) (omega (arith, h, few)) in
-      absurd cc
+  not-owned address task is owned = let k = in-word at address is in absurd (unowned address task k.0 k.1 owned)
 
 pub frames-lie : FramesLie
 frames-lie w places loaded owns = record {
@@ -89,6 +89,7 @@ frames-lie w places loaded owns = record {
     may = each w places loaded o word n _ (read-byte w places loaded o word n);
   };
   apart = λ word point l can. let o = own word l in beside word (few word l) point (o.apart point can);
+  unowned = λ word byte task l low high. unowned w places loaded (own word l) word (few word l) byte task low high;
 }
   where
     few : (word : ℕ) → word < frame_words places.frames → word < 1024

@@ -130,7 +130,7 @@ module _ (own : Setting) (good : IsSetting own) (scope : List Counter) (values :
   known : (f g : ℕ → ℕ) (r : ℕ) → 20 ≤ r → Known f → ((q : ℕ) → Free r q → g q ≡ f q) → Known g
   known f g r low o same = knows-still w own.harts scope values f g o (λ q kept. same q (kept-free (length scope) q r kept (inr low)))
 
-  loads-may : (memory : List ℕ) → HoldsFuncs own memory funcs → (point : Point) → own.loaded point ≡ true → Loads w own.places memory reads point
+  pub loads-may : (memory : List ℕ) → HoldsFuncs own memory funcs → (point : Point) → own.loaded point ≡ true → Loads w own.places memory reads point
   loads-may memory holds point is =
       let may = good.laid.loads point is in
       record { low = may.low; may = may.may; holds = holds.holds point is; is_word = small point.source point.x point.y may.column may.row; are_bytes = holds.are_bytes; whole = may.whole }
@@ -192,7 +192,7 @@ module _ (own : Setting) (good : IsSetting own) (scope : List Counter) (values :
   -- ---- a word of the frame
 
   module _ (n : ℕ) (within : n < limit) where
-    framed-reaches : (f : ℕ → ℕ) (memory : List ℕ) (l : length memory ≡ w.size) → f 10 ≡ w.hart → Reaches w memory l (framed start n) f 13 14 (frame n)
+    pub framed-reaches : (f : ℕ → ℕ) (memory : List ℕ) (l : length memory ≡ w.size) → f 10 ≡ w.hart → Reaches w memory l (framed start n) f 13 14 (frame n)
     framed-reaches f memory l e10 =
         let low = good.laid.frame.low n within in
         let i1 = literal-sets w memory l f 13 (start + 4 * n) (omega arith) (omega arith) (omega (arith, low)) in
@@ -272,7 +272,7 @@ module _ (own : Setting) (good : IsSetting own) (scope : List Counter) (values :
   abbrev Passes : List Point → Type 0
   Passes points = list_all own.loaded points ≡ true
 
-  passes-parts : (xs ys : List Point) → Passes (xs ++ ys) → Passes xs × Passes ys
+  pub passes-parts : (xs ys : List Point) → Passes (xs ++ ys) → Passes xs × Passes ys
   passes-parts xs ys is = and_parts (list_all own.loaded xs) (list_all own.loaded ys) (sym (list_all-append own.loaded xs ys) ∙ is)
 
   -- on the stack alone, whatever memory is

@@ -9,7 +9,7 @@ use Rattle.reads.specs.Points.{Point}
 use Rattle.loop_ir.specs.Buffers.{Points}
 use Rattle.lone_hart.specs.Alone.{World}
 use Rattle.lone_hart.specs.Paths.{Readable, MayBeWritten, Writable}
-use Rattle.lone_hart.specs.Uses.{Private, Task}
+use Rattle.lone_hart.specs.Uses.{Owned, Private, Task}
 use Rattle.scalar_code.specs.declared.places.Pixels.TheVariants as pixels
 use Rattle.scalar_code.specs.declared.places.Places.{Places}
 use Rattle.scalar_code.specs.Code.{place_of, pixel_bytes, address, frames_of, frame_words}
@@ -65,13 +65,15 @@ frame_word world places word = frames_of places.frames + 4096 * world.hart + 4 *
 abbrev pub Misses : ℕ → ℕ → Type 0
 Misses byte address = (byte < address) ⊎ (address + 4 ≤ byte)
 
--- The hart's frame lies so: no point that may be loaded shares a byte with it.
+-- The hart's frame lies so: no point that may be loaded shares a byte with it, and no task owns one, so that a turn may write several of its words.
 pub record IsFrame (world : World) (places : Places) (loaded : Point → Bool) : Type 0 where
   pub low : (word : ℕ) → word < frame_words places.frames → frame_word world places word < 2 ^ 32
   pub may_write : (word : ℕ) → word < frame_words places.frames → Writable world Word (frame_word world places word)
   pub may_read : (word : ℕ) → word < frame_words places.frames → Readable world Word (frame_word world places word)
   pub apart : (word : ℕ) (point : Point) → word < frame_words places.frames → loaded point ≡ true
       → (address_of world places point + bytes_of places point ≤ frame_word world places word) ⊎ (frame_word world places word + 4 ≤ address_of world places point)
+  pub unowned : (word byte task : ℕ) → word < frame_words places.frames → frame_word world places word ≤ byte → byte < frame_word world places word + 4
+      → world.uses byte ≡ Owned task → ⊥
 
 -- the address of the hart's frame
 abbrev pub frame_start : World → Places → ℕ

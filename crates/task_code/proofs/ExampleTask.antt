@@ -228,6 +228,7 @@ module _ (task : ℕ) (small : task < 2) where
       may_write = λ word l. absurd (omega (arith, l));
       may_read = λ word l. absurd (omega (arith, l));
       apart = λ word point l can. absurd (omega (arith, l));
+      unowned = λ word byte task l low high owned. omega (arith, l);
     };
   }
 
