@@ -57,7 +57,7 @@ use Rattle.lane_code.proofs.ByteGathers.{gathered-bytes}
 at-most : (n k : ℕ) → nat_le n k ≡ true → n ≤ k
 at-most n k t = grind (arith, nat_tests)
 
-some-below : (n : ℕ) → nat_lt 0 n ≡ true → 0 < n
+pub some-below : (n : ℕ) → nat_lt 0 n ≡ true → 0 < n
 some-below n t = grind (arith, nat_tests)
 
 steady-is : (p : Pace) (n : ℕ) (x : ℕ → ℕ) → is_steady p ≡ true → Holds p n x → (i : ℕ) → i < n → x i ≡ x 0
@@ -71,7 +71,7 @@ stepping-is paces.Stepping n x t h = h
 stepping-is paces.Irregular n x t h = absurd (cc t)
 
 -- bytes that are reached lie in a buffer without copies that begins at a word
-bytes-lie : (p : Pixels) (distance start : ℕ) → are_reached p distance start ≡ true → p ≡ pixels.Bytes → (distance ≡ 0) × (start % 4 ≡ 0)
+pub bytes-lie : (p : Pixels) (distance start : ℕ) → are_reached p distance start ≡ true → p ≡ pixels.Bytes → (distance ≡ 0) × (start % 4 ≡ 0)
 bytes-lie pixels.Words distance start t e = absurd (cc e)
 bytes-lie pixels.Bytes distance start t e =
     let b = and_parts (distance == 0) (start % 4 == 0) t in
@@ -80,10 +80,10 @@ bytes-lie pixels.Bytes distance start t e =
     (grind (arith, nat_tests, d), grind (arith, nat_tests, s))
 
 -- an expression's values in all rounds
-abbrev Family : Type 0
+abbrev pub Family : Type 0
 Family = ℕ → Seen
 
-family_at : Reads → (ℕ → Values) → Expr-F Family → Family
+unfoldable pub family_at : Reads → (ℕ → Values) → Expr-F Family → Family
 family_at reads at e i = seen_at reads (at i) (map-Expr Family Seen (λ s. s i) e)
 
 module _ (reads : Reads) (at : ℕ → Values) (i : ℕ) where
@@ -107,7 +107,7 @@ module _ (reads : Reads) (at : ℕ → Values) (i : ℕ) where
   family-level (layer.Load source x y) =
       ap (λ (s : Seen). seen_at reads (at i) (layer.Load source s (y.left i))) x.is ∙ ap (λ (s : Seen). seen_at reads (at i) (layer.Load source x.right s)) y.is
 
-  family-is : (e : Expr) → fold-Expr Family (family_at reads at) e i ≡ seen reads (at i) e
+  pub family-is : (e : Expr) → fold-Expr Family (family_at reads at) e i ≡ seen reads (at i) e
   unfolding seen
   family-is e = folds_related Is (family_at reads at) (seen_at reads (at i)) family-level e
 
@@ -116,17 +116,17 @@ module _ (w : World) (harts : ℕ) (m : List ℕ) (group : Group) (places : Plac
   abbrev g : ℕ
   g = registers group
 
-  abbrev Known : (ℕ → ℕ) → Type 0
+  abbrev pub Known : (ℕ → ℕ) → Type 0
   Known f = Knows w harts scope (at 0) f
 
-  abbrev Loaded : List Point → Type 0
+  abbrev pub Loaded : List Point → Type 0
   Loaded points = AllByRecursion (Loads w places m reads) points
 
   -- of one round
-  abbrev One : Laned → Family → Type 0
+  abbrev pub One : Laned → Family → Type 0
   One own s = one.Evaluates w harts m places scope (at 0) reads l all own.own (s 0)
 
-  abbrev Code : (ℕ → List Insn) → (ℕ → Bool) → (ℕ → ℕ) → Type 0
+  abbrev pub Code : (ℕ → List Insn) → (ℕ → Bool) → (ℕ → ℕ) → Type 0
   Code code fits x = (k : ℕ) (f : ℕ → ℕ) → fits k ≡ true → Known f → Lanes w m l group n f → Leaves w m l group n (code k) f k x
 
   pub record All (own : Laned) (s : Family) : Type 0 where
@@ -134,7 +134,7 @@ module _ (w : World) (harts : ℕ) (m : List ℕ) (group : Group) (places : Plac
     pub paced : Holds own.pace n (λ i. (s i).value)
     pub leaves : Code own.code own.fits (λ i. (s i).value)
 
-  abbrev Rounds : Laned → Family → Type 0
+  abbrev pub Rounds : Laned → Family → Type 0
   Rounds own s = own.own.is_word ≡ true → ((i : ℕ) → i < n → Loaded (s i).points) → All own s
 
   pub record Evaluates (own : Laned) (s : Family) : Type 0 where
@@ -142,7 +142,7 @@ module _ (w : World) (harts : ℕ) (m : List ℕ) (group : Group) (places : Plac
     pub of_all : Rounds own s
     pub slot_is : (k : ℕ) → own.fits k ≡ true → k < slots group
 
-  known-still : (f f' : ℕ → ℕ) (k : ℕ) → Known f → ((q : ℕ) → IsKept group k q → f' q ≡ f q) → Known f'
+  pub known-still : (f f' : ℕ → ℕ) (k : ℕ) → Known f → ((q : ℕ) → IsKept group k q → f' q ≡ f q) → Known f'
   known-still f f' k o same = record {
     none = same 0 (low 0 (omega arith) (inl (omega arith))) ∙ o.none;
     number = same 10 (low 10 (omega arith) (inl (omega arith))) ∙ o.number;
@@ -158,7 +158,7 @@ module _ (w : World) (harts : ℕ) (m : List ℕ) (group : Group) (places : Plac
       further (inl a) = inl a
       further (inr b) = inr (omega (arith, b))
 
-  has-still : (f f' : ℕ → ℕ) (k : ℕ) → Lanes w m l group n f → ((q : ℕ) → IsKept group k q → f' q ≡ f q) → Lanes w m l group n f'
+  pub has-still : (f f' : ℕ → ℕ) (k : ℕ) → Lanes w m l group n f → ((q : ℕ) → IsKept group k q → f' q ≡ f q) → Lanes w m l group n f'
   has-still f f' k has same = lanes-kept w m l group n f f' (same vl_number (inr (inl (inl refl)))) (same 33 (inr (inl (inr refl)))) has
 
   -- lanes in a slot, others beside them, and what is made of both
@@ -226,7 +226,7 @@ module _ (w : World) (harts : ℕ) (m : List ℕ) (group : Group) (places : Plac
 
   -- ---- each kind of expression
 
-  abbrev values : Family → ℕ → ℕ
+  abbrev pub values : Family → ℕ → ℕ
   values s i = (s i).value
 
   number-code : (x : ℕ) → x < 2 ^ 32 → Code (λ k. literal 13 x ++ (Vector (v.MoveVx (slot group k) 13) ∷ [])) (has_slot group) (λ i. x)
@@ -481,7 +481,7 @@ module _ (w : World) (harts : ℕ) (m : List ℕ) (group : Group) (places : Plac
   slot-level (layer.Select c a b) k fits = is-below k (slots group) (and_parts (has_slot group k) _ fits).0
   slot-level (layer.Load source x y) k fits = is-below k (slots group) (and_parts (has_slot group k) _ fits).0
 
-  level : (y : Expr-F (Both Evaluates)) → Evaluates (laned_at group places scope goings (left_of Evaluates y)) (family_at reads at (right_of Evaluates y))
+  pub level : (y : Expr-F (Both Evaluates)) → Evaluates (laned_at group places scope goings (left_of Evaluates y)) (family_at reads at (right_of Evaluates y))
   level y = record { of_one = one-level y; of_all = rounds-level y; slot_is = slot-level y }
 
   evaluates : (e : Expr) → Evaluates (laned group places scope goings e) (fold-Expr Family (family_at reads at) e)

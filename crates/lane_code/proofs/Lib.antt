@@ -1,3 +1,6 @@
+pub mod DeepEmission
+pub mod DeepEvaluation
+pub mod DeepParts
 pub mod Emission
 pub mod Evaluation
 pub mod LanedParts
@@ -11,5 +14,6 @@ pub mod Quotients
 pub mod Rows
 pub mod Slots
 pub mod Stepping
+pub mod Waiting
 pub mod Straying
 pub mod Strays

@@ -1,3 +1,6 @@
+pub mod DeepEmitting
+pub mod DeepLanes
+pub mod DeepLeaving
 pub mod Emitting
 pub mod Goings
 pub mod Groups

@@ -229,7 +229,12 @@ fn emit_compared(
 }
 
 /// Appends what an operation makes of the lanes of two slots, in the first.
-fn emit_lanes_operation(code: &mut Vec<u32>, op: Operation, r: u8, s: u8) -> Result<(), AllocError>
+pub(crate) fn emit_lanes_operation(
+    code: &mut Vec<u32>,
+    op: Operation,
+    r: u8,
+    s: u8,
+) -> Result<(), AllocError>
     requires { (r < 32) × (s < 32) }
     ensures { OnOk result (Emits code.old.items code.new.items (spec.lanes_operation op r s)) }
 {
@@ -250,7 +255,12 @@ fn emit_lanes_operation(code: &mut Vec<u32>, op: Operation, r: u8, s: u8) -> Res
 }
 
 /// Appends a choice of lanes: of `s` where those of `r` are not 0, else of `t`.
-fn emit_lanes_selection(code: &mut Vec<u32>, r: u8, s: u8, t: u8) -> Result<(), AllocError>
+pub(crate) fn emit_lanes_selection(
+    code: &mut Vec<u32>,
+    r: u8,
+    s: u8,
+    t: u8,
+) -> Result<(), AllocError>
     requires { (r < 32) × (s < 32) × (t < 32) }
     ensures { OnOk result (Emits code.old.items code.new.items (spec.lanes_selection r s t)) }
 {
@@ -269,7 +279,12 @@ fn emit_lanes_complement(code: &mut Vec<u32>, r: u8, u: u8) -> Result<(), AllocE
 }
 
 /// Appends what leaves quotients by a literal, rounded to minus infinity.
-fn emit_lanes_quotient(code: &mut Vec<u32>, c: u32, r: u8, u: u8) -> Result<(), CodeFault>
+pub(crate) fn emit_lanes_quotient(
+    code: &mut Vec<u32>,
+    c: u32,
+    r: u8,
+    u: u8,
+) -> Result<(), CodeFault>
     requires { (r < 32) × (u < 32) }
     ensures ok { OnOk result (Emits code.old.items code.new.items (spec.lanes_quotient c r u) × ((0 < c) × (c < 2 ^ 32))) }
     ensures err { IfErr result (IsFault ⊥ (0 < c → ⊥)) }
@@ -286,7 +301,12 @@ fn emit_lanes_quotient(code: &mut Vec<u32>, c: u32, r: u8, u: u8) -> Result<(), 
 }
 
 /// Appends what leaves remainders by a literal, which are not negative.
-fn emit_lanes_remainder(code: &mut Vec<u32>, c: u32, r: u8, u: u8) -> Result<(), CodeFault>
+pub(crate) fn emit_lanes_remainder(
+    code: &mut Vec<u32>,
+    c: u32,
+    r: u8,
+    u: u8,
+) -> Result<(), CodeFault>
     requires { (r < 32) × (u < 32) }
     ensures ok { OnOk result (Emits code.old.items code.new.items (spec.lanes_remainder c r u) × ((0 < c) × (c < 2 ^ 32))) }
     ensures err { IfErr result (IsFault ⊥ (0 < c → ⊥)) }
@@ -422,7 +442,12 @@ fn emit_bytes_gathered(code: &mut Vec<u32>, place: &Place, r: u8, s: u8) -> Resu
     Ok(())
 }
 
-fn emit_gathered(code: &mut Vec<u32>, place: &Place, r: u8, s: u8) -> Result<(), AllocError>
+pub(crate) fn emit_gathered(
+    code: &mut Vec<u32>,
+    place: &Place,
+    r: u8,
+    s: u8,
+) -> Result<(), AllocError>
     requires { (r < 32) × (s < 32) }
     ensures { OnOk result (Emits code.old.items code.new.items (spec.gathered place.now r s)) }
 {
@@ -449,7 +474,7 @@ fn fits_scalars(x: &Expr, y: &Expr) -> bool
 }
 
 /// Whether the lanes of a load at these indexes lie one behind the other, and the scalar stack has room for the point.
-fn is_dense(scope: &[Counter], goings: &[Going], x: &Expr, y: &Expr) -> bool
+pub(crate) fn is_dense(scope: &[Counter], goings: &[Going], x: &Expr, y: &Expr) -> bool
     ensures { (group : Groups) (places : AllPlaces) → result ≡ spec.is_dense (spec.laned group places scope.now goings.now x.now) (spec.laned group places scope.now goings.now y.now) }
 {
     let column = is_stepping(pace_of(scope, goings, x));
@@ -458,7 +483,7 @@ fn is_dense(scope: &[Counter], goings: &[Going], x: &Expr, y: &Expr) -> bool
 }
 
 /// Whether lanes that lie anywhere reach a buffer's pixels.
-fn is_reached(place: &Place) -> bool
+pub(crate) fn is_reached(place: &Place) -> bool
     ensures { result ≡ spec.is_reached place.now }
 {
     match place.pixels {

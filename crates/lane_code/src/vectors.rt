@@ -8,7 +8,7 @@ ghost use Rattle.rv_insn.specs.declared.vector_operations.ElementWidth.TheVarian
 ghost use Rattle.rv_insn.specs.declared.vector_operations.ShiftViOp.TheVariants.{Vsll as shift_left};
 ghost use Rattle.rv_insn.specs.declared.vector_operations.CompareVxOp.TheVariants.{Vmslt as less};
 ghost use Rattle.rv_insn.specs.declared.vector_operations.CompareViOp.TheVariants.{Vmsne as not_equal};
-ghost use Rattle.rv_insn.specs.declared.vector_operations.ArithmeticViOp.TheVariants.{Vand as both_bits, Vrsub as from_number};
+ghost use Rattle.rv_insn.specs.declared.vector_operations.ArithmeticViOp.TheVariants.{Vadd as plus_number, Vand as both_bits, Vrsub as from_number};
 ghost use Rattle.lane_code.specs.Groups as spec;
 ghost use Rattle.scalar_code.specs.Words.{Emits};
 
@@ -133,6 +133,22 @@ pub fn complement(code: &mut Vec<u32>, d: u8, a: u8) -> Result<(), AllocError>
         vd: vector(d),
         vs2: vector(a),
         imm: Imm5::new(-1).unwrap(),
+        vm: true,
+    };
+    put_vector(code, insn)?;
+    Ok(())
+}
+
+/// Appends what copies the lanes of a group.
+pub fn copy(code: &mut Vec<u32>, d: u8, a: u8) -> Result<(), AllocError>
+    requires { (d < 32) × (a < 32) }
+    ensures { OnOk result (Emits code.old.items code.new.items (Vector (v.ArithmeticVi plus_number d a (pos 0) true) ∷ [])) }
+{
+    let insn = VectorInsn::ArithmeticVi {
+        op: ArithmeticViOp::Vadd,
+        vd: vector(d),
+        vs2: vector(a),
+        imm: Imm5::new(0).unwrap(),
         vm: true,
     };
     put_vector(code, insn)?;
