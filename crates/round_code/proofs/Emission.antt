@@ -1,7 +1,7 @@
 -- Words of parts of a loop whose rounds are done at once, put together, and what can't be done.
 use Rattle.std.proofs.Common.{◌≡◌, ℕ, ◌-◌, ◌*◌, ◌^◌, ◌<◌, ◌≤◌, List, [], ◌∷◌, ◌++◌, length, Bool, true, false, ap, ◌∙◌, sym, subst, arith}
 use Rattle.std.specs.Prelude.{◌≢◌, ◌==◌, ◌&&◌, nat_le, nat_lt, if◌then◌else◌, Option, Some}
-use Rattle.std.proofs.lemmas.Bool.{and_from, true≢false}
+use Rattle.std.proofs.lemmas.Bool.{and_from, and_parts, true≢false}
 use Rattle.std.proofs.lemmas.Bool.Decides.{nat_tests}
 use Rattle.rv_insn.specs.declared.instructions.Insn.{Insn}
 use Rattle.rv_insn.specs.declared.instructions.Insn.TheVariants.{Alu, Vector}
@@ -27,9 +27,10 @@ use Rattle.lane_code.specs.declared.groups.Group.{Group}
 use Rattle.lane_code.specs.declared.goings.Cut.{Cut}
 use Rattle.lane_code.specs.declared.goings.Going.{Going}
 use Rattle.lane_code.specs.declared.goings.Going.TheVariants as goes
-use Rattle.lane_code.specs.Emitting.{EmitsLanes, FitsLanes}
+use Rattle.lane_code.specs.DeepEmitting.{EmitsDeepLanes, EmitsOtherLanes, FitOtherLanes, FitsDeepLanes}
+use Rattle.lane_code.specs.DeepLanes.{DeepLaned, deep_laned, others_fit, triple_fits}
 use Rattle.lane_code.specs.Groups.{registers, slot, vtype_of}
-use Rattle.lane_code.specs.Lanes.{laned, offsets}
+use Rattle.lane_code.specs.Lanes.{offsets}
 use Rattle.lane_code.specs.Straying.{room_code}
 use Rattle.lane_code.proofs.Emission.{fits-stack}
 use Rattle.lane_code.proofs.LanedParts.{own-is}
@@ -78,30 +79,36 @@ even-left scope all going stride most r c0 c1 is a = subst (λ (q : Going). Emit
 module _ (group : Group) (places : Places) (scope : List Counter) (goings : List Going) (store : Store) where
   pub row-emitted : (place : Place) (r : ℕ) (c0 c1 c2 c3 c4 c5 c6 c7 : List ℕ) → Emits c0 c1 (Vector (v.Vsetvli 0 15 (vtype_of group)) ∷ []) → EmitsValue c1 c2 (made places scope store.x) 20
       → Emits c2 c3 (move 15 20) → EmitsValue c3 c4 (made places scope store.y) 20 → place ≡ place_of places (sources.Func store.func) → Emits c4 c5 (addressed place 15 20)
-      → EmitsLanes c5 c6 group (laned group places scope goings store.value) 0 r → Emits c6 c7 (Vector (v.StoreElements Bits32 r 15 addressings.UnitStride true) ∷ [])
+      → EmitsDeepLanes c5 c6 (deep_laned group places scope goings store.value) 0 → r ≡ slot group 0 → Emits c6 c7 (Vector (v.StoreElements Bits32 r 15 addressings.UnitStride true) ∷ [])
       → Emits c0 c7 (row_code group places scope goings store) × (row_fits group places scope goings store ≡ true)
-  row-emitted place r c0 c1 c2 c3 c4 c5 c6 c7 first x moved y ep reached lanes last =
-      let l = laned group places scope goings store.value in (
+  row-emitted place r c0 c1 c2 c3 c4 c5 c6 c7 first x moved y ep reached lanes er last =
+      let d = deep_laned group places scope goings store.value in (
         emits_then first (emits_then x.emits (emits_then moved (emits_then y.emits (emits_then (subst (λ p. Emits c4 c5 (addressed p 15 20)) ep reached) (emits_then lanes.emits
-            (subst (λ d. Emits c6 c7 (Vector (v.StoreElements Bits32 d 15 addressings.UnitStride true) ∷ [])) lanes.slot_is last)))))),
-        and_from (made places scope store.x).is_word _ x.is_word (and_from (made places scope store.y).is_word _ y.is_word (and_from (l.fits 0) l.own.is_word lanes.can.fits lanes.can.is_word)),
+            (subst (λ d. Emits c6 c7 (Vector (v.StoreElements Bits32 d 15 addressings.UnitStride true) ∷ [])) er last)))))),
+        and_from (made places scope store.x).is_word _ x.is_word (and_from (made places scope store.y).is_word _ y.is_word (and_from (d.fits 0) d.own.own.is_word lanes.can.fits lanes.can.is_word)),
       )
 
-  pub scattered-emitted : (place : Place) (r p t : ℕ) (c0 c1 c2 c3 c4 c5 c6 : List ℕ) → Emits c0 c1 (Vector (v.Vsetvli 0 15 (vtype_of group)) ∷ []) → EmitsLanes c1 c2 group (laned group places scope goings store.value) 0 r
-      → EmitsLanes c2 c3 group (laned group places scope goings store.x) 1 p → EmitsLanes c3 c4 group (laned group places scope goings store.y) 2 t → place ≡ place_of places (sources.Func store.func)
-      → Emits c4 c5 (offsets place p t) → Emits c5 c6 (Vector (v.StoreElements Bits32 r 13 (addressings.Indexed p) true) ∷ [])
-      → Emits c0 c6 (scattered_code group places scope goings store) × (scattered_fits group places scope goings store ≡ true)
-  scattered-emitted place r p t c0 c1 c2 c3 c4 c5 c6 first value x y ep reached last =
-      let lv = laned group places scope goings store.value in
-      let lx = laned group places scope goings store.x in
-      let ly = laned group places scope goings store.y in
+  abbrev of_value : DeepLaned
+  of_value = deep_laned group places scope goings store.value
+
+  abbrev of_x : DeepLaned
+  of_x = deep_laned group places scope goings store.x
+
+  abbrev of_y : DeepLaned
+  of_y = deep_laned group places scope goings store.y
+
+  pub scattered-emitted : (place : Place) (r p t s : ℕ) (c0 c1 c2 c3 c4 c5 : List ℕ) → Emits c0 c1 (Vector (v.Vsetvli 0 15 (vtype_of group)) ∷ []) → EmitsDeepLanes c1 c2 of_value 0
+      → EmitsOtherLanes c2 c3 group places of_x of_y 0 → place ≡ place_of places (sources.Func store.func) → p ≡ slot group 1 → t ≡ slot group 2 → r ≡ slot group 0 → s ≡ slot group 1
+      → Emits c3 c4 (offsets place p t) → Emits c4 c5 (Vector (v.StoreElements Bits32 r 13 (addressings.Indexed s) true) ∷ [])
+      → Emits c0 c5 (scattered_code group places scope goings store) × (scattered_fits group places scope goings store ≡ true)
+  scattered-emitted place r p t s c0 c1 c2 c3 c4 c5 first value others ep e1 e2 e0 es reached last =
       let own = place_of places (sources.Func store.func) in
-      let far : Emits c4 c5 (offsets own (slot group 1) (slot group 2)) = subst (λ q. Emits c4 c5 (offsets q (slot group 1) (slot group 2))) ep (subst (λ d. Emits c4 c5 (offsets place d (slot group 2))) x.slot_is (subst (λ d. Emits c4 c5 (offsets place p d)) y.slot_is reached)) in
-      let end : Emits c5 c6 (Vector (v.StoreElements Bits32 (slot group 0) 13 (addressings.Indexed (slot group 1)) true) ∷ []) =
-      subst (λ d. Emits c5 c6 (Vector (v.StoreElements Bits32 d 13 (addressings.Indexed (slot group 1)) true) ∷ [])) value.slot_is (subst (λ d. Emits c5 c6 (Vector (v.StoreElements Bits32 r 13 (addressings.Indexed d) true) ∷ [])) x.slot_is last) in (
-        emits_then first (emits_then value.emits (emits_then x.emits (emits_then y.emits (emits_then far end)))),
-        and_from (lv.fits 0 && lv.own.is_word) _ (and_from (lv.fits 0) lv.own.is_word value.can.fits value.can.is_word)
-            (and_from (lx.fits 1 && lx.own.is_word) (ly.fits 2 && ly.own.is_word) (and_from (lx.fits 1) lx.own.is_word x.can.fits x.can.is_word) (and_from (ly.fits 2) ly.own.is_word y.can.fits y.can.is_word)),
+      let far : Emits c3 c4 (offsets own (slot group 1) (slot group 2)) = subst (λ q. Emits c3 c4 (offsets q (slot group 1) (slot group 2))) ep (subst (λ d. Emits c3 c4 (offsets place d (slot group 2))) e1 (subst (λ d. Emits c3 c4 (offsets place p d)) e2 reached)) in
+      let end : Emits c4 c5 (Vector (v.StoreElements Bits32 (slot group 0) 13 (addressings.Indexed (slot group 1)) true) ∷ []) =
+      subst (λ d. Emits c4 c5 (Vector (v.StoreElements Bits32 d 13 (addressings.Indexed (slot group 1)) true) ∷ [])) e0 (subst (λ d. Emits c4 c5 (Vector (v.StoreElements Bits32 r 13 (addressings.Indexed d) true) ∷ [])) es last) in (
+        emits_then first (emits_then (emits_then value.emits others.emits) (emits_then far end)),
+        and_from (triple_fits places of_value of_x of_y 0) (of_value.own.own.is_word && (of_x.own.own.is_word && of_y.own.own.is_word)) (and_from (of_value.fits 0) (others_fit places of_x of_y 0) value.can.fits others.can.fits)
+            (and_from of_value.own.own.is_word (of_x.own.own.is_word && of_y.own.own.is_word) value.can.is_word (and_from of_x.own.own.is_word of_y.own.own.is_word others.can.first_is_word others.can.second_is_word)),
       )
 
   -- what a row asks for
@@ -117,18 +124,19 @@ module _ (group : Group) (places : Places) (scope : List Counter) (goings : List
       let o = own-is group places scope goings store.y in
       fits-stack group places scope goings store.y 20 12 (omega arith) (ap (λ m. nat_le m.need 12) o ∙ k.few_y) (ap (λ m. m.is_word) o ∙ k.word_y)
 
-  pub fits-row : is_row places scope goings store ≡ true → row_fits group places scope goings store ≡ true → FitsLanes (laned group places scope goings store.value) 0
+  pub fits-row : is_row places scope goings store ≡ true → row_fits group places scope goings store ≡ true → FitsDeepLanes of_value 0
   fits-row row is = let k = row-parts group places scope goings store row is in record { fits = k.fits; is_word = k.word }
 
   -- and pixels that lie anywhere
-  pub fits-value : scattered_fits group places scope goings store ≡ true → FitsLanes (laned group places scope goings store.value) 0
-  fits-value is = let k = scattered-parts group places scope goings store is in record { fits = k.value_fits.fits; is_word = k.value_fits.word }
+  pub fits-value : scattered_fits group places scope goings store ≡ true → FitsDeepLanes of_value 0
+  fits-value is =
+      let k = scattered-parts group places scope goings store is in
+      record { fits = (and_parts (of_value.fits 0) (others_fit places of_x of_y 0) k.fits).0; is_word = k.value_word }
 
-  pub fits-column : scattered_fits group places scope goings store ≡ true → FitsLanes (laned group places scope goings store.x) 1
-  fits-column is = let k = scattered-parts group places scope goings store is in record { fits = k.x_fits.fits; is_word = k.x_fits.word }
-
-  pub fits-line : scattered_fits group places scope goings store ≡ true → FitsLanes (laned group places scope goings store.y) 2
-  fits-line is = let k = scattered-parts group places scope goings store is in record { fits = k.y_fits.fits; is_word = k.y_fits.word }
+  pub fit-others : scattered_fits group places scope goings store ≡ true → FitOtherLanes places of_x of_y 0
+  fit-others is =
+      let k = scattered-parts group places scope goings store is in
+      record { fits = (and_parts (of_value.fits 0) (others_fit places of_x of_y 0) k.fits).1; first_is_word = k.x_word; second_is_word = k.y_word }
 
   -- either of them
   pub row-chosen : (c0 c1 : List ℕ) → is_row places scope goings store ≡ true → Emits c0 c1 (row_code group places scope goings store) × (row_fits group places scope goings store ≡ true)

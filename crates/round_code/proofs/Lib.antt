@@ -1,6 +1,7 @@
 pub mod Effects
 pub mod Emission
 pub mod Following
+pub mod FrameCode
 pub mod Looping
 pub mod Openings
 pub mod Parking

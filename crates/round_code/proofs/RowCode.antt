@@ -52,14 +52,15 @@ use Rattle.lane_code.specs.declared.groups.Group.TheVariants as groups
 use Rattle.lane_code.specs.declared.values.Pace.{Pace}
 use Rattle.lane_code.specs.declared.values.Pace.TheVariants as paces
 use Rattle.lane_code.specs.Groups.{registers, slot, vtype_of}
-use Rattle.lane_code.specs.Lanes.{is_stepping, is_steady, pace_of, laned}
+use Rattle.lane_code.specs.DeepLanes.{deep_laned}
+use Rattle.lane_code.specs.Lanes.{is_stepping, is_steady, pace_of}
 use Rattle.lane_code.specs.Leaving.{GoAlong, HasLanes}
-use Rattle.lane_code.proofs.Evaluation.{lanes-leave, values-go, slot-there}
-use Rattle.lane_code.proofs.LanedParts.{own-is}
+use Rattle.lane_code.proofs.DeepEvaluation.{deep-lanes-leave}
+use Rattle.lane_code.proofs.Evaluation.{values-go}
 use Rattle.lane_code.proofs.Pacing.{Holds}
-use Rattle.lane_code.proofs.Slots.{slot-lies}
 use Rattle.lane_code.proofs.Rows.{lanes-kept}
 use Rattle.round_code.specs.Rounds.{is_row, row_code, row_fits}
+use Rattle.round_code.proofs.FrameCode.{framed-does, slot-at, word-is}
 use Rattle.round_code.proofs.Effects.{HitBy, effect_hits, laid, laid-same}
 use Rattle.round_code.proofs.Rows.{lanes-same, may, row-address, all-writable, row-holds, row-touched}
 
@@ -143,8 +144,8 @@ pub record RowFits (group : Group) (places : Places) (scope : List Counter) (goi
   pub few_y : nat_le (made places scope store.y).need 12 ≡ true
   pub word_x : (made places scope store.x).is_word ≡ true
   pub word_y : (made places scope store.y).is_word ≡ true
-  pub fits : (laned group places scope goings store.value).fits 0 ≡ true
-  pub word : (laned group places scope goings store.value).own.is_word ≡ true
+  pub fits : (deep_laned group places scope goings store.value).fits 0 ≡ true
+  pub word : (deep_laned group places scope goings store.value).own.own.is_word ≡ true
 
 pub row-parts : (group : Group) (places : Places) (scope : List Counter) (goings : List Going) (store : Store) → is_row places scope goings store ≡ true → row_fits group places scope goings store ≡ true
     → RowFits group places scope goings store
@@ -154,7 +155,7 @@ row-parts group places scope goings store row is =
     let c = and_parts (nat_le (made places scope store.x).need 12) (nat_le (made places scope store.y).need 12) b.1 in
     let e = and_parts (made places scope store.x).is_word _ is in
     let f = and_parts (made places scope store.y).is_word _ e.1 in
-    let g = and_parts ((laned group places scope goings store.value).fits 0) (laned group places scope goings store.value).own.is_word f.1 in
+    let g = and_parts ((deep_laned group places scope goings store.value).fits 0) (deep_laned group places scope goings store.value).own.own.is_word f.1 in
     record { stepping = a.0; steady = b.0; few_x = c.0; few_y = c.1; word_x = e.0; word_y = f.0; fits = g.0; word = g.1 }
 
 module _ (own : Setting) (good : IsSetting own) (group : Group) (scope : List Counter) (goings : List Going) (at : ℕ → Values) (n : ℕ)
@@ -246,7 +247,7 @@ module _ (own : Setting) (good : IsSetting own) (group : Group) (scope : List Co
   small-pixel : (memory : List ℕ) → HoldsFuncs own memory funcs → (k : ℕ) → k < n → pixel k < 2 ^ 32
   small-pixel memory holds =
       let go' = values-go w own.harts memory group own.places scope goings at reads n holds.size good.are_places some go store.value
-      (sym (ap (λ m. m.is_word) (own-is group own.places scope goings store.value)) ∙ fit.word) (loaded store.value (λ k b. (sounds k b).of_value) memory holds) in
+      (word-is group own.places scope goings store.value fit.word) (loaded store.value (λ k b. (sounds k b).of_value) memory holds) in
       go'.small
 
   along-x : (memory : List ℕ) → HoldsFuncs own memory funcs → (k : ℕ) → k < n → x k ≡ (x 0 + k) % 2 ^ 32
@@ -320,27 +321,19 @@ module _ (own : Setting) (good : IsSetting own) (group : Group) (scope : List Co
               (subst (λ k. is_in byte (touched (accesses_to Word k spots)) ≡ true) (sym count) (hit-row func i j byte hit of));
         }
 
-    -- from the parked address on
-    abbrev lanes_code : List Insn
-    lanes_code = (laned group own.places scope goings store.value).code 0
+  -- from the parked address on
+  abbrev lanes_code : List Insn
+  lanes_code = (deep_laned group own.places scope goings store.value).code 0
 
-    pub tail-does : (f : ℕ → ℕ) → Knows w own.harts scope (at 0) f → HasLanes group n f → f 15 ≡ first_spot
-        → Does own (lanes_code ++ (Vector (v.StoreElements Bits32 (slot group 0) 15 addressings.UnitStride true) ∷ [])) (length (lanes_code ++ (Vector (v.StoreElements Bits32 (slot group 0) 15 addressings.UnitStride true) ∷ [])))
-        f memory depth (laid own.points pixels_at n funcs) (effect_hits pixels_at n)
-    tail-does f knows has e15 =
-        let there = slot-there w own.harts memory group own.places scope goings at reads n holds.size good.are_places some go store.value 0 fit.fits in
-        let lies = slot-lies group 0 there in
-        let a = lanes-leave w own.harts memory group own.places scope goings at reads n holds.size good.are_places some go store.value 0 fit.fits
-        (sym (ap (λ m. m.is_word) (own-is group own.places scope goings store.value)) ∙ fit.word) (loaded store.value (λ k b. (sounds k b).of_value) memory holds) f knows has in
-        let first : Does own lanes_code (length lanes_code) f memory depth funcs no_hits = still own (λ at. at) _ _ a.after holds
-        (λ q kept. let s = kept-safe depth q kept in a.keeps q (inl (s.outside, above-scratch q s.apart))) (λ at s. a.line at s) in
-        let has1 = lanes-kept w memory holds.size group n f a.after (a.keeps vl_number (inr (inl (inl refl)))) (a.keeps vtype_number (inr (inl (inr refl)))) has in
-        let e15' : a.after 15 ≡ first_spot = a.keeps 15 (inl (omega arith, inr (omega arith))) ∙ e15 in
-        lines-then own first (stored-does a.after has1 e15' a.value lies.is_group)
-      where
-        above-scratch : (q : ℕ) → (q < 13) ⊎ (15 < q) → (q < 13) ⊎ (14 < q)
-        above-scratch q (inl l) = inl l
-        above-scratch q (inr l) = inr (omega (arith, l))
+  pub tail-does : (few : n ≤ 16) (memory : List ℕ) (holds : HoldsFuncs own memory funcs) (f : ℕ → ℕ) → Knows w own.harts scope (at 0) f → HasLanes group n f → f 15 ≡ first_spot
+      → Does own (lanes_code ++ (Vector (v.StoreElements Bits32 (slot group 0) 15 addressings.UnitStride true) ∷ [])) (length (lanes_code ++ (Vector (v.StoreElements Bits32 (slot group 0) 15 addressings.UnitStride true) ∷ [])))
+      f memory depth (laid own.points pixels_at n funcs) (effect_hits pixels_at n)
+  tail-does few memory holds f knows has e15 =
+      let a = deep-lanes-leave own good group scope goings at n some go funcs store.value 0 fit.fits (word-is group own.places scope goings store.value fit.word) (λ k b. (sounds k b).of_value) f memory holds knows has in
+      let d = a.does in
+      let has1 = lanes-kept w memory holds.size group n f d.after (d.keeps vl_number (inr (inl (inl refl)))) (d.keeps vtype_number (inr (inl (inr refl)))) has in
+      let e15' : d.after 15 ≡ first_spot = d.keeps 15 (inl (omega arith, inr (omega arith))) ∙ e15 in
+      lines-then own (framed-does own group depth funcs d) (stored-does few d.left d.holds d.after has1 e15' a.value (slot-at group 0 (omega arith)).is_group)
 
   -- ---- the whole row
 
@@ -349,7 +342,7 @@ module _ (own : Setting) (good : IsSetting own) (group : Group) (scope : List Co
 
   abbrev behind_group : List Insn
   behind_group = expr_code own.places scope store.x 20 ++ (move 15 20 ++ (expr_code own.places scope store.y 20
-      ++ (addressed place 15 20 ++ ((laned group own.places scope goings store.value).code 0 ++ (Vector (v.StoreElements Bits32 (slot group 0) 15 addressings.UnitStride true) ∷ [])))))
+      ++ (addressed place 15 20 ++ ((deep_laned group own.places scope goings store.value).code 0 ++ (Vector (v.StoreElements Bits32 (slot group 0) 15 addressings.UnitStride true) ∷ [])))))
 
   lanes-stay : (f g : ℕ → ℕ) (memory : List ℕ) → HoldsFuncs own memory funcs → ((q : ℕ) → 31 < q → g q ≡ f q) → HasLanes group n f → HasLanes group n g
   lanes-stay f g memory holds same has = lanes-kept w memory holds.size group n f g (same vl_number (omega arith)) (same vtype_number (omega arith)) has

@@ -40,14 +40,16 @@ use Rattle.scalar_code.proofs.Going.{no_hits, Does, still, lines-then, went-hits
 use Rattle.lane_code.specs.declared.groups.Group.{Group}
 use Rattle.lane_code.specs.declared.goings.Going.{Going}
 use Rattle.lane_code.specs.Groups.{registers, slot, vtype_of}
-use Rattle.lane_code.specs.Lanes.{laned, offsets}
+use Rattle.lane_code.specs.DeepLanes.{deep_laned, triple_fits, triple_code}
+use Rattle.lane_code.specs.Lanes.{offsets}
 use Rattle.lane_code.specs.Leaving.{GoAlong, HasLanes, IsKept}
-use Rattle.lane_code.proofs.Evaluation.{lanes-leave, values-go, slot-there}
-use Rattle.lane_code.proofs.LanedParts.{own-is}
+use Rattle.lane_code.proofs.DeepEvaluation.{triples-leave}
+use Rattle.lane_code.proofs.Evaluation.{values-go}
 use Rattle.lane_code.proofs.Offsets.{offsets-reach, offset-address}
-use Rattle.lane_code.proofs.Slots.{SlotLies, slot-lies}
+use Rattle.lane_code.proofs.Slots.{SlotLies}
 use Rattle.lane_code.proofs.Rows.{lanes-kept, few-rounds, slot-still}
 use Rattle.round_code.specs.Rounds.{scattered_code, scattered_fits}
+use Rattle.round_code.proofs.FrameCode.{framed-does, kept-in, slot-at, word-is}
 use Rattle.round_code.proofs.Effects.{HitBy, effect_hits, laid, laid-same}
 use Rattle.round_code.proofs.RowCode.{supported, most, few-lanes, has-lanes, configured-others}
 use Rattle.round_code.proofs.Rows.{lanes-same, spot-is, low-spot, all-writable, row-holds, row-touched}
@@ -56,28 +58,22 @@ abbrev of_some : Effect → Option Effect → Effect
 of_some other None = other
 of_some other (Some own) = own
 
--- the tests of an expression in a slot
-pub record SlotFits (group : Group) (places : Places) (scope : List Counter) (goings : List Going) (e : Expr) (k : ℕ) : Type 0 where
-  pub fits : (laned group places scope goings e).fits k ≡ true
-  pub word : (laned group places scope goings e).own.is_word ≡ true
-
--- and of a store
+-- the tests of a store
 pub record ScatteredFits (group : Group) (places : Places) (scope : List Counter) (goings : List Going) (store : Store) : Type 0 where
-  pub value_fits : SlotFits group places scope goings store.value 0
-  pub x_fits : SlotFits group places scope goings store.x 1
-  pub y_fits : SlotFits group places scope goings store.y 2
+  pub fits : triple_fits places (deep_laned group places scope goings store.value) (deep_laned group places scope goings store.x) (deep_laned group places scope goings store.y) 0 ≡ true
+  pub value_word : (deep_laned group places scope goings store.value).own.own.is_word ≡ true
+  pub x_word : (deep_laned group places scope goings store.x).own.own.is_word ≡ true
+  pub y_word : (deep_laned group places scope goings store.y).own.own.is_word ≡ true
 
 pub scattered-parts : (group : Group) (places : Places) (scope : List Counter) (goings : List Going) (store : Store) → scattered_fits group places scope goings store ≡ true → ScatteredFits group places scope goings store
 scattered-parts group places scope goings store is =
-    let lv = laned group places scope goings store.value in
-    let lx = laned group places scope goings store.x in
-    let ly = laned group places scope goings store.y in
-    let a = and_parts (lv.fits 0 && lv.own.is_word) _ is in
-    let b = and_parts (lx.fits 1 && lx.own.is_word) (ly.fits 2 && ly.own.is_word) a.1 in
-    let c = and_parts (lv.fits 0) lv.own.is_word a.0 in
-    let d = and_parts (lx.fits 1) lx.own.is_word b.0 in
-    let e = and_parts (ly.fits 2) ly.own.is_word b.1 in
-    record { value_fits = record { fits = c.0; word = c.1 }; x_fits = record { fits = d.0; word = d.1 }; y_fits = record { fits = e.0; word = e.1 } }
+    let dv = deep_laned group places scope goings store.value in
+    let dx = deep_laned group places scope goings store.x in
+    let dy = deep_laned group places scope goings store.y in
+    let a = and_parts (triple_fits places dv dx dy 0) (dv.own.own.is_word && (dx.own.own.is_word && dy.own.own.is_word)) is in
+    let b = and_parts dv.own.own.is_word (dx.own.own.is_word && dy.own.own.is_word) a.1 in
+    let c = and_parts dx.own.own.is_word dy.own.own.is_word b.1 in
+    record { fits = a.0; value_word = b.0; x_word = c.0; y_word = c.1 }
 
 module _ (own : Setting) (good : IsSetting own) (group : Group) (scope : List Counter) (goings : List Going) (at : ℕ → Values) (n : ℕ)
     (some : 1 ≤ n) (go : GoAlong scope goings at n) (store : Store) (funcs : Planes)
@@ -124,23 +120,13 @@ module _ (own : Setting) (good : IsSetting own) (group : Group) (scope : List Co
   kept-low : (q : ℕ) → Kept depth q → q < 32
   kept-low q kept = let s = kept-safe depth q kept in let o = s.outside in omega (arith, o)
 
-  above-scratch : (q : ℕ) → (q < 13) ⊎ (15 < q) → (q < 13) ⊎ (14 < q)
-  above-scratch q (inl l) = inl l
-  above-scratch q (inr l) = inr (omega (arith, l))
-
-  kept-in : (k q : ℕ) → Kept depth q → IsKept group k q
-  kept-in k q kept = let s = kept-safe depth q kept in inl (s.outside, above-scratch q s.apart)
-
   module _ (memory : List ℕ) (holds : HoldsFuncs own memory funcs) where
-    lies : (e : Expr) (k : ℕ) → (laned group own.places scope goings e).fits k ≡ true → SlotLies group k
-    lies e k fits = slot-lies group k (slot-there w own.harts memory group own.places scope goings at reads n holds.size good.are_places some go e k fits)
-
     lanes-few : {f : ℕ → ℕ} → HasLanes group n f → n ≤ 4 * registers group
     lanes-few {f} has = few-rounds w memory holds.size group n f has
 
     -- lines that keep what code of a slot keeps
     abbrev quiet : (code : List Insn) (k : ℕ) (f after : ℕ → ℕ) → ((q : ℕ) → IsKept group k q → after q ≡ f q) → Line w code f memory after memory → Does own code (length code) f memory depth funcs no_hits
-    quiet code k f after keeps line = still own (λ at. at) (λ at. end at code) (length code) after holds (λ q kept. keeps q (kept-in k q kept)) (λ at s. line at s)
+    quiet code k f after keeps line = still own (λ at. at) (λ at. end at code) (length code) after holds (λ q kept. keeps q (kept-in group depth k q kept)) (λ at s. line at s)
 
     has-still : (k : ℕ) (f after : ℕ → ℕ) → ((q : ℕ) → IsKept group k q → after q ≡ f q) → HasLanes group n f → HasLanes group n after
     has-still k f after keeps has = lanes-kept w memory holds.size group n f after (keeps vl_number (inr (inl (inl refl)))) (keeps vtype_number (inr (inl (inr refl)))) has
@@ -154,7 +140,7 @@ module _ (own : Setting) (good : IsSetting own) (group : Group) (scope : List Co
     small : (k : ℕ) → k < n → pixel k < 2 ^ 32
     small =
         let go' = values-go w own.harts memory group own.places scope goings at reads n holds.size good.are_places some go store.value
-        (sym (ap (λ m. m.is_word) (own-is group own.places scope goings store.value)) ∙ fit.value_fits.word) (loaded store.value (λ k b. (sounds k b).of_value) memory holds) in
+        (word-is group own.places scope goings store.value fit.value_word) (loaded store.value (λ k b. (sounds k b).of_value) memory holds) in
         go'.small
 
     module _ (few : n ≤ 16) where
@@ -201,57 +187,28 @@ module _ (own : Setting) (good : IsSetting own) (group : Group) (scope : List Co
                 (subst (λ k. is_in byte (touched (accesses_to Word k spots)) ≡ true) (sym count) (hit-one func i j byte hit of));
           }
 
-      abbrev value_code : List Insn
-      value_code = (laned group own.places scope goings store.value).code 0
-
-      abbrev x_code : List Insn
-      x_code = (laned group own.places scope goings store.x).code 1
-
-      abbrev y_code : List Insn
-      y_code = (laned group own.places scope goings store.y).code 2
-
       abbrev offsets_code : List Insn
       offsets_code = offsets place (slot group 1) (slot group 2)
 
-      tail-does : (f : ℕ → ℕ) → Knows w own.harts scope (at 0) f → HasLanes group n f
-          → Does own (value_code ++ (x_code ++ (y_code ++ (offsets_code ++ last_code)))) (length (value_code ++ (x_code ++ (y_code ++ (offsets_code ++ last_code))))) f memory depth (laid own.points pixels_at n funcs) (effect_hits pixels_at n)
-      tail-does f knows has =
-          let lies0 = lies store.value 0 fit.value_fits.fits in
-          let lies1 = lies store.x 1 fit.x_fits.fits in
-          let lies2 = lies store.y 2 fit.y_fits.fits in
+      -- behind values, columns and rows
+      tail-does : (f : ℕ → ℕ) → Knows w own.harts scope (at 0) f → HasLanes group n f → ((k : ℕ) → k < n → f (lane (slot group 0) k) ≡ pixel k) → ((k : ℕ) → k < n → f (lane (slot group 1) k) ≡ x k)
+          → ((k : ℕ) → k < n → f (lane (slot group 2) k) ≡ y k) → Does own (offsets_code ++ last_code) (length (offsets_code ++ last_code)) f memory depth (laid own.points pixels_at n funcs) (effect_hits pixels_at n)
+      tail-does f knows has is-pixel is-x is-y =
+          let lies0 = slot-at group 0 (omega arith) in
+          let lies1 = slot-at group 1 (omega arith) in
+          let lies2 = slot-at group 2 (omega arith) in
           let room = lanes-few has in
-          let a = lanes-leave w own.harts memory group own.places scope goings at reads n holds.size good.are_places some go store.value 0 fit.value_fits.fits
-          (sym (ap (λ m. m.is_word) (own-is group own.places scope goings store.value)) ∙ fit.value_fits.word) (loaded store.value (λ k b. (sounds k b).of_value) memory holds) f knows has in
-          let fa = a.after in
-          let da = quiet value_code 0 f fa a.keeps (λ at s. a.line at s) in
-          let ka = knows-still w own.harts scope (at 0) f fa knows da.keeps in
-          let la = has-still 0 f fa a.keeps has in
-          let b = lanes-leave w own.harts memory group own.places scope goings at reads n holds.size good.are_places some go store.x 1 fit.x_fits.fits
-          (sym (ap (λ m. m.is_word) (own-is group own.places scope goings store.x)) ∙ fit.x_fits.word) (loaded store.x (λ k b. (sounds k b).of_x) memory holds) fa ka la in
-          let fb = b.after in
-          let db = quiet x_code 1 fa fb b.keeps (λ at s. b.line at s) in
-          let kb = knows-still w own.harts scope (at 0) fa fb ka db.keeps in
-          let lb = has-still 1 fa fb b.keeps la in
-          let c = lanes-leave w own.harts memory group own.places scope goings at reads n holds.size good.are_places some go store.y 2 fit.y_fits.fits
-          (sym (ap (λ m. m.is_word) (own-is group own.places scope goings store.y)) ∙ fit.y_fits.word) (loaded store.y (λ k b. (sounds k b).of_y) memory holds) fb kb lb in
-          let fc = c.after in
-          let dc = quiet y_code 2 fb fc c.keeps (λ at s. c.line at s) in
-          let kc = knows-still w own.harts scope (at 0) fb fc kb dc.keeps in
-          let lc = has-still 2 fb fc c.keeps lb in
           let above1 : slot group 0 + registers group ≤ slot group 1 = (let e = lies0.next in omega (arith, e)) in
           let above2 : slot group 1 + registers group ≤ slot group 2 = (let e = lies1.next in omega (arith, e)) in
-          let above3 : slot group 0 + registers group ≤ slot group 2 = omega (arith, above1, above2) in
-          let x_there : (i : ℕ) → i < n → fc (lane (slot group 1) i) ≡ x i = λ i b'. c.keeps (lane (slot group 1) i) (slot-still w memory holds.size group n 1 2 lies1 i b' room above2) ∙ b.value i b' in
-          let d = offsets-reach w memory holds.size group n 1 lies1 place x y (low-spot own good store.func n few x y pixel can small) (good.are_places (sources.Func store.func)) (slot group 2) fc lies2.is_group above2 lc x_there c.value kc.number in
+          let d = offsets-reach w memory holds.size group n 1 lies1 place x y (low-spot own good store.func n few x y pixel can small) (good.are_places (sources.Func store.func)) (slot group 2) f lies2.is_group above2 has is-x is-y knows.number in
           let fd = d.after in
-          let dd = quiet offsets_code 1 fc fd d.keeps (λ at s. d.line at s) in
-          let ld = has-still 1 fc fd d.keeps lc in
+          let dd = quiet offsets_code 1 f fd d.keeps (λ at s. d.line at s) in
+          let ld = has-still 1 f fd d.keeps has in
           let places : (k : ℕ) → k < n → lanes.add 32 (fd 13) (fd (lane (slot group 1) k)) ≡ spots k =
-          λ k b'. offset-address w memory holds.size group n 1 lies1 place x y (low-spot own good store.func n few x y pixel can small) (good.are_places (sources.Func store.func)) fd d.holds k b' ∙ sym (spot-is own good store.func n few x y pixel can small k b') in
+          λ k b. offset-address w memory holds.size group n 1 lies1 place x y (low-spot own good store.func n few x y pixel can small) (good.are_places (sources.Func store.func)) fd d.holds k b ∙ sym (spot-is own good store.func n few x y pixel can small k b) in
           let values : (k : ℕ) → k < n → fd (lane (slot group 0) k) ≡ pixel k =
-          λ k b'. d.keeps (lane (slot group 0) k) (slot-still w memory holds.size group n 0 1 lies0 k b' room above1) ∙ c.keeps (lane (slot group 0) k) (slot-still w memory holds.size group n 0 2 lies0 k b' room above3)
-          ∙ b.keeps (lane (slot group 0) k) (slot-still w memory holds.size group n 0 1 lies0 k b' room above1) ∙ a.value k b' in
-          lines-then own da (lines-then own db (lines-then own dc (lines-then own dd (stored-does lies0 lies1 fd ld places values))))
+          λ k b. d.keeps (lane (slot group 0) k) (slot-still w memory holds.size group n 0 1 lies0 k b room above1) ∙ is-pixel k b in
+          lines-then own dd (stored-does lies0 lies1 fd ld places values)
 
   -- ---- the whole
 
@@ -280,5 +237,11 @@ module _ (own : Setting) (good : IsSetting own) (group : Group) (scope : List Co
       let first : Does own (Vector (v.Vsetvli 0 15 (vtype_of group)) ∷ []) 1 f memory depth funcs no_hits = still own (λ at. at) _ _ f1 holds (λ q kept. same q (kept-low q kept))
       (λ at s. configure-by w f memory holds.size 15 (vtype_of group) (omega arith) (omega arith) (supported group) at s) in
       let knows1 = knows-still w own.harts scope (at 0) f f1 knows first.keeps in
-      let rest = tail-does memory holds (omega (arith, count, room)) f1 knows1 has in
+      let a = triples-leave own good group scope goings at n some go funcs store.value store.x store.y 0 fit.fits (word-is group own.places scope goings store.value fit.value_word)
+      (word-is group own.places scope goings store.x fit.x_word) (word-is group own.places scope goings store.y fit.y_word)
+      (λ k b. (sounds k b).of_value) (λ k b. (sounds k b).of_x) (λ k b. (sounds k b).of_y) f1 memory holds knows1 has in
+      let d = a.does in
+      let knows2 = knows-still w own.harts scope (at 0) f1 d.after knows1 (λ q kept. d.keeps q (kept-in group depth 0 q kept)) in
+      let has2 = has-still memory holds 0 f1 d.after d.keeps has in
+      let rest = lines-then own (framed-does own group depth funcs d) (tail-does d.left d.holds (omega (arith, count, room)) d.after knows2 has2 a.first a.second a.third) in
       went-hits own hit-store (went-is own refl (laid-same own.points own_pixels of_store n (λ k b. of-store k) funcs) (lines-then own first rest))

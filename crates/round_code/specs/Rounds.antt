@@ -29,7 +29,8 @@ use Rattle.lane_code.specs.declared.goings.Cut.{Cut}
 use Rattle.lane_code.specs.declared.goings.Going.{Going}
 use Rattle.lane_code.specs.declared.goings.Going.TheVariants as goes
 use Rattle.lane_code.specs.Goings.{going_of, is_rate, is_small, all_spare}
-use Rattle.lane_code.specs.Lanes.{is_stepping, is_steady, pace_of, laned, offsets}
+use Rattle.lane_code.specs.DeepLanes.{deep_laned, triple_fits, triple_code}
+use Rattle.lane_code.specs.Lanes.{is_stepping, is_steady, pace_of, offsets}
 use Rattle.lane_code.specs.Straying.{room_code}
 
 -- ---- a row of pixels
@@ -40,11 +41,11 @@ is_row places scope goings store =
     is_stepping (pace_of scope goings store.x) && (is_steady (pace_of scope goings store.y)
     && (nat_le (made places scope store.x).need 12 && nat_le (made places scope store.y).need 12))
 
--- The stack of lanes has room for the values.
+-- There is room for the values, on the stack of lanes or in the hart's frame.
 abbrev pub row_fits : Group → Places → List Counter → List Going → Store → Bool
 row_fits group places scope goings store =
     (made places scope store.x).is_word && ((made places scope store.y).is_word
-    && ((laned group places scope goings store.value).fits 0 && (laned group places scope goings store.value).own.is_word))
+    && ((deep_laned group places scope goings store.value).fits 0 && (deep_laned group places scope goings store.value).own.own.is_word))
 
 -- lanes are configured, the first pixel's address is parked, and the pixels are stored
 abbrev pub row_code : Group → Places → List Counter → List Going → Store → List Insn
@@ -52,24 +53,24 @@ row_code group places scope goings store =
     Vector (v.Vsetvli 0 parked (vtype_of group))
     ∷ (expr_code places scope store.x bottom ++ (move parked bottom ++ (expr_code places scope store.y bottom
     ++ (addressed (place_of places (sources.Func store.func)) parked bottom
-    ++ ((laned group places scope goings store.value).code 0 ++ (Vector (v.StoreElements Bits32 (slot group 0) parked addressings.UnitStride true) ∷ []))))))
+    ++ ((deep_laned group places scope goings store.value).code 0 ++ (Vector (v.StoreElements Bits32 (slot group 0) parked addressings.UnitStride true) ∷ []))))))
 
 -- ---- pixels that lie anywhere
 
--- The stack of lanes has room for the values, and above them for columns, and above these for rows.
+-- There is room for the values, and above them for columns, and above these for rows.
 abbrev pub scattered_fits : Group → Places → List Counter → List Going → Store → Bool
 scattered_fits group places scope goings store =
-    ((laned group places scope goings store.value).fits 0 && (laned group places scope goings store.value).own.is_word)
-    && (((laned group places scope goings store.x).fits 1 && (laned group places scope goings store.x).own.is_word)
-    && ((laned group places scope goings store.y).fits 2 && (laned group places scope goings store.y).own.is_word))
+    triple_fits places (deep_laned group places scope goings store.value) (deep_laned group places scope goings store.x) (deep_laned group places scope goings store.y) 0
+    && ((deep_laned group places scope goings store.value).own.own.is_word
+    && ((deep_laned group places scope goings store.x).own.own.is_word && (deep_laned group places scope goings store.y).own.own.is_word))
 
 -- lanes are configured, values, columns and rows are made, and each pixel is stored at its distance from the buffer's first
 abbrev pub scattered_code : Group → Places → List Counter → List Going → Store → List Insn
 scattered_code group places scope goings store =
     Vector (v.Vsetvli 0 parked (vtype_of group))
-    ∷ ((laned group places scope goings store.value).code 0 ++ ((laned group places scope goings store.x).code 1 ++ ((laned group places scope goings store.y).code 2
+    ∷ (triple_code group places (deep_laned group places scope goings store.value) (deep_laned group places scope goings store.x) (deep_laned group places scope goings store.y) 0
     ++ (offsets (place_of places (sources.Func store.func)) (slot group 1) (slot group 2)
-    ++ (Vector (v.StoreElements Bits32 (slot group 0) scratch (addressings.Indexed (slot group 1)) true) ∷ [])))))
+    ++ (Vector (v.StoreElements Bits32 (slot group 0) scratch (addressings.Indexed (slot group 1)) true) ∷ [])))
 
 -- ---- one store
 

@@ -9,9 +9,10 @@ ghost use Rattle.round_code.specs.Emitting.{EmitsRounds, FitsRounds};
 ghost use Rattle.round_code.specs.Rounds as spec;
 
 use halide_pipeline::Source;
+use lane_code::frames::{emit_deep_lanes, emit_others};
 use lane_code::goings::{Cut, Going, all_spare, emit_room, going_of, is_rate, is_small};
 use lane_code::groups::Group;
-use lane_code::values::{emit_lanes, emit_offsets, is_steady, is_stepping, pace_of};
+use lane_code::values::{emit_offsets, is_steady, is_stepping, pace_of};
 use lane_code::vectors::{configure, store_at, store_row};
 use loop_ir::expressions::{Counter, same_counter};
 use loop_ir::statements::{Stmt, Store, Whole};
@@ -53,8 +54,8 @@ fn emit_row(
     emit_value(code, places, scope, &store.y, 20)?;
     let place = place_of(places, Source::Func(store.func));
     emit_addressed(code, &place, 15, 20)?;
-    let r = emit_lanes(code, group, places, scope, goings, &store.value, 0)?;
-    store_row(code, r, 15)?;
+    emit_deep_lanes(code, group, places, scope, goings, &store.value, 0)?;
+    store_row(code, group.slot(0), 15)?;
     Ok(())
 }
 
@@ -71,12 +72,11 @@ fn emit_scattered(
     ensures err { IfErr result (IsFault ⊥ (spec.scattered_fits group places.now scope.now goings.now store.now ≡ true → ⊥)) }
 {
     configure(code, group, 15)?;
-    let r = emit_lanes(code, group, places, scope, goings, &store.value, 0)?;
-    let s = emit_lanes(code, group, places, scope, goings, &store.x, 1)?;
-    let t = emit_lanes(code, group, places, scope, goings, &store.y, 2)?;
+    emit_deep_lanes(code, group, places, scope, goings, &store.value, 0)?;
+    emit_others(code, group, places, scope, goings, &store.x, &store.y, 0)?;
     let place = place_of(places, Source::Func(store.func));
-    emit_offsets(code, &place, s, t)?;
-    store_at(code, r, 13, s)?;
+    emit_offsets(code, &place, group.slot(1), group.slot(2))?;
+    store_at(code, group.slot(0), 13, group.slot(1))?;
     Ok(())
 }
 
