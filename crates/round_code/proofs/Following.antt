@@ -26,6 +26,7 @@ use Rattle.lone_hart.specs.Alone.{World}
 use Rattle.scalar_code.specs.Code.{seat, whole_code}
 use Rattle.scalar_code.specs.Evaluation.{Knows}
 use Rattle.scalar_code.specs.Doing.{Setting, IsSetting, SoundIn, HoldsFuncs}
+use Rattle.scalar_code.specs.Layout.{AreWords}
 use Rattle.scalar_code.proofs.Binding.{bind-does}
 use Rattle.scalar_code.proofs.Going.{Hits, no_hits, Does, does-then, went-hits, went-is}
 use Rattle.scalar_code.proofs.Keeping.{knows-still}
@@ -38,6 +39,7 @@ use Rattle.round_code.proofs.Openings.{IsOpen, Taken, taken-parts, few-rounds, c
 use Rattle.round_code.proofs.CutParking.{parks}
 use Rattle.round_code.proofs.Rounding.{rounded-store, rounded-sequence, rounded-for, rounded-bind, BindFits, bind-parts}
 use Rattle.round_code.proofs.PixelsCode.{pixels-do}
+use Rattle.round_code.proofs.Runs.{StoreRuns, same-runs, pixels-are-run}
 
 below : (n k : ℕ) → nat_lt n k ≡ true → n < k
 below n k t = grind (arith, nat_tests)
@@ -74,8 +76,13 @@ module _ (own : Setting) (good : IsSetting own) (group : Group) where
   abbrev pub NeverFall : Stmt → (ℕ → Values) → ℕ → Type 0
   NeverFall statement at n = (funcs : Planes) (k : ℕ) → k + 1 < n → (rounds (reads_of own.inputs funcs) statement).steps_up (at k) (at (k + 1)) ≡ true
 
+  -- Funcs that are stored in runs are stored in a run, while the counters outside of the rounds stand at these values
+  abbrev pub InRuns : Values → Stmt → (ℕ → Values) → ℕ → Type 0
+  InRuns outside statement at n = (funcs : Planes) → AreWords funcs → StoreRuns own outside (λ k. effect (reads_of own.inputs funcs) statement (at k)) n
+
   abbrev Follows : Stmt → Type 0
   Follows statement = (all : Bool) (scope : List Counter) (goings : List Going) (at : ℕ → Values) (n : ℕ) → (rounded group own.places statement).fits all scope goings ≡ true → AllSound statement at n → NeverFall statement at n
+      → (outside : Values) → InRuns outside statement at n
       → (f : ℕ → ℕ) (memory : List ℕ) (funcs : Planes) → HoldsFuncs own memory funcs → Knows w own.harts scope (at 0) f → IsOpen group all scope goings at n (f 15)
       → Does own ((rounded group own.places statement).code all scope goings) ((rounded group own.places statement).turns all scope goings (at 0)) f memory (length scope)
       (after statement at n funcs) (effect_hits (effects statement at funcs) n)
@@ -86,27 +93,28 @@ module _ (own : Setting) (good : IsSetting own) (group : Group) where
   remade {a} {b} {all} {scope} {goings} {values} {f} {memory} {funcs} {hits} e d = subst (λ c. Does own (c.code all scope goings) (c.turns all scope goings values) f memory (length scope) funcs hits) e d
 
   at-store : (store : Store) → Follows (s.Store store)
-  at-store store all scope goings at n fits sound falls f memory funcs holds knows opening =
+  at-store store all scope goings at n fits sound falls outside in_runs f memory funcs holds knows opening =
       let e = rounded-store group own.places store in
       let fit : store_fits group own.places scope goings store ≡ true = sym (ap (λ (r : Rounded). r.fits all scope goings) e) ∙ fits in
       remade (sym e)
       (pixels-do own good group scope goings at n opening.some opening.along store funcs
       (λ k b. sym (sound_store (reads_of own.inputs funcs) own.written own.loaded store (at k)) ∙ sound k b funcs holds.are_words)
+      (pixels-are-run own outside (reads_of own.inputs funcs) store at n opening.some (in_runs funcs holds.are_words))
       fit f memory holds knows opening.count)
 
   at-sequence : (first second : Stmt) → Follows (s.Sequence first second)
-  at-sequence first second all scope goings at n fits sound falls f memory funcs holds knows opening =
+  at-sequence first second all scope goings at n fits sound falls outside in_runs f memory funcs holds knows opening =
       absurd (true≢false (sym fits ∙ ap (λ (r : Rounded). r.fits all scope goings) (rounded-sequence group own.places first second)))
 
   at-for : (counter : Counter) (count : ℕ) (kind : LoopKind) (body : Stmt) → Follows (s.For counter count kind body)
-  at-for counter count kind body all scope goings at n fits sound falls f memory funcs holds knows opening =
+  at-for counter count kind body all scope goings at n fits sound falls outside in_runs f memory funcs holds knows opening =
       absurd (true≢false (sym fits ∙ ap (λ (r : Rounded). r.fits all scope goings) (rounded-for group own.places counter count kind body)))
 
   -- ---- a split loop's value
 
   module _ (counter : Counter) (whole : Whole) (extent : ℕ) (body : Stmt) (inner : Follows body) (all : Bool) (scope : List Counter) (goings : List Going) (at : ℕ → Values) (n left : ℕ)
       (fit : BindFits group own.places counter whole extent body all scope goings) (sound : AllSound (s.Bind counter whole extent body) at n) (opening : IsOpen group all scope goings at n left)
-      (falls : NeverFall (s.Bind counter whole extent body) at n) where
+      (falls : NeverFall (s.Bind counter whole extent body) at n) (outside : Values) (in_runs : InRuns outside (s.Bind counter whole extent body) at n) where
     abbrev bound : Stmt
     bound = s.Bind counter whole extent body
 
@@ -182,6 +190,20 @@ module _ (own : Setting) (good : IsSetting own) (group : Group) where
         | inr a ↦ absurd (none-some (sym (later-round funcs hit.round a hit.below) ∙ hit.is))
       ]
 
+      hits-outside : (funcs : Planes) (func x y : ℕ) → HitBy (effects body inner_at funcs) m func x y → HitBy (effects bound at funcs) n func x y
+      hits-outside funcs func x y hit = record {
+        round = hit.round;
+        below = (let f = few in let b = hit.below in omega (arith, f, b));
+        stored = hit.stored;
+        is = passing-round funcs hit.round hit.below ∙ hit.is;
+        func_is = hit.func_is;
+        x_is = hit.x_is;
+        y_is = hit.y_is;
+      }
+
+      inner-runs : InRuns outside body inner_at m
+      inner-runs funcs words = same-runs own outside (effects bound at funcs) (effects body inner_at funcs) n m (hits-outside funcs) (hits-inside funcs) (in_runs funcs words)
+
       inner-sound : AllSound body inner_at m
       inner-sound k b p words =
           let t = is-below (whole_value whole (at k)) extent (under k b) in
@@ -204,7 +226,7 @@ module _ (own : Setting) (good : IsSetting own) (group : Group) where
           going (can scope goings at n opening.along opening.low most counter whole extent going taken) all in
           let kn = knows-still w own.harts (counter ∷ scope) (inner_at 0) f a.does.after knows a.does.keeps in
           let opening2 = subst (IsOpen group rest (counter ∷ scope) (going ∷ goings) inner_at m) (sym a.left_is) (still-opening scope goings at n opening.along opening.low most counter whole extent going taken never l group all left opening) in
-          let b = inner rest (counter ∷ scope) (going ∷ goings) inner_at m fit.body_fits inner-sound inner-falls a.does.after a.does.left funcs a.does.holds kn opening2 in
+          let b = inner rest (counter ∷ scope) (going ∷ goings) inner_at m fit.body_fits inner-sound inner-falls outside inner-runs a.does.after a.does.left funcs a.does.holds kn opening2 in
           went-hits own (λ func x y hit. inr hit) (does-then own a.does b)
 
     abbrev code : List Insn
@@ -245,11 +267,11 @@ module _ (own : Setting) (good : IsSetting own) (group : Group) where
       subst (λ (g : Option Going). Does own (bound_code (rounded group own.places body) counter whole extent all scope goings g) (bind_turns (rounded group own.places body) counter whole extent all scope goings values g) f memory (length scope) funcs hits) (sym e) d
 
   at-bind : (counter : Counter) (whole : Whole) (extent : ℕ) (body : Stmt) → Follows body → Follows (s.Bind counter whole extent body)
-  at-bind counter whole extent body inner all scope goings at n fits sound falls f memory funcs holds knows opening =
+  at-bind counter whole extent body inner all scope goings at n fits sound falls outside in_runs f memory funcs holds knows opening =
       let fit = bind-parts group own.places counter whole extent body all scope goings fits in
       remade (sym (rounded-bind group own.places counter whole extent body))
       (by-going counter whole extent body all scope goings (at 0) (Some fit.going) (going_taken scope goings counter whole extent) fit.taken
-      (by-test counter whole extent body inner all scope goings at n (f 15) fit sound opening falls (nat_lt (whole_value whole (at 0)) extent) refl f memory funcs holds knows refl))
+      (by-test counter whole extent body inner all scope goings at n (f 15) fit sound opening falls outside in_runs (nat_lt (whole_value whole (at 0)) extent) refl f memory funcs holds knows refl))
 
   by-layer : (X : Type 0) (part : X → Stmt) → ((p : X) → Follows (part p)) → (l : Stmt-F X) → Follows (roll-Stmt (map-Stmt X Stmt part l))
   by-layer X part follows (layer.Store store) = subst Follows (sym (rolls-Store store)) (at-store store)

@@ -8,6 +8,7 @@ pub mod Parking
 pub mod PixelsCode
 pub mod Rounding
 pub mod RowCode
+pub mod Runs
 pub mod Rows
 pub mod ScatteredCode
 pub mod Steady

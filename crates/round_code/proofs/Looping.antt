@@ -22,7 +22,7 @@ use Rattle.lone_hart.specs.Alone.{World}
 use Rattle.scalar_code.specs.Code.{seat, literal, move}
 use Rattle.scalar_code.specs.Evaluation.{Knows}
 use Rattle.scalar_code.specs.Fitting.{has_seat}
-use Rattle.scalar_code.specs.Doing.{Setting, IsSetting, SoundIn, HoldsFuncs, stored_points}
+use Rattle.scalar_code.specs.Doing.{Setting, IsSetting, SoundIn, RunsIn, HoldsFuncs, stored_points}
 use Rattle.scalar_code.proofs.Looping.{each-turn}
 use Rattle.scalar_code.proofs.Going.{no_hits, Does, still, does-then, went-hits, went-is, went-less}
 use Rattle.scalar_code.proofs.Keeping.{Kept, is-own, kept-safe, kept-apart, knows-still, knows-entered}
@@ -38,9 +38,10 @@ use Rattle.lane_code.specs.Goings.{going_of, gone, can_go}
 use Rattle.round_code.specs.Doing.{LoopsAreDoneAtOnce}
 use Rattle.round_code.specs.Rounds.{rounded, rounds_code, rounds_turns, rounds_fit}
 use Rattle.round_code.proofs.Effects.{effect_hits, laid}
-use Rattle.round_code.proofs.Following.{NeverFall, follows}
+use Rattle.round_code.proofs.Following.{NeverFall, InRuns, follows}
 use Rattle.round_code.proofs.Moving.{IsBelow}
 use Rattle.round_code.proofs.Openings.{IsOpen}
+use Rattle.round_code.proofs.Runs.{loop-runs}
 use Rattle.round_code.proofs.Steady.{steps-are-same}
 use Rattle.round_code.proofs.Storing.{hits-at-once}
 
@@ -95,7 +96,7 @@ all-open group scope counter values count left is parked = record {
     by-low false k b c = subst (λ (g : Going). IsBelow g (values c)) (sym (none-moves scope c)) (inl refl)
 
 module _ (own : Setting) (good : IsSetting own) (group : Group) (counter : Counter) (count : ℕ) (body : Stmt) (scope : List Counter) (values : Values)
-    (fit : rounds_fit group own.places scope counter count body ≡ true) (sound : SoundIn own (For counter count Vectorized body) values) where
+    (fit : rounds_fit group own.places scope counter count body ≡ true) (sound : SoundIn own (For counter count Vectorized body) values) (runs : RunsIn own (For counter count Vectorized body) values) where
   abbrev w : World
   w = own.world
 
@@ -136,9 +137,9 @@ module _ (own : Setting) (good : IsSetting own) (group : Group) (counter : Count
   effects funcs k = effect (reads_of own.inputs funcs) body (at k)
 
   -- all at once
-  pub at-once : NeverFall own good group body at count → (f : ℕ → ℕ) (memory : List ℕ) (funcs : Planes) → HoldsFuncs own memory funcs → Knows w own.harts scope values f
+  pub at-once : NeverFall own good group body at count → InRuns own good group values body at count → (f : ℕ → ℕ) (memory : List ℕ) (funcs : Planes) → HoldsFuncs own memory funcs → Knows w own.harts scope values f
       → Does own (rounds_code group own.places scope counter count body) (rounds_turns group own.places scope counter body values) f memory (length scope) (laid own.points (effects funcs) count funcs) (effect_hits (effects funcs) count)
-  at-once falls f memory funcs holds knows =
+  at-once falls in_runs f memory funcs holds knows =
       let zeroed = imm-sets w memory holds.size alu_imms.Addi f c 0 (pos 0) 0 (r-one own (length scope) few) (r-high own (length scope) few) (omega arith) knows.none in
       let first : Does own (move c 0) 1 f memory (length scope) funcs no_hits = still own (λ at. at) _ _ zeroed.after holds (λ q kept. zeroed.others q (kept-apart (length scope) q few kept)) (λ at s. zeroed.line at s) in
       let k1 = knows-still w own.harts scope values f zeroed.after knows first.keeps in
@@ -147,7 +148,7 @@ module _ (own : Setting) (good : IsSetting own) (group : Group) (counter : Count
       let k2 = knows-still w own.harts scope values zeroed.after set.after k1 second.keeps in
       let ec : set.after c ≡ 0 = set.others c c-apart ∙ zeroed.value in
       let k3 = knows-entered w own.harts scope values counter 0 set.after k2 ec (omega arith) in
-      let inner = follows own good group body true (counter ∷ scope) (goes.Even 1 16 ∷ []) at count body-fits each-sound falls set.after memory funcs holds k3 (all-open group scope counter values count (set.after 15) count-is set.value) in
+      let inner = follows own good group body true (counter ∷ scope) (goes.Even 1 16 ∷ []) at count body-fits each-sound falls values in_runs set.after memory funcs holds k3 (all-open group scope counter values count (set.after 15) count-is set.value) in
       let t = (rounded group own.places body).turns true (counter ∷ scope) (goes.Even 1 16 ∷ []) (at 0) in
       let sum : 1 + (2 + t) ≡ 3 + t = omega arith in
       went-is own sum refl (went-hits own (λ func x y hit. inr (inr hit)) (does-then own first (does-then own second (went-less own inner))))
@@ -180,11 +181,11 @@ module _ (own : Setting) (good : IsSetting own) (group : Group) (counter : Count
       let a = apart-parts funcs may in
       let same = run_for own.points own.inputs counter count Vectorized body values funcs ∙ in_turn own.points own.inputs body at funcs count a.one a.apart in
       went-hits own (λ func x y h. hits-at-once own.points own.inputs body at funcs a.one count a.apart func x y (sym (hit-for own.points own.inputs func x y counter count Vectorized body values funcs) ∙ h))
-      (went-is own refl (sym same) (at-once (never-falls funcs a) f memory funcs holds knows))
+      (went-is own refl (sym same) (at-once (never-falls funcs a) (loop-runs own counter count body values runs (reads_of own.inputs funcs) a.one) f memory funcs holds knows))
 
 pub loops-done : LoopsAreDoneAtOnce
-loops-done own good group counter count body scope values fit sound f memory funcs may holds knows =
-    let a = loop-does own good group counter count body scope values fit sound f memory funcs may holds knows in
+loops-done own good group counter count body scope values fit sound runs f memory funcs may holds knows =
+    let a = loop-does own good group counter count body scope values fit sound runs f memory funcs may holds knows in
     record {
       after = a.after;
       left = a.left;

@@ -8,9 +8,10 @@ use Rattle.loop_ir.specs.declared.statements.Store.{Store}
 use Rattle.loop_ir.specs.declared.statements.Stmt.TheVariants as s
 use Rattle.loop_ir.specs.AtOnce.{Effect, effect}
 use Rattle.loop_ir.specs.Counters.{Values}
+use Rattle.loop_ir.specs.Expressions.{value}
 use Rattle.loop_ir.specs.Soundness.{is_sound_store}
 use Rattle.scalar_code.specs.Evaluation.{Knows}
-use Rattle.scalar_code.specs.Doing.{Setting, IsSetting, HoldsFuncs}
+use Rattle.scalar_code.specs.Doing.{Setting, IsSetting, AreRun, HoldsFuncs}
 use Rattle.scalar_code.proofs.Going.{Does}
 use Rattle.lane_code.specs.declared.groups.Group.{Group}
 use Rattle.lane_code.specs.declared.goings.Going.{Going}
@@ -23,7 +24,8 @@ use Rattle.round_code.proofs.ScatteredCode.{scattered-parts, scattered-does}
 
 module _ (own : Setting) (good : IsSetting own) (group : Group) (scope : List Counter) (goings : List Going) (at : ℕ → Values) (n : ℕ)
     (some : 1 ≤ n) (go : GoAlong scope goings at n) (store : Store) (funcs : Planes)
-    (sound : (k : ℕ) → k < n → is_sound_store (reads_of own.inputs funcs) own.written own.loaded store (at k) ≡ true) where
+    (sound : (k : ℕ) → k < n → is_sound_store (reads_of own.inputs funcs) own.written own.loaded store (at k) ≡ true)
+    (are_run : own.in_runs store.func ≡ true → AreRun own n store.func (λ k. value (reads_of own.inputs funcs) (at k) store.x) (λ k. value (reads_of own.inputs funcs) (at k) store.y)) where
   abbrev of_store : ℕ → Option Effect
   of_store k = effect (reads_of own.inputs funcs) (s.Store store) (at k)
 
@@ -34,8 +36,8 @@ module _ (own : Setting) (good : IsSetting own) (group : Group) (scope : List Co
       → (if t then row_fits group own.places scope goings store else scattered_fits group own.places scope goings store) ≡ true
       → (f : ℕ → ℕ) (memory : List ℕ) → HoldsFuncs own memory funcs → Knows own.world own.harts scope (at 0) f → min (f 15) (4 * registers group) ≡ n
       → Stores (if t then row_code group own.places scope goings store else scattered_code group own.places scope goings store) f memory
-  by-test true row fits f memory holds knows count = row-does own good group scope goings at n some go store funcs sound (row-parts group own.places scope goings store row fits) f memory holds knows count
-  by-test false row fits f memory holds knows count = scattered-does own good group scope goings at n some go store funcs sound (scattered-parts group own.places scope goings store fits) f memory holds knows count
+  by-test true row fits f memory holds knows count = row-does own good group scope goings at n some go store funcs sound (row-parts group own.places scope goings store row fits) are_run f memory holds knows count
+  by-test false row fits f memory holds knows count = scattered-does own good group scope goings at n some go store funcs sound (scattered-parts group own.places scope goings store fits) are_run f memory holds knows count
 
   pub pixels-do : store_fits group own.places scope goings store ≡ true
       → (f : ℕ → ℕ) (memory : List ℕ) → HoldsFuncs own memory funcs → Knows own.world own.harts scope (at 0) f → min (f 15) (4 * registers group) ≡ n

@@ -38,7 +38,7 @@ use Rattle.scalar_code.specs.Values.{Free}
 use Rattle.scalar_code.specs.Evaluation.{Knows, Loads}
 use Rattle.scalar_code.specs.Fitting.{has_room}
 use Rattle.scalar_code.specs.Layout.{func_point, address_of, IsOf}
-use Rattle.scalar_code.specs.Doing.{Setting, IsSetting, HoldsFuncs}
+use Rattle.scalar_code.specs.Doing.{Setting, IsSetting, AreRun, HoldsFuncs}
 use Rattle.scalar_code.proofs.Deepening.{is-deep}
 use Rattle.scalar_code.proofs.Values.{imm-sets}
 use Rattle.scalar_code.proofs.Spilling.{all-loaded}
@@ -160,7 +160,8 @@ row-parts group places scope goings store row is =
 
 module _ (own : Setting) (good : IsSetting own) (group : Group) (scope : List Counter) (goings : List Going) (at : ℕ → Values) (n : ℕ)
     (some : 1 ≤ n) (go : GoAlong scope goings at n) (store : Store) (funcs : Planes)
-    (sound : (k : ℕ) → k < n → is_sound_store (reads_of own.inputs funcs) own.written own.loaded store (at k) ≡ true) (fit : RowFits group own.places scope goings store) where
+    (sound : (k : ℕ) → k < n → is_sound_store (reads_of own.inputs funcs) own.written own.loaded store (at k) ≡ true) (fit : RowFits group own.places scope goings store)
+    (are_run : own.in_runs store.func ≡ true → AreRun own n store.func (λ k. value (reads_of own.inputs funcs) (at k) store.x) (λ k. value (reads_of own.inputs funcs) (at k) store.y)) where
   abbrev w : World
   w = own.world
 
@@ -301,7 +302,7 @@ module _ (own : Setting) (good : IsSetting own) (group : Group) (scope : List Co
         → Does own (Vector (v.StoreElements Bits32 (slot group 0) 15 addressings.UnitStride true) ∷ []) 1 f memory depth (laid own.points pixels_at n funcs) (effect_hits pixels_at n)
     stored-does f has e15 values is-group =
         let count = has.count in
-        let writable : AllWritable w Word (f vl_number) spots = subst (λ k. AllWritable w Word k spots) (sym count) (all-writable own good store.func n few x y pixel can small) in
+        let writable : AllWritable w Word (f vl_number) spots = subst (λ k. AllWritable w Word k spots) (sym count) (all-writable own good store.func n few x y pixel can small are_run) in
         let where-is : (k : ℕ) → k < f vl_number → lanes.add 32 (f 15) (k * 4) ≡ spots k =
         λ k b. ap (λ a. lanes.add 32 a (k * 4)) e15 ∙ row-address own good store.func n few x y pixel can small along steady k (omega (arith, b, count)) in
         let left-is : stored_lanes memory Word (f vl_number) spots (λ k. f (lane (slot group 0) k)) ≡ stored_lanes memory Word n spots pixel =

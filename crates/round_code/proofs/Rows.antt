@@ -16,7 +16,7 @@ use Rattle.lone_hart.specs.LaneMemory.{firsts, accesses_to, AllWritable, stored_
 use Rattle.scalar_code.specs.declared.places.Place.{Place}
 use Rattle.scalar_code.specs.Code.{place_of, pixel_bytes}
 use Rattle.scalar_code.specs.Layout.{func_point, address_of, Holds, IsOf, IsElsewhere, MayStore}
-use Rattle.scalar_code.specs.Doing.{Setting, IsSetting, HoldsFuncs}
+use Rattle.scalar_code.specs.Doing.{Setting, IsSetting, AreRun, HoldsFuncs}
 use Rattle.scalar_code.proofs.Storing.{stored-is, size-stays, bytes-stay, is-touched, words-put, stored-holds, others-stay}
 use Rattle.round_code.proofs.Effects.{laid}
 
@@ -85,13 +85,13 @@ module _ (own : Setting) (good : IsSetting own) (func n : ℕ) (few : n ≤ 16) 
   pub low-spot : (k : ℕ) → k < n → place.start + place.distance * w.hart + 4 * (y k * place.width + x k) < 2 ^ 32
   low-spot k b = let low = (may k b).low in let e = spot-is k b in omega (arith, low, e)
 
-  pub all-writable : AllWritable w Word n spot
-  all-writable = record {
+  pub all-writable : (own.in_runs func ≡ true → AreRun own n func x y) → AllWritable w Word n spot
+  all-writable are_run = record {
     aligned = λ k b. (may k b).may.aligned;
     above = λ k b. (may k b).may.above;
     below = λ k b. (may k b).may.below;
     may = λ k b. (may k b).may.may;
-    keeps = good.at_once n func x y can;
+    keeps = good.at_once n func x y can are_run;
   }
 
   -- ---- pixels one behind the other

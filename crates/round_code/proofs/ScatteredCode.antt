@@ -33,7 +33,7 @@ use Rattle.scalar_code.specs.declared.places.Places.{Places}
 use Rattle.scalar_code.specs.Code.{place_of}
 use Rattle.scalar_code.specs.Evaluation.{Knows, Loads}
 use Rattle.scalar_code.specs.Layout.{func_point, address_of, IsOf}
-use Rattle.scalar_code.specs.Doing.{Setting, IsSetting, HoldsFuncs}
+use Rattle.scalar_code.specs.Doing.{Setting, IsSetting, AreRun, HoldsFuncs}
 use Rattle.scalar_code.proofs.Spilling.{all-loaded}
 use Rattle.scalar_code.proofs.Keeping.{Kept, kept-safe, knows-still}
 use Rattle.scalar_code.proofs.Going.{no_hits, Does, still, lines-then, went-hits, went-is}
@@ -77,7 +77,8 @@ scattered-parts group places scope goings store is =
 
 module _ (own : Setting) (good : IsSetting own) (group : Group) (scope : List Counter) (goings : List Going) (at : ℕ → Values) (n : ℕ)
     (some : 1 ≤ n) (go : GoAlong scope goings at n) (store : Store) (funcs : Planes)
-    (sound : (k : ℕ) → k < n → is_sound_store (reads_of own.inputs funcs) own.written own.loaded store (at k) ≡ true) (fit : ScatteredFits group own.places scope goings store) where
+    (sound : (k : ℕ) → k < n → is_sound_store (reads_of own.inputs funcs) own.written own.loaded store (at k) ≡ true) (fit : ScatteredFits group own.places scope goings store)
+    (are_run : own.in_runs store.func ≡ true → AreRun own n store.func (λ k. value (reads_of own.inputs funcs) (at k) store.x) (λ k. value (reads_of own.inputs funcs) (at k) store.y)) where
   abbrev w : World
   w = own.world
 
@@ -168,7 +169,7 @@ module _ (own : Setting) (good : IsSetting own) (group : Group) (scope : List Co
           → Does own last_code 1 f memory depth (laid own.points pixels_at n funcs) (effect_hits pixels_at n)
       stored-does lies0 lies1 f has places values =
           let count = has.count in
-          let writable : AllWritable w Word (f vl_number) spots = subst (λ k. AllWritable w Word k spots) (sym count) (all-writable own good store.func n few x y pixel can small) in
+          let writable : AllWritable w Word (f vl_number) spots = subst (λ k. AllWritable w Word k spots) (sym count) (all-writable own good store.func n few x y pixel can small are_run) in
           let where-is : (k : ℕ) → k < f vl_number → lanes.add 32 (f 13) (f (lane (slot group 1) k)) ≡ spots k = λ k b. places k (omega (arith, b, count)) in
           let left-is : stored_lanes memory Word (f vl_number) spots (λ k. f (lane (slot group 0) k)) ≡ stored_lanes memory Word n spots pixel =
           ap (λ k. stored_lanes memory Word k spots (λ k. f (lane (slot group 0) k))) count ∙ lanes-same memory n spots (λ k. f (lane (slot group 0) k)) pixel values in

@@ -9,15 +9,15 @@ use Rattle.loop_ir.specs.Counters.{Values}
 use Rattle.loop_ir.specs.Rounds.{may_be_at_once}
 use Rattle.loop_ir.specs.Running.{run}
 use Rattle.scalar_code.specs.Evaluation.{Knows}
-use Rattle.scalar_code.specs.Doing.{Setting, IsSetting, SoundIn, HoldsFuncs, Done, stored_points}
+use Rattle.scalar_code.specs.Doing.{Setting, IsSetting, SoundIn, RunsIn, HoldsFuncs, Done, stored_points}
 use Rattle.lane_code.specs.declared.groups.Group.{Group}
 use Rattle.round_code.specs.Rounds.{rounds_code, rounds_turns, rounds_fit}
 
--- a vectorized loop that fits, whose rounds may be done at once however loads are answered
+-- a vectorized loop that fits, whose rounds may be done at once however loads are answered, and store in runs where the setting asks for that
 abbrev pub LoopsAreDoneAtOnce : Type 0
 LoopsAreDoneAtOnce =
     (own : Setting) → IsSetting own → (group : Group) (counter : Counter) (count : ℕ) (body : Stmt) (scope : List Counter) (values : Values)
-    → rounds_fit group own.places scope counter count body ≡ true → SoundIn own (For counter count Vectorized body) values
+    → rounds_fit group own.places scope counter count body ≡ true → SoundIn own (For counter count Vectorized body) values → RunsIn own (For counter count Vectorized body) values
     → (f : ℕ → ℕ) (memory : List ℕ) (funcs : Planes) → may_be_at_once (reads_of own.inputs funcs) (For counter count Vectorized body) values ≡ true
     → HoldsFuncs own memory funcs → Knows own.world own.harts scope values f
     → Done own (rounds_code group own.places scope counter count body) (rounds_turns group own.places scope counter body values) scope values f memory
