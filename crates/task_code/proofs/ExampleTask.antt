@@ -171,12 +171,12 @@ may-store : (task : ℕ) → task < 2 → MayStore (example_world task) example_
 may-store zero l = record {
   are_words = refl;
   low = omega arith;
-  may = record { aligned = refl; above = omega arith; below = omega arith; may = (refl, (refl, (refl, (refl, tt)))); keeps = λ address other is owns. refl };
+  may = record { aligned = refl; above = omega arith; below = omega arith; may = (refl, (refl, (refl, (refl, tt)))) };
 }
 may-store (suc zero) l = record {
   are_words = refl;
   low = omega arith;
-  may = record { aligned = refl; above = omega arith; below = omega arith; may = (refl, (refl, (refl, (refl, tt)))); keeps = λ address other is owns. refl };
+  may = record { aligned = refl; above = omega arith; below = omega arith; may = (refl, (refl, (refl, (refl, tt)))) };
 }
 may-store (suc (suc n)) l = absurd (omega (arith, l))
 
@@ -233,7 +233,7 @@ module _ (task : ℕ) (small : task < 2) where
   }
 
   at-once-are : MayBeWrittenAtOnce (example_setting task)
-  at-once-are n func x y is = λ address owner there owned. are-words _ n (words-long 0 n (λ k. address_of (example_world task) example_places (func_point func (x k) (y k))))
+  at-once-are n func x y is runs = λ address owner there owned. are-words _ n (words-long 0 n (λ k. address_of (example_world task) example_places (func_point func (x k) (y k))))
 
   good : IsSetting (example_setting task)
   good = record { are_places = are-places; laid = laid-is; have = λ func x y is. is; are_words = λ place x y lx ly. omega arith; at_once = at-once-are }
@@ -255,7 +255,7 @@ module _ (task : ℕ) (small : task < 2) where
 
 pub example-done : ExampleIsDone
 example-done task f small drawn =
-    let a = tasks-done (example_setting task) (good task small) example_phase example_ticket task fits-is (omega arith) (omega (arith, small)) (sound-is task small) (once-is task small) f example_data nothing (holds-nothing task small) drawn in
+    let a = tasks-done (example_setting task) (good task small) example_phase example_ticket task fits-is (omega arith) (omega (arith, small)) (sound-is task small) (once-is task small) (λ funcs are func runs. absurd (true≢false (sym runs))) (λ func runs. absurd (true≢false (sym runs))) f example_data nothing (holds-nothing task small) drawn in
     let path : Path (example_world task) 65536 (end 65536 (task_code example_phase example_places example_ticket)) (task_turns example_phase example_places example_ticket task) f example_data a.after a.left = a.block 65536 stands in
     let ended : Path (example_world task) 65536 65680 (task_turns example_phase example_places example_ticket task) f example_data a.after a.left =
     subst (λ code. Path (example_world task) 65536 (end 65536 code) (task_turns example_phase example_places example_ticket task) f example_data a.after a.left) code-is path in

@@ -78,10 +78,10 @@ module _ (w : World) (m : List ℕ) (l : length m ≡ w.size) where
 -- ---- a task
 
 pub tasks-done : TasksAreDone
-tasks-done own good phase ticket task fit lt ls sound once f memory funcs holds drawn =
+tasks-done own good phase ticket task fit lt ls sound once runs whole f memory funcs holds drawn =
     let k = and_parts (fits own.places phase.body (task_scope phase.counter)) (is_word phase.tasks) fit in
     let knows = knows-drawn own.world own.harts task ls phase.counter f drawn.none drawn.number drawn.all drawn.drawn in
-    let a = statements-done own good phase.body (task_scope phase.counter) (task_values phase.counter task) k.0 sound once f memory funcs holds knows in
+    let a = statements-done own good phase.body (task_scope phase.counter) (task_values phase.counter task) k.0 sound once runs whole f memory funcs holds knows in
     let body = stmt_code own.places phase.body (task_scope phase.counter) in
     let turns = stmt_turns own.places phase.body (task_scope phase.counter) (task_values phase.counter task) in
     let ends = restored ticket phase.tasks in

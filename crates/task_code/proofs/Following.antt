@@ -1,7 +1,8 @@
 -- The code of a statement does the statement.
 use Rattle.std.proofs.Common.{◌≡◌, ℕ, zero, suc, ◌+◌, ◌^◌, ◌<◌, List, ◌∷◌, length, Bool, true, false, refl, ap, ◌∙◌, sym, subst, arith}
 use Rattle.std.specs.Prelude.{◌⊎◌, ◌==◌, ◌&&◌, ◌||◌, not, if◌then◌else◌, nat_lt, Option, Some, None}
-use Rattle.std.proofs.lemmas.Bool.{and_parts, or_cases, true≢false}
+use Rattle.std.specs.Option.{is_some}
+use Rattle.std.proofs.lemmas.Bool.{and_parts, or_cases, true≢false, not-true, eq-eqb}
 use Rattle.std.proofs.lemmas.Bool.Decides.{nat_tests}
 use Rattle.rv_insn.specs.declared.instructions.Insn.{Insn}
 use Rattle.halide_meaning.specs.Pixel.{Planes, reads_of}
@@ -18,6 +19,8 @@ use Rattle.loop_ir.specs.declared.statements.LoopKind.TheVariants as kinds
 use Rattle.loop_ir.specs.Counters.{Values, with}
 use Rattle.loop_ir.specs.Rounds.{Rounds, rounds, are_apart, all_step_up, is_round_count, is_vectorized, may_be_at_once}
 use Rattle.loop_ir.proofs.Rounds.{rounds_sequence, rounds_for, rounds_bind}
+use Rattle.loop_ir.specs.Runs.{Runs, runs, are_same, stores_in_runs}
+use Rattle.loop_ir.proofs.Runs.{runs_store, runs_sequence, runs_for, runs_bind}
 use Rattle.loop_ir.specs.Expressions.{value}
 use Rattle.loop_ir.specs.Running.{run, turns, whole_value}
 use Rattle.loop_ir.specs.Sizes.{are_copies, is_laid_out}
@@ -31,8 +34,9 @@ use Rattle.scalar_code.specs.Fitting.{is_word, has_seat, fits_whole, total}
 use Rattle.task_code.specs.Code.{stmt_turns}
 use Rattle.task_code.specs.Fitting.{fits}
 use Rattle.scalar_code.specs.Layout.{AreWords}
-use Rattle.scalar_code.specs.Doing.{Setting, IsSetting, SoundIn, HoldsFuncs, stored_points}
-use Rattle.task_code.specs.Doing.{AtOnceIn, StatementsAreDone}
+use Rattle.scalar_code.specs.Doing.{Setting, IsSetting, SoundIn, RunsIn, HoldsFuncs, stored_points}
+use Rattle.task_code.specs.Doing.{AtOnceIn, WholeIn, StatementsAreDone}
+use Rattle.task_code.specs.Whole.{are_whole}
 use Rattle.scalar_code.proofs.Keeping.{knows-still}
 use Rattle.scalar_code.proofs.Going.{Hits, hits_if, Does, went-hits, went-is, does-then}
 use Rattle.scalar_code.proofs.Tracing.{hit, made, hit_before, hit-store, hit-sequence, hit-for, hit-first, hit-later, hit-bind}
@@ -46,6 +50,7 @@ use Rattle.lane_code.specs.declared.groups.Group.{Group}
 use Rattle.task_code.specs.Code.{code_taken, turns_taken, group_taken}
 use Rattle.task_code.proofs.Taking.{IsTaken, is-taken}
 use Rattle.task_code.proofs.Unrolled.{in_turn, turns_in_turn, code-store, code-sequence, code-for, code-bind, fits-store, fits-sequence, fits-for, fits-bind, turns-store, turns-sequence, turns-for, turns-bind}
+use Rattle.task_code.proofs.Wholes.{whole-sequence, whole-for, whole-bind}
 
 below : (n k : ℕ) → nat_lt n k ≡ true → n < k
 below n k t = grind (arith, nat_tests)
@@ -71,6 +76,7 @@ module _ (own : Setting) (good : IsSetting own) where
 
   abbrev Follows : Stmt → Type 0
   Follows statement = (scope : List Counter) (values : Values) → fits own.places statement scope ≡ true → SoundIn own statement values → AtOnceIn own statement values
+      → RunsIn own statement values → WholeIn own statement scope
       → (f : ℕ → ℕ) (memory : List ℕ) (funcs : Planes) → HoldsFuncs own memory funcs → Knows own.world own.harts scope values f
       → Does own (stmt_code own.places statement scope) (stmt_turns own.places statement scope values) f memory (length scope) (after statement values funcs) (hits statement values funcs)
 
@@ -78,25 +84,41 @@ module _ (own : Setting) (good : IsSetting own) where
   recoded : {code other : List Insn} {n : ℕ} {f : ℕ → ℕ} {memory : List ℕ} {depth : ℕ} {funcs : Planes} {points : Hits} → code ≡ other → Does own code n f memory depth funcs points → Does own other n f memory depth funcs points
   recoded {code} {other} {n} {f} {memory} {depth} {funcs} {points} e a = subst (λ c. Does own c n f memory depth funcs points) e a
 
+  -- A single store is of no Func that is stored in runs.
+  is-single : (store : Store) (values : Values) → RunsIn own (s.Store store) values → (funcs : Planes) → AreWords funcs → own.in_runs store.func ≡ false
+  is-single store values sure funcs words = by-test (own.in_runs store.func) refl
+    where
+      by-test : (t : Bool) → own.in_runs store.func ≡ t → own.in_runs store.func ≡ false
+      by-test true e =
+          let r = reads_of own.inputs funcs in
+          let k = sym (ap (λ (a : Runs). a.are_runs values) (runs_store r store.func 0 0 (own.run store.func 0 0) store)) ∙ sure funcs words store.func e 0 0 in
+          absurd (true≢false (sym (eq-eqb store.func store.func refl) ∙ not-true (store.func == store.func) k))
+      by-test false e = e
+
   at-store : (store : Store) → Follows (s.Store store)
-  at-store store scope values is sound once f memory funcs holds knows =
+  at-store store scope values is sound once sure whole f memory funcs holds knows =
       let reads = reads_of own.inputs funcs in
       let a = store-does own good scope values store f memory funcs (sym (fits-store own.places store scope) ∙ is)
-      (sym (sound_store reads own.written own.loaded store values) ∙ sound funcs holds.are_words) holds knows in
+      (sym (sound_store reads own.written own.loaded store values) ∙ sound funcs holds.are_words) (is-single store values sure funcs holds.are_words) holds knows in
       recoded (sym (code-store own.places store scope))
       (went-hits own (λ func x y h. equal-parts store.func func (value reads values store.x) x (value reads values store.y) y (sym (hit-store own.points own.inputs func x y store values funcs) ∙ h))
       (went-is own (sym (turns-store own.places store scope values)) (sym (run_store own.points own.inputs store values funcs)) a))
 
   at-sequence : (first second : Stmt) → Follows first → Follows second → Follows (s.Sequence first second)
-  at-sequence first second one two scope values is sound once f memory funcs holds knows =
+  at-sequence first second one two scope values is sound once sure whole f memory funcs holds knows =
       let k = and_parts (fits own.places first scope) (fits own.places second scope) (sym (fits-sequence own.places first second scope) ∙ is) in
       let parts = λ (p : Planes) (words : AreWords p). and_parts (is_sound (reads_of own.inputs p) own.written own.loaded first values) (is_sound (reads_of own.inputs p) own.written own.loaded second values)
       (sym (sound_sequence (reads_of own.inputs p) own.written own.loaded first second values) ∙ sound p words) in
       let times = λ (p : Planes) (words : AreWords p). and_parts (may_be_at_once (reads_of own.inputs p) first values) (may_be_at_once (reads_of own.inputs p) second values)
       (sym (ap (λ (r : Rounds). r.may_be_at_once values) (rounds_sequence (reads_of own.inputs p) first second)) ∙ once p words) in
-      let a = one scope values k.0 (λ p words. (parts p words).0) (λ p words. (times p words).0) f memory funcs holds knows in
+      let stores = λ (p : Planes) (words : AreWords p) (func : ℕ) (in_runs : own.in_runs func ≡ true) (x y : ℕ).
+      and_parts (stores_in_runs (reads_of own.inputs p) func x y (own.run func x y) first values) (stores_in_runs (reads_of own.inputs p) func x y (own.run func x y) second values)
+      (sym (ap (λ (r : Runs). r.are_runs values) (runs_sequence (reads_of own.inputs p) func x y (own.run func x y) first second)) ∙ sure p words func in_runs x y) in
+      let wholes = λ (func : ℕ) (in_runs : own.in_runs func ≡ true). and_parts (are_whole own.places func first scope) (are_whole own.places func second scope)
+      (sym (whole-sequence own.places func first second scope) ∙ whole func in_runs) in
+      let a = one scope values k.0 (λ p words. (parts p words).0) (λ p words. (times p words).0) (λ p words func in_runs x y. (stores p words func in_runs x y).0) (λ func in_runs. (wholes func in_runs).0) f memory funcs holds knows in
       let middle = after first values funcs in
-      let b = two scope values k.1 (λ p words. (parts p words).1) (λ p words. (times p words).1) a.after a.left middle a.holds (knows-still own.world own.harts scope values f a.after knows a.keeps) in
+      let b = two scope values k.1 (λ p words. (parts p words).1) (λ p words. (times p words).1) (λ p words func in_runs x y. (stores p words func in_runs x y).1) (λ func in_runs. (wholes func in_runs).1) a.after a.left middle a.holds (knows-still own.world own.harts scope values f a.after knows a.keeps) in
       recoded (sym (code-sequence own.places first second scope))
       (went-hits own (λ func x y h. or_cases (hit own.points own.inputs func x y first values funcs) (hit own.points own.inputs func x y second values middle) (sym (hit-sequence own.points own.inputs func x y first second values funcs) ∙ h))
       (went-is own (sym (turns-sequence own.places first second scope values)) (sym (run_sequence own.points own.inputs first second values funcs)) (does-then own a b)))
@@ -117,12 +139,41 @@ module _ (own : Setting) (good : IsSetting own) where
         by-kind true = laid-does own scope values few counter n small code t one body_hits does points none more f memory funcs holds knows
         by-kind false = loop-does own scope values few counter n small code t one body_hits does points none more f memory funcs holds knows
 
+  -- the loop is none of a Func that is stored in runs
+  module _ (counter : Counter) (count : ℕ) (kind : LoopKind) (body : Stmt) (scope : List Counter) (values : Values) (sure : RunsIn own (s.For counter count kind body) values)
+      (whole : WholeIn own (s.For counter count kind body) scope) (none : group_taken own.places scope counter count kind body (in_turn own.places scope counter count kind body) ≡ None) where
+    abbrev asked : ℕ → Bool
+    asked func = is_vectorized kind && counter.func == func
+
+    abbrev taken : Option Group
+    taken = group_taken own.places scope counter count kind body (in_turn own.places scope counter count kind body)
+
+    another : (func : ℕ) → own.in_runs func ≡ true → asked func ≡ false
+    another func is = by-test (asked func) refl (sym (whole-for own.places func counter count kind body scope) ∙ whole func is)
+      where
+        by-test : (t : Bool) → asked func ≡ t → (if t then is_some taken else are_whole own.places func body (counter ∷ scope)) ≡ true → asked func ≡ false
+        by-test true e k = absurd (true≢false (sym k ∙ ap is_some none))
+        by-test false e k = e
+
+    turns-whole : WholeIn own body (counter ∷ scope)
+    turns-whole func is =
+        sym (ap (λ t. if t then is_some taken else are_whole own.places func body (counter ∷ scope)) (another func is)) ∙ sym (whole-for own.places func counter count kind body scope) ∙ whole func is
+
+    turns-run : (i : ℕ) → i < count → RunsIn own body (with counter i values)
+    turns-run i l p words func is x y =
+        let r = runs (reads_of own.inputs p) func x y (own.run func x y) body in
+        each-turn count (λ turn. r.are_runs (with counter turn values))
+        (sym (ap (λ t. if t then are_same (every count (λ round. r.misses (with counter round values))) (not (own.run func x y values)) else every count (λ turn. r.are_runs (with counter turn values))) (another func is))
+        ∙ sym (ap (λ (a : Runs). a.are_runs values) (runs_for (reads_of own.inputs p) func x y (own.run func x y) counter count kind body)) ∙ sure p words func is x y) i l
+
   -- a loop's rounds in turn
   in-turn : (counter : Counter) (count : ℕ) (kind : LoopKind) (body : Stmt) → Follows body → (scope : List Counter) (values : Values) → fits own.places (s.For counter count kind body) scope ≡ true
       → SoundIn own (s.For counter count kind body) values → AtOnceIn own (s.For counter count kind body) values
+      → RunsIn own (s.For counter count kind body) values → WholeIn own (s.For counter count kind body) scope
+      → group_taken own.places scope counter count kind body (in_turn own.places scope counter count kind body) ≡ None
       → (f : ℕ → ℕ) (memory : List ℕ) (funcs : Planes) → HoldsFuncs own memory funcs → Knows own.world own.harts scope values f
       → Does own (in_turn own.places scope counter count kind body) (turns_in_turn own.places scope counter count kind body values) f memory (length scope) (after (s.For counter count kind body) values funcs) (hits (s.For counter count kind body) values funcs)
-  in-turn counter count kind body inner scope values is sound once f memory funcs holds knows =
+  in-turn counter count kind body inner scope values is sound once sure whole none f memory funcs holds knows =
       let k = and_parts (has_seat scope) (is_word count && fits own.places body (counter ∷ scope)) (sym (fits-for own.places counter count kind body scope) ∙ is) in
       let j = and_parts (is_word count) (fits own.places body (counter ∷ scope)) k.1 in
       let at : ℕ → Values = λ turn. with counter turn values in
@@ -133,7 +184,7 @@ module _ (own : Setting) (good : IsSetting own) where
       (sym (ap (λ (r : Rounds). r.may_be_at_once values) (rounds_for (reads_of own.inputs p) counter count kind body)) ∙ once p words)).1 i l in
       let a = turns-done (is_laid_out kind) scope values (below (length scope) 14 k.0) counter count (below count (2 ^ 32) j.0) (stmt_code own.places body (counter ∷ scope))
       (λ i. stmt_turns own.places body (counter ∷ scope) (at i)) (λ i p. after body (at i) p) (λ i p. hits body (at i) p)
-      (λ i g m p l o kn. inner (counter ∷ scope) (at i) j.1 (λ q words. each i l q words) (λ q words. each-once i l q words) g m p o kn)
+      (λ i g m p l o kn. inner (counter ∷ scope) (at i) j.1 (λ q words. each i l q words) (λ q words. each-once i l q words) (turns-run counter count kind body scope values sure whole none i l) (turns-whole counter count kind body scope values sure whole none) g m p o kn)
       (λ n p func x y. hit_before own.points own.inputs func x y body at n p ≡ true)
       (λ p func x y h. true≢false (sym h ∙ hit-first own.points own.inputs func x y body at p))
       (λ n p func x y h. or_cases (hit_before own.points own.inputs func x y body at n p) (hit own.points own.inputs func x y body (at n) (made own.points own.inputs func x y body at n p))
@@ -145,30 +196,31 @@ module _ (own : Setting) (good : IsSetting own) where
   -- its rounds at once
   rounds-at-once : (counter : Counter) (count : ℕ) (body : Stmt) (scope : List Counter) (values : Values) (f : ℕ → ℕ) (memory : List ℕ) (funcs : Planes) → HoldsFuncs own memory funcs → Knows own.world own.harts scope values f
       → (group : Group) (kind : LoopKind) → kind ≡ kinds.Vectorized → rounds_fit group own.places scope counter count body ≡ true → SoundIn own (s.For counter count kind body) values → AtOnceIn own (s.For counter count kind body) values
+      → RunsIn own (s.For counter count kind body) values
       → Does own (rounds_code group own.places scope counter count body) (rounds_turns group own.places scope counter body values) f memory (length scope) (after (s.For counter count kind body) values funcs) (hits (s.For counter count kind body) values funcs)
-  rounds-at-once counter count body scope values f memory funcs holds knows group kinds.Serial e fit sound once = absurd (cc e)
-  rounds-at-once counter count body scope values f memory funcs holds knows group kinds.Unrolled e fit sound once = absurd (cc e)
-  rounds-at-once counter count body scope values f memory funcs holds knows group kinds.Vectorized e fit sound once = rounds-done own good group counter count body scope values fit sound f memory funcs (once funcs holds.are_words) holds knows
+  rounds-at-once counter count body scope values f memory funcs holds knows group kinds.Serial e fit sound once sure = absurd (cc e)
+  rounds-at-once counter count body scope values f memory funcs holds knows group kinds.Unrolled e fit sound once sure = absurd (cc e)
+  rounds-at-once counter count body scope values f memory funcs holds knows group kinds.Vectorized e fit sound once sure = rounds-done own good group counter count body scope values fit sound sure f memory funcs (once funcs holds.are_words) holds knows
 
   -- at once, or in turn
   at-for : (counter : Counter) (count : ℕ) (kind : LoopKind) (body : Stmt) → Follows body → Follows (s.For counter count kind body)
-  at-for counter count kind body inner scope values is sound once f memory funcs holds knows =
+  at-for counter count kind body inner scope values is sound once sure whole f memory funcs holds knows =
       recoded (sym (code-for own.places counter count kind body scope))
       (went-is own (sym (turns-for own.places counter count kind body scope values)) refl
       (by-group (group_taken own.places scope counter count kind body (in_turn own.places scope counter count kind body)) (is-taken own.places scope counter count body kind (in_turn own.places scope counter count kind body))
-      (λ group k. rounds-at-once counter count body scope values f memory funcs holds knows group kind k.kind_is k.fits sound once) (in-turn counter count kind body inner scope values is sound once f memory funcs holds knows)))
+      (λ group k. rounds-at-once counter count body scope values f memory funcs holds knows group kind k.kind_is k.fits sound once sure) (λ none. in-turn counter count kind body inner scope values is sound once sure whole none f memory funcs holds knows)))
     where
       by-group : (taken : Option Group) → ((group : Group) → taken ≡ Some group → IsTaken own.places scope counter count body kind group)
           → ((group : Group) → IsTaken own.places scope counter count body kind group
           → Does own (rounds_code group own.places scope counter count body) (rounds_turns group own.places scope counter body values) f memory (length scope) (after (s.For counter count kind body) values funcs) (hits (s.For counter count kind body) values funcs))
-          → Does own (in_turn own.places scope counter count kind body) (turns_in_turn own.places scope counter count kind body values) f memory (length scope) (after (s.For counter count kind body) values funcs) (hits (s.For counter count kind body) values funcs)
+          → (taken ≡ None → Does own (in_turn own.places scope counter count kind body) (turns_in_turn own.places scope counter count kind body values) f memory (length scope) (after (s.For counter count kind body) values funcs) (hits (s.For counter count kind body) values funcs))
           → Does own (code_taken own.places scope counter count body (in_turn own.places scope counter count kind body) taken)
           (turns_taken own.places scope counter body values (turns_in_turn own.places scope counter count kind body values) taken) f memory (length scope) (after (s.For counter count kind body) values funcs) (hits (s.For counter count kind body) values funcs)
-      by-group None facts at_once does = does
+      by-group None facts at_once does = does refl
       by-group (Some group) facts at_once does = at_once group (facts group refl)
 
   at-bind : (counter : Counter) (whole : Whole) (extent : ℕ) (body : Stmt) → Follows body → Follows (s.Bind counter whole extent body)
-  at-bind counter whole extent body inner scope values is sound once f memory funcs holds knows = by-test (nat_lt (whole_value whole values) extent) refl
+  at-bind counter whole extent body inner scope values is sound once sure all_whole f memory funcs holds knows = by-test (nat_lt (whole_value whole values) extent) refl
     where
       entered : Values
       entered = with counter (whole_value whole values) values
@@ -190,7 +242,10 @@ module _ (own : Setting) (good : IsSetting own) where
           (stmt_turns own.places body (counter ∷ scope) entered) (λ p. after body entered p) (λ p. hits body entered p) (f 15)
           (λ so g m p o kn _ _ _. inner (counter ∷ scope) entered j.1
           (λ q words. sym (ap (λ b. if b then is_sound (reads_of own.inputs q) own.written own.loaded body entered else true) so) ∙ sym (sound_bind (reads_of own.inputs q) own.written own.loaded counter whole extent body values) ∙ sound q words)
-          (λ q words. sym (ap (λ b. if b then may_be_at_once (reads_of own.inputs q) body entered else true) so) ∙ sym (ap (λ (r : Rounds). r.may_be_at_once values) (rounds_bind (reads_of own.inputs q) counter whole extent body)) ∙ once q words) g m p o kn)
+          (λ q words. sym (ap (λ b. if b then may_be_at_once (reads_of own.inputs q) body entered else true) so) ∙ sym (ap (λ (r : Rounds). r.may_be_at_once values) (rounds_bind (reads_of own.inputs q) counter whole extent body)) ∙ once q words)
+          (λ q words func in_runs x y. sym (ap (λ b. if b then stores_in_runs (reads_of own.inputs q) func x y (own.run func x y) body entered else true) so)
+          ∙ sym (ap (λ (r : Runs). r.are_runs values) (runs_bind (reads_of own.inputs q) func x y (own.run func x y) counter whole extent body)) ∙ sure q words func in_runs x y)
+          (λ func in_runs. sym (whole-bind own.places func counter whole extent body scope) ∙ all_whole func in_runs) g m p o kn)
           t e f memory funcs holds knows refl in
           recoded (sym (code-bind own.places counter whole extent body scope))
           (went-hits own (λ func x y h. chosen t func x y
@@ -208,8 +263,8 @@ module _ (own : Setting) (good : IsSetting own) where
   follows = ind-Stmt Follows (λ l t is. subst (λ (k : Stmt-F Stmt). Follows (roll-Stmt k)) is (by-layer _ (λ e. e.0) (λ e. e.1) t))
 
 pub statements-done : StatementsAreDone
-statements-done own good statement scope values is sound once f memory funcs holds knows =
-    let a = follows own good statement scope values is sound once f memory funcs holds knows in
+statements-done own good statement scope values is sound once runs whole f memory funcs holds knows =
+    let a = follows own good statement scope values is sound once runs whole f memory funcs holds knows in
     record {
       after = a.after;
       left = a.left;

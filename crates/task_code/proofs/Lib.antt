@@ -9,3 +9,4 @@ pub mod Seating
 pub mod StmtRefusing
 pub mod Taking
 pub mod Unrolled
+pub mod Wholes

@@ -6,3 +6,4 @@ pub mod Fitting
 pub mod Lengths
 pub mod Taking
 pub mod Tasks
+pub mod Whole
