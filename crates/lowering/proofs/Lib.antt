@@ -52,6 +52,7 @@ pub mod PureRounds
 pub mod TaskRounds
 pub mod HostRounds
 pub mod RunHosts
+pub mod RunLists
 pub mod Copies
 pub mod Sizes
 pub mod Shares

@@ -167,7 +167,7 @@ small_with id n values few are other = by_test (same_id other id)
 
 -- ---- lists
 
-contains_upto : {A : Type 0} (x : A) (n k : ℕ) (f : ℕ → List A) → k < n → Contains (f k) x → Contains (upto n f) x
+pub contains_upto : {A : Type 0} (x : A) (n k : ℕ) (f : ℕ → List A) → k < n → Contains (f k) x → Contains (upto n f) x
 unfolding upto
 contains_upto x zero k f l there = absurd (omega arith)
 contains_upto {A} x (suc n) k f l there = elim (cases_eq k n) [

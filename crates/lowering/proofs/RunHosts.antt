@@ -35,12 +35,13 @@ use Rattle.nest_lowering.specs.Rounds.{IsLeaf, is_vectorized_loop}
 use Rattle.nest_lowering.proofs.Rounds.{turns_more}
 use Rattle.lowering.specs.Hosting.{hosting, in_runs_first, IsNestAt, IsNestOf, HasNests, None_left, One_more, HasLoops, No_loops, One_outside, HasOutermost}
 use Rattle.lowering.specs.PurePhases.{MissesPure, whole_at}
-use Rattle.lowering.specs.Runs.{innermost, outside_innermost, are_turns, is_in_run, is_vectorized_first}
+use Rattle.lowering.specs.Runs.{innermost, outside_innermost, turns_of, run_of, are_turns, is_in_run, is_vectorized_first}
 use Rattle.lowering.proofs.Facts.{hosted_before}
 use Rattle.lowering.proofs.Filling.{loops_hosting}
 use Rattle.lowering.proofs.HostRounds.{no_nests, none_hosted, later_plain, no_loops_is}
 use Rattle.lowering.proofs.Lists.{all_upto, any_map}
 use Rattle.lowering.proofs.LoopTurns.{hosting_with, small_with}
+use Rattle.lowering.proofs.RunLists.{one_more}
 use Rattle.lowering.proofs.StoredHosts.{x_of, y_of, AreWords, is_at, whole_put}
 
 -- ---- tests
@@ -149,18 +150,20 @@ module _ (pipeline : Pipeline) (schedule : Schedule) (boxes : Boxes) (accepted :
         ∙ ap (λ (ls : List Loop). are_turns counts (outside_innermost ls) turned) loops_are
         ∙ turns_pass counts outside turned are
 
-    -- what is expected of a run is what the innermost loop lists
-    expected_is : (own : Loop) (outside : List Loop) → stage.loops ≡ own ∷ outside → (turned : loops.Values) → AreTurns counts outside turned → expected (hosting host turned) ≡ list_any (is_at x y) (listed (own ∷ []) turned)
-    expected_is own outside loops_are turned are =
-        ap (λ (b : Bool). b && list_any (is_slice x y) (nest counts (innermost stage.loops) (over_loops extents plan.pure.splits (λ whole. visit_of extents whole ∷ [])) (loops_of host (hosting host turned))))
-        (in_turns own outside loops_are turned are)
-        ∙ ap (λ (t : loops.Values). list_any (is_slice x y) (nest counts (innermost stage.loops) (over_loops extents plan.pure.splits (λ whole. visit_of extents whole ∷ [])) t)) (loops_hosting host turned)
-        ∙ ap (λ (ls : List Loop). list_any (is_slice x y) (nest counts (innermost ls) (over_loops extents plan.pure.splits (λ whole. visit_of extents whole ∷ [])) turned)) loops_are
+    -- what is expected of a run is what the innermost loop lists, where no other loop has begun
+    expected_is : (own : Loop) (outside : List Loop) → stage.loops ≡ own ∷ outside → (turned : loops.Values) → AreTurns counts outside turned → turned ≡ turns_of outside turned
+        → expected (hosting host turned) ≡ list_any (is_at x y) (listed (own ∷ []) turned)
+    expected_is own outside loops_are turned are alone =
+        ap (λ (b : Bool). b && list_any (is_slice x y) (run_of extents plan.pure (loops_of host (hosting host turned)))) (in_turns own outside loops_are turned are)
+        ∙ ap (λ (t : loops.Values). list_any (is_slice x y) (run_of extents plan.pure t)) (loops_hosting host turned)
+        ∙ ap (λ (ls : List Loop). list_any (is_slice x y) (nest counts (innermost ls) (over_loops extents plan.pure.splits (λ whole. visit_of extents whole ∷ [])) (turns_of (outside_innermost ls) turned))) loops_are
+        ∙ ap (λ (t : loops.Values). list_any (is_slice x y) (nest counts (own ∷ []) (over_loops extents plan.pure.splits (λ whole. visit_of extents whole ∷ [])) t)) (sym alone)
         ∙ ap (list_any (is_slice x y)) (visits_of_wholes extents plan.pure.splits (own ∷ []) turned)
         ∙ any_map (is_slice x y) (visit_of extents) (listed (own ∷ []) turned)
 
     -- the vectorized loop
-    module _ (own : Loop) (outside : List Loop) (loops_are : stage.loops ≡ own ∷ outside) (turned : loops.Values) (small : AreSmall turned) (are : AreTurns counts outside turned) (words : AllByRecursion AreWords (listed (own ∷ []) turned)) where
+    module _ (own : Loop) (outside : List Loop) (loops_are : stage.loops ≡ own ∷ outside) (turned : loops.Values) (small : AreSmall turned) (are : AreTurns counts outside turned) (alone : turned ≡ turns_of outside turned)
+        (words : AllByRecursion AreWords (listed (own ∷ []) turned)) where
       abbrev lists : ℕ → List loops.Values
       lists turn = listed [] (loops.with own.id turn turned)
 
@@ -172,7 +175,7 @@ module _ (pipeline : Pipeline) (schedule : Schedule) (boxes : Boxes) (accepted :
       pub vector_runs : are_same (every (counts own.id) (λ round. missed leaf (with (record { func = host; id = own.id }) round (hosting host turned)))) (not (expected (hosting host turned))) ≡ true
       vector_runs =
           ap (λ (b : Bool). are_same b (not (expected (hosting host turned)))) (every_misses (counts own.id) (counts own.id) (omega arith) (λ round. missed leaf (with (record { func = host; id = own.id }) round (hosting host turned))) (is_at x y) lists round_misses)
-          ∙ ap (λ (b : Bool). are_same (not (list_any (is_at x y) (listed (own ∷ []) turned))) (not b)) (expected_is own outside loops_are turned are)
+          ∙ ap (λ (b : Bool). are_same (not (list_any (is_at x y) (listed (own ∷ []) turned))) (not b)) (expected_is own outside loops_are turned are alone)
           ∙ same_as_itself (not (list_any (is_at x y) (listed (own ∷ []) turned)))
 
     behind : (ls : List Loop) (own : Loop) (outside : List Loop) → (ls ++ own ∷ []) ++ outside ≡ ls ++ own ∷ outside
@@ -187,13 +190,13 @@ module _ (pipeline : Pipeline) (schedule : Schedule) (boxes : Boxes) (accepted :
         by_test false e = refl
 
     pub loops_run : (inside : List Loop) (made : Stmt) → HasLoops pipeline schedule boxes host counts leaf inside made → (outside : List Loop) → stage.loops ≡ inside ++ outside → is_vectorized_first inside ≡ true
-        → (turned : loops.Values) → AreSmall turned → AreTurns counts outside turned → AllByRecursion AreWords (listed inside turned) → Runs made turned
-    loops_run _ _ No_loops outside loops_are first turned small are words = absurd (true≢false (sym first))
-    loops_run _ made (One_outside inside mid inner body _ within nested does around run_around) outside loops_are first turned small are words =
+        → (turned : loops.Values) → AreSmall turned → AreTurns counts outside turned → turned ≡ turns_of outside turned → AllByRecursion AreWords (listed inside turned) → Runs made turned
+    loops_run _ _ No_loops outside loops_are first turned small are resting words = absurd (true≢false (sym first))
+    loops_run _ made (One_outside inside mid inner body _ within nested does around run_around) outside loops_are first turned small are resting words =
         by_inside inside within refl
         (λ first_in turn below words_in.
         loops_run inside inner within (mid ∷ outside) here first_in (loops.with mid.id turn turned) (small_with mid.id turn turned (omega (arith, below, few mid.id)) small)
-        (turns_more counts mid turn below outside turned are) words_in)
+        (turns_more counts mid turn below outside turned are) (ap (loops.with mid.id turn) resting ∙ one_more mid outside turn turned) words_in)
       where
         here : stage.loops ≡ inside ++ mid ∷ outside
         here = loops_are ∙ behind inside mid outside
@@ -208,7 +211,7 @@ module _ (pipeline : Pipeline) (schedule : Schedule) (boxes : Boxes) (accepted :
             let body_is = no_nests pipeline schedule boxes (record { func = host; inside = mid.id }) (none_hosted pipeline schedule boxes accepted host func plan plan_is extents is kept few leaf store bound store_is leaf_is mid outside now v) 0 inner body nested ∙ inner_is in
             run_around.vector v reads x y expected (hosting host turned)
             ∙ ap (λ (b : Stmt). are_same (every (counts mid.id) (λ round. missed b (with (record { func = host; id = mid.id }) round (hosting host turned)))) (not (expected (hosting host turned)))) body_is
-            ∙ vector_runs mid outside now turned small are (subst (λ (ls : List Loop). AllByRecursion AreWords (listed (ls ++ mid ∷ []) turned)) e words)
+            ∙ vector_runs mid outside now turned small are resting (subst (λ (ls : List Loop). AllByRecursion AreWords (listed (ls ++ mid ∷ []) turned)) e words)
         by_inside (one ∷ before) more e told =
             let now : stage.loops ≡ (one ∷ before) ++ mid ∷ outside = subst (λ (ls : List Loop). stage.loops ≡ ls ++ mid ∷ outside) e here in
             let first_in : is_vectorized_first inside ≡ true = subst (λ (ls : List Loop). is_vectorized_first ls ≡ true) (sym e) (subst (λ (ls : List Loop). is_vectorized_first (ls ++ mid ∷ []) ≡ true) e first) in

@@ -43,12 +43,13 @@ use Rattle.nest_lowering.proofs.Rounds.{turns_more}
 use Rattle.lowering.specs.Hosting.{HasLoops, HasOutermost, IsBody, hosting}
 use Rattle.lowering.specs.Planes.{box_points, owns}
 use Rattle.lowering.specs.PurePhases.{IsAtRoot, IsStoreOf, inside_of, counter_of}
-use Rattle.lowering.specs.Runs.{StoresInRuns, is_in_run, is_vectorized_first}
+use Rattle.lowering.specs.Runs.{StoresInRuns, turns_of, is_in_run, is_vectorized_first}
 use Rattle.lowering.specs.Stored.{StoresItsOwn}
 use Rattle.lowering.proofs.Covered.{parts_of}
 use Rattle.lowering.proofs.Facts.{staged, splits, few}
 use Rattle.lowering.proofs.Lists.{any_map, all_map}
 use Rattle.lowering.proofs.RunHosts as runs
+use Rattle.lowering.proofs.RunLists.{none_begun, one_more}
 use Rattle.lowering.proofs.StoredHosts.{AreWords, is_at}
 use Rattle.lowering.proofs.StoredHosts as hosts
 use Rattle.lowering.proofs.TaskRounds.{outside_of, loops_by}
@@ -165,6 +166,11 @@ module _ (pipeline : Pipeline) (schedule : Schedule) (boxes : Boxes) (rules : Is
     task_turns None l = tt
     task_turns (Some own) l = turns_more (loops.counts extents stage.splits) own number l [] zeros tt
 
+    -- and no other loop has begun
+    task_alone : (found : Option Loop) → now found ≡ turns_of (outside_of place extents stage facts.1 found) (now found)
+    task_alone None = none_begun zeros
+    task_alone (Some own) = ap (loops.with own.id number) (none_begun zeros) ∙ one_more own [] number zeros
+
     inside_first : (found : Option Loop) → parallel stage ≡ found → is_vectorized_first (inside_of found stage.loops) ≡ true
     inside_first found e = by_lists found (inside_of found stage.loops) e (loops_by place extents stage facts.1 found e)
       where
@@ -181,7 +187,7 @@ module _ (pipeline : Pipeline) (schedule : Schedule) (boxes : Boxes) (rules : Is
         (runs.loops_run pipeline schedule boxes accepted reads place x y func plan at.plan_is extents facts.0 facts.1 few_so store store_of.misses body.leaf body.bound store_is (body.leaf_is store_is) (inside_of found stage.loops) body.inner
         (subst (λ (o : Option Loop). HasLoops pipeline schedule boxes place (loops.counts extents stage.splits) body.leaf (inside_of o stage.loops) body.inner) e body.looped)
         (outside_of place extents stage facts.1 found) (loops_by place extents stage facts.1 found e) (inside_first found e) (now found) (small unread number below x y found l)
-        (task_turns found l) words_so)
+        (task_turns found l) (task_alone found) words_so)
 
     task_runs : stores_in_runs reads place x y (is_in_run extents stage place x y) phase.body (task_values phase.counter number) ≡ true
     task_runs =

@@ -3,6 +3,7 @@
 ghost use Rattle.lowering.specs.Lowered.{PhasesDoPixels, PhasesLeaveOutput};
 ghost use Rattle.lowering.specs.Order.{PhasesInOrder};
 ghost use Rattle.lowering.specs.Phases.{TasksInAnyOrder};
+ghost use Rattle.lowering.specs.Runs.{RunsAreListed};
 ghost use Rattle.lowering.specs.Using.{BuffersHaveBoxPoints, PicturesAnswerWords, RisingIsAnOrder, TurnsAreDone};
 
 /// A phase whose tasks each leave the result at the points that they own leaves it at all points, in whatever order the
@@ -46,4 +47,9 @@ pub fn buffers_have_box_points()
 /// Pictures answer words, and those that hold bytes bytes.
 pub fn pictures_answer_words()
     ensures { PicturesAnswerWords }
+{}
+
+/// The runs of a stage's vectorized loop are what the stage visits in all turns of its other loops.
+pub fn runs_are_listed()
+    ensures { RunsAreListed }
 {}
