@@ -17,7 +17,7 @@ use Rattle.reads.specs.Points.{Point}
 use Rattle.schedule.specs.declared.schedules.Schedule.{Schedule}
 use Rattle.lone_hart.specs.Uses.{Use, Fixed, Owned, Private, Task, MayRead, MayWrite}
 use Rattle.lone_hart.specs.Alone.{World}
-use Rattle.lone_hart.specs.Paths.{Readable, Writable}
+use Rattle.lone_hart.specs.Paths.{Readable, MayBeWritten}
 use Rattle.bounds.specs.declared.boxes.SourceBox.{SourceBox}
 use Rattle.bounds.specs.Boxes.{box_in, extent, points}
 use Rattle.bounds.specs.Layout.{data_start, frame_bytes, laid_in, laid_out}
@@ -207,7 +207,7 @@ module _ (pipeline : Pipeline) (schedule : Schedule) (boxes : List (Option Sourc
       ∙ root-use boxes number owners func (4 * (y * extent p.own.x + x) + byte) x y (extent p.own.x) (ap (λ b. width_in (box_in b)) p.box_is) (column-of (extent p.own.x) x y byte p.column l)
       (row-of (extent p.own.x) x y byte p.column l)
 
-  copy-byte : (func x y : ℕ) → (p : PrivatePoint pipeline schedule boxes func x y) → (byte : ℕ) → byte < 4 → uses_of (at (sources.Func func) x y + byte) ≡ Private hart
+  pub copy-byte : (func x y : ℕ) → (p : PrivatePoint pipeline schedule boxes func x y) → (byte : ℕ) → byte < 4 → uses_of (at (sources.Func func) x y + byte) ≡ Private hart
   copy-byte func x y p byte l =
       let k = y * extent p.own.x + x in
       let n = points p.own in
@@ -217,13 +217,12 @@ module _ (pipeline : Pipeline) (schedule : Schedule) (boxes : List (Option Sourc
 
   -- ---- words
 
-  writable : (a : ℕ) (part_at : ℕ → Part) (purpose : Use) → IsWordOf pipeline schedule boxes a part_at → ((byte : ℕ) → byte < 4 → uses_of (a + byte) ≡ purpose) → MayWrite (Task task) hart purpose → Writable world Word a
+  writable : (a : ℕ) (part_at : ℕ → Part) (purpose : Use) → IsWordOf pipeline schedule boxes a part_at → ((byte : ℕ) → byte < 4 → uses_of (a + byte) ≡ purpose) → MayWrite (Task task) hart purpose → MayBeWritten world Word a
   writable a part_at purpose w u may = record {
     aligned = w.aligned;
     above = w.above;
     below = w.below;
     may = four-within (λ b. MayWrite (Task task) hart (uses_of b)) a (λ byte l. subst (λ v. MayWrite (Task task) hart v) (sym (u byte l)) may);
-    keeps = λ place owner is owned. refl;
   }
 
   readable : (a : ℕ) (part_at : ℕ → Part) (purpose : Use) → IsWordOf pipeline schedule boxes a part_at → ((byte : ℕ) → byte < 4 → uses_of (a + byte) ≡ purpose) → MayRead (Task task) hart purpose → Readable world Word a

@@ -3,3 +3,4 @@ pub mod There
 pub mod Numbers
 pub mod Laying
 pub mod Holding
+pub mod Runs

@@ -1,6 +1,6 @@
 -- What memory holds before and behind a task: the inputs' pixels, and of Funcs the words at their points.
 -- This project's own.
-use Rattle.std.specs.Prelude.{◌≡◌, ◌<◌, ◌≤◌, ℕ, ◌^◌, Bool, true, List, length, slice_get, Option}
+use Rattle.std.specs.Prelude.{◌≡◌, ◌<◌, ◌≤◌, ℕ, ◌^◌, ◌==◌, ◌&&◌, Bool, true, List, length, slice_get, Option}
 use Rattle.memory.specs.Addresses.{byte_at, AreBytes, most_bytes}
 use Rattle.memory.specs.Access.{word_at}
 use Rattle.halide_pipeline.specs.declared.expressions.Source.TheVariants as sources
@@ -13,11 +13,12 @@ use Rattle.bounds.specs.declared.boxes.SourceBox.{SourceBox}
 use Rattle.lone_hart.specs.Uses.{Owned, Given}
 use Rattle.loop_ir.specs.Buffers.{Points}
 use Rattle.data_parts.specs.Parts.{Input as InputPart}
-use Rattle.scalar_code.specs.Doing.{Setting, HoldsFuncs}
+use Rattle.scalar_code.specs.Doing.{Setting, MayBeWrittenAtOnce, HoldsFuncs}
 use Rattle.scalar_code.specs.Layout.{func_point}
 use Rattle.phase_memory.specs.Uses.{Owners, input_byte, byte_in}
+use Rattle.phase_memory.specs.Runs.{RunsAreNamed}
 use Rattle.phase_memory.specs.Points.{RootPoint, part, address_at}
-use Rattle.phase_memory.specs.Settings.{OneOwner, places, size, uses, task_world, IsLoaded}
+use Rattle.phase_memory.specs.Settings.{OneOwner, places, size, uses, task_world, IsWritten, IsLoaded}
 
 module _ (pipeline : Pipeline) (schedule : Schedule) (boxes : List (Option SourceBox)) where
   -- ---- planes in memory
@@ -42,6 +43,8 @@ module _ (pipeline : Pipeline) (schedule : Schedule) (boxes : List (Option Sourc
       points = points;
       written = written;
       loaded = loaded;
+      in_runs = λ func. func == owners.func && owners.in_runs;
+      run = λ func x y values. owners.run x y values;
     }
 
     -- a task of the phase, done by a hart over data that fit
@@ -52,6 +55,12 @@ module _ (pipeline : Pipeline) (schedule : Schedule) (boxes : List (Option Sourc
       pub fits : size pipeline schedule boxes ≤ most_bytes
 
     -- ---- laws
+
+    -- One turn of a task may write points that it may write, and where points are written in runs, a whole one.
+    abbrev pub TasksMayWriteRuns : Type 0
+    TasksMayWriteRuns = (text : List ℕ) (harts task hart : ℕ) (inputs : Planes) (points written : Points) (loaded : Point → Bool) → IsTask task hart → RunsAreNamed owners
+        → ((func x y : ℕ) → written func x y ≡ true → IsWritten pipeline schedule boxes number owners task func x y)
+        → MayBeWrittenAtOnce (setting text harts task hart inputs points written loaded)
 
     -- Any memory of the data's size with the inputs' bytes holds some words at the points that may be loaded.
     abbrev pub MemoryHoldsFuncs : Type 0

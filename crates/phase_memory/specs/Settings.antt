@@ -17,6 +17,7 @@ use Rattle.scalar_code.specs.declared.places.Places.{Places}
 use Rattle.scalar_code.specs.Layout.{Laid}
 use Rattle.phase_memory.specs.Places.{places_of}
 use Rattle.phase_memory.specs.Points.{RootPoint, PrivatePoint, InputPoint, part}
+use Rattle.phase_memory.specs.Runs.{rule_of}
 use Rattle.phase_memory.specs.Uses.{Owners, use_of}
 
 -- no point is owned by two tasks
@@ -34,9 +35,9 @@ module _ (pipeline : Pipeline) (schedule : Schedule) (boxes : List (Option Sourc
     abbrev pub uses : ℕ → Use
     uses address = use_of boxes number owners (part pipeline schedule boxes address)
 
-    -- where a hart does a task; there is no rule on what one turn writes
+    -- where a hart does a task
     abbrev pub task_world : List ℕ → ℕ → ℕ → World
-    task_world text task hart = record { text = text; size = size; uses = uses; rule = λ task places. true; job = Task task; hart = hart }
+    task_world text task hart = record { text = text; size = size; uses = uses; rule = λ task places. rule_of pipeline schedule boxes owners places; job = Task task; hart = hart }
 
     abbrev pub IsWritten : ℕ → ℕ → ℕ → ℕ → Type 0
     IsWritten task func x y = (RootPoint pipeline schedule boxes func x y × ((func ≡ owners.func) × (owners.owns task x y ≡ true))) ⊎ PrivatePoint pipeline schedule boxes func x y

@@ -6,6 +6,8 @@ use Rattle.halide_pipeline.specs.declared.definitions.Input.{Input}
 use Rattle.halide_meaning.specs.Pixel.{Planes}
 use Rattle.bounds.specs.declared.boxes.SourceBox.{SourceBox}
 use Rattle.bounds.specs.Boxes.{box_in, extent, points}
+use Rattle.stage_loops.specs.Visits.{Visit}
+use Rattle.loop_ir.specs.Counters.{Values}
 use Rattle.lone_hart.specs.Uses.{Use, Control as ForControl, Fixed, Owned, Private}
 use Rattle.data_parts.specs.Parts.{Part, Control, Input as InputPart, Root, Copies, Frame, Outside}
 
@@ -37,11 +39,15 @@ abbrev pub use_of_owner : Option ℕ → Use
 use_of_owner None = Fixed
 use_of_owner (Some task) = Owned task
 
--- the Func that a phase computes, how many tasks the phase has, and which points of the Func each owns
+-- the Func that a phase computes, how many tasks the phase has, and which points of the Func each owns; whether a turn that writes one of them
+-- writes a whole run, which runs there are, and whether the run that counters' values name has a point
 pub record Owners : Type 0 where
   pub func : ℕ
   pub tasks : ℕ
   pub owns : ℕ → ℕ → ℕ → Bool
+  pub in_runs : Bool
+  pub runs : List (List Visit)
+  pub run : ℕ → ℕ → Values → Bool
 
 -- The words of control up to those of the phase with this number are for control; those of later phases stay as they are.
 abbrev pub use_of : List (Option SourceBox) → ℕ → Owners → Part → Use

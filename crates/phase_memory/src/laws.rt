@@ -4,7 +4,8 @@ ghost use Rattle.std.specs.Prelude.{ℕ, List, Option};
 ghost use Rattle.halide_pipeline.specs.Pipelines.{Pipeline};
 ghost use Rattle.schedule.specs.declared.schedules.Schedule.{Schedule};
 ghost use Rattle.bounds.specs.declared.boxes.SourceBox.{SourceBox};
-ghost use Rattle.phase_memory.specs.Held.{MemoryHoldsFuncs, TasksFindTheirs, TasksLeaveTheirs};
+ghost use Rattle.phase_memory.specs.Held.{MemoryHoldsFuncs, TasksFindTheirs, TasksLeaveTheirs, TasksMayWriteRuns};
+ghost use Rattle.phase_memory.specs.Runs.{RulesSayRuns};
 ghost use Rattle.phase_memory.specs.Settings.{TasksAreLaid};
 ghost use Rattle.phase_memory.specs.Uses.{Owners};
 ghost use Rattle.phase_memory.specs.Points.{ByteInputsAreThere, CopiesAreThere, RootsAreThere, WordInputsAreThere};
@@ -29,4 +30,11 @@ pub fn memory_holds_funcs()
     ensures any { (pipeline : Pipeline) (schedule : Schedule) (boxes : List (Option SourceBox)) (number : ℕ) (owners : Owners) → MemoryHoldsFuncs pipeline schedule boxes number owners }
     ensures finds { (pipeline : Pipeline) (schedule : Schedule) (boxes : List (Option SourceBox)) (number : ℕ) (owners : Owners) → TasksFindTheirs pipeline schedule boxes number owners }
     ensures leaves { (pipeline : Pipeline) (schedule : Schedule) (boxes : List (Option SourceBox)) (number : ℕ) (owners : Owners) → TasksLeaveTheirs pipeline schedule boxes number owners }
+{}
+
+/// Where a phase's points are written in runs, one turn may write those of one run, and what keeps the phase's rule is one: the places are all
+/// bytes of its points, and no others.
+pub fn turns_write_runs()
+    ensures may { (pipeline : Pipeline) (schedule : Schedule) (boxes : List (Option SourceBox)) (number : ℕ) (owners : Owners) → TasksMayWriteRuns pipeline schedule boxes number owners }
+    ensures says { RulesSayRuns }
 {}
