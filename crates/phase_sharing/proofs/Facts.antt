@@ -1,7 +1,8 @@
 -- What is known of the phase of a stage of a Func, whichever stage it is, and of points of buffers.
-use Rattle.std.proofs.Common.{◌≡◌, ℕ, suc, ◌+◌, ◌<◌, Bool, true, false, cond, List, [], ◌∷◌, Option, Some, None, refl, sym, ap, ◌∙◌, arith, inl, inr, true≢false}
+use Rattle.std.proofs.Common.{◌≡◌, ℕ, suc, ◌+◌, ◌<◌, ◌≤◌, Bool, true, false, cond, List, [], ◌∷◌, length, Option, Some, None, refl, sym, ap, ◌∙◌, arith, inl, inr, true≢false}
 use Rattle.std.specs.Prelude.{◌&&◌, ◌||◌, nat_lt, slice_get, Ok}
 use Rattle.std.proofs.lemmas.Bool.{and_parts, and_from, cases_eq, ne_eqb, lt-ltb, ltb-true}
+use Rattle.std.proofs.lemmas.Option.{slice_get_within}
 use Rattle.halide_pipeline.specs.declared.definitions.Func.{Func}
 use Rattle.halide_pipeline.specs.declared.definitions.Update.{Update}
 use Rattle.halide_pipeline.specs.Pipelines.{Pipeline}
@@ -34,9 +35,11 @@ use Rattle.lowering.specs.PurePhases.{IsAtRoot}
 use Rattle.lowering.specs.Stages.{is_at_loop, is_private_in, is_private, after_stages, DoesStage}
 use Rattle.lowering.specs.Stored.{names}
 use Rattle.lowering.specs.Rounds.{RoundsMayBeAtOnce}
+use Rattle.lowering.specs.Runs.{StoresInRuns}
 use Rattle.lowering.specs.Touching.{is_listed, is_root_at, is_root_in, TouchesItsOwn}
 use Rattle.lowering.specs.Updates.{IsUpdateAt, update_extents, owns_update}
 use Rattle.phase_memory.specs.Points.{RootPoint, PrivatePoint}
+use Rattle.phase_sharing.specs.Runs.{writes_runs}
 use Rattle.phase_sharing.specs.Stages.{StagePlace, iterations, iterations_in, iterations_of, update_iterations, writes, writes_in, writes_of, update_writes}
 
 -- ---- points of a buffer
@@ -153,11 +156,14 @@ hosted_at_loop schedule host func e =
 
 -- ---- the phase of a stage
 
--- which stage of a Func a phase computes, and which points each task owns
+-- which stage of a Func a phase computes, which points each task owns, and whether it writes them in runs
 pub record Work : Type 0 where
   pub place : ℕ
   pub func : Func
+  pub plan : FuncPlan
+  pub own : SourceBox
   pub number : ℕ
+  pub in_runs : Bool
   pub owned : ℕ → ℕ → ℕ → Bool
   pub phase : Phase
 
@@ -166,6 +172,10 @@ abbrev pub stage_of : Work → StagePlace
 stage_of work = record { func = work.place; number = work.number }
 
 pub record IsKnown (pipeline : Pipeline) (schedule : Schedule) (boxes : Boxes) (work : Work) : Type 0 where
+  pub at : IsAtRoot pipeline schedule boxes work.place work.func work.plan work.own
+  pub in_runs_is : work.in_runs ≡ writes_runs pipeline schedule boxes work.place work.plan work.number work.phase
+  pub stores_in_runs : work.number ≡ 0 → StoresInRuns work.place (extents_of work.own) work.plan.pure work.phase
+  pub number_is : work.number ≤ length work.func.updates
   pub func_is : slice_get pipeline.funcs work.place ≡ Some work.func
   pub standing : Standing
   pub standing_is : slice_get schedule.standings work.place ≡ Some standing
@@ -183,9 +193,18 @@ pub record IsKnown (pipeline : Pipeline) (schedule : Schedule) (boxes : Boxes) (
   pub owned_writes : (inputs : Planes) → AnswerWords pipeline.inputs (reads_of inputs (pixels pipeline.funcs inputs 0)) → (task : ℕ) → task < work.phase.tasks
       → (x y : ℕ) → writes pipeline schedule boxes inputs (stage_of work) task x y ≡ true → work.owned task x y ≡ true
 
-pub record KnownPhase (pipeline : Pipeline) (schedule : Schedule) (boxes : Boxes) (place : ℕ) (func : Func) (number : ℕ) (phase : Phase) : Type 0 where
+pub record KnownPhase (pipeline : Pipeline) (schedule : Schedule) (boxes : Boxes) (place : ℕ) (func : Func) (plan : FuncPlan) (own : SourceBox) (number : ℕ) (phase : Phase) : Type 0 where
   pub owned : ℕ → ℕ → ℕ → Bool
-  pub known : IsKnown pipeline schedule boxes (record { place = place; func = func; number = number; owned = owned; phase = phase })
+  pub known : IsKnown pipeline schedule boxes (record {
+    place = place;
+    func = func;
+    plan = plan;
+    own = own;
+    number = number;
+    in_runs = writes_runs pipeline schedule boxes place plan number phase;
+    owned = owned;
+    phase = phase;
+  })
 
 module _ (pipeline : Pipeline) (schedule : Schedule) (boxes : Boxes) (place : ℕ) (func : Func) (plan : FuncPlan) (own : SourceBox) (at : IsAtRoot pipeline schedule boxes place func plan own) where
   iterations_are : (number : ℕ) → iterations pipeline schedule boxes (record { func = place; number = number }) ≡ iterations_of pipeline schedule boxes func plan own number
@@ -214,10 +233,14 @@ module _ (pipeline : Pipeline) (schedule : Schedule) (boxes : Boxes) (place : �
         ∙ (ap (λ (u : Option Update). update_writes pipeline schedule boxes inputs place own u (slice_get plan.updates number) task x y) it.update_is
         ∙ ap (λ (s : Option Stage). update_writes pipeline schedule boxes inputs place own (Some update) s task x y) it.stage_is)
 
-  pub known_phase : (number : ℕ) (phase : Phase) → IsStagePhase pipeline schedule boxes place func plan own number phase → KnownPhase pipeline schedule boxes place func number phase
+  pub known_phase : (number : ℕ) (phase : Phase) → IsStagePhase pipeline schedule boxes place func plan own number phase → KnownPhase pipeline schedule boxes place func plan own number phase
   known_phase _ _ (Pure phase tasks private_is bytes does touches few stores rounds in_runs) = record {
     owned = owns (extents_of own) plan.pure;
     known = record {
+      at = at;
+      in_runs_is = refl;
+      stores_in_runs = λ first. in_runs;
+      number_is = omega arith;
       func_is = at.func_is;
       standing = at.standing;
       standing_is = at.there.standing;
@@ -234,6 +257,10 @@ module _ (pipeline : Pipeline) (schedule : Schedule) (boxes : Boxes) (place : �
   known_phase _ _ (Updating number update stage phase it tasks private_is bytes does touches few stores rounds) = record {
     owned = owns_update own update stage;
     known = record {
+      at = at;
+      in_runs_is = refl;
+      stores_in_runs = λ first. absurd (omega (arith, first));
+      number_is = let inside = slice_get_within func.updates number update it.update_is in omega (arith, inside);
       func_is = at.func_is;
       standing = at.standing;
       standing_is = at.there.standing;

@@ -6,21 +6,31 @@ use Rattle.halide_pipeline.specs.Pipelines.{Pipeline}
 use Rattle.halide_meaning.specs.Pixel.{Planes}
 use Rattle.schedule.specs.declared.schedules.Schedule.{Schedule}
 use Rattle.bounds.specs.declared.verdict.Boxes.{Boxes}
+use Rattle.bounds.specs.Views.{extents_of}
 use Rattle.data_parts.specs.Parts.{Part, Control, Input as InputPart, Root, Copies, Frame, Outside}
 use Rattle.work_sharing.specs.Programs.{ticket_word}
 use Rattle.task_code.specs.Fitting.{task_turns}
 use Rattle.phase_code.specs.Sharing.{Matter}
 use Rattle.lowering.specs.Planes.{held}
+use Rattle.lowering.specs.Runs.{runs, is_in_run}
 use Rattle.lowering.specs.Stages.{after_stages}
 use Rattle.phase_memory.specs.Uses.{Owners, greatest, width_of, byte_of, byte_in}
 use Rattle.phase_memory.specs.Points.{RootPoint, part}
+use Rattle.phase_memory.specs.Runs.{rule_of}
 use Rattle.phase_memory.specs.Settings.{places, uses}
 use Rattle.phase_memory.proofs.Holding.{root-byte-point}
 use Rattle.phase_sharing.specs.Stages.{writes}
 use Rattle.phase_sharing.proofs.Facts.{Work, stage_of}
 
 abbrev pub owners_of : Work → Owners
-owners_of work = record { func = work.place; tasks = work.phase.tasks; owns = work.owned }
+owners_of work = record {
+  func = work.place;
+  tasks = work.phase.tasks;
+  owns = work.owned;
+  in_runs = work.in_runs;
+  runs = runs (extents_of work.own) work.plan.pure;
+  run = λ x y values. is_in_run (extents_of work.own) work.plan.pure work.place x y values;
+}
 
 module _ (pipeline : Pipeline) (schedule : Schedule) (boxes : Boxes) where
   -- ---- planes
@@ -69,7 +79,7 @@ module _ (pipeline : Pipeline) (schedule : Schedule) (boxes : Boxes) where
   matter_of inputs works k = record {
     uses = uses pipeline schedule boxes.funcs k (owners_of (works k));
     writes = λ task address. is_written inputs (works k) task (part pipeline schedule boxes.funcs address);
-    rule = λ task places. true;
+    rule = λ task places. rule_of pipeline schedule boxes.funcs (owners_of (works k)) places;
     turns = λ task. task_turns (works k).phase (places pipeline schedule boxes.funcs) (ticket_word k) task;
     start = λ address. byte_in pipeline.inputs boxes.funcs inputs (start_of inputs (works k)) (part pipeline schedule boxes.funcs address);
     result = λ address. byte_in pipeline.inputs boxes.funcs inputs (result_of inputs (works k)) (part pipeline schedule boxes.funcs address);

@@ -1,42 +1,54 @@
 -- The code of a task does the task: it leaves the result's bytes at the points that the task owns.
 use Rattle.std.proofs.Common.{◌≡◌, ℕ, ◌+◌, ◌^◌, ◌<◌, ◌≤◌, Bool, true, false, cond, List, length, Option, Some, None, refl, sym, ap, subst, ◌∙◌, arith, inl, inr, true≢false}
+use Rattle.std.specs.List.{list_any}
 use Rattle.std.specs.Prelude.{◌⊎◌, ◌==◌, ◌&&◌, ◌||◌, slice_get, nat_lt, Ok}
-use Rattle.std.proofs.lemmas.Bool.{and_parts, cases_eq, ne_eqb, eq-eqb, ltb-true}
+use Rattle.std.proofs.lemmas.Bool.{and_parts, cases_eq, ne_eqb, eq-eqb, eqb-true, ltb-true}
 use Rattle.memory.specs.Addresses.{byte_at, AreBytes}
 use Rattle.halide_pipeline.specs.declared.definitions.Input.{Input}
 use Rattle.halide_pipeline.specs.declared.expressions.Source.{Source}
 use Rattle.halide_pipeline.specs.declared.expressions.Source.TheVariants as sources
 use Rattle.halide_pipeline.specs.Pipelines.{Pipeline}
 use Rattle.halide_pipeline.specs.WellFormed.{IsWellFormed}
-use Rattle.halide_meaning.specs.Pixel.{Planes, reads_of, pixels}
+use Rattle.halide_meaning.specs.Pixel.{Planes, Reads, reads_of, pixels}
 use Rattle.reads.specs.Points.{Point}
 use Rattle.schedule.specs.declared.schedules.Schedule.{Schedule}
 use Rattle.schedule.specs.Accepted.{IsAccepted}
+use Rattle.stage_loops.specs.Counts.{counts}
+use Rattle.stage_loops.specs.Visits.{is_slice}
 use Rattle.ranges.specs.Laws.{AnswerWords}
 use Rattle.bounds.specs.declared.verdict.Boxes.{Boxes}
 use Rattle.bounds.specs.Verdict.{inferred}
+use Rattle.bounds.specs.Views.{extents_of}
 use Rattle.box_laws.specs.Closure.{is_within}
 use Rattle.lone_hart.specs.Uses.{Owned, Given}
 use Rattle.work_sharing.specs.Programs.{ticket_word}
 use Rattle.loop_ir.specs.Buffers.{Points}
 use Rattle.loop_ir.specs.Running.{run_task, task_values}
+use Rattle.loop_ir.specs.Runs.{stores_in_runs}
 use Rattle.loop_ir.specs.Soundness.{Have}
+use Rattle.nest_lowering.specs.Nests.{loops_of}
 use Rattle.lowering.specs.Phases.{Hold, DoesPhase}
 use Rattle.lowering.specs.Planes.{box_points}
+use Rattle.lowering.specs.Runs.{is_vectorized_first, outside_innermost, run_of, are_turns, is_in_run}
 use Rattle.lowering.specs.Stages.{is_private}
 use Rattle.lowering.specs.Touching.{is_listed, is_root_at, may_write, may_load_at, may_load}
-use Rattle.scalar_code.specs.Doing.{Setting, IsSetting, SoundIn, HoldsFuncs}
-use Rattle.task_code.specs.Doing.{AtOnceIn}
+use Rattle.lowering.proofs.RunLists.{runs_are_listed}
+use Rattle.scalar_code.specs.Doing.{Setting, IsSetting, SoundIn, RunsIn, HoldsFuncs}
+use Rattle.task_code.specs.Code.{task_scope}
+use Rattle.task_code.specs.Doing.{AtOnceIn, WholeIn}
 use Rattle.task_code.specs.Fitting.{fits_task}
 use Rattle.scalar_code.specs.Layout.{AreWords, func_point}
 use Rattle.task_code.specs.Tasks.{HasDrawn, TaskEnds}
+use Rattle.task_code.specs.Whole.{task_is_whole}
 use Rattle.task_code.proofs.Finishing.{tasks-done}
 use Rattle.phase_memory.specs.Held.{funcs_in, HasInputs, setting, IsTask}
 use Rattle.phase_memory.specs.Points.{RootPoint}
+use Rattle.phase_memory.specs.Runs.{RunsAreNamed}
 use Rattle.phase_memory.specs.Settings.{places, size, uses, IsWritten, IsLoaded, Touches, OneOwner}
 use Rattle.phase_memory.specs.Uses.{use_of, byte_in}
 use Rattle.phase_memory.proofs.Holding.{memory-holds-funcs, tasks-find-theirs, tasks-leave-theirs}
 use Rattle.phase_memory.proofs.Laying.{tasks-are-laid}
+use Rattle.phase_memory.proofs.Runs.{tasks-may-write-runs}
 use Rattle.phase_sharing.proofs.Facts.{Work, IsKnown, root_point, private_point, listed_root_point, point_there, shared_point}
 use Rattle.phase_sharing.proofs.Matters.{owners_of, start_of, result_of, byte_of_planes}
 use Rattle.phase_sharing.proofs.Places.{are_places, size_fits}
@@ -64,6 +76,20 @@ input_within None x y e = absurd (true≢false (sym e))
 input_within (Some input) x y e =
     let k = and_parts (nat_lt x input.width) (nat_lt y input.height) e in
     record { input = input; is = refl; column = ltb-true x input.width k.0; row = ltb-true y input.height k.1 }
+
+-- the run that counters name is one of the list
+runs_named : (work : Work) → RunsAreNamed (owners_of work)
+runs_named work values x y is =
+    let extents = extents_of work.own in
+    let stage = work.plan.pure in
+    let turns = loops_of work.place values in
+    let are : Bool = are_turns (counts extents stage.splits) (outside_innermost stage.loops) turns in
+    let in_turns = (and_parts are (list_any (is_slice x y) (run_of extents stage turns)) is).0 in
+    record {
+      visits = run_of extents stage turns;
+      there = (runs_are_listed extents stage).0 turns in_turns;
+      is = λ a b. ap (λ (t : Bool). t && list_any (is_slice a b) (run_of extents stage turns)) in_turns;
+    }
 
 module _ (pipeline : Pipeline) (schedule : Schedule) (boxes : Boxes) (rules : IsWellFormed pipeline) (accepted : IsAccepted pipeline schedule) (is : inferred pipeline schedule ≡ Ok boxes)
     (inputs : Planes) (begun : AnswerWords pipeline.inputs (reads_of inputs (pixels pipeline.funcs inputs 0))) (work : Work) (known : IsKnown pipeline schedule boxes work) where
@@ -169,7 +195,7 @@ module _ (pipeline : Pipeline) (schedule : Schedule) (boxes : Boxes) (rules : Is
       laid = tasks-are-laid pipeline schedule boxes.funcs k (owners_of work) text task hart (omega (arith, number_is, few_harts)) below one_owner (size_fits pipeline schedule boxes is) written loaded touches;
       have = have;
       are_words = λ place x y lx ly. begun.words (sources.Input place) x y lx ly;
-      at_once = λ count func x y all address owner there owned. refl;
+      at_once = tasks-may-write-runs pipeline schedule boxes.funcs k (owners_of work) text harts task hart inputs all_points written loaded task_is (runs_named work) writes_so;
     }
 
     answers : (funcs : Planes) → AreWords funcs → AnswerWords pipeline.inputs (reads_of inputs funcs)
@@ -184,6 +210,37 @@ module _ (pipeline : Pipeline) (schedule : Schedule) (boxes : Boxes) (rules : Is
 
     at_once : AtOnceIn own work.phase.body (task_values work.phase.counter task)
     at_once funcs words = known.rounds task below (reads_of inputs funcs)
+
+    -- a Func that is written in runs is the phase's own
+    module _ (func : ℕ) (asked : (func == work.place && work.in_runs) ≡ true) where
+      func_same : work.place ≡ func
+      func_same = sym (eqb-true func work.place (and_parts (func == work.place) work.in_runs asked).0)
+
+      asked_parts : ((work.number == 0) ≡ true) × ((is_vectorized_first work.plan.pure.loops && task_is_whole (places pipeline schedule boxes.funcs) work.place work.phase) ≡ true)
+      asked_parts =
+          and_parts (work.number == 0) (is_vectorized_first work.plan.pure.loops && task_is_whole (places pipeline schedule boxes.funcs) work.place work.phase)
+          (sym known.in_runs_is ∙ (and_parts (func == work.place) work.in_runs asked).1)
+
+      first : work.number ≡ 0
+      first = eqb-true work.number 0 asked_parts.0
+
+      vectors : (is_vectorized_first work.plan.pure.loops ≡ true) × (task_is_whole (places pipeline schedule boxes.funcs) work.place work.phase ≡ true)
+      vectors = and_parts (is_vectorized_first work.plan.pure.loops) (task_is_whole (places pipeline schedule boxes.funcs) work.place work.phase) asked_parts.1
+
+      pub stores_runs : (reads : Reads) (x y : ℕ)
+          → stores_in_runs reads func x y (is_in_run (extents_of work.own) work.plan.pure work.place x y) work.phase.body (task_values work.phase.counter task) ≡ true
+      stores_runs reads x y =
+          subst (λ (n : ℕ). stores_in_runs reads n x y (is_in_run (extents_of work.own) work.plan.pure work.place x y) work.phase.body (task_values work.phase.counter task) ≡ true) func_same
+          (known.stores_in_runs first vectors.0 task below reads x y)
+
+      pub is_whole : task_is_whole (places pipeline schedule boxes.funcs) func work.phase ≡ true
+      is_whole = subst (λ (n : ℕ). task_is_whole (places pipeline schedule boxes.funcs) n work.phase ≡ true) func_same vectors.1
+
+    in_runs : RunsIn own work.phase.body (task_values work.phase.counter task)
+    in_runs funcs words func asked x y = stores_runs func asked (reads_of inputs funcs) x y
+
+    whole : WholeIn own work.phase.body (task_scope work.phase.counter)
+    whole func asked = is_whole func asked
 
     -- ---- what it finds and leaves
 
@@ -208,7 +265,7 @@ module _ (pipeline : Pipeline) (schedule : Schedule) (boxes : Boxes) (rules : Is
 
       module _ (f : ℕ → ℕ) (fits : fits_task work.phase (places pipeline schedule boxes.funcs) ≡ true) (low : ticket_word k + 4 < 2 ^ 32) (few : work.phase.tasks < 2 ^ 32) (drawn : HasDrawn own task f) where
         pub ends : TaskEnds own work.phase (ticket_word k) task f found funcs_found
-        ends = tasks-done own is_setting work.phase (ticket_word k) task fits low (omega (arith, below, few)) sound at_once f found funcs_found holds_found drawn
+        ends = tasks-done own is_setting work.phase (ticket_word k) task fits low (omega (arith, below, few)) sound at_once in_runs whole f found funcs_found holds_found drawn
 
         pub leaves : (address : ℕ) → uses pipeline schedule boxes.funcs k (owners_of work) address ≡ Owned task → byte_at text ends.left address ≡ byte_of_planes pipeline schedule boxes inputs result address
         leaves address o =

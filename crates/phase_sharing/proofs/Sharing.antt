@@ -1,7 +1,7 @@
 -- Phases of a pipeline share their work, and leave the pixels.
 use Rattle.std.proofs.Common.{◌≡◌, ℕ, zero, suc, ◌+◌, ◌*◌, ◌/◌, ◌%◌, ◌^◌, ◌<◌, ◌≤◌, Bool, true, false, cond, List, [], ◌∷◌, length, Some, refl, sym, ap, subst, ◌∙◌, arith, inl, inr}
 use Rattle.std.specs.Prelude.{◌⊎◌, ◌-◌, slice_get, slice_index_or, Ok}
-use Rattle.std.specs.List.{AllByRecursion}
+use Rattle.std.specs.List.{AllByRecursion, list_any}
 use Rattle.std.proofs.lemmas.Bool.{cases_lt, eq-eqb, lt-ltb, le-leb, lt-leb}
 use Rattle.std.proofs.lemmas.Option.{slice_get_within}
 use Rattle.memory.specs.Addresses.{text_start, data_start, byte_at}
@@ -13,18 +13,24 @@ use Rattle.halide_pipeline.specs.Pipelines.{Pipeline}
 use Rattle.halide_pipeline.specs.WellFormed.{IsWellFormed}
 use Rattle.halide_pipeline.specs.Words as word
 use Rattle.halide_meaning.specs.Pixel.{Planes, reads_of, pixels}
+use Rattle.schedule.specs.declared.plans.FuncPlan.{FuncPlan}
 use Rattle.schedule.specs.declared.schedules.Schedule.{Schedule}
 use Rattle.schedule.specs.Accepted.{IsAccepted}
+use Rattle.stage_loops.specs.Visits.{Visit, is_slice}
 use Rattle.ranges.specs.Laws.{AnswerWords}
+use Rattle.bounds.specs.declared.boxes.SourceBox.{SourceBox}
 use Rattle.bounds.specs.declared.verdict.Boxes.{Boxes}
 use Rattle.bounds.specs.Boxes.{box_in, extent}
 use Rattle.bounds.specs.Layout.{laid_in, phases}
 use Rattle.bounds.specs.Verdict.{inferred}
+use Rattle.bounds.specs.Views.{extents_of}
 use Rattle.data_parts.specs.Parts.{Part, Control, Input as InputPart, Root, Copies, Frame, Outside, sizes_of, in_data}
 use Rattle.data_parts.proofs.Finding.{control-found}
 use Rattle.loop_ir.specs.declared.statements.Phase.{Phase}
 use Rattle.loop_ir.specs.Stores.{is_stored_by_task}
 use Rattle.lowering.specs.Planes.{corner_of, held, box_points}
+use Rattle.lowering.specs.PurePhases.{IsAtRoot}
+use Rattle.lowering.proofs.RunLists.{runs_are_listed}
 use Rattle.lone_hart.specs.Uses.{Control as ForControl, Fixed, Owned, Shared, Task}
 use Rattle.lone_hart.specs.Paths.{Stand, Block, Writes}
 use Rattle.work_sharing.specs.Phases.{Phase as SharedPhase}
@@ -40,12 +46,15 @@ use Rattle.program_code.specs.Programs.{part_of as code_of, parts_from}
 use Rattle.phase_memory.specs.Uses.{use_of, width_in, width_of, byte_of, byte_in}
 use Rattle.phase_memory.specs.Held.{funcs_in}
 use Rattle.phase_memory.specs.Points.{RootPoint, part, address_at}
+use Rattle.phase_memory.specs.Runs.{IsByteOf}
 use Rattle.phase_memory.specs.Settings.{places, size}
 use Rattle.phase_memory.proofs.Holding.{OwnByte, own-byte, own-byte-lies, root-byte-point}
 use Rattle.phase_memory.proofs.Laying.{column-of, row-of, root-use, own-use}
 use Rattle.phase_memory.proofs.Numbers.{bytes-word}
+use Rattle.phase_memory.proofs.Runs.{rules-say-runs}
 use Rattle.phase_memory.proofs.There.{roots-are-there}
-use Rattle.phase_sharing.specs.Sharing.{HasCode, parts, OpensWith, PhasesAreShared}
+use Rattle.phase_sharing.specs.Runs.{writes_runs, IsOneRun}
+use Rattle.phase_sharing.specs.Sharing.{HasCode, parts, OpensWith, IsOwnedIn, PhasesAreShared}
 use Rattle.phase_sharing.specs.Stages.{StagePlace, stages, iterations, writes}
 use Rattle.phase_sharing.proofs.Between.{Stays, HasOwner, root_use}
 use Rattle.phase_sharing.proofs.Chain.{left_by, Told, funcs_told, some_work}
@@ -79,6 +88,14 @@ all_at P (first ∷ others) all (suc k) own e = all_at P others all.1 k own e
 
 last_two : (k byte : ℕ) → byte < 4 → (4 * k + byte) % 4 ≡ byte
 last_two k byte l = omega (arith, l)
+
+root_place : Part → ℕ
+root_place (Root place offset) = place
+root_place _ = 0
+
+same_root : (a i b j : ℕ) → Root a i ≡ Root b j → a ≡ b
+unfolding root_place
+same_root a i b j e = ap root_place e
 
 zero_pixels : (funcs : List Func) (inputs : Planes) (place x y : ℕ) → pixels funcs inputs 0 place x y ≡ 0
 unfolding pixels
@@ -314,6 +331,89 @@ module _ (pipeline : Pipeline) (schedule : Schedule) (boxes : Boxes) (rules : Is
         × ((matter k).writes task (address_at pipeline schedule boxes.funcs 0 (sources.Func s.func) x y + byte) ≡ true)) same_stage
         (used task below x y byte here small, written_there task below x y byte here small)
 
+    number_there : (func : Func) → slice_get pipeline.funcs stage.func ≡ Some func → stage.number ≤ length func.updates
+    number_there func found =
+        let at = (known k there).number_is in
+        let here : (work k).number ≡ stage.number = ap (λ (s : StagePlace). s.number) same_stage in
+        let place : (work k).place ≡ stage.func = ap (λ (s : StagePlace). s.func) same_stage in
+        let is : Some (work k).func ≡ Some func = sym (known k there).func_is ∙ ap (slice_get pipeline.funcs) place ∙ found in
+        let same : (work k).func ≡ func = cc is in
+        let long : length (work k).func.updates ≡ length func.updates = ap (λ (f : Func). length f.updates) same in
+        omega (arith, at, here, long)
+
+  -- ---- runs
+
+  -- a byte of a point of a Func at root
+  module _ (k func x y byte : ℕ) (l : k ≤ last) (p : RootPoint pipeline schedule boxes.funcs func x y) (small : byte < 4) where
+    abbrev byte_address : ℕ
+    byte_address = address_at pipeline schedule boxes.funcs 0 (sources.Func func) x y + byte
+
+    abbrev root_offset : ℕ
+    root_offset = 4 * (y * extent p.own.x + x) + byte
+
+    root_part : part pipeline schedule boxes.funcs byte_address ≡ Root func root_offset
+    root_part = (roots-are-there pipeline schedule boxes.funcs 0 func x y p).parts byte small
+
+    root_byte : ((matter k).uses byte_address ≡ Fixed) ⊎ IsOwnedIn pipeline schedule boxes matter k func byte_address
+    root_byte = elim (root_use pipeline schedule boxes inputs (work k) k ((known k l).does inputs begun) byte_address func root_offset root_part) [
+      | inl it ↦ inl it.fixed
+      | inr it ↦
+          let own = own-byte pipeline schedule boxes.funcs k (owners_of (work k)) it.task byte_address it.owned in
+          inr (record {
+            task = it.task;
+            owned = it.owned;
+            stage = stage_of (work k);
+            stage_is = told.stage_is k (omega (arith, l, count));
+            func_is = same_root (work k).place own.offset func root_offset (sym own.part_is ∙ root_part);
+          })
+    ]
+
+  module _ (k place : ℕ) (func : Func) (plan : FuncPlan) (own : SourceBox) (number : ℕ) (one : Phase) (at : IsAtRoot pipeline schedule boxes place func plan own)
+      (e : slice_get (stages pipeline schedule boxes) k ≡ Some (record { func = place; number = number })) (phase_is : slice_get list k ≡ Some one)
+      (vectors : writes_runs pipeline schedule boxes place plan number one ≡ true) where
+    here_known : IsKnown pipeline schedule boxes (work k)
+    here_known = known k (there k (record { func = place; number = number }) e)
+
+    same_place : (work k).place ≡ place
+    same_place = ap (λ (s : StagePlace). s.func) (same_stage k (record { func = place; number = number }) e)
+
+    same_number : (work k).number ≡ number
+    same_number = ap (λ (s : StagePlace). s.number) (same_stage k (record { func = place; number = number }) e)
+
+    same_phase : (work k).phase ≡ one
+    same_phase =
+        let l = there k (record { func = place; number = number }) e in
+        let is : Some (work k).phase ≡ Some one = sym (told.phase_is k (omega (arith, l, count))) ∙ phase_is in
+        cc is
+
+    same_plan : (work k).plan ≡ plan
+    same_plan = let is : Some (work k).plan ≡ Some plan = sym here_known.at.plan_is ∙ ap (slice_get schedule.funcs) same_place ∙ at.plan_is in cc is
+
+    same_own : (work k).own ≡ own
+    same_own = let is : Some (Some (work k).own) ≡ Some (Some own) = sym here_known.at.box_is ∙ ap (slice_get boxes.funcs) same_place ∙ at.box_is in cc is
+
+    in_runs : (work k).in_runs ≡ true
+    in_runs =
+        here_known.in_runs_is
+        ∙ ap (λ (p : ℕ). writes_runs pipeline schedule boxes p (work k).plan (work k).number (work k).phase) same_place
+        ∙ ap (λ (p : FuncPlan). writes_runs pipeline schedule boxes place p (work k).number (work k).phase) same_plan
+        ∙ ap (λ (n : ℕ). writes_runs pipeline schedule boxes place plan n (work k).phase) same_number
+        ∙ ap (λ (p : Phase). writes_runs pipeline schedule boxes place plan number p) same_phase ∙ vectors
+
+    one_run : (task : ℕ) (written : List ℕ) → (matter k).rule task written ≡ true → IsOneRun pipeline schedule boxes place (extents_of own) plan.pure written
+    one_run task written kept =
+        let bytes_of = rules-say-runs pipeline schedule boxes.funcs (owners_of (work k)) written in_runs kept in
+        let run = (runs_are_listed (extents_of (work k).own) (work k).plan.pure).1 bytes_of.visits bytes_of.there in
+        subst (λ (p : ℕ). IsOneRun pipeline schedule boxes p (extents_of own) plan.pure written) same_place
+        (subst (λ (p : FuncPlan). IsOneRun pipeline schedule boxes (work k).place (extents_of own) p.pure written) same_plan
+        (subst (λ (o : SourceBox). IsOneRun pipeline schedule boxes (work k).place (extents_of o) (work k).plan.pure written) same_own
+        (record {
+          turns = run.turns;
+          are = run.are;
+          all = λ x y byte visited small. bytes_of.all x y byte (ap (list_any (is_slice x y)) run.is ∙ visited) small;
+          no_other = λ address i. subst (λ (visits : List Visit). IsByteOf (address_at pipeline schedule boxes.funcs 0 (sources.Func (work k).place)) visits address) run.is (bytes_of.no_other address i);
+        })))
+
   -- ---- from phase to phase
 
   abbrev root_at : (k : ℕ) → (l : k ≤ last) → (address place offset : ℕ) → part pipeline schedule boxes.funcs address ≡ Root place offset
@@ -443,6 +543,9 @@ phases-are-shared pipeline schedule boxes rules accepted is inputs begun list ar
       stages_are = told.stages_are ∙ count;
       tasks_are = tasks_there pipeline schedule boxes rules accepted is inputs begun list planes told harts few_harts coded last count counted text;
       own_bytes = own_bytes pipeline schedule boxes rules accepted is inputs begun list planes told harts few_harts coded last count counted text;
+      numbers_are = λ k stage func e found. number_there pipeline schedule boxes rules accepted is inputs begun list planes told harts few_harts coded last count counted text k stage e func found;
+      root_bytes = root_byte pipeline schedule boxes rules accepted is inputs begun list planes told harts few_harts coded last count counted text;
+      runs_are = one_run pipeline schedule boxes rules accepted is inputs begun list planes told harts few_harts coded last count counted text;
       ends = λ left done kept func x y p.
           pixel_is pipeline schedule boxes rules accepted is inputs begun list planes told harts few_harts coded last count counted text left done kept func x y p
           (held_word pipeline rules inputs begun boxes.funcs (pixels pipeline.funcs inputs (length pipeline.funcs)) (pixels_answer pipeline rules inputs begun (length pipeline.funcs)) func x y);

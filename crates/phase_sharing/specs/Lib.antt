@@ -1,2 +1,3 @@
 pub mod Stages
+pub mod Runs
 pub mod Sharing

@@ -1,21 +1,26 @@
 -- The harts of an image share the tasks of a pipeline's phases, and leave the pixels of all Funcs at root.
 -- This project's own.
-use Rattle.std.specs.Prelude.{◌≡◌, ◌<◌, ◌≤◌, ℕ, suc, ◌+◌, ◌^◌, true, List, length, slice_get, Some, Ok}
+use Rattle.std.specs.Prelude.{◌≡◌, ◌<◌, ◌≤◌, ◌⊎◌, ℕ, suc, ◌+◌, ◌^◌, true, List, length, slice_get, Some, Ok}
 use Rattle.std.specs.List.{AllByRecursion}
 use Rattle.memory.specs.Addresses.{text_start, data_start, byte_at, AreBytes}
 use Rattle.memory.specs.Access.{word_at}
+use Rattle.halide_pipeline.specs.declared.definitions.Func.{Func}
 use Rattle.halide_pipeline.specs.declared.expressions.Source.TheVariants as sources
 use Rattle.halide_pipeline.specs.Pipelines.{Pipeline}
 use Rattle.halide_pipeline.specs.WellFormed.{IsWellFormed}
 use Rattle.halide_meaning.specs.Pixel.{Planes, reads_of, pixels}
+use Rattle.schedule.specs.declared.plans.FuncPlan.{FuncPlan}
 use Rattle.schedule.specs.declared.schedules.Schedule.{Schedule}
 use Rattle.schedule.specs.Accepted.{IsAccepted}
 use Rattle.ranges.specs.Laws.{AnswerWords}
+use Rattle.bounds.specs.declared.boxes.SourceBox.{SourceBox}
 use Rattle.bounds.specs.declared.verdict.Boxes.{Boxes}
 use Rattle.bounds.specs.Verdict.{inferred}
+use Rattle.bounds.specs.Views.{extents_of}
 use Rattle.loop_ir.specs.declared.statements.Phase.{Phase}
 use Rattle.lowering.specs.Lowered.{AreLowered}
 use Rattle.lowering.specs.Planes.{held}
+use Rattle.lowering.specs.PurePhases.{IsAtRoot}
 use Rattle.lone_hart.specs.Uses.{Fixed, Owned}
 use Rattle.lone_hart.specs.Paths.{Stand}
 use Rattle.scalar_code.specs.declared.places.Places.{Places}
@@ -26,6 +31,7 @@ use Rattle.program_code.specs.Programs.{parts_from}
 use Rattle.phase_memory.specs.Points.{RootPoint, part, address_at}
 use Rattle.phase_memory.specs.Settings.{places, size}
 use Rattle.phase_memory.specs.Uses.{byte_in}
+use Rattle.phase_sharing.specs.Runs.{writes_runs, IsOneRun}
 use Rattle.phase_sharing.specs.Stages.{StagePlace, stages, iterations, writes}
 
 -- The registers suffice for the phase's tasks, and so many harts count them in a word.
@@ -51,6 +57,14 @@ module _ (pipeline : Pipeline) (schedule : Schedule) (boxes : Boxes) where
       → word_at text memory (address_at pipeline schedule boxes.funcs 0 (sources.Func func) x y)
       ≡ held boxes.funcs (pixels pipeline.funcs inputs (length pipeline.funcs)) func x y
 
+  -- A task of a phase owns the byte, and the phase computes a stage of the Func.
+  pub record IsOwnedIn (matter : ℕ → Matter) (k func address : ℕ) : Type 0 where
+    pub task : ℕ
+    pub owned : (matter k).uses address ≡ Owned task
+    pub stage : StagePlace
+    pub stage_is : slice_get (stages pipeline schedule boxes) k ≡ Some stage
+    pub func_is : stage.func ≡ func
+
   -- So many harts share their work. Where the tasks of the last phase left what they own, and all else is as that phase found it, the pixels
   -- stand.
   pub record AreShared (harts : ℕ) (phases : List Phase) (last : ℕ) (text memory : List ℕ) (inputs : Planes) : Type 0 where
@@ -65,6 +79,18 @@ module _ (pipeline : Pipeline) (schedule : Schedule) (boxes : Boxes) where
         → (x y byte : ℕ) → writes pipeline schedule boxes inputs stage task x y ≡ true → byte < 4
         → let address = address_at pipeline schedule boxes.funcs 0 (sources.Func stage.func) x y + byte in
         ((matter k).uses address ≡ Owned task) × ((matter k).writes task address ≡ true)
+    -- a stage is a pure definition or an update
+    pub numbers_are : (k : ℕ) (stage : StagePlace) (func : Func) → slice_get (stages pipeline schedule boxes) k ≡ Some stage → slice_get pipeline.funcs stage.func ≡ Some func
+        → stage.number ≤ length func.updates
+    -- a byte of a point of a Func at root stays as it is in a phase, or one task of the phase owns it, which computes a stage of the Func
+    pub root_bytes : (k func x y byte : ℕ) → k ≤ last → RootPoint pipeline schedule boxes.funcs func x y → byte < 4
+        → let address = address_at pipeline schedule boxes.funcs 0 (sources.Func func) x y + byte in
+        ((matter k).uses address ≡ Fixed) ⊎ IsOwnedIn matter k func address
+    -- Where a phase writes its Func's points in runs, what keeps its rule is one run.
+    pub runs_are : (k place : ℕ) (func : Func) (plan : FuncPlan) (own : SourceBox) (number : ℕ) (one : Phase) → IsAtRoot pipeline schedule boxes place func plan own
+        → slice_get (stages pipeline schedule boxes) k ≡ Some (record { func = place; number = number }) → slice_get phases k ≡ Some one
+        → writes_runs pipeline schedule boxes place plan number one ≡ true
+        → (task : ℕ) (written : List ℕ) → (matter k).rule task written ≡ true → IsOneRun pipeline schedule boxes place (extents_of own) plan.pure written
     pub ends : (left : List ℕ)
         → ((address task : ℕ) → task < (part_at text (size pipeline schedule boxes.funcs) harts (parts phases) matter last).tasks
         → (matter last).uses address ≡ Owned task → byte_at text left address ≡ (matter last).result address)
