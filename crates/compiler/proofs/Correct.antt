@@ -71,7 +71,7 @@ module _ (own : CompiledContents) (rules : IsCompiled own) (pictures : List Pict
       phases_are own rules pictures none are
       ∙ phases-counted own.pipeline own.schedule own.boxes rules.accepted rules.inferred_is phases rules.words_are.are_lowered
 
-  abbrev bytes : List ℕ
+  abbrev pub bytes : List ℕ
   bytes = image_data own.boxes.layout own.pipeline.inputs pictures
 
   abbrev planes : Planes
@@ -80,7 +80,7 @@ module _ (own : CompiledContents) (rules : IsCompiled own) (pictures : List Pict
   abbrev there : Places
   there = places own.pipeline own.schedule own.boxes.funcs
 
-  places-are : places_of own.pipeline own.schedule own.boxes.funcs own.boxes.layout ≡ there
+  pub places-are : places_of own.pipeline own.schedule own.boxes.funcs own.boxes.layout ≡ there
   places-are = ap (places_of own.pipeline own.schedule own.boxes.funcs) (layout_is own.pipeline own.schedule own.boxes rules.inferred_is)
 
   answers : AnswerWords own.pipeline.inputs (reads_of planes (pixels own.pipeline.funcs planes 0))
@@ -94,10 +94,10 @@ module _ (own : CompiledContents) (rules : IsCompiled own) (pictures : List Pict
       some_phases own.pipeline own.schedule own.boxes (length own.pipeline.funcs) phases rules.words_are.are_lowered own.pipeline.output.func root.func root.plan root.own
       (slice_get_within own.pipeline.funcs own.pipeline.output.func root.func root.at_root.func_is) root.at_root
 
-  abbrev last : ℕ
+  abbrev pub last : ℕ
   last = length phases - 1
 
-  count : length phases ≡ suc last
+  pub count : length phases ≡ suc last
   count = let l = some in omega (arith, l)
 
   stands : Stand own.words text_start (program 0 (parts own.pipeline own.schedule own.boxes phases))
@@ -114,25 +114,25 @@ module _ (own : CompiledContents) (rules : IsCompiled own) (pictures : List Pict
         have-code there harts few_harts phases
         (subst (λ (p : Places). AllByRecursion (Fits p) phases) places-are rules.words_are.is_program.fit) rules.words_are.is_program.few_tasks
 
-    abbrev IsSharedSo : Type 0
+    abbrev pub IsSharedSo : Type 0
     IsSharedSo = AreShared own.pipeline own.schedule own.boxes harts phases last own.words bytes planes
 
-    shared : IsSharedSo
+    pub shared : IsSharedSo
     shared =
         phases-are-shared own.pipeline own.schedule own.boxes rules.well_formed rules.accepted rules.inferred_is planes answers phases rules.words_are.are_lowered harts some_harts few_harts codes last count
         own.words bytes stands (opens own rules pictures none are answers)
 
     module _ (is : IsSharedSo) where
-      abbrev steps : ℕ → SharedPhase
+      abbrev pub steps : ℕ → SharedPhase
       steps = phase own.words (size own.pipeline own.schedule own.boxes.funcs) harts (parts own.pipeline own.schedule own.boxes phases) is.matter
 
       whole : Program steps last × (Opens (steps 0) text_start bytes × ((k : ℕ) → k ≤ last → TaskWrites (steps k)))
       whole = programs-share own.words (size own.pipeline own.schedule own.boxes.funcs) harts (parts own.pipeline own.schedule own.boxes phases) is.matter last bytes is.is_shared
 
-      goes : Program steps last
+      pub goes : Program steps last
       goes = whole.0
 
-      begins : Opens (steps 0) text_start bytes
+      pub begins : Opens (steps 0) text_start bytes
       begins = whole.1.0
 
       none-races : (turns : List ℕ) → Race (control_words own.boxes.layout.phases) (run (opening image harts) turns) → ⊥
@@ -203,7 +203,7 @@ module _ (own : CompiledContents) (rules : IsCompiled own) (pictures : List Pict
             → WrittenAs own.pipeline own.schedule own.boxes pictures stage (assigned number) (opening image harts) turns
         stage_written number stage e turns written iteration x y byte l writes small =
             let bytes_own = is.own_bytes number stage e iteration l x y byte writes small in
-            written iteration (byte_of_point own.pipeline own.schedule own.boxes pictures stage.func x y byte) (subst (λ (n : ℕ). iteration < n) (sym (is.tasks_are number stage e)) l)
+            written iteration (byte_of_point own.pipeline own.schedule own.boxes stage.func x y byte) (subst (λ (n : ℕ). iteration < n) (sym (is.tasks_are number stage e)) l)
             bytes_own.0 bytes_own.1
 
         reached : IsReached own.pipeline own.schedule own.boxes pictures image harts assigned

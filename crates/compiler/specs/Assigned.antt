@@ -21,17 +21,18 @@ use Rattle.phase_memory.specs.Points.{address_at}
 use Rattle.phase_sharing.specs.Stages.{StagePlace, stages, iterations, writes}
 use Rattle.compiler.specs.Correct.{opening}
 
-module _ (pipeline : Pipeline) (schedule : Schedule) (boxes : Boxes) (pictures : List PictureContents) where
+module _ (pipeline : Pipeline) (schedule : Schedule) (boxes : Boxes) where
   -- the address of a byte of a point of a Func at root, counted from the corner of its box
   abbrev pub byte_of_point : ℕ → ℕ → ℕ → ℕ → ℕ
   byte_of_point func x y byte = address_at pipeline schedule boxes.funcs 0 (sources.Func func) x y + byte
 
+module _ (pipeline : Pipeline) (schedule : Schedule) (boxes : Boxes) (pictures : List PictureContents) where
   -- In these turns each byte of the points that an iteration of the stage writes was last written by the hart that the iteration is assigned
   -- to.
   abbrev pub WrittenAs : StagePlace → (ℕ → ℕ) → State → List ℕ → Type 0
   WrittenAs stage assigned begin turns =
       (iteration x y byte : ℕ) → iteration < iterations pipeline schedule boxes stage → writes pipeline schedule boxes (input_planes pictures) stage iteration x y ≡ true → byte < 4
-      → last_writer (byte_of_point stage.func x y byte) None begin turns ≡ Some (assigned iteration)
+      → last_writer (byte_of_point pipeline schedule boxes stage.func x y byte) None begin turns ≡ Some (assigned iteration)
 
   -- That holds up to the first place where the phase's gate word is full: `before` are the turns up to there.
   pub record DoneBy (stage : StagePlace) (phase : ℕ) (assigned : ℕ → ℕ) (begin : State) (turns : List ℕ) : Type 0 where

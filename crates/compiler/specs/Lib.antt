@@ -7,4 +7,5 @@ pub mod Data
 pub mod Faults
 pub mod Images
 pub mod Outputs
+pub mod Runs
 pub mod Verdict

@@ -15,6 +15,7 @@ ghost use Rattle.compiler.specs.Correct.{Correct};
 ghost use Rattle.compiler.specs.ControlWords.{control_words};
 ghost use Rattle.compiler.specs.Images.{ArePictures, IsRefusedInput, image_of};
 ghost use Rattle.compiler.specs.Outputs.{Holds};
+ghost use Rattle.compiler.specs.Runs.{WritesWholeRuns};
 
 use crate::data::image_data;
 use bounds::boxes::extents_of;
@@ -76,7 +77,9 @@ impl Compiled {
     ///
     /// On every list that says which hart makes the next turn, no hart traps, none race but on the words of
     /// [`Compiled::control`], and wherever all have finished the output is the algorithm's (`specs/Correct.antt`). Every
-    /// assignment of iterations to harts is reached by some list (`specs/Assigned.antt`).
+    /// assignment of iterations to harts is reached by some list (`specs/Assigned.antt`). Where the vectorized loop of a
+    /// Func at root is vector code, a turn that writes a point of the Func writes one run of that loop, and nothing
+    /// else (`specs/Runs.antt`).
     ///
     /// # Errors
     ///
@@ -88,6 +91,7 @@ impl Compiled {
         ensures is { IfOk result (λ image. image ≡ image_of self.now pictures.now) }
         ensures correct { IfOk result (λ image. Correct self.now.pipeline pictures.now self.now.boxes.layout.phases image) }
         ensures assigned { IfOk result (λ image. IsAssigned self.now.pipeline self.now.schedule self.now.boxes pictures.now image) }
+        ensures runs { IfOk result (λ image. WritesWholeRuns self.now image) }
         ensures err { IfErr result (IsRefusedInput (judged self.now.pipeline.inputs pictures.now)) }
     {
         if let Some(error) = judge(self.pipeline.inputs(), pictures) {

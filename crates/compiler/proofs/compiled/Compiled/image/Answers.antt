@@ -7,9 +7,11 @@ use Rattle.compiler.specs.Compiled.{CompiledContents, IsCompiled, output_of}
 use Rattle.compiler.specs.Correct.{Correct}
 use Rattle.compiler.specs.Data.{image_data}
 use Rattle.compiler.specs.Images.{image_of}
+use Rattle.compiler.specs.Runs.{WritesWholeRuns}
 use Rattle.compiler.proofs.Correct.{correct, is-assigned}
 use Rattle.compiler.proofs.Images.{is_ok, ok_is, parts_pass}
 use Rattle.compiler.proofs.Low.{inputs_fit, lies_low}
+use Rattle.compiler.proofs.Runs.{writes-whole-runs}
 use Rattle.compiler.proofs.compiled.Compiled.image.Goals as goal
 
 pub image_data-requires-clause-low : goal.image_data-requires-clause-low
@@ -59,3 +61,11 @@ returns-clause-assigned c =
     (ap (λ (inputs : List Input). judged inputs c.args.pictures.now) (sym c.inputs.ensures.value) ∙ (sym c.judge.ensures ∙ c.in_default.is)) in
     subst (IsAssigned c.args.self.now.pipeline c.args.self.now.schedule c.args.self.now.boxes c.args.pictures.now) (sym (returns-clause-is c))
     (is-assigned c.args.self.now rules c.args.pictures.now none c.in_ok-data.ensures.rules)
+
+pub returns-clause-runs : goal.returns-clause-runs
+returns-clause-runs c =
+    let rules = subst IsCompiled c.self.view_is c.self.invariant in
+    let none =
+    subst (λ (own : CompiledContents). judged own.pipeline.inputs c.args.pictures.now ≡ None) c.self.view_is
+    (ap (λ (inputs : List Input). judged inputs c.args.pictures.now) (sym c.inputs.ensures.value) ∙ (sym c.judge.ensures ∙ c.in_default.is)) in
+    subst (WritesWholeRuns c.args.self.now) (sym (returns-clause-is c)) (writes-whole-runs c.args.self.now rules c.args.pictures.now none c.in_ok-data.ensures.rules)
