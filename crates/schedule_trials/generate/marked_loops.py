@@ -33,6 +33,15 @@ def one(definition, width, factor, way="guard", inputs="input in 37"):
 
 NESTED = "in(x) - (in(x+1) * (in(x+2) + (in(x+3) - (in(x+4) * {}))))"
 
+
+def turned(count, first=36, index="{}-x"):
+    """So many reads that lie anywhere, each beside all that follow it."""
+    text = f"in({index.format(first - count + 1)})"
+    for k in range(count - 1):
+        text = f"in({index.format(first - count + 2 + k)}) {'-*+'[k % 3]} ({text})"
+    return text
+
+
 CASES = [
     (f"bytes one behind the other by {factor}", *one("in(x) * 3 - in(x+1)", 36, factor, inputs="input in 37 u8")) for factor in (4, 8, 16)
 ] + [
@@ -76,4 +85,9 @@ CASES = [
      "f split x xo xi 4 guard\nf unroll xi\ng compute_at f xi", Facts((8,), (2,))),
     ("copies of an update", "input in 13\nfunc f(x) = in(x)\nupdate f(x) = f(x) * 2 + in(r) - x over r 0 5\noutput f 13",
      "f.0 split x xo xi 4 guard\nf.0 reorder xi r xo\nf.0 unroll xi", Facts((13,), tasks=(1, 1))),
+    ("bytes that lie anywhere, eight deep by sixteen", *one(turned(8), 29, 16, inputs="input in 37 u8")[:2], Facts((29,), frames=True)),
+    ("a choice of values that wait, by sixteen", *one(f"select(in(x) % 2 == 1, {turned(7)}, {turned(8, 35)})", 28, 16)[:2], Facts((28,), frames=True)),
+    ("reads that lie anywhere, sixteen deep by eight", *one(turned(16), 21, 8)[:2], Facts((21,), frames=True)),
+    ("columns of values that wait, by sixteen", "input in 5 20\nfunc f(x,y) = in(4-x,19-y) - (in(x,19-y) * (in(4-x,y) + (in(x,y) - (in(4-x,19-y) * (in(x,19-y) + in(4-x,y))))))\noutput f 5 20",
+     "f split y yo yi 16 guard\nf reorder yi x yo\nf vectorize yi", Facts((100,), frames=True)),
 ]
