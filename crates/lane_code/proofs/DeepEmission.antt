@@ -1,5 +1,5 @@
 -- The code of each kind of expression over lanes whose values may wait in the hart's frame, in terms of its parts.
-use Rattle.std.proofs.Common.{◌≡◌, ℕ, ◌+◌, ◌*◌, ◌/◌, ◌%◌, ◌^◌, ◌<◌, ◌≤◌, List, [], ◌∷◌, ◌++◌, Bool, true, false, ℤ, pos, negsuc, Option, Some, None, refl, ap, ◌∙◌, sym, subst, arith}
+use Rattle.std.proofs.Common.{◌≡◌, ℕ, ◌+◌, ◌*◌, ◌/◌, ◌%◌, ◌^◌, ◌<◌, List, [], ◌∷◌, ◌++◌, Bool, true, false, pos, negsuc, ap, ◌∙◌, sym, subst, arith}
 use Rattle.std.specs.Prelude.{◌&&◌, ◌-◌, if◌then◌else◌, nat_lt}
 use Rattle.std.proofs.lemmas.Bool.{and_parts, and_from, true≢false}
 use Rattle.std.proofs.lemmas.Bool.Decides.{nat_tests}
@@ -9,7 +9,6 @@ use Rattle.rv_insn.specs.declared.operations.AluImmOp.TheVariants as alu_imms
 use Rattle.rv_insn.specs.declared.vector_instructions.VectorInsn.TheVariants as v
 use Rattle.rv_insn.specs.declared.vector_instructions.Addressing.TheVariants as addressings
 use Rattle.rv_insn.specs.declared.vector_operations.ElementWidth.TheVariants.{Bits32}
-use Rattle.rv_insn.specs.declared.vector_operations.ArithmeticViOp.TheVariants as vis
 use Rattle.halide_pipeline.specs.declared.expressions.Operation.{Operation}
 use Rattle.halide_pipeline.specs.declared.expressions.Source.{Source}
 use Rattle.loop_ir.specs.declared.expressions.Counter.{Counter}
@@ -28,9 +27,9 @@ use Rattle.lane_code.specs.declared.goings.Going.{Going}
 use Rattle.lane_code.specs.Groups.{slot, spare}
 use Rattle.lane_code.specs.Lanes.{Laned, laned, is_reached, lanes_operation, lanes_quotient, lanes_remainder, lanes_selection, gathered}
 use Rattle.lane_code.specs.Emitting.{FitsLanes, EmitsLanes}
-use Rattle.lane_code.specs.DeepLanes.{DeepLaned, deep_laned, deep_laned_at, deep_or, frame_slots, has_frame_slot, are_above, second_fits, second_code, others_fit, others_code, spill_lanes, unspill_lanes, copied_lanes}
+use Rattle.lane_code.specs.DeepLanes.{DeepLaned, deep_laned, deep_laned_at, deep_or, frame_slots, has_frame_slot, are_above, second_fits, others_fit, spill_lanes, unspill_lanes, copied_lanes}
 use Rattle.lane_code.specs.DeepEmitting.{FitsDeepLanes, EmitsDeepLanes, FitsSecondLanes, EmitsSecondLanes, FitOtherLanes, EmitsOtherLanes}
-use Rattle.lane_code.proofs.DeepParts.{IsDeep, is-deep}
+use Rattle.lane_code.proofs.DeepParts.{is-deep}
 
 -- ---- slots of the frame
 

@@ -1,10 +1,9 @@
 -- The code of an expression over lanes leaves its values also where values wait in the hart's frame.
-use Rattle.std.proofs.Common.{◌≡◌, ℕ, ◌+◌, ◌*◌, ◌^◌, ◌<◌, ◌≤◌, List, [], ◌∷◌, ◌++◌, length, Bool, true, false, refl, ap, ◌∙◌, sym, subst, arith, inl, inr}
-use Rattle.std.specs.Prelude.{◌⊎◌, ◌==◌, ◌&&◌, if◌then◌else◌, nat_lt}
-use Rattle.std.specs.List.{list_all, AllByRecursion}
+use Rattle.std.proofs.Common.{◌≡◌, ℕ, ◌+◌, ◌*◌, ◌^◌, ◌<◌, ◌≤◌, List, [], ◌∷◌, ◌++◌, length, Bool, true, false, refl, ap, ◌∙◌, sym, arith, inl, inr}
+use Rattle.std.specs.Prelude.{◌==◌, ◌&&◌, if◌then◌else◌, nat_lt}
+use Rattle.std.specs.List.{list_all}
 use Rattle.std.proofs.lemmas.Bool.{and_parts, true≢false}
 use Rattle.rv_insn.specs.declared.instructions.Insn.{Insn}
-use Rattle.halide_pipeline.specs.declared.expressions.Operation.{Operation}
 use Rattle.halide_pipeline.specs.declared.expressions.Source.{Source}
 use Rattle.halide_pipeline.specs.Words as word
 use Rattle.halide_meaning.specs.Pixel.{Planes, Reads, reads_of}
@@ -14,7 +13,7 @@ use Rattle.loop_ir.specs.declared.expressions.Expr.{Expr, fold-Expr}
 use Rattle.loop_ir.specs.declared.expressions.Expr.TheOpen.{Expr-F}
 use Rattle.loop_ir.specs.declared.expressions.Expr.TheOpen as layer
 use Rattle.loop_ir.specs.Counters.{Values}
-use Rattle.loop_ir.specs.Expressions.{value, loads, seen}
+use Rattle.loop_ir.specs.Expressions.{value, loads}
 use Rattle.loop_ir.proofs.Folds.{Both, left_of, right_of, folds_related}
 use Rattle.loop_ir.proofs.Loads.{values_are_seen}
 use Rattle.memory.specs.Access.{word_at}
@@ -23,15 +22,14 @@ use Rattle.lone_hart.specs.Paths.{lane, vl_number, vtype_number}
 use Rattle.lone_hart.proofs.Paths.{line-then}
 use Rattle.scalar_code.specs.declared.places.Pixels.{Pixels}
 use Rattle.scalar_code.specs.declared.places.Pixels.TheVariants as pixels
-use Rattle.scalar_code.specs.declared.places.Place.{Place}
 use Rattle.scalar_code.specs.Code.{made, place_of}
-use Rattle.scalar_code.specs.Evaluation.{Knows, LoadsAt, Loads}
+use Rattle.scalar_code.specs.Evaluation.{Knows, LoadsAt}
 use Rattle.scalar_code.specs.Doing.{Setting, IsSetting, HoldsFuncs}
 use Rattle.scalar_code.proofs.Spilling.{all-loaded, loads-may, passes-parts}
 use Rattle.lane_code.specs.declared.groups.Group.{Group}
 use Rattle.lane_code.specs.declared.goings.Going.{Going}
-use Rattle.lane_code.specs.Groups.{registers, slots, slot, spare}
-use Rattle.lane_code.specs.Lanes.{Laned, laned, laned_at, are_reached, is_reached, gathered, lanes_operation, lanes_selection, lanes_quotient, lanes_remainder}
+use Rattle.lane_code.specs.Groups.{registers, slot, spare}
+use Rattle.lane_code.specs.Lanes.{Laned, laned_at, is_reached, gathered, lanes_operation, lanes_selection, lanes_quotient, lanes_remainder}
 use Rattle.lane_code.specs.Leaving.{GoAlong, HasLanes, IsKept}
 use Rattle.lane_code.specs.DeepLanes.{DeepLaned, deep_or, deep_laned_at, deep_laned, has_frame_slot, are_above, second_fits, second_code, others_fit, others_code, triple_fits, triple_code, spill_lanes, unspill_lanes, copied_lanes}
 use Rattle.lane_code.specs.DeepLeaving.{LeavesMemory, LeavesDeepLanes, LeavesTriple, DeepLanesLeave, TriplesLeave}
@@ -42,7 +40,7 @@ use Rattle.lane_code.proofs.Operations as operations
 use Rattle.lane_code.proofs.Points.{gathered-leaves}
 use Rattle.lane_code.proofs.ByteGathers.{gathered-bytes}
 use Rattle.lane_code.proofs.Quotients.{quotient-leaves, remainder-leaves}
-use Rattle.lane_code.proofs.Rows.{Leaves, Writes, few-rounds, kept-more, lanes-kept, slot-kept, slot-still, writes-lanes}
+use Rattle.lane_code.proofs.Rows.{Leaves, Writes, few-rounds, lanes-kept, slot-kept, slot-still}
 use Rattle.lane_code.proofs.Slots.{SlotLies, is-below}
 use Rattle.lane_code.proofs.Waiting as waiting
 

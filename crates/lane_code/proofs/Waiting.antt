@@ -16,7 +16,6 @@ use Rattle.hart_core.specs.Scalar.{one_access}
 use Rattle.halide_meaning.specs.Pixel.{Planes, reads_of}
 use Rattle.loop_ir.specs.declared.expressions.Counter.{Counter}
 use Rattle.loop_ir.specs.Counters.{Values}
-use Rattle.lone_hart.specs.Uses.{Owned}
 use Rattle.lone_hart.specs.Alone.{World, is_in}
 use Rattle.lone_hart.specs.Paths.{Line, lane, vl_number, vtype_number, stored_at, Readable, Writable}
 use Rattle.lone_hart.specs.LaneMemory.{firsts, AllReadable, AllWritable, stored_lanes}
@@ -37,7 +36,7 @@ use Rattle.lane_code.specs.Leaving.{HasLanes, IsKept}
 use Rattle.lane_code.specs.DeepLanes.{frame_slots, has_frame_slot, spill_lanes, unspill_lanes, copied_lanes}
 use Rattle.lane_code.specs.DeepLeaving.{LeavesMemory}
 use Rattle.lane_code.proofs.Slots.{SlotLies, slot-lies, is-below}
-use Rattle.lane_code.proofs.Rows.{Writes, Leaves, writes, lanes-kept, few-rounds, kept-more}
+use Rattle.lane_code.proofs.Rows.{Writes, writes, lanes-kept, few-rounds}
 
 -- ---- words of a slot
 

@@ -1,6 +1,6 @@
 -- What the code of an expression over lanes leaves whose values may wait in the hart's frame: the expression's value in each round, and memory as it was but for the
 -- frame from a slot on. This project's own.
-use Rattle.std.specs.Prelude.{◌≡◌, ◌<◌, ◌≤◌, ℕ, ◌+◌, ◌*◌, true, List, length}
+use Rattle.std.specs.Prelude.{◌≡◌, ◌<◌, ◌≤◌, ℕ, ◌*◌, true, List}
 use Rattle.std.specs.List.{list_all}
 use Rattle.memory.specs.Addresses.{byte_at, AreBytes}
 use Rattle.rv_insn.specs.declared.instructions.Insn.{Insn}

@@ -1,6 +1,6 @@
 -- The code of pixels that lie anywhere stores them.
 use Rattle.std.proofs.Common.{◌≡◌, ℕ, ◌+◌, ◌*◌, ◌^◌, ◌<◌, ◌≤◌, List, [], ◌∷◌, ◌++◌, length, true, refl, ap, ◌∙◌, sym, subst, arith, inl, inr}
-use Rattle.std.specs.Prelude.{◌⊎◌, ◌&&◌, min, Option, Some, None}
+use Rattle.std.specs.Prelude.{◌&&◌, min, Option, Some, None}
 use Rattle.std.specs.List.{list_all, AllByRecursion}
 use Rattle.std.proofs.lemmas.Bool.{and_parts}
 use Rattle.std.proofs.lemmas.List.Folds.{list_all-append}
@@ -40,7 +40,7 @@ use Rattle.scalar_code.proofs.Going.{no_hits, Does, still, lines-then, went-hits
 use Rattle.lane_code.specs.declared.groups.Group.{Group}
 use Rattle.lane_code.specs.declared.goings.Going.{Going}
 use Rattle.lane_code.specs.Groups.{registers, slot, vtype_of}
-use Rattle.lane_code.specs.DeepLanes.{deep_laned, triple_fits, triple_code}
+use Rattle.lane_code.specs.DeepLanes.{deep_laned, triple_fits}
 use Rattle.lane_code.specs.Lanes.{offsets}
 use Rattle.lane_code.specs.Leaving.{GoAlong, HasLanes, IsKept}
 use Rattle.lane_code.proofs.DeepEvaluation.{triples-leave}

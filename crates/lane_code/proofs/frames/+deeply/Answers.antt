@@ -1,4 +1,4 @@
-use Rattle.std.proofs.Common.{◌+◌, ◌∙◌, sym}
+use Rattle.std.proofs.Common.{◌∙◌, sym}
 use Rattle.scalar_code.proofs.Refusing.{passed}
 use Rattle.lane_code.proofs.DeepEmission.{above-others, above-second, binary-deep, divide-deep, load-deep, no-above, no-binary-first, no-binary-second, no-divide-first, no-first-above, no-first-waiting, no-linear, no-load-first, no-load-second, no-next, no-number, no-place, no-remainder-first, no-second-above, no-second-waiting, no-select-first, no-select-others, no-slot, no-stack, no-wait, no-waiting, remainder-deep, select-deep, stack-emitted, waiting-others, waiting-second}
 use Rattle.lane_code.proofs.frames.+deeply.Goals as goal

@@ -1,4 +1,4 @@
-use Rattle.std.proofs.Common.{◌+◌, ◌*◌, [], ◌∷◌, ◌++◌, subst}
+use Rattle.std.proofs.Common.{[], ◌∷◌, ◌++◌, subst}
 use Rattle.rv_insn.specs.declared.instructions.Insn.TheVariants.{Alu}
 use Rattle.rv_insn.specs.declared.operations.AluOp.TheVariants.{Mul, Add}
 use Rattle.scalar_code.specs.Code.{literal}

@@ -1,6 +1,4 @@
-use Rattle.std.proofs.Common.{subst}
 use Rattle.scalar_code.specs.Code.{frames_of}
-use Rattle.scalar_code.proofs.Spelling.{emits_then}
 use Rattle.lane_code.proofs.DeepEmission.{spilled}
 use Rattle.lane_code.proofs.frames.emit_spill.Goals as goal
 
