@@ -65,7 +65,8 @@ frame_word world places word = frames_of places.frames + 4096 * world.hart + 4 *
 abbrev pub Misses : ℕ → ℕ → Type 0
 Misses byte address = (byte < address) ⊎ (address + 4 ≤ byte)
 
--- The hart's frame lies so: no point that may be loaded shares a byte with it, and no task owns one, so that a turn may write several of its words.
+-- The hart's frame lies so: no point that may be loaded shares a byte with it, and no task owns a byte of it, so that a turn may write several of
+-- its words.
 pub record IsFrame (world : World) (places : Places) (loaded : Point → Bool) : Type 0 where
   pub low : (word : ℕ) → word < frame_words places.frames → frame_word world places word < 2 ^ 32
   pub may_write : (word : ℕ) → word < frame_words places.frames → Writable world Word (frame_word world places word)

@@ -1,5 +1,6 @@
 -- Which statements' code stores in whole runs: where the vectorized loops of a Func are vector code, one instruction stores all that a run of such a
--- loop stores. This project's own.
+-- loop stores. That the Func is stored in nowhere else is not said here, but of the phase (`StoresInRuns` in `lowering/specs/Runs.antt`).
+-- This project's own.
 use Rattle.std.specs.Prelude.{ℕ, ◌==◌, ◌&&◌, Bool, true, if◌then◌else◌, List, ◌∷◌}
 use Rattle.std.specs.Option.{is_some}
 use Rattle.loop_ir.specs.declared.expressions.Counter.{Counter}
