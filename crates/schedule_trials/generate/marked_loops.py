@@ -90,4 +90,10 @@ CASES = [
     ("reads that lie anywhere, sixteen deep by eight", *one(turned(16), 21, 8)[:2], Facts((21,), frames=True)),
     ("columns of values that wait, by sixteen", "input in 5 20\nfunc f(x,y) = in(4-x,19-y) - (in(x,19-y) * (in(4-x,y) + (in(x,y) - (in(4-x,19-y) * (in(x,19-y) + in(4-x,y))))))\noutput f 5 20",
      "f split y yo yi 16 guard\nf reorder yi x yo\nf vectorize yi", Facts((100,), frames=True)),
+    ("a shift split of a shift split's outer loop, of one read", "input in 40\nfunc f(x) = in(x)\noutput f 40",
+     "f split x xo xi 8 shift\nf split xo p q 4 shift\nf reorder q xi p\nf vectorize q", Facts((40,), code="0 of 1")),
+    ("a split of the outer loop of two shift splits", "input in 130\nfunc f(x) = in(x) * 5 - in(129-x)\noutput f 130",
+     "f split x xo xi 8 shift\nf split xo p q 4 shift\nf split p r s 4 guard\nf reorder s xi q r\nf vectorize s", Facts((130,), code="0 of 1")),
+    ("a split of the outer loop of three shift splits", "input in 61\nfunc f(x) = in(x) * 5 - in(60-x)\noutput f 61",
+     "f split x a xi 2 shift\nf split a c ci 2 shift\nf split c e ei 2 shift\nf split e g h 4 guard\nf reorder h xi ci ei g\nf vectorize h", Facts((61,), code="0 of 1")),
 ]
