@@ -5,3 +5,4 @@ pub mod HighWords
 pub mod MaskBits
 pub mod MaskReadings
 pub mod Readings
+pub mod VectorLanes

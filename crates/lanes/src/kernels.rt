@@ -1,10 +1,11 @@
 //! The loops over N elements. Each is generic over the operation, and says which answers of the operation
 //! stand in which place.
 
-ghost use Rattle.std.specs.Prelude.{◌≡◌, ◌+◌, ◌<◌, ◌≤◌, ℕ, length};
+ghost use Rattle.std.specs.Prelude.{◌≡◌, ◌==◌, ◌+◌, ◌<◌, ◌≤◌, ℕ, length, map};
 ghost use Rattle.lanes.specs.Masks.{active};
 ghost use Rattle.lanes.specs.Elementwise.{EachPair, EachFrom, LeadsTo, chosen_of, merged};
 
+use crate::kinds::LaneKind;
 use crate::masks::active;
 
 /// The answers to each pair, written over `results`.
@@ -34,6 +35,17 @@ pub(crate) fn each_index<B: Copy, const N: usize, F: Fn(usize) -> B>(
 {
     for i in 0..N {
         results[i] = operation(i);
+    }
+    results
+}
+
+/// Which elements are 1.
+pub(crate) fn are_ones<K: LaneKind, const N: usize>(elements: &[K; N]) -> [bool; N]
+    ensures { result ≡ map (λ n. n == 1) (map K.number elements.now) }
+{
+    let mut results = [false; N];
+    for i in 0..N {
+        results[i] = elements[i].to_u32() == 1;
     }
     results
 }

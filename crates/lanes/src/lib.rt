@@ -16,6 +16,7 @@ pub mod laws;
 pub mod masks;
 mod operations;
 pub mod registers;
+pub mod vectors;
 
 pub use crate::kinds::LaneKind;
 pub use crate::masks::{active, mask_bit, mask_bits, write_mask_bits};

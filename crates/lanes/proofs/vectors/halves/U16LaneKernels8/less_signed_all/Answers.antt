@@ -1,0 +1,7 @@
+use Rattle.std.proofs.Common.{◌∙◌}
+use Rattle.lanes.proofs.VectorLanes.{tests_from_lanes, in_order_16}
+use Rattle.lanes.proofs.vectors.halves.U16LaneKernels8.less_signed_all.Goals as goal
+
+pub returns : goal.returns
+returns c = rw (c.less.ensures, c.ordered.ensures, c.ordered-2.ensures)
+    (tests_from_lanes _ _ _ _ in_order_16 c.args.a.now c.args.b.now c.fits-a c.fits-b)

@@ -1,0 +1,6 @@
+use Rattle.std.proofs.lemmas.Nat.{and_mask}
+use Rattle.lanes.proofs.VectorLanes.{with_each}
+use Rattle.lanes.proofs.vectors.halves.amounts.Goals as goal
+
+pub returns : goal.returns
+returns g c = with_each _ 15 _ (λ y. and_mask y 4) g.row.N c.args.b c.fits-b.0

@@ -1,0 +1,7 @@
+use Rattle.std.proofs.Common.{◌∙◌}
+use Rattle.lanes.proofs.VectorLanes.{lesser_chosen, in_order_32, top_32}
+use Rattle.lanes.proofs.vectors.words.U32LaneKernels4.min_signed_all.Goals as goal
+
+pub returns : goal.returns
+returns c = rw (c.ordered.ensures, c.ordered-2.ensures)
+    (lesser_chosen _ _ _ _ _ (λ x y p q. top_32 _ ∙ in_order_32 x y p q) c.args.a.now c.args.b.now c.fits-a c.fits-b)

@@ -1,0 +1,6 @@
+use Rattle.std.proofs.Common.{lit<}
+use Rattle.lanes.proofs.VectorLanes.{amounts_below}
+use Rattle.lanes.proofs.vectors.words.U32LaneKernels4.shift_left_all.Goals as goal
+
+pub overflow_shl-result : goal.overflow_shl-result
+overflow_shl-result c = rw c.amounts.ensures (amounts_below 32 (lit< tt) c.args.a.now c.args.b.now)
