@@ -121,18 +121,6 @@ zip_from_pairs seen left right f R h (x ∷ xs) (y ∷ ys) [] e = absurd e
 zip_from_pairs seen left right f R h (x ∷ xs) (y ∷ ys) (z ∷ zs) e =
     let head = h x y z e.0 in let tail = zip_from_pairs seen left right f R h xs ys zs e.1 in cc
 
--- of results that are seen as they are
-pub tests_from_pairs : {A B C D E : Type 0} (left : A → D) (right : B → E) (f : D → E → C) (R : A → B → C → Type 0)
-    → ((a : A) (b : B) (c : C) → R a b c → c ≡ f (left a) (right b))
-    → (xs : List A) (ys : List B) (zs : List C) → EachPair R xs ys zs → zs ≡ zip_with f (map left xs) (map right ys)
-tests_from_pairs left right f R h [] [] [] e = refl
-tests_from_pairs left right f R h [] [] (z ∷ zs) e = absurd e
-tests_from_pairs left right f R h [] (y ∷ ys) zs e = absurd e
-tests_from_pairs left right f R h (x ∷ xs) [] zs e = absurd e
-tests_from_pairs left right f R h (x ∷ xs) (y ∷ ys) [] e = absurd e
-tests_from_pairs left right f R h (x ∷ xs) (y ∷ ys) (z ∷ zs) e =
-    let head = h x y z e.0 in let tail = tests_from_pairs left right f R h xs ys zs e.1 in cc
-
 pub map-chosen_of : {A B : Type 0} (seen : A → B) (bs : List Bool) (xs : List A) → map seen (chosen_of bs xs) ≡ chosen_of bs (map seen xs)
 map-chosen_of seen [] xs = refl
 map-chosen_of seen (b ∷ bs) [] = refl

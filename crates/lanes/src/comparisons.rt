@@ -4,67 +4,52 @@ ghost use Rattle.std.specs.Prelude.{◌≡◌};
 ghost use Rattle.lanes.specs.Words as word;
 ghost use Rattle.lanes.specs.Elementwise.{zip_with, reduced};
 
-use crate::kernels::{each_pair, reduce};
+use crate::kernels::reduce;
 use crate::kinds::LaneKind;
 use crate::registers::Lanes;
+use crate::vectors::LaneKernels;
 
-#[tactic(auto, using(crate::proofs::Elements::tests_from_pairs))]
-impl<K: LaneKind, const N: usize> Lanes<K, N> {
+impl<K: LaneKernels<N>, const N: usize> Lanes<K, N> {
     /// Where the two are equal.
     pub fn equal(&self, other: &Lanes<K, N>) -> [bool; N]
         ensures { result ≡ zip_with (word.equal K.width) self.now other.now }
     {
-        each_pair(&self.elements, &other.elements, [false; N], K::equal)
+        K::equal_all(&self.elements, &other.elements)
     }
 
     /// Where the two differ.
     pub fn not_equal(&self, other: &Lanes<K, N>) -> [bool; N]
         ensures { result ≡ zip_with (word.not_equal K.width) self.now other.now }
     {
-        each_pair(&self.elements, &other.elements, [false; N], K::not_equal)
+        K::not_equal_all(&self.elements, &other.elements)
     }
 
     /// Where these elements are less, read as unsigned.
     pub fn less_unsigned(&self, other: &Lanes<K, N>) -> [bool; N]
         ensures { result ≡ zip_with (word.less_unsigned K.width) self.now other.now }
     {
-        each_pair(
-            &self.elements,
-            &other.elements,
-            [false; N],
-            K::less_unsigned,
-        )
+        K::less_unsigned_all(&self.elements, &other.elements)
     }
 
     /// Where these elements are less, read as signed.
     pub fn less_signed(&self, other: &Lanes<K, N>) -> [bool; N]
         ensures { result ≡ zip_with (word.less_signed K.width) self.now other.now }
     {
-        each_pair(&self.elements, &other.elements, [false; N], K::less_signed)
+        K::less_signed_all(&self.elements, &other.elements)
     }
 
     /// Where these elements are less or equal, read as unsigned.
     pub fn less_or_equal_unsigned(&self, other: &Lanes<K, N>) -> [bool; N]
         ensures { result ≡ zip_with (word.less_or_equal_unsigned K.width) self.now other.now }
     {
-        each_pair(
-            &self.elements,
-            &other.elements,
-            [false; N],
-            K::less_or_equal_unsigned,
-        )
+        K::less_or_equal_unsigned_all(&self.elements, &other.elements)
     }
 
     /// Where these elements are less or equal, read as signed.
     pub fn less_or_equal_signed(&self, other: &Lanes<K, N>) -> [bool; N]
         ensures { result ≡ zip_with (word.less_or_equal_signed K.width) self.now other.now }
     {
-        each_pair(
-            &self.elements,
-            &other.elements,
-            [false; N],
-            K::less_or_equal_signed,
-        )
+        K::less_or_equal_signed_all(&self.elements, &other.elements)
     }
 }
 

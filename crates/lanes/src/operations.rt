@@ -7,15 +7,15 @@ ghost use Rattle.lanes.specs.Elementwise.{zip_with};
 use crate::kernels::each_pair;
 use crate::kinds::LaneKind;
 use crate::registers::Lanes;
+use crate::vectors::LaneKernels;
 
-#[tactic(auto, using(crate::proofs::Elements::zip_from_pairs))]
-impl<K: LaneKind, const N: usize> Lanes<K, N> {
+impl<K: LaneKernels<N>, const N: usize> Lanes<K, N> {
     /// The sums, modulo 2 to the width.
     pub fn add(&self, other: &Lanes<K, N>) -> Lanes<K, N>
         ensures { result ≡ zip_with (word.add K.width) self.now other.now }
     {
         Lanes {
-            elements: each_pair(&self.elements, &other.elements, self.elements, K::add),
+            elements: K::add_all(&self.elements, &other.elements),
         }
     }
 
@@ -24,7 +24,7 @@ impl<K: LaneKind, const N: usize> Lanes<K, N> {
         ensures { result ≡ zip_with (word.sub K.width) self.now other.now }
     {
         Lanes {
-            elements: each_pair(&self.elements, &other.elements, self.elements, K::sub),
+            elements: K::sub_all(&self.elements, &other.elements),
         }
     }
 
@@ -33,12 +33,7 @@ impl<K: LaneKind, const N: usize> Lanes<K, N> {
         ensures { result ≡ zip_with (word.min_unsigned K.width) self.now other.now }
     {
         Lanes {
-            elements: each_pair(
-                &self.elements,
-                &other.elements,
-                self.elements,
-                K::min_unsigned,
-            ),
+            elements: K::min_unsigned_all(&self.elements, &other.elements),
         }
     }
 
@@ -47,12 +42,7 @@ impl<K: LaneKind, const N: usize> Lanes<K, N> {
         ensures { result ≡ zip_with (word.min_signed K.width) self.now other.now }
     {
         Lanes {
-            elements: each_pair(
-                &self.elements,
-                &other.elements,
-                self.elements,
-                K::min_signed,
-            ),
+            elements: K::min_signed_all(&self.elements, &other.elements),
         }
     }
 
@@ -61,12 +51,7 @@ impl<K: LaneKind, const N: usize> Lanes<K, N> {
         ensures { result ≡ zip_with (word.max_unsigned K.width) self.now other.now }
     {
         Lanes {
-            elements: each_pair(
-                &self.elements,
-                &other.elements,
-                self.elements,
-                K::max_unsigned,
-            ),
+            elements: K::max_unsigned_all(&self.elements, &other.elements),
         }
     }
 
@@ -75,12 +60,7 @@ impl<K: LaneKind, const N: usize> Lanes<K, N> {
         ensures { result ≡ zip_with (word.max_signed K.width) self.now other.now }
     {
         Lanes {
-            elements: each_pair(
-                &self.elements,
-                &other.elements,
-                self.elements,
-                K::max_signed,
-            ),
+            elements: K::max_signed_all(&self.elements, &other.elements),
         }
     }
 
@@ -89,7 +69,7 @@ impl<K: LaneKind, const N: usize> Lanes<K, N> {
         ensures { result ≡ zip_with (word.and K.width) self.now other.now }
     {
         Lanes {
-            elements: each_pair(&self.elements, &other.elements, self.elements, K::and),
+            elements: K::and_all(&self.elements, &other.elements),
         }
     }
 
@@ -98,7 +78,7 @@ impl<K: LaneKind, const N: usize> Lanes<K, N> {
         ensures { result ≡ zip_with (word.or K.width) self.now other.now }
     {
         Lanes {
-            elements: each_pair(&self.elements, &other.elements, self.elements, K::or),
+            elements: K::or_all(&self.elements, &other.elements),
         }
     }
 
@@ -107,7 +87,7 @@ impl<K: LaneKind, const N: usize> Lanes<K, N> {
         ensures { result ≡ zip_with (word.xor K.width) self.now other.now }
     {
         Lanes {
-            elements: each_pair(&self.elements, &other.elements, self.elements, K::xor),
+            elements: K::xor_all(&self.elements, &other.elements),
         }
     }
 
@@ -116,12 +96,7 @@ impl<K: LaneKind, const N: usize> Lanes<K, N> {
         ensures { result ≡ zip_with (word.shift_left K.width) self.now other.now }
     {
         Lanes {
-            elements: each_pair(
-                &self.elements,
-                &other.elements,
-                self.elements,
-                K::shift_left,
-            ),
+            elements: K::shift_left_all(&self.elements, &other.elements),
         }
     }
 
@@ -130,12 +105,7 @@ impl<K: LaneKind, const N: usize> Lanes<K, N> {
         ensures { result ≡ zip_with (word.shift_right_logical K.width) self.now other.now }
     {
         Lanes {
-            elements: each_pair(
-                &self.elements,
-                &other.elements,
-                self.elements,
-                K::shift_right_logical,
-            ),
+            elements: K::shift_right_logical_all(&self.elements, &other.elements),
         }
     }
 
@@ -144,12 +114,7 @@ impl<K: LaneKind, const N: usize> Lanes<K, N> {
         ensures { result ≡ zip_with (word.shift_right_arithmetic K.width) self.now other.now }
     {
         Lanes {
-            elements: each_pair(
-                &self.elements,
-                &other.elements,
-                self.elements,
-                K::shift_right_arithmetic,
-            ),
+            elements: K::shift_right_arithmetic_all(&self.elements, &other.elements),
         }
     }
 
@@ -158,10 +123,13 @@ impl<K: LaneKind, const N: usize> Lanes<K, N> {
         ensures { result ≡ zip_with (word.multiply K.width) self.now other.now }
     {
         Lanes {
-            elements: each_pair(&self.elements, &other.elements, self.elements, K::multiply),
+            elements: K::multiply_all(&self.elements, &other.elements),
         }
     }
+}
 
+#[tactic(auto, using(crate::proofs::Elements::zip_from_pairs))]
+impl<K: LaneKind, const N: usize> Lanes<K, N> {
     /// The high halves of the products of unsigned numbers.
     pub fn multiply_high_unsigned(&self, other: &Lanes<K, N>) -> Lanes<K, N>
         ensures { result ≡ zip_with (word.multiply_high_unsigned K.width) self.now other.now }

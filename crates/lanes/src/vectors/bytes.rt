@@ -18,7 +18,9 @@ impl LaneKernels<16> for u8 {
     }
 
     fn min_unsigned_all(a: &[u8; 16], b: &[u8; 16]) -> [u8; 16] {
-        u8x16::from_array(*a).simd_min(u8x16::from_array(*b)).to_array()
+        u8x16::from_array(*a)
+            .simd_min(u8x16::from_array(*b))
+            .to_array()
     }
 
     fn min_signed_all(a: &[u8; 16], b: &[u8; 16]) -> [u8; 16] {
@@ -28,7 +30,9 @@ impl LaneKernels<16> for u8 {
     }
 
     fn max_unsigned_all(a: &[u8; 16], b: &[u8; 16]) -> [u8; 16] {
-        u8x16::from_array(*a).simd_max(u8x16::from_array(*b)).to_array()
+        u8x16::from_array(*a)
+            .simd_max(u8x16::from_array(*b))
+            .to_array()
     }
 
     fn max_signed_all(a: &[u8; 16], b: &[u8; 16]) -> [u8; 16] {
@@ -80,7 +84,10 @@ impl LaneKernels<16> for u8 {
     }
 
     fn less_signed_all(a: &[u8; 16], b: &[u8; 16]) -> [bool; 16] {
-        less(ordered(u8x16::from_array(*a)), ordered(u8x16::from_array(*b)))
+        less(
+            ordered(u8x16::from_array(*a)),
+            ordered(u8x16::from_array(*b)),
+        )
     }
 
     fn less_or_equal_unsigned_all(a: &[u8; 16], b: &[u8; 16]) -> [bool; 16] {
@@ -88,7 +95,10 @@ impl LaneKernels<16> for u8 {
     }
 
     fn less_or_equal_signed_all(a: &[u8; 16], b: &[u8; 16]) -> [bool; 16] {
-        less_or_equal(ordered(u8x16::from_array(*a)), ordered(u8x16::from_array(*b)))
+        less_or_equal(
+            ordered(u8x16::from_array(*a)),
+            ordered(u8x16::from_array(*b)),
+        )
     }
 }
 
@@ -119,7 +129,11 @@ fn flipped_below_zero<const N: usize>(a: Simd<u8, N>, b: Simd<u8, N>) -> Simd<u8
 fn equal<const N: usize>(a: Simd<u8, N>, b: Simd<u8, N>) -> [bool; N]
     ensures { result ≡ zip2 (λ x y. x == y) a.entry b.entry }
 {
-    are_ones(&a.simd_eq(b).select(Simd::splat(1_u8), Simd::splat(0_u8)).to_array())
+    are_ones(
+        &a.simd_eq(b)
+            .select(Simd::splat(1_u8), Simd::splat(0_u8))
+            .to_array(),
+    )
 }
 
 // Where two numbers differ.
@@ -127,7 +141,11 @@ fn equal<const N: usize>(a: Simd<u8, N>, b: Simd<u8, N>) -> [bool; N]
 fn not_equal<const N: usize>(a: Simd<u8, N>, b: Simd<u8, N>) -> [bool; N]
     ensures { result ≡ zip2 (λ x y. not (x == y)) a.entry b.entry }
 {
-    are_ones(&a.simd_ne(b).select(Simd::splat(1_u8), Simd::splat(0_u8)).to_array())
+    are_ones(
+        &a.simd_ne(b)
+            .select(Simd::splat(1_u8), Simd::splat(0_u8))
+            .to_array(),
+    )
 }
 
 // Where the first numbers are less.
@@ -135,7 +153,11 @@ fn not_equal<const N: usize>(a: Simd<u8, N>, b: Simd<u8, N>) -> [bool; N]
 fn less<const N: usize>(a: Simd<u8, N>, b: Simd<u8, N>) -> [bool; N]
     ensures { result ≡ zip2 (λ x y. nat_lt x y) a.entry b.entry }
 {
-    are_ones(&a.simd_lt(b).select(Simd::splat(1_u8), Simd::splat(0_u8)).to_array())
+    are_ones(
+        &a.simd_lt(b)
+            .select(Simd::splat(1_u8), Simd::splat(0_u8))
+            .to_array(),
+    )
 }
 
 // Where the first numbers are less or equal.
@@ -143,5 +165,9 @@ fn less<const N: usize>(a: Simd<u8, N>, b: Simd<u8, N>) -> [bool; N]
 fn less_or_equal<const N: usize>(a: Simd<u8, N>, b: Simd<u8, N>) -> [bool; N]
     ensures { result ≡ zip2 (λ x y. not (nat_lt y x)) a.entry b.entry }
 {
-    are_ones(&a.simd_le(b).select(Simd::splat(1_u8), Simd::splat(0_u8)).to_array())
+    are_ones(
+        &a.simd_le(b)
+            .select(Simd::splat(1_u8), Simd::splat(0_u8))
+            .to_array(),
+    )
 }

@@ -18,7 +18,9 @@ impl LaneKernels<8> for u16 {
     }
 
     fn min_unsigned_all(a: &[u16; 8], b: &[u16; 8]) -> [u16; 8] {
-        u16x8::from_array(*a).simd_min(u16x8::from_array(*b)).to_array()
+        u16x8::from_array(*a)
+            .simd_min(u16x8::from_array(*b))
+            .to_array()
     }
 
     fn min_signed_all(a: &[u16; 8], b: &[u16; 8]) -> [u16; 8] {
@@ -28,7 +30,9 @@ impl LaneKernels<8> for u16 {
     }
 
     fn max_unsigned_all(a: &[u16; 8], b: &[u16; 8]) -> [u16; 8] {
-        u16x8::from_array(*a).simd_max(u16x8::from_array(*b)).to_array()
+        u16x8::from_array(*a)
+            .simd_max(u16x8::from_array(*b))
+            .to_array()
     }
 
     fn max_signed_all(a: &[u16; 8], b: &[u16; 8]) -> [u16; 8] {
@@ -80,7 +84,10 @@ impl LaneKernels<8> for u16 {
     }
 
     fn less_signed_all(a: &[u16; 8], b: &[u16; 8]) -> [bool; 8] {
-        less(ordered(u16x8::from_array(*a)), ordered(u16x8::from_array(*b)))
+        less(
+            ordered(u16x8::from_array(*a)),
+            ordered(u16x8::from_array(*b)),
+        )
     }
 
     fn less_or_equal_unsigned_all(a: &[u16; 8], b: &[u16; 8]) -> [bool; 8] {
@@ -88,7 +95,10 @@ impl LaneKernels<8> for u16 {
     }
 
     fn less_or_equal_signed_all(a: &[u16; 8], b: &[u16; 8]) -> [bool; 8] {
-        less_or_equal(ordered(u16x8::from_array(*a)), ordered(u16x8::from_array(*b)))
+        less_or_equal(
+            ordered(u16x8::from_array(*a)),
+            ordered(u16x8::from_array(*b)),
+        )
     }
 }
 
@@ -119,7 +129,11 @@ fn flipped_below_zero<const N: usize>(a: Simd<u16, N>, b: Simd<u16, N>) -> Simd<
 fn equal<const N: usize>(a: Simd<u16, N>, b: Simd<u16, N>) -> [bool; N]
     ensures { result ≡ zip2 (λ x y. x == y) a.entry b.entry }
 {
-    are_ones(&a.simd_eq(b).select(Simd::splat(1_u16), Simd::splat(0_u16)).to_array())
+    are_ones(
+        &a.simd_eq(b)
+            .select(Simd::splat(1_u16), Simd::splat(0_u16))
+            .to_array(),
+    )
 }
 
 // Where two numbers differ.
@@ -127,7 +141,11 @@ fn equal<const N: usize>(a: Simd<u16, N>, b: Simd<u16, N>) -> [bool; N]
 fn not_equal<const N: usize>(a: Simd<u16, N>, b: Simd<u16, N>) -> [bool; N]
     ensures { result ≡ zip2 (λ x y. not (x == y)) a.entry b.entry }
 {
-    are_ones(&a.simd_ne(b).select(Simd::splat(1_u16), Simd::splat(0_u16)).to_array())
+    are_ones(
+        &a.simd_ne(b)
+            .select(Simd::splat(1_u16), Simd::splat(0_u16))
+            .to_array(),
+    )
 }
 
 // Where the first numbers are less.
@@ -135,7 +153,11 @@ fn not_equal<const N: usize>(a: Simd<u16, N>, b: Simd<u16, N>) -> [bool; N]
 fn less<const N: usize>(a: Simd<u16, N>, b: Simd<u16, N>) -> [bool; N]
     ensures { result ≡ zip2 (λ x y. nat_lt x y) a.entry b.entry }
 {
-    are_ones(&a.simd_lt(b).select(Simd::splat(1_u16), Simd::splat(0_u16)).to_array())
+    are_ones(
+        &a.simd_lt(b)
+            .select(Simd::splat(1_u16), Simd::splat(0_u16))
+            .to_array(),
+    )
 }
 
 // Where the first numbers are less or equal.
@@ -143,5 +165,9 @@ fn less<const N: usize>(a: Simd<u16, N>, b: Simd<u16, N>) -> [bool; N]
 fn less_or_equal<const N: usize>(a: Simd<u16, N>, b: Simd<u16, N>) -> [bool; N]
     ensures { result ≡ zip2 (λ x y. not (nat_lt y x)) a.entry b.entry }
 {
-    are_ones(&a.simd_le(b).select(Simd::splat(1_u16), Simd::splat(0_u16)).to_array())
+    are_ones(
+        &a.simd_le(b)
+            .select(Simd::splat(1_u16), Simd::splat(0_u16))
+            .to_array(),
+    )
 }

@@ -18,7 +18,9 @@ impl LaneKernels<4> for u32 {
     }
 
     fn min_unsigned_all(a: &[u32; 4], b: &[u32; 4]) -> [u32; 4] {
-        u32x4::from_array(*a).simd_min(u32x4::from_array(*b)).to_array()
+        u32x4::from_array(*a)
+            .simd_min(u32x4::from_array(*b))
+            .to_array()
     }
 
     fn min_signed_all(a: &[u32; 4], b: &[u32; 4]) -> [u32; 4] {
@@ -28,7 +30,9 @@ impl LaneKernels<4> for u32 {
     }
 
     fn max_unsigned_all(a: &[u32; 4], b: &[u32; 4]) -> [u32; 4] {
-        u32x4::from_array(*a).simd_max(u32x4::from_array(*b)).to_array()
+        u32x4::from_array(*a)
+            .simd_max(u32x4::from_array(*b))
+            .to_array()
     }
 
     fn max_signed_all(a: &[u32; 4], b: &[u32; 4]) -> [u32; 4] {
@@ -80,7 +84,10 @@ impl LaneKernels<4> for u32 {
     }
 
     fn less_signed_all(a: &[u32; 4], b: &[u32; 4]) -> [bool; 4] {
-        less(ordered(u32x4::from_array(*a)), ordered(u32x4::from_array(*b)))
+        less(
+            ordered(u32x4::from_array(*a)),
+            ordered(u32x4::from_array(*b)),
+        )
     }
 
     fn less_or_equal_unsigned_all(a: &[u32; 4], b: &[u32; 4]) -> [bool; 4] {
@@ -88,7 +95,10 @@ impl LaneKernels<4> for u32 {
     }
 
     fn less_or_equal_signed_all(a: &[u32; 4], b: &[u32; 4]) -> [bool; 4] {
-        less_or_equal(ordered(u32x4::from_array(*a)), ordered(u32x4::from_array(*b)))
+        less_or_equal(
+            ordered(u32x4::from_array(*a)),
+            ordered(u32x4::from_array(*b)),
+        )
     }
 }
 
@@ -119,7 +129,11 @@ fn flipped_below_zero<const N: usize>(a: Simd<u32, N>, b: Simd<u32, N>) -> Simd<
 fn equal<const N: usize>(a: Simd<u32, N>, b: Simd<u32, N>) -> [bool; N]
     ensures { result ≡ zip2 (λ x y. x == y) a.entry b.entry }
 {
-    are_ones(&a.simd_eq(b).select(Simd::splat(1_u32), Simd::splat(0_u32)).to_array())
+    are_ones(
+        &a.simd_eq(b)
+            .select(Simd::splat(1_u32), Simd::splat(0_u32))
+            .to_array(),
+    )
 }
 
 // Where two numbers differ.
@@ -127,7 +141,11 @@ fn equal<const N: usize>(a: Simd<u32, N>, b: Simd<u32, N>) -> [bool; N]
 fn not_equal<const N: usize>(a: Simd<u32, N>, b: Simd<u32, N>) -> [bool; N]
     ensures { result ≡ zip2 (λ x y. not (x == y)) a.entry b.entry }
 {
-    are_ones(&a.simd_ne(b).select(Simd::splat(1_u32), Simd::splat(0_u32)).to_array())
+    are_ones(
+        &a.simd_ne(b)
+            .select(Simd::splat(1_u32), Simd::splat(0_u32))
+            .to_array(),
+    )
 }
 
 // Where the first numbers are less.
@@ -135,7 +153,11 @@ fn not_equal<const N: usize>(a: Simd<u32, N>, b: Simd<u32, N>) -> [bool; N]
 fn less<const N: usize>(a: Simd<u32, N>, b: Simd<u32, N>) -> [bool; N]
     ensures { result ≡ zip2 (λ x y. nat_lt x y) a.entry b.entry }
 {
-    are_ones(&a.simd_lt(b).select(Simd::splat(1_u32), Simd::splat(0_u32)).to_array())
+    are_ones(
+        &a.simd_lt(b)
+            .select(Simd::splat(1_u32), Simd::splat(0_u32))
+            .to_array(),
+    )
 }
 
 // Where the first numbers are less or equal.
@@ -143,5 +165,9 @@ fn less<const N: usize>(a: Simd<u32, N>, b: Simd<u32, N>) -> [bool; N]
 fn less_or_equal<const N: usize>(a: Simd<u32, N>, b: Simd<u32, N>) -> [bool; N]
     ensures { result ≡ zip2 (λ x y. not (nat_lt y x)) a.entry b.entry }
 {
-    are_ones(&a.simd_le(b).select(Simd::splat(1_u32), Simd::splat(0_u32)).to_array())
+    are_ones(
+        &a.simd_le(b)
+            .select(Simd::splat(1_u32), Simd::splat(0_u32))
+            .to_array(),
+    )
 }
