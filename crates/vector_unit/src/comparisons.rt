@@ -5,7 +5,7 @@ ghost use Rattle.std.specs.Prelude.{◌≡◌};
 ghost use Rattle.lanes.specs.Elementwise.{zip_with, reduced};
 ghost use Rattle.vector_unit.specs.Operations as op;
 
-use lanes::{LaneKind, Lanes};
+use lanes::{LaneKernels, LaneKind, Lanes};
 use rv_insn::{CompareViOp, CompareVvOp, CompareVxOp, ReductionOp};
 
 /// The same comparison, of those of two vector registers.
@@ -37,7 +37,7 @@ pub(crate) fn with_immediate(operation: CompareViOp) -> CompareVxOp
 }
 
 /// Where a comparison holds of the pair, where `first` are the elements of `vs2`.
-pub(crate) fn compared<K: LaneKind, const N: usize>(
+pub(crate) fn compared<K: LaneKernels<N>, const N: usize>(
     operation: CompareVxOp,
     first: &Lanes<K, N>,
     other: &Lanes<K, N>,

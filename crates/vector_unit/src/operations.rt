@@ -5,7 +5,7 @@ ghost use Rattle.std.specs.Prelude.{◌≡◌};
 ghost use Rattle.lanes.specs.Elementwise.{zip_with};
 ghost use Rattle.vector_unit.specs.Operations as op;
 
-use lanes::{LaneKind, Lanes};
+use lanes::{LaneKernels, Lanes};
 use rv_insn::{ArithmeticViOp, ArithmeticVvOp, ArithmeticVxOp, MultiplyOp, ShiftViOp};
 
 /// The same operation, of the arithmetic of two vector registers.
@@ -53,7 +53,7 @@ pub(crate) fn shift(operation: ShiftViOp) -> ArithmeticVxOp
 }
 
 /// What an operation makes of each pair, where `first` are the elements of `vs2`.
-pub(crate) fn arithmetic<K: LaneKind, const N: usize>(
+pub(crate) fn arithmetic<K: LaneKernels<N>, const N: usize>(
     operation: ArithmeticVxOp,
     first: &Lanes<K, N>,
     other: &Lanes<K, N>,
@@ -78,7 +78,7 @@ pub(crate) fn arithmetic<K: LaneKind, const N: usize>(
 }
 
 /// What a multiplication or division makes of each pair, where `first` are the elements of `vs2`.
-pub(crate) fn multiplied<K: LaneKind, const N: usize>(
+pub(crate) fn multiplied<K: LaneKernels<N>, const N: usize>(
     operation: MultiplyOp,
     first: &Lanes<K, N>,
     other: &Lanes<K, N>,
