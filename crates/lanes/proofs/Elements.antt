@@ -1,5 +1,5 @@
 -- Results that stand in the place of what they are the results of.
-use Rattle.std.proofs.Common.{◌≡◌, ℕ, zero, suc, ◌+◌, ◌<◌, ◌≤◌, Bool, true, false, List, [], ◌∷◌, ◌++◌, if◌then◌else◌, map, take, length, get_or, refl, sym, ◌∙◌, ap, arith}
+use Rattle.std.proofs.Common.{◌≡◌, ℕ, zero, suc, ◌+◌, ◌<◌, ◌≤◌, Bool, true, false, List, [], ◌∷◌, ◌++◌, map, take, length, get_or, refl, sym, ◌∙◌, ap, arith}
 use Rattle.std.proofs.Math.ListN.{set, replicate}
 use Rattle.std.proofs.lemmas.List.{take_all, map-set}
 use Rattle.std.proofs.lemmas.Bool.Decides.{nat_tests}
@@ -77,36 +77,6 @@ reduce_other R start total i bs xs b p q e h = rw (chosen_of-more_false i bs xs 
 pub reduce_all : {A : Type 0} (R : A → A → A → Type 0) (start total : A) (i : ℕ) (bs : List Bool) (xs : List A)
     → length bs ≤ i → length xs ≤ i → LeadsTo R start (chosen_of (take i bs) (take i xs)) total → LeadsTo R start (chosen_of bs xs) total
 reduce_all R start total i bs xs p q h = rw (take_all i bs p, take_all i xs q) at h
-
--- ---- merges
-
--- one element more
-merged-more : {A : Type 0} (i : ℕ) (bs : List Bool) (xs ys zs : List A) (b : Bool) (x y z : A)
-    → i < length bs → i < length xs → i < length ys → i < length zs → z ≡ (if get_or bs i b then get_or xs i x else get_or ys i y)
-    → take i zs ≡ merged (take i bs) (take i xs) (take i ys) → take (suc i) (set zs i z) ≡ merged (take (suc i) bs) (take (suc i) xs) (take (suc i) ys)
-merged-more i [] xs ys zs b x y z p q r s e h = absurd (omega arith)
-merged-more i (b' ∷ bs) [] ys zs b x y z p q r s e h = absurd (omega arith)
-merged-more i (b' ∷ bs) (x' ∷ xs) [] zs b x y z p q r s e h = absurd (omega arith)
-merged-more i (b' ∷ bs) (x' ∷ xs) (y' ∷ ys) [] b x y z p q r s e h = absurd (omega arith)
-merged-more zero (b' ∷ bs) (x' ∷ xs) (y' ∷ ys) (z' ∷ zs) b x y z p q r s e h = ap (λ v. v ∷ []) e
-merged-more (suc i) (b' ∷ bs) (x' ∷ xs) (y' ∷ ys) (z' ∷ zs) b x y z p q r s e h =
-    let tail : take i zs ≡ merged (take i bs) (take i xs) (take i ys) = cc in
-    let head : z' ≡ (if b' then x' else y') = cc in
-    let rest = merged-more i bs xs ys zs b x y z (omega arith) (omega arith) (omega arith) (omega arith) e tail in cc
-
-pub merged-more_new : {A : Type 0} (i : ℕ) (bs : List Bool) (xs ys zs : List A) (b : Bool) (x z : A)
-    → i < length bs → i < length xs → i < length ys → i < length zs → get_or bs i b ≡ true → z ≡ get_or xs i x
-    → take i zs ≡ merged (take i bs) (take i xs) (take i ys) → take (suc i) (set zs i z) ≡ merged (take (suc i) bs) (take (suc i) xs) (take (suc i) ys)
-merged-more_new i bs xs ys zs b x z p q r s t e h = merged-more i bs xs ys zs b x x z p q r s (rw t e) h
-
-pub merged-more_old : {A : Type 0} (i : ℕ) (bs : List Bool) (xs ys zs : List A) (b : Bool) (y z : A)
-    → i < length bs → i < length xs → i < length ys → i < length zs → get_or bs i b ≡ false → z ≡ get_or ys i y
-    → take i zs ≡ merged (take i bs) (take i xs) (take i ys) → take (suc i) (set zs i z) ≡ merged (take (suc i) bs) (take (suc i) xs) (take (suc i) ys)
-merged-more_old i bs xs ys zs b y z p q r s t e h = merged-more i bs xs ys zs b y y z p q r s (rw t e) h
-
-pub merged-all : {A : Type 0} (i : ℕ) (bs : List Bool) (xs ys zs : List A) → length bs ≤ i → length xs ≤ i → length ys ≤ i → length zs ≤ i
-    → take i zs ≡ merged (take i bs) (take i xs) (take i ys) → zs ≡ merged bs xs ys
-merged-all i bs xs ys zs p q r s h = rw (take_all i zs s, take_all i bs p, take_all i xs q, take_all i ys r) at h
 
 -- ---- what contracts say, from what the loops say
 

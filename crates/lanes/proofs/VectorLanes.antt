@@ -1,14 +1,10 @@
 -- Vectors of the processor, lane by lane.
-use Rattle.std.proofs.Common.{◌≡◌, ℕ, zero, suc, ◌+◌, ◌-◌, ◌*◌, ◌/◌, ◌%◌, ◌^◌, ◌<◌, ◌≤◌, Bool, true, false, not, cond, nat_le, nat_lt, ◌==◌, List, [], ◌∷◌, if◌then◌else◌, map, take, length, get_or, replicate, bit_and, refl, sym, ◌∙◌, ap, arith, Fits, w8, w16, w32}
+use Rattle.std.proofs.Common.{◌≡◌, ℕ, zero, suc, ◌+◌, ◌-◌, ◌/◌, ◌%◌, ◌^◌, ◌<◌, ◌≤◌, Bool, true, false, not, cond, nat_le, nat_lt, ◌==◌, List, [], ◌∷◌, if◌then◌else◌, map, take, length, get_or, replicate, refl, sym, ap, arith}
 use Rattle.std.proofs.Math.Nat.{mod-eq_of_lt, mod-lt, div-le_self}
 use Rattle.std.proofs.Math.ListN.{set}
-use Rattle.std.proofs.lemmas.Nat.{and_mask}
 use Rattle.std.proofs.lemmas.List.{take_all}
-use Rattle.std.proofs.lemmas.Simd.{zip2_splat}
-use lib.Lanes.{zip2, sel_l, top, Each1, Each2}
-use Rattle.std.specs.Int.{int_shr}
-use Rattle.std.specs.Prelude.{int_lt, pos, negsuc}
-use Rattle.lanes.specs.Elementwise.{zip_with}
+use lib.Lanes.{zip2, sel_l, top, Each2}
+use Rattle.lanes.specs.Elementwise.{zip_with, merged}
 use Rattle.lanes.specs.Words as word
 
 abbrev id : ℕ → ℕ
@@ -88,6 +84,49 @@ ones_chosen p m t h (suc n) (x ∷ xs) (y ∷ ys) a b =
 
 pub not_greater : (x y : ℕ) → nat_le x y ≡ not (nat_lt y x)
 not_greater x y = grind arith
+
+-- ---- merges
+
+pub flagged : (p : ℕ → Bool) (m : ℕ → ℕ → ℕ) (k : ℕ) (t : ℕ → Bool) → ((x : ℕ) → p (m x k) ≡ t x)
+    → (n : ℕ) (fs xs ys : List ℕ) → length fs ≡ n → sel_l (map p (zip2 m fs (replicate n k))) xs ys ≡ sel_l (map t fs) xs ys
+flagged p m k t h zero [] xs ys a = refl
+flagged p m k t h (suc n) [] xs ys a = refl
+flagged p m k t h zero (f ∷ fs) xs ys a = absurd (omega (arith, a))
+flagged p m k t h (suc n) (f ∷ fs) [] ys a = refl
+flagged p m k t h (suc n) (f ∷ fs) (x ∷ xs) [] a = refl
+flagged p m k t h (suc n) (f ∷ fs) (x ∷ xs) (y ∷ ys) a = let head = h f in let tail = flagged p m k t h n fs xs ys (omega (arith, a)) in cc
+
+flags_merge : {A : Type 0} (bs : List Bool) (xs ys : List A) → sel_l (map (λ n. n == 1) (map (λ b. if b then 1 else 0) bs)) xs ys ≡ merged bs xs ys
+flags_merge [] xs ys = refl
+flags_merge (b ∷ bs) [] ys = refl
+flags_merge (b ∷ bs) (x ∷ xs) [] = refl
+flags_merge (true ∷ bs) (x ∷ xs) (y ∷ ys) = ap (λ zs. x ∷ zs) (flags_merge bs xs ys)
+flags_merge (false ∷ bs) (x ∷ xs) (y ∷ ys) = ap (λ zs. y ∷ zs) (flags_merge bs xs ys)
+
+pub merged_flags : {A : Type 0} (fs : List ℕ) (bs : List Bool) (xs ys : List A) → fs ≡ map (λ b. if b then 1 else 0) bs → sel_l (map (λ n. n == 1) fs) xs ys ≡ merged bs xs ys
+merged_flags fs bs xs ys e = rw e (flags_merge bs xs ys)
+
+pub flags_more : {A : Type 0} (here elsewhere : A) (i : ℕ) (zs : List A) (bs : List Bool) (z : A) (b : Bool) → i < length zs → i < length bs → z ≡ (if get_or bs i b then here else elsewhere)
+    → take i zs ≡ map (λ v. if v then here else elsewhere) (take i bs) → take (suc i) (set zs i z) ≡ map (λ v. if v then here else elsewhere) (take (suc i) bs)
+flags_more here elsewhere i [] bs z b p q e h = absurd (omega arith)
+flags_more here elsewhere i (z' ∷ zs) [] z b p q e h = absurd (omega arith)
+flags_more here elsewhere zero (z' ∷ zs) (b' ∷ bs) z b p q e h = ap (λ v. v ∷ []) e
+flags_more here elsewhere (suc i) (z' ∷ zs) (b' ∷ bs) z b p q e h =
+    let tail : take i zs ≡ map (λ v. if v then here else elsewhere) (take i bs) = cc in
+    let head : z' ≡ (if b' then here else elsewhere) = cc in
+    let rest = flags_more here elsewhere i zs bs z b (omega arith) (omega arith) e tail in cc
+
+pub flags_more_here : {A : Type 0} (here elsewhere : A) (i : ℕ) (zs : List A) (bs : List Bool) (z : A) (b : Bool) → i < length zs → i < length bs → get_or bs i b ≡ true → z ≡ here
+    → take i zs ≡ map (λ v. if v then here else elsewhere) (take i bs) → take (suc i) (set zs i z) ≡ map (λ v. if v then here else elsewhere) (take (suc i) bs)
+flags_more_here here elsewhere i zs bs z b p q t e h = flags_more here elsewhere i zs bs z b p q (rw t e) h
+
+pub flags_more_elsewhere : {A : Type 0} (here elsewhere : A) (i : ℕ) (zs : List A) (bs : List Bool) (z : A) (b : Bool) → i < length zs → i < length bs → get_or bs i b ≡ false → z ≡ elsewhere
+    → take i zs ≡ map (λ v. if v then here else elsewhere) (take i bs) → take (suc i) (set zs i z) ≡ map (λ v. if v then here else elsewhere) (take (suc i) bs)
+flags_more_elsewhere here elsewhere i zs bs z b p q t e h = flags_more here elsewhere i zs bs z b p q (rw t e) h
+
+pub flags_all : {A : Type 0} (here elsewhere : A) (i : ℕ) (zs : List A) (bs : List Bool) → length zs ≤ i → length bs ≤ i
+    → take i zs ≡ map (λ v. if v then here else elsewhere) (take i bs) → zs ≡ map (λ v. if v then here else elsewhere) bs
+flags_all here elsewhere i zs bs p q h = rw (take_all i zs p, take_all i bs q) at h
 
 -- ---- shifts
 

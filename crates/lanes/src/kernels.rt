@@ -1,12 +1,13 @@
 //! The loops over N elements. Each is generic over the operation, and says which answers of the operation
 //! stand in which place.
 
-ghost use Rattle.std.specs.Prelude.{◌≡◌, ◌==◌, ◌+◌, ◌<◌, ◌≤◌, ℕ, length, map};
+ghost use Rattle.std.specs.Prelude.{◌≡◌, ◌==◌, ◌+◌, ◌<◌, ◌≤◌, ℕ, if◌then◌else◌, length, map};
 ghost use Rattle.lanes.specs.Masks.{active};
 ghost use Rattle.lanes.specs.Elementwise.{EachPair, EachFrom, LeadsTo, chosen_of, merged};
 
 use crate::kinds::LaneKind;
 use crate::masks::active;
+use crate::vectors::LaneKernels;
 
 /// The answers to each pair, written over `results`.
 pub(crate) fn each_pair<A: Copy, B: Copy, const N: usize, F: Fn(A, A) -> B>(
@@ -69,17 +70,13 @@ pub(crate) fn reduce<A: Copy, const N: usize, F: Fn(A, A) -> A>(
     total
 }
 
-/// The new element where it is chosen, else the old one.
-pub(crate) fn merge<A: Copy, const N: usize>(
-    chosen: &[bool; N],
-    new: &[A; N],
-    old: &[A; N],
-) -> [A; N]
-    ensures { result ≡ merged chosen.now new.now old.now }
+/// One number where an element is chosen, another one where it isn't.
+pub(crate) fn flags<A: Copy, const N: usize>(chosen: &[bool; N], here: A, elsewhere: A) -> [A; N]
+    ensures { result ≡ map (λ b. if b then here else elsewhere) chosen.now }
 {
-    let mut results = *old;
+    let mut results = [elsewhere; N];
     for i in 0..N {
-        results[i] = if chosen[i] { new[i] } else { old[i] };
+        results[i] = if chosen[i] { here } else { elsewhere };
     }
     results
 }
@@ -87,19 +84,19 @@ pub(crate) fn merge<A: Copy, const N: usize>(
 /// The new element where an instruction works on it, of those from `first` on, else the old one. Where it works on all of them
 /// no mask is read.
 #[tactic(auto, using(crate::proofs::Elements::merged_active))]
-pub(crate) fn merge_active<A: Copy, const N: usize>(
-    new: &[A; N],
-    old: &[A; N],
+pub(crate) fn merge_active<K: LaneKernels<N>, const N: usize>(
+    new: &[K; N],
+    old: &[K; N],
     first: usize,
     vl: usize,
     unmasked: bool,
     mask: &[u8; 16],
-) -> [A; N]
+) -> [K; N]
     requires { first + N ≤ 128 }
     ensures { result ≡ merged (active first N vl unmasked mask.now) new.now old.now }
 {
     if unmasked && first + N <= vl {
         return *new;
     }
-    merge(&active(first, vl, unmasked, mask), new, old)
+    K::merge_all(&active(first, vl, unmasked, mask), new, old)
 }

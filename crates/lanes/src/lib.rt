@@ -2,10 +2,10 @@
 //! register at once, for elements of 8, 16 and 32 bits.
 //!
 //! [`LaneKind`] is a kind of element with the operations on two of them. [`Lanes`] is a register's N
-//! elements. Sums, order, bits, shifts, low products and comparisons of all of them are operations on
-//! vectors of the processor, one set a kind ([`LaneKernels`]); high products, quotients, remainders,
-//! reductions and merges are one loop for each shape, whatever the kind. [`masks`] says which elements are
-//! active, and writes results as bits of a register. Nothing here allocates.
+//! elements. Sums, order, bits, shifts, low products, comparisons and merges of all of them are operations
+//! on vectors of the processor, one set a kind ([`LaneKernels`]); high products, quotients, remainders and
+//! reductions are one loop for each shape, whatever the kind. [`masks`] says which elements are active, and
+//! writes results as bits of a register. Nothing here allocates.
 //!
 //! `specs/Words.antt` defines each operation on two words, over the width; `specs/Registers.antt` the
 //! elements of a register; `specs/Masks.antt` masks; `specs/Elementwise.antt` what is done with each element.

@@ -8,6 +8,7 @@ ghost use Rattle.lanes.specs.Masks.{active};
 
 use crate::kernels;
 use crate::kinds::LaneKind;
+use crate::vectors::LaneKernels;
 use std::marker::Model;
 
 /// N elements of one kind. A contract sees them as the list of their numbers, element 0 first.
@@ -49,34 +50,6 @@ impl<K: LaneKind, const N: usize> Lanes<K, N> {
         ensures { self.new ≡ slice_set self.old index (K.number value) }
     {
         self.elements[index] = value;
-    }
-
-    /// The new elements where they are chosen, and these ones elsewhere.
-    pub fn merge(&self, new: &Lanes<K, N>, chosen: &[bool; N]) -> Lanes<K, N>
-        ensures { result ≡ merged chosen.now new.now self.now }
-    {
-        Lanes {
-            elements: kernels::merge(chosen, &new.elements, &self.elements),
-        }
-    }
-
-    /// The new elements where an instruction works on them, of those from `first` on, and these ones elsewhere: with
-    /// [`active`] those that are chosen.
-    pub fn merge_active(
-        &self,
-        new: &Lanes<K, N>,
-        first: usize,
-        vl: usize,
-        unmasked: bool,
-        mask: &[u8; 16],
-    ) -> Lanes<K, N>
-        requires { first + N ≤ 128 }
-        ensures { result ≡ merged (active first N vl unmasked mask.now) new.now self.now }
-    {
-        let old = &self.elements;
-        Lanes {
-            elements: kernels::merge_active(&new.elements, old, first, vl, unmasked, mask),
-        }
     }
 
     /// A register's elements.
@@ -123,6 +96,37 @@ impl<K: LaneKind, const N: usize> Lanes<K, N> {
         ensures { result ≡ register_of K.width self.now }
     {
         bytes_of(&self.elements)
+    }
+}
+
+#[tactic(auto, using(crate::proofs::Elements::seen_lists))]
+impl<K: LaneKernels<N>, const N: usize> Lanes<K, N> {
+    /// The new elements where they are chosen, and these ones elsewhere.
+    pub fn merge(&self, new: &Lanes<K, N>, chosen: &[bool; N]) -> Lanes<K, N>
+        ensures { result ≡ merged chosen.now new.now self.now }
+    {
+        Lanes {
+            elements: K::merge_all(chosen, &new.elements, &self.elements),
+        }
+    }
+
+    /// The new elements where an instruction works on them, of those from `first` on, and these ones elsewhere: with
+    /// [`active`] those that are chosen.
+    pub fn merge_active(
+        &self,
+        new: &Lanes<K, N>,
+        first: usize,
+        vl: usize,
+        unmasked: bool,
+        mask: &[u8; 16],
+    ) -> Lanes<K, N>
+        requires { first + N ≤ 128 }
+        ensures { result ≡ merged (active first N vl unmasked mask.now) new.now self.now }
+    {
+        let old = &self.elements;
+        Lanes {
+            elements: kernels::merge_active(&new.elements, old, first, vl, unmasked, mask),
+        }
     }
 }
 

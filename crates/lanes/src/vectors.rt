@@ -2,7 +2,7 @@
 
 ghost use Rattle.std.specs.Prelude.{◌≡◌, map};
 ghost use Rattle.lanes.specs.Words as word;
-ghost use Rattle.lanes.specs.Elementwise.{zip_with};
+ghost use Rattle.lanes.specs.Elementwise.{zip_with, merged};
 
 use crate::kinds::LaneKind;
 
@@ -89,4 +89,8 @@ pub trait LaneKernels<const N: usize>: LaneKind {
     /// Where the first elements are less or equal, read as signed.
     fn less_or_equal_signed_all(a: &[Self; N], b: &[Self; N]) -> [bool; N]
         ensures { result ≡ zip_with (word.less_or_equal_signed Self.width) (map Self.number a.now) (map Self.number b.now) };
+
+    /// The new elements where they are chosen, and the old ones elsewhere.
+    fn merge_all(chosen: &[bool; N], new: &[Self; N], old: &[Self; N]) -> [Self; N]
+        ensures { result ≡ merged chosen.now new.now old.now };
 }

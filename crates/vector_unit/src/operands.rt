@@ -11,7 +11,7 @@ ghost use Rattle.vector_unit.specs.Operands.{pair_of};
 ghost use Rattle.vector_unit.specs.inner.Parts.{operand_part};
 
 use crate::states::VectorState;
-use lanes::{LaneKind, Lanes, active};
+use lanes::{LaneKernels, Lanes, active};
 use rv_insn::{Imm5, ShiftAmount, VReg, VectorInsn};
 
 /// The other operand of an instruction.
@@ -135,7 +135,7 @@ impl VectorState {
 
     /// The bytes of a register of a group, with new elements where they are active and the old ones elsewhere.
     #[inline(always)]
-    pub(crate) fn merged<K: LaneKind, const N: usize>(
+    pub(crate) fn merged<K: LaneKernels<N>, const N: usize>(
         &self,
         vm: bool,
         part: usize,

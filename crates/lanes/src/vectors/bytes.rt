@@ -1,13 +1,13 @@
 //! Vectors of 16 elements of 8 bits.
 
 ghost use Rattle.std.specs.Prelude.{◌≡◌, ◌+◌, ◌-◌, ◌%◌, ◌==◌, not, if◌then◌else◌, map, nat_lt};
-ghost use Rattle.std.specs.Simd.Lanes.{zip2};
+ghost use Rattle.std.specs.Simd.Lanes.{zip2, sel_l};
 
-use crate::kernels::are_ones;
+use crate::kernels::{are_ones, flags};
 use crate::vectors::LaneKernels;
 use std::simd::prelude::*;
 
-#[tactic(auto, using(crate::proofs::VectorLanes::seen_tests, crate::proofs::VectorLanes::shifted))]
+#[tactic(auto, using(crate::proofs::VectorLanes::seen_tests, crate::proofs::VectorLanes::shifted, crate::proofs::VectorLanes::merged_flags))]
 impl LaneKernels<16> for u8 {
     fn add_all(a: &[u8; 16], b: &[u8; 16]) -> [u8; 16] {
         (u8x16::from_array(*a) + u8x16::from_array(*b)).to_array()
@@ -100,6 +100,11 @@ impl LaneKernels<16> for u8 {
             ordered(u8x16::from_array(*b)),
         )
     }
+
+    fn merge_all(chosen: &[bool; 16], new: &[u8; 16], old: &[u8; 16]) -> [u8; 16] {
+        let here = u8x16::from_array(flags(chosen, 1, 0));
+        selected(here, u8x16::from_array(*new), u8x16::from_array(*old)).to_array()
+    }
 }
 
 // Unsigned numbers in the order of the signed ones.
@@ -170,4 +175,12 @@ fn less_or_equal<const N: usize>(a: Simd<u8, N>, b: Simd<u8, N>) -> [bool; N]
             .select(Simd::splat(1_u8), Simd::splat(0_u8))
             .to_array(),
     )
+}
+
+// The first numbers where the flag is 1, the second ones elsewhere.
+#[tactic(auto, using(crate::proofs::VectorLanes::flagged, crate::proofs::VectorLanes::top_8))]
+fn selected<const N: usize>(flags: Simd<u8, N>, a: Simd<u8, N>, b: Simd<u8, N>) -> Simd<u8, N>
+    ensures { result ≡ sel_l (map (λ n. n == 1) flags.entry) a.entry b.entry }
+{
+    flags.simd_eq(Simd::splat(1)).select(a, b)
 }

@@ -1,4 +1,3 @@
-use Rattle.std.proofs.Common.{◌∙◌}
 use Rattle.lanes.proofs.VectorLanes.{tests_from_lanes, in_order_8}
 use Rattle.lanes.proofs.vectors.bytes.U8LaneKernels16.less_signed_all.Goals as goal
 

@@ -1,4 +1,3 @@
-use Rattle.std.proofs.Common.{◌∙◌}
 use Rattle.lanes.proofs.VectorLanes.{tests_from_lanes, in_order_32}
 use Rattle.lanes.proofs.vectors.words.U32LaneKernels4.less_signed_all.Goals as goal
 
