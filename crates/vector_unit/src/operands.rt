@@ -11,7 +11,7 @@ ghost use Rattle.vector_unit.specs.Operands.{pair_of};
 ghost use Rattle.vector_unit.specs.inner.Parts.{operand_part};
 
 use crate::states::VectorState;
-use lanes::{LaneKernels, Lanes, active};
+use lanes::{LaneKernels, LaneKind, Lanes, active};
 use rv_insn::{Imm5, ShiftAmount, VReg, VectorInsn};
 
 /// The other operand of an instruction.
