@@ -24,7 +24,7 @@ use Rattle.scalar_code.proofs.Values.{alu-sets, literal-sets}
 use Rattle.scalar_code.proofs.Seats.{is-seat-in}
 use Rattle.scalar_code.proofs.Keeping.{Kept, is-own, kept-apart, kept-safe, seat-in-kept, knows-still, knows-entered}
 use Rattle.scalar_code.proofs.Reaching.{Reaches, first-open, set-first, set-last, reach-then, reach-is, bounded-reaches}
-use Rattle.scalar_code.proofs.Going.{Hits, no_hits, hits_if, Went, Does, went-then, went-hits, went-less, within, still}
+use Rattle.scalar_code.proofs.Going.{Hits, no_hits, hits_if, mark_if, SameLanes, Went, Does, Marked, went-then, went-hits, went-less, within, still}
 use Rattle.scalar_code.proofs.Looping.{end-length, set-scratch, enters, passes, no-scratch, r-one, r-high, r-scratch}
 
 below : (n k : ℕ) → nat_lt n k ≡ true → n < k
@@ -103,8 +103,10 @@ module _ (own : Setting) (scope : List Counter) (values : Values) (few : length 
       (reach-is v memory l (sum-is (at_most whole.last n) (values whole.inner)) (set-last v memory l i3))))
 
   module _ (counter : Counter) (whole : Whole) (extent : ℕ) (small : extent < 2 ^ 32) (fits : fits_whole whole ≡ true) (body : List Insn) (t : ℕ) (one : Planes → Planes) (body_hits : Planes → Hits)
-      (parked : ℕ) (does : nat_lt (whole_value whole values) extent ≡ true → (f : ℕ → ℕ) (memory : List ℕ) (funcs : Planes) → HoldsFuncs own memory funcs → Knows v own.harts (counter ∷ scope) (with counter (whole_value whole values) values) f
-      → f c ≡ whole_value whole values → f 13 ≡ extent → f 15 ≡ parked → Does own body t f memory (suc depth) (one funcs) (body_hits funcs)) where
+      (parked : ℕ) (start_lanes : ℕ → ℕ) (made_is : (ℕ → ℕ) → Type 0)
+      (does : nat_lt (whole_value whole values) extent ≡ true → (f : ℕ → ℕ) (memory : List ℕ) (funcs : Planes) → HoldsFuncs own memory funcs → Knows v own.harts (counter ∷ scope) (with counter (whole_value whole values) values) f
+      → f c ≡ whole_value whole values → f 13 ≡ extent → f 15 ≡ parked → SameLanes start_lanes f
+      → Marked own made_is body (λ at. at) (λ at. end at body) t f memory (suc depth) (one funcs) (body_hits funcs)) where
     abbrev code : List Insn
     code = bind_code scope whole extent c body
 
@@ -126,7 +128,7 @@ module _ (own : Setting) (scope : List Counter) (values : Values) (few : length 
     tested : (at : ℕ) → Stand v.text at code → Stand v.text (mid at) behind
     tested at s = stand-back v.text at front behind s
 
-    to-end : {n : ℕ} {f : ℕ → ℕ} {memory : List ℕ} {funcs : Planes} {hits : Hits} → Went own code (λ at. at) out n f memory depth funcs hits → Does own code n f memory depth funcs hits
+    abbrev to-end : {n : ℕ} {f : ℕ → ℕ} {memory : List ℕ} {funcs : Planes} {hits : Hits} → Went own code (λ at. at) out n f memory depth funcs hits → Does own code n f memory depth funcs hits
     to-end {n} {f} {memory} a = record {
       after = a.after;
       left = a.left;
@@ -141,10 +143,16 @@ module _ (own : Setting) (scope : List Counter) (values : Values) (few : length 
     abbrev test_is : Bool
     test_is = nat_lt (whole_value whole values) extent
 
-    -- the body finds the value in the counter's register, the extent in scratch, and parked what was parked
-    pub bind-does : (is : Bool) → test_is ≡ is → (f : ℕ → ℕ) (memory : List ℕ) (funcs : Planes) → HoldsFuncs own memory funcs → Knows v own.harts scope values f → f 15 ≡ parked
-        → Does own code (length front + (if is then 3 + t else 4)) f memory depth (if is then one funcs else funcs) (hits_if is (body_hits funcs))
-    bind-does true is f memory funcs holds knows e15 =
+    lanes-stay : (f : ℕ → ℕ) (memory : List ℕ) (l : length memory ≡ v.size) (knows : Knows v own.harts scope values f) (q : ℕ) → 32 ≤ q → (whole-reaches whole f memory l fits knows).after q ≡ f q
+    lanes-stay f memory l knows q high =
+        let low = r-high own depth few in
+        (whole-reaches whole f memory l fits knows).others q (λ e. omega (arith, e, high)) (λ e. omega (arith, e, high, low)) (λ e. omega (arith, e, high))
+
+    -- The body finds the value in the counter's register, the extent in scratch, what was parked, and lanes as they were; so they are too where it is
+    -- passed by.
+    pub bind-goes : (is : Bool) → test_is ≡ is → (f : ℕ → ℕ) (memory : List ℕ) (funcs : Planes) → HoldsFuncs own memory funcs → Knows v own.harts scope values f → f 15 ≡ parked → SameLanes start_lanes f
+        → Marked own (mark_if is made_is (SameLanes start_lanes)) code (λ at. at) (λ at. end at code) (length front + (if is then 3 + t else 4)) f memory depth (if is then one funcs else funcs) (hits_if is (body_hits funcs))
+    bind-goes true is f memory funcs holds knows e15 same =
         let a = whole-reaches whole f memory holds.size fits knows in
         let kept-a : (q : ℕ) → Kept depth q → a.after q ≡ f q = λ q kept. let s = kept-safe depth q kept in let u = s.apart in
         a.others q (λ e. omega (arith, e, u)) (kept-apart depth q few kept) (λ e. omega (arith, e, u)) in
@@ -159,12 +167,13 @@ module _ (own : Setting) (scope : List Counter) (values : Values) (few : length 
         let f2 = head.after in
         let k2 = knows-still v own.harts scope values f1 f2 k1 second.keeps in
         let e2 : f2 c ≡ whole_value whole values = head.others c (r-scratch own depth few) ∙ a.value in
+        let lanes : SameLanes start_lanes f2 = λ q high. head.others q (λ e. omega (arith, e, high)) ∙ lanes-stay f memory holds.size knows q high ∙ same q high in
         let inner = does is f2 memory funcs holds (knows-entered v own.harts scope values counter (whole_value whole values) f2 k2 e2 (whole-small whole values)) e2 head.value
-        (head.others 15 (λ e. omega (arith, e)) ∙ a.others 15 (λ e. omega (arith, e)) c-not-parked (λ e. omega (arith, e)) ∙ e15) in
+        (head.others 15 (λ e. omega (arith, e)) ∙ a.others 15 (λ e. omega (arith, e)) c-not-parked (λ e. omega (arith, e)) ∙ e15) lanes in
         let third : Went own code start out t f2 memory depth (one funcs) (body_hits funcs) =
-        within own start out (λ at s. (tested at s).1.1.1.1) (λ at. refl) (went-less own inner) in
-        to-end (went-hits own (λ func x y hit. inr (inr hit)) (went-then own first (went-then own second third)))
-    bind-does false is f memory funcs holds knows e15 =
+        within own start out (λ at s. (tested at s).1.1.1.1) (λ at. refl) (went-less own inner.went) in
+        record { went = to-end (went-hits own (λ func x y hit. inr (inr hit)) (went-then own first (went-then own second third))); mark = inner.mark }
+    bind-goes false is f memory funcs holds knows e15 same =
         let a = whole-reaches whole f memory holds.size fits knows in
         let kept-a : (q : ℕ) → Kept depth q → a.after q ≡ f q = λ q kept. let s = kept-safe depth q kept in let u = s.apart in
         a.others q (λ e. omega (arith, e, u)) (kept-apart depth q few kept) (λ e. omega (arith, e, u)) in
@@ -176,7 +185,20 @@ module _ (own : Setting) (scope : List Counter) (values : Values) (few : length 
         let second : Went own code mid out 4 f1 memory depth funcs no_hits = still own mid out 4 head.after holds (λ q kept. head.others q (no-scratch own depth few q kept))
         (λ at s. passes own depth few extent (length body + 1) small body (mid at) (tested at s) f1 memory funcs holds (out at) more
         (let g = end-length (start at) body in omega (arith, g)) (ended at s)) in
-        to-end (went-hits own (λ func x y hit. absurd hit) (went-then own first second))
+        record {
+          went = to-end (went-hits own (λ func x y hit. absurd hit) (went-then own first second));
+          mark = λ q high. head.others q (λ e. omega (arith, e, high)) ∙ lanes-stay f memory holds.size knows q high ∙ same q high;
+        }
       where
         ended : (at : ℕ) → Stand v.text at code → Spot (out at)
         ended at s = stand-back v.text (start at) body [] (subst (Stand v.text (start at)) (sym (append-nil body)) (tested at s).1.1.1.1)
+
+  -- so it is where nothing is asked of lanes
+  pub bind-does : (counter : Counter) (whole : Whole) (extent : ℕ) (small : extent < 2 ^ 32) (fits : fits_whole whole ≡ true) (body : List Insn) (t : ℕ) (one : Planes → Planes) (body_hits : Planes → Hits)
+      (parked : ℕ) (does : nat_lt (whole_value whole values) extent ≡ true → (f : ℕ → ℕ) (memory : List ℕ) (funcs : Planes) → HoldsFuncs own memory funcs → Knows v own.harts (counter ∷ scope) (with counter (whole_value whole values) values) f
+      → f c ≡ whole_value whole values → f 13 ≡ extent → f 15 ≡ parked → Does own body t f memory (suc depth) (one funcs) (body_hits funcs))
+      (is : Bool) → nat_lt (whole_value whole values) extent ≡ is → (f : ℕ → ℕ) (memory : List ℕ) (funcs : Planes) → HoldsFuncs own memory funcs → Knows v own.harts scope values f → f 15 ≡ parked
+      → Does own (bind_code scope whole extent c body) (length (whole_code scope whole c) + (if is then 3 + t else 4)) f memory depth (if is then one funcs else funcs) (hits_if is (body_hits funcs))
+  bind-does counter whole extent small fits body t one body_hits parked does is test f memory funcs holds knows e15 =
+      (bind-goes counter whole extent small fits body t one body_hits parked f (λ after. Unit {0})
+      (λ under g left there holding knowing ec e13 e15. λ same. record { went = does under g left there holding knowing ec e13 e15; mark = tt }) is test f memory funcs holds knows e15 (λ q high. refl)).went

@@ -1,5 +1,5 @@
 -- Parts of a statement's code, one behind the other.
-use Rattle.std.proofs.Common.{◌≡◌, ℕ, suc, ◌+◌, List, ◌++◌, length, Bool, true, false, refl, ◌∙◌, sym, subst, inl, inr, length-append}
+use Rattle.std.proofs.Common.{◌≡◌, ◌≤◌, ℕ, suc, ◌+◌, List, ◌++◌, length, Bool, true, false, refl, ◌∙◌, sym, subst, inl, inr, length-append}
 use Rattle.std.specs.Prelude.{◌⊎◌}
 use Rattle.rv_insn.specs.declared.instructions.Insn.{Insn}
 use Rattle.memory.specs.Addresses.{byte_at, AreBytes}
@@ -19,6 +19,15 @@ no_hits func x y = ⊥
 
 abbrev pub either : Hits → Hits → Hits
 either first second func x y = first func x y ⊎ second func x y
+
+-- Numbers behind the scalar registers, of lanes and their configuration, are the same.
+abbrev pub SameLanes : (ℕ → ℕ) → (ℕ → ℕ) → Type 0
+SameLanes f g = (q : ℕ) → 32 ≤ q → g q ≡ f q
+
+-- what is so behind a body that is made, or where it is passed by
+abbrev pub mark_if : Bool → ((ℕ → ℕ) → Type 0) → ((ℕ → ℕ) → Type 0) → (ℕ → ℕ) → Type 0
+mark_if true made passed = made
+mark_if false made passed = passed
 
 -- those of a body that is made, or none
 abbrev pub hits_if : Bool → Hits → Hits
@@ -41,6 +50,11 @@ module _ (own : Setting) where
   -- from the first instruction to behind the last
   abbrev pub Does : List Insn → ℕ → (ℕ → ℕ) → List ℕ → ℕ → Planes → Hits → Type 0
   Does code n f memory depth funcs hits = Went code (λ at. at) (λ at. end at code) n f memory depth funcs hits
+
+  -- and something is so of all that the hart holds then
+  pub record Marked (mark_is : (ℕ → ℕ) → Type 0) (whole : List Insn) (from to : ℕ → ℕ) (n : ℕ) (f : ℕ → ℕ) (memory : List ℕ) (depth : ℕ) (funcs : Planes) (hits : Hits) : Type 0 where
+    pub went : Went whole from to n f memory depth funcs hits
+    pub mark : mark_is went.after
 
   module _ {whole : List Insn} {f : ℕ → ℕ} {memory : List ℕ} {depth : ℕ} where
     abbrev pub went-then : {from mid to : ℕ → ℕ} {n k : ℕ} {middle funcs : Planes} {first second : Hits} → (a : Went whole from mid n f memory depth middle first)
