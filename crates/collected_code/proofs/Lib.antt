@@ -1,0 +1,2 @@
+pub mod Emission
+pub mod Unrolled

@@ -1,0 +1,3 @@
+pub mod Collected
+pub mod Doing
+pub mod Faults
