@@ -1,6 +1,6 @@
 -- Words of parts of a statement, put together, and room for all.
-use Rattle.std.proofs.Common.{◌≡◌, ℕ, ◌^◌, ◌<◌, ◌≤◌, List, [], ◌∷◌, ◌++◌, length, Bool, true, ◌∙◌, sym, subst, arith}
-use Rattle.std.specs.Prelude.{nat_le, nat_lt}
+use Rattle.std.proofs.Common.{◌≡◌, ℕ, ◌^◌, ◌<◌, List, [], ◌∷◌, ◌++◌, length, Bool, true, ◌∙◌, sym, subst, arith}
+use Rattle.std.specs.Prelude.{nat_lt}
 use Rattle.std.proofs.lemmas.Bool.{and_from}
 use Rattle.std.proofs.lemmas.Bool.Decides.{nat_tests}
 use Rattle.rv_insn.specs.declared.instructions.Insn.{Insn}
@@ -13,7 +13,7 @@ use Rattle.loop_ir.specs.declared.statements.Stmt.TheVariants as s
 use Rattle.loop_ir.specs.declared.statements.Whole.{Whole}
 use Rattle.loop_ir.specs.Sizes.{is_laid_out}
 use Rattle.scalar_code.specs.declared.places.Places.{Places}
-use Rattle.scalar_code.specs.Code.{Deep, EmitsDeep, deep, frame_words, seat, store_code, turns_code, bind_code}
+use Rattle.scalar_code.specs.Code.{seat, store_code, turns_code, bind_code}
 use Rattle.task_code.specs.Code.{stmt_code, task_scope, restored}
 use Rattle.scalar_code.specs.Fitting.{is_word, has_room, has_seat, fits_store, fits_whole}
 use Rattle.task_code.specs.Fitting.{fits}
@@ -26,18 +26,6 @@ use Rattle.task_code.proofs.Unrolled.{in_turn, code-store, code-sequence, code-f
 
 seat-test : (n : ℕ) → n < 14 → nat_lt n 14 ≡ true
 seat-test n l = grind (arith, nat_tests)
-
-room-test : (n most : ℕ) → n ≤ most → nat_le n most ≡ true
-room-test n most l = grind (arith, nat_tests)
-
-room-of : {old new : List ℕ} (places : Places) (own : Deep) → EmitsDeep old new places.frames own 0 → has_room places own ≡ true
-room-of places own x = let r = x.room in and_from own.own.is_word (nat_le own.depth (frame_words places.frames)) x.is_word (room-test own.depth (frame_words places.frames) (omega (arith, r)))
-
-pub store-fits : (places : Places) (scope : List Counter) (store : Store) {a b c d e f : List ℕ} → EmitsDeep a b places.frames (deep places scope store.x) 0 → EmitsDeep c d places.frames (deep places scope store.y) 0
-    → EmitsDeep e f places.frames (deep places scope store.value) 0 → fits_store places scope store ≡ true
-store-fits places scope store x y v =
-    and_from (has_room places (deep places scope store.x)) _ (room-of places (deep places scope store.x) x)
-    (and_from (has_room places (deep places scope store.y)) (has_room places (deep places scope store.value)) (room-of places (deep places scope store.y) y) (room-of places (deep places scope store.value) v))
 
 -- ---- statements
 
@@ -66,18 +54,26 @@ inner-emitted places start made slice view items wanted x body es em ev ew ex a 
     (subst (λ z. EmitsStmt [] z places x view) (sym em)
     (subst (λ z. EmitsStmt z made places x view) es a)))
 
-pub for-emitted : (places : Places) (scope : List Counter) (own body x : Stmt) (counter : Counter) (count r : ℕ) (kind : LoopKind) (laid : Bool) (inner start turns slice c0 c1 : List ℕ)
-    → own ≡ s.For counter count kind body → x ≡ body → laid ≡ is_laid_out kind → r ≡ seat (length scope) → length scope < 14 → EmitsStmt [] inner places body (counter ∷ scope)
-    → ((insns : List Insn) → Emits [] inner insns → Emits start turns (turns_code laid r count insns)) × (count < 2 ^ 32) → start ≡ [] → slice ≡ turns
-    → ((plain : List Insn) → Emits [] slice plain → Emits c0 c1 (code_taken places scope counter count x plain (group_taken places scope counter count kind x plain))) → EmitsStmt c0 c1 places own scope
-for-emitted places scope own body x counter count r kind laid inner start turns slice c0 c1 e ex el er few part loop e0 es taken =
+-- the words of a loop's rounds in turn
+pub turns-made : (places : Places) (scope : List Counter) (counter : Counter) (count r : ℕ) (kind : LoopKind) (laid : Bool) (body : Stmt) (inner start turns slice : List ℕ) → laid ≡ is_laid_out kind → r ≡ seat (length scope)
+    → EmitsStmt [] inner places body (counter ∷ scope) → ((insns : List Insn) → Emits [] inner insns → Emits start turns (turns_code laid r count insns)) → start ≡ [] → slice ≡ turns
+    → Emits [] slice (in_turn places scope counter count kind body)
+turns-made places scope counter count r kind laid body inner start turns slice el er part loop e0 es =
     let plain = in_turn places scope counter count kind body in
     let code : Emits start turns plain =
     subst (λ q. Emits start turns (turns_code (is_laid_out kind) q count (stmt_code places body (counter ∷ scope)))) er
-    (subst (λ (b : Bool). Emits start turns (turns_code b r count (stmt_code places body (counter ∷ scope)))) el (loop.0 (stmt_code places body (counter ∷ scope)) part.emits)) in
-    let all = taken plain (subst (λ z. Emits [] z plain) (sym es) (subst (λ z. Emits z turns plain) e0 code)) in
+    (subst (λ (b : Bool). Emits start turns (turns_code b r count (stmt_code places body (counter ∷ scope)))) el (loop (stmt_code places body (counter ∷ scope)) part.emits)) in
+    subst (λ z. Emits [] z plain) (sym es) (subst (λ z. Emits z turns plain) e0 code)
+
+pub for-emitted : (places : Places) (scope : List Counter) (own body x : Stmt) (counter : Counter) (count r : ℕ) (kind : LoopKind) (laid : Bool) (inner start turns slice c0 c1 : List ℕ)
+    → own ≡ s.For counter count kind body → x ≡ body → laid ≡ is_laid_out kind → r ≡ seat (length scope) → length scope < 14 → EmitsStmt [] inner places body (counter ∷ scope)
+    → ((insns : List Insn) → Emits [] inner insns → Emits start turns (turns_code laid r count insns)) × (count < 2 ^ 32) → start ≡ [] → slice ≡ turns
+    → ((plain : List Insn) → Emits [] slice plain → Emits c0 c1 (code_taken places scope counter count kind x plain (group_taken places scope counter count kind x plain))) → EmitsStmt c0 c1 places own scope
+for-emitted places scope own body x counter count r kind laid inner start turns slice c0 c1 e ex el er few part loop e0 es taken =
+    let plain = in_turn places scope counter count kind body in
+    let all = taken plain (turns-made places scope counter count r kind laid body inner start turns slice el er part loop.0 e0 es) in
     subst (λ z. EmitsStmt c0 c1 places z scope) (sym e) (record {
-      emits = emits-is (subst (λ y. Emits c0 c1 (code_taken places scope counter count y plain (group_taken places scope counter count kind y plain))) ex all) (sym (code-for places counter count kind body scope));
+      emits = emits-is (subst (λ y. Emits c0 c1 (code_taken places scope counter count kind y plain (group_taken places scope counter count kind y plain))) ex all) (sym (code-for places counter count kind body scope));
       has_room = fits-for places counter count kind body scope
           ∙ and_from (has_seat scope) _ (seat-test (length scope) few) (and_from (is_word count) (fits places body (counter ∷ scope)) (word-test count loop.1) part.has_room);
     })

@@ -1,5 +1,5 @@
 -- What is too long or too deep in a part of a statement is so in the whole.
-use Rattle.std.proofs.Common.{◌≡◌, ℕ, zero, suc, ◌+◌, ◌*◌, ◌^◌, ◌≤◌, Bool, true, false, List, [], ◌∷◌, ◌++◌, length, Option, Some, None, inl, inr, refl, ap, ◌∙◌, sym, subst, arith, length-append}
+use Rattle.std.proofs.Common.{◌≡◌, ℕ, zero, suc, ◌+◌, ◌*◌, ◌^◌, ◌≤◌, Bool, true, false, List, [], ◌∷◌, ◌++◌, length, Option, Some, None, refl, ap, ◌∙◌, sym, subst, arith, length-append}
 use Rattle.std.proofs.lemmas.Bool.{and_parts}
 use Rattle.std.proofs.lemmas.Bool.Decides.{nat_tests}
 use Rattle.std.specs.Prelude.{pos, nat_lt, if◌then◌else◌, Result, IfErr, IsErrAnd}
@@ -20,15 +20,19 @@ use Rattle.loop_ir.proofs.Depths.{depth_sequence, depth_for, depth_bind}
 use Rattle.loop_ir.proofs.Needs.{greatest_store, greatest_sequence, greatest_for, greatest_bind}
 use Rattle.scalar_code.specs.declared.CodeFault.{CodeFault}
 use Rattle.scalar_code.specs.declared.places.Places.{Places}
-use Rattle.scalar_code.specs.Code.{seat, copies_code, laid_out_code, loop_code, turns_code, loop_tail, bind_code, test, whole_code}
+use Rattle.scalar_code.specs.Code.{seat, copies_code, laid_out_code, loop_code, turns_code, loop_tail}
 use Rattle.task_code.specs.Code.{stmt_code, task_scope, restored}
 use Rattle.scalar_code.specs.Faults.{IsLong, HasRoom, FitsStore}
+use Rattle.scalar_code.specs.Words.{Emits}
 use Rattle.task_code.specs.Faults.{IsStmtFault, IsTaskFault, FitsStmt}
 use Rattle.task_code.specs.Tasks.{EmitsStmt}
 use Rattle.scalar_code.proofs.Refusing.{passed}
 use Rattle.scalar_code.proofs.Spelling.{emits-length}
+use Rattle.collected_code.proofs.Emission.{bind-length, less-room}
 use Rattle.task_code.specs.Code.{group_of_loop}
-use Rattle.task_code.proofs.Taking.{long-stays}
+use Rattle.task_code.specs.Taking.{IsTakenFault}
+use Rattle.task_code.proofs.Nests.{turns-made}
+use Rattle.task_code.proofs.Taking.{long-stays, others-long}
 use Rattle.task_code.proofs.Unrolled.{in_turn, code-sequence, code-for, code-bind}
 
 -- ---- lengths
@@ -69,20 +73,8 @@ asks-more is_laid n words = by-test (are_copies is_laid n) refl
     by-test true e = let m = as-many n (some-rounds n (and_parts is_laid (nat_lt 0 n) e).1) in omega (arith, m)
     by-test false e = omega arith
 
-bind-length : (scope : List Counter) (whole : Whole) (extent r : ℕ) (body : List Insn) → length body + 4 ≤ length (bind_code scope whole extent r body)
-bind-length scope whole extent r body =
-    let l : length (bind_code scope whole extent r body) ≡ length (whole_code scope whole r) + length (test r extent (length body + 1) ++ body) = length-append (whole_code scope whole r) _ in
-    omega (arith, l)
-
 grown : (a b : List Insn) → length a ≤ length b → IsLong a → IsLong b
 grown a b l is = omega (arith, l, is)
-
--- what needs less has room too
-pub less-room : (frames : Option ℕ) (m n word : ℕ) → n ≤ m → HasRoom frames m word → HasRoom frames n word
-less-room frames m n word l room = elim room [
-  | inl few ↦ inl (omega (arith, l, few))
-  | inr fits ↦ inr (omega (arith, l, fits))
-]
 
 module _ (places : Places) where
   -- what is too long or too deep in the part is so in the whole
@@ -142,8 +134,9 @@ module _ (places : Places) where
   for-grown counter count kind body scope long =
       let plain = in_turn places scope counter count kind body in
       let n = turns-length (is_laid_out kind) (seat (length scope)) count (stmt_code places body (counter ∷ scope)) in
-      let e = ap length (code-for places counter count kind body scope ∙ long-stays places scope counter count body plain (group_of_loop places scope counter count kind body) (omega (arith, n, long))) in
-      omega (arith, n, e, long)
+      let l : 2 ^ 18 ≤ length plain = omega (arith, n, long) in
+      let e = code-for places counter count kind body scope ∙ long-stays places scope counter count body kind plain (group_of_loop places scope counter count kind body) l in
+      subst IsLong (sym e) (others-long places scope counter count body kind plain l (λ is. n ∙ ap (λ (k : LoopKind). loop_size (is_laid_out k) count (length (stmt_code places body (counter ∷ scope)))) is))
 
   for-is : (counter : Counter) (count : ℕ) (kind : LoopKind) (body : Stmt) (scope : List Counter) → IsPart body (counter ∷ scope) (s.For counter count kind body) scope
   for-is counter count kind body scope = record {
@@ -161,6 +154,19 @@ module _ (places : Places) where
   for-long own body counter count kind laid scope inner e el part long =
       let n = emits-length inner (stmt_code places body (counter ∷ scope)) part.emits in
       subst (λ (y : Stmt). IsLong (stmt_code places y scope)) (sym e) (for-grown counter count kind body scope (subst (λ (k : ℕ). 2 ^ 18 ≤ loop_size (is_laid_out kind) count k) n (subst (λ (b : Bool). 2 ^ 18 ≤ loop_size b count (length inner)) el long)))
+
+  -- a fault of the choice of its code
+  pub for-passed : {T : Type 0} (result : Result T CodeFault) (fault : CodeFault) (own body x : Stmt) (counter : Counter) (count r : ℕ) (kind : LoopKind) (laid : Bool) (scope : List Counter) (inner start turns slice : List ℕ)
+      → IsErrAnd result (λ error. error ≡ fault) → own ≡ s.For counter count kind body → x ≡ body → laid ≡ is_laid_out kind → r ≡ seat (length scope) → EmitsStmt [] inner places body (counter ∷ scope)
+      → ((insns : List Insn) → Emits [] inner insns → Emits start turns (turns_code laid r count insns)) → start ≡ [] → slice ≡ turns
+      → IsTakenFault places scope counter count kind x slice fault → IfErr result (IsStmtFault places own scope)
+  for-passed result fault own body x counter count r kind laid scope inner start turns slice from e ex el er part loop e0 es is =
+      let plain = in_turn places scope counter count kind body in
+      let made = turns-made places scope counter count r kind laid body inner start turns slice el er part loop e0 es in
+      let own-fault = subst (λ y. IsTakenFault places scope counter count kind y slice fault) ex is in
+      subst (λ y. IfErr result (IsStmtFault places y scope)) (sym e)
+      (passed result fault from (λ long. subst IsLong (sym (code-for places counter count kind body scope)) (long plain made))
+      (λ none fits. let k = (for-is counter count kind body scope).room fits in let seats = k.1.1 in none (k.0, (k.1.0, omega (arith, seats)))) own-fault)
 
   pub for-seatless : (own body : Stmt) (counter : Counter) (count : ℕ) (kind : LoopKind) (scope : List Counter) → own ≡ s.For counter count kind body → 14 ≤ length scope
       → FitsStmt places own (length scope) → ⊥

@@ -73,10 +73,10 @@ module _ (places : Places) where
   code-sequence first second scope = ap (λ (c : Coded). c.code scope) (coded-sequence first second)
 
   pub code-for : (counter : Counter) (count : ℕ) (kind : LoopKind) (body : Stmt) (scope : List Counter) → stmt_code places (s.For counter count kind body) scope
-      ≡ code_taken places scope counter count body (in_turn scope counter count kind body) (group_taken places scope counter count kind body (in_turn scope counter count kind body))
+      ≡ code_taken places scope counter count kind body (in_turn scope counter count kind body) (group_taken places scope counter count kind body (in_turn scope counter count kind body))
   code-for counter count kind body scope =
       let plain = in_turn scope counter count kind body in
-      ap (λ (c : Coded). c.code scope) (coded-for counter count kind body) ∙ ap (λ b. code_taken places scope counter count b plain (group_taken places scope counter count kind b plain)) (own-is body)
+      ap (λ (c : Coded). c.code scope) (coded-for counter count kind body) ∙ ap (λ b. code_taken places scope counter count kind b plain (group_taken places scope counter count kind b plain)) (own-is body)
 
   pub code-bind : (counter : Counter) (whole : Whole) (extent : ℕ) (body : Stmt) (scope : List Counter)
       → stmt_code places (s.Bind counter whole extent body) scope ≡ bind_code scope whole extent (seat (length scope)) (stmt_code places body (counter ∷ scope))
@@ -119,11 +119,11 @@ module _ (places : Places) where
   turns_in_turn scope counter count kind body values = turns_of (is_laid_out kind) count (λ turn. stmt_turns places body (counter ∷ scope) (with counter turn values))
 
   pub turns-for : (counter : Counter) (count : ℕ) (kind : LoopKind) (body : Stmt) (scope : List Counter) (values : Values) → stmt_turns places (s.For counter count kind body) scope values
-      ≡ turns_taken places scope counter body values (turns_in_turn scope counter count kind body values) (group_taken places scope counter count kind body (in_turn scope counter count kind body))
+      ≡ turns_taken places scope counter count kind body values (turns_in_turn scope counter count kind body values) (group_taken places scope counter count kind body (in_turn scope counter count kind body))
   turns-for counter count kind body scope values =
       let plain = in_turn scope counter count kind body in
       let n = turns_in_turn scope counter count kind body values in
-      ap (λ (c : Coded). c.turns scope values) (coded-for counter count kind body) ∙ ap (λ b. turns_taken places scope counter b values n (group_taken places scope counter count kind b plain)) (own-is body)
+      ap (λ (c : Coded). c.turns scope values) (coded-for counter count kind body) ∙ ap (λ b. turns_taken places scope counter count kind b values n (group_taken places scope counter count kind b plain)) (own-is body)
 
   pub turns-bind : (counter : Counter) (whole : Whole) (extent : ℕ) (body : Stmt) (scope : List Counter) (values : Values)
       → stmt_turns places (s.Bind counter whole extent body) scope values

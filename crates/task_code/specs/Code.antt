@@ -1,7 +1,8 @@
 -- The code of statements and of a task, as lists of instructions. This project's own.
 --
--- A vectorized loop's rounds are done at once where they can be, in no more words than the loop may ask for. An unrolled loop is laid out: a
--- copy of its body for each round, one behind the other. One of no rounds is counted.
+-- A vectorized loop's rounds are done at once where they can be, in no more words than the loop may ask for. Else they collect their pixels,
+-- where they are one store, and as many as a group has lanes; else they are done in turn. An unrolled loop is laid out: a copy of its body for
+-- each round, one behind the other. One of no rounds is counted.
 use Rattle.std.specs.Prelude.{ℕ, ◌+◌, ◌^◌, ◌&&◌, Bool, min, nat_le, nat_lt, if◌then◌else◌, List, [], ◌∷◌, ◌++◌, length, Option, Some, None}
 use Rattle.rv_insn.specs.declared.instructions.Insn.{Insn}
 use Rattle.loop_ir.specs.declared.expressions.Counter.{Counter}
@@ -21,6 +22,7 @@ use Rattle.scalar_code.specs.Fitting.{total}
 use Rattle.lane_code.specs.declared.groups.Group.{Group}
 use Rattle.lane_code.specs.Groups.{group_of_rounds}
 use Rattle.round_code.specs.Rounds.{rounds_code, rounds_turns, rounds_fit}
+use Rattle.collected_code.specs.Collected.{is_one_store, collected_code, collected_turns}
 
 -- ---- loops whose rounds are done at once
 
@@ -46,14 +48,34 @@ if_short places scope counter count body in_turn (Some group) = if is_short body
 abbrev pub group_taken : Places → List Counter → Counter → ℕ → LoopKind → Stmt → List Insn → Option Group
 group_taken places scope counter count kind body in_turn = if_short places scope counter count body in_turn (group_of_loop places scope counter count kind body)
 
-abbrev pub code_taken : Places → List Counter → Counter → ℕ → Stmt → List Insn → Option Group → List Insn
-code_taken places scope counter count body in_turn None = in_turn
-code_taken places scope counter count body in_turn (Some group) = rounds_code group places scope counter count body
+-- ---- loops whose rounds collect their pixels
+
+-- the groups in which they do, where they aren't done at once
+abbrev pub group_collected : ℕ → LoopKind → Stmt → Option Group
+group_collected count kinds.Serial body = None
+group_collected count kinds.Unrolled body = None
+group_collected count kinds.Vectorized body = if is_one_store body then group_of_rounds count else None
+
+-- their code, or that of the rounds in turn
+abbrev pub code_otherwise : Places → List Counter → Counter → ℕ → Stmt → List Insn → Option Group → List Insn
+code_otherwise places scope counter count body in_turn None = in_turn
+code_otherwise places scope counter count body in_turn (Some group) = collected_code group places scope counter count body
+
+abbrev pub turns_otherwise : Places → List Counter → Counter → ℕ → Stmt → Values → ℕ → Option Group → ℕ
+turns_otherwise places scope counter count body values in_turn None = in_turn
+turns_otherwise places scope counter count body values in_turn (Some group) = collected_turns group places scope counter count body values
+
+-- ---- any loop
+
+-- the code of one whose rounds are done at once in these groups
+abbrev pub code_taken : Places → List Counter → Counter → ℕ → LoopKind → Stmt → List Insn → Option Group → List Insn
+code_taken places scope counter count kind body in_turn None = code_otherwise places scope counter count body in_turn (group_collected count kind body)
+code_taken places scope counter count kind body in_turn (Some group) = rounds_code group places scope counter count body
 
 -- so many turns, beside those of the rounds in turn
-abbrev pub turns_taken : Places → List Counter → Counter → Stmt → Values → ℕ → Option Group → ℕ
-turns_taken places scope counter body values in_turn None = in_turn
-turns_taken places scope counter body values in_turn (Some group) = rounds_turns group places scope counter body values
+abbrev pub turns_taken : Places → List Counter → Counter → ℕ → LoopKind → Stmt → Values → ℕ → Option Group → ℕ
+turns_taken places scope counter count kind body values in_turn None = turns_otherwise places scope counter count body values in_turn (group_collected count kind body)
+turns_taken places scope counter count kind body values in_turn (Some group) = rounds_turns group places scope counter body values
 
 -- ---- statements
 
@@ -86,8 +108,8 @@ coded_at places (parts.Sequence first second) = record {
 }
 coded_at places (parts.For counter count kind body) = record {
   own = stmts.For counter count kind body.own;
-  code = λ scope. code_taken places scope counter count body.own (turn_by_turn scope counter count kind body) (group_taken places scope counter count kind body.own (turn_by_turn scope counter count kind body));
-  turns = λ scope values. turns_taken places scope counter body.own values (loop_turns scope counter count kind body values) (group_taken places scope counter count kind body.own (turn_by_turn scope counter count kind body));
+  code = λ scope. code_taken places scope counter count kind body.own (turn_by_turn scope counter count kind body) (group_taken places scope counter count kind body.own (turn_by_turn scope counter count kind body));
+  turns = λ scope values. turns_taken places scope counter count kind body.own values (loop_turns scope counter count kind body values) (group_taken places scope counter count kind body.own (turn_by_turn scope counter count kind body));
 }
 coded_at places (parts.Bind counter whole extent body) = record {
   own = stmts.Bind counter whole extent body.own;

@@ -1,17 +1,17 @@
 //! The code of statements and of a task.
 
-ghost use Rattle.std.specs.Prelude.{◌≡◌, List, ◌+◌, ◌^◌, ◌<◌, ◌&&◌, nat_le, nat_lt, [], ◌∷◌, OnErr, OnOk, IfErr, IfOk, true};
-ghost use Rattle.rv_insn.specs.declared.instructions.Insn.{Insn as Instruction};
+ghost use Rattle.std.specs.Prelude.{◌≡◌, ◌+◌, ◌^◌, ◌<◌, ◌&&◌, nat_le, nat_lt, OnErr, OnOk, IfErr, IfOk, true};
 ghost use Rattle.scalar_code.specs.Code.{store_code};
 ghost use Rattle.task_code.specs.Code as spec;
 ghost use Rattle.scalar_code.specs.Faults.{FitsStore, IsFault};
 ghost use Rattle.task_code.specs.Faults.{IsStmtFault, IsTaskFault};
 ghost use Rattle.scalar_code.specs.Fitting.{fits_store};
-ghost use Rattle.task_code.specs.Taking.{EmitsAtOnce};
+ghost use Rattle.task_code.specs.Taking.{EmitsAtOnce, EmitsOtherwise, EmitsTaken, IsOtherwiseFault, IsTakenFault};
 ghost use Rattle.task_code.specs.Tasks.{EmitsStmt, EmitsTask};
 ghost use Rattle.scalar_code.specs.Words.{Emits};
 
 use crate::sizes::{at_once_size, is_laid_out};
+use collected_code::collecting::{emit_collected, is_one_store};
 use halide_pipeline::Source;
 use lane_code::groups::Group;
 use loop_ir::expressions::Counter;
@@ -82,7 +82,47 @@ fn is_taken(found: bool, at_once: usize, in_turn: usize, most: u32) -> bool
     found && in_turn < 1 << 18 && at_once <= most as usize
 }
 
-/// Appends the code of a loop: its rounds at once where that takes no more words than the loop may ask for, else in turn, whose words these are.
+/// The groups in which a loop's rounds collect their pixels where they aren't done at once, if there are any.
+fn group_collected(count: u32, kind: LoopKind, body: &Stmt) -> Option<Group>
+    ensures { result ≡ spec.group_collected count kind body.now }
+{
+    match kind {
+        LoopKind::Serial => None,
+        LoopKind::Unrolled => None,
+        LoopKind::Vectorized => {
+            if is_one_store(body) {
+                Group::of_rounds(count)
+            } else {
+                None
+            }
+        }
+    }
+}
+
+/// Appends the code of a loop whose rounds aren't done at once: they collect their pixels where they can, else they are done in turn, whose
+/// words these are.
+fn emit_otherwise(
+    alloc: Global,
+    code: &mut Vec<u32>,
+    places: &Places,
+    scope: &[Counter],
+    counter: Counter,
+    count: u32,
+    kind: LoopKind,
+    body: &Stmt,
+    in_turn: &[u32],
+) -> Result<(), CodeFault>
+    ensures ok { OnOk result (EmitsOtherwise code.old.items code.new.items places.now scope.now counter count kind body.now in_turn.now) }
+    ensures err { IfErr result (IsOtherwiseFault places.now scope.now counter count kind body.now in_turn.now) }
+{
+    match group_collected(count, kind, body) {
+        None => append(code, in_turn)?,
+        Some(group) => emit_collected(alloc, code, group, places, scope, counter, count, body)?,
+    }
+    Ok(())
+}
+
+/// Appends the code of a loop: its rounds at once where that takes no more words than the loop may ask for, else as [`emit_otherwise`] does.
 fn emit_taken(
     alloc: Global,
     code: &mut Vec<u32>,
@@ -93,8 +133,9 @@ fn emit_taken(
     kind: LoopKind,
     body: &Stmt,
     in_turn: &[u32],
-) -> Result<(), AllocError>
-    ensures { OnOk result ((plain : List Instruction) → Emits [] in_turn.now plain → Emits code.old.items code.new.items (spec.code_taken places.now scope.now counter count body.now plain (spec.group_taken places.now scope.now counter count kind body.now plain))) }
+) -> Result<(), CodeFault>
+    ensures ok { OnOk result (EmitsTaken code.old.items code.new.items places.now scope.now counter count kind body.now in_turn.now) }
+    ensures err { IfErr result (IsTakenFault places.now scope.now counter count kind body.now in_turn.now) }
 {
     let mut at_once = Vec::new(alloc);
     let found = emit_at_once(
@@ -112,7 +153,9 @@ fn emit_taken(
         append(code, at_once.as_slice())?;
         return Ok(());
     }
-    append(code, in_turn)?;
+    emit_otherwise(
+        alloc, code, places, scope, counter, count, kind, body, in_turn,
+    )?;
     Ok(())
 }
 

@@ -1,7 +1,7 @@
 use Rattle.std.proofs.Common.{◌∷◌}
 use Rattle.task_code.proofs.Nests.{store-emitted, sequence-emitted, inner-emitted, for-emitted, bind-emitted}
 use Rattle.scalar_code.proofs.Refusing.{passed}
-use Rattle.task_code.proofs.StmtRefusing.{part-passed, no-store, first-part, second-part, for-part, for-long, for-seatless, bind-part, bind-long, bind-seatless}
+use Rattle.task_code.proofs.StmtRefusing.{part-passed, no-store, first-part, second-part, for-part, for-long, for-passed, for-seatless, bind-part, bind-long, bind-seatless}
 use Rattle.task_code.proofs.statements.+emit_stmt.Goals as goal
 
 pub returns-in_ok-emit_store-in-Store-clause-ok : goal.returns-in_ok-emit_store-in-Store-clause-ok
@@ -20,7 +20,7 @@ returns-in_ok-emit_taken-in-For-clause-ok t c =
     (inner-emitted c.args.places.now c.new-inner.result.items c.emit_stmt-in-For.new.code.items c.as_slice-in-For.result.now c.as_slice.result.now c.in_ok-within-in-For.within.items
     (c.in-For.counter ∷ c.args.scope.now) c.get-in-For.result.now c.in-For.body
     c.new-inner.ensures.items c.as_slice-in-For.ensures.value c.as_slice.ensures.value c.in_ok-within-in-For.ensures c.get-in-For.ensures c.in_ok-emit_stmt-in-For.ensures.ok)
-    c.in_ok-emit_turns-in-For.ensures.ok c.new-in_turn.ensures.items c.as_slice-in-For-2.ensures.value c.in_ok-emit_taken-in-For.ensures
+    c.in_ok-emit_turns-in-For.ensures.ok c.new-in_turn.ensures.items c.as_slice-in-For-2.ensures.value c.in_ok-emit_taken-in-For.ensures.ok
 
 pub returns-in_ok-emit_bind-in-Bind-clause-ok : goal.returns-in_ok-emit_bind-in-Bind-clause-ok
 returns-in_ok-emit_bind-in-Bind-clause-ok t c =
@@ -59,6 +59,16 @@ returns-in_err-emit_turns-in-For-clause-err t c =
     (c.in-For.counter ∷ c.args.scope.now) c.get-in-For.result.now c.in-For.body
     c.new-inner.ensures.items c.as_slice-in-For.ensures.value c.as_slice.ensures.value c.in_ok-within-in-For.ensures c.get-in-For.ensures c.in_ok-emit_stmt-in-For.ensures.ok))
     (λ deep. absurd deep) c.in_err-emit_turns-in-For.ensures.err
+
+pub returns-in_err-emit_taken-in-For-clause-err : goal.returns-in_err-emit_taken-in-For-clause-err
+returns-in_err-emit_taken-in-For-clause-err t c =
+    for-passed c.args.places.now c.from_residual-in_err-emit_taken-in-For.result c.in_err-emit_taken-in-For.field-0.0 c.args.stmt.now c.in-For.body c.get-in-For-2.result.now c.in-For.counter c.in-For.count c.in_ok-r-in-For.r c.in-For.kind
+    c.is_laid_out-is_laid.result c.args.scope.now c.as_slice-in-For.result.now c.new-in_turn.result.items c.emit_turns.new.code.items c.as_slice-in-For-2.result.now c.from_residual-in_err-emit_taken-in-For.ensures.1 c.in-For.is
+    c.get-in-For-2.ensures c.is_laid_out-is_laid.ensures c.in_ok-r-in-For.ensures.ok.0
+    (inner-emitted c.args.places.now c.new-inner.result.items c.emit_stmt-in-For.new.code.items c.as_slice-in-For.result.now c.as_slice.result.now c.in_ok-within-in-For.within.items
+    (c.in-For.counter ∷ c.args.scope.now) c.get-in-For.result.now c.in-For.body
+    c.new-inner.ensures.items c.as_slice-in-For.ensures.value c.as_slice.ensures.value c.in_ok-within-in-For.ensures c.get-in-For.ensures c.in_ok-emit_stmt-in-For.ensures.ok)
+    c.in_ok-emit_turns-in-For.ensures.ok.0 c.new-in_turn.ensures.items c.as_slice-in-For-2.ensures.value c.in_err-emit_taken-in-For.ensures.err
 
 pub returns-in_err-r-in-Bind-clause-err : goal.returns-in_err-r-in-Bind-clause-err
 returns-in_err-r-in-Bind-clause-err t c =

@@ -4,8 +4,8 @@ use Rattle.rv_insn.specs.declared.instructions.Insn.TheVariants.{Store as Save}
 use Rattle.rv_insn.specs.declared.operations.StoreOp.TheVariants.{Sw}
 use Rattle.scalar_code.specs.Code.{addressed, value_code, move}
 use Rattle.scalar_code.specs.Words.{Emits}
-use Rattle.task_code.proofs.Nests.{store-fits}
 use Rattle.scalar_code.proofs.Spelling.{emits_then}
+use Rattle.collected_code.proofs.Emission.{store-fits}
 use Rattle.task_code.proofs.statements.emit_store.Goals as goal
 
 pub returns-clause-ok : goal.returns-clause-ok
