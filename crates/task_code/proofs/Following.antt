@@ -1,7 +1,6 @@
 -- The code of a statement does the statement.
 use Rattle.std.proofs.Common.{◌≡◌, ℕ, zero, suc, ◌+◌, ◌^◌, ◌<◌, List, ◌∷◌, length, Bool, true, false, refl, ap, ◌∙◌, sym, subst, arith}
 use Rattle.std.specs.Prelude.{◌⊎◌, ◌==◌, ◌&&◌, ◌||◌, not, if◌then◌else◌, nat_lt, Option, Some, None}
-use Rattle.std.specs.Option.{is_some}
 use Rattle.std.proofs.lemmas.Bool.{and_parts, or_cases, true≢false, not-true, eq-eqb}
 use Rattle.std.proofs.lemmas.Bool.Decides.{nat_tests}
 use Rattle.rv_insn.specs.declared.instructions.Insn.{Insn}
@@ -35,8 +34,7 @@ use Rattle.task_code.specs.Code.{stmt_turns}
 use Rattle.task_code.specs.Fitting.{fits}
 use Rattle.scalar_code.specs.Layout.{AreWords}
 use Rattle.scalar_code.specs.Doing.{Setting, IsSetting, SoundIn, RunsIn, HoldsFuncs, stored_points}
-use Rattle.task_code.specs.Doing.{AtOnceIn, WholeIn, StatementsAreDone}
-use Rattle.task_code.specs.Whole.{are_whole}
+use Rattle.task_code.specs.Doing.{AtOnceIn, StatementsAreDone}
 use Rattle.scalar_code.proofs.Keeping.{knows-still}
 use Rattle.scalar_code.proofs.Going.{Hits, hits_if, Does, went-hits, went-is, does-then}
 use Rattle.scalar_code.proofs.Tracing.{hit, made, hit_before, hit-store, hit-sequence, hit-for, hit-first, hit-later, hit-bind}
@@ -46,11 +44,12 @@ use Rattle.scalar_code.proofs.Looping.{each-turn, loop-does}
 use Rattle.scalar_code.proofs.Binding.{bind-does}
 use Rattle.round_code.specs.Rounds.{rounds_code, rounds_turns, rounds_fit}
 use Rattle.round_code.proofs.Looping.{loop-does as rounds-done}
+use Rattle.collected_code.specs.Collected.{collected_code, collected_turns, collected_fits}
 use Rattle.lane_code.specs.declared.groups.Group.{Group}
-use Rattle.task_code.specs.Code.{code_taken, turns_taken, group_taken}
+use Rattle.task_code.specs.Code.{code_taken, turns_taken, group_taken, group_collected, code_otherwise, turns_otherwise}
 use Rattle.task_code.proofs.Taking.{IsTaken, is-taken}
 use Rattle.task_code.proofs.Unrolled.{in_turn, turns_in_turn, code-store, code-sequence, code-for, code-bind, fits-store, fits-sequence, fits-for, fits-bind, turns-store, turns-sequence, turns-for, turns-bind}
-use Rattle.task_code.proofs.Wholes.{whole-sequence, whole-for, whole-bind}
+use Rattle.task_code.proofs.Collecting.{is-collected, none-left, loop-fits}
 
 below : (n k : ℕ) → nat_lt n k ≡ true → n < k
 below n k t = grind (arith, nat_tests)
@@ -67,7 +66,16 @@ equal-parts a b c d e f t =
     same : (m n : ℕ) → (m == n) ≡ true → m ≡ n
     same m n u = grind (arith, nat_tests)
 
-module _ (own : Setting) (good : IsSetting own) where
+-- what is to be shown of the code of loops whose rounds collect their pixels
+abbrev pub CollectedDoes : Type 0
+CollectedDoes =
+    (own : Setting) → IsSetting own → (group : Group) (counter : Counter) (count : ℕ) (body : Stmt) (scope : List Counter) (values : Values) → collected_fits group own.places scope counter count body ≡ true
+    → SoundIn own (s.For counter count kinds.Vectorized body) values → RunsIn own (s.For counter count kinds.Vectorized body) values
+    → (f : ℕ → ℕ) (memory : List ℕ) (funcs : Planes) → may_be_at_once (reads_of own.inputs funcs) (s.For counter count kinds.Vectorized body) values ≡ true → HoldsFuncs own memory funcs → Knows own.world own.harts scope values f
+    → Does own (collected_code group own.places scope counter count body) (collected_turns group own.places scope counter count body values) f memory (length scope)
+    (run own.points own.inputs (s.For counter count kinds.Vectorized body) values funcs) (λ func x y. stored_points own (s.For counter count kinds.Vectorized body) values funcs func x y ≡ true)
+
+module _ (collected-done : CollectedDoes) (own : Setting) (good : IsSetting own) where
   abbrev hits : Stmt → Values → Planes → Hits
   hits statement values funcs func x y = stored_points own statement values funcs func x y ≡ true
 
@@ -76,7 +84,7 @@ module _ (own : Setting) (good : IsSetting own) where
 
   abbrev Follows : Stmt → Type 0
   Follows statement = (scope : List Counter) (values : Values) → fits own.places statement scope ≡ true → SoundIn own statement values → AtOnceIn own statement values
-      → RunsIn own statement values → WholeIn own statement scope
+      → RunsIn own statement values
       → (f : ℕ → ℕ) (memory : List ℕ) (funcs : Planes) → HoldsFuncs own memory funcs → Knows own.world own.harts scope values f
       → Does own (stmt_code own.places statement scope) (stmt_turns own.places statement scope values) f memory (length scope) (after statement values funcs) (hits statement values funcs)
 
@@ -96,7 +104,7 @@ module _ (own : Setting) (good : IsSetting own) where
       by-test false e = e
 
   at-store : (store : Store) → Follows (s.Store store)
-  at-store store scope values is sound once sure whole f memory funcs holds knows =
+  at-store store scope values is sound once sure f memory funcs holds knows =
       let reads = reads_of own.inputs funcs in
       let a = store-does own good scope values store f memory funcs (sym (fits-store own.places store scope) ∙ is)
       (sym (sound_store reads own.written own.loaded store values) ∙ sound funcs holds.are_words) (is-single store values sure funcs holds.are_words) holds knows in
@@ -105,7 +113,7 @@ module _ (own : Setting) (good : IsSetting own) where
       (went-is own (sym (turns-store own.places store scope values)) (sym (run_store own.points own.inputs store values funcs)) a))
 
   at-sequence : (first second : Stmt) → Follows first → Follows second → Follows (s.Sequence first second)
-  at-sequence first second one two scope values is sound once sure whole f memory funcs holds knows =
+  at-sequence first second one two scope values is sound once sure f memory funcs holds knows =
       let k = and_parts (fits own.places first scope) (fits own.places second scope) (sym (fits-sequence own.places first second scope) ∙ is) in
       let parts = λ (p : Planes) (words : AreWords p). and_parts (is_sound (reads_of own.inputs p) own.written own.loaded first values) (is_sound (reads_of own.inputs p) own.written own.loaded second values)
       (sym (sound_sequence (reads_of own.inputs p) own.written own.loaded first second values) ∙ sound p words) in
@@ -114,11 +122,9 @@ module _ (own : Setting) (good : IsSetting own) where
       let stores = λ (p : Planes) (words : AreWords p) (func : ℕ) (in_runs : own.in_runs func ≡ true) (x y : ℕ).
       and_parts (stores_in_runs (reads_of own.inputs p) func x y (own.run func x y) first values) (stores_in_runs (reads_of own.inputs p) func x y (own.run func x y) second values)
       (sym (ap (λ (r : Runs). r.are_runs values) (runs_sequence (reads_of own.inputs p) func x y (own.run func x y) first second)) ∙ sure p words func in_runs x y) in
-      let wholes = λ (func : ℕ) (in_runs : own.in_runs func ≡ true). and_parts (are_whole own.places func first scope) (are_whole own.places func second scope)
-      (sym (whole-sequence own.places func first second scope) ∙ whole func in_runs) in
-      let a = one scope values k.0 (λ p words. (parts p words).0) (λ p words. (times p words).0) (λ p words func in_runs x y. (stores p words func in_runs x y).0) (λ func in_runs. (wholes func in_runs).0) f memory funcs holds knows in
+      let a = one scope values k.0 (λ p words. (parts p words).0) (λ p words. (times p words).0) (λ p words func in_runs x y. (stores p words func in_runs x y).0) f memory funcs holds knows in
       let middle = after first values funcs in
-      let b = two scope values k.1 (λ p words. (parts p words).1) (λ p words. (times p words).1) (λ p words func in_runs x y. (stores p words func in_runs x y).1) (λ func in_runs. (wholes func in_runs).1) a.after a.left middle a.holds (knows-still own.world own.harts scope values f a.after knows a.keeps) in
+      let b = two scope values k.1 (λ p words. (parts p words).1) (λ p words. (times p words).1) (λ p words func in_runs x y. (stores p words func in_runs x y).1) a.after a.left middle a.holds (knows-still own.world own.harts scope values f a.after knows a.keeps) in
       recoded (sym (code-sequence own.places first second scope))
       (went-hits own (λ func x y h. or_cases (hit own.points own.inputs func x y first values funcs) (hit own.points own.inputs func x y second values middle) (sym (hit-sequence own.points own.inputs func x y first second values funcs) ∙ h))
       (went-is own (sym (turns-sequence own.places first second scope values)) (sym (run_sequence own.points own.inputs first second values funcs)) (does-then own a b)))
@@ -139,41 +145,22 @@ module _ (own : Setting) (good : IsSetting own) where
         by-kind true = laid-does own scope values few counter n small code t one body_hits does points none more f memory funcs holds knows
         by-kind false = loop-does own scope values few counter n small code t one body_hits does points none more f memory funcs holds knows
 
-  -- the loop is none of a Func that is stored in runs
-  module _ (counter : Counter) (count : ℕ) (kind : LoopKind) (body : Stmt) (scope : List Counter) (values : Values) (sure : RunsIn own (s.For counter count kind body) values)
-      (whole : WholeIn own (s.For counter count kind body) scope) (none : group_taken own.places scope counter count kind body (in_turn own.places scope counter count kind body) ≡ None) where
-    abbrev asked : ℕ → Bool
-    asked func = is_vectorized kind && counter.func == func
-
-    abbrev taken : Option Group
-    taken = group_taken own.places scope counter count kind body (in_turn own.places scope counter count kind body)
-
-    another : (func : ℕ) → own.in_runs func ≡ true → asked func ≡ false
-    another func is = by-test (asked func) refl (sym (whole-for own.places func counter count kind body scope) ∙ whole func is)
-      where
-        by-test : (t : Bool) → asked func ≡ t → (if t then is_some taken else are_whole own.places func body (counter ∷ scope)) ≡ true → asked func ≡ false
-        by-test true e k = absurd (true≢false (sym k ∙ ap is_some none))
-        by-test false e k = e
-
-    turns-whole : WholeIn own body (counter ∷ scope)
-    turns-whole func is =
-        sym (ap (λ t. if t then is_some taken else are_whole own.places func body (counter ∷ scope)) (another func is)) ∙ sym (whole-for own.places func counter count kind body scope) ∙ whole func is
-
-    turns-run : (i : ℕ) → i < count → RunsIn own body (with counter i values)
-    turns-run i l p words func is x y =
-        let r = runs (reads_of own.inputs p) func x y (own.run func x y) body in
-        each-turn count (λ turn. r.are_runs (with counter turn values))
-        (sym (ap (λ t. if t then are_same (every count (λ round. r.misses (with counter round values))) (not (own.run func x y values)) else every count (λ turn. r.are_runs (with counter turn values))) (another func is))
-        ∙ sym (ap (λ (a : Runs). a.are_runs values) (runs_for (reads_of own.inputs p) func x y (own.run func x y) counter count kind body)) ∙ sure p words func is x y) i l
+  -- rounds of a loop that is not vectorized store in runs as it does
+  turns-run : (counter : Counter) (count : ℕ) (kind : LoopKind) (body : Stmt) (values : Values) → RunsIn own (s.For counter count kind body) values → is_vectorized kind ≡ false
+      → (i : ℕ) → i < count → RunsIn own body (with counter i values)
+  turns-run counter count kind body values sure plain i l p words func is x y =
+      let r = runs (reads_of own.inputs p) func x y (own.run func x y) body in
+      each-turn count (λ turn. r.are_runs (with counter turn values))
+      (sym (ap (λ t. if t && counter.func == func then are_same (every count (λ round. r.misses (with counter round values))) (not (own.run func x y values)) else every count (λ turn. r.are_runs (with counter turn values))) plain)
+      ∙ sym (ap (λ (a : Runs). a.are_runs values) (runs_for (reads_of own.inputs p) func x y (own.run func x y) counter count kind body)) ∙ sure p words func is x y) i l
 
   -- a loop's rounds in turn
   in-turn : (counter : Counter) (count : ℕ) (kind : LoopKind) (body : Stmt) → Follows body → (scope : List Counter) (values : Values) → fits own.places (s.For counter count kind body) scope ≡ true
       → SoundIn own (s.For counter count kind body) values → AtOnceIn own (s.For counter count kind body) values
-      → RunsIn own (s.For counter count kind body) values → WholeIn own (s.For counter count kind body) scope
-      → group_taken own.places scope counter count kind body (in_turn own.places scope counter count kind body) ≡ None
+      → RunsIn own (s.For counter count kind body) values → is_vectorized kind ≡ false
       → (f : ℕ → ℕ) (memory : List ℕ) (funcs : Planes) → HoldsFuncs own memory funcs → Knows own.world own.harts scope values f
       → Does own (in_turn own.places scope counter count kind body) (turns_in_turn own.places scope counter count kind body values) f memory (length scope) (after (s.For counter count kind body) values funcs) (hits (s.For counter count kind body) values funcs)
-  in-turn counter count kind body inner scope values is sound once sure whole none f memory funcs holds knows =
+  in-turn counter count kind body inner scope values is sound once sure plain f memory funcs holds knows =
       let k = and_parts (has_seat scope) (is_word count && fits own.places body (counter ∷ scope)) (sym (fits-for own.places counter count kind body scope) ∙ is) in
       let j = and_parts (is_word count) (fits own.places body (counter ∷ scope)) k.1 in
       let at : ℕ → Values = λ turn. with counter turn values in
@@ -184,7 +171,7 @@ module _ (own : Setting) (good : IsSetting own) where
       (sym (ap (λ (r : Rounds). r.may_be_at_once values) (rounds_for (reads_of own.inputs p) counter count kind body)) ∙ once p words)).1 i l in
       let a = turns-done (is_laid_out kind) scope values (below (length scope) 14 k.0) counter count (below count (2 ^ 32) j.0) (stmt_code own.places body (counter ∷ scope))
       (λ i. stmt_turns own.places body (counter ∷ scope) (at i)) (λ i p. after body (at i) p) (λ i p. hits body (at i) p)
-      (λ i g m p l o kn. inner (counter ∷ scope) (at i) j.1 (λ q words. each i l q words) (λ q words. each-once i l q words) (turns-run counter count kind body scope values sure whole none i l) (turns-whole counter count kind body scope values sure whole none) g m p o kn)
+      (λ i g m p l o kn. inner (counter ∷ scope) (at i) j.1 (λ q words. each i l q words) (λ q words. each-once i l q words) (turns-run counter count kind body values sure plain i l) g m p o kn)
       (λ n p func x y. hit_before own.points own.inputs func x y body at n p ≡ true)
       (λ p func x y h. true≢false (sym h ∙ hit-first own.points own.inputs func x y body at p))
       (λ n p func x y h. or_cases (hit_before own.points own.inputs func x y body at n p) (hit own.points own.inputs func x y body (at n) (made own.points own.inputs func x y body at n p))
@@ -202,25 +189,58 @@ module _ (own : Setting) (good : IsSetting own) where
   rounds-at-once counter count body scope values f memory funcs holds knows group kinds.Unrolled e fit sound once sure = absurd (cc e)
   rounds-at-once counter count body scope values f memory funcs holds knows group kinds.Vectorized e fit sound once sure = rounds-done own good group counter count body scope values fit sound sure f memory funcs (once funcs holds.are_words) holds knows
 
-  -- at once, or in turn
+  -- they collect their pixels, or are done in turn
+  abbrev Otherwise : Counter → ℕ → LoopKind → Stmt → List Counter → Values → (ℕ → ℕ) → List ℕ → Planes → Option Group → Type 0
+  Otherwise counter count kind body scope values f memory funcs group =
+      Does own (code_otherwise own.places scope counter count body (in_turn own.places scope counter count kind body) group)
+      (turns_otherwise own.places scope counter count body values (turns_in_turn own.places scope counter count kind body values) group) f memory (length scope)
+      (after (s.For counter count kind body) values funcs) (hits (s.For counter count kind body) values funcs)
+
+  -- Where the rounds of a vectorized loop may be done at once, they are one store, and as many as a group has lanes: it is never done in turn.
+  at-others : (counter : Counter) (count : ℕ) (kind : LoopKind) (body : Stmt) → Follows body → (scope : List Counter) (values : Values) → fits own.places (s.For counter count kind body) scope ≡ true
+      → SoundIn own (s.For counter count kind body) values → AtOnceIn own (s.For counter count kind body) values → RunsIn own (s.For counter count kind body) values
+      → (f : ℕ → ℕ) (memory : List ℕ) (funcs : Planes) → HoldsFuncs own memory funcs → Knows own.world own.harts scope values f
+      → Otherwise counter count kind body scope values f memory funcs (group_collected count kind body)
+  at-others counter count kinds.Serial body inner scope values is sound once sure f memory funcs holds knows = in-turn counter count kinds.Serial body inner scope values is sound once sure refl f memory funcs holds knows
+  at-others counter count kinds.Unrolled body inner scope values is sound once sure f memory funcs holds knows = in-turn counter count kinds.Unrolled body inner scope values is sound once sure refl f memory funcs holds knows
+  at-others counter count kinds.Vectorized body inner scope values is sound once sure f memory funcs holds knows = by-group (group_collected count kinds.Vectorized body) refl
+    where
+      r : Rounds
+      r = rounds (reads_of own.inputs funcs) body
+
+      parts : (is_round_count count ≡ true) × (r.is_one_store ≡ true)
+      parts =
+          let e = sym (ap (λ (all : Rounds). all.may_be_at_once values) (rounds_for (reads_of own.inputs funcs) counter count kinds.Vectorized body)) ∙ once funcs holds.are_words in
+          let at : ℕ → Values = λ turn. with counter turn values in
+          let a = and_parts (is_round_count count && (r.is_one_store && (are_apart r at count && all_step_up r at count))) (every count (λ turn. r.may_be_at_once (at turn))) e in
+          let b = and_parts (is_round_count count) (r.is_one_store && (are_apart r at count && all_step_up r at count)) a.0 in
+          (b.0, (and_parts r.is_one_store (are_apart r at count && all_step_up r at count) b.1).0)
+
+      by-group : (group : Option Group) → group_collected count kinds.Vectorized body ≡ group → Otherwise counter count kinds.Vectorized body scope values f memory funcs group
+      by-group None e = absurd (none-left (reads_of own.inputs funcs) count body parts.0 parts.1 e)
+      by-group (Some group) e =
+          let k = is-collected count kinds.Vectorized body group e in
+          collected-done own good group counter count body scope values (loop-fits group own.places scope counter count kinds.Vectorized body k.one k.count_is is) sound sure f memory funcs (once funcs holds.are_words) holds knows
+
+  -- at once, or otherwise
   at-for : (counter : Counter) (count : ℕ) (kind : LoopKind) (body : Stmt) → Follows body → Follows (s.For counter count kind body)
-  at-for counter count kind body inner scope values is sound once sure whole f memory funcs holds knows =
+  at-for counter count kind body inner scope values is sound once sure f memory funcs holds knows =
       recoded (sym (code-for own.places counter count kind body scope))
       (went-is own (sym (turns-for own.places counter count kind body scope values)) refl
       (by-group (group_taken own.places scope counter count kind body (in_turn own.places scope counter count kind body)) (is-taken own.places scope counter count body kind (in_turn own.places scope counter count kind body))
-      (λ group k. rounds-at-once counter count body scope values f memory funcs holds knows group kind k.kind_is k.fits sound once sure) (λ none. in-turn counter count kind body inner scope values is sound once sure whole none f memory funcs holds knows)))
+      (λ group k. rounds-at-once counter count body scope values f memory funcs holds knows group kind k.kind_is k.fits sound once sure) (at-others counter count kind body inner scope values is sound once sure f memory funcs holds knows)))
     where
       by-group : (taken : Option Group) → ((group : Group) → taken ≡ Some group → IsTaken own.places scope counter count body kind group)
           → ((group : Group) → IsTaken own.places scope counter count body kind group
           → Does own (rounds_code group own.places scope counter count body) (rounds_turns group own.places scope counter body values) f memory (length scope) (after (s.For counter count kind body) values funcs) (hits (s.For counter count kind body) values funcs))
-          → (taken ≡ None → Does own (in_turn own.places scope counter count kind body) (turns_in_turn own.places scope counter count kind body values) f memory (length scope) (after (s.For counter count kind body) values funcs) (hits (s.For counter count kind body) values funcs))
-          → Does own (code_taken own.places scope counter count body (in_turn own.places scope counter count kind body) taken)
-          (turns_taken own.places scope counter body values (turns_in_turn own.places scope counter count kind body values) taken) f memory (length scope) (after (s.For counter count kind body) values funcs) (hits (s.For counter count kind body) values funcs)
-      by-group None facts at_once does = does refl
-      by-group (Some group) facts at_once does = at_once group (facts group refl)
+          → Otherwise counter count kind body scope values f memory funcs (group_collected count kind body)
+          → Does own (code_taken own.places scope counter count kind body (in_turn own.places scope counter count kind body) taken)
+          (turns_taken own.places scope counter count kind body values (turns_in_turn own.places scope counter count kind body values) taken) f memory (length scope) (after (s.For counter count kind body) values funcs) (hits (s.For counter count kind body) values funcs)
+      by-group None facts at_once others = others
+      by-group (Some group) facts at_once others = at_once group (facts group refl)
 
   at-bind : (counter : Counter) (whole : Whole) (extent : ℕ) (body : Stmt) → Follows body → Follows (s.Bind counter whole extent body)
-  at-bind counter whole extent body inner scope values is sound once sure all_whole f memory funcs holds knows = by-test (nat_lt (whole_value whole values) extent) refl
+  at-bind counter whole extent body inner scope values is sound once sure f memory funcs holds knows = by-test (nat_lt (whole_value whole values) extent) refl
     where
       entered : Values
       entered = with counter (whole_value whole values) values
@@ -244,8 +264,7 @@ module _ (own : Setting) (good : IsSetting own) where
           (λ q words. sym (ap (λ b. if b then is_sound (reads_of own.inputs q) own.written own.loaded body entered else true) so) ∙ sym (sound_bind (reads_of own.inputs q) own.written own.loaded counter whole extent body values) ∙ sound q words)
           (λ q words. sym (ap (λ b. if b then may_be_at_once (reads_of own.inputs q) body entered else true) so) ∙ sym (ap (λ (r : Rounds). r.may_be_at_once values) (rounds_bind (reads_of own.inputs q) counter whole extent body)) ∙ once q words)
           (λ q words func in_runs x y. sym (ap (λ b. if b then stores_in_runs (reads_of own.inputs q) func x y (own.run func x y) body entered else true) so)
-          ∙ sym (ap (λ (r : Runs). r.are_runs values) (runs_bind (reads_of own.inputs q) func x y (own.run func x y) counter whole extent body)) ∙ sure q words func in_runs x y)
-          (λ func in_runs. sym (whole-bind own.places func counter whole extent body scope) ∙ all_whole func in_runs) g m p o kn)
+          ∙ sym (ap (λ (r : Runs). r.are_runs values) (runs_bind (reads_of own.inputs q) func x y (own.run func x y) counter whole extent body)) ∙ sure q words func in_runs x y) g m p o kn)
           t e f memory funcs holds knows refl in
           recoded (sym (code-bind own.places counter whole extent body scope))
           (went-hits own (λ func x y h. chosen t func x y
@@ -262,9 +281,9 @@ module _ (own : Setting) (good : IsSetting own) where
   pub follows : (statement : Stmt) → Follows statement
   follows = ind-Stmt Follows (λ l t is. subst (λ (k : Stmt-F Stmt). Follows (roll-Stmt k)) is (by-layer _ (λ e. e.0) (λ e. e.1) t))
 
-pub statements-done : StatementsAreDone
-statements-done own good statement scope values is sound once runs whole f memory funcs holds knows =
-    let a = follows own good statement scope values is sound once runs whole f memory funcs holds knows in
+pub statements-done : CollectedDoes → StatementsAreDone
+statements-done collected-done own good statement scope values is sound once runs f memory funcs holds knows =
+    let a = follows collected-done own good statement scope values is sound once runs f memory funcs holds knows in
     record {
       after = a.after;
       left = a.left;

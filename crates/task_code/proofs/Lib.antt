@@ -1,3 +1,4 @@
+pub mod Collecting
 pub mod Counting
 pub mod ExampleTask
 pub mod ExampleWords
@@ -9,4 +10,3 @@ pub mod Seating
 pub mod StmtRefusing
 pub mod Taking
 pub mod Unrolled
-pub mod Wholes

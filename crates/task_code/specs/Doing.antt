@@ -12,21 +12,16 @@ use Rattle.scalar_code.specs.Evaluation.{Knows}
 use Rattle.scalar_code.specs.Layout.{AreWords}
 use Rattle.task_code.specs.Code.{stmt_code, stmt_turns}
 use Rattle.task_code.specs.Fitting.{fits}
-use Rattle.task_code.specs.Whole.{are_whole}
 
 -- the rounds of its vectorized loops may be done at once, whatever words buffers hold
 abbrev pub AtOnceIn : Setting → Stmt → Values → Type 0
 AtOnceIn own statement values = (funcs : Planes) → AreWords funcs → may_be_at_once (reads_of own.inputs funcs) statement values ≡ true
 
--- the vectorized loops of Funcs that are stored in runs are vector code
-abbrev pub WholeIn : Setting → Stmt → List Counter → Type 0
-WholeIn own statement scope = (func : ℕ) → own.in_runs func ≡ true → are_whole own.places func statement scope ≡ true
-
 -- a statement that fits, from any numbers that know the counters' values and any memory that holds the buffers
 abbrev pub StatementsAreDone : Type 0
 StatementsAreDone =
     (own : Setting) → IsSetting own → (statement : Stmt) (scope : List Counter) (values : Values) → fits own.places statement scope ≡ true → SoundIn own statement values → AtOnceIn own statement values
-    → RunsIn own statement values → WholeIn own statement scope
+    → RunsIn own statement values
     → (f : ℕ → ℕ) (memory : List ℕ) (funcs : Planes) → HoldsFuncs own memory funcs → Knows own.world own.harts scope values f
     → Done own (stmt_code own.places statement scope) (stmt_turns own.places statement scope values) scope values f memory
     (run own.points own.inputs statement values funcs) (stored_points own statement values funcs)

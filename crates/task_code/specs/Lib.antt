@@ -6,4 +6,3 @@ pub mod Fitting
 pub mod Lengths
 pub mod Taking
 pub mod Tasks
-pub mod Whole

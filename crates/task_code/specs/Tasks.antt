@@ -11,10 +11,10 @@ use Rattle.loop_ir.specs.Running.{run_task, task_values}
 use Rattle.loop_ir.specs.Stores.{is_stored_by_task}
 use Rattle.lone_hart.specs.Paths.{Stand, end, Block, Writes}
 use Rattle.scalar_code.specs.declared.places.Places.{Places}
-use Rattle.task_code.specs.Code.{stmt_code, task_code, task_scope}
+use Rattle.task_code.specs.Code.{stmt_code, task_code}
 use Rattle.task_code.specs.Fitting.{fits, fits_task, task_turns}
 use Rattle.scalar_code.specs.Layout.{IsOf, IsElsewhere}
-use Rattle.task_code.specs.Doing.{AtOnceIn, WholeIn}
+use Rattle.task_code.specs.Doing.{AtOnceIn}
 use Rattle.scalar_code.specs.Doing.{Setting, IsSetting, SoundIn, RunsIn, HoldsFuncs}
 use Rattle.scalar_code.specs.Words.{Emits}
 
@@ -47,7 +47,7 @@ abbrev pub TasksAreDone : Type 0
 TasksAreDone =
     (own : Setting) → IsSetting own → (phase : Phase) (ticket task : ℕ) → fits_task phase own.places ≡ true → ticket + 4 < 2 ^ 32 → task < 2 ^ 32
     → SoundIn own phase.body (task_values phase.counter task) → AtOnceIn own phase.body (task_values phase.counter task)
-    → RunsIn own phase.body (task_values phase.counter task) → WholeIn own phase.body (task_scope phase.counter)
+    → RunsIn own phase.body (task_values phase.counter task)
     → (f : ℕ → ℕ) (memory : List ℕ) (funcs : Planes) → HoldsFuncs own memory funcs → HasDrawn own task f
     → TaskEnds own phase ticket task f memory funcs
 
