@@ -1,2 +1,4 @@
 pub mod Emission
+pub mod Marking
+pub mod Rounding
 pub mod Unrolled

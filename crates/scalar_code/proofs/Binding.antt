@@ -103,10 +103,10 @@ module _ (own : Setting) (scope : List Counter) (values : Values) (few : length 
       (reach-is v memory l (sum-is (at_most whole.last n) (values whole.inner)) (set-last v memory l i3))))
 
   module _ (counter : Counter) (whole : Whole) (extent : ℕ) (small : extent < 2 ^ 32) (fits : fits_whole whole ≡ true) (body : List Insn) (t : ℕ) (one : Planes → Planes) (body_hits : Planes → Hits)
-      (parked : ℕ) (start_lanes : ℕ → ℕ) (made_is : (ℕ → ℕ) → Type 0)
+      (parked : ℕ) (given start_lanes : ℕ → ℕ) (made_is : Planes → (ℕ → ℕ) → Type 0)
       (does : nat_lt (whole_value whole values) extent ≡ true → (f : ℕ → ℕ) (memory : List ℕ) (funcs : Planes) → HoldsFuncs own memory funcs → Knows v own.harts (counter ∷ scope) (with counter (whole_value whole values) values) f
-      → f c ≡ whole_value whole values → f 13 ≡ extent → f 15 ≡ parked → SameLanes start_lanes f
-      → Marked own made_is body (λ at. at) (λ at. end at body) t f memory (suc depth) (one funcs) (body_hits funcs)) where
+      → f c ≡ whole_value whole values → f 13 ≡ extent → f 15 ≡ parked → ((q : ℕ) → Kept depth q → f q ≡ given q) → SameLanes start_lanes f
+      → Marked own (made_is funcs) body (λ at. at) (λ at. end at body) t f memory (suc depth) (one funcs) (body_hits funcs)) where
     abbrev code : List Insn
     code = bind_code scope whole extent c body
 
@@ -148,11 +148,11 @@ module _ (own : Setting) (scope : List Counter) (values : Values) (few : length 
         let low = r-high own depth few in
         (whole-reaches whole f memory l fits knows).others q (λ e. omega (arith, e, high)) (λ e. omega (arith, e, high, low)) (λ e. omega (arith, e, high))
 
-    -- The body finds the value in the counter's register, the extent in scratch, what was parked, and lanes as they were; so they are too where it is
-    -- passed by.
-    pub bind-goes : (is : Bool) → test_is ≡ is → (f : ℕ → ℕ) (memory : List ℕ) (funcs : Planes) → HoldsFuncs own memory funcs → Knows v own.harts scope values f → f 15 ≡ parked → SameLanes start_lanes f
-        → Marked own (mark_if is made_is (SameLanes start_lanes)) code (λ at. at) (λ at. end at code) (length front + (if is then 3 + t else 4)) f memory depth (if is then one funcs else funcs) (hits_if is (body_hits funcs))
-    bind-goes true is f memory funcs holds knows e15 same =
+    -- The body finds the value in the counter's register, the extent in scratch, what was parked, and other counters and lanes as they were; so lanes are
+    -- too where it is passed by.
+    pub bind-goes : (is : Bool) → test_is ≡ is → (f : ℕ → ℕ) (memory : List ℕ) (funcs : Planes) → HoldsFuncs own memory funcs → Knows v own.harts scope values f → f 15 ≡ parked → ((q : ℕ) → Kept depth q → f q ≡ given q) → SameLanes start_lanes f
+        → Marked own (mark_if is (made_is funcs) (SameLanes start_lanes)) code (λ at. at) (λ at. end at code) (length front + (if is then 3 + t else 4)) f memory depth (if is then one funcs else funcs) (hits_if is (body_hits funcs))
+    bind-goes true is f memory funcs holds knows e15 before same =
         let a = whole-reaches whole f memory holds.size fits knows in
         let kept-a : (q : ℕ) → Kept depth q → a.after q ≡ f q = λ q kept. let s = kept-safe depth q kept in let u = s.apart in
         a.others q (λ e. omega (arith, e, u)) (kept-apart depth q few kept) (λ e. omega (arith, e, u)) in
@@ -169,11 +169,11 @@ module _ (own : Setting) (scope : List Counter) (values : Values) (few : length 
         let e2 : f2 c ≡ whole_value whole values = head.others c (r-scratch own depth few) ∙ a.value in
         let lanes : SameLanes start_lanes f2 = λ q high. head.others q (λ e. omega (arith, e, high)) ∙ lanes-stay f memory holds.size knows q high ∙ same q high in
         let inner = does is f2 memory funcs holds (knows-entered v own.harts scope values counter (whole_value whole values) f2 k2 e2 (whole-small whole values)) e2 head.value
-        (head.others 15 (λ e. omega (arith, e)) ∙ a.others 15 (λ e. omega (arith, e)) c-not-parked (λ e. omega (arith, e)) ∙ e15) lanes in
+        (head.others 15 (λ e. omega (arith, e)) ∙ a.others 15 (λ e. omega (arith, e)) c-not-parked (λ e. omega (arith, e)) ∙ e15) (λ q kept. second.keeps q kept ∙ kept-a q kept ∙ before q kept) lanes in
         let third : Went own code start out t f2 memory depth (one funcs) (body_hits funcs) =
         within own start out (λ at s. (tested at s).1.1.1.1) (λ at. refl) (went-less own inner.went) in
         record { went = to-end (went-hits own (λ func x y hit. inr (inr hit)) (went-then own first (went-then own second third))); mark = inner.mark }
-    bind-goes false is f memory funcs holds knows e15 same =
+    bind-goes false is f memory funcs holds knows e15 before same =
         let a = whole-reaches whole f memory holds.size fits knows in
         let kept-a : (q : ℕ) → Kept depth q → a.after q ≡ f q = λ q kept. let s = kept-safe depth q kept in let u = s.apart in
         a.others q (λ e. omega (arith, e, u)) (kept-apart depth q few kept) (λ e. omega (arith, e, u)) in
@@ -200,5 +200,5 @@ module _ (own : Setting) (scope : List Counter) (values : Values) (few : length 
       (is : Bool) → nat_lt (whole_value whole values) extent ≡ is → (f : ℕ → ℕ) (memory : List ℕ) (funcs : Planes) → HoldsFuncs own memory funcs → Knows v own.harts scope values f → f 15 ≡ parked
       → Does own (bind_code scope whole extent c body) (length (whole_code scope whole c) + (if is then 3 + t else 4)) f memory depth (if is then one funcs else funcs) (hits_if is (body_hits funcs))
   bind-does counter whole extent small fits body t one body_hits parked does is test f memory funcs holds knows e15 =
-      (bind-goes counter whole extent small fits body t one body_hits parked f (λ after. Unit {0})
-      (λ under g left there holding knowing ec e13 e15. λ same. record { went = does under g left there holding knowing ec e13 e15; mark = tt }) is test f memory funcs holds knows e15 (λ q high. refl)).went
+      (bind-goes counter whole extent small fits body t one body_hits parked f f (λ p after. Unit {0})
+      (λ under g left there holding knowing ec e13 e15 before same. record { went = does under g left there holding knowing ec e13 e15; mark = tt }) is test f memory funcs holds knows e15 (λ q kept. refl) (λ q high. refl)).went

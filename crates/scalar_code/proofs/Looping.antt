@@ -118,9 +118,9 @@ module _ (own : Setting) (depth : ℕ) (few : depth < 14) where
 -- ---- a loop
 
 module _ (own : Setting) (scope : List Counter) (values : Values) (few : length scope < 14) (counter : Counter) (n : ℕ) (small : n < 2 ^ 32) (body : List Insn)
-    (t : ℕ → ℕ) (one : ℕ → Planes → Planes) (body_hits : ℕ → Planes → Hits) (mark_is : ℕ → (ℕ → ℕ) → Type 0) (stays : (i : ℕ) (f g : ℕ → ℕ) → SameLanes f g → mark_is i f → mark_is i g)
-    (does : (i : ℕ) (f : ℕ → ℕ) (memory : List ℕ) (funcs : Planes) → i < n → HoldsFuncs own memory funcs → Knows own.world own.harts (counter ∷ scope) (with counter i values) f → mark_is i f
-    → Marked own (mark_is (suc i)) body (λ at. at) (λ at. end at body) (t i) f memory (suc (length scope)) (one i funcs) (body_hits i funcs)) where
+    (t : ℕ → ℕ) (one : ℕ → Planes → Planes) (body_hits : ℕ → Planes → Hits) (mark_is : Planes → ℕ → (ℕ → ℕ) → Type 0) (stays : (funcs : Planes) (i : ℕ) (f g : ℕ → ℕ) → SameLanes f g → mark_is funcs i f → mark_is funcs i g)
+    (does : (i : ℕ) (f : ℕ → ℕ) (memory : List ℕ) (funcs : Planes) → i < n → HoldsFuncs own memory funcs → Knows own.world own.harts (counter ∷ scope) (with counter i values) f → mark_is funcs i f
+    → Marked own (mark_is (one i funcs) (suc i)) body (λ at. at) (λ at. end at body) (t i) f memory (suc (length scope)) (one i funcs) (body_hits i funcs)) where
   abbrev v : World
   v = own.world
 
@@ -169,9 +169,9 @@ module _ (own : Setting) (scope : List Counter) (values : Values) (few : length 
   pub record Round (from : ℕ → ℕ) (memory : List ℕ) (k i : ℕ) (funcs : Planes) (hits : Hits) : Type 0 where
     pub went : Went own whole top top k from memory depth funcs hits
     pub count : went.after c ≡ i
-    pub mark : mark_is i went.after
+    pub mark : mark_is funcs i went.after
 
-  round : (i : ℕ) (f : ℕ → ℕ) (memory : List ℕ) (funcs : Planes) → i < n → HoldsFuncs own memory funcs → Known f → f c ≡ i → mark_is i f
+  round : (i : ℕ) (f : ℕ → ℕ) (memory : List ℕ) (funcs : Planes) → i < n → HoldsFuncs own memory funcs → Known f → f c ≡ i → mark_is funcs i f
       → Round f memory (3 + (t i + 2)) (suc i) (one i funcs) (body_hits i funcs)
   round i f memory funcs less holds knows is marked =
       let head = set-scratch own depth few n small f memory holds.size in
@@ -180,7 +180,7 @@ module _ (own : Setting) (scope : List Counter) (values : Values) (few : length 
       let f1 = head.after in
       let e1 : f1 c ≡ i = head.others c (r-scratch own depth few) ∙ is in
       let k1 = knows-still v own.harts scope values f f1 knows first.keeps in
-      let m1 = stays i f f1 (λ q high. head.others q (λ e. omega (arith, e, high))) marked in
+      let m1 = stays funcs i f f1 (λ q high. head.others q (λ e. omega (arith, e, high))) marked in
       let made = does i f1 memory funcs less holds (knows-entered v own.harts scope values counter i f1 k1 e1 (omega (arith, less, small))) m1 in
       let inner = made.went in
       let second : Went own whole start ended (t i) f1 memory depth (one i funcs) (body_hits i funcs) =
@@ -195,14 +195,14 @@ module _ (own : Setting) (scope : List Counter) (values : Values) (few : length 
       record {
         went = went-hits own (λ func x y hit. inr (inl hit)) (went-then own first (went-then own second third));
         count = next.value ∙ (let g : (i + 1) % 2 ^ 32 ≡ suc i = omega (arith, less, small) in g);
-        mark = stays (suc i) f2 next.after (λ q high. next.others q (above-counter q high)) made.mark;
+        mark = stays (one i funcs) (suc i) f2 next.after (λ q high. next.others q (above-counter q high)) made.mark;
       }
 
   -- ---- all turns
 
   module _ (hits : ℕ → Planes → Hits) (none_hit : (funcs : Planes) (func x y : ℕ) → hits zero funcs func x y → ⊥)
       (more_hit : (i : ℕ) (funcs : Planes) (func x y : ℕ) → hits (suc i) funcs func x y → hits i funcs func x y ⊎ body_hits i (turns i one funcs) func x y) where
-    rounds : (k : ℕ) → k ≤ n → (f : ℕ → ℕ) (memory : List ℕ) (funcs : Planes) → HoldsFuncs own memory funcs → Known f → f c ≡ 0 → mark_is 0 f
+    rounds : (k : ℕ) → k ≤ n → (f : ℕ → ℕ) (memory : List ℕ) (funcs : Planes) → HoldsFuncs own memory funcs → Known f → f c ≡ 0 → mark_is funcs 0 f
         → Round f memory (total k (λ i. 3 + (t i + 2))) k (turns k one funcs) (hits k funcs)
     unfolding turns total
     rounds zero few-turns f memory funcs holds knows is marked = record {
@@ -229,14 +229,14 @@ module _ (own : Setting) (scope : List Counter) (values : Values) (few : length 
       writes = a.writes;
     }
 
-    pub loop-goes : (f : ℕ → ℕ) (memory : List ℕ) (funcs : Planes) → HoldsFuncs own memory funcs → Known f → mark_is 0 f
-        → Marked own (mark_is n) whole (λ at. at) (λ at. end at whole) (1 + (total n (λ i. 3 + (t i + 2)) + 4)) f memory depth (turns n one funcs) (hits n funcs)
+    pub loop-goes : (f : ℕ → ℕ) (memory : List ℕ) (funcs : Planes) → HoldsFuncs own memory funcs → Known f → mark_is funcs 0 f
+        → Marked own (mark_is (turns n one funcs) n) whole (λ at. at) (λ at. end at whole) (1 + (total n (λ i. 3 + (t i + 2)) + 4)) f memory depth (turns n one funcs) (hits n funcs)
     loop-goes f memory funcs holds knows marked =
         let zeroed = imm-sets v memory holds.size alu_imms.Addi f c 0 (pos 0) 0 (r-one own depth few) (r-high own depth few) (omega arith) knows.none in
         let first : Went own whole (λ at. at) top 1 f memory depth funcs no_hits = still own (λ at. at) top 1 zeroed.after holds (λ q kept. zeroed.others q (kept-apart depth q few kept))
         (λ at s. zeroed.line at (stand-front v.text at (move c 0) (test c n (length body + 3) ++ looped) s)) in
         let k1 = knows-still v own.harts scope values f zeroed.after knows first.keeps in
-        let all = rounds n (omega arith) zeroed.after memory funcs holds k1 zeroed.value (stays 0 f zeroed.after (λ q high. zeroed.others q (above-counter q high)) marked) in
+        let all = rounds n (omega arith) zeroed.after memory funcs holds k1 zeroed.value (stays funcs 0 f zeroed.after (λ q high. zeroed.others q (above-counter q high)) marked) in
         let a = all.went in
         let last = set-scratch own depth few n small a.after a.left a.holds.size in
         let e = all.count in
@@ -244,7 +244,7 @@ module _ (own : Setting) (scope : List Counter) (values : Values) (few : length 
         (λ at s. passes own depth few n (length body + 3) small looped (top at) s.1 a.after a.left (turns n one funcs) a.holds (out at) (omega (arith, e))
         (let g = end-length (start at) body in omega (arith, g)) (tail at s).1.1) in
         let both = went-hits own (λ func x y hit. inr (inl hit)) (went-then own first (went-then own a third)) in
-        record { went = went-to both; mark = stays n a.after last.after (λ q high. last.others q (λ e. omega (arith, e, high))) all.mark }
+        record { went = went-to both; mark = stays (turns n one funcs) n a.after last.after (λ q high. last.others q (λ e. omega (arith, e, high))) all.mark }
 
 -- so it is where nothing is asked of lanes
 module _ (own : Setting) (scope : List Counter) (values : Values) (few : length scope < 14) (counter : Counter) (n : ℕ) (small : n < 2 ^ 32) (body : List Insn)
@@ -256,5 +256,5 @@ module _ (own : Setting) (scope : List Counter) (values : Values) (few : length 
   pub loop-does : (f : ℕ → ℕ) (memory : List ℕ) (funcs : Planes) → HoldsFuncs own memory funcs → Knows own.world own.harts scope values f
       → Does own (loop_code (seat (length scope)) n body) (1 + (total n (λ i. 3 + (t i + 2)) + 4)) f memory (length scope) (turns n one funcs) (hits n funcs)
   loop-does f memory funcs holds knows =
-      (loop-goes own scope values few counter n small body t one body_hits (λ i after. Unit {0}) (λ i f g same mark. tt)
+      (loop-goes own scope values few counter n small body t one body_hits (λ p i after. Unit {0}) (λ p i f g same mark. tt)
       (λ i g left there less holding knowing mark. record { went = does i g left there less holding knowing; mark = tt }) hits none_hit more_hit f memory funcs holds knows tt).went

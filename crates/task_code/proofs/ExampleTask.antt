@@ -38,7 +38,6 @@ use Rattle.task_code.specs.Example.{example_counter, counted, example_store, exa
 use Rattle.scalar_code.proofs.Spelling.{stand-spelled}
 use Rattle.task_code.proofs.Unrolled.{code-store, fits-store, turns-store}
 use Rattle.task_code.proofs.Finishing.{tasks-done}
-use Rattle.task_code.proofs.Following.{CollectedDoes}
 use Rattle.task_code.proofs.ExampleWords.{example_insns, example-spelled}
 
 -- ---- its code
@@ -254,9 +253,9 @@ module _ (task : ℕ) (small : task < 2) where
       empty (sources.Input k) x y = refl
       empty (sources.Func k) x y = refl
 
-pub example-done : CollectedDoes → ExampleIsDone
-example-done collected-done task f small drawn =
-    let a = tasks-done collected-done (example_setting task) (good task small) example_phase example_ticket task fits-is (omega arith) (omega (arith, small)) (sound-is task small) (once-is task small) (λ funcs are func runs. absurd (true≢false (sym runs))) f example_data nothing (holds-nothing task small) drawn in
+pub example-done : ExampleIsDone
+example-done task f small drawn =
+    let a = tasks-done (example_setting task) (good task small) example_phase example_ticket task fits-is (omega arith) (omega (arith, small)) (sound-is task small) (once-is task small) (λ funcs are func runs. absurd (true≢false (sym runs))) f example_data nothing (holds-nothing task small) drawn in
     let path : Path (example_world task) 65536 (end 65536 (task_code example_phase example_places example_ticket)) (task_turns example_phase example_places example_ticket task) f example_data a.after a.left = a.block 65536 stands in
     let ended : Path (example_world task) 65536 65680 (task_turns example_phase example_places example_ticket task) f example_data a.after a.left =
     subst (λ code. Path (example_world task) 65536 (end 65536 code) (task_turns example_phase example_places example_ticket task) f example_data a.after a.left) code-is path in

@@ -19,7 +19,7 @@ use Rattle.task_code.specs.Tasks.{TasksAreDone, AppendedWordsStand}
 use Rattle.scalar_code.proofs.Values.{literal-sets}
 use Rattle.scalar_code.proofs.Spelling.{stand-spelled, spell-length}
 use Rattle.scalar_code.proofs.Looping.{end-length}
-use Rattle.task_code.proofs.Following.{CollectedDoes, statements-done}
+use Rattle.task_code.proofs.Following.{statements-done}
 
 below : (n k : ℕ) → nat_lt n k ≡ true → n < k
 below n k t = grind (arith, nat_tests)
@@ -77,11 +77,11 @@ module _ (w : World) (m : List ℕ) (l : length m ≡ w.size) where
 
 -- ---- a task
 
-pub tasks-done : CollectedDoes → TasksAreDone
-tasks-done collected-done own good phase ticket task fit lt ls sound once runs f memory funcs holds drawn =
+pub tasks-done : TasksAreDone
+tasks-done own good phase ticket task fit lt ls sound once runs f memory funcs holds drawn =
     let k = and_parts (fits own.places phase.body (task_scope phase.counter)) (is_word phase.tasks) fit in
     let knows = knows-drawn own.world own.harts task ls phase.counter f drawn.none drawn.number drawn.all drawn.drawn in
-    let a = statements-done collected-done own good phase.body (task_scope phase.counter) (task_values phase.counter task) k.0 sound once runs f memory funcs holds knows in
+    let a = statements-done own good phase.body (task_scope phase.counter) (task_values phase.counter task) k.0 sound once runs f memory funcs holds knows in
     let body = stmt_code own.places phase.body (task_scope phase.counter) in
     let turns = stmt_turns own.places phase.body (task_scope phase.counter) (task_values phase.counter task) in
     let ends = restored ticket phase.tasks in

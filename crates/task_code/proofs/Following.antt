@@ -44,7 +44,7 @@ use Rattle.scalar_code.proofs.Looping.{each-turn, loop-does}
 use Rattle.scalar_code.proofs.Binding.{bind-does}
 use Rattle.round_code.specs.Rounds.{rounds_code, rounds_turns, rounds_fit}
 use Rattle.round_code.proofs.Looping.{loop-does as rounds-done}
-use Rattle.collected_code.specs.Collected.{collected_code, collected_turns, collected_fits}
+use Rattle.collected_code.proofs.Looping.{loop-does as collected-done}
 use Rattle.lane_code.specs.declared.groups.Group.{Group}
 use Rattle.task_code.specs.Code.{code_taken, turns_taken, group_taken, group_collected, code_otherwise, turns_otherwise}
 use Rattle.task_code.proofs.Taking.{IsTaken, is-taken}
@@ -66,16 +66,7 @@ equal-parts a b c d e f t =
     same : (m n : ℕ) → (m == n) ≡ true → m ≡ n
     same m n u = grind (arith, nat_tests)
 
--- what is to be shown of the code of loops whose rounds collect their pixels
-abbrev pub CollectedDoes : Type 0
-CollectedDoes =
-    (own : Setting) → IsSetting own → (group : Group) (counter : Counter) (count : ℕ) (body : Stmt) (scope : List Counter) (values : Values) → collected_fits group own.places scope counter count body ≡ true
-    → SoundIn own (s.For counter count kinds.Vectorized body) values → RunsIn own (s.For counter count kinds.Vectorized body) values
-    → (f : ℕ → ℕ) (memory : List ℕ) (funcs : Planes) → may_be_at_once (reads_of own.inputs funcs) (s.For counter count kinds.Vectorized body) values ≡ true → HoldsFuncs own memory funcs → Knows own.world own.harts scope values f
-    → Does own (collected_code group own.places scope counter count body) (collected_turns group own.places scope counter count body values) f memory (length scope)
-    (run own.points own.inputs (s.For counter count kinds.Vectorized body) values funcs) (λ func x y. stored_points own (s.For counter count kinds.Vectorized body) values funcs func x y ≡ true)
-
-module _ (collected-done : CollectedDoes) (own : Setting) (good : IsSetting own) where
+module _ (own : Setting) (good : IsSetting own) where
   abbrev hits : Stmt → Values → Planes → Hits
   hits statement values funcs func x y = stored_points own statement values funcs func x y ≡ true
 
@@ -281,9 +272,9 @@ module _ (collected-done : CollectedDoes) (own : Setting) (good : IsSetting own)
   pub follows : (statement : Stmt) → Follows statement
   follows = ind-Stmt Follows (λ l t is. subst (λ (k : Stmt-F Stmt). Follows (roll-Stmt k)) is (by-layer _ (λ e. e.0) (λ e. e.1) t))
 
-pub statements-done : CollectedDoes → StatementsAreDone
-statements-done collected-done own good statement scope values is sound once runs f memory funcs holds knows =
-    let a = follows collected-done own good statement scope values is sound once runs f memory funcs holds knows in
+pub statements-done : StatementsAreDone
+statements-done own good statement scope values is sound once runs f memory funcs holds knows =
+    let a = follows own good statement scope values is sound once runs f memory funcs holds knows in
     record {
       after = a.after;
       left = a.left;
