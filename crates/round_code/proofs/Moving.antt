@@ -213,7 +213,7 @@ same_id-self (ids.Whole a) = same_variable-self a
 same_id-self (ids.Outer a) = itself a
 same_id-self (ids.Inner a) = itself a
 
-same_counter-self : (a : Counter) → same_counter a a ≡ true
+pub same_counter-self : (a : Counter) → same_counter a a ≡ true
 same_counter-self a = and_from (a.func == a.func) (same_id a.id a.id) (itself a.func) (same_id-self a.id)
 
 pub stands-at : (own : Counter) (v : ℕ) (values : Values) → with own v values own ≡ v
