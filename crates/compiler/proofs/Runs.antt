@@ -1,7 +1,6 @@
 -- A turn that writes a point of a vectorized Func writes one run.
 use Rattle.std.proofs.Common.{◌≡◌, ℕ, zero, suc, ◌-◌, ◌+◌, ◌<◌, ◌≤◌, true, List, [], ◌∷◌, length, Some, None, refl, sym, ap, subst, ◌∙◌, arith, inl, inr}
 use Rattle.std.specs.Prelude.{◌==◌, ◌&&◌, slice_get}
-use Rattle.std.proofs.lemmas.Bool.{and_from}
 use Rattle.memory.specs.Addresses.{text_start}
 use Rattle.multi_hart.specs.Run.{run}
 use Rattle.lone_hart.specs.Alone.{is_in}
@@ -10,25 +9,20 @@ use Rattle.halide_pipeline.specs.declared.definitions.Update.{Update}
 use Rattle.halide_meaning.specs.Picture.{PictureContents}
 use Rattle.bounds.specs.Boxes.{extent}
 use Rattle.bounds.specs.Views.{extents_of}
-use Rattle.loop_ir.specs.declared.statements.Phase.{Phase}
-use Rattle.scalar_code.specs.declared.places.Places.{Places}
 use Rattle.picture.specs.Evaluated.{judged}
 use Rattle.work_sharing.specs.Promises.{RuleKept}
 use Rattle.work_sharing.specs.Writers.{written_next}
 use Rattle.work_sharing.proofs.Races.{rules-kept}
-use Rattle.lowering.specs.Runs.{is_vectorized_first}
-use Rattle.task_code.specs.Whole.{task_is_whole}
 use Rattle.phase_memory.specs.Points.{RootPoint}
-use Rattle.phase_memory.specs.Settings.{places}
-use Rattle.phase_sharing.specs.Runs.{writes_runs, IsOneRun}
+use Rattle.phase_sharing.specs.Runs.{IsOneRun}
 use Rattle.phase_sharing.specs.Sharing.{IsOwnedIn}
 use Rattle.phase_sharing.specs.Stages.{StagePlace, stages}
 use Rattle.compiler.specs.Assigned.{byte_of_point}
-use Rattle.compiler.specs.Compiled.{CompiledContents, AreWordsOf, IsCompiled}
+use Rattle.compiler.specs.Compiled.{CompiledContents, IsCompiled}
 use Rattle.compiler.specs.Correct.{opening}
 use Rattle.compiler.specs.Images.{ArePictures, image_of}
 use Rattle.compiler.specs.Runs.{IsInVectors, WritesWholeRuns}
-use Rattle.compiler.proofs.Correct.{last, count, bytes, IsSharedSo, shared, steps, goes, begins, places-are}
+use Rattle.compiler.proofs.Correct.{last, count, bytes, IsSharedSo, shared, steps, goes, begins}
 
 -- what stands at a place of a list
 record There {A : Type 0} (list : List A) (k : ℕ) : Type 0 where
@@ -41,7 +35,7 @@ there (first ∷ others) zero l = record { one = first; is = refl }
 there (first ∷ others) (suc k) l = let t = there others k (omega (arith, l)) in record { one = t.one; is = t.is }
 
 module _ (own : CompiledContents) (rules : IsCompiled own) (pictures : List PictureContents) (none : judged own.pipeline.inputs pictures ≡ None) (are : ArePictures pictures) (place : ℕ)
-    (is : IsInVectors own rules.words_are.phases place) (harts : ℕ) (some_harts : 0 < harts) (few_harts : harts ≤ 8) (turns : List ℕ) (hart : ℕ) where
+    (is : IsInVectors own place) (harts : ℕ) (some_harts : 0 < harts) (few_harts : harts ≤ 8) (turns : List ℕ) (hart : ℕ) where
   abbrev written : List ℕ
   written = written_next (run (opening (image_of own pictures) harts) turns) hart
 
@@ -61,12 +55,6 @@ module _ (own : CompiledContents) (rules : IsCompiled own) (pictures : List Pict
       let none_left : length is.func.updates ≡ 0 = ap (λ (us : List Update). length us) is.no_updates in
       let n : stage.number ≡ 0 = omega (arith, few, none_left) in
       e ∙ ap (λ (p : ℕ). Some (record { func = p; number = stage.number })) f ∙ ap (λ (m : ℕ). Some (record { func = place; number = m })) n
-
-  in_runs : (phase : Phase) → slice_get (stages own.pipeline own.schedule own.boxes) kept.k ≡ Some (record { func = place; number = 0 }) → slice_get rules.words_are.phases kept.k ≡ Some phase
-      → writes_runs own.pipeline own.schedule own.boxes place is.plan 0 phase ≡ true
-  in_runs phase e p =
-      and_from (is_vectorized_first is.plan.pure.loops) (task_is_whole (places own.pipeline own.schedule own.boxes.funcs) place phase) is.vectorized
-      (subst (λ (lie : Places). task_is_whole lie place phase ≡ true) (places-are own rules pictures none are) (is.whole kept.k phase e p))
 
   module _ (x y byte : ℕ) (column : x < extent is.box.x) (row : y < extent is.box.y) (small : byte < 4)
       (hit : is_in (byte_of_point own.pipeline own.schedule own.boxes place x y byte) written ≡ true) where
@@ -88,7 +76,7 @@ module _ (own : CompiledContents) (rules : IsCompiled own) (pictures : List Pict
         let all = count own rules pictures none are in
         let phase = there rules.words_are.phases kept.k (omega (arith, within, all)) in
         let stage_is = first_stage owner.stage owner.stage_is owner.func_is in
-        all_shared.runs_are kept.k place is.func is.plan is.box 0 phase.one is.at_root stage_is phase.is (in_runs phase.one stage_is phase.is) owner.task written
+        all_shared.runs_are kept.k place is.func is.plan is.box 0 phase.one is.at_root stage_is phase.is is.vectorized owner.task written
         (kept.rule (byte_of_point own.pipeline own.schedule own.boxes place x y byte) owner.task hit owner.owned)
 
     one_run : IsOneRun own.pipeline own.schedule own.boxes place (extents_of is.box) is.plan.pure written
@@ -99,6 +87,6 @@ module _ (own : CompiledContents) (rules : IsCompiled own) (pictures : List Pict
 
 pub writes-whole-runs : (own : CompiledContents) → IsCompiled own → (pictures : List PictureContents) → judged own.pipeline.inputs pictures ≡ None → ArePictures pictures
     → WritesWholeRuns own (image_of own pictures)
-writes-whole-runs own rules pictures none are words place is harts some_harts few_harts turns hart x y byte column row small hit =
-    one_run own (record { well_formed = rules.well_formed; accepted = rules.accepted; inferred_is = rules.inferred_is; words_are = words }) pictures none are place is harts some_harts few_harts turns hart x y byte column
+writes-whole-runs own rules pictures none are place is harts some_harts few_harts turns hart x y byte column row small hit =
+    one_run own rules pictures none are place is harts some_harts few_harts turns hart x y byte column
     row small hit

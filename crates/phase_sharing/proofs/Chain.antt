@@ -182,7 +182,7 @@ module _ (pipeline : Pipeline) (schedule : Schedule) (boxes : Boxes) (inputs : P
   stages_told place func plan own at others _ _ None_yet all told = subst (λ (list : List StagePlace). Told others list (before place)) (sym (append-nil all)) told
   stages_told place func plan own at others _ _ (One_more number phases phase rest one) all told =
       let known = known_phase pipeline schedule boxes place func plan own at number phase one in
-      let last : Work = record { place = place; func = func; plan = plan; own = own; number = number; in_runs = writes_runs pipeline schedule boxes place plan number phase; owned = known.owned; phase = phase } in
+      let last : Work = record { place = place; func = func; plan = plan; own = own; number = number; in_runs = writes_runs plan number; owned = known.owned; phase = phase } in
       subst (λ (list : List StagePlace). Told (phases ++ phase ∷ []) list (held boxes.funcs (after_stages pipeline.funcs inputs place func (suc number))))
       (append_assoc all (stages_to place number) (stage_of last ∷ []))
       (told_more phases (all ++ stages_to place number) (held boxes.funcs (after_stages pipeline.funcs inputs place func number)) (stages_told place func plan own at others phases number rest all told)

@@ -173,7 +173,7 @@ stage_of work = record { func = work.place; number = work.number }
 
 pub record IsKnown (pipeline : Pipeline) (schedule : Schedule) (boxes : Boxes) (work : Work) : Type 0 where
   pub at : IsAtRoot pipeline schedule boxes work.place work.func work.plan work.own
-  pub in_runs_is : work.in_runs ≡ writes_runs pipeline schedule boxes work.place work.plan work.number work.phase
+  pub in_runs_is : work.in_runs ≡ writes_runs work.plan work.number
   pub stores_in_runs : work.number ≡ 0 → StoresInRuns work.place (extents_of work.own) work.plan.pure work.phase
   pub number_is : work.number ≤ length work.func.updates
   pub func_is : slice_get pipeline.funcs work.place ≡ Some work.func
@@ -201,7 +201,7 @@ pub record KnownPhase (pipeline : Pipeline) (schedule : Schedule) (boxes : Boxes
     plan = plan;
     own = own;
     number = number;
-    in_runs = writes_runs pipeline schedule boxes place plan number phase;
+    in_runs = writes_runs plan number;
     owned = owned;
     phase = phase;
   })

@@ -34,12 +34,10 @@ use Rattle.lowering.specs.Stages.{is_private}
 use Rattle.lowering.specs.Touching.{is_listed, is_root_at, may_write, may_load_at, may_load}
 use Rattle.lowering.proofs.RunLists.{runs_are_listed}
 use Rattle.scalar_code.specs.Doing.{Setting, IsSetting, SoundIn, RunsIn, HoldsFuncs}
-use Rattle.task_code.specs.Code.{task_scope}
-use Rattle.task_code.specs.Doing.{AtOnceIn, WholeIn}
+use Rattle.task_code.specs.Doing.{AtOnceIn}
 use Rattle.task_code.specs.Fitting.{fits_task}
 use Rattle.scalar_code.specs.Layout.{AreWords, func_point}
 use Rattle.task_code.specs.Tasks.{HasDrawn, TaskEnds}
-use Rattle.task_code.specs.Whole.{task_is_whole}
 use Rattle.task_code.proofs.Finishing.{tasks-done}
 use Rattle.phase_memory.specs.Held.{funcs_in, HasInputs, setting, IsTask}
 use Rattle.phase_memory.specs.Points.{RootPoint}
@@ -216,31 +214,22 @@ module _ (pipeline : Pipeline) (schedule : Schedule) (boxes : Boxes) (rules : Is
       func_same : work.place ≡ func
       func_same = sym (eqb-true func work.place (and_parts (func == work.place) work.in_runs asked).0)
 
-      asked_parts : ((work.number == 0) ≡ true) × ((is_vectorized_first work.plan.pure.loops && task_is_whole (places pipeline schedule boxes.funcs) work.place work.phase) ≡ true)
+      asked_parts : ((work.number == 0) ≡ true) × (is_vectorized_first work.plan.pure.loops ≡ true)
       asked_parts =
-          and_parts (work.number == 0) (is_vectorized_first work.plan.pure.loops && task_is_whole (places pipeline schedule boxes.funcs) work.place work.phase)
+          and_parts (work.number == 0) (is_vectorized_first work.plan.pure.loops)
           (sym known.in_runs_is ∙ (and_parts (func == work.place) work.in_runs asked).1)
 
       first : work.number ≡ 0
       first = eqb-true work.number 0 asked_parts.0
 
-      vectors : (is_vectorized_first work.plan.pure.loops ≡ true) × (task_is_whole (places pipeline schedule boxes.funcs) work.place work.phase ≡ true)
-      vectors = and_parts (is_vectorized_first work.plan.pure.loops) (task_is_whole (places pipeline schedule boxes.funcs) work.place work.phase) asked_parts.1
-
       pub stores_runs : (reads : Reads) (x y : ℕ)
           → stores_in_runs reads func x y (is_in_run (extents_of work.own) work.plan.pure work.place x y) work.phase.body (task_values work.phase.counter task) ≡ true
       stores_runs reads x y =
           subst (λ (n : ℕ). stores_in_runs reads n x y (is_in_run (extents_of work.own) work.plan.pure work.place x y) work.phase.body (task_values work.phase.counter task) ≡ true) func_same
-          (known.stores_in_runs first vectors.0 task below reads x y)
-
-      pub is_whole : task_is_whole (places pipeline schedule boxes.funcs) func work.phase ≡ true
-      is_whole = subst (λ (n : ℕ). task_is_whole (places pipeline schedule boxes.funcs) n work.phase ≡ true) func_same vectors.1
+          (known.stores_in_runs first asked_parts.1 task below reads x y)
 
     in_runs : RunsIn own work.phase.body (task_values work.phase.counter task)
     in_runs funcs words func asked x y = stores_runs func asked (reads_of inputs funcs) x y
-
-    whole : WholeIn own work.phase.body (task_scope work.phase.counter)
-    whole func asked = is_whole func asked
 
     -- ---- what it finds and leaves
 
@@ -265,7 +254,7 @@ module _ (pipeline : Pipeline) (schedule : Schedule) (boxes : Boxes) (rules : Is
 
       module _ (f : ℕ → ℕ) (fits : fits_task work.phase (places pipeline schedule boxes.funcs) ≡ true) (low : ticket_word k + 4 < 2 ^ 32) (few : work.phase.tasks < 2 ^ 32) (drawn : HasDrawn own task f) where
         pub ends : TaskEnds own work.phase (ticket_word k) task f found funcs_found
-        ends = tasks-done own is_setting work.phase (ticket_word k) task fits low (omega (arith, below, few)) sound at_once in_runs whole f found funcs_found holds_found drawn
+        ends = tasks-done own is_setting work.phase (ticket_word k) task fits low (omega (arith, below, few)) sound at_once in_runs f found funcs_found holds_found drawn
 
         pub leaves : (address : ℕ) → uses pipeline schedule boxes.funcs k (owners_of work) address ≡ Owned task → byte_at text ends.left address ≡ byte_of_planes pipeline schedule boxes inputs result address
         leaves address o =

@@ -370,7 +370,7 @@ module _ (pipeline : Pipeline) (schedule : Schedule) (boxes : Boxes) (rules : Is
 
   module _ (k place : ℕ) (func : Func) (plan : FuncPlan) (own : SourceBox) (number : ℕ) (one : Phase) (at : IsAtRoot pipeline schedule boxes place func plan own)
       (e : slice_get (stages pipeline schedule boxes) k ≡ Some (record { func = place; number = number })) (phase_is : slice_get list k ≡ Some one)
-      (vectors : writes_runs pipeline schedule boxes place plan number one ≡ true) where
+      (vectors : writes_runs plan number ≡ true) where
     here_known : IsKnown pipeline schedule boxes (work k)
     here_known = known k (there k (record { func = place; number = number }) e)
 
@@ -395,10 +395,8 @@ module _ (pipeline : Pipeline) (schedule : Schedule) (boxes : Boxes) (rules : Is
     in_runs : (work k).in_runs ≡ true
     in_runs =
         here_known.in_runs_is
-        ∙ ap (λ (p : ℕ). writes_runs pipeline schedule boxes p (work k).plan (work k).number (work k).phase) same_place
-        ∙ ap (λ (p : FuncPlan). writes_runs pipeline schedule boxes place p (work k).number (work k).phase) same_plan
-        ∙ ap (λ (n : ℕ). writes_runs pipeline schedule boxes place plan n (work k).phase) same_number
-        ∙ ap (λ (p : Phase). writes_runs pipeline schedule boxes place plan number p) same_phase ∙ vectors
+        ∙ ap (λ (p : FuncPlan). writes_runs p (work k).number) same_plan
+        ∙ ap (λ (n : ℕ). writes_runs plan n) same_number ∙ vectors
 
     one_run : (task : ℕ) (written : List ℕ) → (matter k).rule task written ≡ true → IsOneRun pipeline schedule boxes place (extents_of own) plan.pure written
     one_run task written kept =

@@ -12,20 +12,17 @@ use Rattle.stage_loops.specs.Counts.{Values, counts}
 use Rattle.stage_loops.specs.Reach.{AreTurns}
 use Rattle.stage_loops.specs.Visits.{is_slice}
 use Rattle.bounds.specs.declared.verdict.Boxes.{Boxes}
-use Rattle.loop_ir.specs.declared.statements.Phase.{Phase}
 use Rattle.lone_hart.specs.Alone.{is_in}
 use Rattle.lowering.specs.Runs.{is_vectorized_first, outside_innermost, run_of}
-use Rattle.task_code.specs.Whole.{task_is_whole}
 use Rattle.phase_memory.specs.Points.{address_at}
 use Rattle.phase_memory.specs.Runs.{IsByteOf}
-use Rattle.phase_memory.specs.Settings.{places}
+
+-- The phase of the stage with this number of a Func writes the Func's points in runs: the stage is a pure definition, and its innermost loop is
+-- vectorized.
+abbrev pub writes_runs : FuncPlan → ℕ → Bool
+writes_runs plan number = number == 0 && is_vectorized_first plan.pure.loops
 
 module _ (pipeline : Pipeline) (schedule : Schedule) (boxes : Boxes) where
-  -- The phase of the stage with this number of a Func writes the Func's points in runs: the stage is a pure definition, its innermost loop is
-  -- vectorized, and the phase's vectorized loops of the Func are vector code.
-  abbrev pub writes_runs : ℕ → FuncPlan → ℕ → Phase → Bool
-  writes_runs place plan number phase = number == 0 && (is_vectorized_first plan.pure.loops && task_is_whole (places pipeline schedule boxes.funcs) place phase)
-
   -- The addresses are those of all bytes of the points that the stage visits while its innermost loop takes all its values and its other loops
   -- stay, and of no others.
   pub record IsOneRun (place : ℕ) (extents : Extents) (stage : Stage) (written : List ℕ) : Type 0 where

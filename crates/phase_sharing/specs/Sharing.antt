@@ -89,7 +89,7 @@ module _ (pipeline : Pipeline) (schedule : Schedule) (boxes : Boxes) where
     -- Where a phase writes its Func's points in runs, what keeps its rule is one run.
     pub runs_are : (k place : ℕ) (func : Func) (plan : FuncPlan) (own : SourceBox) (number : ℕ) (one : Phase) → IsAtRoot pipeline schedule boxes place func plan own
         → slice_get (stages pipeline schedule boxes) k ≡ Some (record { func = place; number = number }) → slice_get phases k ≡ Some one
-        → writes_runs pipeline schedule boxes place plan number one ≡ true
+        → writes_runs plan number ≡ true
         → (task : ℕ) (written : List ℕ) → (matter k).rule task written ≡ true → IsOneRun pipeline schedule boxes place (extents_of own) plan.pure written
     pub ends : (left : List ℕ)
         → ((address task : ℕ) → task < (part_at text (size pipeline schedule boxes.funcs) harts (parts phases) matter last).tasks

@@ -1,7 +1,8 @@
 //! Which vectorized loops are vector code.
 //!
-//! Vector code of a loop configures lanes once, and no other code does. So an image has as many such instructions as there are vectorized loops
-//! that are vector code, a loop in copies of an unrolled one once for each copy.
+//! Code of a loop whose rounds are done at once, or collect their pixels, configures lanes by a register once, and no other code does; that of
+//! rounds which collect their pixels configures no lanes at first, by a literal. So an image has as many instructions of the one kind as there are
+//! vectorized loops, and as many of the other as collect their pixels, a loop in copies of an unrolled one once for each copy.
 
 ghost use Rattle.schedule.specs.Accepted.{IsAccepted};
 
@@ -17,7 +18,7 @@ use rv_insn::{Insn, VectorInsn};
 use schedule::{Schedule, read};
 use std::alloc::Global;
 
-/// Appends a line where a schedule vectorizes loops: whether all of them are vector code, or how many of how many.
+/// Appends a line where a schedule vectorizes loops: whether all of them are vector code, or how many of how many, and how many collect their pixels.
 pub fn push_vectors(
     alloc: Global,
     algorithm: &str,
@@ -28,15 +29,16 @@ pub fn push_vectors(
     let pipeline = parse(algorithm, alloc)?;
     let schedule = read(schedule, &pipeline, alloc)?;
     let marked = marked_loops(alloc, &pipeline, &schedule)?;
-    let made = configurations(image);
-    if marked == 0 && made == 0 {
+    let (configured, collected) = configurations(image);
+    let made = configured.wrapping_sub(collected);
+    if marked == 0 && configured == 0 {
         return Ok(());
     }
     out.push_str("vectorized loops: ")?;
     if made == marked {
         out.push_str("all vector code\n")?;
     } else {
-        writeln!(out, "{made} of {marked} vector code")?;
+        writeln!(out, "{made} of {marked} vector code, {collected} collected")?;
     }
     Ok(())
 }
@@ -72,13 +74,20 @@ fn marked_in(statement: &Stmt) -> u64 {
     }
 }
 
-/// How many words of an image configure lanes.
-fn configurations(image: &Image) -> u64 {
-    let mut count: u64 = 0;
+/// How many words of an image configure lanes by a register, and how many by a literal.
+fn configurations(image: &Image) -> (u64, u64) {
+    let mut by_register: u64 = 0;
+    let mut by_literal: u64 = 0;
     for word in image.words() {
-        if let Some(Insn::Vector(VectorInsn::Vsetvli { .. })) = decode(*word) {
-            count = count.wrapping_add(1);
+        match decode(*word) {
+            Some(Insn::Vector(VectorInsn::Vsetvli { .. })) => {
+                by_register = by_register.wrapping_add(1);
+            }
+            Some(Insn::Vector(VectorInsn::Vsetivli { .. })) => {
+                by_literal = by_literal.wrapping_add(1);
+            }
+            _ => {}
         }
     }
-    count
+    (by_register, by_literal)
 }
