@@ -1,10 +1,9 @@
 -- A turn that writes a point of a vectorized Func writes one run.
-use Rattle.std.proofs.Common.{◌≡◌, ℕ, zero, suc, ◌-◌, ◌+◌, ◌<◌, ◌≤◌, true, List, [], ◌∷◌, length, Some, None, refl, sym, ap, subst, ◌∙◌, arith, inl, inr}
-use Rattle.std.specs.Prelude.{◌==◌, ◌&&◌, slice_get}
+use Rattle.std.proofs.Common.{◌≡◌, ℕ, ◌<◌, ◌≤◌, true, List, length, Some, None, ap, ◌∙◌, arith, inl, inr}
+use Rattle.std.specs.Prelude.{slice_get}
 use Rattle.memory.specs.Addresses.{text_start}
 use Rattle.multi_hart.specs.Run.{run}
 use Rattle.lone_hart.specs.Alone.{is_in}
-use Rattle.halide_pipeline.specs.declared.definitions.Func.{Func}
 use Rattle.halide_pipeline.specs.declared.definitions.Update.{Update}
 use Rattle.halide_meaning.specs.Picture.{PictureContents}
 use Rattle.bounds.specs.Boxes.{extent}
@@ -22,17 +21,7 @@ use Rattle.compiler.specs.Compiled.{CompiledContents, IsCompiled}
 use Rattle.compiler.specs.Correct.{opening}
 use Rattle.compiler.specs.Images.{ArePictures, image_of}
 use Rattle.compiler.specs.Runs.{IsInVectors, WritesWholeRuns}
-use Rattle.compiler.proofs.Correct.{last, count, bytes, IsSharedSo, shared, steps, goes, begins}
-
--- what stands at a place of a list
-record There {A : Type 0} (list : List A) (k : ℕ) : Type 0 where
-  one : A
-  is : slice_get list k ≡ Some one
-
-there : {A : Type 0} (list : List A) (k : ℕ) → k < length list → There list k
-there [] k l = absurd (omega (arith, l))
-there (first ∷ others) zero l = record { one = first; is = refl }
-there (first ∷ others) (suc k) l = let t = there others k (omega (arith, l)) in record { one = t.one; is = t.is }
+use Rattle.compiler.proofs.Correct.{last, bytes, IsSharedSo, shared, steps, goes, begins}
 
 module _ (own : CompiledContents) (rules : IsCompiled own) (pictures : List PictureContents) (none : judged own.pipeline.inputs pictures ≡ None) (are : ArePictures pictures) (place : ℕ)
     (is : IsInVectors own place) (harts : ℕ) (some_harts : 0 < harts) (few_harts : harts ≤ 8) (turns : List ℕ) (hart : ℕ) where
@@ -72,11 +61,7 @@ module _ (own : CompiledContents) (rules : IsCompiled own) (pictures : List Pict
     by_owner : IsOwnedIn own.pipeline own.schedule own.boxes all_shared.matter kept.k place (byte_of_point own.pipeline own.schedule own.boxes place x y byte)
         → IsOneRun own.pipeline own.schedule own.boxes place (extents_of is.box) is.plan.pure written
     by_owner owner =
-        let within = kept.within in
-        let all = count own rules pictures none are in
-        let phase = there rules.words_are.phases kept.k (omega (arith, within, all)) in
-        let stage_is = first_stage owner.stage owner.stage_is owner.func_is in
-        all_shared.runs_are kept.k place is.func is.plan is.box 0 phase.one is.at_root stage_is phase.is is.vectorized owner.task written
+        all_shared.runs_are kept.k place is.func is.plan is.box 0 is.at_root (first_stage owner.stage owner.stage_is owner.func_is) is.vectorized owner.task written
         (kept.rule (byte_of_point own.pipeline own.schedule own.boxes place x y byte) owner.task hit owner.owned)
 
     one_run : IsOneRun own.pipeline own.schedule own.boxes place (extents_of is.box) is.plan.pure written
@@ -88,5 +73,4 @@ module _ (own : CompiledContents) (rules : IsCompiled own) (pictures : List Pict
 pub writes-whole-runs : (own : CompiledContents) → IsCompiled own → (pictures : List PictureContents) → judged own.pipeline.inputs pictures ≡ None → ArePictures pictures
     → WritesWholeRuns own (image_of own pictures)
 writes-whole-runs own rules pictures none are place is harts some_harts few_harts turns hart x y byte column row small hit =
-    one_run own rules pictures none are place is harts some_harts few_harts turns hart x y byte column
-    row small hit
+    one_run own rules pictures none are place is harts some_harts few_harts turns hart x y byte column row small hit

@@ -1,7 +1,7 @@
 -- A turn that writes a point of a vectorized Func writes the points of one run of its vectorized loop, and nothing else: those that its pure
 -- definition visits while this loop takes all its values, guards obeyed, and its other loops stay.
 --
--- It is said of all Funcs at root without updates whose innermost loop is vectorized.
+-- It is said of Funcs at root without updates, and names no code.
 -- This project's own.
 use Rattle.std.specs.Prelude.{◌≡◌, ◌<◌, ◌≤◌, ℕ, true, List, []}
 use Rattle.halide_pipeline.specs.declared.definitions.Func.{Func}
@@ -34,7 +34,7 @@ module _ (own : CompiledContents) where
   -- box, it writes one run.
   abbrev pub WritesWholeRuns : ImageContents → Type 0
   WritesWholeRuns image =
-      (place : ℕ) (is : IsInVectors place)
-      → (harts : ℕ) → 0 < harts → harts ≤ 8 → (turns : List ℕ) (hart x y byte : ℕ) → x < extent is.box.x → y < extent is.box.y → byte < 4
+      (place : ℕ) (is : IsInVectors place) (harts : ℕ)
+      → 0 < harts → harts ≤ 8 → (turns : List ℕ) (hart x y byte : ℕ) → x < extent is.box.x → y < extent is.box.y → byte < 4
       → is_in (byte_of_point own.pipeline own.schedule own.boxes place x y byte) (written_next (run (opening image harts) turns) hart) ≡ true
       → IsOneRun own.pipeline own.schedule own.boxes place (extents_of is.box) is.plan.pure (written_next (run (opening image harts) turns) hart)

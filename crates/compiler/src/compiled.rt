@@ -77,9 +77,9 @@ impl Compiled {
     ///
     /// On every list that says which hart makes the next turn, no hart traps, none race but on the words of
     /// [`Compiled::control`], and wherever all have finished the output is the algorithm's (`specs/Correct.antt`). Every
-    /// assignment of iterations to harts is reached by some list (`specs/Assigned.antt`). A turn that writes a point of a
-    /// Func at root without updates, whose innermost loop is vectorized, writes one run of that loop, and nothing else
-    /// (`specs/Runs.antt`).
+    /// assignment of iterations to harts is reached by some list (`specs/Assigned.antt`). Where the innermost loop of a
+    /// Func at root without updates is vectorized, a turn that writes a point of the Func writes one run of that loop,
+    /// and nothing else (`specs/Runs.antt`).
     ///
     /// # Errors
     ///

@@ -26,7 +26,6 @@ use Rattle.lowering.specs.PurePhases.{IsAtRoot}
 use Rattle.lowering.specs.Stages.{after_stages}
 use Rattle.phase_memory.specs.Points.{RootPoint}
 use Rattle.phase_sharing.proofs.Counting.{length_behind}
-use Rattle.phase_sharing.specs.Runs.{writes_runs}
 use Rattle.phase_sharing.specs.Stages.{StagePlace, stages_to, stages_where, stages_at, stages_below}
 use Rattle.phase_sharing.proofs.Facts.{Work, stage_of, IsKnown, known_phase}
 use Rattle.phase_sharing.proofs.Matters.{start_of, result_of, AgreeAtRoots}
@@ -182,7 +181,7 @@ module _ (pipeline : Pipeline) (schedule : Schedule) (boxes : Boxes) (inputs : P
   stages_told place func plan own at others _ _ None_yet all told = subst (λ (list : List StagePlace). Told others list (before place)) (sym (append-nil all)) told
   stages_told place func plan own at others _ _ (One_more number phases phase rest one) all told =
       let known = known_phase pipeline schedule boxes place func plan own at number phase one in
-      let last : Work = record { place = place; func = func; plan = plan; own = own; number = number; in_runs = writes_runs plan number; owned = known.owned; phase = phase } in
+      let last : Work = record { place = place; func = func; plan = plan; own = own; number = number; owned = known.owned; phase = phase } in
       subst (λ (list : List StagePlace). Told (phases ++ phase ∷ []) list (held boxes.funcs (after_stages pipeline.funcs inputs place func (suc number))))
       (append_assoc all (stages_to place number) (stage_of last ∷ []))
       (told_more phases (all ++ stages_to place number) (held boxes.funcs (after_stages pipeline.funcs inputs place func number)) (stages_told place func plan own at others phases number rest all told)
@@ -292,7 +291,7 @@ module _ (pipeline : Pipeline) (schedule : Schedule) (boxes : Boxes) (inputs : P
 module _ (pipeline : Pipeline) (schedule : Schedule) (boxes : Boxes) where
   stage_work : (place : ℕ) (func : Func) (plan : FuncPlan) (own : SourceBox) (others phases : List Phase) (number : ℕ) → ArePhasesOf pipeline schedule boxes place func plan own others number phases → 0 < number → Work
   stage_work place func plan own others _ _ None_yet l = absurd (omega (arith, l))
-  stage_work place func plan own others _ _ (One_more number phases phase rest one) l = record { place = place; func = func; plan = plan; own = own; number = number; in_runs = false; owned = λ task x y. false; phase = phase }
+  stage_work place func plan own others _ _ (One_more number phases phase rest one) l = record { place = place; func = func; plan = plan; own = own; number = number; owned = λ task x y. false; phase = phase }
 
   -- where there are phases there is some work
   pub some_work : (count last : ℕ) (phases : List Phase) → AreLowered pipeline schedule boxes count phases → length phases ≡ suc last → Work

@@ -39,7 +39,6 @@ use Rattle.lowering.specs.Runs.{StoresInRuns}
 use Rattle.lowering.specs.Touching.{is_listed, is_root_at, is_root_in, TouchesItsOwn}
 use Rattle.lowering.specs.Updates.{IsUpdateAt, update_extents, owns_update}
 use Rattle.phase_memory.specs.Points.{RootPoint, PrivatePoint}
-use Rattle.phase_sharing.specs.Runs.{writes_runs}
 use Rattle.phase_sharing.specs.Stages.{StagePlace, iterations, iterations_in, iterations_of, update_iterations, writes, writes_in, writes_of, update_writes}
 
 -- ---- points of a buffer
@@ -156,14 +155,13 @@ hosted_at_loop schedule host func e =
 
 -- ---- the phase of a stage
 
--- which stage of a Func a phase computes, which points each task owns, and whether it writes them in runs
+-- which stage of a Func a phase computes, and which points each task owns
 pub record Work : Type 0 where
   pub place : ℕ
   pub func : Func
   pub plan : FuncPlan
   pub own : SourceBox
   pub number : ℕ
-  pub in_runs : Bool
   pub owned : ℕ → ℕ → ℕ → Bool
   pub phase : Phase
 
@@ -173,7 +171,6 @@ stage_of work = record { func = work.place; number = work.number }
 
 pub record IsKnown (pipeline : Pipeline) (schedule : Schedule) (boxes : Boxes) (work : Work) : Type 0 where
   pub at : IsAtRoot pipeline schedule boxes work.place work.func work.plan work.own
-  pub in_runs_is : work.in_runs ≡ writes_runs work.plan work.number
   pub stores_in_runs : work.number ≡ 0 → StoresInRuns work.place (extents_of work.own) work.plan.pure work.phase
   pub number_is : work.number ≤ length work.func.updates
   pub func_is : slice_get pipeline.funcs work.place ≡ Some work.func
@@ -201,7 +198,6 @@ pub record KnownPhase (pipeline : Pipeline) (schedule : Schedule) (boxes : Boxes
     plan = plan;
     own = own;
     number = number;
-    in_runs = writes_runs plan number;
     owned = owned;
     phase = phase;
   })
@@ -238,7 +234,6 @@ module _ (pipeline : Pipeline) (schedule : Schedule) (boxes : Boxes) (place : �
     owned = owns (extents_of own) plan.pure;
     known = record {
       at = at;
-      in_runs_is = refl;
       stores_in_runs = λ first. in_runs;
       number_is = omega arith;
       func_is = at.func_is;
@@ -258,7 +253,6 @@ module _ (pipeline : Pipeline) (schedule : Schedule) (boxes : Boxes) (place : �
     owned = owns_update own update stage;
     known = record {
       at = at;
-      in_runs_is = refl;
       stores_in_runs = λ first. absurd (omega (arith, first));
       number_is = let inside = slice_get_within func.updates number update it.update_is in omega (arith, inside);
       func_is = at.func_is;

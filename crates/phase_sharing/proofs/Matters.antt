@@ -19,6 +19,7 @@ use Rattle.phase_memory.specs.Points.{RootPoint, part}
 use Rattle.phase_memory.specs.Runs.{rule_of}
 use Rattle.phase_memory.specs.Settings.{places, uses}
 use Rattle.phase_memory.proofs.Holding.{root-byte-point}
+use Rattle.phase_sharing.specs.Runs.{writes_runs}
 use Rattle.phase_sharing.specs.Stages.{writes}
 use Rattle.phase_sharing.proofs.Facts.{Work, stage_of}
 
@@ -27,7 +28,7 @@ owners_of work = record {
   func = work.place;
   tasks = work.phase.tasks;
   owns = work.owned;
-  in_runs = work.in_runs;
+  in_runs = writes_runs work.plan work.number;
   runs = runs (extents_of work.own) work.plan.pure;
   run = λ x y values. is_in_run (extents_of work.own) work.plan.pure work.place x y values;
 }

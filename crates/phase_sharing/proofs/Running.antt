@@ -47,6 +47,7 @@ use Rattle.phase_memory.specs.Uses.{use_of, byte_in}
 use Rattle.phase_memory.proofs.Holding.{memory-holds-funcs, tasks-find-theirs, tasks-leave-theirs}
 use Rattle.phase_memory.proofs.Laying.{tasks-are-laid}
 use Rattle.phase_memory.proofs.Runs.{tasks-may-write-runs}
+use Rattle.phase_sharing.specs.Runs.{writes_runs}
 use Rattle.phase_sharing.proofs.Facts.{Work, IsKnown, root_point, private_point, listed_root_point, point_there, shared_point}
 use Rattle.phase_sharing.proofs.Matters.{owners_of, start_of, result_of, byte_of_planes}
 use Rattle.phase_sharing.proofs.Places.{are_places, size_fits}
@@ -210,14 +211,12 @@ module _ (pipeline : Pipeline) (schedule : Schedule) (boxes : Boxes) (rules : Is
     at_once funcs words = known.rounds task below (reads_of inputs funcs)
 
     -- a Func that is written in runs is the phase's own
-    module _ (func : ℕ) (asked : (func == work.place && work.in_runs) ≡ true) where
+    module _ (func : ℕ) (asked : (func == work.place && writes_runs work.plan work.number) ≡ true) where
       func_same : work.place ≡ func
-      func_same = sym (eqb-true func work.place (and_parts (func == work.place) work.in_runs asked).0)
+      func_same = sym (eqb-true func work.place (and_parts (func == work.place) (writes_runs work.plan work.number) asked).0)
 
       asked_parts : ((work.number == 0) ≡ true) × (is_vectorized_first work.plan.pure.loops ≡ true)
-      asked_parts =
-          and_parts (work.number == 0) (is_vectorized_first work.plan.pure.loops)
-          (sym known.in_runs_is ∙ (and_parts (func == work.place) work.in_runs asked).1)
+      asked_parts = and_parts (work.number == 0) (is_vectorized_first work.plan.pure.loops) (and_parts (func == work.place) (writes_runs work.plan work.number) asked).1
 
       first : work.number ≡ 0
       first = eqb-true work.number 0 asked_parts.0

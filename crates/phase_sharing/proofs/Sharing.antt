@@ -368,8 +368,8 @@ module _ (pipeline : Pipeline) (schedule : Schedule) (boxes : Boxes) (rules : Is
           })
     ]
 
-  module _ (k place : ℕ) (func : Func) (plan : FuncPlan) (own : SourceBox) (number : ℕ) (one : Phase) (at : IsAtRoot pipeline schedule boxes place func plan own)
-      (e : slice_get (stages pipeline schedule boxes) k ≡ Some (record { func = place; number = number })) (phase_is : slice_get list k ≡ Some one)
+  module _ (k place : ℕ) (func : Func) (plan : FuncPlan) (own : SourceBox) (number : ℕ) (at : IsAtRoot pipeline schedule boxes place func plan own)
+      (e : slice_get (stages pipeline schedule boxes) k ≡ Some (record { func = place; number = number }))
       (vectors : writes_runs plan number ≡ true) where
     here_known : IsKnown pipeline schedule boxes (work k)
     here_known = known k (there k (record { func = place; number = number }) e)
@@ -380,23 +380,14 @@ module _ (pipeline : Pipeline) (schedule : Schedule) (boxes : Boxes) (rules : Is
     same_number : (work k).number ≡ number
     same_number = ap (λ (s : StagePlace). s.number) (same_stage k (record { func = place; number = number }) e)
 
-    same_phase : (work k).phase ≡ one
-    same_phase =
-        let l = there k (record { func = place; number = number }) e in
-        let is : Some (work k).phase ≡ Some one = sym (told.phase_is k (omega (arith, l, count))) ∙ phase_is in
-        cc is
-
     same_plan : (work k).plan ≡ plan
     same_plan = let is : Some (work k).plan ≡ Some plan = sym here_known.at.plan_is ∙ ap (slice_get schedule.funcs) same_place ∙ at.plan_is in cc is
 
     same_own : (work k).own ≡ own
     same_own = let is : Some (Some (work k).own) ≡ Some (Some own) = sym here_known.at.box_is ∙ ap (slice_get boxes.funcs) same_place ∙ at.box_is in cc is
 
-    in_runs : (work k).in_runs ≡ true
-    in_runs =
-        here_known.in_runs_is
-        ∙ ap (λ (p : FuncPlan). writes_runs p (work k).number) same_plan
-        ∙ ap (λ (n : ℕ). writes_runs plan n) same_number ∙ vectors
+    in_runs : writes_runs (work k).plan (work k).number ≡ true
+    in_runs = ap (λ (p : FuncPlan). writes_runs p (work k).number) same_plan ∙ ap (λ (n : ℕ). writes_runs plan n) same_number ∙ vectors
 
     one_run : (task : ℕ) (written : List ℕ) → (matter k).rule task written ≡ true → IsOneRun pipeline schedule boxes place (extents_of own) plan.pure written
     one_run task written kept =

@@ -87,8 +87,8 @@ module _ (pipeline : Pipeline) (schedule : Schedule) (boxes : Boxes) where
         → let address = address_at pipeline schedule boxes.funcs 0 (sources.Func func) x y + byte in
         ((matter k).uses address ≡ Fixed) ⊎ IsOwnedIn matter k func address
     -- Where a phase writes its Func's points in runs, what keeps its rule is one run.
-    pub runs_are : (k place : ℕ) (func : Func) (plan : FuncPlan) (own : SourceBox) (number : ℕ) (one : Phase) → IsAtRoot pipeline schedule boxes place func plan own
-        → slice_get (stages pipeline schedule boxes) k ≡ Some (record { func = place; number = number }) → slice_get phases k ≡ Some one
+    pub runs_are : (k place : ℕ) (func : Func) (plan : FuncPlan) (own : SourceBox) (number : ℕ) → IsAtRoot pipeline schedule boxes place func plan own
+        → slice_get (stages pipeline schedule boxes) k ≡ Some (record { func = place; number = number })
         → writes_runs plan number ≡ true
         → (task : ℕ) (written : List ℕ) → (matter k).rule task written ≡ true → IsOneRun pipeline schedule boxes place (extents_of own) plan.pure written
     pub ends : (left : List ℕ)
