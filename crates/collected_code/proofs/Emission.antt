@@ -32,7 +32,7 @@ use Rattle.scalar_code.proofs.Spelling.{emits_then, emits-is, emits-length}
 use Rattle.scalar_code.proofs.WordTests.{word-test}
 use Rattle.lane_code.specs.declared.groups.Group.{Group}
 use Rattle.lane_code.specs.Groups.{registers, spare, slot, vtype_of}
-use Rattle.collected_code.specs.Collected.{Collected, collected, collecting, pixel_code, is_one_store, round_fits, round_code, collected_code}
+use Rattle.collected_code.specs.Collected.{Collected, collected, collecting, pixel_code, is_one_store, round_fits, one_round_code, collected_code}
 use Rattle.collected_code.specs.Faults.{FitsRound, EmitsRound, IsRoundFault, EmitsCollected, IsCollectedFault}
 use Rattle.collected_code.proofs.Unrolled.{one-store-sequence, one-store-for, one-store-bind, collected-store, collected-bind, round-fits-store, round-fits-bind}
 
@@ -193,8 +193,8 @@ module _ (group : Group) (places : Places) (scope : List Counter) (counter : Cou
   pub seatless : 14 ≤ length scope → FitsRound places body (length scope + 1) → ⊥
   seatless many is = let seats = is.1.1 in omega (arith, many, seats)
 
-  all-length : length (collected_code group places scope counter count body) ≡ length (round_code group places scope counter body) + 9
-  all-length = loop-length group (seat (length scope)) count (round_code group places scope counter body)
+  all-length : length (collected_code group places scope counter count body) ≡ length (one_round_code group places scope counter body) + 9
+  all-length = loop-length group (seat (length scope)) count (one_round_code group places scope counter body)
 
   pub round-passed : {T : Type 0} (result : Result T CodeFault) (fault : CodeFault) (r : ℕ) (view items : List Counter) → IsErrAnd result (λ error. error ≡ fault) → r ≡ seat (length scope)
       → view ≡ items → items ≡ counter ∷ scope → IsRoundFault group places r body view fault → IfErr result (IsCollectedFault group places scope counter count body)
@@ -207,7 +207,7 @@ module _ (group : Group) (places : Places) (scope : List Counter) (counter : Cou
       → IsLong (collected_code group places scope counter count body)
   rounds-long r inner er part long =
       let own = subst (λ q. EmitsRound [] inner group places q body (counter ∷ scope)) er part in
-      let n = emits-length inner (round_code group places scope counter body) own.emits in
+      let n = emits-length inner (one_round_code group places scope counter body) own.emits in
       let l = all-length in
       omega (arith, n, l, long)
 
@@ -216,7 +216,7 @@ module _ (group : Group) (places : Places) (scope : List Counter) (counter : Cou
       → p ≡ slot group 0 → q ≡ slot group 1 → Emits c2 c3 (Vector (v.StoreElements Bits32 p 0 (addressings.Indexed q) true) ∷ []) → EmitsCollected c0 c3 group places scope counter count body
   loop-emitted r p q inner c0 c1 c2 c3 er few ec part first loop ep eq last =
       let own = subst (λ k. EmitsRound [] inner group places k body (counter ∷ scope)) er part in
-      let code = round_code group places scope counter body in
+      let code = one_round_code group places scope counter body in
       let rounds = subst (λ k. Emits c1 c2 (loop_code k count code)) er (loop.0 code own.emits) in
       let end = subst (λ k. Emits c2 c3 (Vector (v.StoreElements Bits32 (slot group 0) 0 (addressings.Indexed k) true) ∷ [])) eq
       (subst (λ k. Emits c2 c3 (Vector (v.StoreElements Bits32 k 0 (addressings.Indexed q) true) ∷ [])) ep last) in

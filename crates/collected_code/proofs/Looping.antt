@@ -52,7 +52,7 @@ use Rattle.round_code.proofs.RowCode.{supported, few-lanes, has-lanes, configure
 use Rattle.round_code.proofs.Rows.{lanes-same, may, low-spot, spot-is, all-writable, row-holds, row-touched}
 use Rattle.round_code.proofs.Runs.{StoreRuns, loop-runs, same-runs}
 use Rattle.round_code.proofs.Storing.{hits-at-once}
-use Rattle.collected_code.specs.Collected.{collected, round_code, collected_code, collected_turns, collected_fits, round_fits}
+use Rattle.collected_code.specs.Collected.{collected, one_round_code, collected_code, collected_turns, collected_fits, round_fits}
 use Rattle.collected_code.specs.Doing.{LoopsAreCollected}
 use Rattle.collected_code.proofs.Passing.{Stored, OfFunc, of-func, all-before}
 use Rattle.collected_code.proofs.Rounding.{spot_of, CollectsOne, Collects, follows}
@@ -411,7 +411,7 @@ module _ (own : Setting) (good : IsSetting own) (group : Group) (counter : Count
       gathered : Gathered own good group c body at funcs n g
 
     round : (i : ℕ) (g : ℕ → ℕ) (left : List ℕ) (p : Planes) → i < count → HoldsFuncs own left p → Knows u own.harts (counter ∷ scope) (at i) g → Same p i g
-        → Marked own (Same p (suc i)) (round_code group own.places scope counter body) (λ from. from) (λ from. end from (round_code group own.places scope counter body))
+        → Marked own (Same p (suc i)) (one_round_code group own.places scope counter body) (λ from. from) (λ from. end from (one_round_code group own.places scope counter body))
         ((collected group own.places c body).turns (counter ∷ scope) (at i)) g left (suc (length scope)) p no_hits
     round i g left p l there known a =
         let e : g c ≡ i = ap g (sym own-seat) ∙ known.counters counter ∙ stands i in
@@ -426,11 +426,11 @@ module _ (own : Setting) (good : IsSetting own) (group : Group) (counter : Count
           };
         }
 
-    looped : Marked own (Gathered own good group c body at funcs count) (loop_code c count (round_code group own.places scope counter body)) (λ from. from) (λ from. end from (loop_code c count (round_code group own.places scope counter body)))
+    looped : Marked own (Gathered own good group c body at funcs count) (loop_code c count (one_round_code group own.places scope counter body)) (λ from. from) (λ from. end from (loop_code c count (one_round_code group own.places scope counter body)))
         (1 + (total count (λ i. 3 + ((collected group own.places c body).turns (counter ∷ scope) (at i) + 2)) + 4)) f1 memory (length scope) funcs no_hits
     looped =
         let e = count-few in
-        let a = loop-goes own scope values few counter count (omega (arith, e)) (round_code group own.places scope counter body) (λ i. (collected group own.places c body).turns (counter ∷ scope) (at i))
+        let a = loop-goes own scope values few counter count (omega (arith, e)) (one_round_code group own.places scope counter body) (λ i. (collected group own.places c body).turns (counter ∷ scope) (at i))
         (λ i p. p) (λ i p. no_hits) Same (λ p i g h same b. record { same = b.same; gathered = gathered-stay own good group c body at funcs i g h same b.gathered }) round
         (λ i p. no_hits) (λ p func x y h. h) (λ i p func x y h. inl h) f1 memory funcs holds (knows-still u own.harts scope values f f1 knows kept-low) (record { same = refl; gathered = begun }) in
         record { went = went-is own refl (no-turns count funcs) a.went; mark = a.mark.gathered }

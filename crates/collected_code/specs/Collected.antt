@@ -3,7 +3,7 @@
 --
 -- A round is a store behind the values of split loops and their guards. A pixel and its address are made as for a store in turn, in scalar
 -- registers; the lanes are those with the round's number. As many lanes are stored as rounds were made, up to the last one that guards let pass: no value
--- of a split loop falls from a round to the next, so those that guards forbid are the last ones.
+-- of a split loop falls from a round to the next, as far as guards let that one pass, so those that guards forbid are the last ones.
 -- This project's own.
 use Rattle.std.specs.Prelude.{ℕ, ◌+◌, ◌*◌, ◌==◌, ◌&&◌, Bool, true, false, nat_lt, if◌then◌else◌, List, [], ◌∷◌, ◌++◌, length, pos}
 use Rattle.rv_insn.specs.declared.instructions.Insn.{Insn}
@@ -59,7 +59,7 @@ pub record Collected : Type 0 where
   pub code : List Counter → List Insn
   pub turns : List Counter → Values → ℕ
 
--- A test takes three turns where the body is made, and one more where it is passed by.
+-- A test takes three turns where the body is made, and one more where it is passed by. What isn't one store is made nothing of.
 abbrev pub collected_at : Group → Places → ℕ → Stmt-F Collected → Collected
 collected_at group places r (parts.Store store) = record {
   code = λ scope. pixel_code places scope store ++ collecting group r;
@@ -79,14 +79,14 @@ collected group places r statement = fold-Stmt Collected (collected_at group pla
 
 -- ---- the loop
 
-abbrev pub round_code : Group → Places → List Counter → Counter → Stmt → List Insn
-round_code group places scope counter body = (collected group places (seat (length scope)) body).code (counter ∷ scope)
+abbrev pub one_round_code : Group → Places → List Counter → Counter → Stmt → List Insn
+one_round_code group places scope counter body = (collected group places (seat (length scope)) body).code (counter ∷ scope)
 
 -- No lane is configured, rounds come in turn, and all lanes that are configured then are stored.
 abbrev pub collected_code : Group → Places → List Counter → Counter → ℕ → Stmt → List Insn
 collected_code group places scope counter count body =
     Vector (v.Vsetivli 0 0 (vtype_of group))
-    ∷ (loop_code (seat (length scope)) count (round_code group places scope counter body)
+    ∷ (loop_code (seat (length scope)) count (one_round_code group places scope counter body)
     ++ (Vector (v.StoreElements Bits32 (slot group 0) 0 (addressings.Indexed (slot group 1)) true) ∷ []))
 
 -- A round takes two turns behind its body.

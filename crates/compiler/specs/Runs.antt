@@ -1,7 +1,8 @@
 -- A turn that writes a point of a vectorized Func writes the points of one run of its vectorized loop, and nothing else: those that its pure
 -- definition visits while this loop takes all its values, guards obeyed, and its other loops stay.
 --
--- It is said of Funcs at root without updates, and names no code.
+-- It is said of Funcs at root without updates, and names no code. A vectorized loop is the innermost one of its stage: a schedule is refused else
+-- (`schedule/specs/Legal.antt`).
 -- This project's own.
 use Rattle.std.specs.Prelude.{◌≡◌, ◌<◌, ◌≤◌, ℕ, true, List, []}
 use Rattle.halide_pipeline.specs.declared.definitions.Func.{Func}

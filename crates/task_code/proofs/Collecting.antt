@@ -27,7 +27,7 @@ use Rattle.scalar_code.specs.Fitting.{is_word, has_seat, fits_whole}
 use Rattle.lane_code.specs.declared.groups.Group.{Group}
 use Rattle.lane_code.specs.declared.groups.Group.TheVariants as groups
 use Rattle.lane_code.specs.Groups.{registers, group_of_rounds}
-use Rattle.collected_code.specs.Collected.{collected, collecting, is_one_store, round_fits, round_code, collected_code, collected_fits}
+use Rattle.collected_code.specs.Collected.{collected, collecting, is_one_store, round_fits, one_round_code, collected_code, collected_fits}
 use Rattle.collected_code.proofs.Emission.{code-store as round-store, code-bind as round-bind, loop-length, no-sequence, no-for}
 use Rattle.collected_code.proofs.Unrolled.{one-store-store, one-store-sequence, one-store-for, one-store-bind, round-fits-store, round-fits-bind}
 use Rattle.task_code.specs.Code.{stmt_code, group_collected}
@@ -173,7 +173,7 @@ module _ (group : Group) (places : Places) (r : ℕ) where
 pub collected-length : (group : Group) (places : Places) (scope : List Counter) (counter : Counter) (count : ℕ) (body : Stmt) → is_one_store body ≡ true
     → length (collected_code group places scope counter count body) ≡ length (stmt_code places body (counter ∷ scope)) + 14
 collected-length group places scope counter count body one =
-    let l = loop-length group (seat (length scope)) count (round_code group places scope counter body) in
+    let l = loop-length group (seat (length scope)) count (one_round_code group places scope counter body) in
     let k = round-length group places (seat (length scope)) body (counter ∷ scope) one in
     omega (arith, l, k)
 

@@ -1,8 +1,8 @@
 -- The code of statements and of a task, as lists of instructions. This project's own.
 --
 -- A vectorized loop's rounds are done at once where they can be, in no more words than the loop may ask for. Else they collect their pixels,
--- where they are one store, and as many as a group has lanes; else they are done in turn. An unrolled loop is laid out: a copy of its body for
--- each round, one behind the other. One of no rounds is counted.
+-- where they are one store each, and 4, 8 or 16; else they are done in turn, which is so of none whose rounds may be done at once
+-- (`loop_ir/specs/Rounds.antt`). An unrolled loop is laid out: a copy of its body for each round, one behind the other. One of no rounds is counted.
 use Rattle.std.specs.Prelude.{ℕ, ◌+◌, ◌^◌, ◌&&◌, Bool, min, nat_le, nat_lt, if◌then◌else◌, List, [], ◌∷◌, ◌++◌, length, Option, Some, None}
 use Rattle.rv_insn.specs.declared.instructions.Insn.{Insn}
 use Rattle.loop_ir.specs.declared.expressions.Counter.{Counter}
