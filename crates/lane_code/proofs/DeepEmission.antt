@@ -1,6 +1,6 @@
 -- The code of each kind of expression over lanes whose values may wait in the hart's frame, in terms of its parts.
-use Rattle.std.proofs.Common.{◌≡◌, ℕ, ◌+◌, ◌*◌, ◌/◌, ◌%◌, ◌^◌, ◌<◌, List, [], ◌∷◌, ◌++◌, Bool, true, false, pos, negsuc, ap, ◌∙◌, sym, subst, arith}
-use Rattle.std.specs.Prelude.{◌&&◌, ◌-◌, if◌then◌else◌, nat_lt}
+use Rattle.std.proofs.Common.{◌≡◌, ℕ, ◌+◌, ◌*◌, ◌/◌, ◌%◌, ◌^◌, ◌<◌, List, [], ◌∷◌, ◌++◌, Bool, true, false, pos, negsuc, ap, refl, ◌∙◌, sym, subst, arith, append_assoc, inl, inr}
+use Rattle.std.specs.Prelude.{◌⊎◌, ◌&&◌, ◌-◌, if◌then◌else◌, nat_lt}
 use Rattle.std.proofs.lemmas.Bool.{and_parts, and_from, true≢false}
 use Rattle.std.proofs.lemmas.Bool.Decides.{nat_tests}
 use Rattle.rv_insn.specs.declared.instructions.Insn.{Insn}
@@ -23,11 +23,12 @@ use Rattle.scalar_code.specs.Code.{literal, upper, lower, framed, frames_of, pla
 use Rattle.scalar_code.specs.Words.{Emits}
 use Rattle.scalar_code.proofs.Spelling.{emits_then}
 use Rattle.lane_code.specs.declared.groups.Group.{Group}
+use Rattle.lane_code.specs.declared.groups.Group.TheVariants as groups
 use Rattle.lane_code.specs.declared.goings.Going.{Going}
 use Rattle.lane_code.specs.Groups.{slot, spare}
-use Rattle.lane_code.specs.Lanes.{Laned, laned, is_reached, lanes_operation, lanes_quotient, lanes_remainder, lanes_selection, gathered}
+use Rattle.lane_code.specs.Lanes.{Laned, laned, laned_at, has_slot, is_dense, is_reached, lanes_operation, lanes_quotient, lanes_remainder, lanes_selection, gathered}
 use Rattle.lane_code.specs.Emitting.{FitsLanes, EmitsLanes}
-use Rattle.lane_code.specs.DeepLanes.{DeepLaned, deep_laned, deep_laned_at, deep_or, frame_slots, has_frame_slot, are_above, second_fits, others_fit, spill_lanes, unspill_lanes, copied_lanes}
+use Rattle.lane_code.specs.DeepLanes.{DeepLaned, deep_laned, deep_laned_at, deep_or, frame_slots, has_frame_slot, are_above, second_fits, second_code, others_fit, others_code, spill_lanes, unspill_lanes, copied_lanes}
 use Rattle.lane_code.specs.DeepEmitting.{FitsDeepLanes, EmitsDeepLanes, FitsSecondLanes, EmitsSecondLanes, FitOtherLanes, EmitsOtherLanes}
 use Rattle.lane_code.proofs.DeepParts.{is-deep}
 
@@ -62,6 +63,25 @@ pub unspilled : (group : Group) (places : Places) (n k r : ℕ) (c0 c1 c2 : List
     → Emits c1 c2 (Vector (v.LoadElements Bits32 r 13 addressings.UnitStride true) ∷ []) → Emits c0 c2 (unspill_lanes group places n k)
 unspilled group places n k r c0 c1 c2 er a b = emits_then a (subst (λ d. Emits c1 c2 (Vector (v.LoadElements Bits32 d 13 addressings.UnitStride true) ∷ [])) er b)
 
+-- ---- the stack alone, or the frame too
+
+or-true : (b t : Bool) → t ≡ true → (if b then true else t) ≡ true
+or-true true t is = refl
+or-true false t is = is
+
+or-either : (b t : Bool) → (b ≡ true → t ≡ true) → (if b then true else t) ≡ true → t ≡ true
+or-either true t f is = f refl
+or-either false t f is = is
+
+or-same : (b : Bool) (x y : List Insn) → (b ≡ true → y ≡ x) → y ≡ (if b then x else y)
+or-same true x y f = f refl
+or-same false x y f = refl
+
+first-slot : (group : Group) → has_slot group 0 ≡ true
+first-slot groups.One = refl
+first-slot groups.Two = refl
+first-slot groups.Four = refl
+
 -- ---- expressions
 
 module _ (group : Group) (places : Places) (scope : List Counter) (goings : List Going) where
@@ -88,9 +108,9 @@ module _ (group : Group) (places : Places) (scope : List Counter) (goings : List
   own-code : (own : Expr) (k : ℕ) → (of own).own.code k ≡ (one own).code k
   own-code own k = ap (λ x. x.code k) (is-deep group places scope goings own).own_is
 
-  pub stack-emitted : (own : Expr) (n r : ℕ) (t : Bool) (c0 c1 : List ℕ) → t ≡ (one own).fits 0 → t ≡ true → EmitsLanes c0 c1 group (one own) 0 r → Emitted c0 c1 own n
-  stack-emitted own n r t c0 c1 is so x =
-      let f : (of own).own.fits 0 ≡ true = own-fits own 0 t is ∙ so in
+  pub stack-emitted : (own : Expr) (n r : ℕ) (c0 c1 : List ℕ) → EmitsLanes c0 c1 group (one own) 0 r → Emitted c0 c1 own n
+  stack-emitted own n r c0 c1 x =
+      let f : (of own).own.fits 0 ≡ true = own-fits own 0 _ refl ∙ x.can.fits in
       let d = is-deep group places scope goings own in
       record {
         emits = subst (Emits c0 c1) (sym (d.code_is f n ∙ own-code own 0)) x.emits;
@@ -100,38 +120,65 @@ module _ (group : Group) (places : Places) (scope : List Counter) (goings : List
   stack-fits : (own : Expr) (k : ℕ) (t : Bool) → t ≡ (one own).fits k → t ≡ true → (of own).own.own.is_word ≡ true → FitsLanes (one own) k
   stack-fits own k t is so word = record { fits = sym is ∙ so; is_word = sym (own-word own) ∙ word }
 
-  pub no-stack : (own : Expr) (n : ℕ) (t : Bool) → t ≡ (one own).fits 0 → t ≡ true → (FitsLanes (one own) 0 → ⊥) → Fits own n → ⊥
-  no-stack own n t is so none fits = none (stack-fits own 0 t is so fits.is_word)
+  no-stack : (own : Expr) (n : ℕ) → (one own).fits 0 ≡ true → (FitsLanes (one own) 0 → ⊥) → Fits own n → ⊥
+  no-stack own n so none fits = none (stack-fits own 0 _ refl so fits.is_word)
+
+  -- where the stack suffices for an operand, what is made through the frame is what is made on the stack
+  first-fits : (a : Expr) (n : ℕ) → (of a).own.fits 0 ≡ true → (of a).fits n ≡ true
+  first-fits a n so = (is-deep group places scope goings a).fits_is so n
+
+  first-code : (a : Expr) (n : ℕ) → (of a).own.fits 0 ≡ true → (of a).code n ≡ (of a).own.code 0
+  first-code a n so = (is-deep group places scope goings a).code_is so n
+
+  above-fits : (b : DeepLaned) (n : ℕ) → b.own.fits 1 ≡ true → second_fits places b n ≡ true
+  above-fits b n so = ap (λ k. if k then true else has_frame_slot places n && b.fits (n + 1)) so
+
+  above-code : (b : DeepLaned) (n : ℕ) → b.own.fits 1 ≡ true → second_code group places b n ≡ b.own.code 1
+  above-code b n so = ap (λ k. if k then b.own.code 1 else spill_lanes group places n ++ (b.code (n + 1) ++ (copied_lanes group 1 ++ unspill_lanes group places n 0))) so
+
+  pair-code : (a b : Expr) (n : ℕ) (rest : List Insn) → (of a).own.fits 0 ≡ true → (of b).own.fits 1 ≡ true
+      → (of a).code n ++ (second_code group places (of b) n ++ rest) ≡ (of a).own.code 0 ++ ((of b).own.code 1 ++ rest)
+  pair-code a b n rest so two = ap (λ x. x ++ (second_code group places (of b) n ++ rest)) (first-code a n so) ∙ ap (λ y. (of a).own.code 0 ++ (y ++ rest)) (above-code (of b) n two)
+
+  others-above : (a b : DeepLaned) (n : ℕ) → are_above a b ≡ true → others_fit places a b n ≡ true
+  others-above a b n so = ap (λ k. if k then true else (has_frame_slot places n && a.fits (n + 1)) && (has_frame_slot places (n + 1) && b.fits (n + 2))) so
+
+  others-code : (a b : DeepLaned) (n : ℕ) → are_above a b ≡ true → others_code group places a b n ≡ a.own.code 1 ++ b.own.code 2
+  others-code a b n so =
+      ap (λ k.
+      if k then a.own.code 1 ++ b.own.code 2
+      else spill_lanes group places n ++ (a.code (n + 1) ++ (spill_lanes group places (n + 1) ++ (b.code (n + 2)
+      ++ (copied_lanes group 2 ++ (unspill_lanes group places (n + 1) 1 ++ unspill_lanes group places n 0)))))) so
 
   -- ---- through the frame
 
-  module _ (own : Expr) (n : ℕ) (t : Bool) (is : t ≡ (one own).fits 0) (off : t ≡ false) where
-    or-emitted : (m : Laned) (fits : ℕ → Bool) (code : ℕ → List Insn) (c0 c1 : List ℕ) → of own ≡ deep_or m fits code → fits n ≡ true → m.own.is_word ≡ true → Emits c0 c1 (code n) → Emitted c0 c1 own n
-    or-emitted m fits code c0 c1 made can word x =
-        let z : m.fits 0 ≡ false = ap (λ d. d.own.fits 0) (sym made) ∙ own-fits own 0 t is ∙ off in
+  module _ (own : Expr) (n : ℕ) where
+    or-emitted : (m : Laned) (fits : ℕ → Bool) (code : ℕ → List Insn) (c0 c1 : List ℕ) → of own ≡ deep_or m fits code → (m.fits 0 ≡ true → code n ≡ m.code 0) → fits n ≡ true → m.own.is_word ≡ true
+        → Emits c0 c1 (code n) → Emitted c0 c1 own n
+    or-emitted m fits code c0 c1 made same can word x =
         subst (λ d. EmitsDeepLanes c0 c1 d n) (sym made)
-        (record {
-          emits = subst (Emits c0 c1) (sym (ap (λ b. if b then m.code 0 else code n) z)) x;
-          can = record { fits = ap (λ b. if b then true else fits n) z ∙ can; is_word = word };
-        })
+        (record { emits = subst (Emits c0 c1) (or-same (m.fits 0) (m.code 0) (code n) same) x; can = record { fits = or-true (m.fits 0) (fits n) can; is_word = word } })
 
     record Parts (m : Laned) (fits : ℕ → Bool) : Type 0 where
       can : fits n ≡ true
       word : m.own.is_word ≡ true
 
-    or-fits : (m : Laned) (fits : ℕ → Bool) (code : ℕ → List Insn) → of own ≡ deep_or m fits code → Fits own n → Parts m fits
-    or-fits m fits code made can =
-        let z : m.fits 0 ≡ false = ap (λ d. d.own.fits 0) (sym made) ∙ own-fits own 0 t is ∙ off in
+    or-fits : (m : Laned) (fits : ℕ → Bool) (code : ℕ → List Insn) → of own ≡ deep_or m fits code → (m.fits 0 ≡ true → fits n ≡ true) → Fits own n → Parts m fits
+    or-fits m fits code made same can =
         let x = subst (λ d. FitsDeepLanes d n) made can in
-        record { can = sym (ap (λ b. if b then true else fits n) z) ∙ x.fits; word = x.is_word }
+        record { can = or-either (m.fits 0) (fits n) same x.fits; word = x.is_word }
 
-    pub no-number : (x : ℕ) → own ≡ e.Number x → Fits own n → ⊥
-    unfolding deep_laned
-    no-number x eo can = true≢false (sym (or-fits _ (λ k. false) (λ k. []) (ap of eo ∙ at_number DeepLaned (deep_laned_at group places scope goings) x) can).can)
+    no-number : (x : ℕ) → own ≡ e.Number x → (FitsLanes (one own) 0 → ⊥) → Fits own n → ⊥
+    unfolding laned
+    no-number x eo = no-stack own n (ap (λ z. (one z).fits 0) eo ∙ ap (λ z. z.fits 0) (at_number Laned (laned_at group places scope goings) x) ∙ first-slot group)
 
-    pub no-linear : (sum : Linear) → own ≡ e.Linear sum → Fits own n → ⊥
-    unfolding deep_laned
-    no-linear sum eo can = true≢false (sym (or-fits _ (λ k. false) (λ k. []) (ap of eo ∙ at_linear DeepLaned (deep_laned_at group places scope goings) sum) can).can)
+    no-linear : (sum : Linear) → own ≡ e.Linear sum → (FitsLanes (one own) 0 → ⊥) → Fits own n → ⊥
+    unfolding laned
+    no-linear sum eo = no-stack own n (ap (λ z. (one z).fits 0) eo ∙ ap (λ z. z.fits 0) (at_linear Laned (laned_at group places scope goings) sum) ∙ first-slot group)
+
+    pub no-leaf : ((x : ℕ) × own ≡ e.Number x) ⊎ ((sum : Linear) × own ≡ e.Linear sum) → (FitsLanes (one own) 0 → ⊥) → Fits own n → ⊥
+    no-leaf (inl number) = no-number number.0 number.1
+    no-leaf (inr sum) = no-linear sum.0 sum.1
 
     -- two operands
     module _ (o : Operation) (a b : Expr) (eo : own ≡ e.Binary o a b) where
@@ -139,17 +186,20 @@ module _ (group : Group) (places : Places) (scope : List Counter) (goings : List
       unfolding deep_laned
       binary-is = ap of eo ∙ at_binary DeepLaned (deep_laned_at group places scope goings) o a b
 
+      binary-stack : (has_slot group 0 && ((of a).own.fits 0 && (of b).own.fits 1)) ≡ true → ((of a).own.fits 0 ≡ true) × ((of b).own.fits 1 ≡ true)
+      binary-stack so = and_parts ((of a).own.fits 0) ((of b).own.fits 1) (and_parts (has_slot group 0) ((of a).own.fits 0 && (of b).own.fits 1) so).1
+
       pub binary-deep : (x y : Expr) (r s : ℕ) (c0 c1 c2 c3 : List ℕ) → x ≡ a → y ≡ b → r ≡ slot group 0 → s ≡ slot group 1
           → Emitted c0 c1 x n → EmitsSecondLanes c1 c2 group places (of y) n → Emits c2 c3 (lanes_operation o r s) → Emitted c0 c3 own n
       binary-deep x y r s c0 c1 c2 c3 ex ey er es first second last =
           let one' = subst (λ z. Emitted c0 c1 z n) ex first in
           let two = subst (λ z. EmitsSecondLanes c1 c2 group places (of z) n) ey second in
-          or-emitted _ _ _ c0 c3 binary-is (and_from ((of a).fits n) (second_fits places (of b) n) one'.can.fits two.can.fits) (and_from (of a).own.own.is_word (of b).own.own.is_word one'.can.is_word two.can.is_word)
+          or-emitted _ _ _ c0 c3 binary-is (λ so. pair-code a b n (lanes_operation o (slot group 0) (slot group 1)) (binary-stack so).0 (binary-stack so).1) (and_from ((of a).fits n) (second_fits places (of b) n) one'.can.fits two.can.fits) (and_from (of a).own.own.is_word (of b).own.own.is_word one'.can.is_word two.can.is_word)
           (emits_then one'.emits (emits_then two.emits (subst (λ d. Emits c2 c3 (lanes_operation o d (slot group 1))) er (subst (λ d. Emits c2 c3 (lanes_operation o r d)) es last))))
 
       binary-parts : Fits own n → Fits a n × FitsSecondLanes places (of b) n
       binary-parts can =
-          let p = or-fits _ _ _ binary-is can in
+          let p = or-fits _ _ _ binary-is (λ so. and_from ((of a).fits n) (second_fits places (of b) n) (first-fits a n (binary-stack so).0) (above-fits (of b) n (binary-stack so).1)) can in
           let f = and_parts ((of a).fits n) (second_fits places (of b) n) p.can in
           let w = and_parts (of a).own.own.is_word (of b).own.own.is_word p.word in
           (record { fits = f.0; is_word = w.0 }, record { fits = f.1; is_word = w.1 })
@@ -166,16 +216,19 @@ module _ (group : Group) (places : Places) (scope : List Counter) (goings : List
       unfolding deep_laned
       divide-is = ap of eo ∙ at_divide DeepLaned (deep_laned_at group places scope goings) a c
 
+      divide-stack : (has_slot group 0 && (of a).own.fits 0) ≡ true → (of a).own.fits 0 ≡ true
+      divide-stack so = (and_parts (has_slot group 0) ((of a).own.fits 0) so).1
+
       pub divide-deep : (x : Expr) (r u : ℕ) (c0 c1 c2 : List ℕ) → x ≡ a → r ≡ slot group 0 → u ≡ spare group → Emitted c0 c1 x n → Emits c1 c2 (lanes_quotient c r u) × ((0 < c) × (c < 2 ^ 32)) → Emitted c0 c2 own n
       divide-deep x r u c0 c1 c2 ex er eu first last =
           let one' = subst (λ z. Emitted c0 c1 z n) ex first in
-          or-emitted _ _ _ c0 c2 divide-is one'.can.fits
+          or-emitted _ _ _ c0 c2 divide-is (λ so. ap (λ x. x ++ lanes_quotient c (slot group 0) (spare group)) (first-code a n (divide-stack so))) one'.can.fits
           (and_from (of a).own.own.is_word (nat_lt 0 c && nat_lt c (2 ^ 32)) one'.can.is_word (and_from (nat_lt 0 c) (nat_lt c (2 ^ 32)) (is-true 0 c last.1.0) (is-true c (2 ^ 32) last.1.1)))
           (emits_then one'.emits (subst (λ d. Emits c1 c2 (lanes_quotient c d (spare group))) er (subst (λ d. Emits c1 c2 (lanes_quotient c r d)) eu last.0)))
 
       pub no-divide-first : (x : Expr) → x ≡ a → (Fits x n → ⊥) → Fits own n → ⊥
       no-divide-first x ex none can =
-          let p = or-fits _ _ _ divide-is can in
+          let p = or-fits _ _ _ divide-is (λ so. first-fits a n (divide-stack so)) can in
           none (subst (λ z. Fits z n) (sym ex) (record { fits = p.can; is_word = (and_parts (of a).own.own.is_word (nat_lt 0 c && nat_lt c (2 ^ 32)) p.word).0 }))
 
     module _ (a : Expr) (c : ℕ) (eo : own ≡ e.Remainder a c) where
@@ -183,16 +236,19 @@ module _ (group : Group) (places : Places) (scope : List Counter) (goings : List
       unfolding deep_laned
       remainder-is = ap of eo ∙ at_remainder DeepLaned (deep_laned_at group places scope goings) a c
 
+      remainder-stack : (has_slot group 0 && (of a).own.fits 0) ≡ true → (of a).own.fits 0 ≡ true
+      remainder-stack so = (and_parts (has_slot group 0) ((of a).own.fits 0) so).1
+
       pub remainder-deep : (x : Expr) (r u : ℕ) (c0 c1 c2 : List ℕ) → x ≡ a → r ≡ slot group 0 → u ≡ spare group → Emitted c0 c1 x n → Emits c1 c2 (lanes_remainder c r u) × ((0 < c) × (c < 2 ^ 32)) → Emitted c0 c2 own n
       remainder-deep x r u c0 c1 c2 ex er eu first last =
           let one' = subst (λ z. Emitted c0 c1 z n) ex first in
-          or-emitted _ _ _ c0 c2 remainder-is one'.can.fits
+          or-emitted _ _ _ c0 c2 remainder-is (λ so. ap (λ x. x ++ lanes_remainder c (slot group 0) (spare group)) (first-code a n (remainder-stack so))) one'.can.fits
           (and_from (of a).own.own.is_word (nat_lt 0 c && nat_lt c (2 ^ 32)) one'.can.is_word (and_from (nat_lt 0 c) (nat_lt c (2 ^ 32)) (is-true 0 c last.1.0) (is-true c (2 ^ 32) last.1.1)))
           (emits_then one'.emits (subst (λ d. Emits c1 c2 (lanes_remainder c d (spare group))) er (subst (λ d. Emits c1 c2 (lanes_remainder c r d)) eu last.0)))
 
       pub no-remainder-first : (x : Expr) → x ≡ a → (Fits x n → ⊥) → Fits own n → ⊥
       no-remainder-first x ex none can =
-          let p = or-fits _ _ _ remainder-is can in
+          let p = or-fits _ _ _ remainder-is (λ so. first-fits a n (remainder-stack so)) can in
           none (subst (λ z. Fits z n) (sym ex) (record { fits = p.can; is_word = (and_parts (of a).own.own.is_word (nat_lt 0 c && nat_lt c (2 ^ 32)) p.word).0 }))
 
     -- three operands
@@ -201,19 +257,30 @@ module _ (group : Group) (places : Places) (scope : List Counter) (goings : List
       unfolding deep_laned
       select-is = ap of eo ∙ at_select DeepLaned (deep_laned_at group places scope goings) c a b
 
+      select-stack : (has_slot group 0 && ((of c).own.fits 0 && are_above (of a) (of b))) ≡ true → ((of c).own.fits 0 ≡ true) × (are_above (of a) (of b) ≡ true)
+      select-stack so = and_parts ((of c).own.fits 0) (are_above (of a) (of b)) (and_parts (has_slot group 0) ((of c).own.fits 0 && are_above (of a) (of b)) so).1
+
+      select-code : (rest : List Insn) → (has_slot group 0 && ((of c).own.fits 0 && are_above (of a) (of b))) ≡ true
+          → ((of c).code n ++ others_code group places (of a) (of b) n) ++ rest ≡ (of c).own.code 0 ++ ((of a).own.code 1 ++ ((of b).own.code 2 ++ rest))
+      select-code rest so =
+          ap (λ x. (x ++ others_code group places (of a) (of b) n) ++ rest) (first-code c n (select-stack so).0)
+          ∙ ap (λ x. ((of c).own.code 0 ++ x) ++ rest) (others-code (of a) (of b) n (select-stack so).1)
+          ∙ append_assoc ((of c).own.code 0) ((of a).own.code 1 ++ (of b).own.code 2) rest
+          ∙ ap (λ x. (of c).own.code 0 ++ x) (append_assoc ((of a).own.code 1) ((of b).own.code 2) rest)
+
       pub select-deep : (x y z : Expr) (p q r : ℕ) (c0 c1 c2 c3 : List ℕ) → x ≡ c → y ≡ a → z ≡ b → p ≡ slot group 0 → q ≡ slot group 1 → r ≡ slot group 2
           → Emitted c0 c1 x n → EmitsOtherLanes c1 c2 group places (of y) (of z) n → Emits c2 c3 (lanes_selection p q r) → Emitted c0 c3 own n
       select-deep x y z p q r c0 c1 c2 c3 ex ey ez ep eq er first second last =
           let one' = subst (λ s. Emitted c0 c1 s n) ex first in
           let two = subst (λ s. EmitsOtherLanes c1 c2 group places (of a) (of s) n) ez (subst (λ s. EmitsOtherLanes c1 c2 group places (of s) (of z) n) ey second) in
-          or-emitted _ _ _ c0 c3 select-is (and_from ((of c).fits n) (others_fit places (of a) (of b) n) one'.can.fits two.can.fits)
+          or-emitted _ _ _ c0 c3 select-is (select-code (lanes_selection (slot group 0) (slot group 1) (slot group 2))) (and_from ((of c).fits n) (others_fit places (of a) (of b) n) one'.can.fits two.can.fits)
           (and_from (of c).own.own.is_word ((of a).own.own.is_word && (of b).own.own.is_word) one'.can.is_word (and_from (of a).own.own.is_word (of b).own.own.is_word two.can.first_is_word two.can.second_is_word))
           (emits_then (emits_then one'.emits two.emits)
           (subst (λ d. Emits c2 c3 (lanes_selection d (slot group 1) (slot group 2))) ep (subst (λ d. Emits c2 c3 (lanes_selection p d (slot group 2))) eq (subst (λ d. Emits c2 c3 (lanes_selection p q d)) er last))))
 
       select-parts : Fits own n → Fits c n × FitOtherLanes places (of a) (of b) n
       select-parts can =
-          let p = or-fits _ _ _ select-is can in
+          let p = or-fits _ _ _ select-is (λ so. and_from ((of c).fits n) (others_fit places (of a) (of b) n) (first-fits c n (select-stack so).0) (others-above (of a) (of b) n (select-stack so).1)) can in
           let f = and_parts ((of c).fits n) (others_fit places (of a) (of b) n) p.can in
           let w = and_parts (of c).own.own.is_word ((of a).own.own.is_word && (of b).own.own.is_word) p.word in
           let u = and_parts (of a).own.own.is_word (of b).own.own.is_word w.1 in
@@ -227,10 +294,52 @@ module _ (group : Group) (places : Places) (scope : List Counter) (goings : List
           none (subst (λ s. FitOtherLanes places (of s) (of z) n) (sym ey) (subst (λ s. FitOtherLanes places (of a) (of s) n) (sym ez) (select-parts can).1))
 
     -- a pixel
-    module _ (source : Source) (a b : Expr) (eo : own ≡ e.Load source a b) where
+    pub no-dense : (source : Source) (a b x y : Expr) (t : Bool) → own ≡ e.Load source a b → x ≡ a → y ≡ b → t ≡ is_dense (one x) (one y) → t ≡ true → (FitsLanes (one own) 0 → ⊥) → Fits own n → ⊥
+    unfolding laned
+    no-dense source a b x y t eo ex ey is so =
+        let d : is_dense (one a) (one b) ≡ true = sym (ap (λ z. is_dense z (one y)) (ap one ex) ∙ ap (λ z. is_dense (one a) z) (ap one ey)) ∙ sym is ∙ so in
+        no-stack own n
+        (ap (λ z. (one z).fits 0) eo ∙ ap (λ z. z.fits 0) (at_load Laned (laned_at group places scope goings) source a b)
+        ∙ and_from (has_slot group 0) (if is_dense (one a) (one b) then true else is_reached (place_of places source) && ((one a).fits 0 && (one b).fits 1)) (first-slot group)
+        (ap (λ k. if k then true else is_reached (place_of places source) && ((one a).fits 0 && (one b).fits 1)) d))
+
+    module _ (source : Source) (a b : Expr) (eo : own ≡ e.Load source a b) (column row : Expr) (ev : column ≡ a) (ew : row ≡ b) (t : Bool) (is : t ≡ is_dense (one column) (one row)) (off : t ≡ false) where
       load-is : of own ≡ deep_laned_at group places scope goings (layer.Load source (of a) (of b))
       unfolding deep_laned
       load-is = ap of eo ∙ at_load DeepLaned (deep_laned_at group places scope goings) source a b
+
+      sparse : is_dense (of a).own (of b).own ≡ false
+      sparse =
+          ap (λ z. is_dense z (of b).own) ((is-deep group places scope goings a).own_is ∙ ap one (sym ev)) ∙ ap (λ z. is_dense (one column) z) ((is-deep group places scope goings b).own_is ∙ ap one (sym ew))
+          ∙ sym is ∙ off
+
+      abbrev gatherable : Bool
+      gatherable = is_reached (place_of places source) && ((of a).own.fits 0 && (of b).own.fits 1)
+
+      abbrev on-stack : Bool
+      on-stack = has_slot group 0 && (if is_dense (of a).own (of b).own then true else gatherable)
+
+      record LoadStack : Type 0 where
+        near : is_reached (place_of places source) ≡ true
+        first : (of a).own.fits 0 ≡ true
+        second : (of b).own.fits 1 ≡ true
+
+      load-stack : on-stack ≡ true → LoadStack
+      load-stack so =
+          let g : gatherable ≡ true = sym (ap (λ k. if k then true else gatherable) sparse) ∙ (and_parts (has_slot group 0) (if is_dense (of a).own (of b).own then true else gatherable) so).1 in
+          let p = and_parts (is_reached (place_of places source)) ((of a).own.fits 0 && (of b).own.fits 1) g in
+          let q = and_parts ((of a).own.fits 0) ((of b).own.fits 1) p.1 in
+          record { near = p.0; first = q.0; second = q.1 }
+
+      load-code : (dense-code rest : List Insn) → on-stack ≡ true
+          → (of a).code n ++ (second_code group places (of b) n ++ rest) ≡ (if is_dense (of a).own (of b).own then dense-code else (of a).own.code 0 ++ ((of b).own.code 1 ++ rest))
+      load-code dense-code rest so =
+          pair-code a b n rest (load-stack so).first (load-stack so).second ∙ sym (ap (λ k. if k then dense-code else (of a).own.code 0 ++ ((of b).own.code 1 ++ rest)) sparse)
+
+      load-fits : on-stack ≡ true → (is_reached (place_of places source) && ((of a).fits n && second_fits places (of b) n)) ≡ true
+      load-fits so =
+          and_from (is_reached (place_of places source)) ((of a).fits n && second_fits places (of b) n) (load-stack so).near
+          (and_from ((of a).fits n) (second_fits places (of b) n) (first-fits a n (load-stack so).first) (above-fits (of b) n (load-stack so).second))
 
       pub load-deep : (x y : Expr) (place : Place) (r s : ℕ) (c0 c1 c2 c3 : List ℕ) → x ≡ a → y ≡ b → place ≡ place_of places source → is_reached place ≡ true → r ≡ slot group 0 → s ≡ slot group 1
           → Emitted c0 c1 x n → EmitsSecondLanes c1 c2 group places (of y) n → Emits c2 c3 (gathered place r s) → Emitted c0 c3 own n
@@ -238,7 +347,7 @@ module _ (group : Group) (places : Places) (scope : List Counter) (goings : List
           let one' = subst (λ z. Emitted c0 c1 z n) ex first in
           let two = subst (λ z. EmitsSecondLanes c1 c2 group places (of z) n) ey second in
           let near : is_reached (place_of places source) ≡ true = ap is_reached (sym ep) ∙ reached in
-          or-emitted _ _ _ c0 c3 load-is
+          or-emitted _ _ _ c0 c3 load-is (load-code _ (gathered (place_of places source) (slot group 0) (slot group 1)))
           (and_from (is_reached (place_of places source)) ((of a).fits n && second_fits places (of b) n) near (and_from ((of a).fits n) (second_fits places (of b) n) one'.can.fits two.can.fits))
           (and_from (of a).own.own.is_word (of b).own.own.is_word one'.can.is_word two.can.is_word)
           (emits_then one'.emits (emits_then two.emits
@@ -251,7 +360,7 @@ module _ (group : Group) (places : Places) (scope : List Counter) (goings : List
 
       load-parts : Fits own n → LoadParts
       load-parts can =
-          let p = or-fits _ _ _ load-is can in
+          let p = or-fits _ _ _ load-is load-fits can in
           let d = and_parts (is_reached (place_of places source)) ((of a).fits n && second_fits places (of b) n) p.can in
           let f = and_parts ((of a).fits n) (second_fits places (of b) n) d.1 in
           let w = and_parts (of a).own.own.is_word (of b).own.own.is_word p.word in

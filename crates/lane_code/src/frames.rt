@@ -149,6 +149,9 @@ fn are_above(
 
 /// Appends what leaves the values of an expression in the first slot of the stack, with the frame free from a slot on.
 ///
+/// Whether the stack suffices is asked of further operands alone, since the first one has its first slot to itself: each time a part is
+/// asked in a higher slot, so that none is asked more often than the stack has slots.
+///
 /// # Errors
 ///
 /// Memory ran out, or the code can't be made: the frame's slots don't suffice, bytes can't be reached, or a divisor is 0.
@@ -166,13 +169,11 @@ pub fn emit_deep_lanes(
     ensures ok { OnOk result (EmitsDeepLanes code.old.items code.new.items (spec.deep_laned group places.now scope.now goings.now e.now) n) }
     ensures err { IfErr result (IsFault ⊥ (FitsDeepLanes (spec.deep_laned group places.now scope.now goings.now e.now) n → ⊥)) }
 {
-    if fits_lanes(group, places, scope, goings, e, 0) {
-        emit_lanes(code, group, places, scope, goings, e, 0)?;
-        return Ok(());
-    }
     match e {
-        Expr::Number(_) => Err(CodeFault::TooDeep),
-        Expr::Linear(_) => Err(CodeFault::TooDeep),
+        Expr::Number(_) | Expr::Linear(_) => {
+            emit_lanes(code, group, places, scope, goings, e, 0)?;
+            Ok(())
+        }
         Expr::Binary(operation, a, b) => {
             emit_deep_lanes(code, group, places, scope, goings, a.get(), n)?;
             emit_second(code, group, places, scope, goings, b.get(), n)?;
@@ -196,6 +197,10 @@ pub fn emit_deep_lanes(
             Ok(())
         }
         Expr::Load(source, x, y) => {
+            if is_dense(scope, goings, x.get(), y.get()) {
+                emit_lanes(code, group, places, scope, goings, e, 0)?;
+                return Ok(());
+            }
             let place = place_of(places, *source);
             if !is_reached(&place) {
                 return Err(CodeFault::TooDeep);
