@@ -12,7 +12,8 @@
 //! The other ways are loop nests, with the tasks of each phase in rising order, in falling order and from both ends, and anything in
 //! private buffers before each: whether they leave the picture; and the compiled image, on 1, 2, 3 and 8 harts, at several paces of these
 //! harts: what the words hold by which harts share their work (of each phase the one to draw tasks, and the one to wait at), and whether
-//! the picture is another one. Where loops are vectorized, a last line says whether all of them are vector code, or how many.
+//! the picture is another one. Where loops are vectorized, a last line says whether all of them are vector code, or how many, and how many collect
+//! their pixels.
 //!
 //! An assignment is a list of harts, of three. Each of them is stepped alone until it has drawn a task of the first phase, so that the
 //! iterations are theirs in this order; then all are stepped in turn until they finish.
