@@ -58,6 +58,18 @@ impl Hart {
         if self.status() != Status::Running {
             return Outcome::Idle;
         }
+        self.step_running(memory, insn)
+    }
+
+    /// The same turn, of a hart that is known to run, so that its status isn't read.
+    #[inline(always)]
+    pub fn step_running<M: Bytes>(&mut self, memory: &mut M, insn: &Option<Insn>) -> Outcome
+        requires { self.old.status ≡ Status.Running }
+        ensures hart { self.new ≡ (step_with (M.text memory.old) (M.memory memory.old) self.old insn.now).hart }
+        ensures memory { M.memory memory.new ≡ (step_with (M.text memory.old) (M.memory memory.old) self.old insn.now).memory }
+        ensures text { M.text memory.new ≡ M.text memory.old }
+        ensures outcome { result ≡ (step_with (M.text memory.old) (M.memory memory.old) self.old insn.now).outcome }
+    {
         let Some(insn) = insn else {
             return self.trap(Trap::IllegalInstruction);
         };

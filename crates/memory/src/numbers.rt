@@ -63,6 +63,7 @@ pub fn read_u16<M: Bytes>(memory: &M, address: u32) -> Result<u16, Trap>
 
 /// The word at an address, its lowest byte first. Refused with trap 4 where the address is no
 /// multiple of 4, else with trap 5 where a byte is neither text nor data.
+#[inline(always)]
 pub fn read_u32<M: Bytes>(memory: &M, address: u32) -> Result<u32, Trap>
     ensures fits { OnOk result (fault_of (length (M.text memory.now)) (length (M.memory memory.now)) Reads address 4 ≡ None) }
     ensures number { IfOk result (λ number. number ≡ number_in (M.text memory.now) (M.memory memory.now) Word address) }

@@ -20,7 +20,7 @@ resting (Trapped trap) next halted = refl
 step-resting : (text memory : List ℕ) (hart : HartState) → hart.status ≢ Running → step text memory hart ≡ record { hart = hart; memory = memory; outcome = Idle }
 step-resting text memory hart halted = ap (λ n. applied memory (made text memory hart n)) (resting hart.status _ halted)
 
-there : (state : State) (hart : ℕ) → hart < length state.harts → slice_get state.harts hart ≡ Some (hart_at state hart)
+pub there : (state : State) (hart : ℕ) → hart < length state.harts → slice_get state.harts hart ≡ Some (hart_at state hart)
 there state hart below = slice_get-get_or state.harts hart (opening_hart 0 0 0) below
 
 pub turn-resting : (state : State) (hart : ℕ) → hart < length state.harts → (hart_at state hart).status ≢ Running → turn state hart ≡ state

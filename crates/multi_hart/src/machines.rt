@@ -1,6 +1,6 @@
 //! Harts over one memory, stepped one at a time.
 
-ghost use Rattle.std.specs.Prelude.{◌≡◌, ◌-◌, ◌*◌, ◌<◌, ◌≤◌, ℕ, List, length, map, option_map, take, replicate, slice_index, OnOk, IfOk, IfErr, All, IsTrue};
+ghost use Rattle.std.specs.Prelude.{◌≡◌, ◌+◌, ◌-◌, ◌*◌, ◌/◌, ◌%◌, ◌^◌, ◌<◌, ◌≤◌, ℕ, List, length, map, option_map, take, replicate, slice_index, OnOk, IfOk, IfErr, All, IsTrue};
 ghost use Rattle.memory.specs.Addresses.{most_words, most_bytes, text_start, is_text_word, fetched};
 ghost use Rattle.rv_encoding.specs.Decoding.{decoded};
 ghost use Rattle.hart_core.specs.HartState.{register, vector};
@@ -120,13 +120,46 @@ impl Machine {
         ensures outcome { result ≡ outcome (run self.old (replicate (turns - 1) hart)) hart }
         ensures shape { KeepsShape self.old self.new }
     {
-        for _made in 0..turns - 1 {
-            let Status::Running = self.status(hart) else {
-                return Outcome::Idle;
+        let Status::Running = self.status(hart) else {
+            return Outcome::Idle;
+        };
+        self.run_running(hart, turns)
+    }
+
+    /// The same turns of a hart that runs: it runs on exactly where a turn steps, so that its status is never read.
+    fn run_running(&mut self, hart: usize, turns: u64) -> Outcome
+        requires there { hart < length self.old.harts }
+        requires runs { (hart_at self.old hart).status ≡ Status.Running }
+        requires some { 1 ≤ turns }
+        ensures state { self.new ≡ run self.old (replicate turns hart) }
+        ensures outcome { result ≡ outcome (run self.old (replicate (turns - 1) hart)) hart }
+    {
+        let mut left = turns;
+        loop {
+            let outcome = self.turn_running(hart);
+            left -= 1;
+            let Outcome::Stepped = outcome else {
+                return if left == 0 { outcome } else { Outcome::Idle };
             };
-            let _stepped = self.turn(hart);
+            if left == 0 {
+                return Outcome::Stepped;
+            }
         }
-        self.turn(hart)
+    }
+
+    /// One turn of a hart that runs.
+    #[inline(always)]
+    fn turn_running(&mut self, hart: usize) -> Outcome
+        requires there { hart < length self.old.harts }
+        requires runs { (hart_at self.old hart).status ≡ Status.Running }
+        ensures state { self.new ≡ turn self.old hart }
+        ensures outcome { result ≡ outcome self.old hart }
+    {
+        let running = &mut self.harts[hart];
+        match meaning_at(&self.meanings, running.pc()) {
+            Some(insn) => running.step_running(&mut self.memory, insn),
+            None => running.step(&mut self.memory),
+        }
     }
 
     /// How many harts there are.
@@ -216,11 +249,15 @@ fn meaning_at(meanings: &[Option<Insn>], pc: u32) -> Option<&Option<Insn>>
     requires { length meanings.now ≤ most_words }
     ensures { (text : List ℕ) → meanings.now ≡ map decoded text → option_map (λ meaning. meaning.now) result ≡ option_map decoded (fetched text pc) }
 {
-    let offset = offset_in_text(pc);
-    if offset % 4 != 0 {
-        return None;
-    }
-    meanings.get((offset / 4) as usize)
+    meanings.get(place_at(offset_in_text(pc)) as usize)
+}
+
+/// The place of the word at an offset, and a place behind every text where the offset is no multiple of 4: turned to
+/// the right, its low bits are the highest.
+fn place_at(offset: u32) -> u32
+    ensures { result ≡ offset % 4 * 2 ^ 30 + offset / 4 }
+{
+    offset.rotate_right(2)
 }
 
 /// How far an address lies behind the start of text, and a number beyond every text where it lies before.
