@@ -1,5 +1,5 @@
 -- Lanes of pixels that are bytes and lie anywhere: of the word that holds one, the bytes before and behind it are cut off.
-use Rattle.std.proofs.Common.{◌≡◌, ℕ, zero, suc, ◌+◌, ◌*◌, ◌%◌, ◌^◌, ◌<◌, ◌≤◌, List, [], ◌∷◌, ◌++◌, length, true, ap, ◌∙◌, refl, sym, subst, arith, inl}
+use Rattle.std.proofs.Common.{◌≡◌, ℕ, zero, suc, ◌+◌, ◌*◌, ◌%◌, ◌^◌, ◌<◌, ◌≤◌, List, [], ◌∷◌, ◌++◌, length, true, ap, ◌∙◌, refl, sym, subst, arith, inl, inr}
 use Rattle.std.specs.Prelude.{◌≢◌, ◌/◌, bit_and, negsuc}
 use Rattle.std.proofs.lemmas.Nat.{and_mask}
 use Rattle.std.proofs.lemmas.Nat.Bits.{and_high_mask}
@@ -27,10 +27,11 @@ use Rattle.scalar_code.specs.Code.{literal, address, pixel_bytes}
 use Rattle.scalar_code.specs.Evaluation.{IsPlace, LoadsAt, load_op, word_start}
 use Rattle.scalar_code.proofs.Values.{literal-sets}
 use Rattle.lane_code.specs.declared.groups.Group.{Group}
-use Rattle.lane_code.specs.Groups.{registers, slot}
-use Rattle.lane_code.specs.Lanes.{byte_tail, gathered_by, gathered}
-use Rattle.lane_code.proofs.Slots.{SlotLies}
-use Rattle.lane_code.proofs.Rows.{Writes, Lanes, Leaves, writes, writes-lanes, lanes-kept, few-rounds, last, slot-first, scalar-first}
+use Rattle.lane_code.specs.Groups.{registers, slot, spare}
+use Rattle.lane_code.specs.Lanes.{byte_tail, gathered_by, gathered, picked_by, picked}
+use Rattle.lane_code.proofs.Slots.{SlotLies, spare-is}
+use Rattle.lane_code.proofs.Rows.{Writes, Lanes, Leaves, Aside, writes, writes-lanes, lanes-kept, few-rounds, last, slot-first, slot-aside, aside-slot, aside-first, stays, scalar-first}
+use Rattle.lane_code.proofs.Offsets.{numbered-reaches, reach-first, reach-lanes}
 use Rattle.lane_code.proofs.Operations.{Hold}
 use Rattle.lane_code.proofs.ByteRows.{byte-small}
 
@@ -131,8 +132,8 @@ module _ (w : World) (m : List ℕ) (l : length m ≡ w.size) (group : Group) (n
       slot-first w m l group n k lies i8 (omega arith) (scalar-first w m l group n k lies i9 (inl refl) (last w m l group n k lies i10))
 
   -- from the distances to the words, with the distances' bits in s
-  words-leave : (s : ℕ) (f : ℕ → ℕ) → IsGroup g s → r + g ≤ s → Lanes w m l group n f → IsPlace place → Hold w m l group n f r off → Leaves w m l group n (byte_tail place r s) f k pixel
-  words-leave s f ig above has is hr =
+  words-leave : (s : ℕ) (f : ℕ → ℕ) → IsGroup g s → Aside w m l group n k lies s → Lanes w m l group n f → IsPlace place → Hold w m l group n f r off → Leaves w m l group n (byte_tail place r s) f k pixel
+  words-leave s f ig aside has is hr =
       let few = few-rounds w m l group n f has in
       let i4 : Writes w m l group n (Vector (v.ShiftVi shifts.Vsll s r 3 true) ∷ []) f s (λ i. off i * 8 % 2 ^ 32) =
       writes w m l group n (λ i. off i * 8 % 2 ^ 32) (λ i. lanes.shift_left 32 (f (lane r i)) 3) has (rows.shift-vi w f m l g has.configured shifts.Vsll s r 3 ig lies.is_group)
@@ -143,7 +144,7 @@ module _ (w : World) (m : List ℕ) (l : length m ≡ w.size) (group : Group) (n
       writes w m l group n (λ i. off i / 4 * 4) (λ i. bit_and (f4 (lane r i)) (lanes.wrapped 32 (negsuc 3))) has4 (rows.arithmetic-vi w f4 m l g has4.configured vis.Vand r r (negsuc 3) lies.is_group lies.is_group)
       (λ i b.
       let low = low-is i b in
-      ap (λ z. bit_and z (lanes.wrapped 32 (negsuc 3))) (i4.below (lane r i) (omega (arith, above, b, few)) ∙ hr i b) ∙ and_high_mask 32 2 (omega arith) (off i) (omega (arith, low))) in
+      ap (λ z. bit_and z (lanes.wrapped 32 (negsuc 3))) (stays w m l group n k lies i4 (lane r i) (slot-aside w m l group n k lies s i aside few b) ∙ hr i b) ∙ and_high_mask 32 2 (omega arith) (off i) (omega (arith, low))) in
       let f5 = i5.after in
       let has5 = writes-lanes w m l group n i5 has4 in
       let i6 = literal-sets w m l f5 13 place.start (omega arith) (omega arith) is.start in
@@ -161,9 +162,11 @@ module _ (w : World) (m : List ℕ) (l : length m ≡ w.size) (group : Group) (n
       let f7 = i7.after in
       let has7 = writes-lanes w m l group n i7 has6 in
       let kept : Hold w m l group n f7 s (λ i. off i * 8 % 2 ^ 32) =
-      λ i b. i7.above (lane s i) (omega (arith, above, few)) ∙ i6.others (lane s i) (not-13 s i) ∙ i5.above (lane s i) (omega (arith, above, few)) ∙ i4.value i b in
+      λ i b.
+      let out = aside-slot w m l group n k lies s i aside few b in
+      stays w m l group n k lies i7 (lane s i) out ∙ i6.others (lane s i) (not-13 s i) ∙ stays w m l group n k lies i5 (lane s i) out ∙ i4.value i b in
       let end = cut-leaves s f7 ig has7 i7.value kept in
-      slot-first w m l group n k lies i4 (omega (arith, above)) (slot-first w m l group n k lies i5 (omega arith) (scalar-first w m l group n k lies i6 (inl refl) (slot-first w m l group n k lies i7 (omega arith) end)))
+      aside-first w m l group n k lies i4 aside few (slot-first w m l group n k lies i5 (omega arith) (scalar-first w m l group n k lies i6 (inl refl) (slot-first w m l group n k lies i7 (omega arith) end)))
 
   pub gathered-bytes : (s : ℕ) (f : ℕ → ℕ) → IsGroup g s → r + g ≤ s → Lanes w m l group n f → IsPlace place → Hold w m l group n f r x → Hold w m l group n f s y → Leaves w m l group n (gathered place r s) f k pixel
   gathered-bytes s f ig above has is hx hy =
@@ -185,6 +188,13 @@ module _ (w : World) (m : List ℕ) (l : length m ≡ w.size) (group : Group) (n
       ap (λ z. lanes.add 32 z (f2 (lane s i))) (i2.below (lane r i) (omega (arith, above, b, few)) ∙ i1.others (lane r i) (not-13 r i) ∙ hx i b) ∙ ap (lanes.add 32 (x i)) (i2.value i b)
       ∙ offset-word (x i) (y i * width) place.start (low-is i b)) in
       let has3 = writes-lanes w m l group n i3 has2 in
-      let end = words-leave s i3.after ig above has3 is i3.value in
+      let end = words-leave s i3.after ig (inl above) has3 is i3.value in
       subst (λ p. Leaves w m l group n (gathered_by p place r s) f k pixel) (sym bytes)
       (scalar-first w m l group n k lies i1 (inl refl) (slot-first w m l group n k lies i2 (omega (arith, above)) (slot-first w m l group n k lies i3 (omega arith) end)))
+
+  -- where all rounds have one row, in the first register of the scalar stack
+  pub picked-bytes : (f : ℕ → ℕ) → Lanes w m l group n f → IsPlace place → Hold w m l group n f r x → f 20 ≡ y 0 → ((i : ℕ) → i < n → y i ≡ y 0) → Leaves w m l group n (picked place r (spare group)) f k pixel
+  picked-bytes f has is hx row same =
+      let a = numbered-reaches w m l group n k lies place x y is f has hx row same in
+      let end = words-leave (spare group) a.after (spare-is group) (inr refl) (reach-lanes w m l group n k lies a has) is (λ i b. a.holds i b ∙ offset-word (x i) (y i * place.width) place.start (low-is i b)) in
+      subst (λ p. Leaves w m l group n (picked_by p place r (spare group)) f k pixel) (sym bytes) (reach-first w m l group n k lies a end)

@@ -19,18 +19,21 @@ use Rattle.loop_ir.specs.declared.expressions.Linear.{Linear}
 use Rattle.loop_ir.proofs.Folds.{at_number, at_linear, at_binary, at_divide, at_remainder, at_select, at_load}
 use Rattle.scalar_code.specs.declared.places.Place.{Place}
 use Rattle.scalar_code.specs.declared.places.Places.{Places}
-use Rattle.scalar_code.specs.Code.{literal, upper, lower, framed, frames_of, place_of}
+use Rattle.scalar_code.specs.Code.{literal, upper, lower, framed, frames_of, place_of, made}
+use Rattle.scalar_code.specs.Faults.{FitsStack}
 use Rattle.scalar_code.specs.Words.{Emits}
 use Rattle.scalar_code.proofs.Spelling.{emits_then}
 use Rattle.lane_code.specs.declared.groups.Group.{Group}
 use Rattle.lane_code.specs.declared.groups.Group.TheVariants as groups
 use Rattle.lane_code.specs.declared.goings.Going.{Going}
 use Rattle.lane_code.specs.Groups.{slot, spare}
-use Rattle.lane_code.specs.Lanes.{Laned, laned, laned_at, has_slot, is_dense, is_reached, lanes_operation, lanes_quotient, lanes_remainder, lanes_selection, gathered}
-use Rattle.lane_code.specs.Emitting.{FitsLanes, EmitsLanes}
-use Rattle.lane_code.specs.DeepLanes.{DeepLaned, deep_laned, deep_laned_at, deep_or, frame_slots, has_frame_slot, are_above, second_fits, second_code, others_fit, others_code, spill_lanes, unspill_lanes, copied_lanes}
+use Rattle.lane_code.specs.Lanes.{Laned, laned, laned_at, has_slot, in_one_row, is_dense, is_reached, rows_fit, rows_code, lanes_operation, lanes_quotient, lanes_remainder, lanes_selection, gathered, picked}
+use Rattle.lane_code.specs.Emitting.{FitsLanes, EmitsLanes, EmitsPicked}
+use Rattle.lane_code.specs.DeepLanes.{DeepLaned, deep_laned, deep_laned_at, deep_or, frame_slots, has_frame_slot, are_above, second_fits, second_code, deep_rows_fit, deep_rows_code, others_fit, others_code, spill_lanes, unspill_lanes, copied_lanes}
 use Rattle.lane_code.specs.DeepEmitting.{FitsDeepLanes, EmitsDeepLanes, FitsSecondLanes, EmitsSecondLanes, FitOtherLanes, EmitsOtherLanes}
 use Rattle.lane_code.proofs.DeepParts.{is-deep}
+use Rattle.lane_code.proofs.Emission.{fits-row}
+use Rattle.lane_code.proofs.LanedParts.{own-is}
 
 -- ---- slots of the frame
 
@@ -76,6 +79,14 @@ or-either false t f is = is
 or-same : (b : Bool) (x y : List Insn) → (b ≡ true → y ≡ x) → y ≡ (if b then x else y)
 or-same true x y f = f refl
 or-same false x y f = refl
+
+or-more : (o t u : Bool) → (if o then true else t) ≡ true → (t ≡ true → u ≡ true) → (if o then true else u) ≡ true
+or-more true t u so f = refl
+or-more false t u so f = f so
+
+or-other : (o t : Bool) (x y z : List Insn) → (if o then true else t) ≡ true → (t ≡ true → y ≡ z) → (if o then x else y) ≡ (if o then x else z)
+or-other true t x y z so f = refl
+or-other false t x y z so f = f so
 
 first-slot : (group : Group) → has_slot group 0 ≡ true
 first-slot groups.One = refl
@@ -300,8 +311,8 @@ module _ (group : Group) (places : Places) (scope : List Counter) (goings : List
         let d : is_dense (one a) (one b) ≡ true = sym (ap (λ z. is_dense z (one y)) (ap one ex) ∙ ap (λ z. is_dense (one a) z) (ap one ey)) ∙ sym is ∙ so in
         no-stack own n
         (ap (λ z. (one z).fits 0) eo ∙ ap (λ z. z.fits 0) (at_load Laned (laned_at group places scope goings) source a b)
-        ∙ and_from (has_slot group 0) (if is_dense (one a) (one b) then true else is_reached (place_of places source) && ((one a).fits 0 && (one b).fits 1)) (first-slot group)
-        (ap (λ k. if k then true else is_reached (place_of places source) && ((one a).fits 0 && (one b).fits 1)) d))
+        ∙ and_from (has_slot group 0) (if is_dense (one a) (one b) then true else is_reached (place_of places source) && ((one a).fits 0 && rows_fit (one b) 0)) (first-slot group)
+        (ap (λ k. if k then true else is_reached (place_of places source) && ((one a).fits 0 && rows_fit (one b) 0)) d))
 
     module _ (source : Source) (a b : Expr) (eo : own ≡ e.Load source a b) (column row : Expr) (ev : column ≡ a) (ew : row ≡ b) (t : Bool) (is : t ≡ is_dense (one column) (one row)) (off : t ≡ false) where
       load-is : of own ≡ deep_laned_at group places scope goings (layer.Load source (of a) (of b))
@@ -313,67 +324,107 @@ module _ (group : Group) (places : Places) (scope : List Counter) (goings : List
           ap (λ z. is_dense z (of b).own) ((is-deep group places scope goings a).own_is ∙ ap one (sym ev)) ∙ ap (λ z. is_dense (one column) z) ((is-deep group places scope goings b).own_is ∙ ap one (sym ew))
           ∙ sym is ∙ off
 
+      abbrev place : Place
+      place = place_of places source
+
       abbrev gatherable : Bool
-      gatherable = is_reached (place_of places source) && ((of a).own.fits 0 && (of b).own.fits 1)
+      gatherable = is_reached place && ((of a).own.fits 0 && rows_fit (of b).own 0)
 
       abbrev on-stack : Bool
       on-stack = has_slot group 0 && (if is_dense (of a).own (of b).own then true else gatherable)
 
       record LoadStack : Type 0 where
-        near : is_reached (place_of places source) ≡ true
+        near : is_reached place ≡ true
         first : (of a).own.fits 0 ≡ true
-        second : (of b).own.fits 1 ≡ true
+        rows : rows_fit (of b).own 0 ≡ true
 
       load-stack : on-stack ≡ true → LoadStack
       load-stack so =
           let g : gatherable ≡ true = sym (ap (λ k. if k then true else gatherable) sparse) ∙ (and_parts (has_slot group 0) (if is_dense (of a).own (of b).own then true else gatherable) so).1 in
-          let p = and_parts (is_reached (place_of places source)) ((of a).own.fits 0 && (of b).own.fits 1) g in
-          let q = and_parts ((of a).own.fits 0) ((of b).own.fits 1) p.1 in
-          record { near = p.0; first = q.0; second = q.1 }
+          let p = and_parts (is_reached place) ((of a).own.fits 0 && rows_fit (of b).own 0) g in
+          let q = and_parts ((of a).own.fits 0) (rows_fit (of b).own 0) p.1 in
+          record { near = p.0; first = q.0; rows = q.1 }
 
-      load-code : (dense-code rest : List Insn) → on-stack ≡ true
-          → (of a).code n ++ (second_code group places (of b) n ++ rest) ≡ (if is_dense (of a).own (of b).own then dense-code else (of a).own.code 0 ++ ((of b).own.code 1 ++ rest))
-      load-code dense-code rest so =
-          pair-code a b n rest (load-stack so).first (load-stack so).second ∙ sym (ap (λ k. if k then dense-code else (of a).own.code 0 ++ ((of b).own.code 1 ++ rest)) sparse)
+      -- rows are made as on the stack where that suffices
+      rows-same : rows_fit (of b).own 0 ≡ true → deep_rows_code group places place (of b) n ≡ rows_code group place (of b).own 0
+      rows-same so = or-other (in_one_row (of b).own) ((of b).own.fits 1) _ _ _ so (λ two. ap (λ y. y ++ gathered place (slot group 0) (slot group 1)) (above-code (of b) n two))
 
-      load-fits : on-stack ≡ true → (is_reached (place_of places source) && ((of a).fits n && second_fits places (of b) n)) ≡ true
+      load-code : (dense-code : List Insn) → on-stack ≡ true
+          → (of a).code n ++ deep_rows_code group places place (of b) n ≡ (if is_dense (of a).own (of b).own then dense-code else (of a).own.code 0 ++ rows_code group place (of b).own 0)
+      load-code dense-code so =
+          ap (λ x. x ++ deep_rows_code group places place (of b) n) (first-code a n (load-stack so).first) ∙ ap (λ y. (of a).own.code 0 ++ y) (rows-same (load-stack so).rows)
+          ∙ sym (ap (λ k. if k then dense-code else (of a).own.code 0 ++ rows_code group place (of b).own 0) sparse)
+
+      load-fits : on-stack ≡ true → (is_reached place && ((of a).fits n && deep_rows_fit places (of b) n)) ≡ true
       load-fits so =
-          and_from (is_reached (place_of places source)) ((of a).fits n && second_fits places (of b) n) (load-stack so).near
-          (and_from ((of a).fits n) (second_fits places (of b) n) (first-fits a n (load-stack so).first) (above-fits (of b) n (load-stack so).second))
+          and_from (is_reached place) ((of a).fits n && deep_rows_fit places (of b) n) (load-stack so).near
+          (and_from ((of a).fits n) (deep_rows_fit places (of b) n) (first-fits a n (load-stack so).first)
+          (or-more (in_one_row (of b).own) ((of b).own.fits 1) (second_fits places (of b) n) (load-stack so).rows (λ two. above-fits (of b) n two)))
 
-      pub load-deep : (x y : Expr) (place : Place) (r s : ℕ) (c0 c1 c2 c3 : List ℕ) → x ≡ a → y ≡ b → place ≡ place_of places source → is_reached place ≡ true → r ≡ slot group 0 → s ≡ slot group 1
-          → Emitted c0 c1 x n → EmitsSecondLanes c1 c2 group places (of y) n → Emits c2 c3 (gathered place r s) → Emitted c0 c3 own n
-      load-deep x y place r s c0 c1 c2 c3 ex ey ep reached er es first second last =
+      -- the columns, and then the rows
+      load-deep : (x : Expr) (c0 c1 c2 : List ℕ) → x ≡ a → is_reached place ≡ true → Emitted c0 c1 x n → Emits c1 c2 (deep_rows_code group places place (of b) n) → deep_rows_fit places (of b) n ≡ true
+          → (of b).own.own.is_word ≡ true → Emitted c0 c2 own n
+      load-deep x c0 c1 c2 ex near first rows fit word =
           let one' = subst (λ z. Emitted c0 c1 z n) ex first in
-          let two = subst (λ z. EmitsSecondLanes c1 c2 group places (of z) n) ey second in
-          let near : is_reached (place_of places source) ≡ true = ap is_reached (sym ep) ∙ reached in
-          or-emitted _ _ _ c0 c3 load-is (load-code _ (gathered (place_of places source) (slot group 0) (slot group 1)))
-          (and_from (is_reached (place_of places source)) ((of a).fits n && second_fits places (of b) n) near (and_from ((of a).fits n) (second_fits places (of b) n) one'.can.fits two.can.fits))
-          (and_from (of a).own.own.is_word (of b).own.own.is_word one'.can.is_word two.can.is_word)
-          (emits_then one'.emits (emits_then two.emits
-          (subst (λ p. Emits c2 c3 (gathered p (slot group 0) (slot group 1))) ep (subst (λ d. Emits c2 c3 (gathered place d (slot group 1))) er (subst (λ d. Emits c2 c3 (gathered place r d)) es last)))))
+          or-emitted _ _ _ c0 c2 load-is (load-code _) (and_from (is_reached place) ((of a).fits n && deep_rows_fit places (of b) n) near (and_from ((of a).fits n) (deep_rows_fit places (of b) n) one'.can.fits fit))
+          (and_from (of a).own.own.is_word (of b).own.own.is_word one'.can.is_word word) (emits_then one'.emits rows)
 
       record LoadParts : Type 0 where
-        near : is_reached (place_of places source) ≡ true
+        near : is_reached place ≡ true
         first : Fits a n
-        second : FitsSecondLanes places (of b) n
+        rows : deep_rows_fit places (of b) n ≡ true
+        word : (of b).own.own.is_word ≡ true
 
       load-parts : Fits own n → LoadParts
       load-parts can =
           let p = or-fits _ _ _ load-is load-fits can in
-          let d = and_parts (is_reached (place_of places source)) ((of a).fits n && second_fits places (of b) n) p.can in
-          let f = and_parts ((of a).fits n) (second_fits places (of b) n) d.1 in
+          let d = and_parts (is_reached place) ((of a).fits n && deep_rows_fit places (of b) n) p.can in
+          let f = and_parts ((of a).fits n) (deep_rows_fit places (of b) n) d.1 in
           let w = and_parts (of a).own.own.is_word (of b).own.own.is_word p.word in
-          record { near = d.0; first = record { fits = f.0; is_word = w.0 }; second = record { fits = f.1; is_word = w.1 } }
+          record { near = d.0; first = record { fits = f.0; is_word = w.0 }; rows = f.1; word = w.1 }
 
-      pub no-place : (place : Place) (s : Bool) → place ≡ place_of places source → s ≡ is_reached place → s ≡ false → Fits own n → ⊥
-      no-place place s ep is-it away can = true≢false (sym (load-parts can).near ∙ ap is_reached (sym ep) ∙ sym is-it ∙ away)
+      pub no-place : (there : Place) (s : Bool) → there ≡ place_of places source → s ≡ is_reached there → s ≡ false → Fits own n → ⊥
+      no-place there s ep is-it away can = true≢false (sym (load-parts can).near ∙ ap is_reached (sym ep) ∙ sym is-it ∙ away)
 
       pub no-load-first : (x : Expr) → x ≡ a → (Fits x n → ⊥) → Fits own n → ⊥
       no-load-first x ex none can = none (subst (λ z. Fits z n) (sym ex) (load-parts can).first)
 
-      pub no-load-second : (y : Expr) → y ≡ b → (FitsSecondLanes places (of y) n → ⊥) → Fits own n → ⊥
-      no-load-second y ey none can = none (subst (λ z. FitsSecondLanes places (of z) n) (sym ey) (load-parts can).second)
+      module _ (its : Expr) (ei : its ≡ b) (u : Bool) (same : u ≡ in_one_row (one its)) where
+        row-is : in_one_row (of b).own ≡ u
+        row-is = ap in_one_row ((is-deep group places scope goings b).own_is ∙ ap one (sym ei)) ∙ sym same
+
+        abbrev rows-by : Bool → List Insn
+        rows-by k =
+            if k then (of b).own.own.code 20 ++ picked place (slot group 0) (spare group)
+            else second_code group places (of b) n ++ gathered place (slot group 0) (slot group 1)
+
+        abbrev fit-by : Bool → Bool
+        fit-by k = if k then true else second_fits places (of b) n
+
+        pub gathered-deep : (x y : Expr) (there : Place) (r s : ℕ) (c0 c1 c2 c3 : List ℕ) → u ≡ false → x ≡ a → y ≡ b → there ≡ place_of places source → is_reached there ≡ true → r ≡ slot group 0 → s ≡ slot group 1
+            → Emitted c0 c1 x n → EmitsSecondLanes c1 c2 group places (of y) n → Emits c2 c3 (gathered there r s) → Emitted c0 c3 own n
+        gathered-deep x y there r s c0 c1 c2 c3 many ex ey ep reached er es first second last =
+            let two = subst (λ z. EmitsSecondLanes c1 c2 group places (of z) n) ey second in
+            let three : Emits c2 c3 (gathered place (slot group 0) (slot group 1)) =
+            subst (λ p. Emits c2 c3 (gathered p (slot group 0) (slot group 1))) ep (subst (λ d. Emits c2 c3 (gathered there d (slot group 1))) er (subst (λ d. Emits c2 c3 (gathered there r d)) es last)) in
+            load-deep x c0 c1 c3 ex (ap is_reached (sym ep) ∙ reached) first (subst (λ k. Emits c1 c3 (rows-by k)) (sym (row-is ∙ many)) (emits_then two.emits three)) (ap fit-by (row-is ∙ many) ∙ two.can.fits)
+            two.can.is_word
+
+        pub picked-deep : (x y : Expr) (there : Place) (r q : ℕ) (c0 c1 c2 : List ℕ) → u ≡ true → x ≡ a → y ≡ b → there ≡ place_of places source → is_reached there ≡ true → r ≡ slot group 0 → q ≡ spare group
+            → Emitted c0 c1 x n → EmitsPicked c1 c2 (made places scope y) there r q → Emitted c0 c2 own n
+        picked-deep x y there r q c0 c1 c2 single ex ey ep reached er eq first second =
+            let m = ap (made places scope) ey ∙ sym (own-is group places scope goings b) ∙ ap (λ z. z.own) (sym (is-deep group places scope goings b).own_is) in
+            let two = subst (λ z. EmitsPicked c1 c2 (of b).own.own place z (spare group)) er (subst (λ z. EmitsPicked c1 c2 (of b).own.own z r (spare group)) ep
+            (subst (λ z. EmitsPicked c1 c2 (of b).own.own there r z) eq (subst (λ z. EmitsPicked c1 c2 z there r q) m second))) in
+            load-deep x c0 c1 c2 ex (ap is_reached (sym ep) ∙ reached) first (subst (λ k. Emits c1 c2 (rows-by k)) (sym (row-is ∙ single)) two.emits) (ap fit-by (row-is ∙ single)) two.is_word
+
+        pub no-load-second : (y : Expr) → u ≡ false → y ≡ b → (FitsSecondLanes places (of y) n → ⊥) → Fits own n → ⊥
+        no-load-second y many ey none can =
+            none (subst (λ z. FitsSecondLanes places (of z) n) (sym ey) (record { fits = sym (ap fit-by (row-is ∙ many)) ∙ (load-parts can).rows; is_word = (load-parts can).word }))
+
+        pub no-load-row : (y : Expr) → u ≡ true → y ≡ b → (FitsStack y 20 → ⊥) → Fits own n → ⊥
+        no-load-row y single ey none can =
+            none (subst (λ z. FitsStack z 20) (sym ey) (fits-row group places scope goings b (sym (ap in_one_row (is-deep group places scope goings b).own_is) ∙ row-is ∙ single) (sym (own-word b) ∙ (load-parts can).word)))
 
   -- ---- a second operand
 

@@ -2,7 +2,7 @@
 use Rattle.std.proofs.Common.{◌≡◌, ℕ, ◌+◌, ◌*◌, ◌^◌, ◌<◌, ◌≤◌, List, [], ◌∷◌, ◌++◌, length, Bool, true, false, refl, ap, ◌∙◌, sym, arith, inl, inr}
 use Rattle.std.specs.Prelude.{◌==◌, ◌&&◌, if◌then◌else◌, nat_lt}
 use Rattle.std.specs.List.{list_all}
-use Rattle.std.proofs.lemmas.Bool.{and_parts, true≢false}
+use Rattle.std.proofs.lemmas.Bool.{and_parts, and_from, true≢false}
 use Rattle.rv_insn.specs.declared.instructions.Insn.{Insn}
 use Rattle.halide_pipeline.specs.declared.expressions.Source.{Source}
 use Rattle.halide_pipeline.specs.Words as word
@@ -29,9 +29,9 @@ use Rattle.scalar_code.proofs.Spilling.{all-loaded, loads-may, passes-parts}
 use Rattle.lane_code.specs.declared.groups.Group.{Group}
 use Rattle.lane_code.specs.declared.goings.Going.{Going}
 use Rattle.lane_code.specs.Groups.{registers, slot, spare}
-use Rattle.lane_code.specs.Lanes.{Laned, laned_at, is_reached, gathered, lanes_operation, lanes_selection, lanes_quotient, lanes_remainder}
+use Rattle.lane_code.specs.Lanes.{Laned, laned_at, in_one_row, is_reached, gathered, picked, lanes_operation, lanes_selection, lanes_quotient, lanes_remainder}
 use Rattle.lane_code.specs.Leaving.{GoAlong, HasLanes, IsKept}
-use Rattle.lane_code.specs.DeepLanes.{DeepLaned, deep_or, deep_laned_at, deep_laned, has_frame_slot, are_above, second_fits, second_code, others_fit, others_code, triple_fits, triple_code, spill_lanes, unspill_lanes, copied_lanes}
+use Rattle.lane_code.specs.DeepLanes.{DeepLaned, deep_or, deep_laned_at, deep_laned, has_frame_slot, are_above, second_fits, second_code, deep_rows_fit, deep_rows_code, others_fit, others_code, triple_fits, triple_code, spill_lanes, unspill_lanes, copied_lanes}
 use Rattle.lane_code.specs.DeepLeaving.{LeavesMemory, LeavesDeepLanes, LeavesTriple, DeepLanesLeave, TriplesLeave}
 use Rattle.lane_code.proofs.DeepParts.{is-deep}
 use Rattle.lane_code.proofs.Evaluation as shallow
@@ -355,19 +355,18 @@ module _ (own : Setting) (good : IsSetting own) (group : Group) (scope : List Co
       let r = make d.left d.after d.holds (known f d.after memory holds.size knows d.keeps) (has-lanes f d.after memory holds.size has d.keeps) x.value in
       record { does = waiting.does-then own good group scope (at 0) funcs n d (quietly d.holds first-lies r); value = r.value }
 
-  pair-goes : (a b : DeepLaned) (sa sb : shallow.Family) (can : Bool) (rest : List Insn) (v : ℕ → ℕ) → Follows a sa → Follows b sb → a.own.own.is_word ≡ true → b.own.own.is_word ≡ true → Passes sa → Passes sb
-      → (can ≡ true → Joins rest (λ i. (sa i).value) (λ i. (sb i).value) v)
-      → Goes (λ j. can && (a.fits j && second_fits own.places b j)) (λ j. a.code j ++ (second_code group own.places b j ++ rest)) v
-  pair-goes a b sa sb can rest v fa fb ia ib pa pb make j f memory fits holds knows has =
-      let t = and_parts can (a.fits j && second_fits own.places b j) fits in
-      let u = and_parts (a.fits j) (second_fits own.places b j) t.1 in
+  pair-goes : (a b : DeepLaned) (sa sb : shallow.Family) (rest : List Insn) (v : ℕ → ℕ) → Follows a sa → Follows b sb → a.own.own.is_word ≡ true → b.own.own.is_word ≡ true → Passes sa → Passes sb
+      → Joins rest (λ i. (sa i).value) (λ i. (sb i).value) v
+      → Goes (λ j. a.fits j && second_fits own.places b j) (λ j. a.code j ++ (second_code group own.places b j ++ rest)) v
+  pair-goes a b sa sb rest v fa fb ia ib pa pb make j f memory fits holds knows has =
+      let u = and_parts (a.fits j) (second_fits own.places b j) fits in
       let x = fa.goes ia pa j f memory u.0 holds knows has in
       let d = x.does in
       let knows1 = known f d.after memory holds.size knows d.keeps in
       let has1 = has-lanes f d.after memory holds.size has d.keeps in
       let y = second-does b sb fb ib pb j d.after d.left (λ i. (sa i).value) u.1 d.holds knows1 has1 x.value (all-of a.own sa fa.stack ia pa d.left d.holds).small in
       let e = y.does in
-      let r = make t.0 e.left e.after e.holds (known d.after e.after d.left d.holds.size knows1 e.keeps) (has-lanes d.after e.after d.left d.holds.size has1 e.keeps) y.first y.second in
+      let r = make e.left e.after e.holds (known d.after e.after d.left d.holds.size knows1 e.keeps) (has-lanes d.after e.after d.left d.holds.size has1 e.keeps) y.first y.second in
       record {
         does = waiting.does-then own good group scope (at 0) funcs n d (waiting.does-then own good group scope (at 0) funcs n e (quietly e.holds first-lies r));
         value = r.value;
@@ -410,6 +409,34 @@ module _ (own : Setting) (good : IsSetting own) (group : Group) (scope : List Co
       by-pixels pixels.Words words bytes = words refl
       by-pixels pixels.Bytes words bytes = bytes refl
 
+  -- a row that all rounds have is made by scalar code, behind the columns
+  picked-ends : (source : Source) (x pixel : ℕ → ℕ) (y : DeepLaned) (sy : shallow.Family) → is_reached (place_of own.places source) ≡ true → in_one_row y.own ≡ true → Follows y sy → y.own.own.is_word ≡ true → Passes sy
+      → ((memory : List ℕ) → HoldsFuncs own memory funcs → (i : ℕ) → i < n → LoadsAt w (place_of own.places source) memory (x i) (sy i).value (pixel i))
+      → Ends (y.own.own.code 20 ++ picked (place_of own.places source) (slot group 0) (spare group)) x pixel
+  picked-ends source x pixel y sy reached row follows is passes can memory f holds knows has hx =
+      shallow.row-leaves w own.harts memory group own.places scope goings at reads n holds.size good.are_places some go source y.own sy x pixel reached row
+      ((follows.stack memory holds.size).of_one is (all-loaded own good scope (at 0) funcs memory holds (sy 0).points (passes 0 some)))
+      (all-of y.own sy follows.stack is passes memory holds).paced (can memory holds) 0 f first-lies knows has hx
+
+  load-goes : (source : Source) (x y : DeepLaned) (sx sy : shallow.Family) (pixel : ℕ → ℕ) → Follows x sx → Follows y sy → x.own.own.is_word ≡ true → y.own.own.is_word ≡ true → Passes sx → Passes sy
+      → ((memory : List ℕ) → HoldsFuncs own memory funcs → (i : ℕ) → i < n → LoadsAt w (place_of own.places source) memory (sx i).value (sy i).value (pixel i))
+      → Goes (λ j. is_reached (place_of own.places source) && (x.fits j && deep_rows_fit own.places y j)) (λ j. x.code j ++ deep_rows_code group own.places (place_of own.places source) y j) pixel
+  load-goes source x y sx sy pixel fx fy ix iy px py can j f memory fits holds knows has =
+      let place = place_of own.places source in
+      let t = and_parts (is_reached place) (x.fits j && deep_rows_fit own.places y j) fits in
+      let u = and_parts (x.fits j) (deep_rows_fit own.places y j) t.1 in
+      by-row t.0 u.0 (in_one_row y.own) refl u.1
+    where
+      by-row : is_reached (place_of own.places source) ≡ true → x.fits j ≡ true → (o : Bool) → in_one_row y.own ≡ o → (if o then true else second_fits own.places y j) ≡ true
+          → Deeply (x.code j ++ (if o then y.own.own.code 20 ++ picked (place_of own.places source) (slot group 0) (spare group)
+          else second_code group own.places y j ++ gathered (place_of own.places source) (slot group 0) (slot group 1))) j f memory pixel
+      by-row reached fit true e rest =
+          single-goes x sx (y.own.own.code 20 ++ picked (place_of own.places source) (slot group 0) (spare group)) pixel fx ix px
+          (picked-ends source (λ i. (sx i).value) pixel y sy reached e fy iy py can) j f memory fit holds knows has
+      by-row reached fit false e rest =
+          pair-goes x y sx sy (gathered (place_of own.places source) (slot group 0) (slot group 1)) pixel fx fy ix iy px py
+          (gathered-joins source (λ i. (sx i).value) (λ i. (sy i).value) pixel reached can) j f memory (and_from (x.fits j) (second_fits own.places y j) fit rest) holds knows has
+
   -- ---- all expressions
 
   abbrev one : (d : DeepLaned) (s : shallow.Family) → Follows d s → (memory : List ℕ) (l : length memory ≡ w.size)
@@ -436,8 +463,8 @@ module _ (own : Setting) (good : IsSetting own) (group : Group) (scope : List Co
       (λ is passes.
       let k = and_parts a.left.own.own.is_word b.left.own.own.is_word is in
       let p = parts-pass (λ i. (a.right i).points) (λ i. (b.right i).points) passes in
-      pair-goes a.left b.left a.right b.right true (lanes_operation o (slot group 0) (slot group 1)) (λ i. word.applied o (a.right i).value (b.right i).value) a.is b.is k.0 k.1 p.0 p.1
-      (λ t memory f holds knows has hx hy. operations.operation-leaves w memory holds.size group n 0 first-lies (slot group 1) second-lies.is_group f (λ i. (a.right i).value) (λ i. (b.right i).value) has hx hy
+      pair-goes a.left b.left a.right b.right (lanes_operation o (slot group 0) (slot group 1)) (λ i. word.applied o (a.right i).value (b.right i).value) a.is b.is k.0 k.1 p.0 p.1
+      (λ memory f holds knows has hx hy. operations.operation-leaves w memory holds.size group n 0 first-lies (slot group 1) second-lies.is_group f (λ i. (a.right i).value) (λ i. (b.right i).value) has hx hy
       (all-of a.left.own a.right a.is.stack k.0 p.0 memory holds).small (all-of b.left.own b.right b.is.stack k.1 p.1 memory holds).small o))
   deep-level (layer.Divide a c) = by-room _ _ _ _ (λ memory l. at-level memory l (layer.Divide (one a.left a.right a.is memory l) c))
       (λ is passes.
@@ -466,10 +493,8 @@ module _ (own : Setting) (good : IsSetting own) (group : Group) (scope : List Co
       let point : ℕ → Point = λ i. record { source = source; x = (x.right i).value; y = (y.right i).value } in
       let p = parts-pass (λ i. (x.right i).points ++ (y.right i).points) (λ i. point i ∷ []) passes in
       let q = parts-pass (λ i. (x.right i).points) (λ i. (y.right i).points) p.0 in
-      pair-goes x.left y.left x.right y.right (is_reached (place_of own.places source)) (gathered (place_of own.places source) (slot group 0) (slot group 1)) (λ i. reads source (x.right i).value (y.right i).value)
-      x.is y.is k.0 k.1 q.0 q.1
-      (λ t. gathered-joins source (λ i. (x.right i).value) (λ i. (y.right i).value) (λ i. reads source (x.right i).value (y.right i).value) t
-      (λ memory holds i b. loads-may own good scope (at 0) funcs memory holds (point i) (and_parts (own.loaded (point i)) true (p.1 i b)).0)))
+      load-goes source x.left y.left x.right y.right (λ i. reads source (x.right i).value (y.right i).value) x.is y.is k.0 k.1 q.0 q.1
+      (λ memory holds i b. loads-may own good scope (at 0) funcs memory holds (point i) (and_parts (own.loaded (point i)) true (p.1 i b)).0))
 
   follows : (e : Expr) → Follows (deep_laned group own.places scope goings e) (fold-Expr shallow.Family (shallow.family_at reads at) e)
   unfolding deep_laned

@@ -3,6 +3,7 @@ use Rattle.std.proofs.Common.{◌≡◌, ℕ, ◌+◌, ◌%◌, ◌^◌, ◌<◌
 use Rattle.std.specs.Prelude.{◌==◌, ◌&&◌, if◌then◌else◌, nat_lt, nat_le, max}
 use Rattle.std.proofs.lemmas.Bool.{and_parts}
 use Rattle.std.proofs.lemmas.Bool.Decides.{nat_tests}
+use Rattle.rv_insn.specs.declared.instructions.Insn.{Insn}
 use Rattle.rv_insn.specs.declared.instructions.Insn.TheVariants.{Vector}
 use Rattle.rv_insn.specs.declared.vector_instructions.VectorInsn.TheVariants as v
 use Rattle.halide_pipeline.specs.declared.expressions.Operation.{Operation}
@@ -25,9 +26,9 @@ use Rattle.scalar_code.proofs.Spelling.{emits_then}
 use Rattle.lane_code.specs.declared.groups.Group.{Group}
 use Rattle.lane_code.specs.declared.goings.Going.{Going}
 use Rattle.lane_code.specs.Groups.{slots, slot, spare}
-use Rattle.lane_code.specs.Lanes.{Laned, laned, laned_at, is_reached, is_dense, is_stepping, is_steady, has_slot, step_of, stepped, lanes_operation, lanes_quotient, lanes_remainder, lanes_selection, dense, gathered}
+use Rattle.lane_code.specs.Lanes.{Laned, laned, laned_at, in_one_row, is_reached, is_dense, is_stepping, is_steady, has_slot, rows_fit, rows_code, step_of, stepped, lanes_operation, lanes_quotient, lanes_remainder, lanes_selection, dense, gathered, picked}
 use Rattle.lane_code.specs.Straying.{strayed}
-use Rattle.lane_code.specs.Emitting.{FitsLanes, EmitsLanes}
+use Rattle.lane_code.specs.Emitting.{FitsLanes, EmitsLanes, EmitsPicked}
 use Rattle.lane_code.proofs.LanedParts.{own-is}
 
 both : (a b : Bool) → a ≡ true → b ≡ true → (a && b) ≡ true
@@ -88,6 +89,9 @@ module _ (group : Group) (places : Places) (scope : List Counter) (goings : List
       let s = (counted own).same (sym (ap (λ x. x.is_word) m) ∙ is) in
       let q = ap (λ x. x.need) m in
       omega (arith, n, s, q, room)
+
+  pub fits-row : (y : Expr) → in_one_row (of y) ≡ true → (of y).own.is_word ≡ true → FitsStack y 20
+  fits-row y one-row is = fits-stack y 20 12 (omega arith) (and_parts (is_steady (of y).pace) (nat_le (of y).own.need 12) one-row).1 is
 
   module _ (own : Expr) (k r : ℕ) (there : k < slots group) (slot_is : r ≡ slot group k) (low : r < 32) where
     slot-true : has_slot group k ≡ true
@@ -167,6 +171,12 @@ module _ (group : Group) (places : Places) (scope : List Counter) (goings : List
           low = low;
         })
 
+    abbrev rest-code : Source → Expr → Expr → List Insn
+    rest-code source a b = (of a).code k ++ rows_code group (place_of places source) (of b) k
+
+    abbrev rest-fits : Source → Expr → Expr → Bool
+    rest-fits source a b = is_reached (place_of places source) && ((of a).fits k && rows_fit (of b) k)
+
     pub dense-emitted : (source : Source) (a b x y : Expr) (place : Place) (u : ℕ) (c0 c1 c2 c3 : List ℕ) → own ≡ e.Load source a b → x ≡ a → y ≡ b → place ≡ place_of places source → u ≡ spare group → is_dense (of a) (of b) ≡ true
         → EmitsValue c0 c1 (made places scope x) 20 → EmitsValue c1 c2 (made places scope y) 21 → Emits c2 c3 (dense place r u) → EmitsLanes c0 c3 group (of own) k r
     unfolding laned
@@ -178,36 +188,53 @@ module _ (group : Group) (places : Places) (scope : List Counter) (goings : List
         let whole : Emits c0 c3 ((of a).own.code 20 ++ ((of b).own.code 21 ++ dense (place_of places source) (slot group k) (spare group))) = emits_then one.emits (emits_then two.emits three) in
         subst (λ z. EmitsLanes c0 c3 group z k r) (sym (ap of is ∙ folds.at_load Laned (laned_at group places scope goings) source a b))
         (record {
-          emits = subst (λ t. Emits c0 c3 (if t then (of a).own.code 20 ++ ((of b).own.code 21 ++ dense (place_of places source) (slot group k) (spare group)) else (of a).code k ++ ((of b).code (k + 1) ++ gathered (place_of places source) (slot group k) (slot group (k + 1))))) (sym dense-is) whole;
+          emits = subst (λ t. Emits c0 c3 (if t then (of a).own.code 20 ++ ((of b).own.code 21 ++ dense (place_of places source) (slot group k) (spare group)) else rest-code source a b)) (sym dense-is) whole;
           can = record {
-            fits = both _ _ slot-true (ap (λ t. if t then true else is_reached (place_of places source) && ((of a).fits k && (of b).fits (k + 1))) dense-is);
+            fits = both _ _ slot-true (ap (λ t. if t then true else rest-fits source a b) dense-is);
             is_word = both _ _ one.is_word two.is_word;
           };
           slot_is = slot_is;
           low = low;
         })
 
-    pub gathered-emitted : (source : Source) (a b x y : Expr) (place : Place) (p s : ℕ) (c0 c1 c2 c3 : List ℕ) → own ≡ e.Load source a b → x ≡ a → y ≡ b → place ≡ place_of places source → is_reached place ≡ true → is_dense (of a) (of b) ≡ false
-        → EmitsLanes c0 c1 group (of x) k p → EmitsLanes c1 c2 group (of y) (k + 1) s → Emits c2 c3 (gathered place r s) → EmitsLanes c0 c3 group (of own) k r
-    unfolding laned
-    gathered-emitted source a b x y place p s c0 c1 c2 c3 is ex ey ep words not-dense first second last =
-        let one = subst (λ z. EmitsLanes c0 c1 group (of z) k p) ex first in
-        let two = subst (λ z. EmitsLanes c1 c2 group (of z) (k + 1) s) ey second in
-        let three : Emits c2 c3 (gathered (place_of places source) (slot group k) (slot group (k + 1))) =
-        subst (λ q. Emits c2 c3 (gathered q (slot group k) (slot group (k + 1)))) ep (subst (λ d. Emits c2 c3 (gathered place d (slot group (k + 1)))) slot_is (subst (λ d. Emits c2 c3 (gathered place r d)) two.slot_is last)) in
-        let whole : Emits c0 c3 ((of a).code k ++ ((of b).code (k + 1) ++ gathered (place_of places source) (slot group k) (slot group (k + 1)))) = emits_then one.emits (emits_then two.emits three) in
-        subst (λ z. EmitsLanes c0 c3 group z k r) (sym (ap of is ∙ folds.at_load Laned (laned_at group places scope goings) source a b))
-        (record {
-          emits = subst (λ t. Emits c0 c3 (if t then (of a).own.code 20 ++ ((of b).own.code 21 ++ dense (place_of places source) (slot group k) (spare group)) else (of a).code k ++ ((of b).code (k + 1) ++ gathered (place_of places source) (slot group k) (slot group (k + 1))))) (sym not-dense) whole;
-          can = record {
-            fits = both _ _ slot-true
-                (ap (λ t. if t then true else is_reached (place_of places source) && ((of a).fits k && (of b).fits (k + 1))) not-dense
-                ∙ both _ _ (sym (ap is_reached ep) ∙ words) (both _ _ one.can.fits two.can.fits));
-            is_word = both _ _ one.can.is_word two.can.is_word;
-          };
-          slot_is = slot_is;
-          low = low;
-        })
+    -- pixels that lie anywhere
+    module _ (source : Source) (a b : Expr) (is : own ≡ e.Load source a b) (x : Expr) (ex : x ≡ a) (place : Place) (ep : place ≡ place_of places source) (reached : is_reached place ≡ true) (not-dense : is_dense (of a) (of b) ≡ false) where
+      sparse-emitted : (p : ℕ) (c0 c1 c2 : List ℕ) → EmitsLanes c0 c1 group (of x) k p → Emits c1 c2 (rows_code group (place_of places source) (of b) k) → rows_fit (of b) k ≡ true → (of b).own.is_word ≡ true
+          → EmitsLanes c0 c2 group (of own) k r
+      unfolding laned
+      sparse-emitted p c0 c1 c2 first rows fit word =
+          let one = subst (λ z. EmitsLanes c0 c1 group (of z) k p) ex first in
+          let whole : Emits c0 c2 (rest-code source a b) = emits_then one.emits rows in
+          subst (λ z. EmitsLanes c0 c2 group z k r) (sym (ap of is ∙ folds.at_load Laned (laned_at group places scope goings) source a b))
+          (record {
+            emits = subst (λ t. Emits c0 c2 (if t then (of a).own.code 20 ++ ((of b).own.code 21 ++ dense (place_of places source) (slot group k) (spare group)) else rest-code source a b)) (sym not-dense) whole;
+            can = record {
+              fits = both _ _ slot-true (ap (λ t. if t then true else rest-fits source a b) not-dense ∙ both _ _ (sym (ap is_reached ep) ∙ reached) (both _ _ one.can.fits fit));
+              is_word = both _ _ one.can.is_word word;
+            };
+            slot_is = slot_is;
+            low = low;
+          })
+
+      abbrev rows-by : Bool → List Insn
+      rows-by t =
+          if t then (of b).own.code 20 ++ picked (place_of places source) (slot group k) (spare group)
+          else (of b).code (k + 1) ++ gathered (place_of places source) (slot group k) (slot group (k + 1))
+
+      pub gathered-emitted : (y : Expr) (p s : ℕ) (c0 c1 c2 c3 : List ℕ) → y ≡ b → in_one_row (of b) ≡ false → EmitsLanes c0 c1 group (of x) k p → EmitsLanes c1 c2 group (of y) (k + 1) s → Emits c2 c3 (gathered place r s)
+          → EmitsLanes c0 c3 group (of own) k r
+      gathered-emitted y p s c0 c1 c2 c3 ey many first second last =
+          let two = subst (λ z. EmitsLanes c1 c2 group (of z) (k + 1) s) ey second in
+          let three : Emits c2 c3 (gathered (place_of places source) (slot group k) (slot group (k + 1))) =
+          subst (λ q. Emits c2 c3 (gathered q (slot group k) (slot group (k + 1)))) ep (subst (λ d. Emits c2 c3 (gathered place d (slot group (k + 1)))) slot_is (subst (λ d. Emits c2 c3 (gathered place r d)) two.slot_is last)) in
+          sparse-emitted p c0 c1 c3 first (subst (λ t. Emits c1 c3 (rows-by t)) (sym many) (emits_then two.emits three)) (ap (λ t. if t then true else (of b).fits (k + 1)) many ∙ two.can.fits) two.can.is_word
+
+      pub picked-emitted : (y : Expr) (p u : ℕ) (c0 c1 c2 : List ℕ) → y ≡ b → u ≡ spare group → in_one_row (of b) ≡ true → EmitsLanes c0 c1 group (of x) k p → EmitsPicked c1 c2 (made places scope y) place r u
+          → EmitsLanes c0 c2 group (of own) k r
+      picked-emitted y p u c0 c1 c2 ey eu one-row first second =
+          let m = ap (made places scope) ey ∙ sym (own-is group places scope goings b) in
+          let two = subst (λ z. EmitsPicked c1 c2 (of b).own (place_of places source) z (spare group)) slot_is (subst (λ q. EmitsPicked c1 c2 (of b).own q r (spare group)) ep (subst (λ q. EmitsPicked c1 c2 (of b).own place r q) eu (subst (λ q. EmitsPicked c1 c2 q place r u) m second))) in
+          sparse-emitted p c0 c1 c2 first (subst (λ t. Emits c1 c2 (rows-by t)) (sym one-row) two.emits) (ap (λ t. if t then true else (of b).fits (k + 1)) one-row) two.is_word
 
   -- ---- what can't be made of a part can't be made of the whole
 
@@ -236,9 +263,13 @@ module _ (group : Group) (places : Places) (scope : List Counter) (goings : List
   no-first own k source a b x is ex not-dense none can =
       let w = loaded own k source a b is can in
       let t = and_parts (has_slot group k) _ w.fits in
-      let u = and_parts (is_reached (place_of places source)) _ (sym (ap (λ q. if q then true else is_reached (place_of places source) && ((of a).fits k && (of b).fits (k + 1))) not-dense) ∙ t.1) in
-      let z = and_parts ((of a).fits k) ((of b).fits (k + 1)) u.1 in
+      let u = and_parts (is_reached (place_of places source)) _ (sym (ap (λ q. if q then true else is_reached (place_of places source) && ((of a).fits k && rows_fit (of b) k)) not-dense) ∙ t.1) in
+      let z = and_parts ((of a).fits k) (rows_fit (of b) k) u.1 in
       none (subst (λ q. FitsLanes (of q) k) (sym ex) (record { fits = z.0; is_word = (words-first own k source a b is can).0 }))
+
+  pub no-picked : (own : Expr) (k : ℕ) (source : Source) (a b y : Expr) → own ≡ e.Load source a b → y ≡ b → in_one_row (of b) ≡ true → (FitsStack y 20 → ⊥) → FitsLanes (of own) k → ⊥
+  no-picked own k source a b y is ey one-row none can =
+      none (subst (λ q. FitsStack q 20) (sym ey) (fits-row b one-row (words-first own k source a b is can).1))
 
   pub no-third : (own : Expr) (k : ℕ) (c a b z : Expr) → own ≡ e.Select c a b → z ≡ b → (FitsLanes (of z) (k + 2) → ⊥) → FitsLanes (of own) k → ⊥
   unfolding laned

@@ -41,7 +41,7 @@ use Rattle.lane_code.specs.declared.goings.Going.{Going}
 use Rattle.lane_code.specs.declared.values.Pace.{Pace}
 use Rattle.lane_code.specs.declared.values.Pace.TheVariants as paces
 use Rattle.lane_code.specs.Groups.{registers, slots, slot, spare}
-use Rattle.lane_code.specs.Lanes.{is_steady, is_stepping, step_word, summed, Laned, are_reached, is_reached, is_dense, has_slot, laned_at, laned, pace_of, lanes_selection, lanes_quotient, lanes_remainder, gathered, dense, lanes_operation, both_steady}
+use Rattle.lane_code.specs.Lanes.{is_steady, is_stepping, step_word, summed, Laned, are_reached, is_reached, in_one_row, rows_fit, is_dense, has_slot, laned_at, laned, pace_of, lanes_selection, lanes_quotient, lanes_remainder, gathered, picked, dense, lanes_operation, both_steady}
 use Rattle.lane_code.specs.Leaving.{GoAlong, IsKept, LanesLeave}
 use Rattle.lane_code.proofs.Slots.{SlotLies, slot-lies, is-below}
 use Rattle.lane_code.proofs.Rows.{Writes, Lanes, Leaves, writes, lanes-kept, few-rounds, last, scalar-first, value-first, same-values, slot-kept, slot-still, kept-more}
@@ -49,10 +49,10 @@ use Rattle.lane_code.proofs.LanedParts.{own-is, pace-is}
 use Rattle.lane_code.proofs.Operations as operations
 use Rattle.lane_code.proofs.Quotients.{quotient-leaves, remainder-leaves}
 use Rattle.lane_code.proofs.Pacing.{Holds, linear-goes, linear-holds, both-hold, operation-hold}
-use Rattle.lane_code.proofs.Points.{stepped-leaves, dense-leaves, gathered-leaves}
+use Rattle.lane_code.proofs.Points.{stepped-leaves, dense-leaves, gathered-leaves, picked-leaves}
 use Rattle.lane_code.proofs.Straying.{strayed-leaves}
 use Rattle.lane_code.proofs.ByteRows.{dense-bytes}
-use Rattle.lane_code.proofs.ByteGathers.{gathered-bytes}
+use Rattle.lane_code.proofs.ByteGathers.{gathered-bytes, picked-bytes}
 
 at-most : (n k : ℕ) → nat_le n k ≡ true → n ≤ k
 at-most n k t = grind (arith, nat_tests)
@@ -350,6 +350,43 @@ module _ (w : World) (harts : ℕ) (m : List ℕ) (group : Group) (places : Plac
       by-pixels pixels.Words k f words bytes = words refl
       by-pixels pixels.Bytes k f words bytes = bytes refl
 
+  -- and of lanes in one row, which scalar code makes behind the columns
+  pub row-leaves : (source : Source) (y : Laned) (sy : Family) (x pixel : ℕ → ℕ) → is_reached (place_of places source) ≡ true → in_one_row y ≡ true
+      → one.Comes w harts m places scope (at 0) reads l all y.own (sy 0) → Holds y.pace n (values sy)
+      → ((i : ℕ) → i < n → LoadsAt w (place_of places source) m (x i) (values sy i) (pixel i))
+      → (k : ℕ) (f : ℕ → ℕ) → SlotLies group k → Known f → Lanes w m l group n f → operations.Hold w m l group n f (slot group k) x
+      → Leaves w m l group n (y.own.code 20 ++ picked (place_of places source) (slot group k) (spare group)) f k pixel
+  row-leaves source y sy x pixel reached is cy py can k f lies knows has hx =
+      let u = and_parts (is_steady y.pace) (nat_le y.own.need 12) is in
+      let ny = at-most y.own.need 12 u.1 in
+      let b = cy.leaves 20 f (one.stacked w harts m places scope (at 0) reads l all y.own.is_leaf 20 (omega arith)) (omega (arith, ny)) knows in
+      let kb = knows-kept w harts scope (at 0) f b.after 20 (inr (omega arith)) knows b.keeps in
+      let high : (q : ℕ) → 32 ≤ q → b.after q ≡ f q = λ q h. b.keeps q (inr (omega (arith, h)), inr (inr (omega (arith, h)))) in
+      let hb = lanes-kept w m l group n f b.after (high vl_number (omega arith)) (high 33 (omega arith)) has in
+      let held : operations.Hold w m l group n b.after (slot group k) x = λ i lt. high (lane (slot group k) i) (omega arith) ∙ hx i lt in
+      let steady = steady-is y.pace n (values sy) u.0 py in
+      value-first w m l group n k lies b (omega arith)
+      (by-pixels (place_of places source).pixels b.after
+      (λ words. picked-leaves w m l group n k lies (place_of places source) words x (values sy) pixel can b.after hb (all source) held b.value steady kb.number)
+      (λ bytes.
+      let lie = bytes-lie (place_of places source).pixels (place_of places source).distance (place_of places source).start reached bytes in
+      picked-bytes w m l group n k lies (place_of places source) bytes lie.0 lie.1 x (values sy) pixel can b.after hb (all source) held b.value steady))
+    where
+      by-pixels : (t : Pixels) (f : ℕ → ℕ) → (t ≡ pixels.Words → Leaves w m l group n (picked (place_of places source) (slot group k) (spare group)) f k pixel)
+          → (t ≡ pixels.Bytes → Leaves w m l group n (picked (place_of places source) (slot group k) (spare group)) f k pixel) → Leaves w m l group n (picked (place_of places source) (slot group k) (spare group)) f k pixel
+      by-pixels pixels.Words f words bytes = words refl
+      by-pixels pixels.Bytes f words bytes = bytes refl
+
+  picked-code : (source : Source) (p : ℕ → List Insn) (fx : ℕ → Bool) (x : ℕ → ℕ) (y : Laned) (sy : Family) (pixel : ℕ → ℕ) → is_reached (place_of places source) ≡ true → in_one_row y ≡ true
+      → Code p fx x → one.Comes w harts m places scope (at 0) reads l all y.own (sy 0) → Holds y.pace n (values sy)
+      → ((i : ℕ) → i < n → LoadsAt w (place_of places source) m (x i) (values sy i) (pixel i))
+      → Code (λ k. p k ++ (y.own.code 20 ++ picked (place_of places source) (slot group k) (spare group))) (λ k. has_slot group k && fx k) pixel
+  picked-code source p fx x y sy pixel reached is cx cy py can k f fits knows has =
+      let t = and_parts (has_slot group k) (fx k) fits in
+      let a = cx k f t.1 knows has in
+      followed a
+      (row-leaves source y sy x pixel reached is cy py can k a.after (slot-lies group k (is-below k (slots group) t.0)) (known-still f a.after k knows a.keeps) (has-still f a.after k has a.keeps) a.value)
+
   binary-code : (o : Operation) (p q : ℕ → List Insn) (fa fb : ℕ → Bool) (x y : ℕ → ℕ) → Code p fa x → Code q fb y → operations.Small w m l group n x → operations.Small w m l group n y → ((k : ℕ) → fb k ≡ true → k < slots group)
       → Code (λ k. p k ++ (q (k + 1) ++ lanes_operation o (slot group k) (slot group (k + 1)))) (λ k. has_slot group k && (fa k && fb (k + 1))) (λ i. word.applied o (x i) (y i))
   binary-code o p q fa fb x y ca cb lx ly slot-b k f fits knows has =
@@ -460,7 +497,12 @@ module _ (w : World) (harts : ℕ) (m : List ℕ) (group : Group) (places : Plac
             by-test (is_dense x.left y.left) pixel k f (λ d. dense-code source x.left y.left x.right y.right pixel d one-x one-y cx.paced cy.paced can k f u.0 knows has)
             (λ e.
             let z = and_parts (is_reached (place_of places source)) _ e in
-            gathered-code source x.left.code y.left.code x.left.fits y.left.fits (values x.right) (values y.right) pixel z.0 cx.leaves cy.leaves y.is.slot_is can k f (both-true (has_slot group k) _ u.0 z.1) knows has)
+            let v = and_parts (x.left.fits k) (rows_fit y.left k) z.1 in
+            by-row (in_one_row y.left) refl k f (x.left.code k) (y.left.own.code 20 ++ picked (place_of places source) (slot group k) (spare group)) (y.left.code (k + 1) ++ gathered (place_of places source) (slot group k) (slot group (k + 1)))
+            (λ o. picked-code source x.left.code x.left.fits (values x.right) y.left y.right pixel z.0 o cx.leaves one-y cy.paced can k f (both-true (has_slot group k) _ u.0 v.0) knows has)
+            (λ r. gathered-code source x.left.code y.left.code x.left.fits y.left.fits (values x.right) (values y.right) pixel z.0 cx.leaves cy.leaves y.is.slot_is can k f
+            (both-true (has_slot group k) _ u.0 (both-true (x.left.fits k) _ v.0 r)) knows has)
+            v.1)
             u.1;
       }
     where
@@ -471,6 +513,12 @@ module _ (w : World) (harts : ℕ) (m : List ℕ) (group : Group) (places : Plac
           → (if d then true else rest) ≡ true → Leaves w m l group n (if d then dense-is else gathered-is) f k pixel
       by-test true pixel k f a b e = a refl
       by-test false pixel k f a b e = b e
+
+      by-row : (o : Bool) → in_one_row y.left ≡ o → (k : ℕ) (f : ℕ → ℕ) (before picked-is gathered-is : List Insn) {rest : Bool} → (in_one_row y.left ≡ true → Leaves w m l group n (before ++ picked-is) f k (λ i. reads source (values x.right i) (values y.right i)))
+          → (rest ≡ true → Leaves w m l group n (before ++ gathered-is) f k (λ i. reads source (values x.right i) (values y.right i))) → (if o then true else rest) ≡ true
+          → Leaves w m l group n (before ++ (if o then picked-is else gathered-is)) f k (λ i. reads source (values x.right i) (values y.right i))
+      by-row true e k f before picked-is gathered-is a b r = a e
+      by-row false e k f before picked-is gathered-is a b r = b r
 
   slot-level : (y : Expr-F (Both Evaluates)) (k : ℕ) → (laned_at group places scope goings (left_of Evaluates y)).fits k ≡ true → k < slots group
   slot-level (layer.Number x) k fits = is-below k (slots group) fits

@@ -11,7 +11,7 @@ use Rattle.lane_code.specs.declared.goings.Going.{Going}
 use Rattle.lane_code.specs.declared.values.Pace.{Pace}
 use Rattle.scalar_code.specs.declared.places.Places.{Places}
 use Rattle.scalar_code.specs.Code.{Made, pair, divided, triple, made, made_at, operation, quotient, remainder, loading, place_of}
-use Rattle.lane_code.specs.Lanes.{Laned, laned, laned_at, is_dense, is_stepping, is_steady, operation_pace, both_steady, pace_of, pace_at}
+use Rattle.lane_code.specs.Lanes.{Laned, laned, laned_at, in_one_row, is_dense, is_stepping, is_steady, operation_pace, both_steady, pace_of, pace_at}
 
 module _ (group : Group) (places : Places) (scope : List Counter) (goings : List Going) where
   abbrev Owns : Laned → Made → Type 0
@@ -54,3 +54,7 @@ module _ (group : Group) (places : Places) (scope : List Counter) (goings : List
       ap (λ t. t && (b && c)) (ea ∙ ap is_stepping (sym (pace-is x))) ∙ ap (λ t. is_stepping (laned group places scope goings x).pace && (t && c)) (eb ∙ ap is_steady (sym (pace-is y)))
       ∙ ap (λ t. is_stepping (laned group places scope goings x).pace && (is_steady (laned group places scope goings y).pace && t))
       (ec ∙ ap (λ m. nat_le m.need 12 && nat_le (made places scope y).need 11) (sym (own-is x)) ∙ ap (λ m. nat_le (laned group places scope goings x).own.need 12 && nat_le m.need 11) (sym (own-is y)))
+
+  pub one-row-is : (y : Expr) (a b : Bool) → a ≡ is_steady (pace_of scope goings y) → b ≡ nat_le (made places scope y).need 12 → (a && b) ≡ in_one_row (laned group places scope goings y)
+  one-row-is y a b ea eb =
+      ap (λ t. t && b) (ea ∙ ap is_steady (sym (pace-is y))) ∙ ap (λ t. is_steady (laned group places scope goings y).pace && t) (eb ∙ ap (λ m. nat_le m.need 12) (sym (own-is y)))

@@ -14,11 +14,10 @@ use Rattle.memory.specs.Access.{Word, number_in}
 use Rattle.hart_core.specs.Alu.{load_size}
 use Rattle.lanes.specs.Words as lanes
 use Rattle.lone_hart.specs.Alone.{World}
-use Rattle.lone_hart.specs.Paths.{lane, vl_number, vtype_number, IsGroup, Readable}
+use Rattle.lone_hart.specs.Paths.{lane, vl_number, IsGroup, Readable}
 use Rattle.lone_hart.specs.LaneMemory.{AllReadable, offset_at, OffsetsFit}
 use Rattle.lone_hart.proofs.VectorRows as rows
 use Rattle.lone_hart.proofs.LaneLoads as memory
-use Rattle.lone_hart.proofs.Paths.{line-then}
 use Rattle.scalar_code.specs.declared.places.Pixels.TheVariants as pixels
 use Rattle.scalar_code.specs.declared.places.Place.{Place}
 use Rattle.scalar_code.specs.Code.{literal, address, addressed, pixel_bytes}
@@ -27,10 +26,10 @@ use Rattle.scalar_code.proofs.Addresses.{addressed-leaves}
 use Rattle.scalar_code.proofs.Values.{literal-sets}
 use Rattle.lane_code.specs.declared.groups.Group.{Group}
 use Rattle.lane_code.specs.Groups.{registers, slot, spare}
-use Rattle.lane_code.specs.Lanes.{stepped, dense, row_load, offsets, gathered_by, gathered}
+use Rattle.lane_code.specs.Lanes.{stepped, dense, row_load, gathered_by, gathered, picked_by, picked}
 use Rattle.lane_code.proofs.Slots.{SlotLies}
 use Rattle.lane_code.proofs.Rows.{Writes, Lanes, Leaves, writes, writes-lanes, lanes-kept, few-rounds, last, slot-first, scalar-first, value-first}
-use Rattle.lane_code.proofs.Offsets.{offsets-reach, offset-address}
+use Rattle.lane_code.proofs.Offsets.{Distances, offsets-reach, row-offsets-reach, offset-address, reach-first, reach-lanes}
 use Rattle.lane_code.proofs.Operations.{Hold}
 
 -- ---- arithmetic
@@ -165,18 +164,18 @@ module _ (w : World) (m : List ℕ) (l : length m ≡ w.size) (group : Group) (n
         let h = low-is i b in
         ap (λ q. lanes.add 32 q (i * 4)) e0 ∙ row-address place.start (place.distance * w.hart) (y 0) place.width (x 0) i (low-is 0 (omega (arith, some))) (omega (arith, h, c)) (omega (arith, b, few, most)) ∙ sym c)))
 
+    gathered-last : (is : IsPlace place) (f : ℕ → ℕ) → Lanes w m l group n f → Distances w m l group n k lies place x y low-is is f → Leaves w m l group n (Vector (v.LoadElements Bits32 r 13 (addressings.Indexed r) true) ∷ []) f k pixel
+    gathered-last is f has d = loaded-last f (addressings.Indexed r) 13 has low-13 lies.is_group (λ i b. offset-address w m l group n k lies place x y low-is is f d i b)
+
     pub gathered-leaves : (s : ℕ) (f : ℕ → ℕ) → IsGroup g s → r + g ≤ s → Lanes w m l group n f → IsPlace place → Hold w m l group n f r x → Hold w m l group n f s y → f 10 ≡ w.hart
         → Leaves w m l group n (gathered place r s) f k pixel
     gathered-leaves s f ig above has is hx hy eh =
         let d = offsets-reach w m l group n k lies place x y low-is is s f ig above has hx hy eh in
-        let f5 = d.after in
-        let has5 = lanes-kept w m l group n f f5 (d.keeps vl_number (inr (inl (inl refl)))) (d.keeps vtype_number (inr (inl (inr refl)))) has in
-        let end = loaded-last f5 (addressings.Indexed r) 13 has5 low-13 lies.is_group
-        (λ i b. offset-address w m l group n k lies place x y low-is is f5 d.holds i b) in
-        subst (λ p. Leaves w m l group n (gathered_by p place r s) f k pixel) (sym words)
-        (record {
-          after = end.after;
-          line = line-then w (offsets place r s) (Vector (v.LoadElements Bits32 r 13 (addressings.Indexed r) true) ∷ []) f f5 end.after m m m d.line end.line;
-          value = end.value;
-          keeps = λ q kept. end.keeps q kept ∙ d.keeps q kept;
-        })
+        subst (λ p. Leaves w m l group n (gathered_by p place r s) f k pixel) (sym words) (reach-first w m l group n k lies d (gathered-last is d.after (reach-lanes w m l group n k lies d has) d.holds))
+
+    -- where all rounds have one row, in the first register of the scalar stack
+    pub picked-leaves : (f : ℕ → ℕ) → Lanes w m l group n f → IsPlace place → Hold w m l group n f r x → f 20 ≡ y 0 → ((i : ℕ) → i < n → y i ≡ y 0) → f 10 ≡ w.hart
+        → Leaves w m l group n (picked place r (spare group)) f k pixel
+    picked-leaves f has is hx row same eh =
+        let d = row-offsets-reach w m l group n k lies place x y low-is is f has hx row same eh in
+        subst (λ p. Leaves w m l group n (picked_by p place r (spare group)) f k pixel) (sym words) (reach-first w m l group n k lies d (gathered-last is d.after (reach-lanes w m l group n k lies d has) d.holds))

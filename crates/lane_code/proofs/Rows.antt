@@ -1,5 +1,5 @@
 -- Single instructions over lanes, and code that goes on behind them.
-use Rattle.std.proofs.Common.{◌≡◌, ℕ, ◌+◌, ◌*◌, ◌<◌, ◌≤◌, List, ◌++◌, length, ap, ◌∙◌, refl, arith, inl, inr}
+use Rattle.std.proofs.Common.{◌≡◌, ℕ, ◌+◌, ◌*◌, ◌<◌, ◌≤◌, List, ◌++◌, length, ap, ◌∙◌, refl, sym, subst, arith, inl, inr}
 use Rattle.std.specs.Prelude.{◌⊎◌, ◌≢◌}
 use Rattle.rv_insn.specs.declared.instructions.Insn.{Insn}
 use Rattle.lone_hart.specs.Alone.{World}
@@ -79,6 +79,26 @@ module _ (w : World) (m : List ℕ) (l : length m ≡ w.size) (group : Group) (n
     kept-spare q few (inr (inl e)) = inl (omega (arith, e))
     kept-spare q few (inr (inr x)) = inr (let a = x.0 in omega (arith, a, few))
 
+    -- a group beside the slot's: one above it, or scratch
+    abbrev pub Aside : ℕ → Type 0
+    Aside s = (r + g ≤ s) ⊎ (s ≡ spare group)
+
+    -- a number outside the lanes of a group
+    abbrev pub Outside : ℕ → ℕ → Type 0
+    Outside q d = (q < lane d 0) ⊎ (lane d n ≤ q)
+
+    aside-kept : (s q : ℕ) → Aside s → n ≤ 4 * g → IsKept group k q → Outside q s
+    aside-kept s q (inl above) few kept = inl (kept-below s q (omega (arith, above)) kept)
+    aside-kept s q (inr e) few kept = subst (Outside q) (sym e) (kept-spare q few kept)
+
+    pub slot-aside : (s i : ℕ) → Aside s → n ≤ 4 * g → i < n → Outside (lane r i) s
+    slot-aside s i (inl above) few b = inl (omega (arith, above, few, b))
+    slot-aside s i (inr e) few b = inr (let lo = lies.low in omega (arith, lo, e, few))
+
+    pub aside-slot : (s i : ℕ) → Aside s → n ≤ 4 * g → i < n → Outside (lane s i) r
+    aside-slot s i (inl above) few b = inr (omega (arith, above, few))
+    aside-slot s i (inr e) few b = inl (let lo = lies.low in omega (arith, lo, e, few, b))
+
     -- scratch registers, and those of the stack, are not among it
     pub kept-scalar : (q c : ℕ) → (c ≡ 13) ⊎ ((c ≡ 14) ⊎ ((20 ≤ c) × (c < 32))) → IsKept group k q → q ≢ c
     kept-scalar q c o (inl x) e = let a = x.0 in let b = x.1 in elim o [ inl y ↦ omega (arith, a, b, e, y) | inr (inl y) ↦ omega (arith, a, b, e, y) | inr (inr y) ↦ (let z = y.0 in omega (arith, a, b, e, z)) ]
@@ -109,6 +129,18 @@ module _ (w : World) (m : List ℕ) (l : length m ≡ w.size) (group : Group) (n
       line = line-then w is js f a.after b.after m m m a.line b.line;
       value = b.value;
       keeps = λ q kept. b.keeps q kept ∙ elim (kept-spare q few kept) [ inl x ↦ a.below q x | inr x ↦ a.above q x ];
+    }
+
+    pub stays : {is : List Insn} {f : ℕ → ℕ} {d : ℕ} {u : ℕ → ℕ} → (a : Writes is f d u) → (q : ℕ) → Outside q d → a.after q ≡ f q
+    stays a q (inl x) = a.below q x
+    stays a q (inr x) = a.above q x
+
+    pub aside-first : {is js : List Insn} {f : ℕ → ℕ} {s : ℕ} {u v : ℕ → ℕ} → (a : Writes is f s u) → Aside s → n ≤ 4 * g → Leaves js a.after k v → Leaves (is ++ js) f k v
+    aside-first {is} {js} {f} {s} {u} {v} a aside few b = record {
+      after = b.after;
+      line = line-then w is js f a.after b.after m m m a.line b.line;
+      value = b.value;
+      keeps = λ q kept. b.keeps q kept ∙ stays a q (aside-kept s q aside few kept);
     }
 
     pub scalar-first : {is js : List Insn} {f : ℕ → ℕ} {c u : ℕ} {v : ℕ → ℕ} → (a : Sets w m l is f c u) → (c ≡ 13) ⊎ ((c ≡ 14) ⊎ ((20 ≤ c) × (c < 32))) → Leaves js a.after k v → Leaves (is ++ js) f k v

@@ -14,12 +14,13 @@ use Rattle.loop_ir.specs.declared.expressions.Counter.{Counter}
 use Rattle.loop_ir.specs.declared.expressions.Expr.{Expr, fold-Expr}
 use Rattle.loop_ir.specs.declared.expressions.Expr.TheOpen.{Expr-F}
 use Rattle.loop_ir.specs.declared.expressions.Expr.TheOpen as layer
+use Rattle.scalar_code.specs.declared.places.Place.{Place}
 use Rattle.scalar_code.specs.declared.places.Places.{Places}
-use Rattle.scalar_code.specs.Code.{scratch, place_of, frames_of, framed}
+use Rattle.scalar_code.specs.Code.{scratch, bottom, place_of, frames_of, framed}
 use Rattle.lane_code.specs.declared.groups.Group.{Group}
 use Rattle.lane_code.specs.declared.goings.Going.{Going}
 use Rattle.lane_code.specs.Groups.{spare, slot}
-use Rattle.lane_code.specs.Lanes.{Laned, laned_at, is_reached, lanes_operation, lanes_quotient, lanes_remainder, lanes_selection, gathered}
+use Rattle.lane_code.specs.Lanes.{Laned, laned_at, in_one_row, is_reached, lanes_operation, lanes_quotient, lanes_remainder, lanes_selection, gathered, picked}
 
 -- ---- slots of the frame
 
@@ -98,18 +99,30 @@ deep_leaf own = deep_or own (λ n. false) (λ n. [])
 abbrev pub deep_single : Laned → DeepLaned → List Insn → DeepLaned
 deep_single own a rest = deep_or own a.fits (λ n. a.code n ++ rest)
 
-abbrev pub deep_pair : Group → Places → Laned → Bool → DeepLaned → DeepLaned → List Insn → DeepLaned
-deep_pair group places own can a b rest =
-    deep_or own (λ n. can && (a.fits n && second_fits places b n)) (λ n. a.code n ++ (second_code group places b n ++ rest))
+abbrev pub deep_pair : Group → Places → Laned → DeepLaned → DeepLaned → List Insn → DeepLaned
+deep_pair group places own a b rest = deep_or own (λ n. a.fits n && second_fits places b n) (λ n. a.code n ++ (second_code group places b n ++ rest))
 
 abbrev pub deep_triple : Group → Places → Laned → DeepLaned → DeepLaned → DeepLaned → List Insn → DeepLaned
 deep_triple group places own c a b rest = deep_or own (triple_fits places c a b) (λ n. triple_code group places c a b n ++ rest)
+
+-- No column waits for a row that all rounds have.
+abbrev pub deep_rows_fit : Places → DeepLaned → ℕ → Bool
+deep_rows_fit places y n = if in_one_row y.own then true else second_fits places y n
+
+abbrev pub deep_rows_code : Group → Places → Place → DeepLaned → ℕ → List Insn
+deep_rows_code group places place y n =
+    if in_one_row y.own then y.own.own.code bottom ++ picked place (slot group 0) (spare group)
+    else second_code group places y n ++ gathered place (slot group 0) (slot group 1)
+
+abbrev pub deep_load : Group → Places → Laned → Place → DeepLaned → DeepLaned → DeepLaned
+deep_load group places own place x y =
+    deep_or own (λ n. is_reached place && (x.fits n && deep_rows_fit places y n)) (λ n. x.code n ++ deep_rows_code group places place y n)
 
 abbrev pub deep_laned_at : Group → Places → List Counter → List Going → Expr-F DeepLaned → DeepLaned
 deep_laned_at group places scope goings (layer.Number n) = deep_leaf (laned_at group places scope goings (layer.Number n))
 deep_laned_at group places scope goings (layer.Linear sum) = deep_leaf (laned_at group places scope goings (layer.Linear sum))
 deep_laned_at group places scope goings (layer.Binary o a b) =
-    deep_pair group places (laned_at group places scope goings (layer.Binary o a.own b.own)) true a b (lanes_operation o (slot group 0) (slot group 1))
+    deep_pair group places (laned_at group places scope goings (layer.Binary o a.own b.own)) a b (lanes_operation o (slot group 0) (slot group 1))
 deep_laned_at group places scope goings (layer.Divide a c) =
     deep_single (laned_at group places scope goings (layer.Divide a.own c)) a (lanes_quotient c (slot group 0) (spare group))
 deep_laned_at group places scope goings (layer.Remainder a c) =
@@ -117,8 +130,7 @@ deep_laned_at group places scope goings (layer.Remainder a c) =
 deep_laned_at group places scope goings (layer.Select c a b) =
     deep_triple group places (laned_at group places scope goings (layer.Select c.own a.own b.own)) c a b (lanes_selection (slot group 0) (slot group 1) (slot group 2))
 deep_laned_at group places scope goings (layer.Load source x y) =
-    deep_pair group places (laned_at group places scope goings (layer.Load source x.own y.own)) (is_reached (place_of places source)) x y
-    (gathered (place_of places source) (slot group 0) (slot group 1))
+    deep_load group places (laned_at group places scope goings (layer.Load source x.own y.own)) (place_of places source) x y
 
 unfoldable pub deep_laned : Group → Places → List Counter → List Going → Expr → DeepLaned
 deep_laned group places scope goings e = fold-Expr DeepLaned (deep_laned_at group places scope goings) e

@@ -1,14 +1,21 @@
 -- What comes of an attempt to make the code of an expression over lanes. This project's own.
-use Rattle.std.specs.Prelude.{◌≡◌, ◌<◌, ℕ, true, List}
+use Rattle.std.specs.Prelude.{◌≡◌, ◌<◌, ℕ, true, List, ◌++◌}
+use Rattle.scalar_code.specs.declared.places.Place.{Place}
+use Rattle.scalar_code.specs.Code.{bottom, Made}
 use Rattle.scalar_code.specs.Words.{Emits}
 use Rattle.lane_code.specs.declared.groups.Group.{Group}
 use Rattle.lane_code.specs.Groups.{slot}
-use Rattle.lane_code.specs.Lanes.{Laned}
+use Rattle.lane_code.specs.Lanes.{Laned, picked}
 
 -- It can be made in a slot and those above: its numbers are words, and no divisor is 0.
 pub record FitsLanes (own : Laned) (k : ℕ) : Type 0 where
   pub fits : own.fits k ≡ true
   pub is_word : own.own.is_word ≡ true
+
+-- words of scalar code are appended that makes a row, and behind them those of what picks its pixels
+pub record EmitsPicked (old new : List ℕ) (row : Made) (place : Place) (r u : ℕ) : Type 0 where
+  pub emits : Emits old new (row.code bottom ++ picked place r u)
+  pub is_word : row.is_word ≡ true
 
 -- words of the code are appended that leaves the values in a slot, whose first register this is
 pub record EmitsLanes (old new : List ℕ) (group : Group) (own : Laned) (k r : ℕ) : Type 0 where

@@ -192,12 +192,24 @@ based place =
     literal scratch place.start
     ++ (literal second_scratch place.distance ++ (Alu alus.Mul second_scratch second_scratch 10 ∷ Alu alus.Add scratch scratch second_scratch ∷ []))
 
--- In a buffer of words, each lane of r becomes how many bytes the pixel at that column and at the row in the lane of s lies behind the first one,
--- whose address is in scratch.
+-- In a buffer of words, lanes that number pixels become how many bytes these lie behind the first one, whose address is in scratch.
+abbrev pub word_offsets : Place → ℕ → List Insn
+word_offsets place r = Vector (v.ShiftVi shifts.Vsll r r 2 true) ∷ based place
+
+-- so do lanes of columns, with rows in the lanes of s
 abbrev pub offsets : Place → ℕ → ℕ → List Insn
 offsets place r s =
     literal scratch place.width
-    ++ (Vector (v.MultiplyVx multiplies.Vmul s s scratch true) ∷ Vector (v.ArithmeticVv vvs.Vadd r r s true) ∷ Vector (v.ShiftVi shifts.Vsll r r 2 true) ∷ based place)
+    ++ (Vector (v.MultiplyVx multiplies.Vmul s s scratch true) ∷ Vector (v.ArithmeticVv vvs.Vadd r r s true) ∷ word_offsets place r)
+
+-- lanes of columns become numbers of pixels, with one row for all in the first register of the scalar stack
+abbrev pub numbered : Place → ℕ → List Insn
+numbered place r =
+    literal scratch place.width ++ (Alu alus.Mul scratch bottom scratch ∷ Vector (v.ArithmeticVx vxs.Vadd r r scratch true) ∷ [])
+
+-- and distances, in a buffer of words
+abbrev pub row_offsets : Place → ℕ → List Insn
+row_offsets place r = numbered place r ++ word_offsets place r
 
 -- Each lane of r becomes the byte with that number. It is cut out of the word that holds it, where a buffer without copies begins at a
 -- word: the lowest bits of 8 times its number, in the lane of s, say how many bits lie before it.
@@ -216,6 +228,14 @@ gathered_by pixels.Bytes place r s =
 
 abbrev pub gathered : Place → ℕ → ℕ → List Insn
 gathered place r s = gathered_by place.pixels place r s
+
+-- So it is where all rounds have one row, in the first register of the scalar stack; u is scratch.
+abbrev pub picked_by : Pixels → Place → ℕ → ℕ → List Insn
+picked_by pixels.Words place r u = row_offsets place r ++ (Vector (v.LoadElements Bits32 r scratch (addressings.Indexed r) true) ∷ [])
+picked_by pixels.Bytes place r u = numbered place r ++ byte_tail place r u
+
+abbrev pub picked : Place → ℕ → ℕ → List Insn
+picked place r u = picked_by place.pixels place r u
 
 -- ---- expressions
 
@@ -242,6 +262,19 @@ is_reached place = are_reached place.pixels place.distance place.start
 abbrev pub is_dense : Laned → Laned → Bool
 is_dense x y = is_stepping x.pace && (is_steady y.pace && (nat_le x.own.need 12 && nat_le y.own.need 11))
 
+-- Scalar code makes a row that all rounds have, where its stack has room for it: then rows take no slot.
+abbrev pub in_one_row : Laned → Bool
+in_one_row y = is_steady y.pace && nat_le y.own.need 12
+
+abbrev pub rows_fit : Laned → ℕ → Bool
+rows_fit y k = if in_one_row y then true else y.fits (k + 1)
+
+-- lanes of columns become the pixels there
+abbrev pub rows_code : Group → Place → Laned → ℕ → List Insn
+rows_code group place y k =
+    if in_one_row y then y.own.code bottom ++ picked place (slot group k) (spare group)
+    else y.code (k + 1) ++ gathered place (slot group k) (slot group (k + 1))
+
 abbrev pub fits_by : Group → Places → Expr-F Laned → ℕ → Bool
 fits_by group places (layer.Number n) k = has_slot group k
 fits_by group places (layer.Linear sum) k = has_slot group k
@@ -250,7 +283,7 @@ fits_by group places (layer.Divide a c) k = has_slot group k && a.fits k
 fits_by group places (layer.Remainder a c) k = has_slot group k && a.fits k
 fits_by group places (layer.Select c a b) k = has_slot group k && (c.fits k && (a.fits (k + 1) && b.fits (k + 2)))
 fits_by group places (layer.Load source x y) k =
-    has_slot group k && (if is_dense x y then true else is_reached (place_of places source) && (x.fits k && y.fits (k + 1)))
+    has_slot group k && (if is_dense x y then true else is_reached (place_of places source) && (x.fits k && rows_fit y k))
 
 abbrev pub lanes_by : Group → Places → List Counter → List Going → Expr-F Laned → ℕ → List Insn
 lanes_by group places scope goings (layer.Number n) k = literal scratch n ++ (Vector (v.MoveVx (slot group k) scratch) ∷ [])
@@ -262,7 +295,7 @@ lanes_by group places scope goings (layer.Select c a b) k =
     c.code k ++ (a.code (k + 1) ++ (b.code (k + 2) ++ lanes_selection (slot group k) (slot group (k + 1)) (slot group (k + 2))))
 lanes_by group places scope goings (layer.Load source x y) k =
     if is_dense x y then x.own.code bottom ++ (y.own.code (bottom + 1) ++ dense (place_of places source) (slot group k) (spare group))
-    else x.code k ++ (y.code (k + 1) ++ gathered (place_of places source) (slot group k) (slot group (k + 1)))
+    else x.code k ++ rows_code group (place_of places source) y k
 
 abbrev pub laned_at : Group → Places → List Counter → List Going → Expr-F Laned → Laned
 laned_at group places scope goings e = record {

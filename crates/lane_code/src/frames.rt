@@ -12,7 +12,7 @@ use crate::goings::Going;
 use crate::groups::Group;
 use crate::values::{
     emit_gathered, emit_lanes, emit_lanes_operation, emit_lanes_quotient, emit_lanes_remainder,
-    emit_lanes_selection, is_dense, is_reached,
+    emit_lanes_selection, emit_row_picked, is_dense, is_in_one_row, is_reached,
 };
 use crate::vectors::{copy, load_row, store_row};
 use loop_ir::expressions::{Counter, Expr};
@@ -126,7 +126,8 @@ fn fits_lanes(
             is_dense(scope, goings, x.get(), y.get())
                 || is_reached(&place)
                     && fits_lanes(group, places, scope, goings, x.get(), k)
-                    && fits_lanes(group, places, scope, goings, y.get(), k + 1)
+                    && (is_in_one_row(scope, goings, y.get())
+                        || fits_lanes(group, places, scope, goings, y.get(), k + 1))
         }
     }
 }
@@ -206,6 +207,11 @@ pub fn emit_deep_lanes(
                 return Err(CodeFault::TooDeep);
             }
             emit_deep_lanes(code, group, places, scope, goings, x.get(), n)?;
+            if is_in_one_row(scope, goings, y.get()) {
+                let u = group.spare();
+                emit_row_picked(code, places, scope, &place, y.get(), group.slot(0), u)?;
+                return Ok(());
+            }
             emit_second(code, group, places, scope, goings, y.get(), n)?;
             emit_gathered(code, &place, group.slot(0), group.slot(1))?;
             Ok(())

@@ -6,8 +6,8 @@ ghost use Rattle.lane_code.specs.declared.groups.Group.{Group as Groups};
 ghost use Rattle.scalar_code.specs.declared.places.Pixels.TheVariants.{Bytes as bytes, Words as words_of};
 ghost use Rattle.scalar_code.specs.declared.places.Places.{Places as AllPlaces};
 ghost use Rattle.scalar_code.specs.Code.{made};
-ghost use Rattle.scalar_code.specs.Faults.{IsFault};
-ghost use Rattle.lane_code.specs.Emitting.{EmitsLanes, FitsLanes};
+ghost use Rattle.scalar_code.specs.Faults.{FitsStack, IsFault};
+ghost use Rattle.lane_code.specs.Emitting.{EmitsLanes, EmitsPicked, FitsLanes};
 ghost use Rattle.lane_code.specs.Goings.{are_even as are_all_even};
 ghost use Rattle.lane_code.specs.Lanes as spec;
 ghost use Rattle.lane_code.specs.Straying.{strayed};
@@ -395,6 +395,16 @@ fn emit_based(code: &mut Vec<u32>, place: &Place) -> Result<(), AllocError>
     Ok(())
 }
 
+/// Appends what turns numbers of pixels into their distances from the address that x13 then holds.
+fn emit_word_offsets(code: &mut Vec<u32>, place: &Place, r: u8) -> Result<(), AllocError>
+    requires { r < 32 }
+    ensures { OnOk result (Emits code.old.items code.new.items (spec.word_offsets place.now r)) }
+{
+    times_four(code, r)?;
+    emit_based(code, place)?;
+    Ok(())
+}
+
 /// Appends what turns columns in the lanes of `r` and rows in those of `s` into the distances of pixels, in `r`, from the address that x13 then holds.
 pub fn emit_offsets(code: &mut Vec<u32>, place: &Place, r: u8, s: u8) -> Result<(), AllocError>
     requires { (r < 32) × (s < 32) }
@@ -403,8 +413,28 @@ pub fn emit_offsets(code: &mut Vec<u32>, place: &Place, r: u8, s: u8) -> Result<
     emit_literal(code, 13, place.width)?;
     multiplication_by(code, MultiplyOp::Vmul, s, s, 13)?;
     arithmetic(code, ArithmeticVvOp::Vadd, r, r, s)?;
-    times_four(code, r)?;
-    emit_based(code, place)?;
+    emit_word_offsets(code, place, r)?;
+    Ok(())
+}
+
+/// Appends what turns columns in the lanes of `r` into numbers of pixels of the row in x20.
+fn emit_numbered(code: &mut Vec<u32>, place: &Place, r: u8) -> Result<(), AllocError>
+    requires { r < 32 }
+    ensures { OnOk result (Emits code.old.items code.new.items (spec.numbered place.now r)) }
+{
+    emit_literal(code, 13, place.width)?;
+    alu(code, AluOp::Mul, 13, 20, 13)?;
+    arithmetic_by(code, ArithmeticVxOp::Vadd, r, r, 13)?;
+    Ok(())
+}
+
+/// Appends what turns columns in the lanes of `r` into the distances of pixels of the row in x20 from the address that x13 then holds.
+pub fn emit_row_offsets(code: &mut Vec<u32>, place: &Place, r: u8) -> Result<(), AllocError>
+    requires { r < 32 }
+    ensures { OnOk result (Emits code.old.items code.new.items (spec.row_offsets place.now r)) }
+{
+    emit_numbered(code, place, r)?;
+    emit_word_offsets(code, place, r)?;
     Ok(())
 }
 
@@ -458,7 +488,62 @@ pub(crate) fn emit_gathered(
     Ok(())
 }
 
+fn emit_words_picked(code: &mut Vec<u32>, place: &Place, r: u8, u: u8) -> Result<(), AllocError>
+    requires { (r < 32) × (u < 32) }
+    ensures { OnOk result (Emits code.old.items code.new.items (spec.picked_by words_of place.now r u)) }
+{
+    emit_row_offsets(code, place, r)?;
+    load_at(code, r, 13)?;
+    Ok(())
+}
+
+fn emit_bytes_picked(code: &mut Vec<u32>, place: &Place, r: u8, u: u8) -> Result<(), AllocError>
+    requires { (r < 32) × (u < 32) }
+    ensures { OnOk result (Emits code.old.items code.new.items (spec.picked_by bytes place.now r u)) }
+{
+    emit_numbered(code, place, r)?;
+    emit_byte_tail(code, place, r, u)?;
+    Ok(())
+}
+
+/// Appends what turns columns in the lanes of `r` into the pixels there, of the row in x20; `u` is scratch.
+fn emit_picked(code: &mut Vec<u32>, place: &Place, r: u8, u: u8) -> Result<(), AllocError>
+    requires { (r < 32) × (u < 32) }
+    ensures { OnOk result (Emits code.old.items code.new.items (spec.picked place.now r u)) }
+{
+    match place.pixels {
+        Pixels::Words => emit_words_picked(code, place, r, u)?,
+        Pixels::Bytes => emit_bytes_picked(code, place, r, u)?,
+    }
+    Ok(())
+}
+
+/// Appends what turns columns in the lanes of `r` into the pixels there, of the row that an expression gives; `u` is scratch.
+pub(crate) fn emit_row_picked(
+    code: &mut Vec<u32>,
+    places: &Places,
+    scope: &[Counter],
+    place: &Place,
+    y: &Expr,
+    r: u8,
+    u: u8,
+) -> Result<(), CodeFault>
+    requires { (r < 32) × (u < 32) }
+    ensures ok { OnOk result (EmitsPicked code.old.items code.new.items (made places.now scope.now y.now) place.now r u) }
+    ensures err { IfErr result (IsFault ⊥ (FitsStack y.now 20 → ⊥)) }
+{
+    emit_value(code, places, scope, y, 20)?;
+    emit_picked(code, place, r, u)?;
+    Ok(())
+}
+
 // ---- expressions
+
+fn are_both(a: bool, b: bool) -> bool
+    ensures { result ≡ (a && b) }
+{
+    a && b
+}
 
 fn are_all(a: bool, b: bool, c: bool) -> bool
     ensures { result ≡ (a && (b && c)) }
@@ -480,6 +565,21 @@ pub(crate) fn is_dense(scope: &[Counter], goings: &[Going], x: &Expr, y: &Expr) 
     let column = is_stepping(pace_of(scope, goings, x));
     let row = is_steady(pace_of(scope, goings, y));
     are_all(column, row, fits_scalars(x, y))
+}
+
+/// Whether the scalar stack has room for a row.
+fn fits_scalar(y: &Expr) -> bool
+    ensures { (places : AllPlaces) (scope : List Counts) → result ≡ nat_le (made places scope y.now).need 12 }
+{
+    need(y) <= 12
+}
+
+/// Whether all rounds have one row, and the scalar stack has room for it.
+pub fn is_in_one_row(scope: &[Counter], goings: &[Going], y: &Expr) -> bool
+    ensures { (group : Groups) (places : AllPlaces) → result ≡ spec.in_one_row (spec.laned group places scope.now goings.now y.now) }
+{
+    let steady = is_steady(pace_of(scope, goings, y));
+    are_both(steady, fits_scalar(y))
 }
 
 /// Whether lanes that lie anywhere reach a buffer's pixels.
@@ -560,6 +660,10 @@ pub fn emit_lanes(
                 return Err(CodeFault::TooDeep);
             }
             emit_lanes(code, group, places, scope, goings, x.get(), k)?;
+            if is_in_one_row(scope, goings, y.get()) {
+                emit_row_picked(code, places, scope, &place, y.get(), r, group.spare())?;
+                return Ok(r);
+            }
             let s = emit_lanes(code, group, places, scope, goings, y.get(), k + 1)?;
             emit_gathered(code, &place, r, s)?;
             Ok(r)

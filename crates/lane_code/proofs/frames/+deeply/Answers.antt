@@ -1,6 +1,6 @@
 use Rattle.std.proofs.Common.{◌∙◌, sym}
 use Rattle.scalar_code.proofs.Refusing.{passed}
-use Rattle.lane_code.proofs.DeepEmission.{above-others, above-second, binary-deep, divide-deep, load-deep, no-above, no-binary-first, no-binary-second, no-dense, no-divide-first, no-first-above, no-first-waiting, no-leaf, no-load-first, no-load-second, no-next, no-place, no-remainder-first, no-second-above, no-second-waiting, no-select-first, no-select-others, no-slot, no-wait, no-waiting, remainder-deep, select-deep, stack-emitted, waiting-others, waiting-second}
+use Rattle.lane_code.proofs.DeepEmission.{above-others, above-second, binary-deep, divide-deep, gathered-deep, no-above, no-binary-first, no-binary-second, no-dense, no-divide-first, no-first-above, no-first-waiting, no-leaf, no-load-first, no-load-row, no-load-second, no-next, no-place, no-remainder-first, no-second-above, no-second-waiting, no-select-first, no-select-others, no-slot, no-wait, no-waiting, picked-deep, remainder-deep, select-deep, stack-emitted, waiting-others, waiting-second}
 use Rattle.lane_code.proofs.frames.+deeply.Goals as goal
 
 pub emit_deep_lanes-returns-in_err-emit_lanes-in-Number-clause-err : goal.emit_deep_lanes-returns-in_err-emit_lanes-in-Number-clause-err
@@ -54,7 +54,7 @@ emit_deep_lanes-returns-in_err-emit_deep_lanes-in-Load-clause-err t c =
 pub emit_deep_lanes-returns-in_err-emit_second-in-Load-clause-err : goal.emit_deep_lanes-returns-in_err-emit_second-in-Load-clause-err
 emit_deep_lanes-returns-in_err-emit_second-in-Load-clause-err t c =
     passed c.from_residual-in_err-emit_second-in-Load.result c.in_err-emit_second-in-Load.field-0.0 c.from_residual-in_err-emit_second-in-Load.ensures.1 (λ long. long)
-    (λ deep can. no-load-second c.args.group c.args.places.now c.args.scope.now c.args.goings.now c.args.e.now c.args.n c.in-Load.source c.in-Load.x c.in-Load.y c.in-Load.is _ _ c.get-in-Load.ensures c.get-in-Load-2.ensures c.is_dense.result (c.is_dense.ensures c.args.group c.args.places.now) c.if-is_dense.false _ c.get-in-Load-4.ensures deep can) c.in_err-emit_second-in-Load.ensures.err
+    (λ deep can. no-load-second c.args.group c.args.places.now c.args.scope.now c.args.goings.now c.args.e.now c.args.n c.in-Load.source c.in-Load.x c.in-Load.y c.in-Load.is _ _ c.get-in-Load.ensures c.get-in-Load-2.ensures c.is_dense.result (c.is_dense.ensures c.args.group c.args.places.now) c.if-is_dense.false _ c.get-in-Load-4.ensures c.is_in_one_row.result (c.is_in_one_row.ensures c.args.group c.args.places.now) _ c.if-is_in_one_row.false c.get-in-Load-5.ensures deep can) c.in_err-emit_second-in-Load.ensures.err
 
 pub emit_deep_lanes-returns-in_err-emit_lanes-in-Load-clause-err : goal.emit_deep_lanes-returns-in_err-emit_lanes-in-Load-clause-err
 emit_deep_lanes-returns-in_err-emit_lanes-in-Load-clause-err t c =
@@ -87,8 +87,18 @@ emit_deep_lanes-returns-in_ok-emit_lanes_selection-in-Select-clause-ok t c =
 
 pub emit_deep_lanes-returns-in_ok-emit_gathered-in-Load-clause-ok : goal.emit_deep_lanes-returns-in_ok-emit_gathered-in-Load-clause-ok
 emit_deep_lanes-returns-in_ok-emit_gathered-in-Load-clause-ok t c =
-    load-deep c.args.group c.args.places.now c.args.scope.now c.args.goings.now c.args.e.now c.args.n c.in-Load.source c.in-Load.x c.in-Load.y c.in-Load.is _ _ c.get-in-Load.ensures c.get-in-Load-2.ensures c.is_dense.result (c.is_dense.ensures c.args.group c.args.places.now) c.if-is_dense.false _ _ c.place_of-place.result _ _ _ _ _ _ c.get-in-Load-3.ensures c.get-in-Load-4.ensures c.place_of-place.ensures (sym c.is_reached.ensures ∙ c.if-not-is_reached.false) c.slot-in-Load.ensures.0 c.slot-in-Load-2.ensures.0
+    gathered-deep c.args.group c.args.places.now c.args.scope.now c.args.goings.now c.args.e.now c.args.n c.in-Load.source c.in-Load.x c.in-Load.y c.in-Load.is _ _ c.get-in-Load.ensures c.get-in-Load-2.ensures c.is_dense.result (c.is_dense.ensures c.args.group c.args.places.now) c.if-is_dense.false _ c.get-in-Load-4.ensures c.is_in_one_row.result (c.is_in_one_row.ensures c.args.group c.args.places.now) _ _ c.place_of-place.result _ _ _ _ _ _ c.if-is_in_one_row.false c.get-in-Load-3.ensures c.get-in-Load-5.ensures c.place_of-place.ensures (sym c.is_reached.ensures ∙ c.if-not-is_reached.false) c.slot-in-Load.ensures.0 c.slot-in-Load-2.ensures.0
     c.in_ok-emit_deep_lanes-in-Load.ensures.ok c.in_ok-emit_second-in-Load.ensures.ok c.in_ok-emit_gathered-in-Load.ensures
+
+pub emit_deep_lanes-returns-then-is_in_one_row-clause-ok : goal.emit_deep_lanes-returns-then-is_in_one_row-clause-ok
+emit_deep_lanes-returns-then-is_in_one_row-clause-ok t c =
+    picked-deep c.args.group c.args.places.now c.args.scope.now c.args.goings.now c.args.e.now c.args.n c.in-Load.source c.in-Load.x c.in-Load.y c.in-Load.is _ _ c.get-in-Load.ensures c.get-in-Load-2.ensures c.is_dense.result (c.is_dense.ensures c.args.group c.args.places.now) c.if-is_dense.false _ c.get-in-Load-4.ensures c.is_in_one_row.result (c.is_in_one_row.ensures c.args.group c.args.places.now) _ _ c.place_of-place.result _ _ _ _ _ c.if-is_in_one_row.true c.get-in-Load-3.ensures c.get-then-is_in_one_row.ensures c.place_of-place.ensures (sym c.is_reached.ensures ∙ c.if-not-is_reached.false) c.slot-then-is_in_one_row.ensures.0 c.spare-u.ensures.0
+    c.in_ok-emit_deep_lanes-in-Load.ensures.ok c.in_ok-emit_row_picked-in-Load.ensures.ok
+
+pub emit_deep_lanes-returns-in_err-emit_row_picked-in-Load-clause-err : goal.emit_deep_lanes-returns-in_err-emit_row_picked-in-Load-clause-err
+emit_deep_lanes-returns-in_err-emit_row_picked-in-Load-clause-err t c =
+    passed c.from_residual-in_err-emit_row_picked-in-Load.result c.in_err-emit_row_picked-in-Load.field-0.0 c.from_residual-in_err-emit_row_picked-in-Load.ensures.1 (λ long. long)
+    (λ deep can. no-load-row c.args.group c.args.places.now c.args.scope.now c.args.goings.now c.args.e.now c.args.n c.in-Load.source c.in-Load.x c.in-Load.y c.in-Load.is _ _ c.get-in-Load.ensures c.get-in-Load-2.ensures c.is_dense.result (c.is_dense.ensures c.args.group c.args.places.now) c.if-is_dense.false _ c.get-in-Load-4.ensures c.is_in_one_row.result (c.is_in_one_row.ensures c.args.group c.args.places.now) _ c.if-is_in_one_row.true c.get-then-is_in_one_row.ensures deep can) c.in_err-emit_row_picked-in-Load.ensures.err
 
 pub emit_others-returns-in_err-emit_lanes-clause-err : goal.emit_others-returns-in_err-emit_lanes-clause-err
 emit_others-returns-in_err-emit_lanes-clause-err t c =

@@ -1,7 +1,7 @@
 use Rattle.std.proofs.Common.{◌∙◌, sym, ap, arith}
-use Rattle.lane_code.specs.Lanes.{is_dense, laned}
+use Rattle.lane_code.specs.Lanes.{in_one_row, is_dense, laned}
 use Rattle.scalar_code.proofs.Refusing.{passed}
-use Rattle.lane_code.proofs.Emission.{number-emitted, linear-emitted, binary-emitted, divide-emitted, remainder-emitted, select-emitted, dense-emitted, gathered-emitted, no-column, no-row, no-first, no-third}
+use Rattle.lane_code.proofs.Emission.{number-emitted, linear-emitted, binary-emitted, divide-emitted, remainder-emitted, select-emitted, dense-emitted, gathered-emitted, picked-emitted, no-column, no-row, no-picked, no-first, no-third}
 use Rattle.lane_code.proofs.values.+emit_lanes.Goals as goal
 
 pub returns-in_ok-spread-in-Number-clause-ok : goal.returns-in_ok-spread-in-Number-clause-ok
@@ -34,7 +34,15 @@ returns-then-is_dense-clause-ok t c =
 
 pub returns-in_ok-emit_gathered-in-Load-clause-ok : goal.returns-in_ok-emit_gathered-in-Load-clause-ok
 returns-in_ok-emit_gathered-in-Load-clause-ok t c =
-    gathered-emitted c.args.group c.args.places.now c.args.scope.now c.args.goings.now c.args.e.now c.args.k c.slot-r.result (let n = c.if-k-slots.false in let s = c.slots.ensures in omega (arith, n, s)) c.slot-r.ensures.0 c.slot-r.ensures.1 c.in-Load.source c.in-Load.x c.in-Load.y _ _ c.place_of-place.result _ _ _ _ _ _ c.in-Load.is c.get-in-Load-3.ensures c.get-in-Load-4.ensures c.place_of-place.ensures (sym c.is_reached.ensures ∙ c.if-not-is_reached.false) (ap (λ x. is_dense (laned c.args.group c.args.places.now c.args.scope.now c.args.goings.now x) (laned c.args.group c.args.places.now c.args.scope.now c.args.goings.now c.in-Load.y)) (sym c.get-in-Load.ensures) ∙ ap (λ y. is_dense (laned c.args.group c.args.places.now c.args.scope.now c.args.goings.now c.get-in-Load.result.now) (laned c.args.group c.args.places.now c.args.scope.now c.args.goings.now y)) (sym c.get-in-Load-2.ensures) ∙ sym (c.is_dense.ensures c.args.group c.args.places.now) ∙ c.if-is_dense.false) c.in_ok-emit_lanes-in-Load.ensures.ok c.in_ok-s-in-Load.ensures.ok c.in_ok-emit_gathered-in-Load.ensures
+    gathered-emitted c.args.group c.args.places.now c.args.scope.now c.args.goings.now c.args.e.now c.args.k c.slot-r.result (let n = c.if-k-slots.false in let s = c.slots.ensures in omega (arith, n, s)) c.slot-r.ensures.0 c.slot-r.ensures.1 c.in-Load.source c.in-Load.x c.in-Load.y c.in-Load.is _ c.get-in-Load-3.ensures c.place_of-place.result c.place_of-place.ensures (sym c.is_reached.ensures ∙ c.if-not-is_reached.false) (ap (λ x. is_dense (laned c.args.group c.args.places.now c.args.scope.now c.args.goings.now x) (laned c.args.group c.args.places.now c.args.scope.now c.args.goings.now c.in-Load.y)) (sym c.get-in-Load.ensures) ∙ ap (λ y. is_dense (laned c.args.group c.args.places.now c.args.scope.now c.args.goings.now c.get-in-Load.result.now) (laned c.args.group c.args.places.now c.args.scope.now c.args.goings.now y)) (sym c.get-in-Load-2.ensures) ∙ sym (c.is_dense.ensures c.args.group c.args.places.now) ∙ c.if-is_dense.false) _ _ _ _ _ _ _ c.get-in-Load-5.ensures (ap (λ y. in_one_row (laned c.args.group c.args.places.now c.args.scope.now c.args.goings.now y)) (sym c.get-in-Load-4.ensures) ∙ sym (c.is_in_one_row.ensures c.args.group c.args.places.now) ∙ c.if-is_in_one_row.false) c.in_ok-emit_lanes-in-Load.ensures.ok c.in_ok-s-in-Load.ensures.ok c.in_ok-emit_gathered-in-Load.ensures
+
+pub returns-then-is_in_one_row-clause-ok : goal.returns-then-is_in_one_row-clause-ok
+returns-then-is_in_one_row-clause-ok t c =
+    picked-emitted c.args.group c.args.places.now c.args.scope.now c.args.goings.now c.args.e.now c.args.k c.slot-r.result (let n = c.if-k-slots.false in let s = c.slots.ensures in omega (arith, n, s)) c.slot-r.ensures.0 c.slot-r.ensures.1 c.in-Load.source c.in-Load.x c.in-Load.y c.in-Load.is _ c.get-in-Load-3.ensures c.place_of-place.result c.place_of-place.ensures (sym c.is_reached.ensures ∙ c.if-not-is_reached.false) (ap (λ x. is_dense (laned c.args.group c.args.places.now c.args.scope.now c.args.goings.now x) (laned c.args.group c.args.places.now c.args.scope.now c.args.goings.now c.in-Load.y)) (sym c.get-in-Load.ensures) ∙ ap (λ y. is_dense (laned c.args.group c.args.places.now c.args.scope.now c.args.goings.now c.get-in-Load.result.now) (laned c.args.group c.args.places.now c.args.scope.now c.args.goings.now y)) (sym c.get-in-Load-2.ensures) ∙ sym (c.is_dense.ensures c.args.group c.args.places.now) ∙ c.if-is_dense.false) _ _ _ _ _ _ c.get-then-is_in_one_row.ensures c.spare-then-is_in_one_row.ensures.0 (ap (λ y. in_one_row (laned c.args.group c.args.places.now c.args.scope.now c.args.goings.now y)) (sym c.get-in-Load-4.ensures) ∙ sym (c.is_in_one_row.ensures c.args.group c.args.places.now) ∙ c.if-is_in_one_row.true) c.in_ok-emit_lanes-in-Load.ensures.ok c.in_ok-emit_row_picked-in-Load.ensures.ok
+
+pub returns-in_err-emit_row_picked-in-Load-clause-err : goal.returns-in_err-emit_row_picked-in-Load-clause-err
+returns-in_err-emit_row_picked-in-Load-clause-err t c =
+    passed c.from_residual-in_err-emit_row_picked-in-Load.result c.in_err-emit_row_picked-in-Load.field-0.0 c.from_residual-in_err-emit_row_picked-in-Load.ensures.1 (λ long. long) (λ deep can. no-picked c.args.group c.args.places.now c.args.scope.now c.args.goings.now c.args.e.now c.args.k c.in-Load.source c.in-Load.x c.in-Load.y _ c.in-Load.is c.get-then-is_in_one_row.ensures (ap (λ y. in_one_row (laned c.args.group c.args.places.now c.args.scope.now c.args.goings.now y)) (sym c.get-in-Load-4.ensures) ∙ sym (c.is_in_one_row.ensures c.args.group c.args.places.now) ∙ c.if-is_in_one_row.true) deep can) c.in_err-emit_row_picked-in-Load.ensures.err
 
 pub returns-in_err-t-in-Select-clause-err : goal.returns-in_err-t-in-Select-clause-err
 returns-in_err-t-in-Select-clause-err t c =
