@@ -1,8 +1,9 @@
 -- Lanes of columns and rows become distances of pixels from the first one of a buffer.
-use Rattle.std.proofs.Common.{◌≡◌, ℕ, ◌+◌, ◌*◌, ◌%◌, ◌^◌, ◌<◌, ◌≤◌, List, [], ◌∷◌, ◌++◌, length, true, ap, ◌∙◌, refl, sym, arith, inl, inr}
-use Rattle.std.specs.Prelude.{◌≢◌, ◌⊎◌}
+use Rattle.std.proofs.Common.{◌≡◌, ℕ, ◌+◌, ◌*◌, ◌%◌, ◌^◌, ◌<◌, ◌≤◌, List, [], ◌∷◌, ◌++◌, length, Bool, true, false, ap, ◌∙◌, refl, sym, arith, inl, inr}
+use Rattle.std.specs.Prelude.{◌≢◌, ◌⊎◌, ◌==◌, if◌then◌else◌}
+use Rattle.std.proofs.lemmas.Bool.Decides.{nat_tests}
 use Rattle.rv_insn.specs.declared.instructions.Insn.{Insn}
-use Rattle.rv_insn.specs.declared.instructions.Insn.TheVariants.{Vector}
+use Rattle.rv_insn.specs.declared.instructions.Insn.TheVariants.{Alu, Vector}
 use Rattle.rv_insn.specs.declared.operations.AluOp.TheVariants as alus
 use Rattle.rv_insn.specs.declared.vector_instructions.VectorInsn.TheVariants as v
 use Rattle.rv_insn.specs.declared.vector_operations.ArithmeticVvOp.TheVariants as vvs
@@ -12,15 +13,16 @@ use Rattle.rv_insn.specs.declared.vector_operations.MultiplyOp.TheVariants as mu
 use Rattle.lanes.specs.Words as lanes
 use Rattle.lone_hart.specs.Alone.{World}
 use Rattle.lone_hart.specs.Paths.{Line, lane, vl_number, vtype_number, IsGroup}
-use Rattle.lone_hart.proofs.Paths.{line-then}
+use Rattle.lone_hart.proofs.Paths.{line-then, stay}
 use Rattle.lone_hart.proofs.VectorRows as rows
 use Rattle.scalar_code.specs.declared.places.Place.{Place}
+use Rattle.scalar_code.specs.Code.{literal}
 use Rattle.scalar_code.specs.Evaluation.{IsPlace}
 use Rattle.scalar_code.proofs.Addresses.{row-words}
 use Rattle.scalar_code.proofs.Values.{Sets, alu-sets, literal-sets}
 use Rattle.lane_code.specs.declared.groups.Group.{Group}
 use Rattle.lane_code.specs.Groups.{registers, slot}
-use Rattle.lane_code.specs.Lanes.{based, word_offsets, offsets, numbered, row_offsets}
+use Rattle.lane_code.specs.Lanes.{own_copy, based, word_offsets, offsets, numbered, row_offsets}
 use Rattle.lane_code.specs.Leaving.{IsKept}
 use Rattle.lane_code.proofs.Slots.{SlotLies}
 use Rattle.lane_code.proofs.Rows.{Writes, Lanes, Leaves, writes, writes-lanes, lanes-kept, few-rounds, kept-below, kept-scalar}
@@ -28,6 +30,9 @@ use Rattle.lane_code.proofs.Operations.{Hold, arithmetic-writes}
 
 base-address : (start d n : ℕ) → start + d + n < 2 ^ 32 → lanes.add 32 (lanes.add 32 start (d % 2 ^ 32)) n ≡ start + d + n
 base-address start d n low = omega (arith, low)
+
+start-is : (s h : ℕ) → s < 2 ^ 32 → s ≡ lanes.add 32 s (lanes.multiply 32 0 h)
+start-is s h small = omega (arith, small)
 
 word-again : (a : ℕ) → a % 2 ^ 32 % 2 ^ 32 ≡ a % 2 ^ 32
 word-again a = omega arith
@@ -150,17 +155,33 @@ module _ (w : World) (m : List ℕ) (l : length m ≡ w.size) (group : Group) (n
       pub distance : (i : ℕ) → i < n → f (lane r i) ≡ 4 * (y i * place.width + x i)
       pub first : f 13 ≡ lanes.add 32 place.start (lanes.multiply 32 place.distance w.hart)
 
+    -- the address of the hart's own copy
+    abbrev own_start : ℕ
+    own_start = lanes.add 32 place.start (lanes.multiply 32 place.distance w.hart)
+
+    alone-start : place.distance ≡ 0 → place.start ≡ own_start
+    alone-start e = let small = is.start in start-is place.start w.hart small ∙ ap (λ d. lanes.add 32 place.start (lanes.multiply 32 d w.hart)) (sym e)
+
+    copy-reaches : (f : ℕ → ℕ) → Hold w m l group n f r (λ i. 4 * (y i * place.width + x i)) → f 13 ≡ place.start → f 10 ≡ w.hart → Reaches Distances (own_copy place.distance) f
+    copy-reaches f ho es eh = by-test (place.distance == 0) refl
+      where
+        by-test : (t : Bool) → (place.distance == 0) ≡ t → Reaches Distances (if t then [] else literal 14 place.distance ++ (Alu alus.Mul 14 14 10 ∷ Alu alus.Add 13 13 14 ∷ [])) f
+        by-test true e =
+            let z : place.distance ≡ 0 = grind (arith, nat_tests, e) in
+            record { after = f; line = λ at s. stay w at f m; holds = record { distance = ho; first = es ∙ alone-start z }; keeps = λ q kept. refl }
+        by-test false e =
+            let i2 = literal-sets w m l f 14 place.distance (omega arith) (omega arith) is.distance in
+            let i3 = alu-sets w m l alus.Mul i2.after 14 14 10 place.distance w.hart (omega arith) (omega arith) (omega arith) (omega arith) i2.value (i2.others 10 (λ q. omega (arith, q)) ∙ eh) in
+            let i4 = alu-sets w m l alus.Add i3.after 13 13 14 place.start (lanes.multiply 32 place.distance w.hart) (omega arith) (omega arith) (omega arith) (omega arith)
+            (i3.others 13 (λ q. omega (arith, q)) ∙ i2.others 13 (λ q. omega (arith, q)) ∙ es) i3.value in
+            let still : (q : ℕ) → q ≢ 13 → q ≢ 14 → i4.after q ≡ f q = λ q a b. i4.others q a ∙ i3.others q b ∙ i2.others q b in
+            let there : Distances i4.after = record { distance = λ i b. still (lane r i) (no-thirteen r i) (no-fourteen r i) ∙ ho i b; first = i4.value } in
+            scalar-before i2 (inr (inl refl)) (scalar-before i3 (inr (inl refl)) (scalar-last i4 (inl refl) there))
+
     based-reaches : (f : ℕ → ℕ) → Hold w m l group n f r (λ i. 4 * (y i * place.width + x i)) → f 10 ≡ w.hart → Reaches Distances (based place) f
     based-reaches f ho eh =
         let i1 = literal-sets w m l f 13 place.start (omega arith) (omega arith) is.start in
-        let i2 = literal-sets w m l i1.after 14 place.distance (omega arith) (omega arith) is.distance in
-        let i3 = alu-sets w m l alus.Mul i2.after 14 14 10 place.distance w.hart (omega arith) (omega arith) (omega arith) (omega arith) i2.value
-        (i2.others 10 (λ q. omega (arith, q)) ∙ i1.others 10 (λ q. omega (arith, q)) ∙ eh) in
-        let i4 = alu-sets w m l alus.Add i3.after 13 13 14 place.start (lanes.multiply 32 place.distance w.hart) (omega arith) (omega arith) (omega arith) (omega arith)
-        (i3.others 13 (λ q. omega (arith, q)) ∙ i2.others 13 (λ q. omega (arith, q)) ∙ i1.value) i3.value in
-        let still : (q : ℕ) → q ≢ 13 → q ≢ 14 → i4.after q ≡ f q = λ q a b. i4.others q a ∙ i3.others q b ∙ i2.others q b ∙ i1.others q a in
-        let there : Distances i4.after = record { distance = λ i b. still (lane r i) (no-thirteen r i) (no-fourteen r i) ∙ ho i b; first = i4.value } in
-        scalar-before i1 (inl refl) (scalar-before i2 (inr (inl refl)) (scalar-before i3 (inr (inl refl)) (scalar-last i4 (inl refl) there)))
+        scalar-before i1 (inl refl) (copy-reaches i1.after (λ i b. i1.others (lane r i) (no-thirteen r i) ∙ ho i b) i1.value (i1.others 10 (ten-13 10 refl) ∙ eh))
 
     word-offsets-reach : (f : ℕ → ℕ) → Lanes w m l group n f → Numbers place x y is f → f 10 ≡ w.hart → Reaches Distances (word_offsets place r) f
     word-offsets-reach f has hn eh =

@@ -186,11 +186,15 @@ row_load pixels.Bytes r u = Vector (v.LoadElements Bits8 u bottom addressings.Un
 abbrev pub dense : Place → ℕ → ℕ → List Insn
 dense place r u = addressed place bottom (bottom + 1) ++ row_load place.pixels r u
 
+-- from the first copy's address to that of the hart's own, where harts have copies
+abbrev pub own_copy : ℕ → List Insn
+own_copy distance =
+    if distance == 0 then []
+    else literal second_scratch distance ++ (Alu alus.Mul second_scratch second_scratch 10 ∷ Alu alus.Add scratch scratch second_scratch ∷ [])
+
 -- the address of a buffer's first pixel, of the hart's own copy
 abbrev pub based : Place → List Insn
-based place =
-    literal scratch place.start
-    ++ (literal second_scratch place.distance ++ (Alu alus.Mul second_scratch second_scratch 10 ∷ Alu alus.Add scratch scratch second_scratch ∷ []))
+based place = literal scratch place.start ++ own_copy place.distance
 
 -- In a buffer of words, lanes that number pixels become how many bytes these lie behind the first one, whose address is in scratch.
 abbrev pub word_offsets : Place → ℕ → List Insn

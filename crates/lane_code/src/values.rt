@@ -385,13 +385,24 @@ fn emit_dense(code: &mut Vec<u32>, place: &Place, r: u8, u: u8) -> Result<(), Al
     Ok(())
 }
 
+/// Appends what goes on in x13 from the first copy's address to that of the hart's own.
+fn emit_own_copy(code: &mut Vec<u32>, distance: u32) -> Result<(), AllocError>
+    ensures { OnOk result (Emits code.old.items code.new.items (spec.own_copy distance)) }
+{
+    if distance == 0 {
+        return Ok(());
+    }
+    emit_literal(code, 14, distance)?;
+    alu(code, AluOp::Mul, 14, 14, 10)?;
+    alu(code, AluOp::Add, 13, 13, 14)?;
+    Ok(())
+}
+
 fn emit_based(code: &mut Vec<u32>, place: &Place) -> Result<(), AllocError>
     ensures { OnOk result (Emits code.old.items code.new.items (spec.based place.now)) }
 {
     emit_literal(code, 13, place.start)?;
-    emit_literal(code, 14, place.distance)?;
-    alu(code, AluOp::Mul, 14, 14, 10)?;
-    alu(code, AluOp::Add, 13, 13, 14)?;
+    emit_own_copy(code, place.distance)?;
     Ok(())
 }
 

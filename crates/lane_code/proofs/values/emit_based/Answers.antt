@@ -2,4 +2,4 @@ use Rattle.scalar_code.proofs.Spelling.{emits_then}
 use Rattle.lane_code.proofs.values.emit_based.Goals as goal
 
 pub returns : goal.returns
-returns c = emits_then c.in_ok-emit_literal.ensures (emits_then c.in_ok-emit_literal-2.ensures (emits_then c.in_ok-alu.ensures c.in_ok-alu-2.ensures))
+returns c = emits_then c.in_ok-emit_literal.ensures c.in_ok-emit_own_copy.ensures
