@@ -31,8 +31,8 @@ use Rattle.lane_code.specs.declared.goings.Going.{Going}
 use Rattle.lane_code.specs.Groups.{registers, slot, spare}
 use Rattle.lane_code.specs.Lanes.{Laned, laned_at, in_one_row, is_reached, gathered, picked, lanes_operation, lanes_selection, lanes_quotient, lanes_remainder}
 use Rattle.lane_code.specs.Leaving.{GoAlong, HasLanes, IsKept}
-use Rattle.lane_code.specs.DeepLanes.{DeepLaned, deep_or, deep_laned_at, deep_laned, has_frame_slot, are_above, second_fits, second_code, deep_rows_fit, deep_rows_code, others_fit, others_code, triple_fits, triple_code, spill_lanes, unspill_lanes, copied_lanes}
-use Rattle.lane_code.specs.DeepLeaving.{LeavesMemory, LeavesDeepLanes, LeavesTriple, DeepLanesLeave, TriplesLeave}
+use Rattle.lane_code.specs.DeepLanes.{DeepLaned, deep_or, deep_laned_at, deep_laned, has_frame_slot, are_above, second_fits, second_code, deep_rows_fit, deep_rows_code, others_fit, others_code, pair_fits, pair_code, triple_fits, triple_code, spill_lanes, unspill_lanes, copied_lanes}
+use Rattle.lane_code.specs.DeepLeaving.{LeavesMemory, LeavesDeepLanes, LeavesPair, LeavesTriple, DeepLanesLeave, PairsLeave, TriplesLeave}
 use Rattle.lane_code.proofs.DeepParts.{is-deep}
 use Rattle.lane_code.proofs.Evaluation as shallow
 use Rattle.lane_code.proofs.LanedParts.{own-is}
@@ -372,6 +372,17 @@ module _ (own : Setting) (good : IsSetting own) (group : Group) (scope : List Co
         value = r.value;
       }
 
+  two-go : (a b : DeepLaned) (sa sb : shallow.Family) → Follows a sa → Follows b sb → a.own.own.is_word ≡ true → b.own.own.is_word ≡ true → Passes sa → Passes sb
+      → (j : ℕ) (f : ℕ → ℕ) (memory : List ℕ) → pair_fits own.places a b j ≡ true → HoldsFuncs own memory funcs → Known f → Has f
+      → Two (pair_code group own.places a b j) j f memory (λ i. (sa i).value) (λ i. (sb i).value)
+  two-go a b sa sb fa fb ia ib pa pb j f memory fits holds knows has =
+      let t = and_parts (a.fits j) (second_fits own.places b j) fits in
+      let x = fa.goes ia pa j f memory t.0 holds knows has in
+      let d = x.does in
+      let y = second-does b sb fb ib pb j d.after d.left (λ i. (sa i).value) t.1 d.holds (known f d.after memory holds.size knows d.keeps) (has-lanes f d.after memory holds.size has d.keeps) x.value
+      (all-of a.own sa fa.stack ia pa d.left d.holds).small in
+      record { does = waiting.does-then own good group scope (at 0) funcs n d y.does; first = y.first; second = y.second }
+
   three-go : (c a b : DeepLaned) (sc sa sb : shallow.Family) → Follows c sc → Follows a sa → Follows b sb → c.own.own.is_word ≡ true → a.own.own.is_word ≡ true → b.own.own.is_word ≡ true → Passes sc → Passes sa → Passes sb
       → (j : ℕ) (f : ℕ → ℕ) (memory : List ℕ) → triple_fits own.places c a b j ≡ true → HoldsFuncs own memory funcs → Known f → Has f
       → Three (triple_code group own.places c a b j) j f memory (λ i. (sc i).value) (λ i. (sa i).value) (λ i. (sb i).value)
@@ -531,9 +542,22 @@ module _ (own : Setting) (good : IsSetting own) (group : Group) (scope : List Co
       (is-word c ic) (is-word a ia) (is-word b ib) (passes-of c mc) (passes-of a ma) (passes-of b mb) j f memory fits holds knows has in
       record { does = t.does; first = λ i l. t.first i l ∙ value-of c i; second = λ i l. t.second i l ∙ value-of a i; third = λ i l. t.third i l ∙ value-of b i }
 
+  pub pair-leaves : (a b : Expr) (j : ℕ) → pair_fits own.places (deep_laned group own.places scope goings a) (deep_laned group own.places scope goings b) j ≡ true
+      → (made own.places scope a).is_word ≡ true → (made own.places scope b).is_word ≡ true
+      → ((i : ℕ) → i < n → list_all own.loaded (loads reads (at i) a) ≡ true) → ((i : ℕ) → i < n → list_all own.loaded (loads reads (at i) b) ≡ true)
+      → (f : ℕ → ℕ) (memory : List ℕ) → HoldsFuncs own memory funcs → Known f → Has f
+      → LeavesPair own group n (pair_code group own.places (deep_laned group own.places scope goings a) (deep_laned group own.places scope goings b) j) j f memory funcs (λ i. value reads (at i) a) (λ i. value reads (at i) b)
+  pair-leaves a b j fits ia ib ma mb f memory holds knows has =
+      let t = two-go (deep_laned group own.places scope goings a) (deep_laned group own.places scope goings b) (seen-of a) (seen-of b) (follows a) (follows b) (is-word a ia) (is-word b ib) (passes-of a ma) (passes-of b mb) j f memory fits holds
+      knows has in
+      record { does = t.does; first = λ i l. t.first i l ∙ value-of a i; second = λ i l. t.second i l ∙ value-of b i }
+
 pub deep-lanes-leave : DeepLanesLeave
 deep-lanes-leave own good group scope goings at n some go funcs e j fits is may f memory holds knows has = deep-leaves own good group scope goings at n some go funcs e j fits is may f memory holds knows has
 
 pub triples-leave : TriplesLeave
 triples-leave own good group scope goings at n some go funcs c a b j fits ic ia ib mc ma mb f memory holds knows has =
     triple-leaves own good group scope goings at n some go funcs c a b j fits ic ia ib mc ma mb f memory holds knows has
+
+pub pairs-leave : PairsLeave
+pairs-leave own good group scope goings at n some go funcs a b j fits ia ib ma mb f memory holds knows has = pair-leaves own good group scope goings at n some go funcs a b j fits ia ib ma mb f memory holds knows has

@@ -93,6 +93,13 @@ triple_fits places c a b n = c.fits n && others_fit places a b n
 abbrev pub triple_code : Group → Places → DeepLaned → DeepLaned → DeepLaned → ℕ → List Insn
 triple_code group places c a b n = c.code n ++ others_code group places a b n
 
+-- and those of two in the first two
+abbrev pub pair_fits : Places → DeepLaned → DeepLaned → ℕ → Bool
+pair_fits places a b n = a.fits n && second_fits places b n
+
+abbrev pub pair_code : Group → Places → DeepLaned → DeepLaned → ℕ → List Insn
+pair_code group places a b n = a.code n ++ second_code group places b n
+
 abbrev pub deep_leaf : Laned → DeepLaned
 deep_leaf own = deep_or own (λ n. false) (λ n. [])
 

@@ -18,7 +18,7 @@ use Rattle.lane_code.specs.declared.groups.Group.{Group}
 use Rattle.lane_code.specs.declared.goings.Going.{Going}
 use Rattle.lane_code.specs.Groups.{slot}
 use Rattle.lane_code.specs.Leaving.{GoAlong, HasLanes, IsKept}
-use Rattle.lane_code.specs.DeepLanes.{deep_laned, triple_fits, triple_code}
+use Rattle.lane_code.specs.DeepLanes.{deep_laned, pair_fits, pair_code, triple_fits, triple_code}
 
 -- It keeps what code with its value in the first slot keeps, what buffers hold, and all bytes but those of the frame from a slot on.
 pub record LeavesMemory (own : Setting) (group : Group) (insns : List Insn) (n : ℕ) (f : ℕ → ℕ) (memory : List ℕ) (funcs : Planes) : Type 0 where
@@ -41,6 +41,12 @@ pub record LeavesTriple (own : Setting) (group : Group) (rounds : ℕ) (insns : 
   pub first : (round : ℕ) → round < rounds → does.after (lane (slot group 0) round) ≡ v round
   pub second : (round : ℕ) → round < rounds → does.after (lane (slot group 1) round) ≡ x round
   pub third : (round : ℕ) → round < rounds → does.after (lane (slot group 2) round) ≡ y round
+
+-- and these in the first two
+pub record LeavesPair (own : Setting) (group : Group) (rounds : ℕ) (insns : List Insn) (n : ℕ) (f : ℕ → ℕ) (memory : List ℕ) (funcs : Planes) (v x : ℕ → ℕ) : Type 0 where
+  pub does : LeavesMemory own group insns n f memory funcs
+  pub first : (round : ℕ) → round < rounds → does.after (lane (slot group 0) round) ≡ v round
+  pub second : (round : ℕ) → round < rounds → does.after (lane (slot group 1) round) ≡ x round
 
 -- what an expression loads in each round may be loaded
 abbrev pub MayLoadInRounds : Setting → (ℕ → Values) → ℕ → Planes → Expr → Type 0
@@ -65,3 +71,14 @@ TriplesLeave = (own : Setting) → IsSetting own → (group : Group) (scope : Li
     → LeavesTriple own group rounds
     (triple_code group own.places (deep_laned group own.places scope goings c) (deep_laned group own.places scope goings a) (deep_laned group own.places scope goings b) n) n f memory funcs
     (λ round. value (reads_of own.inputs funcs) (at round) c) (λ round. value (reads_of own.inputs funcs) (at round) a) (λ round. value (reads_of own.inputs funcs) (at round) b)
+
+-- And of two.
+abbrev pub PairsLeave : Type 0
+PairsLeave = (own : Setting) → IsSetting own → (group : Group) (scope : List Counter) (goings : List Going) (at : ℕ → Values) (rounds : ℕ)
+    → 1 ≤ rounds → GoAlong scope goings at rounds → (funcs : Planes) → (a b : Expr) (n : ℕ)
+    → pair_fits own.places (deep_laned group own.places scope goings a) (deep_laned group own.places scope goings b) n ≡ true
+    → (made own.places scope a).is_word ≡ true → (made own.places scope b).is_word ≡ true
+    → MayLoadInRounds own at rounds funcs a → MayLoadInRounds own at rounds funcs b
+    → (f : ℕ → ℕ) (memory : List ℕ) → HoldsFuncs own memory funcs → Knows own.world own.harts scope (at 0) f → HasLanes group rounds f
+    → LeavesPair own group rounds (pair_code group own.places (deep_laned group own.places scope goings a) (deep_laned group own.places scope goings b) n) n f memory funcs
+    (λ round. value (reads_of own.inputs funcs) (at round) a) (λ round. value (reads_of own.inputs funcs) (at round) b)

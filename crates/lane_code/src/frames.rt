@@ -221,7 +221,7 @@ pub fn emit_deep_lanes(
 
 /// Appends what leaves the values of a second operand in the slot above the first, which keeps its own.
 #[cycle(deeply)]
-fn emit_second(
+pub fn emit_second(
     code: &mut Vec<u32>,
     group: Group,
     places: &Places,

@@ -1,6 +1,6 @@
 //! Laws of code, each the contract of a function that does nothing.
 
-ghost use Rattle.lane_code.specs.DeepLeaving.{DeepLanesLeave, TriplesLeave};
+ghost use Rattle.lane_code.specs.DeepLeaving.{DeepLanesLeave, PairsLeave, TriplesLeave};
 ghost use Rattle.lane_code.specs.Leaving.{LanesLeave};
 
 /// The code of an expression over lanes leaves its value in each round, wherever it stands, where scalar registers hold what counters
@@ -17,4 +17,9 @@ pub fn deep_lanes_are_left()
 /// And code of three expressions at once.
 pub fn triples_are_left()
     ensures { TriplesLeave }
+{}
+
+/// And code of two.
+pub fn pairs_are_left()
+    ensures { PairsLeave }
 {}

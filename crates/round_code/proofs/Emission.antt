@@ -1,6 +1,6 @@
 -- Words of parts of a loop whose rounds are done at once, put together, and what can't be done.
 use Rattle.std.proofs.Common.{◌≡◌, ℕ, ◌-◌, ◌*◌, ◌^◌, ◌<◌, ◌≤◌, List, [], ◌∷◌, ◌++◌, length, Bool, true, false, ap, ◌∙◌, sym, subst, arith}
-use Rattle.std.specs.Prelude.{◌≢◌, ◌==◌, ◌&&◌, nat_le, nat_lt, if◌then◌else◌, Option, Some}
+use Rattle.std.specs.Prelude.{◌≢◌, ◌==◌, ◌&&◌, nat_le, nat_lt, Option, Some}
 use Rattle.std.proofs.lemmas.Bool.{and_from, and_parts, true≢false}
 use Rattle.std.proofs.lemmas.Bool.Decides.{nat_tests}
 use Rattle.rv_insn.specs.declared.instructions.Insn.{Insn}
@@ -27,17 +27,17 @@ use Rattle.lane_code.specs.declared.groups.Group.{Group}
 use Rattle.lane_code.specs.declared.goings.Cut.{Cut}
 use Rattle.lane_code.specs.declared.goings.Going.{Going}
 use Rattle.lane_code.specs.declared.goings.Going.TheVariants as goes
-use Rattle.lane_code.specs.DeepEmitting.{EmitsDeepLanes, EmitsOtherLanes, FitOtherLanes, FitsDeepLanes}
-use Rattle.lane_code.specs.DeepLanes.{DeepLaned, deep_laned, others_fit, triple_fits}
+use Rattle.lane_code.specs.DeepEmitting.{EmitsDeepLanes, EmitsOtherLanes, EmitsSecondLanes, FitOtherLanes, FitsDeepLanes, FitsSecondLanes}
+use Rattle.lane_code.specs.DeepLanes.{DeepLaned, deep_laned, others_fit, pair_fits, second_fits, triple_fits}
 use Rattle.lane_code.specs.Groups.{registers, slot, vtype_of}
-use Rattle.lane_code.specs.Lanes.{offsets}
+use Rattle.lane_code.specs.Lanes.{offsets, row_offsets}
 use Rattle.lane_code.specs.Straying.{room_code}
 use Rattle.lane_code.proofs.Emission.{fits-stack}
 use Rattle.lane_code.proofs.LanedParts.{own-is}
 use Rattle.round_code.specs.Emitting.{EmitsRounds, FitsRounds}
-use Rattle.round_code.specs.Rounds.{Rounded, rounded, is_row, row_fits, row_code, scattered_fits, scattered_code, store_fits, pixels_code, going_taken, rounds_below, lesser, even_left, divided_up, below_cap, below_cut, left_over, is_still, inside, bind_fits, bound_code, rounds_code, rounds_fit}
+use Rattle.round_code.specs.Rounds.{Rounded, rounded, is_row, row_fits, row_code, has_one_row, one_row_fits, one_row_code, scattered_fits, scattered_code, store_fits, pixels_code, going_taken, rounds_below, lesser, even_left, divided_up, below_cap, below_cut, left_over, is_still, inside, bind_fits, bound_code, rounds_code, rounds_fit}
 use Rattle.round_code.proofs.RowCode.{row-parts}
-use Rattle.round_code.proofs.ScatteredCode.{scattered-parts}
+use Rattle.round_code.proofs.ScatteredCode.{one-row-parts, scattered-parts}
 use Rattle.round_code.proofs.Rounding.{rounded-store, rounded-sequence, rounded-for, rounded-bind, BindFits, bind-parts}
 
 is-short : (n k : ℕ) → n < k → nat_lt n k ≡ true
@@ -138,20 +138,37 @@ module _ (group : Group) (places : Places) (scope : List Counter) (goings : List
       let k = scattered-parts group places scope goings store is in
       record { fits = (and_parts (of_value.fits 0) (others_fit places of_x of_y 0) k.fits).1; first_is_word = k.x_word; second_is_word = k.y_word }
 
-  -- either of them
-  pub row-chosen : (c0 c1 : List ℕ) → is_row places scope goings store ≡ true → Emits c0 c1 (row_code group places scope goings store) × (row_fits group places scope goings store ≡ true)
-      → Emits c0 c1 (pixels_code group places scope goings store) × (store_fits group places scope goings store ≡ true)
-  row-chosen c0 c1 t x = (subst (λ b. Emits c0 c1 (if b then row_code group places scope goings store else scattered_code group places scope goings store)) (sym t) x.0, ap (λ b. if b then row_fits group places scope goings store else scattered_fits group places scope goings store) t ∙ x.1)
+  -- and such in one row
+  pub one-row-emitted : (place : Place) (r p s : ℕ) (c0 c1 c2 c3 c4 c5 c6 : List ℕ) → Emits c0 c1 (Vector (v.Vsetvli 0 15 (vtype_of group)) ∷ []) → EmitsDeepLanes c1 c2 of_value 0
+      → EmitsSecondLanes c2 c3 group places of_x 0 → EmitsValue c3 c4 (made places scope store.y) 20 → place ≡ place_of places (sources.Func store.func) → p ≡ slot group 1 → r ≡ slot group 0 → s ≡ slot group 1
+      → Emits c4 c5 (row_offsets place p) → Emits c5 c6 (Vector (v.StoreElements Bits32 r 13 (addressings.Indexed s) true) ∷ [])
+      → Emits c0 c6 (one_row_code group places scope goings store) × (one_row_fits group places scope goings store ≡ true)
+  one-row-emitted place r p s c0 c1 c2 c3 c4 c5 c6 first value columns row ep e1 e0 es reached last =
+      let own = place_of places (sources.Func store.func) in
+      let my = made places scope store.y in
+      let far : Emits c4 c5 (row_offsets own (slot group 1)) = subst (λ q. Emits c4 c5 (row_offsets q (slot group 1))) ep (subst (λ d. Emits c4 c5 (row_offsets place d)) e1 reached) in
+      let end : Emits c5 c6 (Vector (v.StoreElements Bits32 (slot group 0) 13 (addressings.Indexed (slot group 1)) true) ∷ []) =
+      subst (λ d. Emits c5 c6 (Vector (v.StoreElements Bits32 d 13 (addressings.Indexed (slot group 1)) true) ∷ [])) e0 (subst (λ d. Emits c5 c6 (Vector (v.StoreElements Bits32 r 13 (addressings.Indexed d) true) ∷ [])) es last) in (
+        emits_then first (emits_then (emits_then value.emits columns.emits) (emits_then row.emits (emits_then far end))),
+        and_from (pair_fits places of_value of_x 0) (of_value.own.own.is_word && (of_x.own.own.is_word && my.is_word)) (and_from (of_value.fits 0) (second_fits places of_x 0) value.can.fits columns.can.fits)
+            (and_from of_value.own.own.is_word (of_x.own.own.is_word && my.is_word) value.can.is_word (and_from of_x.own.own.is_word my.is_word columns.can.is_word row.is_word)),
+      )
 
-  pub scattered-chosen : (c0 c1 : List ℕ) → is_row places scope goings store ≡ false → Emits c0 c1 (scattered_code group places scope goings store) × (scattered_fits group places scope goings store ≡ true)
-      → Emits c0 c1 (pixels_code group places scope goings store) × (store_fits group places scope goings store ≡ true)
-  scattered-chosen c0 c1 t x = (subst (λ b. Emits c0 c1 (if b then row_code group places scope goings store else scattered_code group places scope goings store)) (sym t) x.0, ap (λ b. if b then row_fits group places scope goings store else scattered_fits group places scope goings store) t ∙ x.1)
+  pub one-row-value : has_one_row places scope goings store ≡ true → one_row_fits group places scope goings store ≡ true → FitsDeepLanes of_value 0
+  one-row-value row is =
+      let k = one-row-parts group places scope goings store row is in
+      record { fits = (and_parts (of_value.fits 0) (second_fits places of_x 0) k.fits).0; is_word = k.value_word }
 
-  pub row-asked : is_row places scope goings store ≡ true → store_fits group places scope goings store ≡ true → row_fits group places scope goings store ≡ true
-  row-asked t is = sym (ap (λ b. if b then row_fits group places scope goings store else scattered_fits group places scope goings store) t) ∙ is
+  pub one-row-columns : has_one_row places scope goings store ≡ true → one_row_fits group places scope goings store ≡ true → FitsSecondLanes places of_x 0
+  one-row-columns row is =
+      let k = one-row-parts group places scope goings store row is in
+      record { fits = (and_parts (of_value.fits 0) (second_fits places of_x 0) k.fits).1; is_word = k.x_word }
 
-  pub scattered-asked : is_row places scope goings store ≡ false → store_fits group places scope goings store ≡ true → scattered_fits group places scope goings store ≡ true
-  scattered-asked t is = sym (ap (λ b. if b then row_fits group places scope goings store else scattered_fits group places scope goings store) t) ∙ is
+  pub one-row-row : has_one_row places scope goings store ≡ true → one_row_fits group places scope goings store ≡ true → FitsStack store.y 20
+  one-row-row row is =
+      let k = one-row-parts group places scope goings store row is in
+      let o = own-is group places scope goings store.y in
+      fits-stack group places scope goings store.y 20 12 (omega arith) (ap (λ m. nat_le m.need 12) o ∙ k.few_y) (ap (λ m. m.is_word) o ∙ k.y_word)
 
 -- ---- statements
 

@@ -16,3 +16,4 @@ pub mod Storing
 pub mod Moving
 pub mod Counting
 pub mod CutParking
+pub mod Valued

@@ -2,8 +2,7 @@
 use Rattle.std.proofs.Common.{◌≡◌, ℕ, ◌+◌, ◌*◌, ◌%◌, ◌^◌, ◌<◌, ◌≤◌, List, [], ◌∷◌, ◌++◌, length, true, refl, ap, ◌∙◌, sym, subst, arith, inl, inr}
 use Rattle.std.specs.Prelude.{◌≢◌, nat_le, min, pos, Option, Some, None}
 use Rattle.std.specs.List.{list_all, AllByRecursion}
-use Rattle.std.proofs.lemmas.Bool.{and_parts, and_from, true≢false}
-use Rattle.std.proofs.lemmas.Bool.Decides.{nat_tests}
+use Rattle.std.proofs.lemmas.Bool.{and_parts, true≢false}
 use Rattle.std.proofs.lemmas.List.Folds.{list_all-append}
 use Rattle.rv_insn.specs.declared.instructions.Insn.{Insn}
 use Rattle.rv_insn.specs.declared.instructions.Insn.TheVariants.{Vector}
@@ -33,19 +32,17 @@ use Rattle.lone_hart.proofs.Configurations.{configure-by, configured-lanes}
 use Rattle.lone_hart.proofs.LaneStores.{stores, stores-write}
 use Rattle.scalar_code.specs.declared.places.Place.{Place}
 use Rattle.scalar_code.specs.declared.places.Places.{Places}
-use Rattle.scalar_code.specs.Code.{place_of, addressed, deep, on_stack, frame_words, made, move, expr_code, value_code}
+use Rattle.scalar_code.specs.Code.{place_of, addressed, made, move, expr_code}
 use Rattle.scalar_code.specs.Values.{Free}
 use Rattle.scalar_code.specs.Evaluation.{Knows, Loads}
-use Rattle.scalar_code.specs.Fitting.{has_room}
 use Rattle.scalar_code.specs.Layout.{func_point, address_of, IsOf}
 use Rattle.scalar_code.specs.Doing.{Setting, IsSetting, AreRun, HoldsFuncs}
-use Rattle.scalar_code.proofs.Deepening.{is-deep}
 use Rattle.scalar_code.proofs.Values.{imm-sets}
 use Rattle.scalar_code.proofs.Spilling.{all-loaded}
 use Rattle.scalar_code.proofs.Keeping.{Kept, kept-safe, knows-still}
 use Rattle.scalar_code.proofs.Reaching.{addressed-reaches}
 use Rattle.scalar_code.proofs.Going.{no_hits, Does, still, lines-then, went-hits, went-is}
-use Rattle.scalar_code.proofs.Placing.{evaluated, by-set}
+use Rattle.scalar_code.proofs.Placing.{by-set}
 use Rattle.lane_code.specs.declared.groups.Group.{Group}
 use Rattle.lane_code.specs.declared.goings.Going.{Going}
 use Rattle.lane_code.specs.declared.groups.Group.TheVariants as groups
@@ -62,6 +59,7 @@ use Rattle.lane_code.proofs.Rows.{lanes-kept}
 use Rattle.round_code.specs.Rounds.{is_row, row_code, row_fits}
 use Rattle.round_code.proofs.FrameCode.{framed-does, slot-at, word-is}
 use Rattle.round_code.proofs.Effects.{HitBy, effect_hits, laid, laid-same}
+use Rattle.round_code.proofs.Valued.{valued, high-free}
 use Rattle.round_code.proofs.Rows.{lanes-same, may, row-address, all-writable, row-holds, row-touched}
 
 -- ---- groups as they are configured
@@ -102,32 +100,14 @@ has-lanes group f n few =
 pub configured-others : (f : ℕ → ℕ) (n vtype q : ℕ) → q < 32 → configure f n vtype q ≡ f q
 configured-others f n vtype q low = update-other (update f 32 n) 33 vtype q (λ e. omega (arith, e, low)) ∙ update-other f 32 n q (λ e. omega (arith, e, low))
 
--- ---- values on the scalar stack
-
-up-to : (n : ℕ) → nat_le n 12 ≡ true → nat_le (n + 20) 32 ≡ true
-up-to n t = let l : n ≤ 12 = grind (arith, nat_tests) in let m : n + 20 ≤ 32 = omega (arith, l) in grind (arith, nat_tests, m)
-
-none-needed : (n most : ℕ) → n ≡ 0 → nat_le n most ≡ true
-none-needed n most e = let l : n ≤ most = omega (arith, e) in grind (arith, nat_tests, l)
-
-module _ (places : Places) (scope : List Counter) (e : Expr) (few : nat_le (made places scope e).need 12 ≡ true) (is : (made places scope e).is_word ≡ true) where
-  on-stack : on_stack (deep places scope e).own ≡ true
-  on-stack = let d = is-deep places scope e in ap on_stack d.own_is ∙ up-to (made places scope e).need few
-
-  has-room : has_room places (deep places scope e) ≡ true
-  has-room =
-      let d = is-deep places scope e in
-      and_from (deep places scope e).own.is_word (nat_le (deep places scope e).depth (frame_words places.frames)) (ap (λ m. m.is_word) d.own_is ∙ is) (none-needed (deep places scope e).depth (frame_words places.frames) (d.short.depth_is on-stack))
-
-  short-code : value_code places scope e ≡ expr_code places scope e 20
-  short-code = let d = is-deep places scope e in d.short.code_is on-stack 0 ∙ ap (λ m. m.code 20) d.own_is
+-- ---- rows
 
 stepping-is : (p : Pace) → is_stepping p ≡ true → p ≡ paces.Stepping
 stepping-is paces.Steady e = absurd (true≢false (sym e))
 stepping-is paces.Stepping e = refl
 stepping-is paces.Irregular e = absurd (true≢false (sym e))
 
-steady-is : (p : Pace) → is_steady p ≡ true → p ≡ paces.Steady
+pub steady-is : (p : Pace) → is_steady p ≡ true → p ≡ paces.Steady
 steady-is paces.Steady e = refl
 steady-is paces.Stepping e = absurd (true≢false (sym e))
 steady-is paces.Irregular e = absurd (true≢false (sym e))
@@ -206,38 +186,8 @@ module _ (own : Setting) (good : IsSetting own) (group : Group) (scope : List Co
   no-parked : (q : ℕ) → Kept depth q → q ≢ 15
   no-parked q kept e = let s = kept-safe depth q kept in let a = s.apart in omega (arith, e, a)
 
-  high-free : (q : ℕ) → 31 < q → Free 20 q
-  high-free q h = (inr (omega (arith, h)), inr (inr h))
-
   kept-low : (q : ℕ) → Kept depth q → q < 32
   kept-low q kept = let s = kept-safe depth q kept in let o = s.outside in omega (arith, o)
-
-  -- what code of a value on the scalar stack does
-  record Valued (e : Expr) (f : ℕ → ℕ) (memory : List ℕ) : Type 0 where
-    does : Does own (expr_code own.places scope e 20) (length (expr_code own.places scope e 20)) f memory depth funcs no_hits
-    value_is : does.after 20 ≡ value reads (at 0) e
-    stays : (q : ℕ) → Free 20 q → does.after q ≡ f q
-    small : value reads (at 0) e < 2 ^ 32
-
-  valued : (e : Expr) → nat_le (made own.places scope e).need 12 ≡ true → (made own.places scope e).is_word ≡ true → list_all own.loaded (loads reads (at 0) e) ≡ true
-      → (f : ℕ → ℕ) (memory : List ℕ) → HoldsFuncs own memory funcs → Knows w own.harts scope (at 0) f → Valued e f memory
-  valued e few is may f memory holds knows =
-      let a = evaluated own good scope (at 0) e f memory funcs (has-room own.places scope e few is) may holds knows in
-      let c = short-code own.places scope e few is in
-      record {
-        does = subst (λ code. Does own code (length code) f memory depth funcs no_hits) c a.does;
-        value_is = moved c a.does a.value_is;
-        stays = λ q free. still-there c a.does q (a.stays q free);
-        small = a.small;
-      }
-    where
-      moved : {code other : List Insn} {u : ℕ} (c : code ≡ other) (a : Does own code (length code) f memory depth funcs no_hits) → a.after 20 ≡ u
-          → (subst (λ code. Does own code (length code) f memory depth funcs no_hits) c a).after 20 ≡ u
-      moved refl a e = e
-
-      still-there : {code other : List Insn} (c : code ≡ other) (a : Does own code (length code) f memory depth funcs no_hits) (q : ℕ) → a.after q ≡ f q
-          → (subst (λ code. Does own code (length code) f memory depth funcs no_hits) c a).after q ≡ f q
-      still-there refl a q e = e
 
   -- ---- the rounds' values
 
@@ -352,7 +302,7 @@ module _ (own : Setting) (good : IsSetting own) (group : Group) (scope : List Co
       → Does own behind_group (length behind_group) f memory depth (laid own.points pixels_at n funcs) (effect_hits pixels_at n)
   behind-does few f memory holds knows has =
       let so = sounds 0 zero-below in
-      let a = valued store.x fit.few_x fit.word_x so.of_x f memory holds knows in
+      let a = valued own good scope (at 0) funcs store.x fit.few_x fit.word_x so.of_x f memory holds knows in
       let fa = a.does.after in
       let ka = knows-still w own.harts scope (at 0) f fa knows a.does.keeps in
       let la = lanes-stay f fa memory holds (λ q h. a.stays q (high-free q h)) has in
@@ -362,7 +312,7 @@ module _ (own : Setting) (good : IsSetting own) (group : Group) (scope : List Co
       let is-x : set.after 15 ≡ x 0 = set.value ∙ (let g : (x 0 + 0) % 2 ^ 32 ≡ x 0 = omega (arith, small-x) in g) in
       let kb = knows-still w own.harts scope (at 0) fa set.after ka moved.keeps in
       let lb = lanes-stay fa set.after memory holds (λ q h. set.others q (λ e. omega (arith, e, h))) la in
-      let c = valued store.y fit.few_y fit.word_y so.of_y set.after a.does.left a.does.holds kb in
+      let c = valued own good scope (at 0) funcs store.y fit.few_y fit.word_y so.of_y set.after a.does.left a.does.holds kb in
       let fc = c.does.after in
       let kc = knows-still w own.harts scope (at 0) set.after fc kb c.does.keeps in
       let lc = lanes-stay set.after fc memory holds (λ q h. c.stays q (high-free q h)) lb in

@@ -1,6 +1,6 @@
 -- The code of pixels that lie anywhere stores them.
 use Rattle.std.proofs.Common.{◌≡◌, ℕ, ◌+◌, ◌*◌, ◌^◌, ◌<◌, ◌≤◌, List, [], ◌∷◌, ◌++◌, length, true, refl, ap, ◌∙◌, sym, subst, arith, inl, inr}
-use Rattle.std.specs.Prelude.{◌&&◌, min, Option, Some, None}
+use Rattle.std.specs.Prelude.{◌&&◌, nat_le, min, Option, Some, None}
 use Rattle.std.specs.List.{list_all, AllByRecursion}
 use Rattle.std.proofs.lemmas.Bool.{and_parts}
 use Rattle.std.proofs.lemmas.List.Folds.{list_all-append}
@@ -30,7 +30,7 @@ use Rattle.lone_hart.proofs.Configurations.{configure-by}
 use Rattle.lone_hart.proofs.LaneStores.{stores, stores-write}
 use Rattle.scalar_code.specs.declared.places.Place.{Place}
 use Rattle.scalar_code.specs.declared.places.Places.{Places}
-use Rattle.scalar_code.specs.Code.{place_of}
+use Rattle.scalar_code.specs.Code.{place_of, made, expr_code}
 use Rattle.scalar_code.specs.Evaluation.{Knows, Loads}
 use Rattle.scalar_code.specs.Layout.{func_point, address_of, IsOf}
 use Rattle.scalar_code.specs.Doing.{Setting, IsSetting, AreRun, HoldsFuncs}
@@ -40,18 +40,20 @@ use Rattle.scalar_code.proofs.Going.{no_hits, Does, still, lines-then, went-hits
 use Rattle.lane_code.specs.declared.groups.Group.{Group}
 use Rattle.lane_code.specs.declared.goings.Going.{Going}
 use Rattle.lane_code.specs.Groups.{registers, slot, vtype_of}
-use Rattle.lane_code.specs.DeepLanes.{deep_laned, triple_fits}
-use Rattle.lane_code.specs.Lanes.{offsets}
+use Rattle.lane_code.specs.DeepLanes.{deep_laned, pair_fits, triple_fits}
+use Rattle.lane_code.specs.Lanes.{is_steady, pace_of, offsets, row_offsets}
 use Rattle.lane_code.specs.Leaving.{GoAlong, HasLanes, IsKept}
-use Rattle.lane_code.proofs.DeepEvaluation.{triples-leave}
+use Rattle.lane_code.proofs.DeepEvaluation.{pairs-leave, triples-leave}
 use Rattle.lane_code.proofs.Evaluation.{values-go}
-use Rattle.lane_code.proofs.Offsets.{offsets-reach, offset-address}
+use Rattle.lane_code.proofs.Offsets.{Distances, Reaches, offsets-reach, row-offsets-reach, offset-address}
+use Rattle.lane_code.proofs.Pacing.{Holds}
 use Rattle.lane_code.proofs.Slots.{SlotLies}
 use Rattle.lane_code.proofs.Rows.{lanes-kept, few-rounds, slot-still}
-use Rattle.round_code.specs.Rounds.{scattered_code, scattered_fits}
+use Rattle.round_code.specs.Rounds.{has_one_row, one_row_code, one_row_fits, scattered_code, scattered_fits}
 use Rattle.round_code.proofs.FrameCode.{framed-does, kept-in, slot-at, word-is}
 use Rattle.round_code.proofs.Effects.{HitBy, effect_hits, laid, laid-same}
-use Rattle.round_code.proofs.RowCode.{supported, most, few-lanes, has-lanes, configured-others}
+use Rattle.round_code.proofs.RowCode.{supported, most, few-lanes, has-lanes, configured-others, steady-is}
+use Rattle.round_code.proofs.Valued.{valued, high-free}
 use Rattle.round_code.proofs.Rows.{lanes-same, spot-is, low-spot, all-writable, row-holds, row-touched}
 
 abbrev of_some : Effect → Option Effect → Effect
@@ -75,9 +77,30 @@ scattered-parts group places scope goings store is =
     let c = and_parts dx.own.own.is_word dy.own.own.is_word b.1 in
     record { fits = a.0; value_word = b.0; x_word = c.0; y_word = c.1 }
 
+-- and of one in whose rounds the row stays
+pub record OneRowFits (group : Group) (places : Places) (scope : List Counter) (goings : List Going) (store : Store) : Type 0 where
+  pub steady : is_steady (pace_of scope goings store.y) ≡ true
+  pub few_y : nat_le (made places scope store.y).need 12 ≡ true
+  pub fits : pair_fits places (deep_laned group places scope goings store.value) (deep_laned group places scope goings store.x) 0 ≡ true
+  pub value_word : (deep_laned group places scope goings store.value).own.own.is_word ≡ true
+  pub x_word : (deep_laned group places scope goings store.x).own.own.is_word ≡ true
+  pub y_word : (made places scope store.y).is_word ≡ true
+
+pub one-row-parts : (group : Group) (places : Places) (scope : List Counter) (goings : List Going) (store : Store) → has_one_row places scope goings store ≡ true → one_row_fits group places scope goings store ≡ true
+    → OneRowFits group places scope goings store
+one-row-parts group places scope goings store row is =
+    let dv = deep_laned group places scope goings store.value in
+    let dx = deep_laned group places scope goings store.x in
+    let my = made places scope store.y in
+    let r = and_parts (is_steady (pace_of scope goings store.y)) (nat_le my.need 12) row in
+    let a = and_parts (pair_fits places dv dx 0) (dv.own.own.is_word && (dx.own.own.is_word && my.is_word)) is in
+    let b = and_parts dv.own.own.is_word (dx.own.own.is_word && my.is_word) a.1 in
+    let c = and_parts dx.own.own.is_word my.is_word b.1 in
+    record { steady = r.0; few_y = r.1; fits = a.0; value_word = b.0; x_word = c.0; y_word = c.1 }
+
 module _ (own : Setting) (good : IsSetting own) (group : Group) (scope : List Counter) (goings : List Going) (at : ℕ → Values) (n : ℕ)
     (some : 1 ≤ n) (go : GoAlong scope goings at n) (store : Store) (funcs : Planes)
-    (sound : (k : ℕ) → k < n → is_sound_store (reads_of own.inputs funcs) own.written own.loaded store (at k) ≡ true) (fit : ScatteredFits group own.places scope goings store)
+    (sound : (k : ℕ) → k < n → is_sound_store (reads_of own.inputs funcs) own.written own.loaded store (at k) ≡ true) (word : (deep_laned group own.places scope goings store.value).own.own.is_word ≡ true)
     (are_run : own.in_runs store.func ≡ true → AreRun own n store.func (λ k. value (reads_of own.inputs funcs) (at k) store.x) (λ k. value (reads_of own.inputs funcs) (at k) store.y)) where
   abbrev w : World
   w = own.world
@@ -141,7 +164,7 @@ module _ (own : Setting) (good : IsSetting own) (group : Group) (scope : List Co
     small : (k : ℕ) → k < n → pixel k < 2 ^ 32
     small =
         let go' = values-go w own.harts memory group own.places scope goings at reads n holds.size good.are_places some go store.value
-        (word-is group own.places scope goings store.value fit.value_word) (loaded store.value (λ k b. (sounds k b).of_value) memory holds) in
+        (word-is group own.places scope goings store.value word) (loaded store.value (λ k b. (sounds k b).of_value) memory holds) in
         go'.small
 
     module _ (few : n ≤ 16) where
@@ -188,28 +211,77 @@ module _ (own : Setting) (good : IsSetting own) (group : Group) (scope : List Co
                 (subst (λ k. is_in byte (touched (accesses_to Word k spots)) ≡ true) (sym count) (hit-one func i j byte hit of));
           }
 
-      abbrev offsets_code : List Insn
-      offsets_code = offsets place (slot group 1) (slot group 2)
+      abbrev low : (k : ℕ) → k < n → place.start + place.distance * w.hart + 4 * (y k * place.width + x k) < 2 ^ 32
+      low = low-spot own good store.func n few x y pixel can small
 
-      -- behind values, columns and rows
-      tail-does : (f : ℕ → ℕ) → Knows w own.harts scope (at 0) f → HasLanes group n f → ((k : ℕ) → k < n → f (lane (slot group 0) k) ≡ pixel k) → ((k : ℕ) → k < n → f (lane (slot group 1) k) ≡ x k)
-          → ((k : ℕ) → k < n → f (lane (slot group 2) k) ≡ y k) → Does own (offsets_code ++ last_code) (length (offsets_code ++ last_code)) f memory depth (laid own.points pixels_at n funcs) (effect_hits pixels_at n)
-      tail-does f knows has is-pixel is-x is-y =
-          let lies0 = slot-at group 0 (omega arith) in
-          let lies1 = slot-at group 1 (omega arith) in
-          let lies2 = slot-at group 2 (omega arith) in
+      lies0 : SlotLies group 0
+      lies0 = slot-at group 0 (omega arith)
+
+      lies1 : SlotLies group 1
+      lies1 = slot-at group 1 (omega arith)
+
+      lies2 : SlotLies group 2
+      lies2 = slot-at group 2 (omega arith)
+
+      -- in the second slot stand the pixels' distances from the address in scratch
+      abbrev Far : (ℕ → ℕ) → Type 0
+      Far f = Distances w memory holds.size group n 1 lies1 place x y low (good.are_places (sources.Func store.func)) f
+
+      -- behind code that makes them
+      far-does : {is : List Insn} {f : ℕ → ℕ} → HasLanes group n f → ((k : ℕ) → k < n → f (lane (slot group 0) k) ≡ pixel k) → Reaches w memory holds.size group n 1 lies1 Far is f
+          → Does own (is ++ last_code) (length (is ++ last_code)) f memory depth (laid own.points pixels_at n funcs) (effect_hits pixels_at n)
+      far-does {is} {f} has is-pixel d =
           let room = lanes-few has in
           let above1 : slot group 0 + registers group ≤ slot group 1 = (let e = lies0.next in omega (arith, e)) in
-          let above2 : slot group 1 + registers group ≤ slot group 2 = (let e = lies1.next in omega (arith, e)) in
-          let d = offsets-reach w memory holds.size group n 1 lies1 place x y (low-spot own good store.func n few x y pixel can small) (good.are_places (sources.Func store.func)) (slot group 2) f lies2.is_group above2 has is-x is-y knows.number in
           let fd = d.after in
-          let dd = quiet offsets_code 1 f fd d.keeps (λ at s. d.line at s) in
-          let ld = has-still 1 f fd d.keeps has in
           let places : (k : ℕ) → k < n → lanes.add 32 (fd 13) (fd (lane (slot group 1) k)) ≡ spots k =
-          λ k b. offset-address w memory holds.size group n 1 lies1 place x y (low-spot own good store.func n few x y pixel can small) (good.are_places (sources.Func store.func)) fd d.holds k b ∙ sym (spot-is own good store.func n few x y pixel can small k b) in
+          λ k b. offset-address w memory holds.size group n 1 lies1 place x y low (good.are_places (sources.Func store.func)) fd d.holds k b ∙ sym (spot-is own good store.func n few x y pixel can small k b) in
           let values : (k : ℕ) → k < n → fd (lane (slot group 0) k) ≡ pixel k =
           λ k b. d.keeps (lane (slot group 0) k) (slot-still w memory holds.size group n 0 1 lies0 k b room above1) ∙ is-pixel k b in
-          lines-then own dd (stored-does lies0 lies1 fd ld places values)
+          lines-then own (quiet is 1 f fd d.keeps (λ at s. d.line at s)) (stored-does lies0 lies1 fd (has-still 1 f fd d.keeps has) places values)
+
+      -- behind values, columns and rows
+      abbrev tail_code : List Insn
+      tail_code = offsets place (slot group 1) (slot group 2) ++ last_code
+
+      tail-does : (f : ℕ → ℕ) → Knows w own.harts scope (at 0) f → HasLanes group n f → ((k : ℕ) → k < n → f (lane (slot group 0) k) ≡ pixel k) → ((k : ℕ) → k < n → f (lane (slot group 1) k) ≡ x k)
+          → ((k : ℕ) → k < n → f (lane (slot group 2) k) ≡ y k) → Does own tail_code (length tail_code) f memory depth (laid own.points pixels_at n funcs) (effect_hits pixels_at n)
+      tail-does f knows has is-pixel is-x is-y =
+          let above2 : slot group 1 + registers group ≤ slot group 2 = (let e = lies1.next in omega (arith, e)) in
+          far-does has is-pixel
+          (offsets-reach w memory holds.size group n 1 lies1 place x y low (good.are_places (sources.Func store.func)) (slot group 2) f lies2.is_group above2 has is-x is-y knows.number)
+
+      -- behind values, columns and the row
+      row-tail-does : (f : ℕ → ℕ) → Knows w own.harts scope (at 0) f → HasLanes group n f → ((k : ℕ) → k < n → f (lane (slot group 0) k) ≡ pixel k) → ((k : ℕ) → k < n → f (lane (slot group 1) k) ≡ x k)
+          → f 20 ≡ y 0 → ((k : ℕ) → k < n → y k ≡ y 0)
+          → Does own (row_offsets place (slot group 1) ++ last_code) (length (row_offsets place (slot group 1) ++ last_code)) f memory depth (laid own.points pixels_at n funcs) (effect_hits pixels_at n)
+      row-tail-does f knows has is-pixel is-x is-y steady =
+          far-does has is-pixel (row-offsets-reach w memory holds.size group n 1 lies1 place x y low (good.are_places (sources.Func store.func)) f has is-x is-y steady knows.number)
+
+  -- where the row stays
+  steady-y : OneRowFits group own.places scope goings store → (memory : List ℕ) → HoldsFuncs own memory funcs → (k : ℕ) → k < n → y k ≡ y 0
+  steady-y fit memory holds =
+      let go' = values-go w own.harts memory group own.places scope goings at reads n holds.size good.are_places some go store.y fit.y_word (loaded store.y (λ k b. (sounds k b).of_y) memory holds) in
+      subst (λ p. Holds p n y) (steady-is (pace_of scope goings store.y) fit.steady) go'.paced
+
+  abbrev last : List Insn
+  last = Vector (v.StoreElements Bits32 (slot group 0) 13 (addressings.Indexed (slot group 1)) true) ∷ []
+
+  abbrev row_code : List Insn
+  row_code = expr_code own.places scope store.y 20 ++ (row_offsets place (slot group 1) ++ last)
+
+  row-does : OneRowFits group own.places scope goings store → n ≤ 16 → (f : ℕ → ℕ) (memory : List ℕ) → HoldsFuncs own memory funcs → Knows w own.harts scope (at 0) f → HasLanes group n f
+      → ((k : ℕ) → k < n → f (lane (slot group 0) k) ≡ pixel k) → ((k : ℕ) → k < n → f (lane (slot group 1) k) ≡ x k)
+      → Does own row_code (length row_code) f memory depth (laid own.points (λ k. Some (record { func = store.func; x = x k; y = y k; pixel = pixel k })) n funcs)
+      (effect_hits (λ k. Some (record { func = store.func; x = x k; y = y k; pixel = pixel k })) n)
+  row-does fit few f memory holds knows has is-pixel is-x =
+      let c = valued own good scope (at 0) funcs store.y fit.few_y fit.y_word (sounds 0 some).of_y f memory holds knows in
+      let fc = c.does.after in
+      let high : (q : ℕ) → 31 < q → fc q ≡ f q = λ q h. c.stays q (high-free q h) in
+      let hc = lanes-kept w memory holds.size group n f fc (high vl_number (omega arith)) (high vtype_number (omega arith)) has in
+      lines-then own c.does
+      (row-tail-does c.does.left c.does.holds few fc (knows-still w own.harts scope (at 0) f fc knows c.does.keeps) hc
+      (λ k b. high (lane (slot group 0) k) (omega arith) ∙ is-pixel k b) (λ k b. high (lane (slot group 1) k) (omega arith) ∙ is-x k b) c.value_is (steady-y fit memory holds))
 
   -- ---- the whole
 
@@ -225,9 +297,11 @@ module _ (own : Setting) (good : IsSetting own) (group : Group) (scope : List Co
   hit-store : (func i j : ℕ) → HitBy of_store n func i j → HitBy own_pixels n func i j
   hit-store func i j hit = record { round = hit.round; below = hit.below; stored = hit.stored; is = of-store hit.round ∙ hit.is; func_is = hit.func_is; x_is = hit.x_is; y_is = hit.y_is }
 
-  pub scattered-does : (f : ℕ → ℕ) (memory : List ℕ) (holds : HoldsFuncs own memory funcs) → Knows w own.harts scope (at 0) f → min (f 15) (4 * registers group) ≡ n
-      → Does own (scattered_code group own.places scope goings store) (length (scattered_code group own.places scope goings store)) f memory depth (laid own.points of_store n funcs) (effect_hits of_store n)
-  scattered-does f memory holds knows count =
+  -- what is made behind the configuration of lanes
+  begun : (code : List Insn) (f : ℕ → ℕ) (memory : List ℕ) → HoldsFuncs own memory funcs → Knows w own.harts scope (at 0) f → min (f 15) (4 * registers group) ≡ n
+      → (n ≤ 16 → (f1 : ℕ → ℕ) → Knows w own.harts scope (at 0) f1 → HasLanes group n f1 → Does own code (length code) f1 memory depth (laid own.points own_pixels n funcs) (effect_hits own_pixels n))
+      → Does own (Vector (v.Vsetvli 0 15 (vtype_of group)) ∷ code) (length (Vector (v.Vsetvli 0 15 (vtype_of group)) ∷ code)) f memory depth (laid own.points of_store n funcs) (effect_hits of_store n)
+  begun code f memory holds knows count rest =
       let m = most group in
       let room = few-lanes group in
       let n' = min (f 15) (most_elements (vtype_of group)) in
@@ -238,11 +312,23 @@ module _ (own : Setting) (good : IsSetting own) (group : Group) (scope : List Co
       let first : Does own (Vector (v.Vsetvli 0 15 (vtype_of group)) ∷ []) 1 f memory depth funcs no_hits = still own (λ at. at) _ _ f1 holds (λ q kept. same q (kept-low q kept))
       (λ at s. configure-by w f memory holds.size 15 (vtype_of group) (omega arith) (omega arith) (supported group) at s) in
       let knows1 = knows-still w own.harts scope (at 0) f f1 knows first.keeps in
+      went-hits own hit-store (went-is own refl (laid-same own.points own_pixels of_store n (λ k b. of-store k) funcs) (lines-then own first (rest (omega (arith, count, room)) f1 knows1 has)))
+
+  pub scattered-does : ScatteredFits group own.places scope goings store → (f : ℕ → ℕ) (memory : List ℕ) (holds : HoldsFuncs own memory funcs) → Knows w own.harts scope (at 0) f → min (f 15) (4 * registers group) ≡ n
+      → Does own (scattered_code group own.places scope goings store) (length (scattered_code group own.places scope goings store)) f memory depth (laid own.points of_store n funcs) (effect_hits of_store n)
+  scattered-does fit f memory holds knows count = begun _ f memory holds knows count (λ few f1 knows1 has.
       let a = triples-leave own good group scope goings at n some go funcs store.value store.x store.y 0 fit.fits (word-is group own.places scope goings store.value fit.value_word)
       (word-is group own.places scope goings store.x fit.x_word) (word-is group own.places scope goings store.y fit.y_word)
       (λ k b. (sounds k b).of_value) (λ k b. (sounds k b).of_x) (λ k b. (sounds k b).of_y) f1 memory holds knows1 has in
       let d = a.does in
       let knows2 = knows-still w own.harts scope (at 0) f1 d.after knows1 (λ q kept. d.keeps q (kept-in group depth 0 q kept)) in
-      let has2 = has-still memory holds 0 f1 d.after d.keeps has in
-      let rest = lines-then own (framed-does own group depth funcs d) (tail-does d.left d.holds (omega (arith, count, room)) d.after knows2 has2 a.first a.second a.third) in
-      went-hits own hit-store (went-is own refl (laid-same own.points own_pixels of_store n (λ k b. of-store k) funcs) (lines-then own first rest))
+      lines-then own (framed-does own group depth funcs d) (tail-does d.left d.holds few d.after knows2 (has-still memory holds 0 f1 d.after d.keeps has) a.first a.second a.third))
+
+  pub one-row-does : OneRowFits group own.places scope goings store → (f : ℕ → ℕ) (memory : List ℕ) (holds : HoldsFuncs own memory funcs) → Knows w own.harts scope (at 0) f → min (f 15) (4 * registers group) ≡ n
+      → Does own (one_row_code group own.places scope goings store) (length (one_row_code group own.places scope goings store)) f memory depth (laid own.points of_store n funcs) (effect_hits of_store n)
+  one-row-does fit f memory holds knows count = begun _ f memory holds knows count (λ few f1 knows1 has.
+      let a = pairs-leave own good group scope goings at n some go funcs store.value store.x 0 fit.fits (word-is group own.places scope goings store.value fit.value_word)
+      (word-is group own.places scope goings store.x fit.x_word) (λ k b. (sounds k b).of_value) (λ k b. (sounds k b).of_x) f1 memory holds knows1 has in
+      let d = a.does in
+      let knows2 = knows-still w own.harts scope (at 0) f1 d.after knows1 (λ q kept. d.keeps q (kept-in group depth 0 q kept)) in
+      lines-then own (framed-does own group depth funcs d) (row-does fit few d.after d.left d.holds knows2 (has-still memory holds 0 f1 d.after d.keeps has) a.first a.second))

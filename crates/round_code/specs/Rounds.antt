@@ -29,8 +29,8 @@ use Rattle.lane_code.specs.declared.goings.Cut.{Cut}
 use Rattle.lane_code.specs.declared.goings.Going.{Going}
 use Rattle.lane_code.specs.declared.goings.Going.TheVariants as goes
 use Rattle.lane_code.specs.Goings.{going_of, is_rate, is_small, all_spare}
-use Rattle.lane_code.specs.DeepLanes.{deep_laned, triple_fits, triple_code}
-use Rattle.lane_code.specs.Lanes.{is_stepping, is_steady, pace_of, offsets}
+use Rattle.lane_code.specs.DeepLanes.{deep_laned, pair_fits, pair_code, triple_fits, triple_code}
+use Rattle.lane_code.specs.Lanes.{is_stepping, is_steady, pace_of, offsets, row_offsets}
 use Rattle.lane_code.specs.Straying.{room_code}
 
 -- ---- a row of pixels
@@ -55,6 +55,27 @@ row_code group places scope goings store =
     ++ (addressed (place_of places (sources.Func store.func)) parked bottom
     ++ ((deep_laned group places scope goings store.value).code 0 ++ (Vector (v.StoreElements Bits32 (slot group 0) parked addressings.UnitStride true) ∷ []))))))
 
+-- ---- pixels of one row
+
+-- All rounds have one row, and the scalar stack has room for it.
+abbrev pub has_one_row : Places → List Counter → List Going → Store → Bool
+has_one_row places scope goings store = is_steady (pace_of scope goings store.y) && nat_le (made places scope store.y).need 12
+
+-- There is room for the values, and above them for columns.
+abbrev pub one_row_fits : Group → Places → List Counter → List Going → Store → Bool
+one_row_fits group places scope goings store =
+    pair_fits places (deep_laned group places scope goings store.value) (deep_laned group places scope goings store.x) 0
+    && ((deep_laned group places scope goings store.value).own.own.is_word
+    && ((deep_laned group places scope goings store.x).own.own.is_word && (made places scope store.y).is_word))
+
+-- lanes are configured, values and columns are made and then the row, and each pixel is stored at its distance from the buffer's first
+abbrev pub one_row_code : Group → Places → List Counter → List Going → Store → List Insn
+one_row_code group places scope goings store =
+    Vector (v.Vsetvli 0 parked (vtype_of group))
+    ∷ (pair_code group places (deep_laned group places scope goings store.value) (deep_laned group places scope goings store.x) 0
+    ++ (expr_code places scope store.y bottom ++ (row_offsets (place_of places (sources.Func store.func)) (slot group 1)
+    ++ (Vector (v.StoreElements Bits32 (slot group 0) scratch (addressings.Indexed (slot group 1)) true) ∷ []))))
+
 -- ---- pixels that lie anywhere
 
 -- There is room for the values, and above them for columns, and above these for rows.
@@ -76,11 +97,13 @@ scattered_code group places scope goings store =
 
 abbrev pub store_fits : Group → Places → List Counter → List Going → Store → Bool
 store_fits group places scope goings store =
-    if is_row places scope goings store then row_fits group places scope goings store else scattered_fits group places scope goings store
+    if is_row places scope goings store then row_fits group places scope goings store
+    else (if has_one_row places scope goings store then one_row_fits group places scope goings store else scattered_fits group places scope goings store)
 
 abbrev pub pixels_code : Group → Places → List Counter → List Going → Store → List Insn
 pixels_code group places scope goings store =
-    if is_row places scope goings store then row_code group places scope goings store else scattered_code group places scope goings store
+    if is_row places scope goings store then row_code group places scope goings store
+    else (if has_one_row places scope goings store then one_row_code group places scope goings store else scattered_code group places scope goings store)
 
 -- ---- the value of a split loop
 

@@ -9,10 +9,10 @@ ghost use Rattle.round_code.specs.Emitting.{EmitsRounds, FitsRounds};
 ghost use Rattle.round_code.specs.Rounds as spec;
 
 use halide_pipeline::Source;
-use lane_code::frames::{emit_deep_lanes, emit_others};
+use lane_code::frames::{emit_deep_lanes, emit_others, emit_second};
 use lane_code::goings::{Cut, Going, all_spare, emit_room, going_of, is_rate, is_small};
 use lane_code::groups::Group;
-use lane_code::values::{emit_offsets, is_steady, is_stepping, pace_of};
+use lane_code::values::{emit_offsets, emit_row_offsets, is_steady, is_stepping, pace_of};
 use lane_code::vectors::{configure, store_at, store_row};
 use loop_ir::expressions::{Counter, same_counter};
 use loop_ir::statements::{Stmt, Store, Whole};
@@ -59,6 +59,35 @@ fn emit_row(
     Ok(())
 }
 
+/// Whether all rounds have one row, and the scalar stack has room for it.
+fn has_one_row(scope: &[Counter], goings: &[Going], store: &Store) -> bool
+    ensures { (places : AllPlaces) → result ≡ spec.has_one_row places scope.now goings.now store.now }
+{
+    is_steady(pace_of(scope, goings, &store.y)) && need(&store.y) <= 12
+}
+
+/// Appends what stores pixels that lie anywhere in one row, as many as rounds are left.
+fn emit_one_row(
+    code: &mut Vec<u32>,
+    group: Group,
+    places: &Places,
+    scope: &[Counter],
+    goings: &[Going],
+    store: &Store,
+) -> Result<(), CodeFault>
+    ensures ok { OnOk result (Emits code.old.items code.new.items (spec.one_row_code group places.now scope.now goings.now store.now) × (spec.one_row_fits group places.now scope.now goings.now store.now ≡ true)) }
+    ensures err { IfErr result (IsFault ⊥ (spec.has_one_row places.now scope.now goings.now store.now ≡ true → spec.one_row_fits group places.now scope.now goings.now store.now ≡ true → ⊥)) }
+{
+    configure(code, group, 15)?;
+    emit_deep_lanes(code, group, places, scope, goings, &store.value, 0)?;
+    emit_second(code, group, places, scope, goings, &store.x, 0)?;
+    emit_value(code, places, scope, &store.y, 20)?;
+    let place = place_of(places, Source::Func(store.func));
+    emit_row_offsets(code, &place, group.slot(1))?;
+    store_at(code, group.slot(0), 13, group.slot(1))?;
+    Ok(())
+}
+
 /// Appends what stores pixels that lie anywhere, as many as rounds are left.
 fn emit_scattered(
     code: &mut Vec<u32>,
@@ -94,6 +123,8 @@ fn emit_pixels(
 {
     if is_row(scope, goings, store) {
         emit_row(code, group, places, scope, goings, store)?;
+    } else if has_one_row(scope, goings, store) {
+        emit_one_row(code, group, places, scope, goings, store)?;
     } else {
         emit_scattered(code, group, places, scope, goings, store)?;
     }
