@@ -1,3 +1,4 @@
+pub mod Brevity
 pub mod DeepEmission
 pub mod DeepEvaluation
 pub mod DeepParts

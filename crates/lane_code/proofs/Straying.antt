@@ -1,6 +1,6 @@
 -- Lanes of sums some of whose counters are cut off.
 use Rattle.std.proofs.Common.{◌≡◌, ℕ, zero, suc, ◌+◌, ◌-◌, ◌*◌, ◌%◌, ◌^◌, ◌<◌, ◌≤◌, List, [], ◌∷◌, ◌++◌, length, Bool, true, false, ap, ◌∙◌, refl, sym, arith, inl, inr}
-use Rattle.std.specs.Prelude.{◌≢◌, ◌⊎◌, ◌&&◌, if◌then◌else◌, min, nat_lt, Option, Some, None}
+use Rattle.std.specs.Prelude.{◌≢◌, ◌⊎◌, ◌==◌, ◌&&◌, if◌then◌else◌, min, nat_lt, Option, Some, None}
 use Rattle.std.proofs.lemmas.Bool.{and_parts}
 use Rattle.std.proofs.lemmas.Bool.Decides.{nat_tests}
 use Rattle.std.proofs.lemmas.Nat.{mul-le}
@@ -12,6 +12,7 @@ use Rattle.rv_insn.specs.declared.vector_instructions.VectorInsn.TheVariants as 
 use Rattle.rv_insn.specs.declared.vector_operations.ArithmeticVvOp.TheVariants as vvs
 use Rattle.rv_insn.specs.declared.vector_operations.ArithmeticVxOp.TheVariants as vxs
 use Rattle.rv_insn.specs.declared.vector_operations.MultiplyOp.TheVariants as multiplies
+use Rattle.rv_insn.specs.declared.vector_operations.ShiftViOp.TheVariants as shifts
 use Rattle.lanes.specs.Words as lanes
 use Rattle.halide_pipeline.specs.Words as word
 use Rattle.loop_ir.specs.declared.expressions.Counter.{Counter}
@@ -21,9 +22,9 @@ use Rattle.lone_hart.specs.Alone.{World}
 use Rattle.lone_hart.specs.Paths.{Line, lane, vl_number, vtype_number}
 use Rattle.lone_hart.proofs.Paths.{stay, line-then}
 use Rattle.lone_hart.proofs.VectorRows as rows
-use Rattle.scalar_code.specs.Code.{seat_in, literal, are_words}
+use Rattle.scalar_code.specs.Code.{seat_in, are_words}
 use Rattle.scalar_code.proofs.Seats.{is-seat-in}
-use Rattle.scalar_code.proofs.Values.{Sets, alu-sets, literal-sets}
+use Rattle.scalar_code.proofs.Values.{Sets, alu-sets}
 use Rattle.lane_code.specs.declared.groups.Group.{Group}
 use Rattle.lane_code.specs.declared.goings.Cut.{Cut}
 use Rattle.lane_code.specs.declared.goings.Going.{Going}
@@ -31,9 +32,10 @@ use Rattle.lane_code.specs.declared.goings.Going.TheVariants as goes
 use Rattle.lane_code.specs.Goings.{going_of, even_stride, room, capped, cut_off, gone, can_go, is_rate, is_small}
 use Rattle.lane_code.specs.Groups.{registers, slot, spare}
 use Rattle.lane_code.specs.Leaving.{IsKept}
-use Rattle.lane_code.specs.Straying.{room_code, counted, capped_lanes, cut_lanes, added, strays, strayed}
+use Rattle.lane_code.specs.Straying.{brief, brief_sum, places_of, multiplied, room_code, counted, capped_lanes, cut_lanes, added, strays, strayed}
+use Rattle.lane_code.proofs.Brevity.{same-number, places-few, places-are, brief-sets, brief-sum-sets}
 use Rattle.lane_code.proofs.Slots.{SlotLies, spare-is, is-below}
-use Rattle.lane_code.proofs.Rows.{Writes, Lanes, Leaves, writes, writes-lanes, lanes-kept, few-rounds, last, spare-first, scalar-first, slot-kept, kept-more}
+use Rattle.lane_code.proofs.Rows.{Writes, Lanes, Leaves, writes, lanes-kept, few-rounds, last, slot-kept, kept-more}
 use Rattle.lane_code.proofs.Operations.{Hold, arithmetic-writes}
 
 -- ---- numbers
@@ -89,6 +91,21 @@ is-slow stride factor t =
     by-some zero b l = let z : 0 * b ≡ 0 = omega arith in absurd (omega (arith, l, z))
     by-some (suc a) b l = omega arith
 
+-- the limits of two cuts
+pub record Twofold (stride : ℕ) (first second : Cut) : Type 0 where
+  pub inner : IsSlow stride first.factor
+  pub outer : IsSlow (stride * first.factor) second.factor
+  pub small_first : is_small first.last ≡ true
+  pub small_second : is_small second.last ≡ true
+
+pub twofold : (stride : ℕ) (first second : Cut) → can_go (goes.Twice stride first second) ≡ true → Twofold stride first second
+twofold stride first second can =
+    let t = and_parts (nat_lt (stride * first.factor) (2 ^ 24) && is_small first.last) (is_rate (stride * first.factor * second.factor) && is_small second.last) can in
+    let a = and_parts (nat_lt (stride * first.factor) (2 ^ 24)) (is_small first.last) t.0 in
+    let b = and_parts (is_rate (stride * first.factor * second.factor)) (is_small second.last) t.1 in
+    let outer = is-slow (stride * first.factor) second.factor b.0 in
+    record { inner = is-slow stride first.factor (rate-of (stride * first.factor) outer.some outer.few); outer = outer; small_first = a.1; small_second = b.1 }
+
 pub times-few : (i p : ℕ) → i < 16 → p < 2 ^ 24 → i * p < 2 ^ 28
 times-few i p few slow = let m = mul-le i p 15 16777215 (omega (arith, few)) (omega (arith, slow)) in omega (arith, m)
 
@@ -128,6 +145,12 @@ added-is x d c = let p = d * c in omega arith
 
 nothing-added : (x c : ℕ) → x % 2 ^ 32 ≡ (x + 0 * c) % 2 ^ 32
 nothing-added x c = let z : 0 * c ≡ 0 = omega arith in omega (arith, z)
+
+multiplied-once : (d c : ℕ) → c ≡ 1 → d < 2 ^ 32 → d ≡ lanes.multiply 32 d c
+multiplied-once d c e small = let p : d * c ≡ d = ap (λ z. d * z) e ∙ (let o : d * 1 ≡ d = omega arith in o) in omega (arith, p, small)
+
+shifted-is : (d c k : ℕ) → k < 5 → c ≡ 2 ^ k → lanes.shift_left 32 d k ≡ lanes.multiply 32 d c
+shifted-is d c k few e = let same : k % 32 ≡ k = omega (arith, few) in ap (λ z. (d * 2 ^ z) % 2 ^ 32) same ∙ ap (λ z. (d * z) % 2 ^ 32) (sym e)
 
 added-twice : (x p q : ℕ) → (x + p + q) % 2 ^ 32 ≡ (x + (p + q)) % 2 ^ 32
 added-twice x p q = omega arith
@@ -208,33 +231,45 @@ module _ (w : World) (m : List ℕ) (l : length m ≡ w.size) (group : Group) (n
       (rows.multiply-vx w f m l g has.configured multiplies.Vmul u u 13 (spare-is group) (spare-is group) (omega arith))
       (λ i b. ap (λ z. lanes.multiply 32 z (f 13 % 2 ^ 32)) (holds i b) ∙ ap (lanes.multiply 32 (d i)) (same-word (f 13) c e13 small))
 
+  -- the same in few words
+  multiplied-spares : (c : ℕ) → c < 2 ^ 32 → (f : ℕ → ℕ) → Lanes w m l group n f → (d : ℕ → ℕ) → Hold w m l group n f u d → ((i : ℕ) → i < n → d i < 2 ^ 32)
+      → Spares (multiplied c u) f (λ i. lanes.multiply 32 (d i) c)
+  multiplied-spares c small f has d holds low = by-tests (c == 1) refl (places_of c == 0) refl
+    where
+      by-tests : (once : Bool) → (c == 1) ≡ once → (none : Bool) → (places_of c == 0) ≡ none
+          → Spares (if once then [] else (if none then brief 13 c ++ (Vector (v.MultiplyVx multiplies.Vmul u u 13 true) ∷ []) else Vector (v.ShiftVi shifts.Vsll u u (places_of c) true) ∷ [])) f (λ i. lanes.multiply 32 (d i) c)
+      by-tests true e none z = record { after = f; line = λ at s. stay w at f m; value = λ i lt. holds i lt ∙ multiplied-once (d i) c (same-number c 1 e) (low i lt); keeps = λ q kept. refl }
+      by-tests false e true z =
+          let a = brief-sets w m l f 13 c (omega arith) (omega arith) small in
+          scalar-then a (spares-last (few-rounds w m l group n f has) (times-writes c small a.after (has-13 a has) a.value d (hold-13 u a holds)))
+      by-tests false e false z =
+          let k = places_of c in
+          spares-last (few-rounds w m l group n f has)
+          (writes w m l group n (λ i. lanes.multiply 32 (d i) c) (λ i. lanes.shift_left 32 (f (lane u i)) k) has
+          (rows.shift-vi w f m l g has.configured shifts.Vsll u u k (spare-is group) (spare-is group))
+          (λ i lt. ap (λ y. lanes.shift_left 32 y k) (holds i lt) ∙ shifted-is (d i) c k (places-few c) (places-are c z)))
+
   counted-spares : (s : ℕ) → s < 2 ^ 24 → n ≤ 16 → (f : ℕ → ℕ) → Lanes w m l group n f → Spares (counted s u) f (λ i. i * s)
   counted-spares s few most f has =
-      let room = few-rounds w m l group n f has in
       let one : Spares (Vector (v.ElementNumbers u true) ∷ []) f (λ i. i) =
-      spares-last room (writes w m l group n (λ i. i) (λ i. i) has (rows.lane-numbers w f m l g has.configured u (spare-is group)) (λ i b. refl)) in
-      let has1 = still K f one.after one.keeps has in
-      let b = literal-sets w m l one.after 13 s (omega arith) (omega arith) (omega (arith, few)) in
-      let two = spares-last room (times-writes s (omega (arith, few)) b.after (has-13 b has1) b.value (λ i. i) (hold-13 u b one.value)) in
-      let three : Spares (counted s u) f (λ i. lanes.multiply 32 i s) = spares-then one (scalar-then b two) in
+      spares-last (few-rounds w m l group n f has) (writes w m l group n (λ i. i) (λ i. i) has (rows.lane-numbers w f m l g has.configured u (spare-is group)) (λ i b. refl)) in
+      let two = multiplied-spares s (omega (arith, few)) one.after (still K f one.after one.keeps has) (λ i. i) one.value (λ i lt. omega (arith, lt, most)) in
+      let three : Spares (counted s u) f (λ i. lanes.multiply 32 i s) = spares-then one two in
       record { after = three.after; line = three.line; value = λ i lt. three.value i lt ∙ product-is i s (let p = times-few i s (omega (arith, lt, most)) few in omega (arith, p)); keeps = three.keeps }
 
   -- the room of a shift, in scratch
   room-sets : (last : ℕ) (inner own : Counter) → last < 2 ^ 32 → (f : ℕ → ℕ) → Seats f → Sets w m l (room_code scope last inner own 13) f 13 (room last inner own values)
   room-sets last inner own small f seats =
-      let a = literal-sets w m l f 13 last (omega arith) (omega arith) small in
       let si = is-seat-in scope inner in
       let so = is-seat-in scope own in
-      let b = alu-sets w m l alus.Add a.after 13 13 (seat_in scope inner) last (values inner) (omega arith) (omega arith) (omega arith) (let q = si.low in omega (arith, q)) a.value
-      (a.others (seat_in scope inner) (apart (seat_in scope inner) si.apart) ∙ seats inner) in
+      let b = brief-sum-sets w m l f 13 (seat_in scope inner) last (values inner) (omega arith) (omega arith) (let q = si.low in omega (arith, q)) (apart (seat_in scope inner) si.apart) (seats inner) small in
       let c = alu-sets w m l alus.Sub b.after 13 13 (seat_in scope own) (lanes.add 32 last (values inner)) (values own) (omega arith) (omega arith) (omega arith) (let q = so.low in omega (arith, q)) b.value
-      (b.others (seat_in scope own) (apart (seat_in scope own) so.apart) ∙ a.others (seat_in scope own) (apart (seat_in scope own) so.apart) ∙ seats own) in
+      (b.others (seat_in scope own) (apart (seat_in scope own) so.apart) ∙ seats own) in
       record {
         after = c.after;
-        line = line-then w (literal 13 last) (Alu alus.Add 13 13 (seat_in scope inner) ∷ Alu alus.Sub 13 13 (seat_in scope own) ∷ []) f a.after c.after m m m a.line
-            (line-then w (Alu alus.Add 13 13 (seat_in scope inner) ∷ []) (Alu alus.Sub 13 13 (seat_in scope own) ∷ []) a.after b.after c.after m m m b.line c.line);
+        line = line-then w (brief_sum 13 (seat_in scope inner) last) (Alu alus.Sub 13 13 (seat_in scope own) ∷ []) f b.after c.after m m m b.line c.line;
         value = c.value ∙ room-is last (values inner) (values own);
-        others = λ q x. c.others q x ∙ b.others q x ∙ a.others q x;
+        others = λ q x. c.others q x ∙ b.others q x;
       }
     where
       apart : (q : ℕ) → (q < 13) ⊎ (15 < q) → q ≢ 13
@@ -254,33 +289,31 @@ module _ (w : World) (m : List ℕ) (l : length m ≡ w.size) (group : Group) (n
       (λ i lt. ap (λ z. lanes.min_unsigned 32 z (a.after 13 % 2 ^ 32)) (hold-13 u a holds i lt) ∙ ap (lanes.min_unsigned 32 (d i)) (same-word (a.after 13) q a.value (room-small most inner own values)) ∙ lesser-is (d i) q) in
       scalar-then a (spares-last (few-rounds w m l group n f has) b)
 
-  cut-spares : (cut : Cut) → cut.factor < 2 ^ 24 → is_small cut.last ≡ true → (f : ℕ → ℕ) → Lanes w m l group n f → Seats f → (d : ℕ → ℕ) → Hold w m l group n f u d → ((i : ℕ) → i < n → d i * cut.factor < 2 ^ 28)
-      → Spares (cut_lanes scope cut u) f (λ i. cut_off cut values (d i))
-  cut-spares cut few is f has seats d holds slow =
-      let a = literal-sets w m l f 13 cut.factor (omega arith) (omega arith) (omega (arith, few)) in
-      let has1 = has-13 a has in
-      let b = times-writes cut.factor (omega (arith, few)) a.after has1 a.value d (hold-13 u a holds) in
-      let one : Spares (Vector (v.MultiplyVx multiplies.Vmul u u 13 true) ∷ []) a.after (λ i. lanes.multiply 32 (d i) cut.factor) = spares-last (few-rounds w m l group n f has) b in
-      let product : Hold w m l group n one.after u (λ i. d i * cut.factor) = λ i lt. one.value i lt ∙ product-is (d i) cut.factor (let p = slow i lt in omega (arith, p)) in
-      let seats1 : Seats one.after = seats-still K a.after one.after one.keeps (seats-still K f a.after (λ q kept. a.others q (not-13 q kept)) seats) in
-      let c = capped-spares cut.last cut.inner cut.own is one.after (still K a.after one.after one.keeps has1) seats1 (λ i. d i * cut.factor) product in
-      scalar-then a (spares-then one c)
+  -- at most so far in each round
+  abbrev Far : (ℕ → ℕ) → ℕ → Type 0
+  Far d s = (i : ℕ) → i < n → d i ≤ i * s
 
-  -- what is added in the end
-  added-leaves : (c : ℕ) → c < 2 ^ 32 → (f : ℕ → ℕ) → Lanes w m l group n f → (x d : ℕ → ℕ) → Hold w m l group n f r (λ i. x i % 2 ^ 32) → Hold w m l group n f u d
-      → Leaves w m l group n (added c r u) f k (λ i. (x i + d i * c) % 2 ^ 32)
-  added-leaves c small f has x d hx hd =
-      let few = few-rounds w m l group n f has in
-      let low = lies.low in
-      let a = literal-sets w m l f 13 c (omega arith) (omega arith) small in
-      let has1 = has-13 a has in
-      let b = times-writes c small a.after has1 a.value d (hold-13 u a hd) in
-      let has2 = writes-lanes w m l group n b has1 in
-      let hx2 : Hold w m l group n b.after r (λ i. x i % 2 ^ 32) = λ i lt. b.above (lane r i) (omega (arith, low, few)) ∙ hold-13 r a hx i lt in
-      let e = arithmetic-writes w m l group n b.after has2 vvs.Vadd r r u (λ i. x i % 2 ^ 32) (λ i. lanes.multiply 32 (d i) c) lies.is_group lies.is_group (spare-is group) hx2 b.value in
-      let end : Writes w m l group n (Vector (v.ArithmeticVv vvs.Vadd r r u true) ∷ []) b.after r (λ i. (x i + d i * c) % 2 ^ 32) =
-      record { after = e.after; line = e.line; value = λ i lt. e.value i lt ∙ added-is (x i) (d i) c; below = e.below; above = e.above } in
-      scalar-first w m l group n k lies a (inl refl) (spare-first w m l group n k lies b few (last w m l group n k lies end))
+  cut-far : (cut : Cut) (d : ℕ → ℕ) (s : ℕ) → Far d s → Far (λ i. cut_off cut values (d i)) (s * cut.factor)
+  cut-far cut d s far i lt =
+      let p = capped-less cut.last cut.inner cut.own values (d i * cut.factor) in
+      let q = mul-le-mul_right cut.factor (far i lt) in
+      let e = together i s cut.factor in
+      omega (arith, p, q, e)
+
+  far-low : (d : ℕ → ℕ) (s : ℕ) → Far d s → s < 2 ^ 24 → n ≤ 16 → (i : ℕ) → i < n → d i < 2 ^ 28
+  far-low d s far few most i lt = let p = times-few i s (omega (arith, lt, most)) few in let q = far i lt in omega (arith, p, q)
+
+  cut-spares : (cut : Cut) (s : ℕ) → IsSlow s cut.factor → is_small cut.last ≡ true → n ≤ 16 → (f : ℕ → ℕ) → Lanes w m l group n f → Seats f → (d : ℕ → ℕ) → Hold w m l group n f u d → Far d s
+      → Spares (cut_lanes scope cut u) f (λ i. cut_off cut values (d i))
+  cut-spares cut s slow is most f has seats d holds far =
+      let few = slow.few_factor in
+      let low = far-low d s far slow.few most in
+      let a = multiplied-spares cut.factor (omega (arith, few)) f has d holds (λ i lt. let p = low i lt in omega (arith, p)) in
+      let product : Hold w m l group n a.after u (λ i. d i * cut.factor) =
+      λ i lt. a.value i lt ∙ product-is (d i) cut.factor
+      (let q = mul-le-mul_right cut.factor (far i lt) in let e = together i s cut.factor in let p = times-few i (s * cut.factor) (omega (arith, lt, most)) slow.slow in omega (arith, p, q, e)) in
+      let c = capped-spares cut.last cut.inner cut.own is a.after (still K f a.after a.keeps has) (seats-still K f a.after a.keeps seats) (λ i. d i * cut.factor) product in
+      spares-then a c
 
   spares-first : {is js : List Insn} {f : ℕ → ℕ} {d x : ℕ → ℕ} → (a : Spares is f d) → Leaves w m l group n js a.after k x → Leaves w m l group n (is ++ js) f k x
   spares-first {is} {js} {f} a b = record {
@@ -293,44 +326,50 @@ module _ (w : World) (m : List ℕ) (l : length m ≡ w.size) (group : Group) (n
   holds-still : {is : List Insn} {f : ℕ → ℕ} {d x : ℕ → ℕ} → (a : Spares is f d) → Lanes w m l group n f → Hold w m l group n f r x → Hold w m l group n a.after r x
   holds-still {is} {f} a has hx i lt = a.keeps (lane r i) (slot-kept w m l group n k lies i lt (few-rounds w m l group n f has)) ∙ hx i lt
 
+  -- what is added in the end
+  added-leaves : (c : ℕ) → c < 2 ^ 32 → (f : ℕ → ℕ) → Lanes w m l group n f → (x d : ℕ → ℕ) → Hold w m l group n f r (λ i. x i % 2 ^ 32) → Hold w m l group n f u d → ((i : ℕ) → i < n → d i < 2 ^ 28)
+      → Leaves w m l group n (added c r u) f k (λ i. (x i + d i * c) % 2 ^ 32)
+  added-leaves c small f has x d hx hd low =
+      let a = multiplied-spares c small f has d hd (λ i lt. let p = low i lt in omega (arith, p)) in
+      let e = arithmetic-writes w m l group n a.after (still K f a.after a.keeps has) vvs.Vadd r r u (λ i. x i % 2 ^ 32) (λ i. lanes.multiply 32 (d i) c) lies.is_group lies.is_group (spare-is group) (holds-still a has hx) a.value in
+      let end : Writes w m l group n (Vector (v.ArithmeticVv vvs.Vadd r r u true) ∷ []) a.after r (λ i. (x i + d i * c) % 2 ^ 32) =
+      record { after = e.after; line = e.line; value = λ i lt. e.value i lt ∙ added-is (x i) (d i) c; below = e.below; above = e.above } in
+      spares-first a (last w m l group n k lies end)
+
+  even-far : (s : ℕ) → Far (λ i. i * s) s
+  even-far s i lt = omega arith
+
   strays-leave : (going : Going) (c : ℕ) → can_go going ≡ true → c < 2 ^ 32 → n ≤ 16 → (f : ℕ → ℕ) → Lanes w m l group n f → Seats f → (x : ℕ → ℕ) → Hold w m l group n f r (λ i. x i % 2 ^ 32)
       → Leaves w m l group n (strays scope going c r u) f k (λ i. (x i + away going values i * c) % 2 ^ 32)
   strays-leave (goes.Even stride limit) c can small most f has seats x hx = record { after = f; line = λ at s. stay w at f m; value = λ i lt. hx i lt ∙ nothing-added (x i) c; keeps = λ q kept. refl }
   strays-leave (goes.Once stride limit cut) c can small most f has seats x hx =
       let t = and_parts (is_rate (stride * cut.factor)) (is_small cut.last) can in
       let slow = is-slow stride cut.factor t.0 in
+      let d0 = λ (i : ℕ). i * stride in
+      let d1 = λ (i : ℕ). cut_off cut values (d0 i) in
       let a = counted-spares stride slow.few most f has in
       let ha = still K f a.after a.keeps has in
-      let sa = seats-still K f a.after a.keeps seats in
-      let b = cut-spares cut slow.few_factor t.1 a.after ha sa (λ i. i * stride) a.value (λ i lt. once-slow stride cut.factor i slow.slow (omega (arith, lt, most))) in
+      let b = cut-spares cut stride slow t.1 most a.after ha (seats-still K f a.after a.keeps seats) d0 a.value (even-far stride) in
       let hb = still K a.after b.after b.keeps ha in
-      spares-first a (spares-first b (added-leaves c small b.after hb x (λ i. gone (goes.Once stride limit cut) values i) (holds-still b ha (holds-still a has hx)) b.value))
-    where
-      once-slow : (s h i : ℕ) → s * h < 2 ^ 24 → i < 16 → i * s * h < 2 ^ 28
-      once-slow s h i few b = let e = together i s h in let p = times-few i (s * h) b few in omega (arith, e, p)
+      let low = far-low d1 (stride * cut.factor) (cut-far cut d0 stride (even-far stride)) slow.slow most in
+      spares-first a (spares-first b (added-leaves c small b.after hb x d1 (holds-still b ha (holds-still a has hx)) b.value low))
   strays-leave (goes.Twice stride first second) c can small most f has seats x hx =
-      let t = and_parts (nat_lt (stride * first.factor) (2 ^ 24) && is_small first.last) (is_rate (stride * first.factor * second.factor) && is_small second.last) can in
-      let t0 = and_parts (nat_lt (stride * first.factor) (2 ^ 24)) (is_small first.last) t.0 in
-      let t1 = and_parts (is_rate (stride * first.factor * second.factor)) (is_small second.last) t.1 in
-      let outer = is-slow (stride * first.factor) second.factor t1.0 in
-      let slow = is-slow stride first.factor (rate-of (stride * first.factor) outer.some outer.few) in
-      let a = counted-spares stride slow.few most f has in
+      let two = twofold stride first second can in
+      let d0 = λ (i : ℕ). i * stride in
+      let d1 = λ (i : ℕ). cut_off first values (d0 i) in
+      let d2 = λ (i : ℕ). cut_off second values (d1 i) in
+      let s1 = stride * first.factor in
+      let far1 = cut-far first d0 stride (even-far stride) in
+      let a = counted-spares stride two.inner.few most f has in
       let ha = still K f a.after a.keeps has in
       let sa = seats-still K f a.after a.keeps seats in
-      let b = cut-spares first slow.few_factor t0.1 a.after ha sa (λ i. i * stride) a.value (λ i lt. once-slow stride first.factor i slow.slow (omega (arith, lt, most))) in
+      let b = cut-spares first stride two.inner two.small_first most a.after ha sa d0 a.value (even-far stride) in
       let hb = still K a.after b.after b.keeps ha in
       let sb = seats-still K a.after b.after b.keeps sa in
-      let e = cut-spares second outer.few_factor t1.1 b.after hb sb (λ i. cut_off first values (i * stride)) b.value
-      (λ i lt.
-      let p = mul-le-mul_right second.factor (capped-less first.last first.inner first.own values (i * stride * first.factor)) in
-      let q = once-slow (stride * first.factor) second.factor i outer.slow (omega (arith, lt, most)) in
-      let o = ap (λ z. z * second.factor) (together i stride first.factor) in
-      omega (arith, p, q, o)) in
+      let e = cut-spares second s1 two.outer two.small_second most b.after hb sb d1 b.value far1 in
       let he = still K b.after e.after e.keeps hb in
-      spares-first a (spares-first b (spares-first e (added-leaves c small e.after he x (λ i. gone (goes.Twice stride first second) values i) (holds-still e hb (holds-still b ha (holds-still a has hx))) e.value)))
-    where
-      once-slow : (s h i : ℕ) → s * h < 2 ^ 24 → i < 16 → i * s * h < 2 ^ 28
-      once-slow s h i few b = let e = together i s h in let p = times-few i (s * h) b few in omega (arith, e, p)
+      let low = far-low d2 (s1 * second.factor) (cut-far second d1 s1 far1) two.outer.slow most in
+      spares-first a (spares-first b (spares-first e (added-leaves c small e.after he x d2 (holds-still e hb (holds-still b ha (holds-still a has hx))) e.value low)))
 
   pub strayed-leaves : (goings : List Going) (terms : List Term) → ((counter : Counter) → can_go (going_of scope goings counter) ≡ true) → are_words terms ≡ true → n ≤ 16 → (f : ℕ → ℕ) → Lanes w m l group n f → Seats f
       → (x : ℕ → ℕ) → Hold w m l group n f r (λ i. x i % 2 ^ 32) → Leaves w m l group n (strayed scope goings terms r u) f k (λ i. (x i + stray_of scope goings values terms i) % 2 ^ 32)

@@ -1,14 +1,18 @@
 -- The code of how far counters go that are cut off, in terms of its parts.
-use Rattle.std.proofs.Common.{◌≡◌, ℕ, suc, ◌-◌, ◌≤◌, List, [], ◌∷◌, length, get_or, Option, Some, true, ap, ◌∙◌, sym, subst, arith}
-use Rattle.std.specs.Prelude.{take, drop}
+use Rattle.std.proofs.Common.{◌≡◌, ℕ, suc, ◌-◌, ◌≤◌, List, [], ◌∷◌, ◌++◌, length, get_or, Option, Some, Bool, true, false, ap, ◌∙◌, sym, subst, arith}
+use Rattle.std.specs.Prelude.{◌≢◌, ◌==◌, if◌then◌else◌, take, drop}
+use Rattle.std.proofs.lemmas.Bool.Decides.{nat_tests}
 use Rattle.std.proofs.Math.Seq.{take-length}
-use Rattle.rv_insn.specs.declared.instructions.Insn.TheVariants.{Alu, Vector}
+use Rattle.rv_insn.specs.declared.instructions.Insn.TheVariants.{Alu, AluImm, Vector}
 use Rattle.rv_insn.specs.declared.operations.AluOp.TheVariants as alus
+use Rattle.rv_insn.specs.declared.operations.AluImmOp.TheVariants as alu_imms
 use Rattle.rv_insn.specs.declared.vector_instructions.VectorInsn.TheVariants as v
 use Rattle.rv_insn.specs.declared.vector_operations.ArithmeticVxOp.TheVariants as vxs
+use Rattle.rv_insn.specs.declared.vector_operations.MultiplyOp.TheVariants as multiplies
+use Rattle.rv_insn.specs.declared.vector_operations.ShiftViOp.TheVariants as shifts
 use Rattle.loop_ir.specs.declared.expressions.Counter.{Counter}
 use Rattle.loop_ir.specs.declared.expressions.Term.{Term}
-use Rattle.scalar_code.specs.Code.{seat_in, literal}
+use Rattle.scalar_code.specs.Code.{seat_in, lower, literal}
 use Rattle.scalar_code.specs.Words.{Emits}
 use Rattle.scalar_code.proofs.Spelling.{emits_then}
 use Rattle.lane_code.specs.declared.goings.Cut.{Cut}
@@ -16,12 +20,29 @@ use Rattle.lane_code.specs.declared.goings.Going.{Going}
 use Rattle.lane_code.specs.declared.goings.Going.TheVariants as goes
 use Rattle.lane_code.specs.Goings.{going_of}
 use Rattle.lane_code.specs.Lanes.{stepped}
-use Rattle.lane_code.specs.Straying.{room_code, counted, capped_lanes, cut_lanes, added, strays, strayed}
+use Rattle.lane_code.specs.Straying.{is_brief, brief, brief_sum, places_of, multiplied, room_code, counted, capped_lanes, cut_lanes, added, strays, strayed}
 
-pub room-emitted : (scope : List Counter) (last : ℕ) (inner own : Counter) (r s t : ℕ) (c0 c1 c2 c3 : List ℕ) → s ≡ seat_in scope inner → t ≡ seat_in scope own
-    → Emits c0 c1 (literal r last) → Emits c1 c2 (Alu alus.Add r r s ∷ []) → Emits c2 c3 (Alu alus.Sub r r t ∷ []) → Emits c0 c3 (room_code scope last inner own r)
-room-emitted scope last inner own r s t c0 c1 c2 c3 es et a b c =
-    emits_then a (emits_then (subst (λ q. Emits c1 c2 (Alu alus.Add r r q ∷ [])) es b) (subst (λ q. Emits c2 c3 (Alu alus.Sub r r q ∷ [])) et c))
+-- ---- literals
+
+pub sum-emitted : (r s n : ℕ) (c0 c1 c2 : List ℕ) → is_brief n ≡ false → Emits c0 c1 (literal r n) → Emits c1 c2 (Alu alus.Add r r s ∷ []) → Emits c0 c2 (brief_sum r s n)
+sum-emitted r s n c0 c1 c2 t a b =
+    subst (λ (q : Bool). Emits c0 c2 (if q then AluImm alu_imms.Addi r s (lower n) ∷ [] else literal r n ++ (Alu alus.Add r r s ∷ []))) (sym t) (emits_then a b)
+
+pub product-emitted : (n p u : ℕ) (c0 c1 c2 : List ℕ) → n ≢ 1 → p ≡ places_of n → p ≡ 0 → Emits c0 c1 (brief 13 n) → Emits c1 c2 (Vector (v.MultiplyVx multiplies.Vmul u u 13 true) ∷ []) → Emits c0 c2 (multiplied n u)
+product-emitted n p u c0 c1 c2 x e z a b =
+    let once : (n == 1) ≡ false = grind (arith, nat_tests, x) in
+    let none : (p == 0) ≡ true = grind (arith, nat_tests, z) in
+    let product = brief 13 n ++ (Vector (v.MultiplyVx multiplies.Vmul u u 13 true) ∷ []) in
+    let shift = Vector (v.ShiftVi shifts.Vsll u u (places_of n) true) ∷ [] in
+    subst (λ (q : Bool). Emits c0 c2 (if q then [] else (if places_of n == 0 then product else shift))) (sym once)
+    (subst (λ (q : Bool). Emits c0 c2 (if q then product else shift)) (sym none ∙ ap (λ q. q == 0) e) (emits_then a b))
+
+-- ---- how far counters go
+
+pub room-emitted : (scope : List Counter) (last : ℕ) (inner own : Counter) (r s t : ℕ) (c0 c1 c2 : List ℕ) → s ≡ seat_in scope inner → t ≡ seat_in scope own
+    → Emits c0 c1 (brief_sum r s last) → Emits c1 c2 (Alu alus.Sub r r t ∷ []) → Emits c0 c2 (room_code scope last inner own r)
+room-emitted scope last inner own r s t c0 c1 c2 es et a b =
+    emits_then (subst (λ q. Emits c0 c1 (brief_sum r q last)) es a) (subst (λ q. Emits c1 c2 (Alu alus.Sub r r q ∷ [])) et b)
 
 pub capped-emitted : (scope : List Counter) (last : Option ℕ) (most : ℕ) (inner own : Counter) (u : ℕ) (c0 c1 c2 : List ℕ) → last ≡ Some most
     → Emits c0 c1 (room_code scope most inner own 13) → Emits c1 c2 (Vector (v.ArithmeticVx vxs.Vminu u u 13 true) ∷ []) → Emits c0 c2 (capped_lanes scope last inner own u)

@@ -1,15 +1,18 @@
 //! How counters go along with the rounds of a loop, and the code of how far those go that are cut off.
 
-ghost use Rattle.std.specs.Prelude.{◌≡◌, ◌<◌, ◌*◌, OnOk};
+ghost use Rattle.std.specs.Prelude.{◌≡◌, ◌<◌, ◌*◌, [], ◌∷◌, OnOk};
+ghost use Rattle.rv_insn.specs.declared.instructions.Insn.TheVariants.{AluImm};
+ghost use Rattle.rv_insn.specs.declared.operations.AluImmOp.TheVariants.{Addi};
+ghost use Rattle.scalar_code.specs.Code.{lower};
 ghost use Rattle.scalar_code.specs.Words.{Emits};
 ghost use Rattle.lane_code.specs.Goings as spec;
 ghost use Rattle.lane_code.specs.Straying as code_of;
 
-use crate::vectors::{arithmetic, arithmetic_by, lane_numbers, multiplication_by};
+use crate::vectors::{arithmetic, arithmetic_by, lane_numbers, multiplication_by, shift_lanes};
 use loop_ir::expressions::{Counter, Term, same_counter};
-use rv_insn::{AluOp, ArithmeticVvOp, ArithmeticVxOp, MultiplyOp};
+use rv_insn::{AluImmOp, AluOp, ArithmeticVvOp, ArithmeticVxOp, Imm12, Insn, MultiplyOp};
 use scalar_code::expressions::seat_in;
-use scalar_code::instructions::{alu, emit_literal};
+use scalar_code::instructions::{alu, emit_literal, put, register};
 use std::alloc::AllocError;
 
 /// Where the value of a split loop is cut off whose outer counter goes along with the rounds.
@@ -133,6 +136,94 @@ pub fn all_spare(counter: Counter, goings: &[Going]) -> bool
 
 // ---- the code of how far they go
 
+fn is_brief(n: u32) -> bool
+    ensures { result ≡ code_of.is_brief n }
+{
+    (n as u64 + 2048) / 4096 % (1 << 20) == 0
+}
+
+fn lower_part(n: u32) -> Imm12
+    ensures { result ≡ lower n }
+{
+    let low = (n % 4096) as i32;
+    if low < 2048 {
+        Imm12::new(low).unwrap()
+    } else {
+        Imm12::new(low - 4096).unwrap()
+    }
+}
+
+/// Appends what leaves in a register the sum of one and the lower part of a literal.
+fn add_lower(code: &mut Vec<u32>, r: u8, s: u8, n: u32) -> Result<(), AllocError>
+    requires { (r < 32) × (s < 32) }
+    ensures { OnOk result (Emits code.old.items code.new.items (AluImm Addi r s (lower n) ∷ [])) }
+{
+    let op = AluImmOp::Addi;
+    let rd = register(r);
+    let rs1 = register(s);
+    let imm = lower_part(n);
+    put(code, &Insn::AluImm { op, rd, rs1, imm })?;
+    Ok(())
+}
+
+/// Appends what leaves a literal in a register, in one word where that does.
+pub fn emit_brief(code: &mut Vec<u32>, r: u8, n: u32) -> Result<(), AllocError>
+    requires { r < 32 }
+    ensures { OnOk result (Emits code.old.items code.new.items (code_of.brief r n)) }
+{
+    if is_brief(n) {
+        add_lower(code, r, 0, n)?;
+    } else {
+        emit_literal(code, r, n)?;
+    }
+    Ok(())
+}
+
+/// Appends what leaves the sum of another register and a literal.
+pub fn emit_brief_sum(code: &mut Vec<u32>, r: u8, s: u8, n: u32) -> Result<(), AllocError>
+    requires { (r < 32) × (s < 32) }
+    ensures { OnOk result (Emits code.old.items code.new.items (code_of.brief_sum r s n)) }
+{
+    if is_brief(n) {
+        add_lower(code, r, s, n)?;
+    } else {
+        emit_literal(code, r, n)?;
+        alu(code, AluOp::Add, r, r, s)?;
+    }
+    Ok(())
+}
+
+/// By how many places a shift makes products by a literal, or 0.
+pub fn places_of(n: u32) -> u8
+    ensures { (result ≡ code_of.places_of n) × (result < 5) }
+{
+    match n {
+        2 => 1,
+        4 => 2,
+        8 => 3,
+        16 => 4,
+        _ => 0,
+    }
+}
+
+/// Appends what multiplies lanes by a literal.
+fn emit_multiplied(code: &mut Vec<u32>, n: u32, u: u8) -> Result<(), AllocError>
+    requires { u < 32 }
+    ensures { OnOk result (Emits code.old.items code.new.items (code_of.multiplied n u)) }
+{
+    if n == 1 {
+        return Ok(());
+    }
+    let places = places_of(n);
+    if places == 0 {
+        emit_brief(code, 13, n)?;
+        multiplication_by(code, MultiplyOp::Vmul, u, u, 13)?;
+    } else {
+        shift_lanes(code, u, places)?;
+    }
+    Ok(())
+}
+
 /// Appends what leaves in a register how far a value under a shift may go, from that in the first round on.
 pub fn emit_room(
     code: &mut Vec<u32>,
@@ -145,9 +236,8 @@ pub fn emit_room(
     requires { r < 32 }
     ensures { OnOk result (Emits code.old.items code.new.items (code_of.room_code scope.now last inner own r)) }
 {
-    emit_literal(code, r, last)?;
     let s = seat_in(scope, inner);
-    alu(code, AluOp::Add, r, r, s)?;
+    emit_brief_sum(code, r, s, last)?;
     let t = seat_in(scope, own);
     alu(code, AluOp::Sub, r, r, t)?;
     Ok(())
@@ -159,8 +249,7 @@ fn emit_counted(code: &mut Vec<u32>, stride: u32, u: u8) -> Result<(), AllocErro
     ensures { OnOk result (Emits code.old.items code.new.items (code_of.counted stride u)) }
 {
     lane_numbers(code, u)?;
-    emit_literal(code, 13, stride)?;
-    multiplication_by(code, MultiplyOp::Vmul, u, u, 13)?;
+    emit_multiplied(code, stride, u)?;
     Ok(())
 }
 
@@ -190,8 +279,7 @@ fn emit_cut(code: &mut Vec<u32>, scope: &[Counter], cut: Cut, u: u8) -> Result<(
     requires { u < 32 }
     ensures { OnOk result (Emits code.old.items code.new.items (code_of.cut_lanes scope.now cut u)) }
 {
-    emit_literal(code, 13, cut.factor)?;
-    multiplication_by(code, MultiplyOp::Vmul, u, u, 13)?;
+    emit_multiplied(code, cut.factor, u)?;
     emit_capped(code, scope, cut.last, cut.inner, cut.own, u)?;
     Ok(())
 }
@@ -201,8 +289,7 @@ fn emit_added(code: &mut Vec<u32>, n: u32, r: u8, u: u8) -> Result<(), AllocErro
     requires { (r < 32) × (u < 32) }
     ensures { OnOk result (Emits code.old.items code.new.items (code_of.added n r u)) }
 {
-    emit_literal(code, 13, n)?;
-    multiplication_by(code, MultiplyOp::Vmul, u, u, 13)?;
+    emit_multiplied(code, n, u)?;
     arithmetic(code, ArithmeticVvOp::Vadd, r, r, u)?;
     Ok(())
 }

@@ -187,6 +187,22 @@ pub fn clear_low_bits(code: &mut Vec<u32>, d: u8) -> Result<(), AllocError>
     Ok(())
 }
 
+/// Appends a shift of each lane to the left.
+pub fn shift_lanes(code: &mut Vec<u32>, d: u8, places: u8) -> Result<(), AllocError>
+    requires { (d < 32) × (places < 32) }
+    ensures { OnOk result (Emits code.old.items code.new.items (Vector (v.ShiftVi shift_left d d places true) ∷ [])) }
+{
+    let insn = VectorInsn::ShiftVi {
+        op: ShiftViOp::Vsll,
+        vd: vector(d),
+        vs2: vector(d),
+        amount: ShiftAmount::new(places).unwrap(),
+        vm: true,
+    };
+    put_vector(code, insn)?;
+    Ok(())
+}
+
 /// Appends what makes four times each lane.
 pub fn times_four(code: &mut Vec<u32>, d: u8) -> Result<(), AllocError>
     requires { d < 32 }

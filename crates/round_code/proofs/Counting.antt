@@ -1,6 +1,6 @@
 -- How many rounds are left below an extent.
 use Rattle.std.proofs.Common.{◌≡◌, ℕ, ◌+◌, ◌-◌, ◌*◌, ◌/◌, ◌^◌, ◌<◌, ◌≤◌, Bool, true, false, refl, ap, ◌∙◌, sym, arith}
-use Rattle.std.specs.Prelude.{◌==◌, ◌&&◌, min, nat_lt, Option, Some, None}
+use Rattle.std.specs.Prelude.{◌==◌, min, nat_lt, Option, Some, None}
 use Rattle.std.proofs.Math.Nat.{le-div_iff_mul-le, div-le_self}
 use Rattle.std.proofs.lemmas.Bool.{and_parts, true≢false}
 use Rattle.std.proofs.lemmas.Bool.Decides.{nat_tests}
@@ -11,7 +11,7 @@ use Rattle.lane_code.specs.declared.goings.Cut.{Cut}
 use Rattle.lane_code.specs.declared.goings.Going.{Going}
 use Rattle.lane_code.specs.declared.goings.Going.TheVariants as goes
 use Rattle.lane_code.specs.Goings.{room, capped, cut_off, gone, is_rate, is_small, can_go}
-use Rattle.lane_code.proofs.Straying.{IsSlow, is-slow, capped-less, times-few, together}
+use Rattle.lane_code.proofs.Straying.{is-slow, twofold, capped-less, times-few, together}
 use Rattle.round_code.specs.Rounds.{is_still}
 
 is-below : (n k : ℕ) → nat_lt n k ≡ true → n < k
@@ -88,25 +88,6 @@ abbrev pub count : Going → Values → ℕ → ℕ
 count (goes.Even stride most) values e = up e stride
 count (goes.Once stride most cut) values e = up (through cut values e) stride
 count (goes.Twice stride first second) values e = up (through first values (through second values e)) stride
-
--- ---- the limits of two cuts
-
-pub record Twofold (stride : ℕ) (first second : Cut) : Type 0 where
-  pub inner : IsSlow stride first.factor
-  pub outer : IsSlow (stride * first.factor) second.factor
-  pub small_first : is_small first.last ≡ true
-  pub small_second : is_small second.last ≡ true
-
-rate-of : (n : ℕ) → 1 ≤ n → n < 2 ^ 24 → is_rate n ≡ true
-rate-of n some few = let a : nat_lt 0 n ≡ true = grind (arith, nat_tests) in let b : nat_lt n (2 ^ 24) ≡ true = grind (arith, nat_tests) in rw (a, b) refl
-
-pub twofold : (stride : ℕ) (first second : Cut) → can_go (goes.Twice stride first second) ≡ true → Twofold stride first second
-twofold stride first second can =
-    let t = and_parts (nat_lt (stride * first.factor) (2 ^ 24) && is_small first.last) (is_rate (stride * first.factor * second.factor) && is_small second.last) can in
-    let a = and_parts (nat_lt (stride * first.factor) (2 ^ 24)) (is_small first.last) t.0 in
-    let b = and_parts (is_rate (stride * first.factor * second.factor)) (is_small second.last) t.1 in
-    let outer = is-slow (stride * first.factor) second.factor b.0 in
-    record { inner = is-slow stride first.factor (rate-of (stride * first.factor) outer.some outer.few); outer = outer; small_first = a.1; small_second = b.1 }
 
 once-low : (s h k : ℕ) → s * h < 2 ^ 24 → k < 16 → k * s * h < 2 ^ 28
 once-low s h k few b = let e = together k s h in let p = times-few k (s * h) b few in omega (arith, e, p)

@@ -1,11 +1,12 @@
 -- The code that parks how many rounds are left of a value that is cut off.
-use Rattle.std.proofs.Common.{◌≡◌, ℕ, ◌+◌, ◌-◌, ◌*◌, ◌^◌, ◌<◌, ◌≤◌, List, [], ◌∷◌, ◌++◌, length, Bool, true, false, refl, ◌∙◌, arith}
-use Rattle.std.specs.Prelude.{◌≢◌, min, nat_lt, Option, Some, None}
+use Rattle.std.proofs.Common.{◌≡◌, ℕ, ◌+◌, ◌-◌, ◌*◌, ◌/◌, ◌%◌, ◌^◌, ◌<◌, ◌≤◌, List, [], ◌∷◌, ◌++◌, length, Bool, true, false, refl, ap, ◌∙◌, sym, arith}
+use Rattle.std.specs.Prelude.{◌≢◌, ◌==◌, if◌then◌else◌, min, nat_lt, Option, Some, None}
 use Rattle.std.proofs.lemmas.Bool.{and_parts}
 use Rattle.std.proofs.lemmas.Bool.Decides.{nat_tests}
 use Rattle.rv_insn.specs.declared.instructions.Insn.{Insn}
-use Rattle.rv_insn.specs.declared.instructions.Insn.TheVariants.{Alu}
+use Rattle.rv_insn.specs.declared.instructions.Insn.TheVariants.{Alu, Shift}
 use Rattle.rv_insn.specs.declared.operations.AluOp.TheVariants as alus
+use Rattle.rv_insn.specs.declared.operations.ShiftOp.TheVariants as shifts
 use Rattle.hart_core.specs.Alu.{one_if}
 use Rattle.lanes.specs.Words as lanes
 use Rattle.halide_pipeline.specs.Words as word
@@ -13,21 +14,23 @@ use Rattle.halide_meaning.specs.Pixel.{Planes}
 use Rattle.loop_ir.specs.declared.expressions.Counter.{Counter}
 use Rattle.loop_ir.specs.Counters.{Values}
 use Rattle.lone_hart.specs.Alone.{World}
+use Rattle.lone_hart.proofs.Paths.{stay}
 use Rattle.scalar_code.specs.Doing.{Setting, IsSetting, HoldsFuncs}
 use Rattle.scalar_code.specs.Code.{seat_in}
-use Rattle.scalar_code.proofs.Going.{no_hits, Does, lines-then}
+use Rattle.scalar_code.proofs.Going.{no_hits, Does, still, lines-then}
 use Rattle.scalar_code.proofs.Keeping.{Kept, kept-safe}
 use Rattle.scalar_code.proofs.Placing.{by-set}
 use Rattle.scalar_code.proofs.Seats.{is-seat-in}
-use Rattle.scalar_code.proofs.Values.{Sets, alu-sets, literal-sets}
+use Rattle.scalar_code.proofs.Values.{Sets, alu-sets, shift-sets}
 use Rattle.lane_code.specs.declared.goings.Cut.{Cut}
 use Rattle.lane_code.specs.declared.goings.Going.{Going}
 use Rattle.lane_code.specs.declared.goings.Going.TheVariants as goes
 use Rattle.lane_code.specs.Goings.{room, is_rate, is_small, can_go}
-use Rattle.lane_code.specs.Straying.{room_code}
-use Rattle.lane_code.proofs.Straying.{is-slow}
+use Rattle.lane_code.specs.Straying.{brief, brief_sum, places_of, room_code}
+use Rattle.lane_code.proofs.Brevity.{same-number, places-few, places-are, brief-sets, brief-sum-sets}
+use Rattle.lane_code.proofs.Straying.{is-slow, twofold}
 use Rattle.round_code.specs.Rounds.{lesser, divided_up, below_cap, below_cut, left_over}
-use Rattle.round_code.proofs.Counting.{up, up-few, more, more-few, through, through-few, count, left_after, twofold}
+use Rattle.round_code.proofs.Counting.{up, up-few, more, more-few, through, through-few, count, left_after}
 use Rattle.round_code.proofs.Parking.{Parks, even-parks, no-scratch, lesser-counts, divided}
 
 is-below : (n k : ℕ) → nat_lt n k ≡ true → n < k
@@ -36,14 +39,20 @@ is-below n k t = grind (arith, nat_tests)
 take-off : (a b : ℕ) → b < a → a < 2 ^ 32 → lanes.sub 32 a b ≡ a - b
 take-off a b l small = omega (arith, l, small)
 
-put-on : (e n : ℕ) → e < 2 ^ 31 + 2 ^ 30 → n < 2 ^ 24 → lanes.add 32 e (n - 1) ≡ e + (n - 1)
+put-on : (e n : ℕ) → e < 2 ^ 31 + 2 ^ 30 → n < 2 ^ 24 → lanes.add 32 (n - 1) e ≡ e + (n - 1)
 put-on e n small few = omega (arith, small, few)
+
+once-up : (e n : ℕ) → n ≡ 1 → e ≡ up e n
+once-up e n one = (let d : e ≡ (e + (1 - 1)) / 1 = omega arith in d) ∙ ap (λ k. (e + (k - 1)) / k) (sym one)
+
+halved : (x n k : ℕ) → k < 5 → n ≡ 2 ^ k → lanes.shift_right_logical 32 x k ≡ x / n
+halved x n k few e = let same : k % 32 ≡ k = omega (arith, few) in ap (λ z. x / 2 ^ z) same ∙ ap (λ z. x / z) (sym e)
 
 room-is : (last a b : ℕ) → lanes.sub 32 (lanes.add 32 last a) b ≡ word.subtract (word.add last a) b
 unfolding word.add word.subtract
 room-is last a b = refl
 
-flagged : (t : Bool) → lanes.multiply 32 (one_if t) (2 ^ 28) ≡ one_if t * 2 ^ 28
+flagged : (t : Bool) → lanes.shift_left 32 (one_if t) 28 ≡ one_if t * 2 ^ 28
 flagged true = refl
 flagged false = refl
 
@@ -81,19 +90,37 @@ module _ (own : Setting) (good : IsSetting own) (depth : ℕ) (scope : List Coun
 
   divided-scratched : (n : ℕ) → 1 ≤ n → n < 2 ^ 24 → (f : ℕ → ℕ) (memory : List ℕ) (funcs : Planes) → HoldsFuncs own memory funcs → (e : ℕ) → f 13 ≡ e → e < 2 ^ 31 + 2 ^ 30
       → Divided (divided_up n) f memory funcs (up e n)
-  divided-scratched n some few f memory funcs holds e e13 small =
-      let i1 = literal-sets w memory holds.size f 14 (n - 1) (omega arith) (omega arith) (omega (arith, few)) in
-      let i2 = alu-sets w memory holds.size alus.Add i1.after 13 13 14 e (n - 1) (omega arith) (omega arith) (omega arith) (omega arith) (i1.others 13 (λ q. omega (arith, q)) ∙ e13) i1.value in
-      let i3 = literal-sets w memory holds.size i2.after 14 n (omega arith) (omega arith) (omega (arith, few)) in
-      let i4 = alu-sets w memory holds.size alus.Divu i3.after 13 13 14 (e + (n - 1)) n (omega arith) (omega arith) (omega arith) (omega arith)
-      (i3.others 13 (λ q. omega (arith, q)) ∙ i2.value ∙ put-on e n small few) i3.value in
-      record {
-        does =
-            lines-then own (by-set own good depth holds i1 (no-scratch own good depth 14 (omega arith) (omega arith))) (lines-then own (by-set own good depth holds i2 (no-scratch own good depth 13 (omega arith) (omega arith)))
-            (lines-then own (by-set own good depth holds i3 (no-scratch own good depth 14 (omega arith) (omega arith))) (by-set own good depth holds i4 (no-scratch own good depth 13 (omega arith) (omega arith)))));
-        number_is = i4.value ∙ divided (e + (n - 1)) n some;
-        others = λ q a b. i4.others q a ∙ i3.others q b ∙ i2.others q a ∙ i1.others q b;
+  divided-scratched n some few f memory funcs holds e e13 small = by-tests (n == 1) refl (places_of n == 0) refl
+    where
+      by-tests : (once : Bool) → (n == 1) ≡ once → (none : Bool) → (places_of n == 0) ≡ none
+          → Divided (if once then [] else brief_sum 14 13 (n - 1) ++ (if none then brief 13 n ++ (Alu alus.Divu 13 14 13 ∷ []) else Shift shifts.Srli 13 14 (places_of n) ∷ [])) f memory funcs (up e n)
+      by-tests true t none z = record {
+        does = still own (λ at. at) (λ at. at) 0 f holds (λ q kept. refl) (λ at st. stay w at f memory);
+        number_is = e13 ∙ once-up e n (same-number n 1 t);
+        others = λ q a b. refl;
       }
+      by-tests false t true z =
+          let i1 = brief-sum-sets w memory holds.size f 14 13 (n - 1) e (omega arith) (omega arith) (omega arith) (λ q. omega (arith, q)) e13 (omega (arith, few)) in
+          let i2 = brief-sets w memory holds.size i1.after 13 n (omega arith) (omega arith) (omega (arith, few)) in
+          let i3 = alu-sets w memory holds.size alus.Divu i2.after 13 14 13 (e + (n - 1)) n (omega arith) (omega arith) (omega arith) (omega arith)
+          (i2.others 14 (λ q. omega (arith, q)) ∙ i1.value ∙ put-on e n small few) i2.value in
+          record {
+            does =
+                lines-then own (by-set own good depth holds i1 (no-scratch own good depth 14 (omega arith) (omega arith))) (lines-then own (by-set own good depth holds i2 (no-scratch own good depth 13 (omega arith) (omega arith)))
+                (by-set own good depth holds i3 (no-scratch own good depth 13 (omega arith) (omega arith))));
+            number_is = i3.value ∙ divided (e + (n - 1)) n some;
+            others = λ q a b. i3.others q a ∙ i2.others q a ∙ i1.others q b;
+          }
+      by-tests false t false z =
+          let k = places_of n in
+          let i1 = brief-sum-sets w memory holds.size f 14 13 (n - 1) e (omega arith) (omega arith) (omega arith) (λ q. omega (arith, q)) e13 (omega (arith, few)) in
+          let i2 = shift-sets w memory holds.size shifts.Srli i1.after 13 14 k (e + (n - 1)) (omega arith) (omega arith) (omega arith) (i1.value ∙ put-on e n small few) in
+          record {
+            does =
+                lines-then own (by-set own good depth holds i1 (no-scratch own good depth 14 (omega arith) (omega arith))) (by-set own good depth holds i2 (no-scratch own good depth 13 (omega arith) (omega arith)));
+            number_is = i2.value ∙ halved (e + (n - 1)) n k (places-few n) (places-are n z);
+            others = λ q a b. i2.others q a ∙ i1.others q b;
+          }
 
   -- the room of a shift
   record Roomed (f : ℕ → ℕ) (memory : List ℕ) (funcs : Planes) (last : ℕ) (inner other : Counter) : Type 0 where
@@ -107,19 +134,17 @@ module _ (own : Setting) (good : IsSetting own) (depth : ℕ) (scope : List Coun
       let so = is-seat-in scope other in
       let li = si.low in
       let lo = so.low in
-      let i1 = literal-sets w memory holds.size f 20 last (omega arith) (omega arith) (omega (arith, small)) in
-      let i2 = alu-sets w memory holds.size alus.Add i1.after 20 20 (seat_in scope inner) last (values inner) (omega arith) (omega arith) (omega arith) (omega (arith, li)) i1.value
-      (i1.others (seat_in scope inner) (λ e. omega (arith, e, li)) ∙ seats inner) in
+      let i2 = brief-sum-sets w memory holds.size f 20 (seat_in scope inner) last (values inner) (omega arith) (omega arith) (omega (arith, li)) (λ e. omega (arith, e, li)) (seats inner) (omega (arith, small)) in
       let i3 = alu-sets w memory holds.size alus.Sub i2.after 20 20 (seat_in scope other) (lanes.add 32 last (values inner)) (values other) (omega arith) (omega arith) (omega arith) (omega (arith, lo)) i2.value
-      (i2.others (seat_in scope other) (λ e. omega (arith, e, lo)) ∙ i1.others (seat_in scope other) (λ e. omega (arith, e, lo)) ∙ seats other) in
+      (i2.others (seat_in scope other) (λ e. omega (arith, e, lo)) ∙ seats other) in
       record {
-        does = lines-then own (by-set own good depth holds i1 no-stack) (lines-then own (by-set own good depth holds i2 no-stack) (by-set own good depth holds i3 no-stack));
+        does = lines-then own (by-set own good depth holds i2 no-stack) (by-set own good depth holds i3 no-stack);
         room_there = i3.value ∙ room-is last (values inner) (values other);
-        others = λ q a. i3.others q a ∙ i2.others q a ∙ i1.others q a;
+        others = λ q a. i3.others q a ∙ i2.others q a;
       }
 
   cap-scratched : (last : Option ℕ) (inner other : Counter) (n : ℕ) → is_small last ≡ true → 1 ≤ n → n < 2 ^ 24 → (f : ℕ → ℕ) (memory : List ℕ) (funcs : Planes) → HoldsFuncs own memory funcs → Seats f
-      → (e : ℕ) → f 13 ≡ e → e < 2 ^ 31 + 2 ^ 29 → Scratched (below_cap scope last inner other n) f memory funcs (up e n + more last inner other values e)
+      → (e : ℕ) → f 13 ≡ e → e < 2 ^ 31 + 2 ^ 30 → Scratched (below_cap scope last inner other n) f memory funcs (up e n + more last inner other values e)
   cap-scratched None inner other n is some few f memory funcs holds seats e e13 small =
       let a = divided-scratched n some few f memory funcs holds e e13 (omega (arith, small)) in
       record { does = a.does; number_is = a.number_is ∙ (let q = up e n in (let g : q ≡ q + 0 = omega arith in g)); others = λ q x y z. a.others q x y }
@@ -133,23 +158,21 @@ module _ (own : Setting) (good : IsSetting own) (depth : ℕ) (scope : List Coun
       let f2 = b.does.after in
       let m2 = b.does.left in
       let h2 = b.does.holds in
-      let i3 = literal-sets w m2 h2.size f2 14 (2 ^ 28) (omega arith) (omega arith) (omega arith) in
-      let i4 = alu-sets w m2 h2.size alus.Mul i3.after 20 20 14 (one_if t) (2 ^ 28) (omega arith) (omega arith) (omega arith) (omega arith)
-      (i3.others 20 (λ q. omega (arith, q)) ∙ b.others 20 (λ q. omega (arith, q)) (λ q. omega (arith, q)) ∙ i1.value) i3.value in
+      let i4 = shift-sets w m2 h2.size shifts.Slli f2 20 20 28 (one_if t) (omega arith) (omega arith) (omega arith) (b.others 20 (λ q. omega (arith, q)) (λ q. omega (arith, q)) ∙ i1.value) in
       let i5 = alu-sets w m2 h2.size alus.Add i4.after 13 13 20 (up e n) (one_if t * 2 ^ 28) (omega arith) (omega arith) (omega arith) (omega arith)
-      (i4.others 13 (λ q. omega (arith, q)) ∙ i3.others 13 (λ q. omega (arith, q)) ∙ b.number_is) (i4.value ∙ flagged t) in
+      (i4.others 13 (λ q. omega (arith, q)) ∙ b.number_is) (i4.value ∙ flagged t) in
       let low = up-few e n in
       let high = more-few (Some last) inner other values e in
       record {
         does =
-            lines-then own a.does (lines-then own d1 (lines-then own b.does (lines-then own (by-set own good depth h2 i3 (no-scratch own good depth 14 (omega arith) (omega arith)))
-            (lines-then own (by-set own good depth h2 i4 no-stack) (by-set own good depth h2 i5 (no-scratch own good depth 13 (omega arith) (omega arith)))))));
+            lines-then own a.does (lines-then own d1 (lines-then own b.does
+            (lines-then own (by-set own good depth h2 i4 no-stack) (by-set own good depth h2 i5 (no-scratch own good depth 13 (omega arith) (omega arith))))));
         number_is = i5.value ∙ sum-is (up e n) (one_if t * 2 ^ 28) (omega (arith, low, high, small, few));
-        others = λ q x y z. i5.others q x ∙ i4.others q z ∙ i3.others q y ∙ b.others q x y ∙ i1.others q z ∙ a.others q z;
+        others = λ q x y z. i5.others q x ∙ i4.others q z ∙ b.others q x y ∙ i1.others q z ∙ a.others q z;
       }
 
   cut-scratched : (cut : Cut) → is_small cut.last ≡ true → 1 ≤ cut.factor → cut.factor < 2 ^ 24 → (f : ℕ → ℕ) (memory : List ℕ) (funcs : Planes) → HoldsFuncs own memory funcs → Seats f
-      → (e : ℕ) → f 13 ≡ e → e < 2 ^ 31 + 2 ^ 29 → Scratched (below_cut scope cut) f memory funcs (through cut values e)
+      → (e : ℕ) → f 13 ≡ e → e < 2 ^ 31 + 2 ^ 30 → Scratched (below_cut scope cut) f memory funcs (through cut values e)
   cut-scratched cut is some few f memory funcs holds seats e e13 small = cap-scratched cut.last cut.inner cut.own cut.factor is some few f memory funcs holds seats e e13 small
 
   -- ---- how many are left is parked

@@ -4,8 +4,9 @@ use Rattle.std.specs.Prelude.{◌≢◌, ◌==◌, ◌&&◌, nat_le, nat_lt, Opt
 use Rattle.std.proofs.lemmas.Bool.{and_from, and_parts, true≢false}
 use Rattle.std.proofs.lemmas.Bool.Decides.{nat_tests}
 use Rattle.rv_insn.specs.declared.instructions.Insn.{Insn}
-use Rattle.rv_insn.specs.declared.instructions.Insn.TheVariants.{Alu, Vector}
+use Rattle.rv_insn.specs.declared.instructions.Insn.TheVariants.{Alu, Shift, Vector}
 use Rattle.rv_insn.specs.declared.operations.AluOp.TheVariants as alus
+use Rattle.rv_insn.specs.declared.operations.ShiftOp.TheVariants as shifts
 use Rattle.rv_insn.specs.declared.vector_instructions.VectorInsn.TheVariants as v
 use Rattle.rv_insn.specs.declared.vector_instructions.Addressing.TheVariants as addressings
 use Rattle.rv_insn.specs.declared.vector_operations.ElementWidth.TheVariants.{Bits32}
@@ -31,7 +32,7 @@ use Rattle.lane_code.specs.DeepEmitting.{EmitsDeepLanes, EmitsOtherLanes, EmitsS
 use Rattle.lane_code.specs.DeepLanes.{DeepLaned, deep_laned, others_fit, pair_fits, second_fits, triple_fits}
 use Rattle.lane_code.specs.Groups.{registers, slot, vtype_of}
 use Rattle.lane_code.specs.Lanes.{offsets, row_offsets}
-use Rattle.lane_code.specs.Straying.{room_code}
+use Rattle.lane_code.specs.Straying.{brief, brief_sum, places_of, room_code}
 use Rattle.lane_code.proofs.Emission.{fits-stack}
 use Rattle.lane_code.proofs.LanedParts.{own-is}
 use Rattle.round_code.specs.Emitting.{EmitsRounds, FitsRounds}
@@ -52,15 +53,28 @@ below-more s d r old new n a = let t : (s == 1) ≡ false = grind (arith, nat_te
 pub left-lesser : (all : Bool) (s r : ℕ) (old new : List ℕ) → all ≡ false → s ≢ 0 → Emits old new (rounds_below s 13 r ++ lesser) → Emits old new (even_left all s r)
 left-lesser all s r old new e n a = let t : (s == 0) ≡ false = grind (arith, nat_tests, n) in rw (t, e) a
 
-pub divided-emitted : (n k : ℕ) (c0 c1 c2 c3 c4 : List ℕ) → k ≡ n - 1 → Emits c0 c1 (literal 14 k) → Emits c1 c2 (Alu alus.Add 13 13 14 ∷ []) → Emits c2 c3 (literal 14 n) → Emits c3 c4 (Alu alus.Divu 13 13 14 ∷ [])
-    → Emits c0 c4 (divided_up n)
-divided-emitted n k c0 c1 c2 c3 c4 e a b c d = emits_then (subst (λ q. Emits c0 c1 (literal 14 q)) e a) (emits_then b (emits_then c d))
+divided-chosen : (n : ℕ) (c0 c1 : List ℕ) (none : Bool) → n ≢ 1 → (places_of n == 0) ≡ none
+    → Emits c0 c1 (brief_sum 14 13 (n - 1) ++ (if none then brief 13 n ++ (Alu alus.Divu 13 14 13 ∷ []) else Shift shifts.Srli 13 14 (places_of n) ∷ [])) → Emits c0 c1 (divided_up n)
+divided-chosen n c0 c1 none x e a =
+    let t : (n == 1) ≡ false = grind (arith, nat_tests, x) in
+    subst (λ (q : Bool). Emits c0 c1 (if q then [] else brief_sum 14 13 (n - 1) ++ (if places_of n == 0 then brief 13 n ++ (Alu alus.Divu 13 14 13 ∷ []) else Shift shifts.Srli 13 14 (places_of n) ∷ []))) (sym t)
+    (subst (λ (q : Bool). Emits c0 c1 (brief_sum 14 13 (n - 1) ++ (if q then brief 13 n ++ (Alu alus.Divu 13 14 13 ∷ []) else Shift shifts.Srli 13 14 (places_of n) ∷ []))) (sym e) a)
 
-pub cap-emitted : (scope : List Counter) (last : Option ℕ) (most : ℕ) (inner own : Counter) (factor : ℕ) (c0 c1 c2 c3 c4 c5 c6 : List ℕ) → last ≡ Some most
-    → Emits c0 c1 (room_code scope most inner own 20) → Emits c1 c2 (Alu alus.Sltu 20 20 13 ∷ []) → Emits c2 c3 (divided_up factor) → Emits c3 c4 (literal 14 (2 ^ 28)) → Emits c4 c5 (Alu alus.Mul 20 20 14 ∷ [])
-    → Emits c5 c6 (Alu alus.Add 13 13 20 ∷ []) → Emits c0 c6 (below_cap scope last inner own factor)
-cap-emitted scope last most inner own factor c0 c1 c2 c3 c4 c5 c6 is a b c d e f =
-    subst (λ (q : Option ℕ). Emits c0 c6 (below_cap scope q inner own factor)) (sym is) (emits_then a (emits_then b (emits_then c (emits_then d (emits_then e f)))))
+pub divided-emitted : (n k p : ℕ) (c0 c1 c2 c3 : List ℕ) → n ≢ 1 → k ≡ n - 1 → p ≡ places_of n → p ≡ 0 → Emits c0 c1 (brief_sum 14 13 k) → Emits c1 c2 (brief 13 n) → Emits c2 c3 (Alu alus.Divu 13 14 13 ∷ [])
+    → Emits c0 c3 (divided_up n)
+divided-emitted n k p c0 c1 c2 c3 x ek ep z a b c =
+    divided-chosen n c0 c3 true x (let t : (p == 0) ≡ true = grind (arith, nat_tests, z) in sym (ap (λ q. q == 0) ep) ∙ t) (emits_then (subst (λ q. Emits c0 c1 (brief_sum 14 13 q)) ek a) (emits_then b c))
+
+pub halved-emitted : (n k p : ℕ) (c0 c1 c2 : List ℕ) → n ≢ 1 → k ≡ n - 1 → p ≡ places_of n → p ≢ 0 → Emits c0 c1 (brief_sum 14 13 k) → Emits c1 c2 (Shift shifts.Srli 13 14 p ∷ []) → Emits c0 c2 (divided_up n)
+halved-emitted n k p c0 c1 c2 x ek ep z a b =
+    divided-chosen n c0 c2 false x (let t : (p == 0) ≡ false = grind (arith, nat_tests, z) in sym (ap (λ q. q == 0) ep) ∙ t)
+    (emits_then (subst (λ q. Emits c0 c1 (brief_sum 14 13 q)) ek a) (subst (λ q. Emits c1 c2 (Shift shifts.Srli 13 14 q ∷ [])) ep b))
+
+pub cap-emitted : (scope : List Counter) (last : Option ℕ) (most : ℕ) (inner own : Counter) (factor : ℕ) (c0 c1 c2 c3 c4 c5 : List ℕ) → last ≡ Some most
+    → Emits c0 c1 (room_code scope most inner own 20) → Emits c1 c2 (Alu alus.Sltu 20 20 13 ∷ []) → Emits c2 c3 (divided_up factor) → Emits c3 c4 (Shift shifts.Slli 20 20 28 ∷ [])
+    → Emits c4 c5 (Alu alus.Add 13 13 20 ∷ []) → Emits c0 c5 (below_cap scope last inner own factor)
+cap-emitted scope last most inner own factor c0 c1 c2 c3 c4 c5 is a b c d e =
+    subst (λ (q : Option ℕ). Emits c0 c5 (below_cap scope q inner own factor)) (sym is) (emits_then a (emits_then b (emits_then c (emits_then d e))))
 
 pub once-left : (scope : List Counter) (all : Bool) (going : Going) (stride most : ℕ) (cut : Cut) (r : ℕ) (c0 c1 c2 c3 c4 : List ℕ) → going ≡ goes.Once stride most cut
     → Emits c0 c1 (Alu alus.Sub 13 13 r ∷ []) → Emits c1 c2 (below_cut scope cut) → Emits c2 c3 (divided_up stride) → Emits c3 c4 lesser → Emits c0 c4 (left_over scope all going r)

@@ -6,8 +6,9 @@
 -- This project's own.
 use Rattle.std.specs.Prelude.{ℕ, ◌+◌, ◌-◌, ◌*◌, ◌^◌, ◌==◌, ◌&&◌, Bool, true, false, not, nat_le, nat_lt, if◌then◌else◌, List, [], ◌∷◌, ◌++◌, length, Option, Some, None}
 use Rattle.rv_insn.specs.declared.instructions.Insn.{Insn}
-use Rattle.rv_insn.specs.declared.instructions.Insn.TheVariants.{Alu, Vector}
+use Rattle.rv_insn.specs.declared.instructions.Insn.TheVariants.{Alu, Shift, Vector}
 use Rattle.rv_insn.specs.declared.operations.AluOp.TheVariants as alus
+use Rattle.rv_insn.specs.declared.operations.ShiftOp.TheVariants as shifts
 use Rattle.rv_insn.specs.declared.vector_instructions.VectorInsn.TheVariants as v
 use Rattle.rv_insn.specs.declared.vector_instructions.Addressing.TheVariants as addressings
 use Rattle.rv_insn.specs.declared.vector_operations.ElementWidth.TheVariants.{Bits32}
@@ -31,7 +32,7 @@ use Rattle.lane_code.specs.declared.goings.Going.TheVariants as goes
 use Rattle.lane_code.specs.Goings.{going_of, is_rate, is_small, all_spare}
 use Rattle.lane_code.specs.DeepLanes.{deep_laned, pair_fits, pair_code, triple_fits, triple_code}
 use Rattle.lane_code.specs.Lanes.{is_stepping, is_steady, pace_of, offsets, row_offsets}
-use Rattle.lane_code.specs.Straying.{room_code}
+use Rattle.lane_code.specs.Straying.{brief, brief_sum, places_of, room_code}
 
 -- ---- a row of pixels
 
@@ -175,15 +176,17 @@ even_left all stride r = if stride == 0 then [] else (if all then rounds_below s
 -- scratch becomes its quotient by a literal, rounded up
 abbrev pub divided_up : ℕ → List Insn
 divided_up n =
-    literal second_scratch (n - 1) ++ (Alu alus.Add scratch scratch second_scratch ∷ (literal second_scratch n ++ (Alu alus.Divu scratch scratch second_scratch ∷ [])))
+    if n == 1 then []
+    else brief_sum second_scratch scratch (n - 1)
+    ++ (if places_of n == 0 then brief scratch n ++ (Alu alus.Divu scratch second_scratch scratch ∷ []) else Shift shifts.Srli scratch second_scratch (places_of n) ∷ [])
 
 -- A value goes less far than scratch says where its outer counter goes less far than scratch says then. Where the room of a shift ends
 -- before, all rounds pass: then scratch becomes more than any outer counter goes.
 abbrev pub below_cap : List Counter → Option ℕ → Counter → Counter → ℕ → List Insn
 below_cap scope None inner own factor = divided_up factor
 below_cap scope (Some last) inner own factor =
-    room_code scope last inner own bottom ++ (Alu alus.Sltu bottom bottom scratch ∷ (divided_up factor
-    ++ (literal second_scratch (2 ^ 28) ++ (Alu alus.Mul bottom bottom second_scratch ∷ Alu alus.Add scratch scratch bottom ∷ []))))
+    room_code scope last inner own bottom
+    ++ (Alu alus.Sltu bottom bottom scratch ∷ (divided_up factor ++ (Shift shifts.Slli bottom bottom 28 ∷ Alu alus.Add scratch scratch bottom ∷ [])))
 
 abbrev pub below_cut : List Counter → Cut → List Insn
 below_cut scope cut = below_cap scope cut.last cut.inner cut.own cut.factor

@@ -10,17 +10,20 @@ ghost use Rattle.round_code.specs.Rounds as spec;
 
 use halide_pipeline::Source;
 use lane_code::frames::{emit_deep_lanes, emit_others, emit_second};
-use lane_code::goings::{Cut, Going, all_spare, emit_room, going_of, is_rate, is_small};
+use lane_code::goings::{
+    Cut, Going, all_spare, emit_brief, emit_brief_sum, emit_room, going_of, is_rate, is_small,
+    places_of,
+};
 use lane_code::groups::Group;
 use lane_code::values::{emit_offsets, emit_row_offsets, is_steady, is_stepping, pace_of};
 use lane_code::vectors::{configure, store_at, store_row};
 use loop_ir::expressions::{Counter, same_counter};
 use loop_ir::statements::{Stmt, Store, Whole};
-use rv_insn::AluOp;
+use rv_insn::{AluOp, ShiftOp};
 use scalar_code::CodeFault;
 use scalar_code::expressions::{emit_number, emit_value, place_of};
 use scalar_code::frames::need;
-use scalar_code::instructions::{alu, emit_literal};
+use scalar_code::instructions::{alu, emit_literal, shift};
 use scalar_code::loops::{emit_bind, emit_move, next_seat, with_counter};
 use scalar_code::operations::emit_addressed;
 use scalar_code::places::Places;
@@ -304,10 +307,17 @@ fn emit_even_left(code: &mut Vec<u32>, all: bool, stride: u32, r: u8) -> Result<
 fn emit_divided_up(code: &mut Vec<u32>, n: u32) -> Result<(), AllocError>
     ensures { OnOk result (Emits code.old.items code.new.items (spec.divided_up n)) }
 {
-    emit_literal(code, 14, n.saturating_sub(1))?;
-    alu(code, AluOp::Add, 13, 13, 14)?;
-    emit_literal(code, 14, n)?;
-    alu(code, AluOp::Divu, 13, 13, 14)?;
+    if n == 1 {
+        return Ok(());
+    }
+    emit_brief_sum(code, 14, 13, n.saturating_sub(1))?;
+    let places = places_of(n);
+    if places == 0 {
+        emit_brief(code, 13, n)?;
+        alu(code, AluOp::Divu, 13, 14, 13)?;
+    } else {
+        shift(code, ShiftOp::Srli, 13, 14, places)?;
+    }
     Ok(())
 }
 
@@ -327,8 +337,7 @@ fn emit_below_cap(
             emit_room(code, scope, last, inner, own, 20)?;
             alu(code, AluOp::Sltu, 20, 20, 13)?;
             emit_divided_up(code, factor)?;
-            emit_literal(code, 14, 1 << 28)?;
-            alu(code, AluOp::Mul, 20, 20, 14)?;
+            shift(code, ShiftOp::Slli, 20, 20, 28)?;
             alu(code, AluOp::Add, 13, 13, 20)?;
         }
     }
