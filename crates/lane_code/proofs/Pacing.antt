@@ -69,7 +69,8 @@ linear-goes scope goings at n go own i l =
 never-strays : (going : Going) (values : Values) (i : ℕ) → is_even going ≡ true → away going values i ≡ 0
 never-strays (goes.Even stride most) values i t = refl
 never-strays (goes.Once stride most cut) values i t = absurd (true≢false (sym t))
-never-strays (goes.Twice stride first second) values i t = absurd (true≢false (sym t))
+never-strays (goes.Twice stride most first second) values i t = absurd (true≢false (sym t))
+never-strays (goes.Thrice stride first second third) values i t = absurd (true≢false (sym t))
 
 none-strays : (scope : List Counter) (goings : List Going) (values : Values) (terms : List Term) (i : ℕ) → are_even scope goings terms ≡ true → stray_of scope goings values terms i ≡ 0
 none-strays scope goings values [] i t = refl

@@ -29,7 +29,7 @@ use Rattle.lane_code.specs.declared.groups.Group.{Group}
 use Rattle.lane_code.specs.declared.goings.Cut.{Cut}
 use Rattle.lane_code.specs.declared.goings.Going.{Going}
 use Rattle.lane_code.specs.declared.goings.Going.TheVariants as goes
-use Rattle.lane_code.specs.Goings.{going_of, even_stride, room, capped, cut_off, gone, can_go, is_rate, is_small}
+use Rattle.lane_code.specs.Goings.{going_of, even_stride, room, capped, cut_off, gone, can_go, is_rate, is_slow, is_small}
 use Rattle.lane_code.specs.Groups.{registers, slot, spare}
 use Rattle.lane_code.specs.Leaving.{IsKept}
 use Rattle.lane_code.specs.Straying.{brief, brief_sum, places_of, multiplied, room_code, counted, capped_lanes, cut_lanes, added, strays, strayed}
@@ -44,12 +44,14 @@ use Rattle.lane_code.proofs.Operations.{Hold, arithmetic-writes}
 abbrev pub away : Going → Values → ℕ → ℕ
 away (goes.Even stride most) values i = 0
 away (goes.Once stride most cut) values i = gone (goes.Once stride most cut) values i
-away (goes.Twice stride first second) values i = gone (goes.Twice stride first second) values i
+away (goes.Twice stride most first second) values i = gone (goes.Twice stride most first second) values i
+away (goes.Thrice stride first second third) values i = gone (goes.Thrice stride first second third) values i
 
 pub gone-is : (going : Going) (values : Values) (i : ℕ) → gone going values i ≡ i * even_stride going + away going values i
 gone-is (goes.Even stride most) values i = let p = i * stride in (let e : p ≡ p + 0 = omega arith in e)
 gone-is (goes.Once stride most cut) values i = let z : i * 0 ≡ 0 = omega arith in let g = gone (goes.Once stride most cut) values i in (let e : g ≡ i * 0 + g = omega (arith, z) in e)
-gone-is (goes.Twice stride first second) values i = let z : i * 0 ≡ 0 = omega arith in let g = gone (goes.Twice stride first second) values i in (let e : g ≡ i * 0 + g = omega (arith, z) in e)
+gone-is (goes.Twice stride most first second) values i = let z : i * 0 ≡ 0 = omega arith in let g = gone (goes.Twice stride most first second) values i in (let e : g ≡ i * 0 + g = omega (arith, z) in e)
+gone-is (goes.Thrice stride first second third) values i = let z : i * 0 ≡ 0 = omega arith in let g = gone (goes.Thrice stride first second third) values i in (let e : g ≡ i * 0 + g = omega (arith, z) in e)
 
 rate-of : (n : ℕ) → 1 ≤ n → n < 2 ^ 24 → is_rate n ≡ true
 rate-of n some few = let a : nat_lt 0 n ≡ true = grind (arith, nat_tests) in let b : nat_lt n (2 ^ 24) ≡ true = grind (arith, nat_tests) in rw (a, b) refl
@@ -98,13 +100,27 @@ pub record Twofold (stride : ℕ) (first second : Cut) : Type 0 where
   pub small_first : is_small first.last ≡ true
   pub small_second : is_small second.last ≡ true
 
-pub twofold : (stride : ℕ) (first second : Cut) → can_go (goes.Twice stride first second) ≡ true → Twofold stride first second
+pub twofold : (stride : ℕ) (first second : Cut) → (is_slow stride first && (is_rate (stride * first.factor * second.factor) && is_small second.last)) ≡ true → Twofold stride first second
 twofold stride first second can =
-    let t = and_parts (nat_lt (stride * first.factor) (2 ^ 24) && is_small first.last) (is_rate (stride * first.factor * second.factor) && is_small second.last) can in
+    let t = and_parts (is_slow stride first) (is_rate (stride * first.factor * second.factor) && is_small second.last) can in
     let a = and_parts (nat_lt (stride * first.factor) (2 ^ 24)) (is_small first.last) t.0 in
     let b = and_parts (is_rate (stride * first.factor * second.factor)) (is_small second.last) t.1 in
     let outer = is-slow (stride * first.factor) second.factor b.0 in
     record { inner = is-slow stride first.factor (rate-of (stride * first.factor) outer.some outer.few); outer = outer; small_first = a.1; small_second = b.1 }
+
+-- and of three
+pub record Threefold (stride : ℕ) (first second third : Cut) : Type 0 where
+  pub inner : IsSlow stride first.factor
+  pub small : is_small first.last ≡ true
+  pub outer : Twofold (stride * first.factor) second third
+
+pub threefold : (stride : ℕ) (first second third : Cut) → can_go (goes.Thrice stride first second third) ≡ true → Threefold stride first second third
+threefold stride first second third can =
+    let rate = is_rate (stride * first.factor * second.factor * third.factor) in
+    let t = and_parts (is_slow stride first) (is_slow (stride * first.factor) second && (rate && is_small third.last)) can in
+    let a = and_parts (nat_lt (stride * first.factor) (2 ^ 24)) (is_small first.last) t.0 in
+    let outer = twofold (stride * first.factor) second third t.1 in
+    record { inner = is-slow stride first.factor (rate-of (stride * first.factor) outer.inner.some outer.inner.few); small = a.1; outer = outer }
 
 pub times-few : (i p : ℕ) → i < 16 → p < 2 ^ 24 → i * p < 2 ^ 28
 times-few i p few slow = let m = mul-le i p 15 16777215 (omega (arith, few)) (omega (arith, slow)) in omega (arith, m)
@@ -353,7 +369,7 @@ module _ (w : World) (m : List ℕ) (l : length m ≡ w.size) (group : Group) (n
       let hb = still K a.after b.after b.keeps ha in
       let low = far-low d1 (stride * cut.factor) (cut-far cut d0 stride (even-far stride)) slow.slow most in
       spares-first a (spares-first b (added-leaves c small b.after hb x d1 (holds-still b ha (holds-still a has hx)) b.value low))
-  strays-leave (goes.Twice stride first second) c can small most f has seats x hx =
+  strays-leave (goes.Twice stride limit first second) c can small most f has seats x hx =
       let two = twofold stride first second can in
       let d0 = λ (i : ℕ). i * stride in
       let d1 = λ (i : ℕ). cut_off first values (d0 i) in
@@ -370,6 +386,30 @@ module _ (w : World) (m : List ℕ) (l : length m ≡ w.size) (group : Group) (n
       let he = still K b.after e.after e.keeps hb in
       let low = far-low d2 (s1 * second.factor) (cut-far second d1 s1 far1) two.outer.slow most in
       spares-first a (spares-first b (spares-first e (added-leaves c small e.after he x d2 (holds-still e hb (holds-still b ha (holds-still a has hx))) e.value low)))
+  strays-leave (goes.Thrice stride first second third) c can small most f has seats x hx =
+      let three = threefold stride first second third can in
+      let two = three.outer in
+      let d0 = λ (i : ℕ). i * stride in
+      let d1 = λ (i : ℕ). cut_off first values (d0 i) in
+      let d2 = λ (i : ℕ). cut_off second values (d1 i) in
+      let d3 = λ (i : ℕ). cut_off third values (d2 i) in
+      let s1 = stride * first.factor in
+      let s2 = s1 * second.factor in
+      let far1 = cut-far first d0 stride (even-far stride) in
+      let far2 = cut-far second d1 s1 far1 in
+      let a = counted-spares stride three.inner.few most f has in
+      let ha = still K f a.after a.keeps has in
+      let sa = seats-still K f a.after a.keeps seats in
+      let b = cut-spares first stride three.inner three.small most a.after ha sa d0 a.value (even-far stride) in
+      let hb = still K a.after b.after b.keeps ha in
+      let sb = seats-still K a.after b.after b.keeps sa in
+      let e = cut-spares second s1 two.inner two.small_first most b.after hb sb d1 b.value far1 in
+      let he = still K b.after e.after e.keeps hb in
+      let se = seats-still K b.after e.after e.keeps sb in
+      let o = cut-spares third s2 two.outer two.small_second most e.after he se d2 e.value far2 in
+      let ho = still K e.after o.after o.keeps he in
+      let low = far-low d3 (s2 * third.factor) (cut-far third d2 s2 far2) two.outer.slow most in
+      spares-first a (spares-first b (spares-first e (spares-first o (added-leaves c small o.after ho x d3 (holds-still o he (holds-still e hb (holds-still b ha (holds-still a has hx)))) o.value low))))
 
   pub strayed-leaves : (goings : List Going) (terms : List Term) → ((counter : Counter) → can_go (going_of scope goings counter) ≡ true) → are_words terms ≡ true → n ≤ 16 → (f : ℕ → ℕ) → Lanes w m l group n f → Seats f
       → (x : ℕ → ℕ) → Hold w m l group n f r (λ i. x i % 2 ^ 32) → Leaves w m l group n (strayed scope goings terms r u) f k (λ i. (x i + stray_of scope goings values terms i) % 2 ^ 32)

@@ -52,9 +52,14 @@ pub strays-once : (scope : List Counter) (going : Going) (stride most : ℕ) (cu
     → Emits c0 c1 (counted stride u) → Emits c1 c2 (cut_lanes scope cut u) → Emits c2 c3 (added n r u) → Emits c0 c3 (strays scope going n r u)
 strays-once scope going stride most cut n r u c0 c1 c2 c3 is a b c = subst (λ (q : Going). Emits c0 c3 (strays scope q n r u)) (sym is) (emits_then a (emits_then b c))
 
-pub strays-twice : (scope : List Counter) (going : Going) (stride : ℕ) (first second : Cut) (n r u : ℕ) (c0 c1 c2 c3 c4 : List ℕ) → going ≡ goes.Twice stride first second
+pub strays-twice : (scope : List Counter) (going : Going) (stride most : ℕ) (first second : Cut) (n r u : ℕ) (c0 c1 c2 c3 c4 : List ℕ) → going ≡ goes.Twice stride most first second
     → Emits c0 c1 (counted stride u) → Emits c1 c2 (cut_lanes scope first u) → Emits c2 c3 (cut_lanes scope second u) → Emits c3 c4 (added n r u) → Emits c0 c4 (strays scope going n r u)
-strays-twice scope going stride first second n r u c0 c1 c2 c3 c4 is a b c d = subst (λ (q : Going). Emits c0 c4 (strays scope q n r u)) (sym is) (emits_then a (emits_then b (emits_then c d)))
+strays-twice scope going stride most first second n r u c0 c1 c2 c3 c4 is a b c d = subst (λ (q : Going). Emits c0 c4 (strays scope q n r u)) (sym is) (emits_then a (emits_then b (emits_then c d)))
+
+pub strays-thrice : (scope : List Counter) (going : Going) (stride : ℕ) (first second third : Cut) (n r u : ℕ) (c0 c1 c2 c3 c4 c5 : List ℕ) → going ≡ goes.Thrice stride first second third
+    → Emits c0 c1 (counted stride u) → Emits c1 c2 (cut_lanes scope first u) → Emits c2 c3 (cut_lanes scope second u) → Emits c3 c4 (cut_lanes scope third u) → Emits c4 c5 (added n r u) → Emits c0 c5 (strays scope going n r u)
+strays-thrice scope going stride first second third n r u c0 c1 c2 c3 c4 c5 is a b c d e =
+    subst (λ (q : Going). Emits c0 c5 (strays scope q n r u)) (sym is) (emits_then a (emits_then b (emits_then c (emits_then d e))))
 
 -- of a list of terms that isn't empty, as code takes it apart
 pub strayed-emitted : (scope : List Counter) (goings : List Going) (terms : List Term) (other : Term) (going : Going) (r u : ℕ) (c0 c1 c2 : List ℕ) → 1 ≤ length terms

@@ -23,12 +23,14 @@ going_of (latest ∷ others) (going ∷ goings) counter = if same_counter counte
 abbrev pub even_stride : Going → ℕ
 even_stride (goes.Even stride most) = stride
 even_stride (goes.Once stride most cut) = 0
-even_stride (goes.Twice stride first second) = 0
+even_stride (goes.Twice stride most first second) = 0
+even_stride (goes.Thrice stride first second third) = 0
 
 abbrev pub is_even : Going → Bool
 is_even (goes.Even stride most) = true
 is_even (goes.Once stride most cut) = false
-is_even (goes.Twice stride first second) = false
+is_even (goes.Twice stride most first second) = false
+is_even (goes.Thrice stride first second third) = false
 
 -- all counters of a sum are cut off nowhere
 abbrev pub are_even : List Counter → List Going → List Term → Bool
@@ -53,7 +55,8 @@ cut_off cut values n = capped cut.last cut.inner cut.own values (n * cut.factor)
 abbrev pub gone : Going → Values → ℕ → ℕ
 gone (goes.Even stride most) values round = round * stride
 gone (goes.Once stride most cut) values round = cut_off cut values (round * stride)
-gone (goes.Twice stride first second) values round = cut_off second values (cut_off first values (round * stride))
+gone (goes.Twice stride most first second) values round = cut_off second values (cut_off first values (round * stride))
+gone (goes.Thrice stride first second third) values round = cut_off third values (cut_off second values (cut_off first values (round * stride)))
 
 -- ---- limits, within which no round turns over
 
@@ -65,11 +68,16 @@ abbrev pub is_small : Option ℕ → Bool
 is_small None = true
 is_small (Some last) = nat_lt last (2 ^ 31)
 
+-- A value that is cut off goes so little further with each round that it may be an outer counter.
+abbrev pub is_slow : ℕ → Cut → Bool
+is_slow stride cut = nat_lt (stride * cut.factor) (2 ^ 24) && is_small cut.last
+
 abbrev pub can_go : Going → Bool
 can_go (goes.Even stride most) = nat_lt stride (2 ^ 31)
 can_go (goes.Once stride most cut) = is_rate (stride * cut.factor) && is_small cut.last
-can_go (goes.Twice stride first second) =
-    (nat_lt (stride * first.factor) (2 ^ 24) && is_small first.last) && (is_rate (stride * first.factor * second.factor) && is_small second.last)
+can_go (goes.Twice stride most first second) = is_slow stride first && (is_rate (stride * first.factor * second.factor) && is_small second.last)
+can_go (goes.Thrice stride first second third) =
+    is_slow stride first && (is_slow (stride * first.factor) second && (is_rate (stride * first.factor * second.factor * third.factor) && is_small third.last))
 
 -- ---- counters that no cut names
 
@@ -79,7 +87,8 @@ spares_cut counter cut = not (same_counter cut.inner counter) && not (same_count
 abbrev pub spares : Counter → Going → Bool
 spares counter (goes.Even stride most) = true
 spares counter (goes.Once stride most cut) = spares_cut counter cut
-spares counter (goes.Twice stride first second) = spares_cut counter first && spares_cut counter second
+spares counter (goes.Twice stride most first second) = spares_cut counter first && spares_cut counter second
+spares counter (goes.Thrice stride first second third) = spares_cut counter first && (spares_cut counter second && spares_cut counter third)
 
 abbrev pub all_spare : Counter → List Going → Bool
 all_spare counter [] = true

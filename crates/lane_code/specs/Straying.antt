@@ -69,7 +69,9 @@ added n r u = multiplied n u ++ (Vector (v.ArithmeticVv vvs.Vadd r r u true) ∷
 abbrev pub strays : List Counter → Going → ℕ → ℕ → ℕ → List Insn
 strays scope (goes.Even stride most) n r u = []
 strays scope (goes.Once stride most cut) n r u = counted stride u ++ (cut_lanes scope cut u ++ added n r u)
-strays scope (goes.Twice stride first second) n r u = counted stride u ++ (cut_lanes scope first u ++ (cut_lanes scope second u ++ added n r u))
+strays scope (goes.Twice stride most first second) n r u = counted stride u ++ (cut_lanes scope first u ++ (cut_lanes scope second u ++ added n r u))
+strays scope (goes.Thrice stride first second third) n r u =
+    counted stride u ++ (cut_lanes scope first u ++ (cut_lanes scope second u ++ (cut_lanes scope third u ++ added n r u)))
 
 -- so it is of each counter of a sum
 abbrev pub strayed : List Counter → List Going → List Term → ℕ → ℕ → List Insn

@@ -33,8 +33,11 @@ pub enum Going {
     Even(u32, u32),
     /// It is the value of a split loop whose outer counter each round takes so much further; it stays below a bound.
     Once(u32, u32, Cut),
-    /// It is the value of a split loop whose outer counter is such a value.
-    Twice(u32, Cut, Cut),
+    /// It is the value of a split loop whose outer counter is such a value; it stays below a bound.
+    Twice(u32, u32, Cut, Cut),
+    /// It is the value of a split loop whose outer counter is such a one. There are no more cuts: a stage has at most five loops, so at
+    /// most four splits, and the value of the first one that goes along does so evenly.
+    Thrice(u32, Cut, Cut, Cut),
 }
 
 /// How a counter goes along; `goings` has that of the latest counters, `scope` these and those outside of the loop, which stay.
@@ -63,7 +66,8 @@ pub fn even_stride(going: Going) -> u32
     match going {
         Going::Even(stride, _) => stride,
         Going::Once(_, _, _) => 0,
-        Going::Twice(_, _, _) => 0,
+        Going::Twice(_, _, _, _) => 0,
+        Going::Thrice(_, _, _, _) => 0,
     }
 }
 
@@ -73,7 +77,8 @@ fn is_even(going: Going) -> bool
     match going {
         Going::Even(_, _) => true,
         Going::Once(_, _, _) => false,
-        Going::Twice(_, _, _) => false,
+        Going::Twice(_, _, _, _) => false,
+        Going::Thrice(_, _, _, _) => false,
     }
 }
 
@@ -120,7 +125,13 @@ fn spares(counter: Counter, going: Going) -> bool
     match going {
         Going::Even(_, _) => true,
         Going::Once(_, _, cut) => spares_cut(counter, cut),
-        Going::Twice(_, first, second) => spares_cut(counter, first) && spares_cut(counter, second),
+        Going::Twice(_, _, first, second) => {
+            spares_cut(counter, first) && spares_cut(counter, second)
+        }
+        Going::Thrice(_, first, second, third) => {
+            let others = spares_cut(counter, second) && spares_cut(counter, third);
+            spares_cut(counter, first) && others
+        }
     }
 }
 
@@ -312,10 +323,17 @@ fn emit_strays(
             emit_cut(code, scope, cut, u)?;
             emit_added(code, n, r, u)?;
         }
-        Going::Twice(stride, first, second) => {
+        Going::Twice(stride, _, first, second) => {
             emit_counted(code, stride, u)?;
             emit_cut(code, scope, first, u)?;
             emit_cut(code, scope, second, u)?;
+            emit_added(code, n, r, u)?;
+        }
+        Going::Thrice(stride, first, second, third) => {
+            emit_counted(code, stride, u)?;
+            emit_cut(code, scope, first, u)?;
+            emit_cut(code, scope, second, u)?;
+            emit_cut(code, scope, third, u)?;
             emit_added(code, n, r, u)?;
         }
     }

@@ -1,7 +1,7 @@
 -- How many rounds are left below an extent.
 use Rattle.std.proofs.Common.{◌≡◌, ℕ, ◌+◌, ◌-◌, ◌*◌, ◌/◌, ◌^◌, ◌<◌, ◌≤◌, Bool, true, false, refl, ap, ◌∙◌, sym, arith}
 use Rattle.std.specs.Prelude.{◌==◌, min, nat_lt, Option, Some, None}
-use Rattle.std.proofs.Math.Nat.{le-div_iff_mul-le, div-le_self}
+use Rattle.std.proofs.Math.Nat.{le-div_iff_mul-le, div-le_self, mul-le-mul_right}
 use Rattle.std.proofs.lemmas.Bool.{and_parts, true≢false}
 use Rattle.std.proofs.lemmas.Bool.Decides.{nat_tests}
 use Rattle.hart_core.specs.Alu.{one_if}
@@ -11,7 +11,7 @@ use Rattle.lane_code.specs.declared.goings.Cut.{Cut}
 use Rattle.lane_code.specs.declared.goings.Going.{Going}
 use Rattle.lane_code.specs.declared.goings.Going.TheVariants as goes
 use Rattle.lane_code.specs.Goings.{room, capped, cut_off, gone, is_rate, is_small, can_go}
-use Rattle.lane_code.proofs.Straying.{is-slow, twofold, capped-less, times-few, together}
+use Rattle.lane_code.proofs.Straying.{is-slow, twofold, threefold, capped-less, times-few, together}
 use Rattle.round_code.specs.Rounds.{is_still}
 
 is-below : (n k : ℕ) → nat_lt n k ≡ true → n < k
@@ -87,7 +87,8 @@ capped-outside (Some last) inner own values e x f some low l = by-test (room las
 abbrev pub count : Going → Values → ℕ → ℕ
 count (goes.Even stride most) values e = up e stride
 count (goes.Once stride most cut) values e = up (through cut values e) stride
-count (goes.Twice stride first second) values e = up (through first values (through second values e)) stride
+count (goes.Twice stride most first second) values e = up (through first values (through second values e)) stride
+count (goes.Thrice stride first second third) values e = up (through first values (through second values (through third values e))) stride
 
 once-low : (s h k : ℕ) → s * h < 2 ^ 24 → k < 16 → k * s * h < 2 ^ 28
 once-low s h k few b = let e = together k s h in let p = times-few k (s * h) b few in omega (arith, e, p)
@@ -95,29 +96,59 @@ once-low s h k few b = let e = together k s h in let p = times-few k (s * h) b f
 cut-low : (cut : Cut) (values : Values) (n : ℕ) → n * cut.factor < 2 ^ 28 → cut_off cut values n < 2 ^ 28
 cut-low cut values n l = let c = capped-less cut.last cut.inner cut.own values (n * cut.factor) in omega (arith, l, c)
 
+-- what is cut off goes no further
+twice-low : (cut : Cut) (values : Values) (s h k : ℕ) → s * cut.factor * h < 2 ^ 24 → k < 16 → cut_off cut values (k * s) * h < 2 ^ 28
+twice-low cut values s h k few b =
+    let c = mul-le-mul_right h (capped-less cut.last cut.inner cut.own values (k * s * cut.factor)) in
+    let e = ap (λ z. z * h) (together k s cut.factor) in
+    let p = once-low (s * cut.factor) h k few b in
+    omega (arith, c, e, p)
+
 module _ (values : Values) (e k : ℕ) (few : k < 16) where
   pub count-inside : (going : Going) → can_go going ≡ true → is_still going ≡ false → k < count going values e → gone going values k < e
   count-inside (goes.Even stride most) can moves l = up-inside e stride k (not-zero stride moves) l
   count-inside (goes.Once stride most cut) can moves l =
       let slow = is-slow stride cut.factor (and_parts (is_rate (stride * cut.factor)) (is_small cut.last) can).0 in
       capped-inside cut.last cut.inner cut.own values e (k * stride) cut.factor slow.some_factor (up-inside (through cut values e) stride k slow.some l)
-  count-inside (goes.Twice stride first second) can moves l =
+  count-inside (goes.Twice stride most first second) can moves l =
       let two = twofold stride first second can in
       let a = up-inside (through first values (through second values e)) stride k two.inner.some l in
       let b = capped-inside first.last first.inner first.own values (through second values e) (k * stride) first.factor two.inner.some_factor a in
       capped-inside second.last second.inner second.own values e (cut_off first values (k * stride)) second.factor two.outer.some_factor b
+  count-inside (goes.Thrice stride first second third) can moves l =
+      let three = threefold stride first second third can in
+      let two = three.outer in
+      let e1 = through third values e in
+      let e2 = through second values e1 in
+      let d1 = cut_off first values (k * stride) in
+      let a = up-inside (through first values e2) stride k three.inner.some l in
+      let b = capped-inside first.last first.inner first.own values e2 (k * stride) first.factor three.inner.some_factor a in
+      let c = capped-inside second.last second.inner second.own values e1 d1 second.factor two.inner.some_factor b in
+      capped-inside third.last third.inner third.own values e (cut_off second values d1) third.factor two.outer.some_factor c
 
   pub count-outside : (going : Going) → can_go going ≡ true → is_still going ≡ false → gone going values k < e → k < count going values e
   count-outside (goes.Even stride most) can moves l = up-outside e stride k (not-zero stride moves) l
   count-outside (goes.Once stride most cut) can moves l =
       let slow = is-slow stride cut.factor (and_parts (is_rate (stride * cut.factor)) (is_small cut.last) can).0 in
       up-outside (through cut values e) stride k slow.some (capped-outside cut.last cut.inner cut.own values e (k * stride) cut.factor slow.some_factor (times-few k stride few slow.few) l)
-  count-outside (goes.Twice stride first second) can moves l =
+  count-outside (goes.Twice stride most first second) can moves l =
       let two = twofold stride first second can in
       let low = cut-low first values (k * stride) (once-low stride first.factor k two.inner.slow few) in
       let b = capped-outside second.last second.inner second.own values e (cut_off first values (k * stride)) second.factor two.outer.some_factor low l in
       let a = capped-outside first.last first.inner first.own values (through second values e) (k * stride) first.factor two.inner.some_factor (times-few k stride few two.inner.few) b in
       up-outside (through first values (through second values e)) stride k two.inner.some a
+  count-outside (goes.Thrice stride first second third) can moves l =
+      let three = threefold stride first second third can in
+      let two = three.outer in
+      let e1 = through third values e in
+      let e2 = through second values e1 in
+      let d1 = cut_off first values (k * stride) in
+      let low1 = cut-low first values (k * stride) (once-low stride first.factor k three.inner.slow few) in
+      let low2 = cut-low second values d1 (twice-low first values stride second.factor k two.inner.slow few) in
+      let c = capped-outside third.last third.inner third.own values e (cut_off second values d1) third.factor two.outer.some_factor low2 l in
+      let b = capped-outside second.last second.inner second.own values e1 d1 second.factor two.inner.some_factor low1 c in
+      let a = capped-outside first.last first.inner first.own values e2 (k * stride) first.factor three.inner.some_factor (times-few k stride few three.inner.few) b in
+      up-outside (through first values e2) stride k three.inner.some a
 
 pub through-few : (cut : Cut) (values : Values) (e : ℕ) → cut.factor < 2 ^ 24 → through cut values e ≤ e + (2 ^ 24 + 2 ^ 28)
 through-few cut values e few = let a = up-few e cut.factor in let b = more-few cut.last cut.inner cut.own values e in omega (arith, a, b, few)
@@ -130,18 +161,30 @@ count-few (goes.Once stride most cut) values e can small =
     let b = through-few cut values e slow.few_factor in
     let c = slow.few in
     omega (arith, a, b, c, small)
-count-few (goes.Twice stride first second) values e can small =
+count-few (goes.Twice stride most first second) values e can small =
     let two = twofold stride first second can in
     let a = up-few (through first values (through second values e)) stride in
     let b = through-few first values (through second values e) two.inner.few_factor in
     let c = through-few second values e two.outer.few_factor in
     let d = two.inner.few in
     omega (arith, a, b, c, d, small)
+count-few (goes.Thrice stride first second third) values e can small =
+    let three = threefold stride first second third can in
+    let two = three.outer in
+    let e1 = through third values e in
+    let e2 = through second values e1 in
+    let a = up-few (through first values e2) stride in
+    let b = through-few first values e2 three.inner.few_factor in
+    let c = through-few second values e1 two.inner.few_factor in
+    let d = through-few third values e two.outer.few_factor in
+    let s = three.inner.few in
+    omega (arith, a, b, c, d, s, small)
 
 pub still-gone : (going : Going) (values : Values) (k : ℕ) → is_still going ≡ true → gone going values k ≡ 0
 still-gone (goes.Even stride most) values k t = ap (λ s. k * s) (is-zero stride t) ∙ (let g : k * 0 ≡ 0 = omega arith in g)
 still-gone (goes.Once stride most cut) values k t = absurd (true≢false (sym t))
-still-gone (goes.Twice stride first second) values k t = absurd (true≢false (sym t))
+still-gone (goes.Twice stride most first second) values k t = absurd (true≢false (sym t))
+still-gone (goes.Thrice stride first second third) values k t = absurd (true≢false (sym t))
 
 -- ---- how many are parked
 
@@ -153,7 +196,8 @@ left_by false false left q = min left q
 abbrev pub left_after : Going → Bool → ℕ → ℕ → ℕ
 left_after (goes.Even stride most) all left q = left_by (stride == 0) all left q
 left_after (goes.Once stride most cut) all left q = min left q
-left_after (goes.Twice stride first second) all left q = min left q
+left_after (goes.Twice stride most first second) all left q = min left q
+left_after (goes.Thrice stride first second third) all left q = min left q
 
 abbrev pub passing_by : Bool → ℕ → ℕ → ℕ
 passing_by true n q = n
@@ -167,7 +211,8 @@ left-count (goes.Even stride most) all left q n room e whole = by-test (stride =
     by-test false true whole = let g = whole refl in omega (arith, g)
     by-test false false whole = omega (arith, e)
 left-count (goes.Once stride most cut) all left q n room e whole = omega (arith, e)
-left-count (goes.Twice stride first second) all left q n room e whole = omega (arith, e)
+left-count (goes.Twice stride most first second) all left q n room e whole = omega (arith, e)
+left-count (goes.Thrice stride first second third) all left q n room e whole = omega (arith, e)
 
 pub left-small : (going : Going) (all : Bool) (left q : ℕ) → left < 2 ^ 32 → q < 2 ^ 32 → left_after going all left q < 2 ^ 32
 left-small (goes.Even stride most) all left q l b = by-test (stride == 0) all
@@ -177,4 +222,5 @@ left-small (goes.Even stride most) all left q l b = by-test (stride == 0) all
     by-test false true = b
     by-test false false = omega (arith, l)
 left-small (goes.Once stride most cut) all left q l b = omega (arith, l)
-left-small (goes.Twice stride first second) all left q l b = omega (arith, l)
+left-small (goes.Twice stride most first second) all left q l b = omega (arith, l)
+left-small (goes.Thrice stride first second third) all left q l b = omega (arith, l)

@@ -28,7 +28,7 @@ use Rattle.lane_code.specs.declared.goings.Going.TheVariants as goes
 use Rattle.lane_code.specs.Goings.{room, is_rate, is_small, can_go}
 use Rattle.lane_code.specs.Straying.{brief, brief_sum, places_of, room_code}
 use Rattle.lane_code.proofs.Brevity.{same-number, places-few, places-are, brief-sets, brief-sum-sets}
-use Rattle.lane_code.proofs.Straying.{is-slow, twofold}
+use Rattle.lane_code.proofs.Straying.{is-slow, twofold, threefold}
 use Rattle.round_code.specs.Rounds.{lesser, divided_up, below_cap, below_cut, left_over}
 use Rattle.round_code.proofs.Counting.{up, up-few, more, more-few, through, through-few, count, left_after}
 use Rattle.round_code.proofs.Parking.{Parks, even-parks, no-scratch, lesser-counts, divided}
@@ -213,9 +213,9 @@ module _ (own : Setting) (good : IsSetting own) (depth : ℕ) (scope : List Coun
         (a.others 15 (λ e. omega (arith, e)) (λ e. omega (arith, e)) (λ e. omega (arith, e)) ∙ first.others 15 (λ e. omega (arith, e)) ∙ e15) in
         record { does = lines-then own first-does (lines-then own a.does b.does); left_is = b.left_is }
 
-    twice-parks : (stride : ℕ) (one two : Cut) → can_go (goes.Twice stride one two) ≡ true → (all : Bool) → Parks own good depth (left_over scope all (goes.Twice stride one two) r) f memory funcs (min left (count (goes.Twice stride one two) values e))
+    twice-parks : (stride most : ℕ) (one two : Cut) → can_go (goes.Twice stride most one two) ≡ true → (all : Bool) → Parks own good depth (left_over scope all (goes.Twice stride most one two) r) f memory funcs (min left (count (goes.Twice stride most one two) values e))
     unfolding first-does first
-    twice-parks stride one two can all =
+    twice-parks stride most one two can all =
         let t = twofold stride one two can in
         let a = cut-scratched two t.small_second t.outer.some_factor t.outer.few_factor first.after memory funcs holds seats-first e first-is (omega (arith, small)) in
         let low = through-few two values e t.outer.few_factor in
@@ -225,7 +225,29 @@ module _ (own : Setting) (good : IsSetting own) (depth : ℕ) (scope : List Coun
         (c.others 15 (λ e. omega (arith, e)) (λ e. omega (arith, e)) (λ e. omega (arith, e)) ∙ a.others 15 (λ e. omega (arith, e)) (λ e. omega (arith, e)) (λ e. omega (arith, e)) ∙ first.others 15 (λ e. omega (arith, e)) ∙ e15) in
         record { does = lines-then own first-does (lines-then own a.does (lines-then own c.does b.does)); left_is = b.left_is }
 
+    thrice-parks : (stride : ℕ) (one two three : Cut) → can_go (goes.Thrice stride one two three) ≡ true → (all : Bool)
+        → Parks own good depth (left_over scope all (goes.Thrice stride one two three) r) f memory funcs (min left (count (goes.Thrice stride one two three) values e))
+    unfolding first-does first
+    thrice-parks stride one two three can all =
+        let t = threefold stride one two three can in
+        let e1 = through three values e in
+        let e2 = through two values e1 in
+        let e3 = through one values e2 in
+        let a = cut-scratched three t.outer.small_second t.outer.outer.some_factor t.outer.outer.few_factor first.after memory funcs holds seats-first e first-is (omega (arith, small)) in
+        let sa = seat-others first.after a.does.after a.others seats-first in
+        let la = through-few three values e t.outer.outer.few_factor in
+        let b = cut-scratched two t.outer.small_first t.outer.inner.some_factor t.outer.inner.few_factor a.does.after a.does.left funcs a.does.holds sa e1 a.number_is (omega (arith, la, small)) in
+        let sb = seat-others a.does.after b.does.after b.others sa in
+        let lb = through-few two values e1 t.outer.inner.few_factor in
+        let c = cut-scratched one t.small t.inner.some_factor t.inner.few_factor b.does.after b.does.left funcs b.does.holds sb e2 b.number_is (omega (arith, la, lb, small)) in
+        let lc = through-few one values e2 t.inner.few_factor in
+        let d = last-parks stride e3 t.inner.some t.inner.few c.does.after c.does.left c.does.holds c.number_is (omega (arith, la, lb, lc, small))
+        (c.others 15 (λ e. omega (arith, e)) (λ e. omega (arith, e)) (λ e. omega (arith, e)) ∙ b.others 15 (λ e. omega (arith, e)) (λ e. omega (arith, e)) (λ e. omega (arith, e))
+        ∙ a.others 15 (λ e. omega (arith, e)) (λ e. omega (arith, e)) (λ e. omega (arith, e)) ∙ first.others 15 (λ e. omega (arith, e)) ∙ e15) in
+        record { does = lines-then own first-does (lines-then own a.does (lines-then own b.does (lines-then own c.does d.does))); left_is = d.left_is }
+
     pub parks : (going : Going) → can_go going ≡ true → (all : Bool) → Parks own good depth (left_over scope all going r) f memory funcs (left_after going all left (count going values e))
     parks (goes.Even stride most) can all = even-parks own good depth stride r rh (is-below stride (2 ^ 31) can) f memory funcs holds v extent left er e13 e15 l small ll all
     parks (goes.Once stride most cut) can all = once-parks stride most cut can all
-    parks (goes.Twice stride one two) can all = twice-parks stride one two can all
+    parks (goes.Twice stride most one two) can all = twice-parks stride most one two can all
+    parks (goes.Thrice stride one two three) can all = thrice-parks stride one two three can all

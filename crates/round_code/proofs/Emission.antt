@@ -80,10 +80,16 @@ pub once-left : (scope : List Counter) (all : Bool) (going : Going) (stride most
     → Emits c0 c1 (Alu alus.Sub 13 13 r ∷ []) → Emits c1 c2 (below_cut scope cut) → Emits c2 c3 (divided_up stride) → Emits c3 c4 lesser → Emits c0 c4 (left_over scope all going r)
 once-left scope all going stride most cut r c0 c1 c2 c3 c4 is a b c d = subst (λ (q : Going). Emits c0 c4 (left_over scope all q r)) (sym is) (emits_then a (emits_then b (emits_then c d)))
 
-pub twice-left : (scope : List Counter) (all : Bool) (going : Going) (stride : ℕ) (first second : Cut) (r : ℕ) (c0 c1 c2 c3 c4 c5 : List ℕ) → going ≡ goes.Twice stride first second
+pub twice-left : (scope : List Counter) (all : Bool) (going : Going) (stride most : ℕ) (first second : Cut) (r : ℕ) (c0 c1 c2 c3 c4 c5 : List ℕ) → going ≡ goes.Twice stride most first second
     → Emits c0 c1 (Alu alus.Sub 13 13 r ∷ []) → Emits c1 c2 (below_cut scope second) → Emits c2 c3 (below_cut scope first) → Emits c3 c4 (divided_up stride) → Emits c4 c5 lesser
     → Emits c0 c5 (left_over scope all going r)
-twice-left scope all going stride first second r c0 c1 c2 c3 c4 c5 is a b c d e = subst (λ (q : Going). Emits c0 c5 (left_over scope all q r)) (sym is) (emits_then a (emits_then b (emits_then c (emits_then d e))))
+twice-left scope all going stride most first second r c0 c1 c2 c3 c4 c5 is a b c d e = subst (λ (q : Going). Emits c0 c5 (left_over scope all q r)) (sym is) (emits_then a (emits_then b (emits_then c (emits_then d e))))
+
+pub thrice-left : (scope : List Counter) (all : Bool) (going : Going) (stride : ℕ) (first second third : Cut) (r : ℕ) (c0 c1 c2 c3 c4 c5 c6 : List ℕ) → going ≡ goes.Thrice stride first second third
+    → Emits c0 c1 (Alu alus.Sub 13 13 r ∷ []) → Emits c1 c2 (below_cut scope third) → Emits c2 c3 (below_cut scope second) → Emits c3 c4 (below_cut scope first) → Emits c4 c5 (divided_up stride) → Emits c5 c6 lesser
+    → Emits c0 c6 (left_over scope all going r)
+thrice-left scope all going stride first second third r c0 c1 c2 c3 c4 c5 c6 is a b c d e f =
+    subst (λ (q : Going). Emits c0 c6 (left_over scope all q r)) (sym is) (emits_then a (emits_then b (emits_then c (emits_then d (emits_then e f)))))
 
 pub even-left : (scope : List Counter) (all : Bool) (going : Going) (stride most : ℕ) (r : ℕ) (c0 c1 : List ℕ) → going ≡ goes.Even stride most → Emits c0 c1 (even_left all stride r) → Emits c0 c1 (left_over scope all going r)
 even-left scope all going stride most r c0 c1 is a = subst (λ (q : Going). Emits c0 c1 (left_over scope all q r)) (sym is) a

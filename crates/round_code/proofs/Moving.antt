@@ -18,8 +18,8 @@ use Rattle.loop_ir.specs.Running.{at_most}
 use Rattle.lane_code.specs.declared.goings.Cut.{Cut}
 use Rattle.lane_code.specs.declared.goings.Going.{Going}
 use Rattle.lane_code.specs.declared.goings.Going.TheVariants as goes
-use Rattle.lane_code.specs.Goings.{going_of, room, capped, cut_off, gone, is_rate, is_small, can_go, spares_cut, spares, all_spare}
-use Rattle.lane_code.proofs.Straying.{is-slow, capped-less}
+use Rattle.lane_code.specs.Goings.{going_of, room, capped, cut_off, gone, is_rate, is_slow, is_small, can_go, spares_cut, spares, all_spare}
+use Rattle.lane_code.proofs.Straying.{is-slow, twofold, threefold, capped-less}
 use Rattle.round_code.specs.Rounds.{outer_goes, cut_of, if_so, may_cut, goes_evenly, goes_by}
 
 is-below : (n k : ℕ) → nat_lt n k ≡ true → n < k
@@ -56,9 +56,17 @@ cut-spared counter cut v n values t =
 pub gone-spared : (counter : Counter) (going : Going) (v k : ℕ) (values : Values) → spares counter going ≡ true → gone going (with counter v values) k ≡ gone going values k
 gone-spared counter (goes.Even stride most) v k values t = refl
 gone-spared counter (goes.Once stride most cut) v k values t = cut-spared counter cut v (k * stride) values t
-gone-spared counter (goes.Twice stride first second) v k values t =
+gone-spared counter (goes.Twice stride most first second) v k values t =
     let a = and_parts (spares_cut counter first) (spares_cut counter second) t in
     ap (cut_off second (with counter v values)) (cut-spared counter first v (k * stride) values a.0) ∙ cut-spared counter second v (cut_off first values (k * stride)) values a.1
+gone-spared counter (goes.Thrice stride first second third) v k values t =
+    let a = and_parts (spares_cut counter first) (spares_cut counter second && spares_cut counter third) t in
+    let b = and_parts (spares_cut counter second) (spares_cut counter third) a.1 in
+    let later = with counter v values in
+    let d = cut_off first values (k * stride) in
+    ap (λ n. cut_off third later (cut_off second later n)) (cut-spared counter first v (k * stride) values a.0)
+    ∙ ap (cut_off third later) (cut-spared counter second v d values b.0)
+    ∙ cut-spared counter third v (cut_off second values d) values b.1
 
 pub spares-one : (counter : Counter) (scope : List Counter) (goings : List Going) (c : Counter) → all_spare counter goings ≡ true → spares counter (going_of scope goings c) ≡ true
 spares-one counter [] goings c t = refl
@@ -105,12 +113,18 @@ gone-steps (goes.Once stride most cut) values k t =
     let slow = is-slow stride cut.factor (and_parts (is_rate (stride * cut.factor)) (is_small cut.last) t).0 in
     let l = slow.slow in
     wider (omega (arith, l)) (cut-steps cut values (k * stride) ((k + 1) * stride) stride (even-steps k stride))
-gone-steps (goes.Twice stride first second) values k t =
-    let a = and_parts (nat_lt (stride * first.factor) (2 ^ 24) && is_small first.last) (is_rate (stride * first.factor * second.factor) && is_small second.last) t in
-    let slow = is-slow (stride * first.factor) second.factor (and_parts (is_rate (stride * first.factor * second.factor)) (is_small second.last) a.1).0 in
-    let l = slow.slow in
+gone-steps (goes.Twice stride most first second) values k t =
+    let two = twofold stride first second t in
+    let l = two.outer.slow in
     wider (omega (arith, l)) (cut-steps second values (cut_off first values (k * stride)) (cut_off first values ((k + 1) * stride)) (stride * first.factor)
     (cut-steps first values (k * stride) ((k + 1) * stride) stride (even-steps k stride)))
+gone-steps (goes.Thrice stride first second third) values k t =
+    let three = threefold stride first second third t in
+    let l = three.outer.outer.slow in
+    let d1 = cut_off first values (k * stride) in
+    let next1 = cut_off first values ((k + 1) * stride) in
+    wider (omega (arith, l)) (cut-steps third values (cut_off second values d1) (cut_off second values next1) (stride * first.factor * second.factor)
+    (cut-steps second values d1 next1 (stride * first.factor) (cut-steps first values (k * stride) ((k + 1) * stride) stride (even-steps k stride))))
 
 none-cut : (cut : Cut) (values : Values) (n : ℕ) → n ≡ 0 → cut_off cut values n ≡ 0
 none-cut cut values n e =
@@ -122,7 +136,10 @@ none-cut cut values n e =
 pub none-gone : (going : Going) (values : Values) → gone going values 0 ≡ 0
 none-gone (goes.Even stride most) values = let e : 0 * stride ≡ 0 = omega arith in e
 none-gone (goes.Once stride most cut) values = none-cut cut values (0 * stride) (let e : 0 * stride ≡ 0 = omega arith in e)
-none-gone (goes.Twice stride first second) values = none-cut second values (cut_off first values (0 * stride)) (none-cut first values (0 * stride) (let e : 0 * stride ≡ 0 = omega arith in e))
+none-gone (goes.Twice stride most first second) values = none-cut second values (cut_off first values (0 * stride)) (none-cut first values (0 * stride) (let e : 0 * stride ≡ 0 = omega arith in e))
+none-gone (goes.Thrice stride first second third) values =
+    let d = cut_off first values (0 * stride) in
+    none-cut third values (cut_off second values d) (none-cut second values d (none-cut first values (0 * stride) (let e : 0 * stride ≡ 0 = omega arith in e)))
 
 -- ---- a split loop's value
 
@@ -236,7 +253,8 @@ no-going e = absurd (cc e)
 abbrev pub IsBelow : Going → ℕ → Type 0
 IsBelow (goes.Even stride most) v = (stride ≡ 0) ⊎ (v < most)
 IsBelow (goes.Once stride most cut) v = v < most
-IsBelow (goes.Twice stride first second) v = Unit {0}
+IsBelow (goes.Twice stride most first second) v = v < most
+IsBelow (goes.Thrice stride first second third) v = Unit {0}
 
 product-low : (v most f : ℕ) → v < most → 1 ≤ f → most * f ≤ 2 ^ 32 → v * f < 2 ^ 32
 product-low v most f l some low =
@@ -317,23 +335,44 @@ module _ (whole : Whole) (own : Counter) (extent : ℕ) (values : Values) (apart
   goes-moved (goes.Even so most) (goes.Once stride least cut) going k e sog sig low =
       let s = so-is (so == 0) (goes.Once stride extent cut) going e in
       steady-moved so least (goes.Once stride least cut) k s.holds sig ∙ ap (λ (g : Going). (first + gone g within k) % 2 ^ 32) s.is
-  goes-moved (goes.Even so most) (goes.Twice stride one two) going k e sog sig low =
-      let s = so-is (so == 0) (goes.Twice stride one two) going e in
-      steady-moved so 0 (goes.Twice stride one two) k s.holds sig ∙ ap (λ (g : Going). (first + gone g within k) % 2 ^ 32) s.is
+  goes-moved (goes.Even so most) (goes.Twice stride least one two) going k e sog sig low =
+      let s = so-is (so == 0) (goes.Twice stride extent one two) going e in
+      steady-moved so least (goes.Twice stride least one two) k s.holds sig ∙ ap (λ (g : Going). (first + gone g within k) % 2 ^ 32) s.is
+  goes-moved (goes.Even so most) (goes.Thrice stride one two three) going k e sog sig low =
+      let s = so-is (so == 0) (goes.Thrice stride one two three) going e in
+      steady-moved so 0 (goes.Thrice stride one two three) k s.holds sig ∙ ap (λ (g : Going). (first + gone g within k) % 2 ^ 32) s.is
   goes-moved (goes.Once stride most cut) (goes.Even si least) going k e sog sig low =
-      let test = (nat_lt (stride * cut.factor) (2 ^ 24) && is_small cut.last) && is_rate (stride * cut.factor * f) in
-      let s = so-is (si == 0 && (test && may_cut whole most)) (goes.Twice stride cut (cut_of whole own)) going e in
+      let test = is_slow stride cut && is_rate (stride * cut.factor * f) in
+      let s = so-is (si == 0 && (test && may_cut whole most)) (goes.Twice stride extent cut (cut_of whole own)) going e in
       let a = and_parts (si == 0) (test && may_cut whole most) s.holds in
       let b = and_parts test (may_cut whole most) a.1 in
-      let c = and_parts (nat_lt (stride * cut.factor) (2 ^ 24) && is_small cut.last) (is_rate (stride * cut.factor * f)) b.0 in
+      let c = and_parts (is_slow stride cut) (is_rate (stride * cut.factor * f)) b.0 in
       let slow = is-slow (stride * cut.factor) f c.1 in
       ap (λ n. moved (cut_off cut values (k * stride)) (k * n)) (is-zero si a.0)
       ∙ cut-moved (cut_off cut values (k * stride)) most low slow.some_factor b.1 k
       ∙ ap (λ n. (first + cut_off (cut_of whole own) within n) % 2 ^ 32) (sym (cut-spared own cut first (k * stride) values sog))
       ∙ ap (λ (g : Going). (first + gone g within k) % 2 ^ 32) s.is
   goes-moved (goes.Once stride most cut) (goes.Once other least last) going k e sog sig low = absurd (no-going e)
-  goes-moved (goes.Once stride most cut) (goes.Twice other one two) going k e sog sig low = absurd (no-going e)
-  goes-moved (goes.Twice stride one two) ig going k e sog sig low = absurd (no-going e)
+  goes-moved (goes.Once stride most cut) (goes.Twice other least one two) going k e sog sig low = absurd (no-going e)
+  goes-moved (goes.Once stride most cut) (goes.Thrice other one two three) going k e sog sig low = absurd (no-going e)
+  goes-moved (goes.Twice stride most one two) (goes.Even si least) going k e sog sig low =
+      let rate = is_rate (stride * one.factor * two.factor * f) in
+      let test = is_slow stride one && (is_slow (stride * one.factor) two && rate) in
+      let s = so-is (si == 0 && (test && may_cut whole most)) (goes.Thrice stride one two (cut_of whole own)) going e in
+      let a = and_parts (si == 0) (test && may_cut whole most) s.holds in
+      let b = and_parts test (may_cut whole most) a.1 in
+      let c = and_parts (is_slow stride one) (is_slow (stride * one.factor) two && rate) b.0 in
+      let d = and_parts (is_slow (stride * one.factor) two) rate c.1 in
+      let slow = is-slow (stride * one.factor * two.factor) f d.1 in
+      let outer = goes.Twice stride most one two in
+      ap (λ n. moved (gone outer values k) (k * n)) (is-zero si a.0)
+      ∙ cut-moved (gone outer values k) most low slow.some_factor b.1 k
+      ∙ ap (λ n. (first + cut_off (cut_of whole own) within n) % 2 ^ 32) (sym (gone-spared own outer first k values sog))
+      ∙ ap (λ (g : Going). (first + gone g within k) % 2 ^ 32) s.is
+  goes-moved (goes.Twice stride most one two) (goes.Once other least last) going k e sog sig low = absurd (no-going e)
+  goes-moved (goes.Twice stride most one two) (goes.Twice other least three last) going k e sog sig low = absurd (no-going e)
+  goes-moved (goes.Twice stride most one two) (goes.Thrice other three four last) going k e sog sig low = absurd (no-going e)
+  goes-moved (goes.Thrice stride one two three) ig going k e sog sig low = absurd (no-going e)
 
   even-can : (so most si : ℕ) (going : Going) → goes_evenly whole own extent so most si ≡ Some going → can_go going ≡ true
   even-can so most si going e = by-test (outer_goes whole.last so) e
@@ -356,20 +395,38 @@ module _ (whole : Whole) (own : Counter) (extent : ℕ) (values : Values) (apart
   goes-can (goes.Even so most) (goes.Even si least) going e can = even-can so most si going e
   goes-can (goes.Even so most) (goes.Once stride least cut) going e can =
       let s = so-is (so == 0) (goes.Once stride extent cut) going e in subst (λ (g : Going). can_go g ≡ true) s.is can
-  goes-can (goes.Even so most) (goes.Twice stride one two) going e can =
-      let s = so-is (so == 0) (goes.Twice stride one two) going e in subst (λ (g : Going). can_go g ≡ true) s.is can
+  goes-can (goes.Even so most) (goes.Twice stride least one two) going e can =
+      let s = so-is (so == 0) (goes.Twice stride extent one two) going e in subst (λ (g : Going). can_go g ≡ true) s.is can
+  goes-can (goes.Even so most) (goes.Thrice stride one two three) going e can =
+      let s = so-is (so == 0) (goes.Thrice stride one two three) going e in subst (λ (g : Going). can_go g ≡ true) s.is can
   goes-can (goes.Once stride most cut) (goes.Even si least) going e can =
-      let test = (nat_lt (stride * cut.factor) (2 ^ 24) && is_small cut.last) && is_rate (stride * cut.factor * f) in
-      let s = so-is (si == 0 && (test && may_cut whole most)) (goes.Twice stride cut (cut_of whole own)) going e in
+      let test = is_slow stride cut && is_rate (stride * cut.factor * f) in
+      let s = so-is (si == 0 && (test && may_cut whole most)) (goes.Twice stride extent cut (cut_of whole own)) going e in
       let a = and_parts (si == 0) (test && may_cut whole most) s.holds in
       let b = and_parts test (may_cut whole most) a.1 in
-      let c = and_parts (nat_lt (stride * cut.factor) (2 ^ 24) && is_small cut.last) (is_rate (stride * cut.factor * f)) b.0 in
+      let c = and_parts (is_slow stride cut) (is_rate (stride * cut.factor * f)) b.0 in
       let d = and_parts (nat_le (most * f) (2 ^ 32)) (is_small whole.last) b.1 in
       subst (λ (g : Going). can_go g ≡ true) s.is
-      (and_from (nat_lt (stride * cut.factor) (2 ^ 24) && is_small cut.last) (is_rate (stride * cut.factor * f) && is_small whole.last) c.0 (and_from (is_rate (stride * cut.factor * f)) (is_small whole.last) c.1 d.1))
+      (and_from (is_slow stride cut) (is_rate (stride * cut.factor * f) && is_small whole.last) c.0 (and_from (is_rate (stride * cut.factor * f)) (is_small whole.last) c.1 d.1))
   goes-can (goes.Once stride most cut) (goes.Once other least last) going e can = absurd (no-going e)
-  goes-can (goes.Once stride most cut) (goes.Twice other one two) going e can = absurd (no-going e)
-  goes-can (goes.Twice stride one two) ig going e can = absurd (no-going e)
+  goes-can (goes.Once stride most cut) (goes.Twice other least one two) going e can = absurd (no-going e)
+  goes-can (goes.Once stride most cut) (goes.Thrice other one two three) going e can = absurd (no-going e)
+  goes-can (goes.Twice stride most one two) (goes.Even si least) going e can =
+      let rate = is_rate (stride * one.factor * two.factor * f) in
+      let slow = is_slow (stride * one.factor) two in
+      let test = is_slow stride one && (slow && rate) in
+      let s = so-is (si == 0 && (test && may_cut whole most)) (goes.Thrice stride one two (cut_of whole own)) going e in
+      let a = and_parts (si == 0) (test && may_cut whole most) s.holds in
+      let b = and_parts test (may_cut whole most) a.1 in
+      let c = and_parts (is_slow stride one) (slow && rate) b.0 in
+      let h = and_parts slow rate c.1 in
+      let d = and_parts (nat_le (most * f) (2 ^ 32)) (is_small whole.last) b.1 in
+      subst (λ (g : Going). can_go g ≡ true) s.is
+      (and_from (is_slow stride one) (slow && (rate && is_small whole.last)) c.0 (and_from slow (rate && is_small whole.last) h.0 (and_from rate (is_small whole.last) h.1 d.1)))
+  goes-can (goes.Twice stride most one two) (goes.Once other least last) going e can = absurd (no-going e)
+  goes-can (goes.Twice stride most one two) (goes.Twice other least three last) going e can = absurd (no-going e)
+  goes-can (goes.Twice stride most one two) (goes.Thrice other three four last) going e can = absurd (no-going e)
+  goes-can (goes.Thrice stride one two three) ig going e can = absurd (no-going e)
 
   even-below : (so most si : ℕ) (going : Going) (v : ℕ) → goes_evenly whole own extent so most si ≡ Some going → v < extent → IsBelow going v
   even-below so most si going v e l = by-test (outer_goes whole.last so) e
@@ -384,11 +441,20 @@ module _ (whole : Whole) (own : Counter) (extent : ℕ) (values : Values) (apart
   pub goes-below : (og ig going : Going) (v : ℕ) → goes_by whole own extent og ig ≡ Some going → v < extent → IsBelow going v
   goes-below (goes.Even so most) (goes.Even si least) going v e l = even-below so most si going v e l
   goes-below (goes.Even so most) (goes.Once stride least cut) going v e l = let s = so-is (so == 0) (goes.Once stride extent cut) going e in subst (λ (g : Going). IsBelow g v) s.is l
-  goes-below (goes.Even so most) (goes.Twice stride one two) going v e l = let s = so-is (so == 0) (goes.Twice stride one two) going e in subst (λ (g : Going). IsBelow g v) s.is tt
+  goes-below (goes.Even so most) (goes.Twice stride least one two) going v e l = let s = so-is (so == 0) (goes.Twice stride extent one two) going e in subst (λ (g : Going). IsBelow g v) s.is l
+  goes-below (goes.Even so most) (goes.Thrice stride one two three) going v e l = let s = so-is (so == 0) (goes.Thrice stride one two three) going e in subst (λ (g : Going). IsBelow g v) s.is tt
   goes-below (goes.Once stride most cut) (goes.Even si least) going v e l =
-      let test = (nat_lt (stride * cut.factor) (2 ^ 24) && is_small cut.last) && is_rate (stride * cut.factor * f) in
-      let s = so-is (si == 0 && (test && may_cut whole most)) (goes.Twice stride cut (cut_of whole own)) going e in
-      subst (λ (g : Going). IsBelow g v) s.is tt
+      let test = is_slow stride cut && is_rate (stride * cut.factor * f) in
+      let s = so-is (si == 0 && (test && may_cut whole most)) (goes.Twice stride extent cut (cut_of whole own)) going e in
+      subst (λ (g : Going). IsBelow g v) s.is l
   goes-below (goes.Once stride most cut) (goes.Once other least last) going v e l = absurd (no-going e)
-  goes-below (goes.Once stride most cut) (goes.Twice other one two) going v e l = absurd (no-going e)
-  goes-below (goes.Twice stride one two) ig going v e l = absurd (no-going e)
+  goes-below (goes.Once stride most cut) (goes.Twice other least one two) going v e l = absurd (no-going e)
+  goes-below (goes.Once stride most cut) (goes.Thrice other one two three) going v e l = absurd (no-going e)
+  goes-below (goes.Twice stride most one two) (goes.Even si least) going v e l =
+      let test = is_slow stride one && (is_slow (stride * one.factor) two && is_rate (stride * one.factor * two.factor * f)) in
+      let s = so-is (si == 0 && (test && may_cut whole most)) (goes.Thrice stride one two (cut_of whole own)) going e in
+      subst (λ (g : Going). IsBelow g v) s.is tt
+  goes-below (goes.Twice stride most one two) (goes.Once other least last) going v e l = absurd (no-going e)
+  goes-below (goes.Twice stride most one two) (goes.Twice other least three last) going v e l = absurd (no-going e)
+  goes-below (goes.Twice stride most one two) (goes.Thrice other three four last) going v e l = absurd (no-going e)
+  goes-below (goes.Thrice stride one two three) ig going v e l = absurd (no-going e)

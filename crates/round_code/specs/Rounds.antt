@@ -29,7 +29,7 @@ use Rattle.lane_code.specs.Groups.{registers, slot, vtype_of}
 use Rattle.lane_code.specs.declared.goings.Cut.{Cut}
 use Rattle.lane_code.specs.declared.goings.Going.{Going}
 use Rattle.lane_code.specs.declared.goings.Going.TheVariants as goes
-use Rattle.lane_code.specs.Goings.{going_of, is_rate, is_small, all_spare}
+use Rattle.lane_code.specs.Goings.{going_of, is_rate, is_slow, is_small, all_spare}
 use Rattle.lane_code.specs.DeepLanes.{deep_laned, pair_fits, pair_code, triple_fits, triple_code}
 use Rattle.lane_code.specs.Lanes.{is_stepping, is_steady, pace_of, offsets, row_offsets}
 use Rattle.lane_code.specs.Straying.{brief, brief_sum, places_of, room_code}
@@ -131,20 +131,32 @@ goes_evenly whole own extent outer most inner =
     else if_so (inner == 0 && (is_rate (outer * whole.factor) && may_cut whole most)) (goes.Once outer extent (cut_of whole own))
 
 -- The outer counter is cut off already.
-abbrev pub goes_twice : Whole → Counter → ℕ → ℕ → Cut → ℕ → Option Going
-goes_twice whole own stride most cut inner =
-    if_so (inner == 0 && (((nat_lt (stride * cut.factor) (2 ^ 24) && is_small cut.last) && is_rate (stride * cut.factor * whole.factor)) && may_cut whole most))
-    (goes.Twice stride cut (cut_of whole own))
+abbrev pub goes_twice : Whole → Counter → ℕ → ℕ → ℕ → Cut → ℕ → Option Going
+goes_twice whole own extent stride most cut inner =
+    if_so (inner == 0 && ((is_slow stride cut && is_rate (stride * cut.factor * whole.factor)) && may_cut whole most)) (goes.Twice stride extent cut (cut_of whole own))
+
+-- It is cut off twice.
+abbrev pub goes_thrice : Whole → Counter → ℕ → ℕ → Cut → Cut → ℕ → Option Going
+goes_thrice whole own stride most first second inner =
+    if_so
+    (inner == 0 && ((is_slow stride first && (is_slow (stride * first.factor) second && is_rate (stride * first.factor * second.factor * whole.factor))) && may_cut whole most))
+    (goes.Thrice stride first second (cut_of whole own))
 
 -- how a counter goes along that stands at a split loop's value below an extent, if that is known, from how the outer counter and the inner one do
 abbrev pub goes_by : Whole → Counter → ℕ → Going → Going → Option Going
 goes_by whole own extent (goes.Even outer most) (goes.Even inner least) = goes_evenly whole own extent outer most inner
 goes_by whole own extent (goes.Even outer most) (goes.Once stride least cut) = if_so (outer == 0) (goes.Once stride extent cut)
-goes_by whole own extent (goes.Even outer most) (goes.Twice stride first second) = if_so (outer == 0) (goes.Twice stride first second)
-goes_by whole own extent (goes.Once stride most cut) (goes.Even inner least) = goes_twice whole own stride most cut inner
+goes_by whole own extent (goes.Even outer most) (goes.Twice stride least first second) = if_so (outer == 0) (goes.Twice stride extent first second)
+goes_by whole own extent (goes.Even outer most) (goes.Thrice stride first second third) = if_so (outer == 0) (goes.Thrice stride first second third)
+goes_by whole own extent (goes.Once stride most cut) (goes.Even inner least) = goes_twice whole own extent stride most cut inner
 goes_by whole own extent (goes.Once stride most cut) (goes.Once other least last) = None
-goes_by whole own extent (goes.Once stride most cut) (goes.Twice other first second) = None
-goes_by whole own extent (goes.Twice stride first second) inner = None
+goes_by whole own extent (goes.Once stride most cut) (goes.Twice other least first second) = None
+goes_by whole own extent (goes.Once stride most cut) (goes.Thrice other first second third) = None
+goes_by whole own extent (goes.Twice stride most first second) (goes.Even inner least) = goes_thrice whole own stride most first second inner
+goes_by whole own extent (goes.Twice stride most first second) (goes.Once other least last) = None
+goes_by whole own extent (goes.Twice stride most first second) (goes.Twice other least third last) = None
+goes_by whole own extent (goes.Twice stride most first second) (goes.Thrice other third fourth last) = None
+goes_by whole own extent (goes.Thrice stride first second third) inner = None
 
 -- Cuts go on naming what they named, and an extent is small.
 abbrev pub may_bind : List Going → Counter → Whole → ℕ → Bool
@@ -195,13 +207,16 @@ below_cut scope cut = below_cap scope cut.last cut.inner cut.own cut.factor
 abbrev pub left_over : List Counter → Bool → Going → ℕ → List Insn
 left_over scope all (goes.Even stride most) r = even_left all stride r
 left_over scope all (goes.Once stride most cut) r = Alu alus.Sub scratch scratch r ∷ (below_cut scope cut ++ (divided_up stride ++ lesser))
-left_over scope all (goes.Twice stride first second) r =
+left_over scope all (goes.Twice stride most first second) r =
     Alu alus.Sub scratch scratch r ∷ (below_cut scope second ++ (below_cut scope first ++ (divided_up stride ++ lesser)))
+left_over scope all (goes.Thrice stride first second third) r =
+    Alu alus.Sub scratch scratch r ∷ (below_cut scope third ++ (below_cut scope second ++ (below_cut scope first ++ (divided_up stride ++ lesser))))
 
 abbrev pub is_still : Going → Bool
 is_still (goes.Even stride most) = stride == 0
 is_still (goes.Once stride most cut) = false
-is_still (goes.Twice stride first second) = false
+is_still (goes.Twice stride most first second) = false
+is_still (goes.Thrice stride first second third) = false
 
 -- ---- rounds
 

@@ -4,7 +4,7 @@ ghost use Rattle.std.specs.Prelude.{◌≡◌, ◌<◌, ◌*◌, ◌^◌, ◌==�
 ghost use Rattle.scalar_code.specs.declared.places.Places.{Places as AllPlaces};
 ghost use Rattle.scalar_code.specs.Faults.{IsFault};
 ghost use Rattle.scalar_code.specs.Words.{Emits};
-ghost use Rattle.lane_code.specs.Goings.{is_rate as is_rate_of, is_small as is_small_last};
+ghost use Rattle.lane_code.specs.Goings.{is_rate as is_rate_of, is_slow as is_slow_cut};
 ghost use Rattle.round_code.specs.Emitting.{EmitsRounds, FitsRounds};
 ghost use Rattle.round_code.specs.Rounds as spec;
 
@@ -194,25 +194,50 @@ fn goes_evenly(
 
 /// Whether a value may go further as the one that an outer counter stands at does, times a factor.
 fn is_slow(stride: u32, cut: Cut, factor: u32) -> bool
-    ensures { result ≡ ((nat_lt (stride * cut.factor) (2 ^ 24) && is_small_last cut.last) && is_rate_of (stride * cut.factor * factor)) }
+    ensures { result ≡ (is_slow_cut stride cut && is_rate_of (stride * cut.factor * factor)) }
 {
     let once = u64::from(stride) * u64::from(cut.factor);
     once < 1 << 24 && is_small(cut.last) && is_rate(once as u32, factor)
+}
+
+/// The same of an outer counter that is cut off twice.
+fn are_slow(stride: u32, first: Cut, second: Cut, factor: u32) -> bool
+    ensures { result ≡ (is_slow_cut stride first && (is_slow_cut (stride * first.factor) second && is_rate_of (stride * first.factor * second.factor * factor))) }
+{
+    let once = u64::from(stride) * u64::from(first.factor);
+    once < 1 << 24 && is_small(first.last) && is_slow(once as u32, second, factor)
 }
 
 /// How a split loop's value goes along whose outer counter is cut off.
 fn goes_twice(
     whole: &Whole,
     own: Counter,
+    extent: u32,
     stride: u32,
     most: u32,
     cut: Cut,
     inner: u32,
 ) -> Option<Going>
-    ensures { result ≡ spec.goes_twice whole.now own stride most cut inner }
+    ensures { result ≡ spec.goes_twice whole.now own extent stride most cut inner }
 {
     let so = inner == 0 && is_slow(stride, cut, whole.factor) && may_cut(whole, most);
-    if_so(so, Going::Twice(stride, cut, cut_of(whole, own)))
+    if_so(so, Going::Twice(stride, extent, cut, cut_of(whole, own)))
+}
+
+/// How one goes along whose outer counter is cut off twice.
+fn goes_thrice(
+    whole: &Whole,
+    own: Counter,
+    stride: u32,
+    most: u32,
+    first: Cut,
+    second: Cut,
+    inner: u32,
+) -> Option<Going>
+    ensures { result ≡ spec.goes_thrice whole.now own stride most first second inner }
+{
+    let so = inner == 0 && are_slow(stride, first, second, whole.factor) && may_cut(whole, most);
+    if_so(so, Going::Thrice(stride, first, second, cut_of(whole, own)))
 }
 
 /// How a split loop's value goes along, if that is known, from how its counters do.
@@ -223,14 +248,24 @@ fn goes_by(whole: &Whole, own: Counter, extent: u32, outer: Going, inner: Going)
         Going::Even(stride, most) => match inner {
             Going::Even(other, _) => goes_evenly(whole, own, extent, stride, most, other),
             Going::Once(own, _, cut) => if_so(stride == 0, Going::Once(own, extent, cut)),
-            Going::Twice(_, _, _) => if_so(stride == 0, inner),
+            Going::Twice(own, _, first, second) => {
+                if_so(stride == 0, Going::Twice(own, extent, first, second))
+            }
+            Going::Thrice(_, _, _, _) => if_so(stride == 0, inner),
         },
         Going::Once(stride, most, cut) => match inner {
-            Going::Even(other, _) => goes_twice(whole, own, stride, most, cut, other),
+            Going::Even(other, _) => goes_twice(whole, own, extent, stride, most, cut, other),
             Going::Once(_, _, _) => None,
-            Going::Twice(_, _, _) => None,
+            Going::Twice(_, _, _, _) => None,
+            Going::Thrice(_, _, _, _) => None,
         },
-        Going::Twice(_, _, _) => None,
+        Going::Twice(stride, most, first, second) => match inner {
+            Going::Even(other, _) => goes_thrice(whole, own, stride, most, first, second, other),
+            Going::Once(_, _, _) => None,
+            Going::Twice(_, _, _, _) => None,
+            Going::Thrice(_, _, _, _) => None,
+        },
+        Going::Thrice(_, _, _, _) => None,
     }
 }
 
@@ -371,8 +406,16 @@ fn emit_left_over(
             emit_divided_up(code, stride)?;
             emit_lesser(code)?;
         }
-        Going::Twice(stride, first, second) => {
+        Going::Twice(stride, _, first, second) => {
             alu(code, AluOp::Sub, 13, 13, r)?;
+            emit_below_cut(code, scope, second)?;
+            emit_below_cut(code, scope, first)?;
+            emit_divided_up(code, stride)?;
+            emit_lesser(code)?;
+        }
+        Going::Thrice(stride, first, second, third) => {
+            alu(code, AluOp::Sub, 13, 13, r)?;
+            emit_below_cut(code, scope, third)?;
             emit_below_cut(code, scope, second)?;
             emit_below_cut(code, scope, first)?;
             emit_divided_up(code, stride)?;
@@ -399,7 +442,8 @@ fn all_after(all: bool, going: Going) -> bool
     match going {
         Going::Even(stride, _) => all && stride == 0,
         Going::Once(_, _, _) => false,
-        Going::Twice(_, _, _) => false,
+        Going::Twice(_, _, _, _) => false,
+        Going::Thrice(_, _, _, _) => false,
     }
 }
 

@@ -1,4 +1,4 @@
-use Rattle.lane_code.proofs.Strays.{strays-once, strays-twice}
+use Rattle.lane_code.proofs.Strays.{strays-once, strays-twice, strays-thrice}
 use Rattle.lane_code.proofs.goings.emit_strays.Goals as goal
 
 pub returns-in_ok-emit_added-in-Once : goal.returns-in_ok-emit_added-in-Once
@@ -7,5 +7,10 @@ returns-in_ok-emit_added-in-Once c =
 
 pub returns-in_ok-emit_added-in-Twice : goal.returns-in_ok-emit_added-in-Twice
 returns-in_ok-emit_added-in-Twice c =
-    strays-twice c.args.scope.now c.args.going c.in-Twice.stride c.in-Twice.first c.in-Twice.second c.args.n c.args.r c.args.u _ _ _ _ _ c.in-Twice.is
+    strays-twice c.args.scope.now c.args.going c.in-Twice.stride c.in-Twice.field-1 c.in-Twice.first c.in-Twice.second c.args.n c.args.r c.args.u _ _ _ _ _ c.in-Twice.is
     c.in_ok-emit_counted-in-Twice.ensures c.in_ok-emit_cut-in-Twice.ensures c.in_ok-emit_cut-in-Twice-2.ensures c.in_ok-emit_added-in-Twice.ensures
+
+pub returns-in_ok-emit_added-in-Thrice : goal.returns-in_ok-emit_added-in-Thrice
+returns-in_ok-emit_added-in-Thrice c =
+    strays-thrice c.args.scope.now c.args.going c.in-Thrice.stride c.in-Thrice.first c.in-Thrice.second c.in-Thrice.third c.args.n c.args.r c.args.u _ _ _ _ _ _ c.in-Thrice.is
+    c.in_ok-emit_counted-in-Thrice.ensures c.in_ok-emit_cut-in-Thrice.ensures c.in_ok-emit_cut-in-Thrice-2.ensures c.in_ok-emit_cut-in-Thrice-3.ensures c.in_ok-emit_added-in-Thrice.ensures

@@ -1,4 +1,4 @@
-use Rattle.round_code.proofs.Emission.{once-left, twice-left}
+use Rattle.round_code.proofs.Emission.{once-left, twice-left, thrice-left}
 use Rattle.round_code.proofs.rounds.emit_left_over.Goals as goal
 
 pub returns-in_ok-emit_lesser-in-Once : goal.returns-in_ok-emit_lesser-in-Once
@@ -8,5 +8,10 @@ returns-in_ok-emit_lesser-in-Once c =
 
 pub returns-in_ok-emit_lesser-in-Twice : goal.returns-in_ok-emit_lesser-in-Twice
 returns-in_ok-emit_lesser-in-Twice c =
-    twice-left c.args.scope.now c.args.all c.args.going c.in-Twice.stride c.in-Twice.first c.in-Twice.second c.args.r _ _ _ _ _ _ c.in-Twice.is c.in_ok-alu-in-Twice.ensures c.in_ok-emit_below_cut-in-Twice.ensures
+    twice-left c.args.scope.now c.args.all c.args.going c.in-Twice.stride c.in-Twice.field-1 c.in-Twice.first c.in-Twice.second c.args.r _ _ _ _ _ _ c.in-Twice.is c.in_ok-alu-in-Twice.ensures c.in_ok-emit_below_cut-in-Twice.ensures
     c.in_ok-emit_below_cut-in-Twice-2.ensures c.in_ok-emit_divided_up-in-Twice.ensures c.in_ok-emit_lesser-in-Twice.ensures
+
+pub returns-in_ok-emit_lesser-in-Thrice : goal.returns-in_ok-emit_lesser-in-Thrice
+returns-in_ok-emit_lesser-in-Thrice c =
+    thrice-left c.args.scope.now c.args.all c.args.going c.in-Thrice.stride c.in-Thrice.first c.in-Thrice.second c.in-Thrice.third c.args.r _ _ _ _ _ _ _ c.in-Thrice.is c.in_ok-alu-in-Thrice.ensures
+    c.in_ok-emit_below_cut-in-Thrice.ensures c.in_ok-emit_below_cut-in-Thrice-2.ensures c.in_ok-emit_below_cut-in-Thrice-3.ensures c.in_ok-emit_divided_up-in-Thrice.ensures c.in_ok-emit_lesser-in-Thrice.ensures
