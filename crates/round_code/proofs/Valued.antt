@@ -66,8 +66,8 @@ module _ (own : Setting) (good : IsSetting own) (scope : List Counter) (values :
     where
       moved : {code other : List Insn} {u : ℕ} (c : code ≡ other) (a : Does own code (length code) f memory (length scope) funcs no_hits) → a.after 20 ≡ u
           → (subst (λ code. Does own code (length code) f memory (length scope) funcs no_hits) c a).after 20 ≡ u
-      moved refl a e = e
+      moved _ a e = e
 
       still-there : {code other : List Insn} (c : code ≡ other) (a : Does own code (length code) f memory (length scope) funcs no_hits) (q : ℕ) → a.after q ≡ f q
           → (subst (λ code. Does own code (length code) f memory (length scope) funcs no_hits) c a).after q ≡ f q
-      still-there refl a q e = e
+      still-there _ a q e = e
