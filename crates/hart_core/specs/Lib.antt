@@ -1,5 +1,6 @@
 pub mod Alu
 pub mod HartState
+pub mod Meanings
 pub mod Scalar
 pub mod Turn
 pub mod VectorRows

@@ -8,7 +8,7 @@ use memory::{Bytes, read_u8, read_u16, read_u32, write_u8, write_u16, write_u32}
 use rv_insn::{LoadOp, StoreOp, Trap};
 
 /// What a load of an address gives, or the trap that it makes.
-#[inline(always)]
+#[inline]
 pub fn load<M: Bytes>(op: LoadOp, memory: &M, address: u32) -> Result<u32, Trap>
     ensures fits { OnOk result (fault_of (length (M.text memory.now)) (length (M.memory memory.now)) Reads address (bytes_in (load_size op)) ≡ None) }
     ensures number { IfOk result (λ number. number ≡ loaded op (number_in (M.text memory.now) (M.memory memory.now) (load_size op) address)) }
@@ -40,7 +40,7 @@ pub fn load<M: Bytes>(op: LoadOp, memory: &M, address: u32) -> Result<u32, Trap>
 
 /// Puts what a store keeps of a register at an address, or says which trap it makes and changes
 /// nothing.
-#[inline(always)]
+#[inline]
 pub fn store<M: Bytes>(op: StoreOp, memory: &mut M, address: u32, value: u32) -> Result<(), Trap>
     ensures fits { OnOk result (fault_of (length (M.text memory.old)) (length (M.memory memory.old)) Writes address (bytes_in (store_size op)) ≡ None) }
     ensures put { OnOk result (M.memory memory.new ≡ put_number (M.memory memory.old) (store_size op) address (kept op value)) }

@@ -7,7 +7,7 @@ use lanes::LaneKind;
 use rv_insn::{AluImmOp, AluOp, BranchOp, Imm12, ShiftAmount, ShiftOp};
 
 /// The result of an operation on the numbers of `rs1` and `rs2`.
-#[inline(always)]
+#[inline]
 pub fn computed(op: AluOp, a: u32, b: u32) -> u32
     ensures { result ≡ computed_of op a b }
 {
@@ -34,6 +34,7 @@ pub fn computed(op: AluOp, a: u32, b: u32) -> u32
 }
 
 /// The result of an operation on the number of `rs1` and the extended immediate.
+#[inline]
 pub fn computed_with_immediate(op: AluImmOp, a: u32, imm: Imm12) -> u32
     ensures { result ≡ computed_with_immediate_of op a (extended imm) }
 {
@@ -49,6 +50,7 @@ pub fn computed_with_immediate(op: AluImmOp, a: u32, imm: Imm12) -> u32
 }
 
 /// The number of `rs1` shifted by an amount.
+#[inline]
 pub fn shifted(op: ShiftOp, a: u32, amount: ShiftAmount) -> u32
     ensures { result ≡ shifted_of op a amount }
 {
@@ -61,6 +63,7 @@ pub fn shifted(op: ShiftOp, a: u32, amount: ShiftAmount) -> u32
 }
 
 /// Whether a branch on the numbers of `rs1` and `rs2` is taken.
+#[inline]
 pub fn is_taken(op: BranchOp, a: u32, b: u32) -> bool
     ensures { result ≡ is_taken_of op a b }
 {

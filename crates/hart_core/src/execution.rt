@@ -2,18 +2,22 @@
 
 ghost use Rattle.std.specs.Prelude.{◌≡◌, false, None, Some, length, IfOk, OnOk, IfErr, OnErr};
 ghost use Rattle.rv_insn.specs.declared.instructions.Insn.TheVariants as insns;
-ghost use Rattle.hart_core.specs.Alu.{plus};
+ghost use Rattle.hart_core.specs.Alu.{plus, extended, computed as computed_of, computed_with_immediate as computed_with_immediate_of, shifted as shifted_of};
 ghost use Rattle.hart_core.specs.Scalar.{jump_fault, jump_of, jumped, linked};
-ghost use Rattle.hart_core.specs.HartState.{register, at_pc};
+ghost use Rattle.hart_core.specs.HartState.{register, at_pc, given};
+ghost use Rattle.hart_core.specs.Meanings.{insn_of};
 ghost use Rattle.hart_core.specs.Turn.{step, step_with, fault, IsDone};
+ghost use Rattle.hart_core.specs.inner.Meanings.{IsScalar, IsDoneBy, fault_by};
 
 use crate::accesses::{load, store};
 use crate::alu::{computed, computed_with_immediate, extend, is_taken, shifted};
 use crate::harts::{Hart, Status};
+use crate::meanings::Meaning;
 use memory::{Bytes, read_for_amo, write_u32};
 use rv_encoding::decode;
 use rv_insn::{
-    BranchOffset, BranchOp, Imm12, Insn, LoadOp, Outcome, Reg, StoreOp, Trap, VectorInsn,
+    AluImmOp, AluOp, BranchOffset, BranchOp, Imm12, Insn, LoadOp, Outcome, Reg, ShiftAmount,
+    ShiftOp, StoreOp, Trap, VectorInsn,
 };
 
 impl Hart {
@@ -44,39 +48,25 @@ impl Hart {
         ensures text { M.text memory.new ≡ M.text memory.old }
         ensures outcome { result ≡ (step_with (M.text memory.old) (M.memory memory.old) self.old insn).outcome }
     {
-        self.step_by(memory, &insn)
-    }
-
-    /// The same turn, of a meaning that stays where it is kept.
-    #[inline(always)]
-    pub fn step_by<M: Bytes>(&mut self, memory: &mut M, insn: &Option<Insn>) -> Outcome
-        ensures hart { self.new ≡ (step_with (M.text memory.old) (M.memory memory.old) self.old insn.now).hart }
-        ensures memory { M.memory memory.new ≡ (step_with (M.text memory.old) (M.memory memory.old) self.old insn.now).memory }
-        ensures text { M.text memory.new ≡ M.text memory.old }
-        ensures outcome { result ≡ (step_with (M.text memory.old) (M.memory memory.old) self.old insn.now).outcome }
-    {
         if self.status() != Status::Running {
             return Outcome::Idle;
         }
-        self.step_running(memory, insn)
+        self.step_running(memory, &Meaning::of(insn))
     }
 
-    /// The same turn, of a hart that is known to run, so that its status isn't read.
+    /// The same turn, of a hart that is known to run, so that its status isn't read, and of a meaning that is kept.
     #[inline(always)]
-    pub fn step_running<M: Bytes>(&mut self, memory: &mut M, insn: &Option<Insn>) -> Outcome
+    pub fn step_running<M: Bytes>(&mut self, memory: &mut M, meaning: &Meaning) -> Outcome
         requires { self.old.status ≡ Status.Running }
-        ensures hart { self.new ≡ (step_with (M.text memory.old) (M.memory memory.old) self.old insn.now).hart }
-        ensures memory { M.memory memory.new ≡ (step_with (M.text memory.old) (M.memory memory.old) self.old insn.now).memory }
+        ensures hart { self.new ≡ (step_with (M.text memory.old) (M.memory memory.old) self.old (insn_of meaning.now)).hart }
+        ensures memory { M.memory memory.new ≡ (step_with (M.text memory.old) (M.memory memory.old) self.old (insn_of meaning.now)).memory }
         ensures text { M.text memory.new ≡ M.text memory.old }
-        ensures outcome { result ≡ (step_with (M.text memory.old) (M.memory memory.old) self.old insn.now).outcome }
+        ensures outcome { result ≡ (step_with (M.text memory.old) (M.memory memory.old) self.old (insn_of meaning.now)).outcome }
     {
-        let Some(insn) = insn else {
-            return self.trap(Trap::IllegalInstruction);
-        };
-        if let Insn::Vector(ref insn) = *insn {
+        if let Meaning::Vector(ref insn) = *meaning {
             return self.step_vector(memory, insn);
         }
-        match self.execute(insn, memory) {
+        match self.execute(meaning, memory) {
             Ok(outcome) => outcome,
             Err(trap) => self.trap(trap),
         }
@@ -97,49 +87,132 @@ impl Hart {
         }
     }
 
-    /// Executes an instruction, or says which trap it makes and changes nothing.
+    /// Does what a word means that means no vector instruction, or says which trap it makes and changes nothing. Vector
+    /// instructions, which answer through memory, aren't an arm of it: so the answers of all arms stay in registers.
     #[inline(always)]
-    fn execute<M: Bytes>(&mut self, insn: &Insn, memory: &mut M) -> Result<Outcome, Trap>
-        ensures ok { IfOk result (λ outcome. IsDone (M.text memory.old) (M.memory memory.old) self.old insn.now self.new (M.memory memory.new) outcome) }
-        ensures trap { IfErr result (λ trap. fault (length (M.text memory.old)) (length (M.memory memory.old)) insn.now self.old ≡ Some trap) }
+    fn execute<M: Bytes>(&mut self, meaning: &Meaning, memory: &mut M) -> Result<Outcome, Trap>
+        requires { IsScalar meaning.now }
+        ensures ok { IfOk result (λ outcome. IsDoneBy (insn_of meaning.now) (M.text memory.old) (M.memory memory.old) self.old self.new (M.memory memory.new) outcome) }
+        ensures trap { IfErr result (λ trap. fault_by (insn_of meaning.now) (length (M.text memory.old)) (length (M.memory memory.old)) self.old ≡ Some trap) }
         ensures hart { OnErr result (self.new ≡ self.old) }
         ensures memory { OnErr result (M.memory memory.new ≡ M.memory memory.old) }
         ensures text { M.text memory.new ≡ M.text memory.old }
     {
-        match *insn {
-            Insn::Lui { rd, imm } => Ok(self.give(rd, imm.value() << 12)),
-            Insn::Auipc { rd, imm } => Ok(self.give(rd, self.pc().wrapping_add(imm.value() << 12))),
-            Insn::Jal { rd, offset } => self.jump_and_link(rd, self.target(offset.bytes())),
-            Insn::Jalr { rd, rs1, imm } => self.jump_and_link(rd, self.address(rs1, imm) & !1),
-            Insn::Branch {
-                op,
-                rs1,
-                rs2,
-                offset,
-            } => self.branch(op, rs1, rs2, offset),
-            Insn::Load { op, rd, rs1, imm } => self.load(op, rd, rs1, imm, memory),
-            Insn::Store { op, rs1, rs2, imm } => self.store(op, rs1, rs2, imm, memory),
-            Insn::AluImm { op, rd, rs1, imm } => {
-                Ok(self.give(rd, computed_with_immediate(op, self.register(rs1), imm)))
+        match *meaning {
+            Meaning::Nothing => Err(Trap::IllegalInstruction),
+            Meaning::Lui { rd, imm } => Ok(self.give(rd, imm.value() << 12)),
+            Meaning::Auipc { rd, imm } => {
+                Ok(self.give(rd, self.pc().wrapping_add(imm.value() << 12)))
             }
-            Insn::Shift {
-                op,
+            Meaning::Jal { rd, offset } => self.jump_and_link(rd, self.target(offset.bytes())),
+            Meaning::Jalr { rd, rs1, imm } => self.jump_and_link(rd, self.address(rs1, imm) & !1),
+            Meaning::Beq { rs1, rs2, offset } => self.branch(BranchOp::Beq, rs1, rs2, offset),
+            Meaning::Bne { rs1, rs2, offset } => self.branch(BranchOp::Bne, rs1, rs2, offset),
+            Meaning::Blt { rs1, rs2, offset } => self.branch(BranchOp::Blt, rs1, rs2, offset),
+            Meaning::Bge { rs1, rs2, offset } => self.branch(BranchOp::Bge, rs1, rs2, offset),
+            Meaning::Bltu { rs1, rs2, offset } => self.branch(BranchOp::Bltu, rs1, rs2, offset),
+            Meaning::Bgeu { rs1, rs2, offset } => self.branch(BranchOp::Bgeu, rs1, rs2, offset),
+            Meaning::Lb { rd, rs1, imm } => self.load(LoadOp::Lb, rd, rs1, imm, memory),
+            Meaning::Lh { rd, rs1, imm } => self.load(LoadOp::Lh, rd, rs1, imm, memory),
+            Meaning::Lw { rd, rs1, imm } => self.load(LoadOp::Lw, rd, rs1, imm, memory),
+            Meaning::Lbu { rd, rs1, imm } => self.load(LoadOp::Lbu, rd, rs1, imm, memory),
+            Meaning::Lhu { rd, rs1, imm } => self.load(LoadOp::Lhu, rd, rs1, imm, memory),
+            Meaning::Sb { rs1, rs2, imm } => self.store(StoreOp::Sb, rs1, rs2, imm, memory),
+            Meaning::Sh { rs1, rs2, imm } => self.store(StoreOp::Sh, rs1, rs2, imm, memory),
+            Meaning::Sw { rs1, rs2, imm } => self.store(StoreOp::Sw, rs1, rs2, imm, memory),
+            Meaning::Addi { rd, rs1, imm } => Ok(self.operate_with_immediate(
+                AluImmOp::Addi,
                 rd,
                 rs1,
-                amount,
-            } => Ok(self.give(rd, shifted(op, self.register(rs1), amount))),
-            Insn::Alu { op, rd, rs1, rs2 } => {
-                Ok(self.give(rd, computed(op, self.register(rs1), self.register(rs2))))
-            }
-            Insn::AmoaddW { rd, rs1, rs2, .. } => self.add_in_memory(rd, rs1, rs2, memory),
-            Insn::Fence => Ok(self.advance()),
-            Insn::Ecall => Ok(self.finish()),
-            Insn::Ebreak => Err(Trap::Breakpoint),
-            Insn::Vector(ref insn) => self.execute_vector(insn, memory),
+                imm,
+            )),
+            Meaning::Slti { rd, rs1, imm } => Ok(self.operate_with_immediate(
+                AluImmOp::Slti,
+                rd,
+                rs1,
+                imm,
+            )),
+            Meaning::Sltiu { rd, rs1, imm } => Ok(self.operate_with_immediate(
+                AluImmOp::Sltiu,
+                rd,
+                rs1,
+                imm,
+            )),
+            Meaning::Xori { rd, rs1, imm } => Ok(self.operate_with_immediate(
+                AluImmOp::Xori,
+                rd,
+                rs1,
+                imm,
+            )),
+            Meaning::Ori { rd, rs1, imm } => Ok(self.operate_with_immediate(
+                AluImmOp::Ori,
+                rd,
+                rs1,
+                imm,
+            )),
+            Meaning::Andi { rd, rs1, imm } => Ok(self.operate_with_immediate(
+                AluImmOp::Andi,
+                rd,
+                rs1,
+                imm,
+            )),
+            Meaning::Slli { rd, rs1, amount } => Ok(self.shift(ShiftOp::Slli, rd, rs1, amount)),
+            Meaning::Srli { rd, rs1, amount } => Ok(self.shift(ShiftOp::Srli, rd, rs1, amount)),
+            Meaning::Srai { rd, rs1, amount } => Ok(self.shift(ShiftOp::Srai, rd, rs1, amount)),
+            Meaning::Add { rd, rs1, rs2 } => Ok(self.operate(AluOp::Add, rd, rs1, rs2)),
+            Meaning::Sub { rd, rs1, rs2 } => Ok(self.operate(AluOp::Sub, rd, rs1, rs2)),
+            Meaning::Sll { rd, rs1, rs2 } => Ok(self.operate(AluOp::Sll, rd, rs1, rs2)),
+            Meaning::Slt { rd, rs1, rs2 } => Ok(self.operate(AluOp::Slt, rd, rs1, rs2)),
+            Meaning::Sltu { rd, rs1, rs2 } => Ok(self.operate(AluOp::Sltu, rd, rs1, rs2)),
+            Meaning::Xor { rd, rs1, rs2 } => Ok(self.operate(AluOp::Xor, rd, rs1, rs2)),
+            Meaning::Srl { rd, rs1, rs2 } => Ok(self.operate(AluOp::Srl, rd, rs1, rs2)),
+            Meaning::Sra { rd, rs1, rs2 } => Ok(self.operate(AluOp::Sra, rd, rs1, rs2)),
+            Meaning::Or { rd, rs1, rs2 } => Ok(self.operate(AluOp::Or, rd, rs1, rs2)),
+            Meaning::And { rd, rs1, rs2 } => Ok(self.operate(AluOp::And, rd, rs1, rs2)),
+            Meaning::Mul { rd, rs1, rs2 } => Ok(self.operate(AluOp::Mul, rd, rs1, rs2)),
+            Meaning::Mulh { rd, rs1, rs2 } => Ok(self.operate(AluOp::Mulh, rd, rs1, rs2)),
+            Meaning::Mulhsu { rd, rs1, rs2 } => Ok(self.operate(AluOp::Mulhsu, rd, rs1, rs2)),
+            Meaning::Mulhu { rd, rs1, rs2 } => Ok(self.operate(AluOp::Mulhu, rd, rs1, rs2)),
+            Meaning::Div { rd, rs1, rs2 } => Ok(self.operate(AluOp::Div, rd, rs1, rs2)),
+            Meaning::Divu { rd, rs1, rs2 } => Ok(self.operate(AluOp::Divu, rd, rs1, rs2)),
+            Meaning::Rem { rd, rs1, rs2 } => Ok(self.operate(AluOp::Rem, rd, rs1, rs2)),
+            Meaning::Remu { rd, rs1, rs2 } => Ok(self.operate(AluOp::Remu, rd, rs1, rs2)),
+            Meaning::AmoaddW { rd, rs1, rs2, .. } => self.add_in_memory(rd, rs1, rs2, memory),
+            Meaning::Fence => Ok(self.advance()),
+            Meaning::Ecall => Ok(self.finish()),
+            Meaning::Ebreak => Err(Trap::Breakpoint),
+            Meaning::Vector(_) => unreachable!(),
         }
     }
 
+    /// An operation on two registers.
     #[inline(always)]
+    fn operate(&mut self, op: AluOp, rd: Reg, rs1: Reg, rs2: Reg) -> Outcome
+        ensures hart { self.new ≡ given self.old rd (computed_of op (register self.old rs1) (register self.old rs2)) }
+        ensures outcome { result ≡ Outcome.Stepped }
+    {
+        self.give(rd, computed(op, self.register(rs1), self.register(rs2)))
+    }
+
+    /// An operation on a register and an immediate.
+    #[inline(always)]
+    fn operate_with_immediate(&mut self, op: AluImmOp, rd: Reg, rs1: Reg, imm: Imm12) -> Outcome
+        ensures hart { self.new ≡ given self.old rd (computed_with_immediate_of op (register self.old rs1) (extended imm)) }
+        ensures outcome { result ≡ Outcome.Stepped }
+    {
+        self.give(rd, computed_with_immediate(op, self.register(rs1), imm))
+    }
+
+    /// A shift by an amount in the word.
+    #[inline(always)]
+    fn shift(&mut self, op: ShiftOp, rd: Reg, rs1: Reg, amount: ShiftAmount) -> Outcome
+        ensures hart { self.new ≡ given self.old rd (shifted_of op (register self.old rs1) amount) }
+        ensures outcome { result ≡ Outcome.Stepped }
+    {
+        self.give(rd, shifted(op, self.register(rs1), amount))
+    }
+
+    #[inline]
     fn load<M: Bytes>(
         &mut self,
         op: LoadOp,
@@ -158,7 +231,7 @@ impl Hart {
         Ok(self.give(rd, value))
     }
 
-    #[inline(always)]
+    #[inline]
     fn store<M: Bytes>(
         &mut self,
         op: StoreOp,
@@ -178,7 +251,7 @@ impl Hart {
     }
 
     /// Adds a register to a word in memory, whose number before goes to `rd`.
-    #[inline(always)]
+    #[inline]
     fn add_in_memory<M: Bytes>(
         &mut self,
         rd: Reg,

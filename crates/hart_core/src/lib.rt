@@ -12,7 +12,9 @@ mod alu;
 mod element_accesses;
 pub mod execution;
 pub mod harts;
+pub mod meanings;
 mod pieces;
 mod vectors;
 
 pub use crate::harts::{Hart, Status};
+pub use crate::meanings::Meaning;

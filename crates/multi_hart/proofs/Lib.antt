@@ -1,3 +1,4 @@
+pub mod Alone
 pub mod Framing
 pub mod Resting
 pub mod Stepping

@@ -38,7 +38,7 @@ fetched-turned text pc offset fits near far = go (nat_lt pc text_start) (nat_lt 
     go false true ea eb = slice_get_past text place (omega (arith, fits, between pc offset near (ltb-false _ _ ea) (ltb-true _ _ eb)))
     go false false ea eb = ap (slice_get text) (sym (at_word pc offset near (ltb-false _ _ ea) (ltb-false _ _ eb)))
 
--- what a lent element reads
-pub lent : {X : Type 0} (xs : List X) (i : ℕ) (r : Option (Bor X)) → IsItemAt xs i r → option_map (λ x. x.now) r ≡ slice_get xs i
-lent xs i None got = sym (slice_get_past xs i (ltb-false i (length xs) (sym got.0)))
-lent xs i (Some x) got = sym (slice_get_read xs (length xs) i x.now refl (ltb-true i (length xs) (sym got.0)) got.1)
+-- what is made of a lent element
+pub lent : {X Y : Type 0} (f : X → Y) (xs : List X) (i : ℕ) (r : Option (Bor X)) → IsItemAt xs i r → option_map (λ x. f x.now) r ≡ option_map f (slice_get xs i)
+lent f xs i None got = sym (ap (option_map f) (slice_get_past xs i (ltb-false i (length xs) (sym got.0))))
+lent f xs i (Some x) got = sym (ap (option_map f) (slice_get_read xs (length xs) i x.now refl (ltb-true i (length xs) (sym got.0)) got.1))

@@ -2,3 +2,4 @@ pub mod Finished
 pub mod Frame
 pub mod Run
 pub mod Snapshots
+pub mod inner

@@ -4,13 +4,14 @@ ghost use Rattle.std.specs.Prelude.{◌≡◌, ◌+◌, ◌-◌, ◌*◌, ◌/�
 ghost use Rattle.memory.specs.Addresses.{most_words, most_bytes, text_start, is_text_word, fetched};
 ghost use Rattle.rv_encoding.specs.Decoding.{decoded};
 ghost use Rattle.hart_core.specs.HartState.{register, vector};
+ghost use Rattle.hart_core.specs.Meanings.{insn_of, word_meaning};
 ghost use Rattle.multi_hart.specs.Finished.{all_finished};
+ghost use Rattle.multi_hart.specs.inner.Alone.{alone};
 ghost use Rattle.multi_hart.specs.Run.{opened, turn, outcome, run, KeepsShape, hart_at, word_in};
 
-use hart_core::{Hart, Status};
+use hart_core::{Hart, Meaning, Status};
 use memory::{Bytes, Memory, TEXT_START, read_u32};
-use rv_encoding::decode;
-use rv_insn::{Insn, Outcome, Reg, VReg};
+use rv_insn::{Outcome, Reg, VReg};
 use std::alloc::{AllocError, Global};
 use std::boxed::BoxedSlice;
 use std::marker::Model;
@@ -29,21 +30,21 @@ pub struct Machine {
     pub(crate) memory: Memory,
     pub(crate) harts: BoxedSlice<Hart>,
     /// What each word of text means, found once, so that a turn decodes nothing.
-    meanings: BoxedSlice<Option<Insn>>,
+    meanings: BoxedSlice<Meaning>,
 }
 
 impl Model for Machine {
     ghost use Rattle.std.specs.Prelude.{◌≡◌, ◌≤◌, length, map};
     ghost use Rattle.std.specs.Box.{boxed_slice_items};
     ghost use Rattle.memory.specs.Addresses.{most_words};
-    ghost use Rattle.rv_encoding.specs.Decoding.{decoded};
+    ghost use Rattle.hart_core.specs.Meanings.{word_meaning};
     ghost use Rattle.multi_hart.specs.Run.{State};
 
     ghost Value = { State };
 
     ghost view = { λ m. record { text = m.memory.text; memory = m.memory.memory; harts = boxed_slice_items m.harts } };
 
-    ghost invariant = { λ m. (boxed_slice_items m.meanings ≡ map decoded m.memory.text) × (length (boxed_slice_items m.meanings) ≤ most_words) };
+    ghost invariant = { λ m. (boxed_slice_items m.meanings ≡ map word_meaning m.memory.text) × (length (boxed_slice_items m.meanings) ≤ most_words) };
 }
 
 impl Machine {
@@ -64,7 +65,7 @@ impl Machine {
         ensures opened { IfOk result (λ machine. machine ≡ opened entry words.items bytes.items harts) }
         ensures harts { IfOk result (λ machine. length machine.harts ≡ harts) }
     {
-        let meanings = meanings_of(alloc, words.as_slice())?;
+        let meanings = Meaning::of_words(alloc, words.as_slice())?;
         let mut all = Vec::new(alloc);
         for number in 0..harts {
             all.push(Hart::new(entry, harts as u32, number as u32))?;
@@ -83,10 +84,9 @@ impl Machine {
         ensures state { self.new ≡ turn self.old hart }
         ensures outcome { result ≡ outcome self.old hart }
     {
-        let one = &mut self.harts[hart];
-        match meaning_at(&self.meanings, one.pc()) {
-            Some(insn) => one.step_by(&mut self.memory, insn),
-            None => one.step(&mut self.memory),
+        match self.status(hart) {
+            Status::Running => self.turn_running(hart),
+            _ => Outcome::Idle,
         }
     }
 
@@ -123,28 +123,8 @@ impl Machine {
         let Status::Running = self.status(hart) else {
             return Outcome::Idle;
         };
-        self.run_running(hart, turns)
-    }
-
-    /// The same turns of a hart that runs: it runs on exactly where a turn steps, so that its status is never read.
-    fn run_running(&mut self, hart: usize, turns: u64) -> Outcome
-        requires there { hart < length self.old.harts }
-        requires runs { (hart_at self.old hart).status ≡ Status.Running }
-        requires some { 1 ≤ turns }
-        ensures state { self.new ≡ run self.old (replicate turns hart) }
-        ensures outcome { result ≡ outcome (run self.old (replicate (turns - 1) hart)) hart }
-    {
-        let mut left = turns;
-        loop {
-            let outcome = self.turn_running(hart);
-            left -= 1;
-            let Outcome::Stepped = outcome else {
-                return if left == 0 { outcome } else { Outcome::Idle };
-            };
-            if left == 0 {
-                return Outcome::Stepped;
-            }
-        }
+        let running = &mut self.harts[hart];
+        run_alone(running, &mut self.memory, &self.meanings, turns)
     }
 
     /// One turn of a hart that runs.
@@ -156,10 +136,7 @@ impl Machine {
         ensures outcome { result ≡ outcome self.old hart }
     {
         let running = &mut self.harts[hart];
-        match meaning_at(&self.meanings, running.pc()) {
-            Some(insn) => running.step_running(&mut self.memory, insn),
-            None => running.step(&mut self.memory),
-        }
+        step_meant(running, &mut self.memory, &self.meanings)
     }
 
     /// How many harts there are.
@@ -236,18 +213,51 @@ impl Machine {
     }
 }
 
-/// What each of the words means.
-fn meanings_of(alloc: Global, words: &[u32]) -> Result<Vec<Option<Insn>>, AllocError>
-    ensures { IfOk result (λ meanings. meanings.items ≡ map decoded words.now) }
+/// So many turns of a hart that runs, over a memory whose words mean this: it runs on exactly where a turn steps, so that its
+/// status is never read. Hart, memory and meanings are found once for all turns.
+fn run_alone(hart: &mut Hart, memory: &mut Memory, meanings: &[Meaning], turns: u64) -> Outcome
+    requires runs { hart.old.status ≡ Status.Running }
+    requires meant { meanings.now ≡ map word_meaning memory.old.text }
+    requires few { length meanings.now ≤ most_words }
+    requires some { 1 ≤ turns }
+    ensures state { alone memory.new hart.new ≡ run (alone memory.old hart.old) (replicate turns 0) }
+    ensures text { memory.new.text ≡ memory.old.text }
+    ensures outcome { result ≡ outcome (run (alone memory.old hart.old) (replicate (turns - 1) 0)) 0 }
 {
-    words.iter().map(|word| decode(*word)).collect(alloc)
+    let mut left = turns;
+    loop {
+        let outcome = step_meant(hart, memory, meanings);
+        let Outcome::Stepped = outcome else {
+            return if left == 1 { outcome } else { Outcome::Idle };
+        };
+        left -= 1;
+        if left == 0 {
+            return Outcome::Stepped;
+        }
+    }
+}
+
+/// One turn of a hart that runs, over a memory whose words mean this.
+#[inline(always)]
+fn step_meant(hart: &mut Hart, memory: &mut Memory, meanings: &[Meaning]) -> Outcome
+    requires runs { hart.old.status ≡ Status.Running }
+    requires meant { meanings.now ≡ map word_meaning memory.old.text }
+    requires few { length meanings.now ≤ most_words }
+    ensures state { alone memory.new hart.new ≡ turn (alone memory.old hart.old) 0 }
+    ensures text { memory.new.text ≡ memory.old.text }
+    ensures outcome { result ≡ outcome (alone memory.old hart.old) 0 }
+{
+    match meaning_at(meanings, hart.pc()) {
+        Some(meaning) => hart.step_running(memory, meaning),
+        None => hart.step(memory),
+    }
 }
 
 /// What the word at an address of text means, found among what all words of the text mean, and `None` where no word
 /// begins there.
-fn meaning_at(meanings: &[Option<Insn>], pc: u32) -> Option<&Option<Insn>>
+fn meaning_at(meanings: &[Meaning], pc: u32) -> Option<&Meaning>
     requires { length meanings.now ≤ most_words }
-    ensures { (text : List ℕ) → meanings.now ≡ map decoded text → option_map (λ meaning. meaning.now) result ≡ option_map decoded (fetched text pc) }
+    ensures { (text : List ℕ) → meanings.now ≡ map word_meaning text → option_map (λ meaning. insn_of meaning.now) result ≡ option_map decoded (fetched text pc) }
 {
     meanings.get(place_at(offset_in_text(pc)) as usize)
 }
