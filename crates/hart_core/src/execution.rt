@@ -120,42 +120,12 @@ impl Hart {
             Meaning::Sb { rs1, rs2, imm } => self.store(StoreOp::Sb, rs1, rs2, imm, memory),
             Meaning::Sh { rs1, rs2, imm } => self.store(StoreOp::Sh, rs1, rs2, imm, memory),
             Meaning::Sw { rs1, rs2, imm } => self.store(StoreOp::Sw, rs1, rs2, imm, memory),
-            Meaning::Addi { rd, rs1, imm } => Ok(self.operate_with_immediate(
-                AluImmOp::Addi,
-                rd,
-                rs1,
-                imm,
-            )),
-            Meaning::Slti { rd, rs1, imm } => Ok(self.operate_with_immediate(
-                AluImmOp::Slti,
-                rd,
-                rs1,
-                imm,
-            )),
-            Meaning::Sltiu { rd, rs1, imm } => Ok(self.operate_with_immediate(
-                AluImmOp::Sltiu,
-                rd,
-                rs1,
-                imm,
-            )),
-            Meaning::Xori { rd, rs1, imm } => Ok(self.operate_with_immediate(
-                AluImmOp::Xori,
-                rd,
-                rs1,
-                imm,
-            )),
-            Meaning::Ori { rd, rs1, imm } => Ok(self.operate_with_immediate(
-                AluImmOp::Ori,
-                rd,
-                rs1,
-                imm,
-            )),
-            Meaning::Andi { rd, rs1, imm } => Ok(self.operate_with_immediate(
-                AluImmOp::Andi,
-                rd,
-                rs1,
-                imm,
-            )),
+            Meaning::Addi { rd, rs1, imm } => Ok(self.operate_imm(AluImmOp::Addi, rd, rs1, imm)),
+            Meaning::Slti { rd, rs1, imm } => Ok(self.operate_imm(AluImmOp::Slti, rd, rs1, imm)),
+            Meaning::Sltiu { rd, rs1, imm } => Ok(self.operate_imm(AluImmOp::Sltiu, rd, rs1, imm)),
+            Meaning::Xori { rd, rs1, imm } => Ok(self.operate_imm(AluImmOp::Xori, rd, rs1, imm)),
+            Meaning::Ori { rd, rs1, imm } => Ok(self.operate_imm(AluImmOp::Ori, rd, rs1, imm)),
+            Meaning::Andi { rd, rs1, imm } => Ok(self.operate_imm(AluImmOp::Andi, rd, rs1, imm)),
             Meaning::Slli { rd, rs1, amount } => Ok(self.shift(ShiftOp::Slli, rd, rs1, amount)),
             Meaning::Srli { rd, rs1, amount } => Ok(self.shift(ShiftOp::Srli, rd, rs1, amount)),
             Meaning::Srai { rd, rs1, amount } => Ok(self.shift(ShiftOp::Srai, rd, rs1, amount)),
@@ -196,7 +166,7 @@ impl Hart {
 
     /// An operation on a register and an immediate.
     #[inline(always)]
-    fn operate_with_immediate(&mut self, op: AluImmOp, rd: Reg, rs1: Reg, imm: Imm12) -> Outcome
+    fn operate_imm(&mut self, op: AluImmOp, rd: Reg, rs1: Reg, imm: Imm12) -> Outcome
         ensures hart { self.new ≡ given self.old rd (computed_with_immediate_of op (register self.old rs1) (extended imm)) }
         ensures outcome { result ≡ Outcome.Stepped }
     {
