@@ -172,7 +172,7 @@ module _ (w : World) (harts : ℕ) (m : List ℕ) (group : Group) (places : Plac
   }
 
   -- and one alone
-  followed : {is js : List Insn} {f : ℕ → ℕ} {k : ℕ} {x z : ℕ → ℕ} → (a : Leaves w m l group n is f k x) → Leaves w m l group n js a.after k z → Leaves w m l group n (is ++ js) f k z
+  pub followed : {is js : List Insn} {f : ℕ → ℕ} {k : ℕ} {x z : ℕ → ℕ} → (a : Leaves w m l group n is f k x) → Leaves w m l group n js a.after k z → Leaves w m l group n (is ++ js) f k z
   followed {is} {js} {f} {k} {x} {z} a c = record {
     after = c.after;
     line = line-then w is js f a.after c.after m m m a.line c.line;
@@ -181,18 +181,18 @@ module _ (w : World) (harts : ℕ) (m : List ℕ) (group : Group) (places : Plac
   }
 
   -- where two slots lie
-  record Pair (k : ℕ) : Type 0 where
-    first : SlotLies group k
-    second : SlotLies group (k + 1)
-    above : slot group k ≤ slot group (k + 1)
+  pub record Pair (k : ℕ) : Type 0 where
+    pub first : SlotLies group k
+    pub second : SlotLies group (k + 1)
+    pub above : slot group k ≤ slot group (k + 1)
 
-  pair-lies : (k : ℕ) → k < slots group → k + 1 < slots group → Pair k
+  pub pair-lies : (k : ℕ) → k < slots group → k + 1 < slots group → Pair k
   pair-lies k a b =
       let x = slot-lies group k a in
       let e = x.next in
       record { first = x; second = slot-lies group (k + 1) b; above = omega (arith, e) }
 
-  two-leave : (k : ℕ) (f : ℕ → ℕ) (p q : ℕ → List Insn) (ks : List Insn) (fa fb : ℕ → Bool) (x y z : ℕ → ℕ) → Pair k → Code p fa x → Code q fb y → fa k ≡ true → fb (k + 1) ≡ true → Known f → Lanes w m l group n f
+  pub two-leave : (k : ℕ) (f : ℕ → ℕ) (p q : ℕ → List Insn) (ks : List Insn) (fa fb : ℕ → Bool) (x y z : ℕ → ℕ) → Pair k → Code p fa x → Code q fb y → fa k ≡ true → fb (k + 1) ≡ true → Known f → Lanes w m l group n f
       → ((f' : ℕ → ℕ) → Known f' → Lanes w m l group n f' → operations.Hold w m l group n f' (slot group k) x → operations.Hold w m l group n f' (slot group (k + 1)) y → Leaves w m l group n ks f' k z)
       → Leaves w m l group n (p k ++ (q (k + 1) ++ ks)) f k z
   two-leave k f p q ks fa fb x y z lies ca cb ta tb knows has make =
@@ -268,7 +268,7 @@ module _ (w : World) (harts : ℕ) (m : List ℕ) (group : Group) (places : Plac
       let d = strayed-leaves w m l group n k lies scope (at 0) goings own.terms go.can words (few-sixteen group (few-rounds w m l group n f has)) b.after has2 kb.counters (λ i. v0 + i * step) b.value in
       value-first w m l group n k lies a (omega arith) (same-values w m l group n k lies (λ i lt. sym (linear-goes scope goings at n go own i lt)) (followed b d))
 
-  beside : {js ks : List Insn} {f : ℕ → ℕ} {k j : ℕ} {y z : ℕ → ℕ} → slot group k ≤ slot group j → (b : Leaves w m l group n js f j y) → Leaves w m l group n ks b.after k z → Leaves w m l group n (js ++ ks) f k z
+  pub beside : {js ks : List Insn} {f : ℕ → ℕ} {k j : ℕ} {y z : ℕ → ℕ} → slot group k ≤ slot group j → (b : Leaves w m l group n js f j y) → Leaves w m l group n ks b.after k z → Leaves w m l group n (js ++ ks) f k z
   beside {js} {ks} {f} {k} {j} {y} {z} above b c = record {
     after = c.after;
     line = line-then w js ks f b.after c.after m m m b.line c.line;

@@ -2,9 +2,13 @@ pub mod Brevity
 pub mod DeepEmission
 pub mod DeepEvaluation
 pub mod DeepParts
+pub mod Distances
 pub mod Emission
 pub mod Evaluation
 pub mod LanedParts
+pub mod LeanEmission
+pub mod LeanEvaluation
+pub mod LeanParts
 pub mod Offsets
 pub mod Operations
 pub mod Pacing

@@ -206,6 +206,12 @@ offsets place r s =
     literal scratch place.width
     ++ (Vector (v.MultiplyVx multiplies.Vmul s s scratch true) ∷ Vector (v.ArithmeticVv vvs.Vadd r r s true) ∷ word_offsets place r)
 
+-- Lanes of columns and rows in r and s, of which t has the rows, become how many bytes behind the first one the pixels there lie, in r.
+abbrev pub distances : Place → ℕ → ℕ → ℕ → List Insn
+distances place r s t =
+    literal scratch place.width
+    ++ (Vector (v.MultiplyVx multiplies.Vmul t t scratch true) ∷ Vector (v.ArithmeticVv vvs.Vadd r r s true) ∷ Vector (v.ShiftVi shifts.Vsll r r 2 true) ∷ [])
+
 -- lanes of columns become numbers of pixels, with one row for all in the first register of the scalar stack
 abbrev pub numbered : Place → ℕ → List Insn
 numbered place r =

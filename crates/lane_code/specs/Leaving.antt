@@ -17,6 +17,7 @@ use Rattle.lane_code.specs.Groups.{registers, slot}
 use Rattle.lane_code.specs.declared.goings.Going.{Going}
 use Rattle.lane_code.specs.Goings.{going_of, gone, can_go}
 use Rattle.lane_code.specs.Lanes.{laned}
+use Rattle.lane_code.specs.Lean.{lean}
 
 -- Each round takes counters as far as they go, within the limits.
 pub record GoAlong (scope : List Counter) (goings : List Going) (at : ℕ → Values) (rounds : ℕ) : Type 0 where
@@ -49,3 +50,12 @@ LanesLeave = (world : World) (harts : ℕ) (memory : List ℕ) (group : Group) (
     → ((round : ℕ) → round < rounds → AllByRecursion (Loads world places memory reads) (loads reads (at round) e))
     → (f : ℕ → ℕ) → Knows world harts scope (at 0) f → HasLanes group rounds f
     → LeavesLanes world memory group rounds ((laned group places scope goings e).code k) f k (λ round. value reads (at round) e)
+
+-- So it is of code that needs fewer groups.
+abbrev pub LeanLanesLeave : Type 0
+LeanLanesLeave = (world : World) (harts : ℕ) (memory : List ℕ) (group : Group) (places : Places) (scope : List Counter) (goings : List Going) (at : ℕ → Values) (reads : Reads) (rounds : ℕ)
+    → length memory ≡ world.size → ArePlaces places → 1 ≤ rounds → GoAlong scope goings at rounds
+    → (e : Expr) (k : ℕ) → (lean group places scope goings e).fits k ≡ true → (made places scope e).is_word ≡ true
+    → ((round : ℕ) → round < rounds → AllByRecursion (Loads world places memory reads) (loads reads (at round) e))
+    → (f : ℕ → ℕ) → Knows world harts scope (at 0) f → HasLanes group rounds f
+    → LeavesLanes world memory group rounds ((lean group places scope goings e).code k) f k (λ round. value reads (at round) e)

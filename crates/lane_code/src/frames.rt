@@ -94,7 +94,7 @@ fn emit_copied(code: &mut Vec<u32>, group: Group, k: u8) -> Result<(), AllocErro
 
 /// Whether the values of an expression can be made in a slot of the stack and those above.
 #[tactic(auto, unfolding(crate::specs::Lanes::laned))]
-fn fits_lanes(
+pub fn fits_lanes(
     group: Group,
     places: &Places,
     scope: &[Counter],
@@ -133,7 +133,7 @@ fn fits_lanes(
 }
 
 /// Whether two operands can be made in the two slots above the first.
-fn are_above(
+pub fn are_above(
     group: Group,
     places: &Places,
     scope: &[Counter],

@@ -398,7 +398,8 @@ fn emit_own_copy(code: &mut Vec<u32>, distance: u32) -> Result<(), AllocError>
     Ok(())
 }
 
-fn emit_based(code: &mut Vec<u32>, place: &Place) -> Result<(), AllocError>
+/// Appends what leaves the address of a buffer's first pixel in x13, of the hart's own copy.
+pub fn emit_based(code: &mut Vec<u32>, place: &Place) -> Result<(), AllocError>
     ensures { OnOk result (Emits code.old.items code.new.items (spec.based place.now)) }
 {
     emit_literal(code, 13, place.start)?;
@@ -425,6 +426,24 @@ pub fn emit_offsets(code: &mut Vec<u32>, place: &Place, r: u8, s: u8) -> Result<
     multiplication_by(code, MultiplyOp::Vmul, s, s, 13)?;
     arithmetic(code, ArithmeticVvOp::Vadd, r, r, s)?;
     emit_word_offsets(code, place, r)?;
+    Ok(())
+}
+
+/// Appends what makes distances, in the first group, of lanes of columns and rows in two groups, of which `rows` has the rows.
+pub fn emit_distances(
+    code: &mut Vec<u32>,
+    place: &Place,
+    first: u8,
+    second: u8,
+    rows: u8,
+) -> Result<(), AllocError>
+    requires { (first < 32) × (second < 32) × (rows < 32) }
+    ensures { OnOk result (Emits code.old.items code.new.items (spec.distances place.now first second rows)) }
+{
+    emit_literal(code, 13, place.width)?;
+    multiplication_by(code, MultiplyOp::Vmul, rows, rows, 13)?;
+    arithmetic(code, ArithmeticVvOp::Vadd, first, first, second)?;
+    times_four(code, first)?;
     Ok(())
 }
 
