@@ -17,3 +17,5 @@ pub mod Moving
 pub mod Counting
 pub mod CutParking
 pub mod Valued
+pub mod TightCode
+pub mod TightEmission

@@ -17,10 +17,11 @@ use Rattle.lane_code.specs.declared.groups.Group.{Group}
 use Rattle.lane_code.specs.declared.goings.Going.{Going}
 use Rattle.lane_code.specs.Groups.{registers}
 use Rattle.lane_code.specs.Leaving.{GoAlong}
-use Rattle.round_code.specs.Rounds.{is_row, row_code, row_fits, has_one_row, one_row_code, one_row_fits, scattered_code, scattered_fits, store_fits, pixels_code}
+use Rattle.round_code.specs.Rounds.{is_row, row_code, row_fits, has_one_row, one_row_code, one_row_fits, scattered_code, scattered_fits, is_tight, tight_code, tight_fits, anywhere_code, anywhere_fits, store_fits, pixels_code}
 use Rattle.round_code.proofs.Effects.{effect_hits, laid}
 use Rattle.round_code.proofs.RowCode.{row-parts, row-does}
 use Rattle.round_code.proofs.ScatteredCode.{one-row-parts, one-row-does, scattered-parts, scattered-does}
+use Rattle.round_code.proofs.TightCode.{tight-parts, tight-does}
 
 module _ (own : Setting) (good : IsSetting own) (group : Group) (scope : List Counter) (goings : List Going) (at : ℕ → Values) (n : ℕ)
     (some : 1 ≤ n) (go : GoAlong scope goings at n) (store : Store) (funcs : Planes)
@@ -35,21 +36,27 @@ module _ (own : Setting) (good : IsSetting own) (group : Group) (scope : List Co
   abbrev Begins : List Insn → Type 0
   Begins code = (f : ℕ → ℕ) (memory : List ℕ) → HoldsFuncs own memory funcs → Knows own.world own.harts scope (at 0) f → min (f 15) (4 * registers group) ≡ n → Stores code f memory
 
-  by-rows : (t : Bool) → has_one_row own.places scope goings store ≡ t
-      → (if t then one_row_fits group own.places scope goings store else scattered_fits group own.places scope goings store) ≡ true
-      → Begins (if t then one_row_code group own.places scope goings store else scattered_code group own.places scope goings store)
-  by-rows true row fits f memory holds knows count =
-      let fit = one-row-parts group own.places scope goings store row fits in
-      one-row-does own good group scope goings at n some go store funcs sound fit.value_word are_run fit f memory holds knows count
-  by-rows false row fits f memory holds knows count =
+  by-room : (t : Bool) → is_tight group own.places scope goings store ≡ t
+      → (if t then tight_fits group own.places scope goings store else scattered_fits group own.places scope goings store) ≡ true
+      → Begins (if t then tight_code group own.places scope goings store else scattered_code group own.places scope goings store)
+  by-room true room fits f memory holds knows count = tight-does own good group scope goings at n some go store funcs sound are_run (tight-parts group own.places scope goings store fits) f memory holds knows count
+  by-room false room fits f memory holds knows count =
       let fit = scattered-parts group own.places scope goings store fits in
       scattered-does own good group scope goings at n some go store funcs sound fit.value_word are_run fit f memory holds knows count
 
+  by-rows : (t : Bool) → has_one_row own.places scope goings store ≡ t
+      → (if t then one_row_fits group own.places scope goings store else anywhere_fits group own.places scope goings store) ≡ true
+      → Begins (if t then one_row_code group own.places scope goings store else anywhere_code group own.places scope goings store)
+  by-rows true row fits f memory holds knows count =
+      let fit = one-row-parts group own.places scope goings store row fits in
+      one-row-does own good group scope goings at n some go store funcs sound fit.value_word are_run fit f memory holds knows count
+  by-rows false row fits f memory holds knows count = by-room (is_tight group own.places scope goings store) refl fits f memory holds knows count
+
   abbrev other_fits : Bool
-  other_fits = if has_one_row own.places scope goings store then one_row_fits group own.places scope goings store else scattered_fits group own.places scope goings store
+  other_fits = if has_one_row own.places scope goings store then one_row_fits group own.places scope goings store else anywhere_fits group own.places scope goings store
 
   abbrev other_code : List Insn
-  other_code = if has_one_row own.places scope goings store then one_row_code group own.places scope goings store else scattered_code group own.places scope goings store
+  other_code = if has_one_row own.places scope goings store then one_row_code group own.places scope goings store else anywhere_code group own.places scope goings store
 
   by-test : (t : Bool) → is_row own.places scope goings store ≡ t → (if t then row_fits group own.places scope goings store else other_fits) ≡ true → Begins (if t then row_code group own.places scope goings store else other_code)
   by-test true row fits f memory holds knows count = row-does own good group scope goings at n some go store funcs sound (row-parts group own.places scope goings store row fits) are_run f memory holds knows count

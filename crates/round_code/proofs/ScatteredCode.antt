@@ -124,20 +124,20 @@ module _ (own : Setting) (good : IsSetting own) (group : Group) (scope : List Co
   place = place_of own.places (sources.Func store.func)
 
   -- all that a round loads may be loaded
-  record Sounds (k : ℕ) : Type 0 where
-    writes : own.written store.func (x k) (y k) ≡ true
-    of_x : list_all own.loaded (loads reads (at k) store.x) ≡ true
-    of_y : list_all own.loaded (loads reads (at k) store.y) ≡ true
-    of_value : list_all own.loaded (loads reads (at k) store.value) ≡ true
+  pub record Sounds (k : ℕ) : Type 0 where
+    pub writes : own.written store.func (x k) (y k) ≡ true
+    pub of_x : list_all own.loaded (loads reads (at k) store.x) ≡ true
+    pub of_y : list_all own.loaded (loads reads (at k) store.y) ≡ true
+    pub of_value : list_all own.loaded (loads reads (at k) store.value) ≡ true
 
-  sounds : (k : ℕ) → k < n → Sounds k
+  pub sounds : (k : ℕ) → k < n → Sounds k
   sounds k b =
       let t = and_parts (own.written store.func (x k) (y k)) (list_all own.loaded (store_loads reads (at k) store)) (sound k b) in
       let p = and_parts (list_all own.loaded (loads reads (at k) store.x)) _ (sym (list_all-append own.loaded (loads reads (at k) store.x) (loads reads (at k) store.y ++ loads reads (at k) store.value)) ∙ t.1) in
       let q = and_parts (list_all own.loaded (loads reads (at k) store.y)) (list_all own.loaded (loads reads (at k) store.value)) (sym (list_all-append own.loaded (loads reads (at k) store.y) (loads reads (at k) store.value)) ∙ p.1) in
       record { writes = t.0; of_x = p.0; of_y = q.0; of_value = q.1 }
 
-  loaded : (e : Expr) → ((k : ℕ) → k < n → list_all own.loaded (loads reads (at k) e) ≡ true) → (memory : List ℕ) → HoldsFuncs own memory funcs
+  pub loaded : (e : Expr) → ((k : ℕ) → k < n → list_all own.loaded (loads reads (at k) e) ≡ true) → (memory : List ℕ) → HoldsFuncs own memory funcs
       → (k : ℕ) → k < n → AllByRecursion (Loads w own.places memory reads) (loads reads (at k) e)
   loaded e may memory holds k b = all-loaded own good scope (at k) funcs memory holds (loads reads (at k) e) (may k b)
 
@@ -149,7 +149,7 @@ module _ (own : Setting) (good : IsSetting own) (group : Group) (scope : List Co
     lanes-few {f} has = few-rounds w memory holds.size group n f has
 
     -- lines that keep what code of a slot keeps
-    abbrev quiet : (code : List Insn) (k : ℕ) (f after : ℕ → ℕ) → ((q : ℕ) → IsKept group k q → after q ≡ f q) → Line w code f memory after memory → Does own code (length code) f memory depth funcs no_hits
+    abbrev pub quiet : (code : List Insn) (k : ℕ) (f after : ℕ → ℕ) → ((q : ℕ) → IsKept group k q → after q ≡ f q) → Line w code f memory after memory → Does own code (length code) f memory depth funcs no_hits
     quiet code k f after keeps line = still own (λ at. at) (λ at. end at code) (length code) after holds (λ q kept. keeps q (kept-in group depth k q kept)) (λ at s. line at s)
 
     has-still : (k : ℕ) (f after : ℕ → ℕ) → ((q : ℕ) → IsKept group k q → after q ≡ f q) → HasLanes group n f → HasLanes group n after
@@ -161,7 +161,7 @@ module _ (own : Setting) (good : IsSetting own) (group : Group) (scope : List Co
     abbrev pixels_at : ℕ → Option Effect
     pixels_at k = Some (stored_at k)
 
-    small : (k : ℕ) → k < n → pixel k < 2 ^ 32
+    pub small : (k : ℕ) → k < n → pixel k < 2 ^ 32
     small =
         let go' = values-go w own.harts memory group own.places scope goings at reads n holds.size good.are_places some go store.value
         (word-is group own.places scope goings store.value word) (loaded store.value (λ k b. (sounds k b).of_value) memory holds) in
@@ -184,19 +184,20 @@ module _ (own : Setting) (good : IsSetting own) (group : Group) (scope : List Co
           row-touched own good store.func n few x y pixel can small r byte hit.below
           (subst (λ a. IsOf w own.places a (x r) (y r) byte) (sym ef) (subst (λ a. IsOf w own.places func a (y r) byte) (sym ex) (subst (λ a. IsOf w own.places func i a byte) (sym ey) of)))
 
-      abbrev last_code : List Insn
-      last_code = Vector (v.StoreElements Bits32 (slot group 0) 13 (addressings.Indexed (slot group 1)) true) ∷ []
+      -- the values of a slot are stored at the distances in another one
+      abbrev pub last_code : ℕ → ℕ → List Insn
+      last_code i j = Vector (v.StoreElements Bits32 (slot group i) 13 (addressings.Indexed (slot group j)) true) ∷ []
 
       -- the last instruction
-      stored-does : SlotLies group 0 → SlotLies group 1 → (f : ℕ → ℕ) → HasLanes group n f → ((k : ℕ) → k < n → lanes.add 32 (f 13) (f (lane (slot group 1) k)) ≡ spots k) → ((k : ℕ) → k < n → f (lane (slot group 0) k) ≡ pixel k)
-          → Does own last_code 1 f memory depth (laid own.points pixels_at n funcs) (effect_hits pixels_at n)
-      stored-does lies0 lies1 f has places values =
+      pub stored-does : (i j : ℕ) → SlotLies group i → SlotLies group j → (f : ℕ → ℕ) → HasLanes group n f → ((k : ℕ) → k < n → lanes.add 32 (f 13) (f (lane (slot group j) k)) ≡ spots k)
+          → ((k : ℕ) → k < n → f (lane (slot group i) k) ≡ pixel k) → Does own (last_code i j) 1 f memory depth (laid own.points pixels_at n funcs) (effect_hits pixels_at n)
+      stored-does i j in-values in-places f has places values =
           let count = has.count in
           let writable : AllWritable w Word (f vl_number) spots = subst (λ k. AllWritable w Word k spots) (sym count) (all-writable own good store.func n few x y pixel can small are_run) in
-          let where-is : (k : ℕ) → k < f vl_number → lanes.add 32 (f 13) (f (lane (slot group 1) k)) ≡ spots k = λ k b. places k (omega (arith, b, count)) in
-          let left-is : stored_lanes memory Word (f vl_number) spots (λ k. f (lane (slot group 0) k)) ≡ stored_lanes memory Word n spots pixel =
-          ap (λ k. stored_lanes memory Word k spots (λ k. f (lane (slot group 0) k))) count ∙ lanes-same memory n spots (λ k. f (lane (slot group 0) k)) pixel values in
-          let line = stores w f memory holds.size (registers group) has.configured (addressings.Indexed (slot group 1)) (slot group 0) 13 spots lies0.is_group (omega arith) lies1.is_group where-is writable in
+          let where-is : (k : ℕ) → k < f vl_number → lanes.add 32 (f 13) (f (lane (slot group j) k)) ≡ spots k = λ k b. places k (omega (arith, b, count)) in
+          let left-is : stored_lanes memory Word (f vl_number) spots (λ k. f (lane (slot group i) k)) ≡ stored_lanes memory Word n spots pixel =
+          ap (λ k. stored_lanes memory Word k spots (λ k. f (lane (slot group i) k))) count ∙ lanes-same memory n spots (λ k. f (lane (slot group i) k)) pixel values in
+          let line = stores w f memory holds.size (registers group) has.configured (addressings.Indexed (slot group j)) (slot group i) 13 spots in-values.is_group (omega arith) in-places.is_group where-is writable in
           let row = row-holds own good store.func n few x y pixel can small n (omega arith) memory funcs holds in
           record {
             after = f;
@@ -206,12 +207,12 @@ module _ (own : Setting) (good : IsSetting own) (group : Group) (scope : List Co
             holds = row.holds;
             elsewhere = row.elsewhere;
             are_bytes = row.are_bytes;
-            writes = λ func i j byte at hit of s.
-                stores-write w f memory holds.size (registers group) has.configured (addressings.Indexed (slot group 1)) (slot group 0) 13 spots lies0.is_group (omega arith) lies1.is_group where-is writable at byte s.0
-                (subst (λ k. is_in byte (touched (accesses_to Word k spots)) ≡ true) (sym count) (hit-one func i j byte hit of));
+            writes = λ func a b byte at hit of s.
+                stores-write w f memory holds.size (registers group) has.configured (addressings.Indexed (slot group j)) (slot group i) 13 spots in-values.is_group (omega arith) in-places.is_group where-is writable at byte s.0
+                (subst (λ k. is_in byte (touched (accesses_to Word k spots)) ≡ true) (sym count) (hit-one func a b byte hit of));
           }
 
-      abbrev low : (k : ℕ) → k < n → place.start + place.distance * w.hart + 4 * (y k * place.width + x k) < 2 ^ 32
+      pub low : (k : ℕ) → k < n → place.start + place.distance * w.hart + 4 * (y k * place.width + x k) < 2 ^ 32
       low = low-spot own good store.func n few x y pixel can small
 
       lies0 : SlotLies group 0
@@ -229,7 +230,7 @@ module _ (own : Setting) (good : IsSetting own) (group : Group) (scope : List Co
 
       -- behind code that makes them
       far-does : {is : List Insn} {f : ℕ → ℕ} → HasLanes group n f → ((k : ℕ) → k < n → f (lane (slot group 0) k) ≡ pixel k) → Reaches w memory holds.size group n 1 lies1 Far is f
-          → Does own (is ++ last_code) (length (is ++ last_code)) f memory depth (laid own.points pixels_at n funcs) (effect_hits pixels_at n)
+          → Does own (is ++ last_code 0 1) (length (is ++ last_code 0 1)) f memory depth (laid own.points pixels_at n funcs) (effect_hits pixels_at n)
       far-does {is} {f} has is-pixel d =
           let room = lanes-few has in
           let above1 : slot group 0 + registers group ≤ slot group 1 = (let e = lies0.next in omega (arith, e)) in
@@ -238,11 +239,11 @@ module _ (own : Setting) (good : IsSetting own) (group : Group) (scope : List Co
           λ k b. offset-address w memory holds.size group n 1 lies1 place x y low (good.are_places (sources.Func store.func)) fd d.holds k b ∙ sym (spot-is own good store.func n few x y pixel can small k b) in
           let values : (k : ℕ) → k < n → fd (lane (slot group 0) k) ≡ pixel k =
           λ k b. d.keeps (lane (slot group 0) k) (slot-still w memory holds.size group n 0 1 lies0 k b room above1) ∙ is-pixel k b in
-          lines-then own (quiet is 1 f fd d.keeps (λ at s. d.line at s)) (stored-does lies0 lies1 fd (has-still 1 f fd d.keeps has) places values)
+          lines-then own (quiet is 1 f fd d.keeps (λ at s. d.line at s)) (stored-does 0 1 lies0 lies1 fd (has-still 1 f fd d.keeps has) places values)
 
       -- behind values, columns and rows
       abbrev tail_code : List Insn
-      tail_code = offsets place (slot group 1) (slot group 2) ++ last_code
+      tail_code = offsets place (slot group 1) (slot group 2) ++ last_code 0 1
 
       tail-does : (f : ℕ → ℕ) → Knows w own.harts scope (at 0) f → HasLanes group n f → ((k : ℕ) → k < n → f (lane (slot group 0) k) ≡ pixel k) → ((k : ℕ) → k < n → f (lane (slot group 1) k) ≡ x k)
           → ((k : ℕ) → k < n → f (lane (slot group 2) k) ≡ y k) → Does own tail_code (length tail_code) f memory depth (laid own.points pixels_at n funcs) (effect_hits pixels_at n)
@@ -254,7 +255,7 @@ module _ (own : Setting) (good : IsSetting own) (group : Group) (scope : List Co
       -- behind values, columns and the row
       row-tail-does : (f : ℕ → ℕ) → Knows w own.harts scope (at 0) f → HasLanes group n f → ((k : ℕ) → k < n → f (lane (slot group 0) k) ≡ pixel k) → ((k : ℕ) → k < n → f (lane (slot group 1) k) ≡ x k)
           → f 20 ≡ y 0 → ((k : ℕ) → k < n → y k ≡ y 0)
-          → Does own (row_offsets place (slot group 1) ++ last_code) (length (row_offsets place (slot group 1) ++ last_code)) f memory depth (laid own.points pixels_at n funcs) (effect_hits pixels_at n)
+          → Does own (row_offsets place (slot group 1) ++ last_code 0 1) (length (row_offsets place (slot group 1) ++ last_code 0 1)) f memory depth (laid own.points pixels_at n funcs) (effect_hits pixels_at n)
       row-tail-does f knows has is-pixel is-x is-y steady =
           far-does has is-pixel (row-offsets-reach w memory holds.size group n 1 lies1 place x y low (good.are_places (sources.Func store.func)) f has is-x is-y steady knows.number)
 
@@ -298,7 +299,7 @@ module _ (own : Setting) (good : IsSetting own) (group : Group) (scope : List Co
   hit-store func i j hit = record { round = hit.round; below = hit.below; stored = hit.stored; is = of-store hit.round ∙ hit.is; func_is = hit.func_is; x_is = hit.x_is; y_is = hit.y_is }
 
   -- what is made behind the configuration of lanes
-  begun : (code : List Insn) (f : ℕ → ℕ) (memory : List ℕ) → HoldsFuncs own memory funcs → Knows w own.harts scope (at 0) f → min (f 15) (4 * registers group) ≡ n
+  pub begun : (code : List Insn) (f : ℕ → ℕ) (memory : List ℕ) → HoldsFuncs own memory funcs → Knows w own.harts scope (at 0) f → min (f 15) (4 * registers group) ≡ n
       → (n ≤ 16 → (f1 : ℕ → ℕ) → Knows w own.harts scope (at 0) f1 → HasLanes group n f1 → Does own code (length code) f1 memory depth (laid own.points own_pixels n funcs) (effect_hits own_pixels n))
       → Does own (Vector (v.Vsetvli 0 15 (vtype_of group)) ∷ code) (length (Vector (v.Vsetvli 0 15 (vtype_of group)) ∷ code)) f memory depth (laid own.points of_store n funcs) (effect_hits of_store n)
   begun code f memory holds knows count rest =

@@ -1,9 +1,14 @@
 -- What comes of an attempt to do the rounds of a loop at once. This project's own.
-use Rattle.std.specs.Prelude.{◌≡◌, ℕ, Bool, true, List}
+use Rattle.std.specs.Prelude.{◌≡◌, ◌<◌, ℕ, Bool, true, List}
 use Rattle.loop_ir.specs.declared.expressions.Counter.{Counter}
+use Rattle.loop_ir.specs.declared.statements.Store.{Store}
+use Rattle.scalar_code.specs.declared.places.Places.{Places}
 use Rattle.scalar_code.specs.Words.{Emits}
+use Rattle.lane_code.specs.declared.groups.Group.{Group}
 use Rattle.lane_code.specs.declared.goings.Going.{Going}
-use Rattle.round_code.specs.Rounds.{Rounded}
+use Rattle.lane_code.specs.Groups.{slot}
+use Rattle.lane_code.specs.Lean.{lean}
+use Rattle.round_code.specs.Rounds.{Rounded, distances_fit, distances_code}
 
 -- A statement can be done for all rounds at once.
 abbrev pub FitsRounds : Rounded → Bool → List Counter → List Going → Type 0
@@ -13,3 +18,16 @@ FitsRounds own all scope goings = own.fits all scope goings ≡ true
 pub record EmitsRounds (old new : List ℕ) (own : Rounded) (all : Bool) (scope : List Counter) (goings : List Going) : Type 0 where
   pub emits : Emits old new (own.code all scope goings)
   pub can : FitsRounds own all scope goings
+
+-- The distances of a store's pixels can be made in a slot and those above.
+pub record FitDistances (group : Group) (places : Places) (scope : List Counter) (goings : List Going) (store : Store) (k : ℕ) : Type 0 where
+  pub fit : distances_fit group places scope goings store k ≡ true
+  pub x_is_word : (lean group places scope goings store.x).own.own.is_word ≡ true
+  pub y_is_word : (lean group places scope goings store.y).own.own.is_word ≡ true
+
+-- words of the code are appended that leaves them in the slot, whose first register this is
+pub record EmitsDistances (old new : List ℕ) (group : Group) (places : Places) (scope : List Counter) (goings : List Going) (store : Store) (k r : ℕ) : Type 0 where
+  pub emits : Emits old new (distances_code group places scope goings store k)
+  pub can : FitDistances group places scope goings store k
+  pub slot_is : r ≡ slot group k
+  pub low : r < 32

@@ -8,6 +8,7 @@ ghost use Rattle.lane_code.specs.Goings.{is_rate as is_rate_of, is_slow as is_sl
 ghost use Rattle.round_code.specs.Emitting.{EmitsRounds, FitsRounds};
 ghost use Rattle.round_code.specs.Rounds as spec;
 
+use crate::tight::{emit_tight, is_tight};
 use halide_pipeline::Source;
 use lane_code::frames::{emit_deep_lanes, emit_others, emit_second};
 use lane_code::goings::{
@@ -128,6 +129,8 @@ fn emit_pixels(
         emit_row(code, group, places, scope, goings, store)?;
     } else if has_one_row(scope, goings, store) {
         emit_one_row(code, group, places, scope, goings, store)?;
+    } else if is_tight(group, places, scope, goings, store) {
+        emit_tight(code, group, places, scope, goings, store)?;
     } else {
         emit_scattered(code, group, places, scope, goings, store)?;
     }

@@ -1,0 +1,157 @@
+//! The code of stores of pixels that lie anywhere, in an order for which the stack of lanes suffices.
+
+ghost use Rattle.std.specs.Prelude.{◌≡◌, ◌+◌, ◌<◌, ◌≤◌, ◌&&◌, OnOk, IfErr, IfOk, ℕ, true};
+ghost use Rattle.scalar_code.specs.Faults.{IsFault};
+ghost use Rattle.scalar_code.specs.Words.{Emits};
+ghost use Rattle.lane_code.specs.Lean.{lean};
+ghost use Rattle.round_code.specs.Emitting.{EmitsDistances, FitDistances};
+ghost use Rattle.round_code.specs.Rounds as spec;
+
+use halide_pipeline::Source;
+use lane_code::frames::{are_above, fits_lanes};
+use lane_code::goings::Going;
+use lane_code::groups::Group;
+use lane_code::lean::{emit_lean, fits_lean};
+use lane_code::values::{emit_based, emit_distances};
+use lane_code::vectors::{configure, store_at};
+use loop_ir::expressions::{Counter, Expr};
+use loop_ir::statements::Store;
+use scalar_code::CodeFault;
+use scalar_code::expressions::place_of;
+use scalar_code::places::Places;
+use std::alloc::AllocError;
+
+/// Whether the stack suffices for an expression in a slot and those above, and for another one above it.
+fn fit_in_turn(
+    group: Group,
+    places: &Places,
+    scope: &[Counter],
+    goings: &[Going],
+    first: &Expr,
+    second: &Expr,
+    k: u8,
+) -> bool
+    requires { k ≤ 1 }
+    ensures { result ≡ ((lean group places.now scope.now goings.now first.now).fits k && (lean group places.now scope.now goings.now second.now).fits (k + 1)) }
+{
+    fits_lean(group, places, scope, goings, first, k)
+        && fits_lean(group, places, scope, goings, second, k + 1)
+}
+
+/// Whether the distances of pixels can be made in a slot and those above, with columns or rows first.
+fn distances_fit(
+    group: Group,
+    places: &Places,
+    scope: &[Counter],
+    goings: &[Going],
+    store: &Store,
+    k: u8,
+) -> bool
+    requires { k ≤ 1 }
+    ensures { result ≡ spec.distances_fit group places.now scope.now goings.now store.now k }
+{
+    fit_in_turn(group, places, scope, goings, &store.x, &store.y, k)
+        || fit_in_turn(group, places, scope, goings, &store.y, &store.x, k)
+}
+
+/// Appends what leaves in a slot, whose first register is answered, how far pixels lie from the buffer's first one.
+fn emit_pixel_distances(
+    code: &mut Vec<u32>,
+    group: Group,
+    places: &Places,
+    scope: &[Counter],
+    goings: &[Going],
+    store: &Store,
+    k: u8,
+) -> Result<u8, CodeFault>
+    requires { k ≤ 1 }
+    ensures ok { IfOk result (λ r. EmitsDistances code.old.items code.new.items group places.now scope.now goings.now store.now k r) }
+    ensures err { IfErr result (IsFault ⊥ (FitDistances group places.now scope.now goings.now store.now k → ⊥)) }
+{
+    let place = place_of(places, Source::Func(store.func));
+    if fit_in_turn(group, places, scope, goings, &store.x, &store.y, k) {
+        let columns = emit_lean(code, group, places, scope, goings, &store.x, k)?;
+        let rows = emit_lean(code, group, places, scope, goings, &store.y, k + 1)?;
+        emit_distances(code, &place, columns, rows, rows)?;
+        return Ok(columns);
+    }
+    let rows = emit_lean(code, group, places, scope, goings, &store.y, k)?;
+    let columns = emit_lean(code, group, places, scope, goings, &store.x, k + 1)?;
+    emit_distances(code, &place, rows, columns, rows)?;
+    Ok(rows)
+}
+
+/// Appends what stores lanes at their distances from the buffer's first pixel.
+fn emit_stored(
+    code: &mut Vec<u32>,
+    places: &Places,
+    store: &Store,
+    values: u8,
+    distances: u8,
+) -> Result<(), AllocError>
+    requires { (values < 32) × (distances < 32) }
+    ensures { OnOk result (Emits code.old.items code.new.items (spec.stored_code places.now store.now values distances)) }
+{
+    let place = place_of(places, Source::Func(store.func));
+    emit_based(code, &place)?;
+    store_at(code, values, 13, distances)?;
+    Ok(())
+}
+
+/// Whether values can be made before the distances of pixels.
+fn value_leads(
+    group: Group,
+    places: &Places,
+    scope: &[Counter],
+    goings: &[Going],
+    store: &Store,
+) -> bool
+    ensures { result ≡ spec.value_leads group places.now scope.now goings.now store.now }
+{
+    fits_lean(group, places, scope, goings, &store.value, 0)
+        && distances_fit(group, places, scope, goings, store, 1)
+}
+
+/// Appends what stores pixels that lie anywhere, as many as rounds are left, with their parts in an order for which the stack suffices.
+pub fn emit_tight(
+    code: &mut Vec<u32>,
+    group: Group,
+    places: &Places,
+    scope: &[Counter],
+    goings: &[Going],
+    store: &Store,
+) -> Result<(), CodeFault>
+    ensures ok { OnOk result (Emits code.old.items code.new.items (spec.tight_code group places.now scope.now goings.now store.now) × (spec.tight_fits group places.now scope.now goings.now store.now ≡ true)) }
+    ensures err { IfErr result (IsFault ⊥ (spec.tight_fits group places.now scope.now goings.now store.now ≡ true → ⊥)) }
+{
+    configure(code, group, 15)?;
+    if value_leads(group, places, scope, goings, store) {
+        let values = emit_lean(code, group, places, scope, goings, &store.value, 0)?;
+        let distances = emit_pixel_distances(code, group, places, scope, goings, store, 1)?;
+        emit_stored(code, places, store, values, distances)?;
+        return Ok(());
+    }
+    let distances = emit_pixel_distances(code, group, places, scope, goings, store, 0)?;
+    let values = emit_lean(code, group, places, scope, goings, &store.value, 1)?;
+    emit_stored(code, places, store, values, distances)?;
+    Ok(())
+}
+
+/// Whether the stack doesn't suffice for columns above the values and rows above both, and nothing can wait in a frame.
+pub fn is_tight(
+    group: Group,
+    places: &Places,
+    scope: &[Counter],
+    goings: &[Going],
+    store: &Store,
+) -> bool
+    ensures { result ≡ spec.is_tight group places.now scope.now goings.now store.now }
+{
+    match places.frames {
+        Some(_) => false,
+        None => {
+            !(fits_lanes(group, places, scope, goings, &store.value, 0)
+                && are_above(group, places, scope, goings, &store.x, &store.y))
+        }
+    }
+}
