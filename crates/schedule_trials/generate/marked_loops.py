@@ -4,7 +4,7 @@ from collections import namedtuple
 
 # The points of each Func's box that is computed at root, in order of the text, those of boxes computed at a loop, whether the data have frames,
 # how many tasks each phase has, how great the numbers of pictures are, and which vectorized loops are vector code.
-Facts = namedtuple("Facts", "roots privates frames tasks greatest code", defaults=((), False, (1,), 1000, "all"))
+Facts = namedtuple("Facts", "roots privates frames tasks greatest code", defaults=((), False, (1,), 1000, "all vector code"))
 
 FRAMES = 8 * 4096
 
@@ -42,6 +42,31 @@ def turned(count, first=36, index="{}-x"):
     return text
 
 
+def nested(depth, text, operation="0+{}"):
+    """An expression that needs so many registers more."""
+    for level in range(depth):
+        text = operation.format(f"({text})" if level else text)
+    return text
+
+
+# Indexes of two and of three registers, and values of as many.
+ROW, COLUMN = "clamp(in(clamp(x,0,19),r),0,3)", "clamp(in(r,clamp(y,0,19)),0,3)"
+CHOICE = "select({},0,select({},1,x*r))"
+VALUE_BY_ROWS, VALUE_BY_COLUMNS = "in(clamp(x-1,0,19),r)", "in(r,clamp(y-1,0,19))"
+
+
+def update_by_rows(row, value):
+    """An update by vectors of sixteen whose rows lie anywhere."""
+    return (f"input in 20 4\nfunc h(x,y) = 0\nupdate h(x,{row}) = {value} over r 0 4\noutput h 20 4",
+            "h.0 split x xo xi 16 guard\nh.0 reorder xi r\nh.0 vectorize xi", Facts((80,), tasks=(1, 1), greatest=5))
+
+
+def update_by_columns(column, value):
+    """And one whose columns do."""
+    return (f"input in 4 20\nfunc h(x,y) = 0\nupdate h({column},y) = {value} over r 0 4\noutput h 4 20",
+            "h.0 split y yo yi 16 guard\nh.0 reorder yi r\nh.0 vectorize yi", Facts((80,), tasks=(1, 1), greatest=5))
+
+
 CASES = [
     (f"bytes one behind the other by {factor}", *one("in(x) * 3 - in(x+1)", 36, factor, inputs="input in 37 u8")) for factor in (4, 8, 16)
 ] + [
@@ -55,7 +80,7 @@ CASES = [
     ("quotients and remainders by 2147483647", *one("(0 - in(x)) / 2147483647 + in(x) % 2147483647", 37, 4)[:2], Facts((37,), greatest=2**31 - 1)),
     ("a stack of six by sixteen", *one(NESTED.format("in(x)"), 32, 16)),
     ("a stack of seven by sixteen", *one(NESTED.format("in(x+5)"), 32, 16)[:2], Facts((32,), frames=True)),
-    ("reads that lie anywhere, six deep by sixteen", *one("in(36-x) - (in(35-x) * (in(34-x) + (in(33-x) - (in(32-x) * in(5)))))", 32, 16)[:2], Facts((32,), code="0 of 1")),
+    ("reads that lie anywhere, six deep by sixteen", *one("in(36-x) - (in(35-x) * (in(34-x) + (in(33-x) - (in(32-x) * in(5)))))", 32, 16)[:2], Facts((32,))),
     ("reads that lie anywhere, seven deep by sixteen", *one("in(36-x) - (in(35-x) * (in(34-x) + (in(33-x) - (in(32-x) * in(31-x)))))", 32, 16)[:2], Facts((32,), frames=True)),
     ("a stack of seven by eight", *one(NESTED.format("in(x+5)"), 32, 8)),
     ("an index that runs along both arguments", "input in 30\nfunc f(x,y) = in(x+y) * 2 + in(x-y+7)\noutput f 20 8", row(8), Facts((160,))),
@@ -91,9 +116,18 @@ CASES = [
     ("columns of values that wait, by sixteen", "input in 5 20\nfunc f(x,y) = in(4-x,19-y) - (in(x,19-y) * (in(4-x,y) + (in(x,y) - (in(4-x,19-y) * (in(x,19-y) + in(4-x,y))))))\noutput f 5 20",
      "f split y yo yi 16 guard\nf reorder yi x yo\nf vectorize yi", Facts((100,), frames=True)),
     ("a shift split of a shift split's outer loop, of one read", "input in 40\nfunc f(x) = in(x)\noutput f 40",
-     "f split x xo xi 8 shift\nf split xo p q 4 shift\nf reorder q xi p\nf vectorize q", Facts((40,), code="0 of 1")),
+     "f split x xo xi 8 shift\nf split xo p q 4 shift\nf reorder q xi p\nf vectorize q", Facts((40,))),
     ("a split of the outer loop of two shift splits", "input in 130\nfunc f(x) = in(x) * 5 - in(129-x)\noutput f 130",
-     "f split x xo xi 8 shift\nf split xo p q 4 shift\nf split p r s 4 guard\nf reorder s xi q r\nf vectorize s", Facts((130,), code="0 of 1")),
+     "f split x xo xi 8 shift\nf split xo p q 4 shift\nf split p r s 4 guard\nf reorder s xi q r\nf vectorize s", Facts((130,))),
     ("a split of the outer loop of three shift splits", "input in 61\nfunc f(x) = in(x) * 5 - in(60-x)\noutput f 61",
-     "f split x a xi 2 shift\nf split a c ci 2 shift\nf split c e ei 2 shift\nf split e g h 4 guard\nf reorder h xi ci ei g\nf vectorize h", Facts((61,), code="0 of 1")),
+     "f split x a xi 2 shift\nf split a c ci 2 shift\nf split c e ei 2 shift\nf split e g h 4 guard\nf reorder h xi ci ei g\nf vectorize h", Facts((61,))),
+    ("an update by vectors of sixteen whose rows need five registers and move", *update_by_rows(nested(3, ROW), f"h(x,{nested(3, ROW)}) + 1")),
+    ("one whose rows need six registers", *update_by_rows(nested(4, ROW), "h(x,0) * 3 + in(x,r) - x")),
+    ("one whose rows need six registers, and its values five", *update_by_rows(nested(4, ROW), nested(3, VALUE_BY_ROWS, "x-{}"))),
+    ("one whose columns need six registers", *update_by_columns(nested(3, COLUMN), "h(0,y) * 3 + in(r,y) - y")),
+    ("one whose columns need five registers, and its values six", *update_by_columns(nested(2, COLUMN), nested(3, VALUE_BY_COLUMNS, "y-{}"))),
+    ("one whose rows and whose values need six registers", *update_by_rows(nested(4, ROW), nested(4, VALUE_BY_ROWS, "x-{}"))),
+    ("one whose columns and whose values need six registers", *update_by_columns(nested(3, COLUMN), nested(3, VALUE_BY_COLUMNS, "y-{}"))),
+    ("one whose rows and whose values are choices of six registers", *update_by_rows(f"clamp({CHOICE.format('in(clamp(x,0,19),r)<0', 'in(clamp(x,0,19),r)<2')},0,3)", CHOICE.format("x<3", "x<r"))[:2],
+     Facts((80,), tasks=(1, 1), greatest=5, code="0 of 1 vector code, 1 collected")),
 ]
