@@ -1,7 +1,7 @@
 -- How far a split loop's value goes from round to round.
 use Rattle.std.proofs.Common.{◌≡◌, ℕ, ◌+◌, ◌-◌, ◌*◌, ◌%◌, ◌^◌, ◌<◌, ◌≤◌, List, [], ◌∷◌, Bool, true, false, refl, ap, ◌∙◌, sym, subst, arith, inl, inr}
-use Rattle.std.specs.Prelude.{◌⊎◌, ◌==◌, ◌&&◌, if◌then◌else◌, min, not, nat_le, nat_lt, Option, Some, None}
-use Rattle.std.proofs.lemmas.Bool.{and_parts, and_from, true≢false, cases_lt}
+use Rattle.std.specs.Prelude.{◌⊎◌, ◌==◌, ◌&&◌, ◌||◌, if◌then◌else◌, min, not, nat_le, nat_lt, Option, Some, None}
+use Rattle.std.proofs.lemmas.Bool.{and_parts, and_from, or_cases, true≢false, cases_lt}
 use Rattle.std.proofs.lemmas.Bool.Decides.{nat_tests}
 use Rattle.std.proofs.Math.Nat.{mul-le-mul_right}
 use Rattle.halide_pipeline.specs.declared.expressions.Variable.{Variable}
@@ -20,7 +20,7 @@ use Rattle.lane_code.specs.declared.goings.Going.{Going}
 use Rattle.lane_code.specs.declared.goings.Going.TheVariants as goes
 use Rattle.lane_code.specs.Goings.{going_of, room, capped, cut_off, gone, is_rate, is_slow, is_small, can_go, spares_cut, spares, all_spare}
 use Rattle.lane_code.proofs.Straying.{is-slow, twofold, threefold, capped-less}
-use Rattle.round_code.specs.Rounds.{outer_goes, cut_of, if_so, may_cut, goes_evenly, goes_by}
+use Rattle.round_code.specs.Rounds.{cuts_nothing, outer_goes, cut_of, if_so, may_cut, goes_evenly, goes_by}
 
 is-below : (n k : ℕ) → nat_lt n k ≡ true → n < k
 is-below n k t = grind (arith, nat_tests)
@@ -152,6 +152,9 @@ steps-added k p q = grind arith
 one-turn : (p q i r : ℕ) → ((p + q) % 2 ^ 32 + (i + r)) % 2 ^ 32 ≡ ((p % 2 ^ 32 + i) % 2 ^ 32 + (q + r)) % 2 ^ 32
 one-turn p q i r = omega arith
 
+uncut-turn : (p q i r : ℕ) → ((p + q) + (i + r)) % 2 ^ 32 ≡ ((p + i) % 2 ^ 32 + (q + r)) % 2 ^ 32
+uncut-turn p q i r = omega arith
+
 still-turn : (b i r : ℕ) → (b + (i + r)) % 2 ^ 32 ≡ ((b + i) % 2 ^ 32 + r) % 2 ^ 32
 still-turn b i r = omega arith
 
@@ -161,20 +164,52 @@ no-step o k = let z : k * 0 ≡ 0 = omega arith in omega (arith, z)
 no-outer : (f si : ℕ) → 0 * f + si ≡ si
 no-outer f si = grind arith
 
--- neither counter is cut off
-even-value : (last : Option ℕ) (o i f so si k : ℕ) → outer_goes last so ≡ true
-    → word.add (at_most last (word.multiply (o + k * so) f)) (i + k * si) ≡ (word.add (at_most last (word.multiply o f)) i + k * (so * f + si)) % 2 ^ 32
+-- the outer counter stays, whatever is cut off
+still-value : (last o i f so si k : ℕ) → so ≡ 0
+    → word.add (at_most (Some last) (word.multiply (o + k * so) f)) (i + k * si) ≡ (word.add (at_most (Some last) (word.multiply o f)) i + k * (so * f + si)) % 2 ^ 32
 unfolding word.add word.multiply
-even-value None o i f so si k t =
-    ap (λ z. (z % 2 ^ 32 + (i + k * si)) % 2 ^ 32) (taken-apart o f k so)
-    ∙ one-turn (o * f) (k * (so * f)) i (k * si)
-    ∙ ap (λ z. ((o * f % 2 ^ 32 + i) % 2 ^ 32 + z) % 2 ^ 32) (sym (steps-added k (so * f) si))
-even-value (Some last) o i f so si k t =
-    let z = is-zero so t in
+still-value last o i f so si k z =
     subst (λ n. (min (((o + k * n) * f) % 2 ^ 32) last + (i + k * si)) % 2 ^ 32 ≡ ((min ((o * f) % 2 ^ 32) last + i) % 2 ^ 32 + k * (n * f + si)) % 2 ^ 32) (sym z)
     (ap (λ a. (min ((a * f) % 2 ^ 32) last + (i + k * si)) % 2 ^ 32) (no-step o k)
     ∙ still-turn (min ((o * f) % 2 ^ 32) last) i (k * si)
     ∙ ap (λ a. ((min ((o * f) % 2 ^ 32) last + i) % 2 ^ 32 + k * a) % 2 ^ 32) (sym (no-outer f si)))
+
+-- a product of a number below a bound comes to the last value at most
+below-last : (a n f most last : ℕ) → a ≤ n → n < most → cuts_nothing last f most ≡ true → min ((a * f) % 2 ^ 32) last ≡ a * f
+below-last a n f most last l b t =
+    let q = and_parts (nat_lt last (2 ^ 31)) (nat_le ((most - 1) * f) last) t in
+    let m : a * f ≤ (most - 1) * f = mul-le-mul_right f (let g : a ≤ most - 1 = omega (arith, l, b) in g) in
+    let c = at-most ((most - 1) * f) last q.1 in
+    let s = is-below last (2 ^ 31) q.0 in
+    omega (arith, m, c, s)
+
+-- the outer counter moves, and nothing is cut off
+uncut-value : (last o i f most so si k : ℕ) → o + k * so < most → cuts_nothing last f most ≡ true
+    → word.add (at_most (Some last) (word.multiply (o + k * so) f)) (i + k * si) ≡ (word.add (at_most (Some last) (word.multiply o f)) i + k * (so * f + si)) % 2 ^ 32
+unfolding word.add word.multiply
+uncut-value last o i f most so si k b t =
+    ap (λ z. (z + (i + k * si)) % 2 ^ 32)
+    (below-last (o + k * so) (o + k * so) f most last (let g : o + k * so ≤ o + k * so = omega arith in g) b t ∙ taken-apart o f k so)
+    ∙ uncut-turn (o * f) (k * (so * f)) i (k * si)
+    ∙ ap (λ z. ((o * f + i) % 2 ^ 32 + z) % 2 ^ 32) (sym (steps-added k (so * f) si))
+    ∙ ap (λ z. ((z + i) % 2 ^ 32 + k * (so * f + si)) % 2 ^ 32)
+    (sym (below-last o (o + k * so) f most last (let g : o ≤ o + k * so = omega arith in g) b t))
+
+-- neither counter is cut off
+even-value : (last : Option ℕ) (o i f most so si k : ℕ) → outer_goes last f most so ≡ true → (so ≡ 0) ⊎ (o + k * so < most)
+    → word.add (at_most last (word.multiply (o + k * so) f)) (i + k * si) ≡ (word.add (at_most last (word.multiply o f)) i + k * (so * f + si)) % 2 ^ 32
+unfolding word.add word.multiply
+even-value None o i f most so si k t low =
+    ap (λ z. (z % 2 ^ 32 + (i + k * si)) % 2 ^ 32) (taken-apart o f k so)
+    ∙ one-turn (o * f) (k * (so * f)) i (k * si)
+    ∙ ap (λ z. ((o * f % 2 ^ 32 + i) % 2 ^ 32 + z) % 2 ^ 32) (sym (steps-added k (so * f) si))
+even-value (Some last) o i f most so si k t low = elim low [
+  | inl z ↦ still-value last o i f so si k z
+  | inr b ↦ elim (or_cases (so == 0) (cuts_nothing last f most) t) [
+    | inl z ↦ still-value last o i f so si k (is-zero so z)
+    | inr c ↦ uncut-value last o i f most so si k b c
+  ]
+]
 
 -- the outer counter stays
 inner-value : (last : Option ℕ) (o i f g : ℕ) → word.add (at_most last (word.multiply o f)) (i + g) ≡ (word.add (at_most last (word.multiply o f)) i + g) % 2 ^ 32
@@ -265,10 +300,6 @@ product-low v most f l some low =
 no-move : (so f : ℕ) → so ≡ 0 → 1 ≤ so → ⊥
 no-move so f z some = omega (arith, z, some)
 
-is-last : (last : Option ℕ) (so : ℕ) → outer_goes last so ≡ false → 1 ≤ so
-is-last None so e = absurd (true≢false e)
-is-last (Some last) so e = grind (arith, nat_tests, e)
-
 module _ (whole : Whole) (own : Counter) (extent : ℕ) (values : Values) (apart : same_counter whole.inner own ≡ false) where
   abbrev f : ℕ
   f = whole.factor
@@ -303,14 +334,14 @@ module _ (whole : Whole) (own : Counter) (extent : ℕ) (values : Values) (apart
 
   even-moved : (so most si : ℕ) (going : Going) (k : ℕ) → goes_evenly whole own extent so most si ≡ Some going → IsBelow (goes.Even so most) (o + k * so)
       → moved (k * so) (k * si) ≡ (first + gone going within k) % 2 ^ 32
-  even-moved so most si going k e low = by-test (outer_goes whole.last so) refl e
+  even-moved so most si going k e low = by-test (outer_goes whole.last f most so) refl e
     where
-      by-test : (t : Bool) → outer_goes whole.last so ≡ t
+      by-test : (t : Bool) → outer_goes whole.last f most so ≡ t
           → (if t then if_so (nat_lt (so * f + si) (2 ^ 31)) (goes.Even (so * f + si) extent) else if_so (si == 0 && (is_rate (so * f) && may_cut whole most)) (goes.Once so extent (cut_of whole own))) ≡ Some going
           → moved (k * so) (k * si) ≡ (first + gone going within k) % 2 ^ 32
       by-test true t e =
           let s = so-is (nat_lt (so * f + si) (2 ^ 31)) (goes.Even (so * f + si) extent) going e in
-          even-value whole.last o i f so si k t ∙ ap (λ (g : Going). (first + gone g within k) % 2 ^ 32) s.is
+          even-value whole.last o i f most so si k t low ∙ ap (λ (g : Going). (first + gone g within k) % 2 ^ 32) s.is
       by-test false t e =
           let s = so-is (si == 0 && (is_rate (so * f) && may_cut whole most)) (goes.Once so extent (cut_of whole own)) going e in
           let a = and_parts (si == 0) (is_rate (so * f) && may_cut whole most) s.holds in
@@ -375,7 +406,7 @@ module _ (whole : Whole) (own : Counter) (extent : ℕ) (values : Values) (apart
   goes-moved (goes.Thrice stride one two three) ig going k e sog sig low = absurd (no-going e)
 
   even-can : (so most si : ℕ) (going : Going) → goes_evenly whole own extent so most si ≡ Some going → can_go going ≡ true
-  even-can so most si going e = by-test (outer_goes whole.last so) e
+  even-can so most si going e = by-test (outer_goes whole.last f most so) e
     where
       by-test : (t : Bool)
           → (if t then if_so (nat_lt (so * f + si) (2 ^ 31)) (goes.Even (so * f + si) extent) else if_so (si == 0 && (is_rate (so * f) && may_cut whole most)) (goes.Once so extent (cut_of whole own))) ≡ Some going
@@ -429,7 +460,7 @@ module _ (whole : Whole) (own : Counter) (extent : ℕ) (values : Values) (apart
   goes-can (goes.Thrice stride one two three) ig going e can = absurd (no-going e)
 
   even-below : (so most si : ℕ) (going : Going) (v : ℕ) → goes_evenly whole own extent so most si ≡ Some going → v < extent → IsBelow going v
-  even-below so most si going v e l = by-test (outer_goes whole.last so) e
+  even-below so most si going v e l = by-test (outer_goes whole.last f most so) e
     where
       by-test : (t : Bool)
           → (if t then if_so (nat_lt (so * f + si) (2 ^ 31)) (goes.Even (so * f + si) extent) else if_so (si == 0 && (is_rate (so * f) && may_cut whole most)) (goes.Once so extent (cut_of whole own))) ≡ Some going

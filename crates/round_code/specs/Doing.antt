@@ -13,7 +13,8 @@ use Rattle.scalar_code.specs.Doing.{Setting, IsSetting, SoundIn, RunsIn, HoldsFu
 use Rattle.lane_code.specs.declared.groups.Group.{Group}
 use Rattle.round_code.specs.Rounds.{rounds_code, rounds_turns, rounds_fit}
 
--- a vectorized loop that fits, whose rounds may be done at once however loads are answered, and store in runs where the setting asks for that
+-- a vectorized loop that fits, whose rounds may be done at once where loads are answered by these buffers, and store in runs where the setting asks for
+-- that
 abbrev pub LoopsAreDoneAtOnce : Type 0
 LoopsAreDoneAtOnce =
     (own : Setting) → IsSetting own → (group : Group) (counter : Counter) (count : ℕ) (body : Stmt) (scope : List Counter) (values : Values)

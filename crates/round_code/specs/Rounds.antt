@@ -4,7 +4,7 @@
 -- are lanes. A split loop's value that goes further with each round is tested against its extent, so the first rounds are done. `all` says
 -- that no round is left out so far.
 -- This project's own.
-use Rattle.std.specs.Prelude.{ℕ, ◌+◌, ◌-◌, ◌*◌, ◌^◌, ◌==◌, ◌&&◌, Bool, true, false, not, nat_le, nat_lt, if◌then◌else◌, List, [], ◌∷◌, ◌++◌, length, Option, Some, None}
+use Rattle.std.specs.Prelude.{ℕ, ◌+◌, ◌-◌, ◌*◌, ◌^◌, ◌==◌, ◌&&◌, ◌||◌, Bool, true, false, not, nat_le, nat_lt, if◌then◌else◌, List, [], ◌∷◌, ◌++◌, length, Option, Some, None}
 use Rattle.rv_insn.specs.declared.instructions.Insn.{Insn}
 use Rattle.rv_insn.specs.declared.instructions.Insn.TheVariants.{Alu, Shift, Vector}
 use Rattle.rv_insn.specs.declared.operations.AluOp.TheVariants as alus
@@ -168,10 +168,15 @@ pixels_code group places scope goings store =
 
 -- ---- the value of a split loop
 
--- The outer loop's part goes along as its counter does: it is cut off nowhere, or stays.
-abbrev pub outer_goes : Option ℕ → ℕ → Bool
-outer_goes None stride = true
-outer_goes (Some last) stride = stride == 0
+-- A shift cuts nothing off: an outer counter below this bound, times the factor, comes to its last value at most. So it is where the factor
+-- divides the extent.
+abbrev pub cuts_nothing : ℕ → ℕ → ℕ → Bool
+cuts_nothing last factor most = nat_lt last (2 ^ 31) && nat_le ((most - 1) * factor) last
+
+-- The outer loop's part goes along as its counter does, which stays below a bound where it moves: it is cut off nowhere, or stays.
+abbrev pub outer_goes : Option ℕ → ℕ → ℕ → ℕ → Bool
+outer_goes None factor most stride = true
+outer_goes (Some last) factor most stride = stride == 0 || cuts_nothing last factor most
 
 abbrev pub cut_of : Whole → Counter → Cut
 cut_of whole own = record { factor = whole.factor; last = whole.last; inner = whole.inner; own = own }
@@ -187,7 +192,7 @@ may_cut whole most = nat_le (most * whole.factor) (2 ^ 32) && is_small whole.las
 -- Two counters go so much further with each round. Under a shift the outer one's part is cut off; then the inner one has to stay.
 abbrev pub goes_evenly : Whole → Counter → ℕ → ℕ → ℕ → ℕ → Option Going
 goes_evenly whole own extent outer most inner =
-    if outer_goes whole.last outer then if_so (nat_lt (outer * whole.factor + inner) (2 ^ 31)) (goes.Even (outer * whole.factor + inner) extent)
+    if outer_goes whole.last whole.factor most outer then if_so (nat_lt (outer * whole.factor + inner) (2 ^ 31)) (goes.Even (outer * whole.factor + inner) extent)
     else if_so (inner == 0 && (is_rate (outer * whole.factor) && may_cut whole most)) (goes.Once outer extent (cut_of whole own))
 
 -- The outer counter is cut off already.

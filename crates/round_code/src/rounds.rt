@@ -137,13 +137,22 @@ fn emit_pixels(
     Ok(())
 }
 
-/// Whether the outer loop's part of a split loop's value goes along as its counter does: it is cut off nowhere, or stays.
-fn outer_goes(last: Option<u32>, stride: u32) -> bool
-    ensures { result ≡ spec.outer_goes last stride }
+/// Whether a shift cuts nothing off: an outer counter below this bound, times the factor, comes to its last value at most.
+fn cuts_nothing(last: u32, factor: u32, most: u32) -> bool
+    ensures { result ≡ spec.cuts_nothing last factor most }
+{
+    let greatest = u64::from(most.saturating_sub(1)) * u64::from(factor);
+    last < 1 << 31 && greatest <= u64::from(last)
+}
+
+/// Whether the outer loop's part of a split loop's value goes along as its counter does, which stays below a bound where it moves: it is
+/// cut off nowhere, or stays.
+fn outer_goes(last: Option<u32>, factor: u32, most: u32, stride: u32) -> bool
+    ensures { result ≡ spec.outer_goes last factor most stride }
 {
     match last {
         None => true,
-        Some(_) => stride == 0,
+        Some(last) => stride == 0 || cuts_nothing(last, factor, most),
     }
 }
 
@@ -183,7 +192,7 @@ fn goes_evenly(
 ) -> Option<Going>
     ensures { result ≡ spec.goes_evenly whole.now own extent outer most inner }
 {
-    if !outer_goes(whole.last, outer) {
+    if !outer_goes(whole.last, whole.factor, most, outer) {
         let so = inner == 0 && is_rate(outer, whole.factor) && may_cut(whole, most);
         return if_so(so, Going::Once(outer, extent, cut_of(whole, own)));
     }
