@@ -88,7 +88,7 @@ impl Hart {
     }
 
     /// Does what a word means that means no vector instruction, or says which trap it makes and changes nothing. Vector
-    /// instructions, which answer through memory, aren't an arm of it: so the answers of all arms stay in registers.
+    /// instructions answer through memory: done here, they would have the answers of all arms stay there too.
     #[inline(always)]
     fn execute<M: Bytes>(&mut self, meaning: &Meaning, memory: &mut M) -> Result<Outcome, Trap>
         requires { IsScalar meaning.now }

@@ -120,7 +120,7 @@ impl Hart {
         matches!(self.status, Status::Finished)
     }
 
-    /// Writes a register; a write to x0 is lost, since 0 is written there behind it: no test is cheaper.
+    /// Writes a register; a write to x0 is lost. That 0 is written there behind each write costs less than a test.
     #[tactic(auto, using(crate::proofs::Registers::x0_stays))]
     pub(crate) fn set_register(&mut self, r: Reg, value: u32)
         ensures { self.new ≡ with_register self.old r value }
