@@ -1,13 +1,17 @@
 """Algorithms that are accepted, and their pictures, as docs/LANGUAGE.md has them."""
 
+import itertools
 import re
+import sys
 
 TOKEN = re.compile(r"[ \t]*(?:(\d+)|([A-Za-z_]\w*)|(<=|>=|==|!=|[-+*/%<>(),=]))")
 
+# Expressions call each other as deep as they are, through up to twelve Funcs.
+sys.setrecursionlimit(50_000)
+
 
 def word(value):
-    value &= 0xFFFFFFFF
-    return value - (1 << 32) if value >> 31 else value
+    return (value + 0x80000000 & 0xFFFFFFFF) - 0x80000000
 
 
 def tokens_of(line):
@@ -126,104 +130,104 @@ class Pipeline:
         self.output = (name, width, r.next() if r.peek() is not None else None)
 
 
+def kept(read):
+    """A function of a point that finds each value once."""
+    values = {}
+
+    def look(at):
+        if at not in values:
+            values[at] = read(at)
+        return values[at]
+
+    return look
+
+
+def input_values(width, height, pixels):
+    """An input as a function of a point: 0 outside its extents."""
+
+    def read(at):
+        x, y = at if len(at) > 1 else (at[0], 0)
+        return pixels[y * width + x] if 0 <= x < width and 0 <= y < height else 0
+
+    return read
+
+
 class Evaluation:
-    """Values of Funcs at points, each update replayed over the points of its box."""
+    """Each source as a function of a point, and each expression as one of the values of its variables. Each update is replayed over the points
+    of its box, once for all values of its arguments in place that are asked for."""
 
     def __init__(self, pipeline, pictures):
-        self.p, self.pictures, self.known, self.readers, self.steps = pipeline, pictures, {}, {}, 0
+        self.sources = {}
+        for name, (width, height) in pipeline.inputs.items():
+            self.sources[name] = input_values(width, height or 1, pictures[name])
+        for name in pipeline.order:
+            self.sources[name] = self.func(name, **pipeline.funcs[name])
 
-    def source(self, name, point):
-        if name in self.p.inputs:
-            width, height = self.p.inputs[name]
-            x, y = point[0], point[1] if len(point) > 1 else 0
-            if 0 <= x < width and 0 <= y < (height or 1):
-                return self.pictures[name][y * width + x]
-            return 0
-        return self.func(name, point)
-
-    def func(self, name, point):
-        """The value at a point once all updates are made."""
-        key = (name, point)
-        if key not in self.known:
-            self.known[key] = self.after(name, point)
-        return self.known[key]
-
-    def after(self, name, point):
-        return self.staged(name, self.p.funcs[name])(point)
-
-    def staged(self, name, func):
-        """The Func's values after all updates, as a function of the point."""
-        if name in self.readers:
-            return self.readers[name]
-
-        def read(at):
-            return self.value(func["pure"], dict(zip(func["arguments"], at)), None, None)
-
-        for update in func["updates"]:
-            in_place = [left == ("var", argument) for left, argument in zip(update["left"], func["arguments"])]
-            read = self.updated(name, func, update, in_place, read)
-        self.readers[name] = read
+    def func(self, name, arguments, pure, updates):
+        """A Func's values once all updates are made."""
+        read = kept(self.expression(pure, arguments))
+        for update in updates:
+            read = self.updated(name, arguments, read, **update)
         return read
 
-    def updated(self, name, func, update, in_place, before):
-        """The values after an update, which holds for all values of the arguments in place: a table for each of them."""
+    def updated(self, name, arguments, before, left, right, box):
+        """The values after an update: a table of the points that it writes for all values of the arguments in place."""
+        in_place = [place for place, argument in enumerate(arguments) if left[place] == ("var", argument)]
         tables = {}
 
-        def read(at):
-            key = tuple(value if place else None for value, place in zip(at, in_place))
-            if key not in tables:
-                tables[key] = self.table(name, func, update, in_place, key, before)
-            table = tables[key]
+        def table_of(at):
+            return tuple(at[place] for place in in_place)
+
+        def own(at):
+            """The value so far."""
+            table = tables[table_of(at)]
             return table[at] if at in table else before(at)
+
+        self.sources[name] = own
+        # The first variable is the innermost.
+        variables = [*(arguments[place] for place in in_place), *(variable for variable, _, _ in reversed(box))]
+        indexes = [self.expression(index, variables) for index in left]
+        right = self.expression(right, variables)
+        ranges = [[word(least + turn) for turn in range(extent)] for _, least, extent in reversed(box)]
+
+        def read(at):
+            values = table_of(at)
+            if values not in tables:
+                table = tables[values] = {}
+                for point in itertools.product(*ranges):
+                    written = tuple(index(values + point) for index in indexes)
+                    table[written] = right(values + point)
+            return own(at)
 
         return read
 
-    def table(self, name, func, update, in_place, key, before):
-        table = {}
-        arguments = {argument: value for argument, value in zip(func["arguments"], key) if value is not None}
-        box = update["box"]
-        outer = box[1] if len(box) > 1 else (None, 0, 1)
-        inner = box[0]
-
-        def own(at):
-            return table[at] if at in table else before(at)
-
-        for s in range(outer[1], outer[1] + outer[2]):
-            for r in range(inner[1], inner[1] + inner[2]):
-                names = dict(arguments)
-                names[inner[0]] = word(r)
-                if outer[0] is not None:
-                    names[outer[0]] = word(s)
-                at = tuple(self.value(left, names, name, own) for left in update["left"])
-                table[at] = self.value(update["right"], names, name, own)
-        return table
-
-    def value(self, e, names, own_name, own):
-        self.steps += 1
-        if self.steps > 400000:
-            raise TimeoutError
+    def expression(self, e, variables):
         if isinstance(e, int):
-            return word(e)
+            number = word(e)
+            return lambda values: number
         if e[0] == "var":
-            return names[e[1]]
-        if e[0] == "call":
-            _, name, arguments = e
-            values = [self.value(a, names, own_name, own) for a in arguments]
-            if name == "min":
-                return min(values)
-            if name == "max":
-                return max(values)
-            if name == "clamp":
-                return min(max(values[0], values[1]), values[2])
-            if name == "select":
-                return values[1] if values[0] != 0 else values[2]
-            if name == own_name:
-                return own(tuple(values))
-            return self.source(name, tuple(values))
-        operator, left, right = e
-        a, b = self.value(left, names, own_name, own), self.value(right, names, own_name, own)
-        return word(OPERATORS[operator](a, b))
+            place = variables.index(e[1])
+            return lambda values: values[place]
+        parts = [self.expression(part, variables) for part in (e[2] if e[0] == "call" else e[1:])]
+        if e[0] in OPERATORS:
+            apply, (a, b) = OPERATORS[e[0]], parts
+            return lambda values: word(apply(a(values), b(values)))
+        if e[1] in CHOICES:
+            return CHOICES[e[1]](*parts)
+        source = self.sources[e[1]]
+        if len(parts) == 1:
+            x = parts[0]
+            return lambda values: source((x(values),))
+        x, y = parts
+        return lambda values: source((x(values), y(values)))
 
+
+CHOICES = {
+    "min": lambda a, b: lambda values: min(a(values), b(values)),
+    "max": lambda a, b: lambda values: max(a(values), b(values)),
+    "clamp": lambda v, low, high: lambda values: min(max(v(values), low(values)), high(values)),
+    "select": lambda c, a, b: lambda values: a(values) if c(values) != 0 else b(values),
+}
 
 OPERATORS = {
     "+": lambda a, b: a + b, "-": lambda a, b: a - b, "*": lambda a, b: a * b, "/": lambda a, b: a // b,
@@ -240,10 +244,7 @@ def picture_text(width, height, pixels):
 def draw(text, pictures):
     """The lines of the reference picture."""
     pipeline = Pipeline(text)
-    evaluation = Evaluation(pipeline, pictures)
     name, width, height = pipeline.output
-    pixels = []
-    for y in range(height or 1):
-        for x in range(width):
-            pixels.append(evaluation.func(name, (x,) if height is None else (x, y)))
+    value = Evaluation(pipeline, pictures).sources[name]
+    pixels = [value((x,) if height is None else (x, y)) for y in range(height or 1) for x in range(width)]
     return picture_text(width, height or 1, pixels)
