@@ -130,4 +130,8 @@ CASES = [
     ("one whose columns and whose values need six registers", *update_by_columns(nested(3, COLUMN), nested(3, VALUE_BY_COLUMNS, "y-{}"))),
     ("one whose rows and whose values are choices of six registers", *update_by_rows(f"clamp({CHOICE.format('in(clamp(x,0,19),r)<0', 'in(clamp(x,0,19),r)<2')},0,3)", CHOICE.format("x<3", "x<r"))[:2],
      Facts((80,), tasks=(1, 1), greatest=5, code="0 of 1 vector code, 1 collected")),
+    ("the outer loop of a shift split by one", "input in 18\nfunc f(x) = in(x) * 5 - in(x+2)\noutput f 16",
+     "f split x xo xi 1 shift\nf split xo p q 4 guard\nf reorder q xi p\nf vectorize q", Facts((16,))),
+    ("the outer loop of a shift split that cuts nothing off", "input in 36\nfunc f(x) = in(x) * 5 - in(35-x)\noutput f 36",
+     "f split x xo xi 4 shift\nf split xo p q 4 guard\nf reorder q xi p\nf vectorize q", Facts((36,))),
 ]
