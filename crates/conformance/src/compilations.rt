@@ -43,7 +43,8 @@ pub fn push_compilation(alloc: Global, parts: &[Part], out: &mut String) -> Resu
     push_left(alloc, &page.bytes, out)
 }
 
-/// How many lines of a compiled image's listing are vector loads and stores, of each kind.
+/// How many lines of a compiled image's listing are vector loads and stores, of each kind, and how the lanes of one hart are configured
+/// once it has finished.
 pub fn push_accesses(alloc: Global, parts: &[Part], out: &mut String) -> Result<(), Failure> {
     let (page, answered) = compiled(alloc, parts)?;
     if answered.is_err() {
@@ -60,7 +61,7 @@ pub fn push_accesses(alloc: Global, parts: &[Part], out: &mut String) -> Result<
     push_count(listing, "vluxei32.v", out)?;
     push_count(listing, "vse32.v", out)?;
     push_count(listing, "vsuxei32.v", out)?;
-    Ok(())
+    push_lanes(alloc, &page.bytes, out)
 }
 
 /// A mnemonic, and how many lines begin with it.
@@ -96,8 +97,8 @@ fn push_data(bytes: &[u8], image: &Image, out: &mut String) -> Result<(), AllocE
 /// A log of 2^40 turns of one hart.
 static LONGEST: [u8; 25] = *b"HRL1\x01\0\0\0\x01\0\0\0\0\0\0\0\0\0\0\0\0\0\x01\0\0";
 
-/// The picture behind all turns of one hart.
-fn push_left(alloc: Global, image: &[u8], out: &mut String) -> Result<(), Failure> {
+/// The dump behind all turns of one hart.
+fn dumped(alloc: Global, image: &[u8]) -> Result<Page, Failure> {
     let mut page = empty_page(alloc);
     let log = LONGEST.as_slice();
     replay_bytes(
@@ -106,6 +107,26 @@ fn push_left(alloc: Global, image: &[u8], out: &mut String) -> Result<(), Failur
         &mut tape_of("log", log),
         &mut page,
     )?;
+    Ok(page)
+}
+
+/// The dump's line on how lanes are configured.
+fn push_lanes(alloc: Global, image: &[u8], out: &mut String) -> Result<(), Failure> {
+    let page = dumped(alloc, image)?;
+    let Ok(dump) = str::from_utf8(&page.bytes) else {
+        return Err(Failure::Malformed("the answer is no text"));
+    };
+    for line in dump.lines() {
+        if line.starts_with("  vl ") {
+            writeln!(out, "{}", line.trim_start())?;
+        }
+    }
+    Ok(())
+}
+
+/// The picture behind all turns of one hart.
+fn push_left(alloc: Global, image: &[u8], out: &mut String) -> Result<(), Failure> {
+    let page = dumped(alloc, image)?;
     let Ok(dump) = str::from_utf8(&page.bytes) else {
         return Err(Failure::Malformed("the answer is no text"));
     };

@@ -21,7 +21,7 @@
 //! | `run` | `image`; `turns`: how many a hart makes at most | the bytes of the log of one hart, in hexadecimal, and the dump |
 //! | `resume` | `image`, `log`; `turns` | the same, from where a log of one hart ends |
 //! | `compile` | `algorithm`, `schedule`, any number of `picture` | the image without its words, and the picture that one hart leaves |
-//! | `accesses` | `algorithm`, `schedule`, any number of `picture` | how many lines of the image's listing are vector loads and stores, by mnemonic |
+//! | `accesses` | `algorithm`, `schedule`, any number of `picture` | how many lines of the image's listing are vector loads and stores, by mnemonic, and how lanes are configured once one hart has finished |
 //! | `words` | `words`: a word of a command line each line | the command and its files, or the refusal's first line |
 //!
 //! Images and logs always stand in hexadecimal. The cases of `draw` and of those from `asm` to `compile` go through the engines; a last part
