@@ -1,13 +1,13 @@
 //! What a hart does in a turn.
 
-ghost use Rattle.std.specs.Prelude.{◌≡◌, false, None, Some, length, IfOk, OnOk, IfErr, OnErr};
+ghost use Rattle.std.specs.Prelude.{◌≡◌, false, None, Some, List, ℕ, length, IfOk, OnOk, IfErr, OnErr};
 ghost use Rattle.rv_insn.specs.declared.instructions.Insn.TheVariants as insns;
 ghost use Rattle.hart_core.specs.Alu.{plus, extended, computed as computed_of, computed_with_immediate as computed_with_immediate_of, shifted as shifted_of};
 ghost use Rattle.hart_core.specs.Scalar.{jump_fault, jump_of, jumped, linked};
 ghost use Rattle.hart_core.specs.HartState.{register, at_pc, given};
 ghost use Rattle.hart_core.specs.Meanings.{insn_of};
 ghost use Rattle.hart_core.specs.Turn.{step, step_with, fault, IsDone};
-ghost use Rattle.hart_core.specs.inner.Meanings.{IsScalar, IsDoneBy, fault_by};
+ghost use Rattle.hart_core.specs.inner.Meanings.{IsScalar, IsBranch, IsAccess, IsOperation, IsOnRegisters, IsDoneBy, fault_by};
 
 use crate::accesses::{load, store};
 use crate::alu::{computed, computed_with_immediate, extend, is_taken, shifted};
@@ -106,12 +106,63 @@ impl Hart {
             }
             Meaning::Jal { rd, offset } => self.jump_and_link(rd, self.target(offset.bytes())),
             Meaning::Jalr { rd, rs1, imm } => self.jump_and_link(rd, self.address(rs1, imm) & !1),
+            Meaning::Beq { .. }
+            | Meaning::Bne { .. }
+            | Meaning::Blt { .. }
+            | Meaning::Bge { .. }
+            | Meaning::Bltu { .. }
+            | Meaning::Bgeu { .. } => self.execute_branch(meaning),
+            Meaning::Lb { .. }
+            | Meaning::Lh { .. }
+            | Meaning::Lw { .. }
+            | Meaning::Lbu { .. }
+            | Meaning::Lhu { .. }
+            | Meaning::Sb { .. }
+            | Meaning::Sh { .. }
+            | Meaning::Sw { .. } => self.execute_access(meaning, memory),
+            Meaning::AmoaddW { rd, rs1, rs2, .. } => self.add_in_memory(rd, rs1, rs2, memory),
+            Meaning::Fence => Ok(self.advance()),
+            Meaning::Ecall => Ok(self.finish()),
+            Meaning::Ebreak => Err(Trap::Breakpoint),
+            Meaning::Vector(_) => unreachable!(),
+            _ => Ok(self.execute_operation(meaning)),
+        }
+    }
+
+    /// Does a branch. That it is laid into `execute` makes one jump of both matches; so it is for accesses and operations.
+    #[inline(always)]
+    fn execute_branch(&mut self, meaning: &Meaning) -> Result<Outcome, Trap>
+        requires { IsBranch (insn_of meaning.now) }
+        ensures ok { IfOk result (λ outcome. (text memory : List ℕ) → IsDoneBy (insn_of meaning.now) text memory self.old self.new memory outcome) }
+        ensures trap { IfErr result (λ trap. (words bytes : ℕ) → fault_by (insn_of meaning.now) words bytes self.old ≡ Some trap) }
+        ensures hart { OnErr result (self.new ≡ self.old) }
+    {
+        match *meaning {
             Meaning::Beq { rs1, rs2, offset } => self.branch(BranchOp::Beq, rs1, rs2, offset),
             Meaning::Bne { rs1, rs2, offset } => self.branch(BranchOp::Bne, rs1, rs2, offset),
             Meaning::Blt { rs1, rs2, offset } => self.branch(BranchOp::Blt, rs1, rs2, offset),
             Meaning::Bge { rs1, rs2, offset } => self.branch(BranchOp::Bge, rs1, rs2, offset),
             Meaning::Bltu { rs1, rs2, offset } => self.branch(BranchOp::Bltu, rs1, rs2, offset),
             Meaning::Bgeu { rs1, rs2, offset } => self.branch(BranchOp::Bgeu, rs1, rs2, offset),
+            _ => unreachable!(),
+        }
+    }
+
+    /// Does a load or a store.
+    #[inline(always)]
+    fn execute_access<M: Bytes>(
+        &mut self,
+        meaning: &Meaning,
+        memory: &mut M,
+    ) -> Result<Outcome, Trap>
+        requires { IsAccess (insn_of meaning.now) }
+        ensures ok { IfOk result (λ outcome. IsDoneBy (insn_of meaning.now) (M.text memory.old) (M.memory memory.old) self.old self.new (M.memory memory.new) outcome) }
+        ensures trap { IfErr result (λ trap. fault_by (insn_of meaning.now) (length (M.text memory.old)) (length (M.memory memory.old)) self.old ≡ Some trap) }
+        ensures hart { OnErr result (self.new ≡ self.old) }
+        ensures memory { OnErr result (M.memory memory.new ≡ M.memory memory.old) }
+        ensures text { M.text memory.new ≡ M.text memory.old }
+    {
+        match *meaning {
             Meaning::Lb { rd, rs1, imm } => self.load(LoadOp::Lb, rd, rs1, imm, memory),
             Meaning::Lh { rd, rs1, imm } => self.load(LoadOp::Lh, rd, rs1, imm, memory),
             Meaning::Lw { rd, rs1, imm } => self.load(LoadOp::Lw, rd, rs1, imm, memory),
@@ -120,42 +171,60 @@ impl Hart {
             Meaning::Sb { rs1, rs2, imm } => self.store(StoreOp::Sb, rs1, rs2, imm, memory),
             Meaning::Sh { rs1, rs2, imm } => self.store(StoreOp::Sh, rs1, rs2, imm, memory),
             Meaning::Sw { rs1, rs2, imm } => self.store(StoreOp::Sw, rs1, rs2, imm, memory),
-            Meaning::Addi { rd, rs1, imm } => Ok(self.operate_imm(AluImmOp::Addi, rd, rs1, imm)),
-            Meaning::Slti { rd, rs1, imm } => Ok(self.operate_imm(AluImmOp::Slti, rd, rs1, imm)),
-            Meaning::Sltiu { rd, rs1, imm } => Ok(self.operate_imm(AluImmOp::Sltiu, rd, rs1, imm)),
-            Meaning::Xori { rd, rs1, imm } => Ok(self.operate_imm(AluImmOp::Xori, rd, rs1, imm)),
-            Meaning::Ori { rd, rs1, imm } => Ok(self.operate_imm(AluImmOp::Ori, rd, rs1, imm)),
-            Meaning::Andi { rd, rs1, imm } => Ok(self.operate_imm(AluImmOp::Andi, rd, rs1, imm)),
-            Meaning::Slli { rd, rs1, amount } => Ok(self.shift(ShiftOp::Slli, rd, rs1, amount)),
-            Meaning::Srli { rd, rs1, amount } => Ok(self.shift(ShiftOp::Srli, rd, rs1, amount)),
-            Meaning::Srai { rd, rs1, amount } => Ok(self.shift(ShiftOp::Srai, rd, rs1, amount)),
-            Meaning::Add { rd, rs1, rs2 } => Ok(self.operate(AluOp::Add, rd, rs1, rs2)),
-            Meaning::Sub { rd, rs1, rs2 } => Ok(self.operate(AluOp::Sub, rd, rs1, rs2)),
-            Meaning::Sll { rd, rs1, rs2 } => Ok(self.operate(AluOp::Sll, rd, rs1, rs2)),
-            Meaning::Slt { rd, rs1, rs2 } => Ok(self.operate(AluOp::Slt, rd, rs1, rs2)),
-            Meaning::Sltu { rd, rs1, rs2 } => Ok(self.operate(AluOp::Sltu, rd, rs1, rs2)),
-            Meaning::Xor { rd, rs1, rs2 } => Ok(self.operate(AluOp::Xor, rd, rs1, rs2)),
-            Meaning::Srl { rd, rs1, rs2 } => Ok(self.operate(AluOp::Srl, rd, rs1, rs2)),
-            Meaning::Sra { rd, rs1, rs2 } => Ok(self.operate(AluOp::Sra, rd, rs1, rs2)),
-            Meaning::Or { rd, rs1, rs2 } => Ok(self.operate(AluOp::Or, rd, rs1, rs2)),
-            Meaning::And { rd, rs1, rs2 } => Ok(self.operate(AluOp::And, rd, rs1, rs2)),
-            Meaning::Mul { rd, rs1, rs2 } => Ok(self.operate(AluOp::Mul, rd, rs1, rs2)),
-            Meaning::Mulh { rd, rs1, rs2 } => Ok(self.operate(AluOp::Mulh, rd, rs1, rs2)),
-            Meaning::Mulhsu { rd, rs1, rs2 } => Ok(self.operate(AluOp::Mulhsu, rd, rs1, rs2)),
-            Meaning::Mulhu { rd, rs1, rs2 } => Ok(self.operate(AluOp::Mulhu, rd, rs1, rs2)),
-            Meaning::Div { rd, rs1, rs2 } => Ok(self.operate(AluOp::Div, rd, rs1, rs2)),
-            Meaning::Divu { rd, rs1, rs2 } => Ok(self.operate(AluOp::Divu, rd, rs1, rs2)),
-            Meaning::Rem { rd, rs1, rs2 } => Ok(self.operate(AluOp::Rem, rd, rs1, rs2)),
-            Meaning::Remu { rd, rs1, rs2 } => Ok(self.operate(AluOp::Remu, rd, rs1, rs2)),
-            Meaning::AmoaddW { rd, rs1, rs2, .. } => self.add_in_memory(rd, rs1, rs2, memory),
-            Meaning::Fence => Ok(self.advance()),
-            Meaning::Ecall => Ok(self.finish()),
-            Meaning::Ebreak => Err(Trap::Breakpoint),
-            Meaning::Vector(_) => unreachable!(),
+            _ => unreachable!(),
         }
     }
 
-    /// An operation on two registers.
+    /// Does an operation on a register and an immediate, or else on two registers.
+    #[inline(always)]
+    fn execute_operation(&mut self, meaning: &Meaning) -> Outcome
+        requires { IsOperation (insn_of meaning.now) }
+        ensures { (text memory : List ℕ) → IsDoneBy (insn_of meaning.now) text memory self.old self.new memory result }
+    {
+        match *meaning {
+            Meaning::Addi { rd, rs1, imm } => self.with_immediate(AluImmOp::Addi, rd, rs1, imm),
+            Meaning::Slti { rd, rs1, imm } => self.with_immediate(AluImmOp::Slti, rd, rs1, imm),
+            Meaning::Sltiu { rd, rs1, imm } => self.with_immediate(AluImmOp::Sltiu, rd, rs1, imm),
+            Meaning::Xori { rd, rs1, imm } => self.with_immediate(AluImmOp::Xori, rd, rs1, imm),
+            Meaning::Ori { rd, rs1, imm } => self.with_immediate(AluImmOp::Ori, rd, rs1, imm),
+            Meaning::Andi { rd, rs1, imm } => self.with_immediate(AluImmOp::Andi, rd, rs1, imm),
+            Meaning::Slli { rd, rs1, amount } => self.shift(ShiftOp::Slli, rd, rs1, amount),
+            Meaning::Srli { rd, rs1, amount } => self.shift(ShiftOp::Srli, rd, rs1, amount),
+            Meaning::Srai { rd, rs1, amount } => self.shift(ShiftOp::Srai, rd, rs1, amount),
+            _ => self.execute_on_two_registers(meaning),
+        }
+    }
+
+    /// Does an operation on two registers.
+    #[inline(always)]
+    fn execute_on_two_registers(&mut self, meaning: &Meaning) -> Outcome
+        requires { IsOnRegisters (insn_of meaning.now) }
+        ensures { (text memory : List ℕ) → IsDoneBy (insn_of meaning.now) text memory self.old self.new memory result }
+    {
+        match *meaning {
+            Meaning::Add { rd, rs1, rs2 } => self.operate(AluOp::Add, rd, rs1, rs2),
+            Meaning::Sub { rd, rs1, rs2 } => self.operate(AluOp::Sub, rd, rs1, rs2),
+            Meaning::Sll { rd, rs1, rs2 } => self.operate(AluOp::Sll, rd, rs1, rs2),
+            Meaning::Slt { rd, rs1, rs2 } => self.operate(AluOp::Slt, rd, rs1, rs2),
+            Meaning::Sltu { rd, rs1, rs2 } => self.operate(AluOp::Sltu, rd, rs1, rs2),
+            Meaning::Xor { rd, rs1, rs2 } => self.operate(AluOp::Xor, rd, rs1, rs2),
+            Meaning::Srl { rd, rs1, rs2 } => self.operate(AluOp::Srl, rd, rs1, rs2),
+            Meaning::Sra { rd, rs1, rs2 } => self.operate(AluOp::Sra, rd, rs1, rs2),
+            Meaning::Or { rd, rs1, rs2 } => self.operate(AluOp::Or, rd, rs1, rs2),
+            Meaning::And { rd, rs1, rs2 } => self.operate(AluOp::And, rd, rs1, rs2),
+            Meaning::Mul { rd, rs1, rs2 } => self.operate(AluOp::Mul, rd, rs1, rs2),
+            Meaning::Mulh { rd, rs1, rs2 } => self.operate(AluOp::Mulh, rd, rs1, rs2),
+            Meaning::Mulhsu { rd, rs1, rs2 } => self.operate(AluOp::Mulhsu, rd, rs1, rs2),
+            Meaning::Mulhu { rd, rs1, rs2 } => self.operate(AluOp::Mulhu, rd, rs1, rs2),
+            Meaning::Div { rd, rs1, rs2 } => self.operate(AluOp::Div, rd, rs1, rs2),
+            Meaning::Divu { rd, rs1, rs2 } => self.operate(AluOp::Divu, rd, rs1, rs2),
+            Meaning::Rem { rd, rs1, rs2 } => self.operate(AluOp::Rem, rd, rs1, rs2),
+            Meaning::Remu { rd, rs1, rs2 } => self.operate(AluOp::Remu, rd, rs1, rs2),
+            _ => unreachable!(),
+        }
+    }
+
+    /// Writes what an operation comes to, which is known where this is laid in: so no turn asks which it is.
     #[inline(always)]
     fn operate(&mut self, op: AluOp, rd: Reg, rs1: Reg, rs2: Reg) -> Outcome
         ensures hart { self.new ≡ given self.old rd (computed_of op (register self.old rs1) (register self.old rs2)) }
@@ -164,16 +233,16 @@ impl Hart {
         self.give(rd, computed(op, self.register(rs1), self.register(rs2)))
     }
 
-    /// An operation on a register and an immediate.
+    /// The same of a register and an immediate.
     #[inline(always)]
-    fn operate_imm(&mut self, op: AluImmOp, rd: Reg, rs1: Reg, imm: Imm12) -> Outcome
+    fn with_immediate(&mut self, op: AluImmOp, rd: Reg, rs1: Reg, imm: Imm12) -> Outcome
         ensures hart { self.new ≡ given self.old rd (computed_with_immediate_of op (register self.old rs1) (extended imm)) }
         ensures outcome { result ≡ Outcome.Stepped }
     {
         self.give(rd, computed_with_immediate(op, self.register(rs1), imm))
     }
 
-    /// A shift by an amount in the word.
+    /// The same of a shift by an amount in the word.
     #[inline(always)]
     fn shift(&mut self, op: ShiftOp, rd: Reg, rs1: Reg, amount: ShiftAmount) -> Outcome
         ensures hart { self.new ≡ given self.old rd (shifted_of op (register self.old rs1) amount) }

@@ -1,7 +1,8 @@
 -- What comes of an attempt to do what a word means: it is done, or a trap says why not. This project's own.
-use Rattle.std.specs.Prelude.{◌≢◌, ℕ, List, Option, Some, None}
+use Rattle.std.specs.Prelude.{⊤, ◌≢◌, ℕ, List, Option, Some, None}
 use Rattle.rv_insn.specs.declared.vector_instructions.VectorInsn.{VectorInsn}
 use Rattle.rv_insn.specs.declared.instructions.Insn.{Insn}
+use Rattle.rv_insn.specs.declared.instructions.Insn.TheVariants as insns
 use Rattle.rv_insn.specs.declared.outcomes.Outcome.{Outcome}
 use Rattle.rv_insn.specs.declared.outcomes.Trap.{Trap}
 use Rattle.rv_insn.specs.declared.outcomes.Trap.TheVariants.{IllegalInstruction}
@@ -23,3 +24,26 @@ fault_by (Some insn) words bytes hart = fault words bytes insn hart
 -- the word means no vector instruction
 abbrev pub IsScalar : Meaning → Type 0
 IsScalar meaning = (insn : VectorInsn) → meaning ≢ meanings.Vector insn
+
+-- ---- the word means an instruction of a format
+
+abbrev pub IsBranch : Option Insn → Type 0
+IsBranch (Some (insns.Branch op rs1 rs2 offset)) = ⊤
+IsBranch insn = ⊥
+
+-- a load or a store
+abbrev pub IsAccess : Option Insn → Type 0
+IsAccess (Some (insns.Load op rd rs1 imm)) = ⊤
+IsAccess (Some (insns.Store op rs1 rs2 imm)) = ⊤
+IsAccess insn = ⊥
+
+-- an operation on two registers
+abbrev pub IsOnRegisters : Option Insn → Type 0
+IsOnRegisters (Some (insns.Alu op rd rs1 rs2)) = ⊤
+IsOnRegisters insn = ⊥
+
+-- on two registers, or on one and an immediate
+abbrev pub IsOperation : Option Insn → Type 0
+IsOperation (Some (insns.AluImm op rd rs1 imm)) = ⊤
+IsOperation (Some (insns.Shift op rd rs1 amount)) = ⊤
+IsOperation insn = IsOnRegisters insn
