@@ -130,7 +130,7 @@ module _ (b0 b1 b2 b3 b4 b5 b6 b7 b8 b9 b10 b11 b12 b13 b14 b15 : ℕ) where
   sixteen-lane (suc (suc (suc zero))) l = omega arith
   sixteen-lane (suc (suc (suc (suc j)))) l = absurd (omega (arith, l))
 
-lane-of : (xs : List ℕ) (j : ℕ) → length xs ≡ 16 → j < 4 → element 32 xs j ≡ of_bytes (λ k. get_or xs (4 * j + k) 0)
+pub lane-of : (xs : List ℕ) (j : ℕ) → length xs ≡ 16 → j < 4 → element 32 xs j ≡ of_bytes (λ k. get_or xs (4 * j + k) 0)
 lane-of xs j e l = sixteen (λ z. element 32 z j ≡ of_bytes (λ k. get_or z (4 * j + k) 0)) xs e (λ b0 b1 b2 b3 b4 b5 b6 b7 b8 b9 b10 b11 b12 b13 b14 b15. sixteen-lane b0 b1 b2 b3 b4 b5 b6 b7 b8 b9 b10 b11 b12 b13 b14 b15 j l)
 
 spelled-same : (p q : ℕ → ℕ) → ((k : ℕ) → k < 4 → p k ≡ q k) → of_bytes p ≡ of_bytes q

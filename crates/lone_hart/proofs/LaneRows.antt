@@ -36,7 +36,7 @@ four-bytes : (a b c d : ℕ) → AreBytes (register_of 32 (a ∷ b ∷ c ∷ d �
 four-bytes a b c d = all-bytes (a ∷ b ∷ c ∷ d ∷ [])
 
 -- 16 bytes
-abbrev Shape : List ℕ → Type 0
+abbrev pub Shape : List ℕ → Type 0
 Shape bytes = (length bytes ≡ 16) × AreBytes bytes
 
 group-shape : (state : Vectors) (v g : ℕ) (xs : List ℕ) (u : ℕ) → length state.registers ≡ 32 → v + g ≤ 32 → length xs ≡ 4 * g → v ≤ u → u < v + g → Shape (register (with_registers state 32 v g xs) u)
@@ -54,11 +54,11 @@ group-shape state v (suc g) (a ∷ b ∷ c ∷ d ∷ rest) u size fits length-is
       | inr n ↦ subst Shape (sym (index-other inner.registers v u new (replicate 16 0) n)) (group-shape state (v + 1) g rest u size (omega (arith, fits)) (omega (arith, length-is)) (omega (arith, lo, n)) (omega (arith, hi)))
     ]
 
-vl-stays : (state : Vectors) (v g : ℕ) (xs : List ℕ) → (with_registers state 32 v g xs).vl ≡ state.vl
+pub vl-stays : (state : Vectors) (v g : ℕ) (xs : List ℕ) → (with_registers state 32 v g xs).vl ≡ state.vl
 vl-stays state v zero xs = refl
 vl-stays state v (suc g) xs = vl-stays state (v + 1) g (drop 4 xs)
 
-vtype-stays : (state : Vectors) (v g : ℕ) (xs : List ℕ) → (with_registers state 32 v g xs).vtype ≡ state.vtype
+pub vtype-stays : (state : Vectors) (v g : ℕ) (xs : List ℕ) → (with_registers state 32 v g xs).vtype ≡ state.vtype
 vtype-stays state v zero xs = refl
 vtype-stays state v (suc g) xs = vtype-stays state (v + 1) g (drop 4 xs)
 
@@ -135,8 +135,8 @@ lanes-above f d n new q l =
       | inr b ↦ let t : nat_le (lane d 0) q ≡ true = grind (arith, nat_tests, b) in rw t (rw u refl)
     ]
 
-module _ (at d g : ℕ) (f : ℕ → ℕ) (h : HartState) (news : List ℕ) (small : at + 4 < 2 ^ 32) (a : At at f h) (c : LanesConfigured f g) (from-one : 1 ≤ d) (fits : d + g ≤ 32) (length-is : length news ≡ 4 * g) (below : (i : ℕ) → i < f 32 → slice_index news i < 2 ^ 32) where
-  abbrev state : Vectors
+module _ (at d g : ℕ) (f : ℕ → ℕ) (h : HartState) (news : List ℕ) (small : at + 4 < 2 ^ 32) (a : At at f h) (c : LanesConfigured f g) (fits : d + g ≤ 32) (length-is : length news ≡ 4 * g) (below : (i : ℕ) → i < f 32 → slice_index news i < 2 ^ 32) where
+  abbrev pub state : Vectors
   state = vectors_of h
 
   abbrev flags : List Bool
@@ -145,10 +145,10 @@ module _ (at d g : ℕ) (f : ℕ → ℕ) (h : HartState) (news : List ℕ) (sma
   abbrev old : List ℕ
   old = map (element_from state 32 d) (range_with_len 0 (4 * g))
 
-  abbrev mixed : List ℕ
+  abbrev pub mixed : List ℕ
   mixed = merged flags news old
 
-  abbrev to : Vectors
+  abbrev pub to : Vectors
   to = with_registers state 32 d g mixed
 
   flags-length : length flags ≡ 4 * g
@@ -162,19 +162,19 @@ module _ (at d g : ℕ) (f : ℕ → ℕ) (h : HartState) (news : List ℕ) (sma
   old-length : length old ≡ 4 * g
   old-length = length-map-range_with_len (element_from state 32 d) 0 (4 * g)
 
-  mixed-get : (k : ℕ) → k < 4 * g → get_or mixed k 0 ≡ cond (nat_lt k h.vl && true) (get_or news k 0) (element_from state 32 d k)
+  pub mixed-get : (k : ℕ) → k < 4 * g → get_or mixed k 0 ≡ cond (nat_lt k h.vl && true) (get_or news k 0) (element_from state 32 d k)
   mixed-get k l =
       merged-get flags news old (4 * g) k flags-length length-is old-length l
       ∙ ap (λ t. cond t (get_or news k 0) (get_or old k 0)) (flag k l)
       ∙ ap (λ n. cond (nat_lt k h.vl && true) (get_or news k 0) n) (get_or-map-range_with_len (element_from state 32 d) 0 (4 * g) k k 0 l (omega arith))
 
-  mixed-length : length mixed ≡ 4 * g
+  pub mixed-length : length mixed ≡ 4 * g
   mixed-length = merged-length flags news old (4 * g) flags-length length-is old-length
 
-  to-size : length to.registers ≡ 32
+  pub to-size : length to.registers ≡ 32
   to-size = size-stays state d g mixed ∙ a.wide
 
-  here : (u : ℕ) → u < 32 → slice_index_or to.registers u [] ≡ register to u
+  pub here : (u : ℕ) → u < 32 → slice_index_or to.registers u [] ≡ register to u
   here u l = or-either to.registers u [] (replicate 16 0) (let q = to-size in omega (arith, q, l))
 
   was : (u : ℕ) → u < 32 → register state u ≡ vector h u
@@ -183,7 +183,7 @@ module _ (at d g : ℕ) (f : ℕ → ℕ) (h : HartState) (news : List ℕ) (sma
   outside : (u : ℕ) → u < 32 → (u < d) ⊎ (d + g ≤ u) → slice_index_or to.registers u [] ≡ vector h u
   outside u l o = here u l ∙ others-stay state d g mixed u o ∙ was u l
 
-  shape : (u : ℕ) → u < 32 → Shape (slice_index_or to.registers u [])
+  pub shape : (u : ℕ) → u < 32 → Shape (slice_index_or to.registers u [])
   shape u l = elim (cases_lt u d) [
     | inl b ↦ subst Shape (sym (outside u l (inl b))) (a.whole u l, a.bytes u l)
     | inr b ↦ elim (cases_lt u (d + g)) [
@@ -195,8 +195,8 @@ module _ (at d g : ℕ) (f : ℕ → ℕ) (h : HartState) (news : List ℕ) (sma
   abbrev after : ℕ → ℕ
   after = write_lanes f d (f 32) (slice_index news)
 
-  inside : (u i : ℕ) → d ≤ u → u < d + g → i < 4 → element 32 (slice_index_or to.registers u []) i ≡ after (lane u i)
-  inside u i lo hi few =
+  inside : (u i : ℕ) → 1 ≤ u → d ≤ u → u < d + g → i < 4 → element 32 (slice_index_or to.registers u []) i ≡ after (lane u i)
+  inside u i low lo hi few =
       let k = 4 * (u - d) + i in
       let l : k < 4 * g = omega (arith, lo, hi, few) in
       let lu : u < 32 = omega (arith, hi, fits) in
@@ -212,21 +212,21 @@ module _ (at d g : ℕ) (f : ℕ → ℕ) (h : HartState) (news : List ℕ) (sma
             let r : k % 4 ≡ i = omega (arith, lo, few) in
             let w : element_from state 32 d k ≡ element 32 (vector h u) i = ap (λ x. element 32 (register state x) (k % 4)) q ∙ ap (element 32 (register state u)) r ∙ ap (λ x. element 32 x i) (was u lu) in
             first ∙ ap (λ n. n % 2 ^ 32) (mixed-get k l ∙ ap (λ b. cond (b && true) (get_or news k 0) (element_from state 32 d k)) t ∙ w)
-            ∙ mod-eq_of_lt (element-below (vector h u) i (a.bytes u lu)) ∙ a.lanes u i (omega (arith, from-one, lo)) lu few
+            ∙ mod-eq_of_lt (element-below (vector h u) i (a.bytes u lu)) ∙ a.lanes u i low lu few
             ∙ sym (lanes-above f d (f 32) (slice_index news) (lane u i) (omega (arith, s, lo)))
       ]
 
-  lanes-after : (u i : ℕ) → 1 ≤ u → u < 32 → i < 4 → element 32 (slice_index_or to.registers u []) i ≡ after (lane u i)
+  pub lanes-after : (u i : ℕ) → 1 ≤ u → u < 32 → i < 4 → element 32 (slice_index_or to.registers u []) i ≡ after (lane u i)
   lanes-after u i low l few = elim (cases_lt u d) [
     | inl b ↦ ap (λ r. element 32 r i) (outside u l (inl b)) ∙ a.lanes u i low l few ∙ sym (lanes-below f d (f 32) (slice_index news) (lane u i) (omega (arith, b, few)))
     | inr b ↦ elim (cases_lt u (d + g)) [
-      | inl e ↦ inside u i b e few
+      | inl e ↦ inside u i low b e few
       | inr e ↦ ap (λ r. element 32 r i) (outside u l (inr e)) ∙ a.lanes u i low l few ∙ sym (lanes-above f d (f 32) (slice_index news) (lane u i) (let m = c.fits in omega (arith, e, m)))
     ]
   ]
 
-  there : At (at + 4) after (advanced (with_vectors h to))
-  there = record {
+  there : 1 ≤ d → At (at + 4) after (advanced (with_vectors h to))
+  there from-one = record {
     running = a.running;
     pc = ap (λ n. (n + 4) % 2 ^ 32) a.pc ∙ mod-eq_of_lt small;
     full = a.full;
@@ -240,7 +240,7 @@ module _ (at d g : ℕ) (f : ℕ → ℕ) (h : HartState) (news : List ℕ) (sma
     bits = λ i few. ap (λ r. one_if (mask_bit r i)) (outside 0 (omega arith) (inl from-one)) ∙ a.bits i few ∙ sym (lanes-above f d (f 32) (slice_index news) (bit i) (let m = c.fits in omega (arith, m, fits)));
   }
 
-  is-to : with_elements state d true news ≡ to
+  pub is-to : with_elements state d true news ≡ to
   is-to =
       let F : ℕ → ℕ → ℕ → Vectors = λ w q k. with_registers state w d q (merged (active 0 k h.vl true (register state 0)) news (map (element_from state w d) (range_with_len 0 k))) in
       ap (λ w. F w (group_of h.vtype) (most_elements h.vtype)) (ap width_of a.vtype ∙ c.width)
@@ -248,5 +248,5 @@ module _ (at d g : ℕ) (f : ℕ → ℕ) (h : HartState) (news : List ℕ) (sma
 
 pub lanes-given : LanesGiven
 lanes-given at d g f h news small a c from-one fits length-is below =
-    subst (λ v. At (at + 4) (write_lanes f d (f 32) (slice_index news)) (advanced (with_vectors h v))) (sym (is-to at d g f h news small a c from-one fits length-is below))
-    (there at d g f h news small a c from-one fits length-is below)
+    subst (λ v. At (at + 4) (write_lanes f d (f 32) (slice_index news)) (advanced (with_vectors h v))) (sym (is-to at d g f h news small a c fits length-is below))
+    (there at d g f h news small a c fits length-is below from-one)

@@ -13,3 +13,5 @@ pub mod LaneStores
 pub mod LaneLoads
 pub mod ByteRows
 pub mod ByteLoads
+pub mod FirstGroup
+pub mod FirstRows

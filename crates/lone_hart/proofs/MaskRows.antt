@@ -84,7 +84,7 @@ module _ (at g : ℕ) (f : ℕ → ℕ) (h : HartState) (tests : List Bool) (T :
   old-length : length old ≡ 16
   old-length = ap length old-is ∙ a.whole 0 (omega arith)
 
-  bits-after : (i : ℕ) → i < 16 → one_if (mask_bit mask i) ≡ after-bits (bit i)
+  bits-after : (i : ℕ) → i < 128 → one_if (mask_bit mask i) ≡ after-bits (bit i)
   bits-after i few =
       let back = mask_bits_back flags tests old i old-length (flags-length at g f h a c ∙ sym size) (omega (arith, size, fits)) in
       elim (cases_lt i (f 32)) [
@@ -226,7 +226,7 @@ module _ (w : World) (f : ℕ → ℕ) (m : List ℕ) (l : length m ≡ w.size) 
         size = merged-length (mask_bits 0 (count (vectors_of h)) old) xs ys (4 * g) size p.size q.size;
         get = λ k lk.
             let within : k < count (vectors_of h) = omega (arith, e, lk) in
-            let few : k < 16 = let n = few-registers f g c in omega (arith, n, lk) in
+            let few : k < 128 = let n = few-registers f g c in omega (arith, n, lk) in
             let here : get_or (mask_bits 0 (count (vectors_of h)) old) k false ≡ mask_bit (vector h 0) k =
             get_or-map-range_with_len (λ i. mask_bit old (0 + i)) 0 (count (vectors_of h)) k k false within (omega arith) ∙ (let z : 0 + k ≡ k = omega arith in ap (mask_bit old) z) ∙ ap (λ r. mask_bit r k) old-is in
             merged-get (mask_bits 0 (count (vectors_of h)) old) xs ys (4 * g) k size p.size q.size lk

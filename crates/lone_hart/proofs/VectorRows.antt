@@ -54,13 +54,13 @@ zipped-get o d (x ∷ xs) (y ∷ ys) n zero a b l = refl
 zipped-get o d (x ∷ xs) (y ∷ ys) zero (suc k) a b l = absurd (omega (arith, l))
 zipped-get o d (x ∷ xs) (y ∷ ys) (suc n) (suc k) a b l = zipped-get o d xs ys n k (omega (arith, a)) (omega (arith, b)) (omega (arith, l))
 
-zipped : (o : ℕ → ℕ → ℕ) (n : ℕ) (xs ys : List ℕ) (F G : ℕ → ℕ) → Lists n xs F → Lists n ys G → Lists n (zip_with o xs ys) (λ k. o (F k) (G k))
+pub zipped : (o : ℕ → ℕ → ℕ) (n : ℕ) (xs ys : List ℕ) (F G : ℕ → ℕ) → Lists n xs F → Lists n ys G → Lists n (zip_with o xs ys) (λ k. o (F k) (G k))
 zipped o n xs ys F G p q = record {
   size = zipped-length o xs ys n p.size q.size;
   get = λ k l. zipped-get o 0 xs ys n k p.size q.size l ∙ ap (λ x. o x (get_or ys k 0)) (p.get k l) ∙ ap (o (F k)) (q.get k l);
 }
 
-alike : (n m y : ℕ) → m ≡ n → Lists n (replicate m y) (λ k. y)
+pub alike : (n m y : ℕ) → m ≡ n → Lists n (replicate m y) (λ k. y)
 alike n m y e = record {
   size = length-replicate m y ∙ e;
   get = λ k l. get_or-replicate m k y 0 (omega (arith, e, l));

@@ -3,3 +3,4 @@ pub mod Alone
 pub mod Paths
 pub mod Groups
 pub mod LaneMemory
+pub mod FirstGroup

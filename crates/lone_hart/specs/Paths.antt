@@ -32,8 +32,8 @@ abbrev pub end : ℕ → List Insn → ℕ
 end at [] = at
 end at (insn ∷ insns) = end (at + 4) insns
 
--- ---- all that a hart holds, numbered through: x0 to x31, vl, vtype, four lanes of 32 bits in each vector register from v1 on, and 16
--- mask bits of v0. Lane i of a group of registers that begins at v, up to 16 in four registers, is `lane v i` too.
+-- ---- all that a hart holds, numbered through: x0 to x31, vl, vtype, four lanes of 32 bits in each vector register from v1 on, and the 128
+-- bits of v0, of which the first ones are a mask's. Lane i of a group of registers that begins at v, up to 16 in four registers, is `lane v i` too.
 
 abbrev pub vl_number : ℕ
 vl_number = 32
@@ -102,7 +102,7 @@ pub record At (at : ℕ) (f : ℕ → ℕ) (hart : HartState) : Type 0 where
   pub vl : hart.vl ≡ f vl_number
   pub vtype : hart.vtype ≡ f vtype_number
   pub lanes : (v i : ℕ) → 1 ≤ v → v < 32 → i < 4 → element 32 (vector hart v) i ≡ f (lane v i)
-  pub bits : (i : ℕ) → i < 16 → one_if (mask_bit (vector hart 0) i) ≡ f (bit i)
+  pub bits : (i : ℕ) → i < 128 → one_if (mask_bit (vector hart 0) i) ≡ f (bit i)
 
 -- ---- paths
 

@@ -31,6 +31,7 @@ ghost use Rattle.memory.specs.Access.{Byte, Word, touched, number_in};
 ghost use Rattle.hart_core.specs.Alu.{one_if, extended, plus, computed, computed_with_immediate, shifted, is_taken, load_size, loaded, store_size, kept};
 ghost use Rattle.hart_core.specs.Scalar.{one_access, offset_from};
 ghost use Rattle.lone_hart.specs.Groups.{GroupHolds, OthersStay, SizeStays, LanesGiven};
+ghost use Rattle.lone_hart.specs.FirstGroup.{AnyLanesGiven, GroupsHold, IsAnyGroup, held, write_group};
 ghost use Rattle.lone_hart.specs.Alone.{World, Says, is_in};
 ghost use Rattle.lone_hart.specs.Paths.{update, Path, Block, Line, Writes, Readable, Writable, stored_at, configure, lane, bit, vl_number, write_lanes, write_bits, byte_of, write_bytes, LanesConfigured, IsGroup};
 
@@ -149,4 +150,15 @@ pub fn bytes_are_loaded()
 /// Bytes of a register that become lanes: byte k is a part of its lane k / 4.
 pub fn bytes_are_extended()
     ensures { (w : World) (f : ℕ → ℕ) (m : List ℕ) → length m ≡ w.size → (g : ℕ) → LanesConfigured f g → (d u : ℕ) → IsGroup g d → 1 ≤ u → u < 32 → Line w (Vector (ExtendBytes d u true) ∷ []) f m (write_lanes f d (f vl_number) (λ k. byte_of (f (lane u (k / 4))) (k % 4))) m }
+{}
+
+/// Rows on groups that begin at any register, v0 included, whose lanes its bits spell: what they leave, and what a group then holds.
+pub fn any_group_is_written()
+    ensures given { AnyLanesGiven }
+    ensures held { GroupsHold }
+    ensures arithmetic { (w : World) (f : ℕ → ℕ) (m : List ℕ) → length m ≡ w.size → (g : ℕ) → LanesConfigured f g → (o : ArithmeticVvOp) (d a b : ℕ) → IsAnyGroup g d → IsAnyGroup g a → IsAnyGroup g b → Line w (Vector (ArithmeticVv o d a b true) ∷ []) f m (write_group f d (f vl_number) (λ k. arithmetic_vv o 32 (held f a k) (held f b k))) m }
+    ensures number { (w : World) (f : ℕ → ℕ) (m : List ℕ) → length m ≡ w.size → (g : ℕ) → LanesConfigured f g → (o : ArithmeticVxOp) (d a r : ℕ) → IsAnyGroup g d → IsAnyGroup g a → r < 32 → Line w (Vector (ArithmeticVx o d a r true) ∷ []) f m (write_group f d (f vl_number) (λ k. arithmetic_vx o 32 (held f a k) (f r % 2 ^ 32))) m }
+    ensures multiplication { (w : World) (f : ℕ → ℕ) (m : List ℕ) → length m ≡ w.size → (g : ℕ) → LanesConfigured f g → (o : MultiplyOp) (d a r : ℕ) → IsAnyGroup g d → IsAnyGroup g a → r < 32 → Line w (Vector (MultiplyVx o d a r true) ∷ []) f m (write_group f d (f vl_number) (λ k. multiply o 32 (held f a k) (f r % 2 ^ 32))) m }
+    ensures shift { (w : World) (f : ℕ → ℕ) (m : List ℕ) → length m ≡ w.size → (g : ℕ) → LanesConfigured f g → (o : ShiftViOp) (d a n : ℕ) → IsAnyGroup g d → IsAnyGroup g a → Line w (Vector (ShiftVi o d a n true) ∷ []) f m (write_group f d (f vl_number) (λ k. shift_vi o 32 (held f a k) n)) m }
+    ensures numbers { (w : World) (f : ℕ → ℕ) (m : List ℕ) → length m ≡ w.size → (g : ℕ) → LanesConfigured f g → (d : ℕ) → IsAnyGroup g d → Line w (Vector (ElementNumbers d true) ∷ []) f m (write_group f d (f vl_number) (λ k. k)) m }
 {}
