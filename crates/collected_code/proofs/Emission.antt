@@ -31,7 +31,7 @@ use Rattle.scalar_code.proofs.Refusing.{passed}
 use Rattle.scalar_code.proofs.Spelling.{emits_then, emits-is, emits-length}
 use Rattle.scalar_code.proofs.WordTests.{word-test}
 use Rattle.lane_code.specs.declared.groups.Group.{Group}
-use Rattle.lane_code.specs.Groups.{registers, spare, slot, vtype_of}
+use Rattle.lane_code.specs.Groups.{registers, slot, vtype_of}
 use Rattle.collected_code.specs.Collected.{Collected, collected, collecting, pixel_code, is_one_store, round_fits, one_round_code, collected_code}
 use Rattle.collected_code.specs.Faults.{FitsRound, EmitsRound, IsRoundFault, EmitsCollected, IsCollectedFault}
 use Rattle.collected_code.proofs.Unrolled.{one-store-sequence, one-store-for, one-store-bind, collected-store, collected-bind, round-fits-store, round-fits-bind}
@@ -80,13 +80,13 @@ less-room frames m n word l room = elim room [
 
 -- ---- one pixel's lane
 
-pub collecting-emitted : (group : Group) (r : ℕ) (c0 c1 c2 c3 c4 c5 c6 : List ℕ) (a b d e : ℕ) → a ≡ spare group → b ≡ spare group → d ≡ slot group 0 → e ≡ slot group 1 → Emits c0 c1 (AluImm alu_imms.Addi 14 r (pos 1) ∷ [])
-    → Emits c1 c2 (Vector (v.Vsetvli 0 14 (vtype_of group)) ∷ []) → Emits c2 c3 (Vector (v.ElementNumbers a true) ∷ []) → Emits c3 c4 (Vector (v.CompareVx compare_vxs.Vmseq 0 b r true) ∷ [])
+pub collecting-emitted : (group : Group) (r : ℕ) (c0 c1 c2 c3 c4 c5 c6 : List ℕ) (a d e : ℕ) → a ≡ slot group 2 → d ≡ slot group 0 → e ≡ slot group 1 → Emits c0 c1 (AluImm alu_imms.Addi 14 r (pos 1) ∷ [])
+    → Emits c1 c2 (Vector (v.Vsetvli 0 14 (vtype_of group)) ∷ []) → Emits c2 c3 (Vector (v.ElementNumbers a true) ∷ []) → Emits c3 c4 (Vector (v.CompareVx compare_vxs.Vmseq 0 a r true) ∷ [])
     → Emits c4 c5 (Vector (v.MergeVx d d 20) ∷ []) → Emits c5 c6 (Vector (v.MergeVx e e 15) ∷ []) → Emits c0 c6 (collecting group r)
-collecting-emitted group r c0 c1 c2 c3 c4 c5 c6 a b d e ea eb ed ee one two three four five six =
+collecting-emitted group r c0 c1 c2 c3 c4 c5 c6 a d e ea ed ee one two three four five six =
     emits_then one (emits_then two
     (emits_then (subst (λ k. Emits c2 c3 (Vector (v.ElementNumbers k true) ∷ [])) ea three)
-    (emits_then (subst (λ k. Emits c3 c4 (Vector (v.CompareVx compare_vxs.Vmseq 0 k r true) ∷ [])) eb four)
+    (emits_then (subst (λ k. Emits c3 c4 (Vector (v.CompareVx compare_vxs.Vmseq 0 k r true) ∷ [])) ea four)
     (emits_then (subst (λ k. Emits c4 c5 (Vector (v.MergeVx k k 20) ∷ [])) ed five) (subst (λ k. Emits c5 c6 (Vector (v.MergeVx k k 15) ∷ [])) ee six)))))
 
 -- ---- one store

@@ -17,9 +17,9 @@ use Rattle.lone_hart.proofs.MaskRows as masks
 use Rattle.lone_hart.proofs.VectorRows as rows
 use Rattle.scalar_code.proofs.Values.{imm-sets, Sets as OneSets}
 use Rattle.lane_code.specs.declared.groups.Group.{Group}
-use Rattle.lane_code.specs.Groups.{registers, spare, slot, vtype_of}
+use Rattle.lane_code.specs.Groups.{registers, slot, vtype_of}
 use Rattle.lane_code.specs.Leaving.{HasLanes}
-use Rattle.lane_code.proofs.Slots.{SlotLies, spare-is}
+use Rattle.lane_code.proofs.Slots.{SlotLies}
 use Rattle.lane_code.proofs.Rows.{Writes, writes, writes-lanes}
 use Rattle.round_code.proofs.FrameCode.{slot-at}
 use Rattle.round_code.proofs.RowCode.{supported, most, few-lanes, has-lanes, configured-others}
@@ -101,15 +101,18 @@ module _ (w : World) (m : List ℕ) (l : length m ≡ w.size) (group : Group) wh
     lies1 : SlotLies group 1
     lies1 = slot-at group 1 (omega arith)
 
+    lies2 : SlotLies group 2
+    lies2 = slot-at group 2 (omega arith)
+
     abbrev u : ℕ
-    u = spare group
+    u = slot group 2
 
     abbrev Sets : List Insn → (ℕ → ℕ) → ℕ → (ℕ → ℕ) → Type 0
     Sets is h d x = Writes w m l group (suc i) is h d x
 
     -- each lane holds its number, and that of this round is marked
     i3 : Sets (Vector (v.ElementNumbers u true) ∷ []) f2 u (λ k. k)
-    i3 = writes w m l group (suc i) (λ k. k) (λ k. k) has2 (rows.lane-numbers w f2 m l g has2.configured u (spare-is group)) (λ k b. refl)
+    i3 = writes w m l group (suc i) (λ k. k) (λ k. k) has2 (rows.lane-numbers w f2 m l g has2.configured u lies2.is_group) (λ k b. refl)
 
     has3 : HasLanes group (suc i) i3.after
     has3 = writes-lanes w m l group (suc i) i3 has2
@@ -119,7 +122,7 @@ module _ (w : World) (m : List ℕ) (l : length m ≡ w.size) (group : Group) wh
 
     i4 : Sets (Vector (v.CompareVx compare_vxs.Vmseq 0 u r true) ∷ []) i3.after 32 (λ k. one_if (k == i))
     i4 = writes w m l group (suc i) (λ k. one_if (k == i)) (λ k. one_if (i3.after (lane u k) == (i3.after r % 2 ^ 32))) has3
-        (masks.compare-vx w i3.after m l g has3.configured compare_vxs.Vmseq u r (spare-is group) low)
+        (masks.compare-vx w i3.after m l g has3.configured compare_vxs.Vmseq u r lies2.is_group low)
         (λ k b. ap (λ p. one_if (p == (i3.after r % 2 ^ 32))) (i3.value k b) ∙ ap (λ p. one_if (k == p)) (word-is (i3.after r) i (scalar3 r low apart ∙ er) (let c = i-small in omega (arith, c))))
 
     has4 : HasLanes group (suc i) i4.after
@@ -132,9 +135,10 @@ module _ (w : World) (m : List ℕ) (l : length m ≡ w.size) (group : Group) wh
     scalar4 q b a = i4.below q (omega (arith, b)) ∙ scalar3 q b a
 
     -- a lane of the stack, before it is written
-    stack4 : (d k : ℕ) → 2 * g ≤ d → d + g ≤ 32 → k < suc i → i4.after (lane d k) ≡ f (lane d k)
-    stack4 d k above below b =
-        i4.below (lane d k) (omega (arith, below, b, few)) ∙ i3.above (lane d k) (omega (arith, above, few)) ∙ configured-lane f1 (suc i) (vtype_of group) (lane d k) (omega arith)
+    stack4 : (d k : ℕ) → d + g ≤ u → k < suc i → i4.after (lane d k) ≡ f (lane d k)
+    stack4 d k under b =
+        let top = lies2.high in
+        i4.below (lane d k) (omega (arith, under, top, b, few)) ∙ i3.below (lane d k) (omega (arith, under, b, few)) ∙ configured-lane f1 (suc i) (vtype_of group) (lane d k) (omega arith)
         ∙ f1-others (lane d k) (λ e. omega (arith, e))
 
     abbrev s0 : ℕ
@@ -149,7 +153,7 @@ module _ (w : World) (m : List ℕ) (l : length m ≡ w.size) (group : Group) wh
         (masks.merge-vx w i4.after m l g has4.configured s0 s0 20 lies0.is_group lies0.is_group (omega arith))
         (λ k b.
         ap (λ z. if z == 0 then i4.after (lane s0 k) else i4.after 20 % 2 ^ 32) (bit4 k b)
-        ∙ ap (λ z. if one_if (k == i) == 0 then z else i4.after 20 % 2 ^ 32) (stack4 s0 k lies0.low lies0.high b)
+        ∙ ap (λ z. if one_if (k == i) == 0 then z else i4.after 20 % 2 ^ 32) (stack4 s0 k (let e = lies0.next in let o = lies1.next in omega (arith, e, o)) b)
         ∙ ap (λ z. if one_if (k == i) == 0 then f (lane s0 k) else z) (word-is (i4.after 20) pixel (scalar4 20 (omega arith) (λ e. omega (arith, e)) ∙ ep) small_pixel))
 
     has5 : HasLanes group (suc i) i5.after
@@ -162,7 +166,7 @@ module _ (w : World) (m : List ℕ) (l : length m ≡ w.size) (group : Group) wh
     scalar5 q b a = i5.below q (omega (arith, b)) ∙ scalar4 q b a
 
     stack5 : (k : ℕ) → k < suc i → i5.after (lane s1 k) ≡ f (lane s1 k)
-    stack5 k b = i5.above (lane s1 k) (let e = lies0.next in omega (arith, e, few)) ∙ stack4 s1 k lies1.low lies1.high b
+    stack5 k b = i5.above (lane s1 k) (let e = lies0.next in omega (arith, e, few)) ∙ stack4 s1 k (let o = lies1.next in omega (arith, o)) b
 
     -- and its address
     i6 : Sets (Vector (v.MergeVx s1 s1 15) ∷ []) i5.after s1 (λ k. if one_if (k == i) == 0 then f (lane s1 k) else address)

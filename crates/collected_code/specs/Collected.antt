@@ -25,7 +25,7 @@ use Rattle.scalar_code.specs.declared.places.Places.{Places}
 use Rattle.scalar_code.specs.Code.{second_scratch, parked, bottom, seat, move, addressed, place_of, value_code, loop_code, whole_code, bind_code}
 use Rattle.scalar_code.specs.Fitting.{is_word, fits_store, has_seat, fits_whole, total}
 use Rattle.lane_code.specs.declared.groups.Group.{Group}
-use Rattle.lane_code.specs.Groups.{registers, spare, slot, vtype_of}
+use Rattle.lane_code.specs.Groups.{registers, slot, vtype_of}
 
 -- ---- what collects its pixels
 
@@ -50,8 +50,8 @@ pixel_code places scope store =
 -- They become those of the lane with the round's number, which register r holds, and as many lanes are configured as rounds were made.
 abbrev pub collecting : Group → ℕ → List Insn
 collecting group r =
-    AluImm alu_imms.Addi second_scratch r (pos 1) ∷ Vector (v.Vsetvli 0 second_scratch (vtype_of group)) ∷ Vector (v.ElementNumbers (spare group) true)
-    ∷ Vector (v.CompareVx compare_vxs.Vmseq 0 (spare group) r true) ∷ Vector (v.MergeVx (slot group 0) (slot group 0) bottom)
+    AluImm alu_imms.Addi second_scratch r (pos 1) ∷ Vector (v.Vsetvli 0 second_scratch (vtype_of group)) ∷ Vector (v.ElementNumbers (slot group 2) true)
+    ∷ Vector (v.CompareVx compare_vxs.Vmseq 0 (slot group 2) r true) ∷ Vector (v.MergeVx (slot group 0) (slot group 0) bottom)
     ∷ Vector (v.MergeVx (slot group 1) (slot group 1) parked) ∷ []
 
 -- what is made of a round's statement: the code among these counters, and in how many turns it is done

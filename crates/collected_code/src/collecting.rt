@@ -63,8 +63,9 @@ fn emit_collecting(code: &mut Vec<u32>, group: Group, r: u8) -> Result<(), Alloc
 {
     alu_small(code, AluImmOp::Addi, 14, r, 1)?;
     configure(code, group, 14)?;
-    lane_numbers(code, group.spare())?;
-    mark_lane(code, group.spare(), r)?;
+    let numbers = group.slot(2);
+    lane_numbers(code, numbers)?;
+    mark_lane(code, numbers, r)?;
     put_marked(code, group.slot(0), 20)?;
     put_marked(code, group.slot(1), 15)?;
     Ok(())

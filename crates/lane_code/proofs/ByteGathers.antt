@@ -19,7 +19,9 @@ use Rattle.lanes.specs.Words as lanes
 use Rattle.lone_hart.specs.Alone.{World}
 use Rattle.lone_hart.specs.Paths.{lane, vl_number, IsGroup, Readable}
 use Rattle.lone_hart.specs.LaneMemory.{AllReadable}
+use Rattle.lone_hart.specs.FirstGroup.{held, IsAnyGroup}
 use Rattle.lone_hart.proofs.VectorRows as rows
+use Rattle.lone_hart.proofs.FirstRows as firsts
 use Rattle.lone_hart.proofs.LaneLoads as memory
 use Rattle.scalar_code.specs.declared.places.Pixels.TheVariants as pixels
 use Rattle.scalar_code.specs.declared.places.Place.{Place}
@@ -29,8 +31,8 @@ use Rattle.scalar_code.proofs.Values.{literal-sets}
 use Rattle.lane_code.specs.declared.groups.Group.{Group}
 use Rattle.lane_code.specs.Groups.{registers, slot, spare}
 use Rattle.lane_code.specs.Lanes.{byte_tail, gathered_by, gathered, picked_by, picked}
-use Rattle.lane_code.proofs.Slots.{SlotLies, spare-is}
-use Rattle.lane_code.proofs.Rows.{Writes, Lanes, Leaves, Aside, writes, writes-lanes, lanes-kept, few-rounds, last, slot-first, slot-aside, aside-slot, aside-first, stays, scalar-first}
+use Rattle.lane_code.proofs.Slots.{SlotLies, any-group, spare-is}
+use Rattle.lane_code.proofs.Rows.{Writes, Lanes, Leaves, HoldAny, Aside, Asides, asides, asides-lanes, asides-slot, aside-stays, aside-beside, aside-first, slot-writes, slot-held, writes, writes-lanes, lanes-kept, few-rounds, last, slot-first, scalar-first}
 use Rattle.lane_code.proofs.Offsets.{numbered-reaches, reach-first, reach-lanes}
 use Rattle.lane_code.proofs.Operations.{Hold}
 use Rattle.lane_code.proofs.ByteRows.{byte-small}
@@ -114,13 +116,14 @@ module _ (w : World) (m : List ℕ) (l : length m ≡ w.size) (group : Group) (n
   not-13 d i e = omega (arith, e)
 
   -- of the words, the pixels
-  cut-leaves : (s : ℕ) (f : ℕ → ℕ) → IsGroup g s → Lanes w m l group n f → Hold w m l group n f r word_at → Hold w m l group n f s (λ i. off i * 8 % 2 ^ 32)
+  cut-leaves : (s : ℕ) (f : ℕ → ℕ) → IsAnyGroup g s → Lanes w m l group n f → Hold w m l group n f r word_at → HoldAny w m l group n f s (λ i. off i * 8 % 2 ^ 32)
       → Leaves w m l group n (Vector (v.ArithmeticVv vvs.Vsrl r r s true) ∷ (literal 13 255 ++ (Vector (v.ArithmeticVx vxs.Vand r r 13 true) ∷ []))) f k pixel
   cut-leaves s f ig has hr hs =
       let shifted : ℕ → ℕ = λ i. word_at i / 2 ^ (off i * 8 % 2 ^ 32 % 32) in
+      let ir = any-group g r lies.few lies.is_group in
       let i8 : Writes w m l group n (Vector (v.ArithmeticVv vvs.Vsrl r r s true) ∷ []) f r shifted =
-      writes w m l group n shifted (λ i. f (lane r i) / 2 ^ (f (lane s i) % 32)) has (rows.arithmetic-vv w f m l g has.configured vvs.Vsrl r r s lies.is_group lies.is_group ig)
-      (λ i b. ap (λ z. z / 2 ^ (f (lane s i) % 32)) (hr i b) ∙ ap (λ z. word_at i / 2 ^ (z % 32)) (hs i b)) in
+      slot-writes w m l group n k lies shifted (λ i. held f r i / 2 ^ (held f s i % 32)) has (firsts.arithmetic-vv w f m l g has.configured vvs.Vsrl r r s ir ir ig)
+      (λ i b. ap (λ z. z / 2 ^ (held f s i % 32)) (slot-held w m l group n k lies f i ∙ hr i b) ∙ ap (λ z. word_at i / 2 ^ (z % 32)) (hs i b)) in
       let f8 = i8.after in
       let has8 = writes-lanes w m l group n i8 has in
       let i9 = literal-sets w m l f8 13 255 (omega arith) (omega arith) (omega arith) in
@@ -131,20 +134,24 @@ module _ (w : World) (m : List ℕ) (l : length m ≡ w.size) (group : Group) (n
       (λ i b. ap (λ z. bit_and z (f9 13 % 2 ^ 32)) (i9.others (lane r i) (not-13 r i) ∙ i8.value i b) ∙ ap (λ z. bit_and (shifted i) (z % 2 ^ 32)) i9.value ∙ and_mask (shifted i) 8 ∙ pixel-is i b) in
       slot-first w m l group n k lies i8 (omega arith) (scalar-first w m l group n k lies i9 (inl refl) (last w m l group n k lies i10))
 
+  rest-small : (x : ℕ) → x % 2 ^ 32 < 2 ^ 32
+  rest-small x = omega arith
+
   -- from the distances to the words, with the distances' bits in s
-  words-leave : (s : ℕ) (f : ℕ → ℕ) → IsGroup g s → Aside w m l group n k lies s → Lanes w m l group n f → IsPlace place → Hold w m l group n f r off → Leaves w m l group n (byte_tail place r s) f k pixel
+  words-leave : (s : ℕ) (f : ℕ → ℕ) → IsAnyGroup g s → Aside w m l group n k lies s → Lanes w m l group n f → IsPlace place → Hold w m l group n f r off → Leaves w m l group n (byte_tail place r s) f k pixel
   words-leave s f ig aside has is hr =
       let few = few-rounds w m l group n f has in
-      let i4 : Writes w m l group n (Vector (v.ShiftVi shifts.Vsll s r 3 true) ∷ []) f s (λ i. off i * 8 % 2 ^ 32) =
-      writes w m l group n (λ i. off i * 8 % 2 ^ 32) (λ i. lanes.shift_left 32 (f (lane r i)) 3) has (rows.shift-vi w f m l g has.configured shifts.Vsll s r 3 ig lies.is_group)
-      (λ i b. ap (λ z. lanes.shift_left 32 z 3) (hr i b)) in
+      let ir = any-group g r lies.few lies.is_group in
+      let i4 : Asides w m l group n k lies (Vector (v.ShiftVi shifts.Vsll s r 3 true) ∷ []) f s (λ i. off i * 8 % 2 ^ 32) =
+      asides w m l group n k lies (λ i. off i * 8 % 2 ^ 32) (λ i. lanes.shift_left 32 (held f r i) 3) aside has (firsts.shift-vi w f m l g has.configured shifts.Vsll s r 3 ig ir)
+      (λ i b. ap (λ z. lanes.shift_left 32 z 3) (slot-held w m l group n k lies f i ∙ hr i b)) (λ i b. rest-small (off i * 8)) in
       let f4 = i4.after in
-      let has4 = writes-lanes w m l group n i4 has in
+      let has4 = asides-lanes w m l group n k lies i4 has in
       let i5 : Writes w m l group n (Vector (v.ArithmeticVi vis.Vand r r (negsuc 3) true) ∷ []) f4 r (λ i. off i / 4 * 4) =
       writes w m l group n (λ i. off i / 4 * 4) (λ i. bit_and (f4 (lane r i)) (lanes.wrapped 32 (negsuc 3))) has4 (rows.arithmetic-vi w f4 m l g has4.configured vis.Vand r r (negsuc 3) lies.is_group lies.is_group)
       (λ i b.
       let low = low-is i b in
-      ap (λ z. bit_and z (lanes.wrapped 32 (negsuc 3))) (stays w m l group n k lies i4 (lane r i) (slot-aside w m l group n k lies s i aside few b) ∙ hr i b) ∙ and_high_mask 32 2 (omega arith) (off i) (omega (arith, low))) in
+      ap (λ z. bit_and z (lanes.wrapped 32 (negsuc 3))) (asides-slot w m l group n k lies i4 few hr i b) ∙ and_high_mask 32 2 (omega arith) (off i) (omega (arith, low))) in
       let f5 = i5.after in
       let has5 = writes-lanes w m l group n i5 has4 in
       let i6 = literal-sets w m l f5 13 place.start (omega arith) (omega arith) is.start in
@@ -161,12 +168,10 @@ module _ (w : World) (m : List ℕ) (l : length m ≡ w.size) (group : Group) (n
       (λ i b. refl) in
       let f7 = i7.after in
       let has7 = writes-lanes w m l group n i7 has6 in
-      let kept : Hold w m l group n f7 s (λ i. off i * 8 % 2 ^ 32) =
-      λ i b.
-      let out = aside-slot w m l group n k lies s i aside few b in
-      stays w m l group n k lies i7 (lane s i) out ∙ i6.others (lane s i) (not-13 s i) ∙ stays w m l group n k lies i5 (lane s i) out ∙ i4.value i b in
+      let kept : HoldAny w m l group n f7 s (λ i. off i * 8 % 2 ^ 32) =
+      aside-stays w m l group n k lies i7 aside few (aside-beside w m l group n k lies s i6 (omega arith) (aside-stays w m l group n k lies i5 aside few i4.value)) in
       let end = cut-leaves s f7 ig has7 i7.value kept in
-      aside-first w m l group n k lies i4 aside few (slot-first w m l group n k lies i5 (omega arith) (scalar-first w m l group n k lies i6 (inl refl) (slot-first w m l group n k lies i7 (omega arith) end)))
+      aside-first w m l group n k lies i4 (slot-first w m l group n k lies i5 (omega arith) (scalar-first w m l group n k lies i6 (inl refl) (slot-first w m l group n k lies i7 (omega arith) end)))
 
   pub gathered-bytes : (s : ℕ) (f : ℕ → ℕ) → IsGroup g s → r + g ≤ s → Lanes w m l group n f → IsPlace place → Hold w m l group n f r x → Hold w m l group n f s y → Leaves w m l group n (gathered place r s) f k pixel
   gathered-bytes s f ig above has is hx hy =
@@ -188,7 +193,7 @@ module _ (w : World) (m : List ℕ) (l : length m ≡ w.size) (group : Group) (n
       ap (λ z. lanes.add 32 z (f2 (lane s i))) (i2.below (lane r i) (omega (arith, above, b, few)) ∙ i1.others (lane r i) (not-13 r i) ∙ hx i b) ∙ ap (lanes.add 32 (x i)) (i2.value i b)
       ∙ offset-word (x i) (y i * width) place.start (low-is i b)) in
       let has3 = writes-lanes w m l group n i3 has2 in
-      let end = words-leave s i3.after ig (inl above) has3 is i3.value in
+      let end = words-leave s i3.after (any-group g s lies.few ig) (inl (above, ig.fits)) has3 is i3.value in
       subst (λ p. Leaves w m l group n (gathered_by p place r s) f k pixel) (sym bytes)
       (scalar-first w m l group n k lies i1 (inl refl) (slot-first w m l group n k lies i2 (omega (arith, above)) (slot-first w m l group n k lies i3 (omega arith) end)))
 

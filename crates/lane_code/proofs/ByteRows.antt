@@ -22,10 +22,10 @@ use Rattle.scalar_code.specs.Code.{address, addressed, pixel_bytes}
 use Rattle.scalar_code.specs.Evaluation.{IsPlace, LoadsAt, load_op}
 use Rattle.scalar_code.proofs.Addresses.{addressed-leaves}
 use Rattle.lane_code.specs.declared.groups.Group.{Group}
-use Rattle.lane_code.specs.Groups.{registers, slot, spare}
+use Rattle.lane_code.specs.Groups.{registers, slot, byte_spare}
 use Rattle.lane_code.specs.Lanes.{dense, row_load}
 use Rattle.lane_code.specs.Leaving.{IsKept}
-use Rattle.lane_code.proofs.Slots.{SlotLies, spare-is}
+use Rattle.lane_code.proofs.Slots.{SlotLies, stack-low}
 use Rattle.lane_code.proofs.Rows.{Lanes, Leaves, writes, lanes-kept, few-rounds, last, value-first}
 
 one-byte : (t : Bool) (p q : ℕ) → p < 256 → q < 256 → (if t then p else q) < 256
@@ -53,13 +53,13 @@ module _ (w : World) (m : List ℕ) (l : length m ≡ w.size) (group : Group) (n
   r = slot group k
 
   abbrev u : ℕ
-  u = spare group
+  u = byte_spare
 
-  -- the scratch group's first register may hold anything
+  -- the register in which bytes wait may hold anything
   register-kept : (q : ℕ) → IsKept group k q → (q < lane u 0) ⊎ (lane u 4 ≤ q)
   register-kept q (inl x) = inl (let b = x.0 in omega (arith, b))
   register-kept q (inr (inl e)) = inl (omega (arith, e))
-  register-kept q (inr (inr x)) = inr (let a = x.0 in let f = lies.few in omega (arith, a, f))
+  register-kept q (inr (inr x)) = inr (let a = x.0 in let f = stack-low group in omega (arith, a, f))
 
   register-first : (is js : List Insn) (f f' v : ℕ → ℕ) → Line w is f m f' m → ((q : ℕ) → (q < lane u 0) ⊎ (lane u 4 ≤ q) → f' q ≡ f q) → Leaves w m l group n js f' k v → Leaves w m l group n (is ++ js) f k v
   register-first is js f f' v line stays b = record {
@@ -108,13 +108,10 @@ module _ (w : World) (m : List ℕ) (l : length m ≡ w.size) (group : Group) (n
     pair-leaves : (f : ℕ → ℕ) → Lanes w m l group n f → f 20 ≡ a 0 → ((i : ℕ) → i < n → lanes.add 32 (a 0) i ≡ a i) → Leaves w m l group n pair-code f k pixel
     pair-leaves f has e0 far =
         let count = has.count in
-        let s = spare-is group in
-        let one = s.above_mask in
-        let room = s.fits in
-        let some = lies.few in
+        let one : 1 ≤ u = omega arith in
         let few = few-rounds w m l group n f has in
         let most = lies.most in
-        let top : u < 32 = omega (arith, room, some) in
+        let top : u < 32 = omega arith in
         let f1 = write_bytes f u (f vl_number) found in
         let line = loads-bytes w f m l g has.configured u 20 a one top (omega arith) (λ i b. ap (λ z. lanes.add 32 z i) e0 ∙ far i (omega (arith, b, count))) (all-readable f has) in
         let stays : (q : ℕ) → (q < lane u 0) ⊎ (lane u 4 ≤ q) → f1 q ≡ f q = bytes-apart f u (f vl_number) found in

@@ -482,14 +482,14 @@ module _ (own : Setting) (good : IsSetting own) (group : Group) (scope : List Co
       let k = and_parts a.left.own.own.is_word (nat_lt 0 c && nat_lt c (2 ^ 32)) is in
       let j = and_parts (nat_lt 0 c) (nat_lt c (2 ^ 32)) k.1 in
       single-goes a.left a.right (lanes_quotient c (slot group 0) (spare group)) (λ i. word.divide (a.right i).value c) a.is k.0 passes
-      (λ memory f holds knows has hx. quotient-leaves w memory holds.size group n 0 first-lies f c (λ i. (a.right i).value) has knows.none hx (all-of a.left.own a.right a.is.stack k.0 passes memory holds).small
+      (λ memory f holds knows has hx. quotient-leaves w memory holds.size group n 0 first-lies f c (λ i. (a.right i).value) has hx (all-of a.left.own a.right a.is.stack k.0 passes memory holds).small
       (shallow.some-below c j.0) (is-below c (2 ^ 32) j.1)))
   deep-level (layer.Remainder a c) = by-room _ _ _ _ (λ memory l. at-level memory l (layer.Remainder (one a.left a.right a.is memory l) c))
       (λ is passes.
       let k = and_parts a.left.own.own.is_word (nat_lt 0 c && nat_lt c (2 ^ 32)) is in
       let j = and_parts (nat_lt 0 c) (nat_lt c (2 ^ 32)) k.1 in
       single-goes a.left a.right (lanes_remainder c (slot group 0) (spare group)) (λ i. word.remainder (a.right i).value c) a.is k.0 passes
-      (λ memory f holds knows has hx. remainder-leaves w memory holds.size group n 0 first-lies f c (λ i. (a.right i).value) has knows.none hx (all-of a.left.own a.right a.is.stack k.0 passes memory holds).small
+      (λ memory f holds knows has hx. remainder-leaves w memory holds.size group n 0 first-lies f c (λ i. (a.right i).value) has hx (all-of a.left.own a.right a.is.stack k.0 passes memory holds).small
       (shallow.some-below c j.0) (is-below c (2 ^ 32) j.1)))
   deep-level (layer.Select c a b) = by-room _ _ _ _ (λ memory l. at-level memory l (layer.Select (one c.left c.right c.is memory l) (one a.left a.right a.is memory l) (one b.left b.right b.is memory l)))
       (λ is passes.

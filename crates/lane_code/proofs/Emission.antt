@@ -25,7 +25,7 @@ use Rattle.scalar_code.specs.Words.{Emits}
 use Rattle.scalar_code.proofs.Spelling.{emits_then}
 use Rattle.lane_code.specs.declared.groups.Group.{Group}
 use Rattle.lane_code.specs.declared.goings.Going.{Going}
-use Rattle.lane_code.specs.Groups.{slots, slot, spare}
+use Rattle.lane_code.specs.Groups.{slots, slot, spare, byte_spare}
 use Rattle.lane_code.specs.Lanes.{Laned, laned, laned_at, in_one_row, is_reached, is_dense, is_stepping, is_steady, has_slot, rows_fit, rows_code, step_of, stepped, lanes_operation, lanes_quotient, lanes_remainder, lanes_selection, dense, gathered, picked}
 use Rattle.lane_code.specs.Straying.{strayed}
 use Rattle.lane_code.specs.Emitting.{FitsLanes, EmitsLanes, EmitsPicked}
@@ -177,18 +177,18 @@ module _ (group : Group) (places : Places) (scope : List Counter) (goings : List
     abbrev rest-fits : Source → Expr → Expr → Bool
     rest-fits source a b = is_reached (place_of places source) && ((of a).fits k && rows_fit (of b) k)
 
-    pub dense-emitted : (source : Source) (a b x y : Expr) (place : Place) (u : ℕ) (c0 c1 c2 c3 : List ℕ) → own ≡ e.Load source a b → x ≡ a → y ≡ b → place ≡ place_of places source → u ≡ spare group → is_dense (of a) (of b) ≡ true
+    pub dense-emitted : (source : Source) (a b x y : Expr) (place : Place) (u : ℕ) (c0 c1 c2 c3 : List ℕ) → own ≡ e.Load source a b → x ≡ a → y ≡ b → place ≡ place_of places source → u ≡ byte_spare → is_dense (of a) (of b) ≡ true
         → EmitsValue c0 c1 (made places scope x) 20 → EmitsValue c1 c2 (made places scope y) 21 → Emits c2 c3 (dense place r u) → EmitsLanes c0 c3 group (of own) k r
     unfolding laned
     dense-emitted source a b x y place u c0 c1 c2 c3 is ex ey ep eu dense-is first second last =
         let one = subst (λ z. EmitsValue c0 c1 z 20) (ap (made places scope) ex ∙ sym (own-is group places scope goings a)) first in
         let two = subst (λ z. EmitsValue c1 c2 z 21) (ap (made places scope) ey ∙ sym (own-is group places scope goings b)) second in
-        let three : Emits c2 c3 (dense (place_of places source) (slot group k) (spare group)) =
-        subst (λ p. Emits c2 c3 (dense p (slot group k) (spare group))) ep (subst (λ d. Emits c2 c3 (dense place d (spare group))) slot_is (subst (λ q. Emits c2 c3 (dense place r q)) eu last)) in
-        let whole : Emits c0 c3 ((of a).own.code 20 ++ ((of b).own.code 21 ++ dense (place_of places source) (slot group k) (spare group))) = emits_then one.emits (emits_then two.emits three) in
+        let three : Emits c2 c3 (dense (place_of places source) (slot group k) byte_spare) =
+        subst (λ p. Emits c2 c3 (dense p (slot group k) byte_spare)) ep (subst (λ d. Emits c2 c3 (dense place d byte_spare)) slot_is (subst (λ q. Emits c2 c3 (dense place r q)) eu last)) in
+        let whole : Emits c0 c3 ((of a).own.code 20 ++ ((of b).own.code 21 ++ dense (place_of places source) (slot group k) byte_spare)) = emits_then one.emits (emits_then two.emits three) in
         subst (λ z. EmitsLanes c0 c3 group z k r) (sym (ap of is ∙ folds.at_load Laned (laned_at group places scope goings) source a b))
         (record {
-          emits = subst (λ t. Emits c0 c3 (if t then (of a).own.code 20 ++ ((of b).own.code 21 ++ dense (place_of places source) (slot group k) (spare group)) else rest-code source a b)) (sym dense-is) whole;
+          emits = subst (λ t. Emits c0 c3 (if t then (of a).own.code 20 ++ ((of b).own.code 21 ++ dense (place_of places source) (slot group k) byte_spare) else rest-code source a b)) (sym dense-is) whole;
           can = record {
             fits = both _ _ slot-true (ap (λ t. if t then true else rest-fits source a b) dense-is);
             is_word = both _ _ one.is_word two.is_word;
@@ -207,7 +207,7 @@ module _ (group : Group) (places : Places) (scope : List Counter) (goings : List
           let whole : Emits c0 c2 (rest-code source a b) = emits_then one.emits rows in
           subst (λ z. EmitsLanes c0 c2 group z k r) (sym (ap of is ∙ folds.at_load Laned (laned_at group places scope goings) source a b))
           (record {
-            emits = subst (λ t. Emits c0 c2 (if t then (of a).own.code 20 ++ ((of b).own.code 21 ++ dense (place_of places source) (slot group k) (spare group)) else rest-code source a b)) (sym not-dense) whole;
+            emits = subst (λ t. Emits c0 c2 (if t then (of a).own.code 20 ++ ((of b).own.code 21 ++ dense (place_of places source) (slot group k) byte_spare) else rest-code source a b)) (sym not-dense) whole;
             can = record {
               fits = both _ _ slot-true (ap (λ t. if t then true else rest-fits source a b) not-dense ∙ both _ _ (sym (ap is_reached ep) ∙ reached) (both _ _ one.can.fits fit));
               is_word = both _ _ one.can.is_word word;

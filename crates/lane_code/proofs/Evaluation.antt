@@ -40,7 +40,7 @@ use Rattle.lane_code.specs.declared.groups.Group.TheVariants as groups
 use Rattle.lane_code.specs.declared.goings.Going.{Going}
 use Rattle.lane_code.specs.declared.values.Pace.{Pace}
 use Rattle.lane_code.specs.declared.values.Pace.TheVariants as paces
-use Rattle.lane_code.specs.Groups.{registers, slots, slot, spare}
+use Rattle.lane_code.specs.Groups.{registers, slots, slot, spare, byte_spare}
 use Rattle.lane_code.specs.Lanes.{is_steady, is_stepping, step_word, summed, Laned, are_reached, is_reached, in_one_row, rows_fit, is_dense, has_slot, laned_at, laned, pace_of, lanes_selection, lanes_quotient, lanes_remainder, gathered, picked, dense, lanes_operation, both_steady}
 use Rattle.lane_code.specs.Leaving.{GoAlong, IsKept, LanesLeave}
 use Rattle.lane_code.proofs.Slots.{SlotLies, slot-lies, is-below}
@@ -301,7 +301,7 @@ module _ (w : World) (harts : ℕ) (m : List ℕ) (group : Group) (places : Plac
   dense-code : (source : Source) (x y : Laned) (sx sy : Family) (pixel : ℕ → ℕ) → is_dense x y ≡ true
       → one.Comes w harts m places scope (at 0) reads l all x.own (sx 0) → one.Comes w harts m places scope (at 0) reads l all y.own (sy 0) → Holds x.pace n (values sx) → Holds y.pace n (values sy)
       → ((i : ℕ) → i < n → LoadsAt w (place_of places source) m (values sx i) (values sy i) (pixel i))
-      → Code (λ k. x.own.code 20 ++ (y.own.code 21 ++ dense (place_of places source) (slot group k) (spare group))) (has_slot group) pixel
+      → Code (λ k. x.own.code 20 ++ (y.own.code 21 ++ dense (place_of places source) (slot group k) byte_spare)) (has_slot group) pixel
   dense-code source x y sx sy pixel is cx cy px py can k f fits knows has =
       let t = and_parts (is_stepping x.pace) _ is in
       let u = and_parts (is_steady y.pace) _ t.1 in
@@ -323,8 +323,8 @@ module _ (w : World) (harts : ℕ) (m : List ℕ) (group : Group) (places : Plac
       (λ words. dense-leaves w m l group n k lies (place_of places source) words (values sx) (values sy) pixel can b.after has2 (all source) some e20 b.value kb.number along steady)
       (λ bytes. dense-bytes w m l group n k lies (place_of places source) bytes (values sx) (values sy) pixel can b.after has2 (all source) some e20 b.value kb.number along steady)))
     where
-      by-pixels : (p : Pixels) (k : ℕ) (f : ℕ → ℕ) → (p ≡ pixels.Words → Leaves w m l group n (dense (place_of places source) (slot group k) (spare group)) f k pixel)
-          → (p ≡ pixels.Bytes → Leaves w m l group n (dense (place_of places source) (slot group k) (spare group)) f k pixel) → Leaves w m l group n (dense (place_of places source) (slot group k) (spare group)) f k pixel
+      by-pixels : (p : Pixels) (k : ℕ) (f : ℕ → ℕ) → (p ≡ pixels.Words → Leaves w m l group n (dense (place_of places source) (slot group k) byte_spare) f k pixel)
+          → (p ≡ pixels.Bytes → Leaves w m l group n (dense (place_of places source) (slot group k) byte_spare) f k pixel) → Leaves w m l group n (dense (place_of places source) (slot group k) byte_spare) f k pixel
       by-pixels pixels.Words k f words bytes = words refl
       by-pixels pixels.Bytes k f words bytes = bytes refl
 
@@ -402,7 +402,7 @@ module _ (w : World) (harts : ℕ) (m : List ℕ) (group : Group) (places : Plac
       let t = and_parts (has_slot group k) (fa k) fits in
       let lies = slot-lies group k (is-below k (slots group) t.0) in
       let a = ca k f t.1 knows has in
-      followed a (quotient-leaves w m l group n k lies a.after c x (has-still f a.after k has a.keeps) ((known-still f a.after k knows a.keeps).none) a.value lx lc hc)
+      followed a (quotient-leaves w m l group n k lies a.after c x (has-still f a.after k has a.keeps) a.value lx lc hc)
 
   remainder-code : (p : ℕ → List Insn) (fa : ℕ → Bool) (x : ℕ → ℕ) (c : ℕ) → Code p fa x → operations.Small w m l group n x → 0 < c → c < 2 ^ 32
       → Code (λ k. p k ++ lanes_remainder c (slot group k) (spare group)) (λ k. has_slot group k && fa k) (λ i. word.remainder (x i) c)
@@ -410,7 +410,7 @@ module _ (w : World) (harts : ℕ) (m : List ℕ) (group : Group) (places : Plac
       let t = and_parts (has_slot group k) (fa k) fits in
       let lies = slot-lies group k (is-below k (slots group) t.0) in
       let a = ca k f t.1 knows has in
-      followed a (remainder-leaves w m l group n k lies a.after c x (has-still f a.after k has a.keeps) ((known-still f a.after k knows a.keeps).none) a.value lx lc hc)
+      followed a (remainder-leaves w m l group n k lies a.after c x (has-still f a.after k has a.keeps) a.value lx lc hc)
 
   -- ---- one level
 

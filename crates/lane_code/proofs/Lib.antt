@@ -6,9 +6,6 @@ pub mod Distances
 pub mod Emission
 pub mod Evaluation
 pub mod LanedParts
-pub mod LeanEmission
-pub mod LeanEvaluation
-pub mod LeanParts
 pub mod Offsets
 pub mod Operations
 pub mod Pacing

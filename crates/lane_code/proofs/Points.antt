@@ -25,7 +25,7 @@ use Rattle.scalar_code.specs.Evaluation.{IsPlace, LoadsAt, load_op}
 use Rattle.scalar_code.proofs.Addresses.{addressed-leaves}
 use Rattle.scalar_code.proofs.Values.{literal-sets}
 use Rattle.lane_code.specs.declared.groups.Group.{Group}
-use Rattle.lane_code.specs.Groups.{registers, slot, spare}
+use Rattle.lane_code.specs.Groups.{registers, slot, spare, byte_spare}
 use Rattle.lane_code.specs.Lanes.{stepped, dense, row_load, gathered_by, gathered, picked_by, picked}
 use Rattle.lane_code.proofs.Slots.{SlotLies}
 use Rattle.lane_code.proofs.Rows.{Writes, Lanes, Leaves, writes, writes-lanes, lanes-kept, few-rounds, last, slot-first, scalar-first, value-first}
@@ -147,7 +147,7 @@ module _ (w : World) (m : List ℕ) (l : length m ≡ w.size) (group : Group) (n
         (memory.loads w f m l g has.configured addressing r b a lies.is_group lb fit (λ i lt. e i (omega (arith, lt, q))) (all-readable f has)) pixel-is)
 
     pub dense-leaves : (f : ℕ → ℕ) → Lanes w m l group n f → IsPlace place → 1 ≤ n → f 20 ≡ x 0 → f 21 ≡ y 0 → f 10 ≡ w.hart → ((i : ℕ) → i < n → x i ≡ (x 0 + i) % 2 ^ 32) → ((i : ℕ) → i < n → y i ≡ y 0)
-        → Leaves w m l group n (dense place r (spare group)) f k pixel
+        → Leaves w m l group n (dense place r byte_spare) f k pixel
     dense-leaves f has is some ex ey eh hx hy =
         let few = few-rounds w m l group n f has in
         let most = lies.most in
@@ -155,7 +155,7 @@ module _ (w : World) (m : List ℕ) (l : length m ≡ w.size) (group : Group) (n
         let f1 = is1.after in
         let has1 = lanes-kept w m l group n f f1 (is1.keeps vl_number (inr (omega arith), inr (inr (omega arith)))) (is1.keeps 33 (inr (omega arith), inr (inr (omega arith)))) has in
         let e0 : f1 20 ≡ a 0 = is1.value ∙ address-is 0 in
-        subst (λ p. Leaves w m l group n (addressed place 20 21 ++ row_load p r (spare group)) f k pixel) (sym words)
+        subst (λ p. Leaves w m l group n (addressed place 20 21 ++ row_load p r byte_spare) f k pixel) (sym words)
         (value-first w m l group n k lies is1 (omega arith)
         (loaded-last f1 addressings.UnitStride 20 has1 (omega arith) tt
         (λ i b.

@@ -1,54 +1,80 @@
 -- Quotients and remainders of lanes, rounded to minus infinity.
-use Rattle.std.proofs.Common.{◌≡◌, ℕ, ◌-◌, ◌/◌, ◌%◌, ◌^◌, ◌<◌, List, [], ◌∷◌, ◌++◌, length, Bool, true, false, ap, ◌∙◌, refl, sym, arith, inl, inr}
-use Rattle.std.specs.Prelude.{◌==◌, if◌then◌else◌, not, nat_lt, negsuc}
+use Rattle.std.proofs.Common.{◌≡◌, ℕ, suc, ◌+◌, ◌-◌, ◌/◌, ◌%◌, ◌^◌, ◌<◌, ◌≤◌, List, [], ◌∷◌, ◌++◌, length, Bool, true, false, ap, ◌∙◌, refl, sym, arith, inl, inr}
+use Rattle.std.specs.Prelude.{◌==◌, if◌then◌else◌, nat_lt, pos, negsuc, bit_and, bit_xor}
+use Rattle.std.specs.Int.{bit_at, int_shr, w32}
 use Rattle.std.proofs.Math.Nat.{mod-lt}
 use Rattle.std.proofs.lemmas.Bool.Decides.{nat_tests}
+use Rattle.std.proofs.lemmas.Nat.{and_comm, and_le_l, and_mask, xor_of_32}
+use Rattle.std.proofs.lemmas.Nat.Bits.{bit_at_xor, bit_at-zero, bit_at_ones, bit_at_not, bit_at-lt, same_from_bits, same_from_bits_below}
 use Rattle.rv_insn.specs.declared.instructions.Insn.{Insn}
 use Rattle.rv_insn.specs.declared.instructions.Insn.TheVariants.{Vector}
 use Rattle.rv_insn.specs.declared.vector_instructions.VectorInsn.TheVariants as v
+use Rattle.rv_insn.specs.declared.vector_operations.ArithmeticVvOp.TheVariants as vvs
 use Rattle.rv_insn.specs.declared.vector_operations.ArithmeticVxOp.TheVariants as vxs
-use Rattle.rv_insn.specs.declared.vector_operations.ArithmeticViOp.TheVariants as vis
-use Rattle.rv_insn.specs.declared.vector_operations.CompareVxOp.TheVariants as compare_vxs
+use Rattle.rv_insn.specs.declared.vector_operations.ShiftViOp.TheVariants as shifts
 use Rattle.rv_insn.specs.declared.vector_operations.MultiplyOp.{MultiplyOp}
 use Rattle.rv_insn.specs.declared.vector_operations.MultiplyOp.TheVariants as multiplies
-use Rattle.hart_core.specs.Alu.{one_if}
 use Rattle.lanes.specs.Words as lanes
 use Rattle.vector_unit.specs.Operations.{multiply}
 use Rattle.halide_pipeline.specs.Words as word
 use Rattle.lone_hart.specs.Alone.{World}
-use Rattle.lone_hart.specs.Paths.{Line, lane, bit, vl_number}
-use Rattle.lone_hart.proofs.Paths.{line-then}
+use Rattle.lone_hart.specs.Paths.{lane, vl_number}
+use Rattle.lone_hart.specs.FirstGroup.{held, IsAnyGroup}
 use Rattle.lone_hart.proofs.VectorRows as rows
-use Rattle.lone_hart.proofs.MaskRows as masks
+use Rattle.lone_hart.proofs.FirstRows as firsts
 use Rattle.scalar_code.specs.Code.{literal}
 use Rattle.scalar_code.proofs.Values.{literal-sets}
 use Rattle.lane_code.specs.declared.groups.Group.{Group}
 use Rattle.lane_code.specs.Groups.{registers, slot, spare}
-use Rattle.lane_code.specs.Lanes.{lanes_complement, lanes_sign, lanes_quotient, lanes_remainder}
-use Rattle.lane_code.specs.Leaving.{IsKept}
-use Rattle.lane_code.proofs.Slots.{SlotLies, spare-is}
-use Rattle.lane_code.proofs.Rows.{Writes, Lanes, Leaves, writes, writes-lanes, lanes-kept, few-rounds, kept-below, kept-spare, kept-scalar}
-use Rattle.lane_code.proofs.Operations.{bit-is, Hold, Small}
+use Rattle.lane_code.specs.Lanes.{lanes_sign, lanes_turned, lanes_quotient, lanes_remainder}
+use Rattle.lane_code.proofs.Slots.{SlotLies, any-group, spare-is}
+use Rattle.lane_code.proofs.Rows.{Writes, Lanes, Leaves, HoldAny, Aside, Asides, asides, asides-lanes, asides-slot, aside-stays, aside-beside, aside-first, slot-writes, slot-held, slot-first, scalar-first, last, same-values, writes, writes-lanes, lanes-kept, few-rounds}
+use Rattle.lane_code.proofs.Operations.{Hold, Small}
 
 -- ---- numbers
 
-negative-is : (x : ℕ) → lanes.less_signed 32 x 0 ≡ not (nat_lt x (2 ^ 31))
-negative-is x = by-test (nat_lt x (2 ^ 31)) refl
+-- all bits of a word where a lane is negative, else none
+abbrev sign_word : Bool → ℕ
+sign_word t = if t then 0 else 2 ^ 32 - 1
+
+sign-below : (t : Bool) → sign_word t < 2 ^ 32
+sign-below true = omega arith
+sign-below false = omega arith
+
+sign-is : (x : ℕ) → x < 2 ^ 32 → lanes.shift_right_arithmetic 32 x 31 ≡ sign_word (nat_lt x (2 ^ 31))
+sign-is x l = by-test (nat_lt x (2 ^ 31)) refl
   where
-    by-test : (t : Bool) → nat_lt x (2 ^ 31) ≡ t → lanes.less_signed 32 x 0 ≡ not t
-    by-test true e = rw e (grind (arith, nat_tests))
-    by-test false e = rw e refl
+    by-test : (t : Bool) → nat_lt x (2 ^ 31) ≡ t → lanes.shift_right_arithmetic 32 x 31 ≡ sign_word t
+    by-test true e =
+        let p : x < 2 ^ 31 = grind (arith, nat_tests, e) in
+        let q : x / 2 ^ (31 % 32) ≡ 0 = omega (arith, p) in
+        ap (λ t. lanes.wrapped 32 (int_shr (if t then pos x else negsuc (2 ^ 32 - suc x)) (31 % 32))) e ∙ ap (λ n. n % 2 ^ 32) q
+    by-test false e =
+        let p : 2 ^ 31 ≤ x = grind (arith, nat_tests, e) in
+        let q : (2 ^ 32 - suc x) / 2 ^ (31 % 32) ≡ 0 = omega (arith, p, l) in
+        ap (λ t. lanes.wrapped 32 (int_shr (if t then pos x else negsuc (2 ^ 32 - suc x)) (31 % 32))) e ∙ ap (λ n. 2 ^ 32 - suc (n % 2 ^ 32)) q
 
-complement-is : (x : ℕ) → x < 2 ^ 32 → lanes.sub 32 (lanes.wrapped 32 (negsuc 0)) x ≡ 2 ^ 32 - 1 - x
-complement-is x l = omega (arith, l)
+one-more : (b : ℕ) → b < 2 → (b + 1) % 2 ≡ 1 - b
+one-more b l = omega (arith, l)
 
-flip-is : (t : Bool) (x y : ℕ) → (if one_if (not t) == 0 then x else y) ≡ (if t then x else y)
-flip-is true x y = refl
-flip-is false x y = refl
+none-more : (b : ℕ) → b < 2 → (b + 0) % 2 ≡ b
+none-more b l = omega (arith, l)
+
+xor-none : (x : ℕ) → bit_xor x 0 ≡ x
+xor-none x = same_from_bits (bit_xor x 0) x (λ i. bit_at_xor x 0 i ∙ ap (λ z. (bit_at x i + z) % 2) (bit_at-zero i) ∙ none-more (bit_at x i) (bit_at-lt x i))
+
+xor-ones : (x : ℕ) → x < 2 ^ 32 → bit_xor x (2 ^ 32 - 1) ≡ 2 ^ 32 - 1 - x
+xor-ones x l =
+    same_from_bits_below 32 (bit_xor x (2 ^ 32 - 1)) (2 ^ 32 - 1 - x) (xor_of_32 x (2 ^ 32 - 1) l (omega arith)) (omega arith)
+    (λ i few. bit_at_xor x (2 ^ 32 - 1) i ∙ ap (λ z. (bit_at x i + z) % 2) (bit_at_ones 32 i few) ∙ one-more (bit_at x i) (bit_at-lt x i) ∙ sym (bit_at_not w32 x i l few))
 
 -- a lane, or its complement where it is negative
 abbrev turned : Bool → ℕ → ℕ
 turned t x = if t then x else 2 ^ 32 - 1 - x
+
+turned-is : (t : Bool) (x : ℕ) → x < 2 ^ 32 → bit_xor x (sign_word t) ≡ turned t x
+turned-is true x l = xor-none x
+turned-is false x l = xor-ones x l
 
 turned-below : (t : Bool) (x : ℕ) → x < 2 ^ 32 → turned t x < 2 ^ 32
 turned-below true x l = l
@@ -60,8 +86,21 @@ not-zero c l = grind (arith, nat_tests, l)
 part-below : (a c : ℕ) → a < 2 ^ 32 → a / c < 2 ^ 32
 part-below a c l = omega arith
 
-remainder-small : (x c : ℕ) → c < 2 ^ 32 → 0 < c → lanes.sub 32 (c - 1) (x % c) ≡ c - 1 - x % c
-remainder-small x c l lc = let p : x % c < c = mod-lt x lc in omega (arith, l, p)
+-- the divisor where a lane is negative, else nothing
+abbrev lacking : Bool → ℕ → ℕ
+lacking t c = if t then 0 else c
+
+lacking-is : (t : Bool) (c : ℕ) → c < 2 ^ 32 → bit_and (sign_word t) c ≡ lacking t c
+lacking-is true c l = let p = and_le_l 0 c in omega (arith, p)
+lacking-is false c l = and_comm (2 ^ 32 - 1) c ∙ and_mask c 32 ∙ (let p : c % 2 ^ 32 ≡ c = omega (arith, l) in p)
+
+lacking-below : (t : Bool) (c : ℕ) → c < 2 ^ 32 → lacking t c < 2 ^ 32
+lacking-below true c l = omega arith
+lacking-below false c l = l
+
+filled-is : (t : Bool) (x c : ℕ) → x < c → c < 2 ^ 32 → lanes.add 32 (turned t x) (lacking t c) ≡ (if t then x else c - 1 - x)
+filled-is true x c l lc = omega (arith, l, lc)
+filled-is false x c l lc = omega (arith, l, lc)
 
 by-sign : (t : Bool) (x c : ℕ) → turned t (turned t x / c) ≡ (if t then x / c else 2 ^ 32 - 1 - (2 ^ 32 - 1 - x) / c)
 by-sign true x c = refl
@@ -91,180 +130,97 @@ module _ (w : World) (m : List ℕ) (l : length m ≡ w.size) (group : Group) (n
   abbrev u : ℕ
   u = spare group
 
-  -- code that leaves lanes in the slot and keeps the mask
-  record Masked (is : List Insn) (f : ℕ → ℕ) (x t : ℕ → ℕ) : Type 0 where
-    after : ℕ → ℕ
-    line : Line w is f m after m
-    value : Hold w m l group n after r x
-    bits : (i : ℕ) → i < n → after (bit i) ≡ t i
-    keeps : (q : ℕ) → IsKept group k q → after q ≡ f q
-
-  masked-then : {is js : List Insn} {f : ℕ → ℕ} {x y t : ℕ → ℕ} → (a : Masked is f x t) → Masked js a.after y t → Masked (is ++ js) f y t
-  masked-then {is} {js} {f} {x} {y} {t} a b = record {
-    after = b.after;
-    line = line-then w is js f a.after b.after m m m a.line b.line;
-    value = b.value;
-    bits = b.bits;
-    keeps = λ q kept. b.keeps q kept ∙ a.keeps q kept;
-  }
-
-  has-still : {is : List Insn} {f : ℕ → ℕ} {x t : ℕ → ℕ} → (a : Masked is f x t) → Lanes w m l group n f → Lanes w m l group n a.after
-  has-still {is} {f} {x} {t} a has = lanes-kept w m l group n f a.after (a.keeps vl_number (inr (inl (inl refl)))) (a.keeps 33 (inr (inl (inr refl)))) has
-
-  -- a literal in the scratch register
-  record Given (c : ℕ) (f : ℕ → ℕ) (x t : ℕ → ℕ) : Type 0 where
-    masked : Masked (literal 13 c) f x t
-    is : masked.after 13 ≡ c
-
-  literal-masked : (f : ℕ → ℕ) (c : ℕ) (x t : ℕ → ℕ) → c < 2 ^ 32 → Hold w m l group n f r x → ((i : ℕ) → i < n → f (bit i) ≡ t i) → Given c f x t
-  literal-masked f c x t small hx ht =
-      let a = literal-sets w m l f 13 c (omega arith) (omega arith) small in
-      record {
-        masked = record {
-          after = a.after;
-          line = a.line;
-          value = λ i b. a.others (lane r i) (λ e. omega (arith, e)) ∙ hx i b;
-          bits = λ i b. a.others (bit i) (λ e. omega (arith, e)) ∙ ht i b;
-          keeps = λ q kept. a.others q (kept-scalar w m l group n k lies q 13 (inl refl) kept);
-        };
-        is = a.value;
-      }
-
-  -- lanes of the slot
-  slot-masked : {is : List Insn} {f : ℕ → ℕ} {x t : ℕ → ℕ} → Lanes w m l group n f → Writes w m l group n is f r x → ((i : ℕ) → i < n → f (bit i) ≡ t i) → Masked is f x t
-  slot-masked {is} {f} {x} {t} has a ht =
-      let few = few-rounds w m l group n f has in
-      let high = lies.high in
-      record {
-        after = a.after;
-        line = a.line;
-        value = a.value;
-        bits = λ i b. a.above (bit i) (omega (arith, high, few)) ∙ ht i b;
-        keeps = λ q kept. a.below q (kept-below w m l group n k lies r q (omega arith) kept);
-      }
-
-  -- lanes of the scratch group, of which the slot is made
-  spare-then : {is js : List Insn} {f : ℕ → ℕ} {x y z t : ℕ → ℕ} → Lanes w m l group n f → (a : Writes w m l group n is f u z) → Hold w m l group n f r x → ((i : ℕ) → i < n → f (bit i) ≡ t i)
-      → (Hold w m l group n a.after r x → ((i : ℕ) → i < n → a.after (bit i) ≡ t i) → Masked js a.after y t) → Masked (is ++ js) f y t
-  spare-then {is} {js} {f} {x} {y} {z} {t} has a hx ht go =
-      let few = few-rounds w m l group n f has in
-      let low = lies.low in
-      let most = lies.most in
-      let b = go (λ i lt. a.above (lane r i) (omega (arith, low, few)) ∙ hx i lt) (λ i lt. a.above (bit i) (omega (arith, most, few)) ∙ ht i lt) in
-      record {
-        after = b.after;
-        line = line-then w is js f a.after b.after m m m a.line b.line;
-        value = b.value;
-        bits = b.bits;
-        keeps = λ q kept. b.keeps q kept ∙ elim (kept-spare w m l group n k lies q few kept) [ inl o ↦ a.below q o | inr o ↦ a.above q o ];
-      }
-
-  -- the scratch group's lanes where the mask has a 1
-  merge-masked : (f : ℕ → ℕ) (x z : ℕ → ℕ) (t : ℕ → Bool) → Lanes w m l group n f → Hold w m l group n f r x → Hold w m l group n f u z → ((i : ℕ) → i < n → f (bit i) ≡ one_if (not (t i)))
-      → Masked (Vector (v.MergeVv r r u) ∷ []) f (λ i. if t i then x i else z i) (λ i. one_if (not (t i)))
-  merge-masked f x z t has hx hz ht =
-      slot-masked has
-      (writes w m l group n (λ i. if t i then x i else z i) (λ i. if f (bit i) == 0 then f (lane r i) else f (lane u i)) has
-      (masks.merge-vv w f m l g has.configured r r u lies.is_group lies.is_group (spare-is group))
-      (λ i b. ap (λ p. if p == 0 then f (lane r i) else f (lane u i)) (ht i b) ∙ flip-is (t i) (f (lane r i)) (f (lane u i))
-      ∙ ap (λ p. if t i then p else f (lane u i)) (hx i b) ∙ ap (λ p. if t i then x i else p) (hz i b)))
-      ht
-
-  -- lanes become their complements where the mask has a 1
-  complement-masked : (f : ℕ → ℕ) (x : ℕ → ℕ) (t : ℕ → Bool) → Lanes w m l group n f → Hold w m l group n f r x → Small w m l group n x → ((i : ℕ) → i < n → f (bit i) ≡ one_if (not (t i)))
-      → Masked (lanes_complement r u) f (λ i. turned (t i) (x i)) (λ i. one_if (not (t i)))
-  complement-masked f x t has hx lx ht =
-      let i1 : Writes w m l group n (Vector (v.ArithmeticVi vis.Vrsub u r (negsuc 0) true) ∷ []) f u (λ i. 2 ^ 32 - 1 - x i) =
-      writes w m l group n (λ i. 2 ^ 32 - 1 - x i) (λ i. lanes.sub 32 (lanes.wrapped 32 (negsuc 0)) (f (lane r i))) has
-      (rows.arithmetic-vi w f m l g has.configured vis.Vrsub u r (negsuc 0) (spare-is group) lies.is_group)
-      (λ i b. ap (lanes.sub 32 (lanes.wrapped 32 (negsuc 0))) (hx i b) ∙ complement-is (x i) (lx i b)) in
-      spare-then has i1 hx ht (λ hx1 ht1. merge-masked i1.after x (λ i. 2 ^ 32 - 1 - x i) t (writes-lanes w m l group n i1 has) hx1 i1.value ht1)
-
-  -- the lanes' signs
-  signed-then : {js : List Insn} {y t' : ℕ → ℕ} (f : ℕ → ℕ) (x : ℕ → ℕ) → Lanes w m l group n f → f 0 ≡ 0 → Hold w m l group n f r x
-      → ((f1 : ℕ → ℕ) → Lanes w m l group n f1 → f1 0 ≡ 0 → Hold w m l group n f1 r x → ((i : ℕ) → i < n → f1 (bit i) ≡ one_if (not (nat_lt (x i) (2 ^ 31)))) → Masked js f1 y t')
-      → Leaves w m l group n (lanes_sign r ++ js) f k y
-  signed-then {js} {y} {t'} f x has zero hx go =
-      let few = few-rounds w m l group n f has in
-      let high = lies.high in
-      let i1 : Writes w m l group n (Vector (v.CompareVx compare_vxs.Vmslt 0 r 0 true) ∷ []) f 32 (λ i. one_if (not (nat_lt (x i) (2 ^ 31)))) =
-      writes w m l group n (λ i. one_if (not (nat_lt (x i) (2 ^ 31)))) (λ i. one_if (lanes.less_signed 32 (f (lane r i)) (f 0 % 2 ^ 32))) has
-      (masks.compare-vx w f m l g has.configured compare_vxs.Vmslt r 0 lies.is_group (omega arith))
-      (λ i b. ap (λ p. one_if (lanes.less_signed 32 p (f 0 % 2 ^ 32))) (hx i b) ∙ ap (λ p. one_if (lanes.less_signed 32 (x i) (p % 2 ^ 32))) zero ∙ ap one_if (negative-is (x i))) in
-      let b = go i1.after (writes-lanes w m l group n i1 has) (i1.below 0 (omega arith) ∙ zero) (λ i lt. i1.below (lane r i) (omega (arith, high, few, lt)) ∙ hx i lt) (λ i lt. ap i1.after (bit-is i) ∙ i1.value i lt) in
-      record {
-        after = b.after;
-        line = line-then w (lanes_sign r) js f i1.after b.after m m m i1.line b.line;
-        value = b.value;
-        keeps = λ q kept. b.keeps q kept ∙ i1.below q (kept-below w m l group n k lies 32 q (omega (arith, high)) kept);
-      }
-
   abbrev signs : (ℕ → ℕ) → ℕ → Bool
   signs x i = nat_lt (x i) (2 ^ 31)
 
-  -- a row by the literal in the scratch register
-  divided-masked : (o : MultiplyOp) (h : ℕ → ℕ → ℕ) (f : ℕ → ℕ) (c : ℕ) (x t : ℕ → ℕ) → ((a : ℕ) → multiply o 32 a c ≡ h a c) → c < 2 ^ 32 → Lanes w m l group n f → f 13 ≡ c → Hold w m l group n f r x
-      → ((i : ℕ) → i < n → f (bit i) ≡ t i) → Masked (Vector (v.MultiplyVx o r r 13 true) ∷ []) f (λ i. h (x i) c) t
-  divided-masked o h f c x t same small has e13 hx ht =
+  slot-is : IsAnyGroup g r
+  slot-is = any-group g r lies.few lies.is_group
+
+  -- the lanes' signs
+  signs-aside : (f : ℕ → ℕ) (x : ℕ → ℕ) → Lanes w m l group n f → Hold w m l group n f r x → Small w m l group n x → Asides w m l group n k lies (lanes_sign r u) f u (λ i. sign_word (signs x i))
+  signs-aside f x has hx lx =
+      asides w m l group n k lies (λ i. sign_word (signs x i)) (λ i. lanes.shift_right_arithmetic 32 (held f r i) 31) (inr refl) has
+      (firsts.shift-vi w f m l g has.configured shifts.Vsra u r 31 (spare-is group) slot-is)
+      (λ i b. ap (λ z. lanes.shift_right_arithmetic 32 z 31) (slot-held w m l group n k lies f i ∙ hx i b) ∙ sign-is (x i) (lx i b))
+      (λ i b. sign-below (signs x i))
+
+  -- lanes become their complements where signs say so
+  turned-writes : (f : ℕ → ℕ) (x : ℕ → ℕ) (t : ℕ → Bool) → Lanes w m l group n f → Hold w m l group n f r x → HoldAny w m l group n f u (λ i. sign_word (t i)) → Small w m l group n x
+      → Writes w m l group n (lanes_turned r u) f r (λ i. turned (t i) (x i))
+  turned-writes f x t has hx hu lx =
+      slot-writes w m l group n k lies (λ i. turned (t i) (x i)) (λ i. bit_xor (held f r i) (held f u i)) has
+      (firsts.arithmetic-vv w f m l g has.configured vvs.Vxor r r u slot-is slot-is (spare-is group))
+      (λ i b. ap (λ z. bit_xor z (held f u i)) (slot-held w m l group n k lies f i ∙ hx i b) ∙ ap (bit_xor (x i)) (hu i b) ∙ turned-is (t i) (x i) (lx i b))
+
+  -- lanes by the literal in the scratch register
+  divided-writes : (o : MultiplyOp) (h : ℕ → ℕ → ℕ) (f : ℕ → ℕ) (c : ℕ) (x : ℕ → ℕ) → ((a : ℕ) → multiply o 32 a c ≡ h a c) → c < 2 ^ 32 → Lanes w m l group n f → f 13 ≡ c → Hold w m l group n f r x
+      → Writes w m l group n (Vector (v.MultiplyVx o r r 13 true) ∷ []) f r (λ i. h (x i) c)
+  divided-writes o h f c x same small has e13 hx =
       let e : f 13 % 2 ^ 32 ≡ c = omega (arith, e13, small) in
-      slot-masked has
-      (writes w m l group n (λ i. h (x i) c) (λ i. multiply o 32 (f (lane r i)) (f 13 % 2 ^ 32)) has
+      writes w m l group n (λ i. h (x i) c) (λ i. multiply o 32 (f (lane r i)) (f 13 % 2 ^ 32)) has
       (rows.multiply-vx w f m l g has.configured o r r 13 lies.is_group lies.is_group (omega arith))
-      (λ i b. ap (λ p. multiply o 32 p (f 13 % 2 ^ 32)) (hx i b) ∙ ap (multiply o 32 (x i)) e ∙ same (x i)))
-      ht
+      (λ i b. ap (λ p. multiply o 32 p (f 13 % 2 ^ 32)) (hx i b) ∙ ap (multiply o 32 (x i)) e ∙ same (x i))
 
-  pub quotient-leaves : (f : ℕ → ℕ) (c : ℕ) (x : ℕ → ℕ) → Lanes w m l group n f → f 0 ≡ 0 → Hold w m l group n f r x → Small w m l group n x → 0 < c → c < 2 ^ 32
+  -- what stands behind the row by a literal: signs in scratch, the divisor in the scratch register, what came of the lanes in the slot
+  record Divided (is : List Insn) (f : ℕ → ℕ) (c : ℕ) (t : ℕ → Bool) (x : ℕ → ℕ) : Type 0 where
+    after : ℕ → ℕ
+    has : Lanes w m l group n after
+    divisor : after 13 ≡ c
+    holds : Hold w m l group n after r x
+    signed : HoldAny w m l group n after u (λ i. sign_word (t i))
+    follows : {js : List Insn} {y : ℕ → ℕ} → Leaves w m l group n js after k y → Leaves w m l group n (is ++ js) f k y
+
+  divided : (o : MultiplyOp) (h : ℕ → ℕ → ℕ) (f : ℕ → ℕ) (c : ℕ) (x : ℕ → ℕ) → ((a : ℕ) → multiply o 32 a c ≡ h a c) → c < 2 ^ 32 → Lanes w m l group n f → Hold w m l group n f r x → Small w m l group n x
+      → Divided (lanes_sign r u ++ (lanes_turned r u ++ (literal 13 c ++ (Vector (v.MultiplyVx o r r 13 true) ∷ [])))) f c (signs x) (λ i. h (turned (signs x i) (x i)) c)
+  divided o h f c x same small has hx lx =
+      let few = few-rounds w m l group n f has in
+      let aside : Aside w m l group n k lies u = inr refl in
+      let a = signs-aside f x has hx lx in
+      let has1 = asides-lanes w m l group n k lies a has in
+      let b = turned-writes a.after x (signs x) has1 (asides-slot w m l group n k lies a few hx) a.value lx in
+      let has2 = writes-lanes w m l group n b has1 in
+      let d = literal-sets w m l b.after 13 c (omega arith) (omega arith) small in
+      let has3 = lanes-kept w m l group n b.after d.after (d.others vl_number (λ e. omega (arith, e))) (d.others 33 (λ e. omega (arith, e))) has2 in
+      let hx3 : Hold w m l group n d.after r (λ i. turned (signs x i) (x i)) = λ i lt. d.others (lane r i) (λ e. omega (arith, e)) ∙ b.value i lt in
+      let e = divided-writes o h d.after c (λ i. turned (signs x i) (x i)) same small has3 d.value hx3 in
+      record {
+        after = e.after;
+        has = writes-lanes w m l group n e has3;
+        divisor = e.below 13 (omega arith) ∙ d.value;
+        holds = e.value;
+        signed = aside-stays w m l group n k lies e aside few (aside-beside w m l group n k lies u d (omega arith) (aside-stays w m l group n k lies b aside few a.value));
+        follows = λ {js} {y} end.
+            aside-first w m l group n k lies a (slot-first w m l group n k lies b (omega arith) (scalar-first w m l group n k lies d (inl refl) (slot-first w m l group n k lies e (omega arith) end)));
+      }
+
+  pub quotient-leaves : (f : ℕ → ℕ) (c : ℕ) (x : ℕ → ℕ) → Lanes w m l group n f → Hold w m l group n f r x → Small w m l group n x → 0 < c → c < 2 ^ 32
       → Leaves w m l group n (lanes_quotient c r u) f k (λ i. word.divide (x i) c)
-  quotient-leaves f c x has zero hx lx lc hc = named
-    where
-      rest : (f1 : ℕ → ℕ) → Lanes w m l group n f1 → f1 0 ≡ 0 → Hold w m l group n f1 r x → ((i : ℕ) → i < n → f1 (bit i) ≡ one_if (not (signs x i)))
-          → Masked (lanes_complement r u ++ (literal 13 c ++ (Vector (v.MultiplyVx multiplies.Vdivu r r 13 true) ∷ lanes_complement r u))) f1 (λ i. turned (signs x i) (turned (signs x i) (x i) / c)) (λ i. one_if (not (signs x i)))
-      rest f1 has1 zero1 hx1 ht1 =
-          let a = complement-masked f1 x (signs x) has1 hx1 lx ht1 in
-          let has2 = has-still a has1 in
-          let lit = literal-masked a.after c (λ i. turned (signs x i) (x i)) (λ i. one_if (not (signs x i))) hc a.value a.bits in
-          let b = lit.masked in
-          let has3 = has-still b has2 in
-          let d = divided-masked multiplies.Vdivu (λ p q. p / q) b.after c (λ i. turned (signs x i) (x i)) (λ i. one_if (not (signs x i)))
-          (λ p. ap (λ z. if z then 2 ^ 32 - 1 else p / c) (not-zero c lc)) hc has3 lit.is b.value b.bits in
-          let e = complement-masked d.after (λ i. turned (signs x i) (x i) / c) (signs x) (has-still d has3) d.value (λ i lt. part-below _ c (turned-below (signs x i) (x i) (lx i lt))) d.bits in
-          masked-then a (masked-then b (masked-then d e))
+  quotient-leaves f c x has hx lx lc hc =
+      let d = divided multiplies.Vdivu (λ p q. p / q) f c x (λ p. ap (λ z. if z then 2 ^ 32 - 1 else p / c) (not-zero c lc)) hc has hx lx in
+      let e = turned-writes d.after (λ i. turned (signs x i) (x i) / c) (signs x) d.has d.holds d.signed (λ i b. part-below (turned (signs x i) (x i)) c (turned-below (signs x i) (x i) (lx i b))) in
+      d.follows (same-values w m l group n k lies (λ i b. quotient-is (x i) c lc) (last w m l group n k lies e))
 
-      named : Leaves w m l group n (lanes_quotient c r u) f k (λ i. word.divide (x i) c)
-      named =
-          let a = signed-then f x has zero hx rest in
-          record { after = a.after; line = a.line; value = λ i b. a.value i b ∙ quotient-is (x i) c lc; keeps = a.keeps }
-
-  pub remainder-leaves : (f : ℕ → ℕ) (c : ℕ) (x : ℕ → ℕ) → Lanes w m l group n f → f 0 ≡ 0 → Hold w m l group n f r x → Small w m l group n x → 0 < c → c < 2 ^ 32
+  pub remainder-leaves : (f : ℕ → ℕ) (c : ℕ) (x : ℕ → ℕ) → Lanes w m l group n f → Hold w m l group n f r x → Small w m l group n x → 0 < c → c < 2 ^ 32
       → Leaves w m l group n (lanes_remainder c r u) f k (λ i. word.remainder (x i) c)
-  remainder-leaves f c x has zero hx lx lc hc = named
-    where
-      rest : (f1 : ℕ → ℕ) → Lanes w m l group n f1 → f1 0 ≡ 0 → Hold w m l group n f1 r x → ((i : ℕ) → i < n → f1 (bit i) ≡ one_if (not (signs x i)))
-          → Masked (lanes_complement r u ++ (literal 13 c ++ (Vector (v.MultiplyVx multiplies.Vremu r r 13 true) ∷ (literal 13 (c - 1) ++ (Vector (v.ArithmeticVx vxs.Vrsub u r 13 true) ∷ Vector (v.MergeVv r r u) ∷ [])))))
-          f1 (λ i. if signs x i then turned (signs x i) (x i) % c else c - 1 - turned (signs x i) (x i) % c) (λ i. one_if (not (signs x i)))
-      rest f1 has1 zero1 hx1 ht1 =
-          let a = complement-masked f1 x (signs x) has1 hx1 lx ht1 in
-          let has2 = has-still a has1 in
-          let lit = literal-masked a.after c (λ i. turned (signs x i) (x i)) (λ i. one_if (not (signs x i))) hc a.value a.bits in
-          let b = lit.masked in
-          let has3 = has-still b has2 in
-          let d = divided-masked multiplies.Vremu (λ p q. p % q) b.after c (λ i. turned (signs x i) (x i)) (λ i. one_if (not (signs x i)))
-          (λ p. ap (λ z. if z then p else p % c) (not-zero c lc)) hc has3 lit.is b.value b.bits in
-          let has4 = has-still d has3 in
-          let less : c - 1 < 2 ^ 32 = omega (arith, hc) in
-          let lit2 = literal-masked d.after (c - 1) (λ i. turned (signs x i) (x i) % c) (λ i. one_if (not (signs x i))) less d.value d.bits in
-          let e = lit2.masked in
-          let has5 = has-still e has4 in
-          let e13 : e.after 13 % 2 ^ 32 ≡ c - 1 = let p = lit2.is in omega (arith, p, less) in
-          let i1 : Writes w m l group n (Vector (v.ArithmeticVx vxs.Vrsub u r 13 true) ∷ []) e.after u (λ i. c - 1 - turned (signs x i) (x i) % c) =
-          writes w m l group n (λ i. c - 1 - turned (signs x i) (x i) % c) (λ i. lanes.sub 32 (e.after 13 % 2 ^ 32) (e.after (lane r i))) has5
-          (rows.arithmetic-vx w e.after m l g has5.configured vxs.Vrsub u r 13 (spare-is group) lies.is_group (omega arith))
-          (λ i lt. ap (λ p. lanes.sub 32 p (e.after (lane r i))) e13 ∙ ap (lanes.sub 32 (c - 1)) (e.value i lt) ∙ remainder-small (turned (signs x i) (x i)) c hc lc) in
-          masked-then a (masked-then b (masked-then d (masked-then e
-          (spare-then has5 i1 e.value e.bits (λ hx6 ht6.
-          merge-masked i1.after (λ i. turned (signs x i) (x i) % c) (λ i. c - 1 - turned (signs x i) (x i) % c) (signs x) (writes-lanes w m l group n i1 has5) hx6 i1.value ht6)))))
-
-      named : Leaves w m l group n (lanes_remainder c r u) f k (λ i. word.remainder (x i) c)
-      named =
-          let a = signed-then f x has zero hx rest in
-          record { after = a.after; line = a.line; value = λ i b. a.value i b ∙ remainder-is (x i) c lc; keeps = a.keeps }
+  remainder-leaves f c x has hx lx lc hc =
+      let rests : ℕ → ℕ = λ i. turned (signs x i) (x i) % c in
+      let rest-low : (i : ℕ) → rests i < c = λ i. mod-lt (turned (signs x i) (x i)) lc in
+      let d = divided multiplies.Vremu (λ p q. p % q) f c x (λ p. ap (λ z. if z then p else p % c) (not-zero c lc)) hc has hx lx in
+      let few = few-rounds w m l group n d.after d.has in
+      let aside : Aside w m l group n k lies u = inr refl in
+      let e = turned-writes d.after rests (signs x) d.has d.holds d.signed (λ i b. let p = rest-low i in omega (arith, p, hc)) in
+      let has5 = writes-lanes w m l group n e d.has in
+      let hu5 = aside-stays w m l group n k lies e aside few d.signed in
+      let e13 : e.after 13 % 2 ^ 32 ≡ c = let p = e.below 13 (omega arith) in let q = d.divisor in omega (arith, p, q, hc) in
+      let a : Asides w m l group n k lies (Vector (v.ArithmeticVx vxs.Vand u u 13 true) ∷ []) e.after u (λ i. lacking (signs x i) c) =
+      asides w m l group n k lies (λ i. lacking (signs x i) c) (λ i. bit_and (held e.after u i) (e.after 13 % 2 ^ 32)) aside has5
+      (firsts.arithmetic-vx w e.after m l g has5.configured vxs.Vand u u 13 (spare-is group) (spare-is group) (omega arith))
+      (λ i b. ap (λ z. bit_and z (e.after 13 % 2 ^ 32)) (hu5 i b) ∙ ap (bit_and (sign_word (signs x i))) e13 ∙ lacking-is (signs x i) c hc)
+      (λ i b. lacking-below (signs x i) c hc) in
+      let has6 = asides-lanes w m l group n k lies a has5 in
+      let hx6 = asides-slot w m l group n k lies a few e.value in
+      let end : Writes w m l group n (Vector (v.ArithmeticVv vvs.Vadd r r u true) ∷ []) a.after r (λ i. if signs x i then rests i else c - 1 - rests i) =
+      slot-writes w m l group n k lies (λ i. if signs x i then rests i else c - 1 - rests i) (λ i. lanes.add 32 (held a.after r i) (held a.after u i)) has6
+      (firsts.arithmetic-vv w a.after m l g has6.configured vvs.Vadd r r u slot-is slot-is (spare-is group))
+      (λ i b. ap (λ z. lanes.add 32 z (held a.after u i)) (slot-held w m l group n k lies a.after i ∙ hx6 i b) ∙ ap (lanes.add 32 (turned (signs x i) (rests i))) (a.value i b) ∙ filled-is (signs x i) (rests i) c (rest-low i) hc) in
+      d.follows (slot-first w m l group n k lies e (omega arith) (aside-first w m l group n k lies a (same-values w m l group n k lies (λ i b. remainder-is (x i) c lc) (last w m l group n k lies end))))

@@ -19,9 +19,10 @@ use Rattle.loop_ir.specs.declared.expressions.Counter.{Counter}
 use Rattle.loop_ir.specs.declared.expressions.Term.{Term}
 use Rattle.loop_ir.specs.Counters.{Values}
 use Rattle.lone_hart.specs.Alone.{World}
-use Rattle.lone_hart.specs.Paths.{Line, lane, vl_number, vtype_number}
+use Rattle.lone_hart.specs.Paths.{lane, vl_number, vtype_number}
 use Rattle.lone_hart.proofs.Paths.{stay, line-then}
-use Rattle.lone_hart.proofs.VectorRows as rows
+use Rattle.lone_hart.specs.FirstGroup.{held}
+use Rattle.lone_hart.proofs.FirstRows as firsts
 use Rattle.scalar_code.specs.Code.{seat_in, are_words}
 use Rattle.scalar_code.proofs.Seats.{is-seat-in}
 use Rattle.scalar_code.proofs.Values.{Sets, alu-sets}
@@ -34,9 +35,9 @@ use Rattle.lane_code.specs.Groups.{registers, slot, spare}
 use Rattle.lane_code.specs.Leaving.{IsKept}
 use Rattle.lane_code.specs.Straying.{brief, brief_sum, places_of, multiplied, room_code, counted, capped_lanes, cut_lanes, added, strays, strayed}
 use Rattle.lane_code.proofs.Brevity.{same-number, places-few, places-are, brief-sets, brief-sum-sets}
-use Rattle.lane_code.proofs.Slots.{SlotLies, spare-is, is-below}
-use Rattle.lane_code.proofs.Rows.{Writes, Lanes, Leaves, writes, lanes-kept, few-rounds, last, slot-kept, kept-more}
-use Rattle.lane_code.proofs.Operations.{Hold, arithmetic-writes}
+use Rattle.lane_code.proofs.Slots.{SlotLies, any-group, spare-is, is-below}
+use Rattle.lane_code.proofs.Rows.{Writes, Lanes, Leaves, HoldAny, Aside, Asides, asides, aside-beside, slot-writes, slot-held, lanes-kept, few-rounds, last, slot-kept, kept-more}
+use Rattle.lane_code.proofs.Operations.{Hold}
 
 -- ---- numbers
 
@@ -139,6 +140,9 @@ lesser-is a b = by-test (nat_lt b a) refl
     by-test true e = let l : b < a = grind (arith, nat_tests) in omega (arith, l)
     by-test false e = let l : a ≤ b = grind (arith, nat_tests) in omega (arith, l)
 
+lesser-low : (a b : ℕ) → b < 2 ^ 32 → min a b < 2 ^ 32
+lesser-low a b l = omega (arith, l)
+
 room-small : (last : ℕ) (inner own : Counter) (values : Values) → room last inner own values < 2 ^ 32
 unfolding word.add word.subtract
 room-small last inner own values = rest-below (word.add last (values inner) + (2 ^ 32 - values own))
@@ -209,23 +213,12 @@ module _ (w : World) (m : List ℕ) (l : length m ≡ w.size) (group : Group) (n
   not-13 q (inr (inl x)) e = omega (arith, x, e)
   not-13 q (inr (inr x)) e = let a = x.0 in omega (arith, a, e)
 
-  not-spare : (q : ℕ) → n ≤ 4 * g → IsKept group K q → (q < lane u 0) ⊎ (lane u n ≤ q)
-  not-spare q few (inl x) = inl (let b = x.0 in omega (arith, b))
-  not-spare q few (inr (inl e)) = inl (omega (arith, e))
-  not-spare q few (inr (inr x)) = inr (let a = x.0 in omega (arith, a, few))
-
-  lane-13 : (d i : ℕ) → lane d i ≢ 13
-  lane-13 d i e = omega (arith, e)
+  scratch : Aside w m l group n k lies u
+  scratch = inr refl
 
   -- code leaves numbers in the lanes of the spare group
-  record Spares (is : List Insn) (f : ℕ → ℕ) (d : ℕ → ℕ) : Type 0 where
-    after : ℕ → ℕ
-    line : Line w is f m after m
-    value : Hold w m l group n after u d
-    keeps : (q : ℕ) → IsKept group K q → after q ≡ f q
-
-  spares-last : {is : List Insn} {f : ℕ → ℕ} {d : ℕ → ℕ} → n ≤ 4 * g → Writes w m l group n is f u d → Spares is f d
-  spares-last few a = record { after = a.after; line = a.line; value = a.value; keeps = λ q kept. elim (not-spare q few kept) [ inl x ↦ a.below q x | inr x ↦ a.above q x ] }
+  abbrev Spares : List Insn → (ℕ → ℕ) → (ℕ → ℕ) → Type 0
+  Spares is f d = Asides w m l group n k lies is f u d
 
   spares-then : {is js : List Insn} {f : ℕ → ℕ} {d e : ℕ → ℕ} → (a : Spares is f d) → Spares js a.after e → Spares (is ++ js) f e
   spares-then {is} {js} {f} a b = record { after = b.after; line = line-then w is js f a.after b.after m m m a.line b.line; value = b.value; keeps = λ q kept. b.keeps q kept ∙ a.keeps q kept }
@@ -236,19 +229,20 @@ module _ (w : World) (m : List ℕ) (l : length m ≡ w.size) (group : Group) (n
   has-13 : {is : List Insn} {f : ℕ → ℕ} {x : ℕ} → (a : Sets w m l is f 13 x) → Lanes w m l group n f → Lanes w m l group n a.after
   has-13 {is} {f} a has = lanes-kept w m l group n f a.after (a.others vl_number (λ q. omega (arith, q))) (a.others 33 (λ q. omega (arith, q))) has
 
-  hold-13 : {is : List Insn} {f : ℕ → ℕ} {x : ℕ} {d : ℕ → ℕ} (v : ℕ) → (a : Sets w m l is f 13 x) → Hold w m l group n f v d → Hold w m l group n a.after v d
-  hold-13 v a holds i b = a.others (lane v i) (lane-13 v i) ∙ holds i b
+  rest-small : (x : ℕ) → x % 2 ^ 32 < 2 ^ 32
+  rest-small x = omega arith
 
   -- the lanes times a literal
-  times-writes : (c : ℕ) → c < 2 ^ 32 → (f : ℕ → ℕ) → Lanes w m l group n f → f 13 ≡ c → (d : ℕ → ℕ) → Hold w m l group n f u d
-      → Writes w m l group n (Vector (v.MultiplyVx multiplies.Vmul u u 13 true) ∷ []) f u (λ i. lanes.multiply 32 (d i) c)
-  times-writes c small f has e13 d holds =
-      writes w m l group n (λ i. lanes.multiply 32 (d i) c) (λ i. lanes.multiply 32 (f (lane u i)) (f 13 % 2 ^ 32)) has
-      (rows.multiply-vx w f m l g has.configured multiplies.Vmul u u 13 (spare-is group) (spare-is group) (omega arith))
+  times-spares : (c : ℕ) → c < 2 ^ 32 → (f : ℕ → ℕ) → Lanes w m l group n f → f 13 ≡ c → (d : ℕ → ℕ) → HoldAny w m l group n f u d
+      → Spares (Vector (v.MultiplyVx multiplies.Vmul u u 13 true) ∷ []) f (λ i. lanes.multiply 32 (d i) c)
+  times-spares c small f has e13 d holds =
+      asides w m l group n k lies (λ i. lanes.multiply 32 (d i) c) (λ i. lanes.multiply 32 (held f u i) (f 13 % 2 ^ 32)) scratch has
+      (firsts.multiply-vx w f m l g has.configured multiplies.Vmul u u 13 (spare-is group) (spare-is group) (omega arith))
       (λ i b. ap (λ z. lanes.multiply 32 z (f 13 % 2 ^ 32)) (holds i b) ∙ ap (lanes.multiply 32 (d i)) (same-word (f 13) c e13 small))
+      (λ i b. rest-small (d i * c))
 
   -- the same in few words
-  multiplied-spares : (c : ℕ) → c < 2 ^ 32 → (f : ℕ → ℕ) → Lanes w m l group n f → (d : ℕ → ℕ) → Hold w m l group n f u d → ((i : ℕ) → i < n → d i < 2 ^ 32)
+  multiplied-spares : (c : ℕ) → c < 2 ^ 32 → (f : ℕ → ℕ) → Lanes w m l group n f → (d : ℕ → ℕ) → HoldAny w m l group n f u d → ((i : ℕ) → i < n → d i < 2 ^ 32)
       → Spares (multiplied c u) f (λ i. lanes.multiply 32 (d i) c)
   multiplied-spares c small f has d holds low = by-tests (c == 1) refl (places_of c == 0) refl
     where
@@ -257,18 +251,18 @@ module _ (w : World) (m : List ℕ) (l : length m ≡ w.size) (group : Group) (n
       by-tests true e none z = record { after = f; line = λ at s. stay w at f m; value = λ i lt. holds i lt ∙ multiplied-once (d i) c (same-number c 1 e) (low i lt); keeps = λ q kept. refl }
       by-tests false e true z =
           let a = brief-sets w m l f 13 c (omega arith) (omega arith) small in
-          scalar-then a (spares-last (few-rounds w m l group n f has) (times-writes c small a.after (has-13 a has) a.value d (hold-13 u a holds)))
+          scalar-then a (times-spares c small a.after (has-13 a has) a.value d (aside-beside w m l group n k lies u a (omega arith) holds))
       by-tests false e false z =
-          let k = places_of c in
-          spares-last (few-rounds w m l group n f has)
-          (writes w m l group n (λ i. lanes.multiply 32 (d i) c) (λ i. lanes.shift_left 32 (f (lane u i)) k) has
-          (rows.shift-vi w f m l g has.configured shifts.Vsll u u k (spare-is group) (spare-is group))
-          (λ i lt. ap (λ y. lanes.shift_left 32 y k) (holds i lt) ∙ shifted-is (d i) c k (places-few c) (places-are c z)))
+          let places = places_of c in
+          asides w m l group n k lies (λ i. lanes.multiply 32 (d i) c) (λ i. lanes.shift_left 32 (held f u i) places) scratch has
+          (firsts.shift-vi w f m l g has.configured shifts.Vsll u u places (spare-is group) (spare-is group))
+          (λ i lt. ap (λ y. lanes.shift_left 32 y places) (holds i lt) ∙ shifted-is (d i) c places (places-few c) (places-are c z))
+          (λ i lt. rest-small (d i * c))
 
   counted-spares : (s : ℕ) → s < 2 ^ 24 → n ≤ 16 → (f : ℕ → ℕ) → Lanes w m l group n f → Spares (counted s u) f (λ i. i * s)
   counted-spares s few most f has =
       let one : Spares (Vector (v.ElementNumbers u true) ∷ []) f (λ i. i) =
-      spares-last (few-rounds w m l group n f has) (writes w m l group n (λ i. i) (λ i. i) has (rows.lane-numbers w f m l g has.configured u (spare-is group)) (λ i b. refl)) in
+      asides w m l group n k lies (λ i. i) (λ i. i) scratch has (firsts.lane-numbers w f m l g has.configured u (spare-is group)) (λ i b. refl) (λ i b. omega (arith, b, most)) in
       let two = multiplied-spares s (omega (arith, few)) one.after (still K f one.after one.keeps has) (λ i. i) one.value (λ i lt. omega (arith, lt, most)) in
       let three : Spares (counted s u) f (λ i. lanes.multiply 32 i s) = spares-then one two in
       record { after = three.after; line = three.line; value = λ i lt. three.value i lt ∙ product-is i s (let p = times-few i s (omega (arith, lt, most)) few in omega (arith, p)); keeps = three.keeps }
@@ -292,18 +286,19 @@ module _ (w : World) (m : List ℕ) (l : length m ≡ w.size) (group : Group) (n
       apart q (inl x) e = omega (arith, x, e)
       apart q (inr x) e = omega (arith, x, e)
 
-  capped-spares : (last : Option ℕ) (inner own : Counter) → is_small last ≡ true → (f : ℕ → ℕ) → Lanes w m l group n f → Seats f → (d : ℕ → ℕ) → Hold w m l group n f u d
+  capped-spares : (last : Option ℕ) (inner own : Counter) → is_small last ≡ true → (f : ℕ → ℕ) → Lanes w m l group n f → Seats f → (d : ℕ → ℕ) → HoldAny w m l group n f u d
       → Spares (capped_lanes scope last inner own u) f (λ i. capped last inner own values (d i))
   capped-spares None inner own is f has seats d holds = record { after = f; line = λ at s. stay w at f m; value = holds; keeps = λ q kept. refl }
   capped-spares (Some most) inner own is f has seats d holds =
       let a = room-sets most inner own (last-word (Some most) is most refl) f seats in
       let has1 = has-13 a has in
       let q = room most inner own values in
-      let b : Writes w m l group n (Vector (v.ArithmeticVx vxs.Vminu u u 13 true) ∷ []) a.after u (λ i. min (d i) q) =
-      writes w m l group n (λ i. min (d i) q) (λ i. lanes.min_unsigned 32 (a.after (lane u i)) (a.after 13 % 2 ^ 32)) has1
-      (rows.arithmetic-vx w a.after m l g has1.configured vxs.Vminu u u 13 (spare-is group) (spare-is group) (omega arith))
-      (λ i lt. ap (λ z. lanes.min_unsigned 32 z (a.after 13 % 2 ^ 32)) (hold-13 u a holds i lt) ∙ ap (lanes.min_unsigned 32 (d i)) (same-word (a.after 13) q a.value (room-small most inner own values)) ∙ lesser-is (d i) q) in
-      scalar-then a (spares-last (few-rounds w m l group n f has) b)
+      scalar-then a
+      (asides w m l group n k lies (λ i. min (d i) q) (λ i. lanes.min_unsigned 32 (held a.after u i) (a.after 13 % 2 ^ 32)) scratch has1
+      (firsts.arithmetic-vx w a.after m l g has1.configured vxs.Vminu u u 13 (spare-is group) (spare-is group) (omega arith))
+      (λ i lt. ap (λ z. lanes.min_unsigned 32 z (a.after 13 % 2 ^ 32)) (aside-beside w m l group n k lies u a (omega arith) holds i lt) ∙ ap (lanes.min_unsigned 32 (d i)) (same-word (a.after 13) q a.value (room-small most inner own values))
+      ∙ lesser-is (d i) q)
+      (λ i lt. let p = room-small most inner own values in lesser-low (d i) q p))
 
   -- at most so far in each round
   abbrev Far : (ℕ → ℕ) → ℕ → Type 0
@@ -319,13 +314,13 @@ module _ (w : World) (m : List ℕ) (l : length m ≡ w.size) (group : Group) (n
   far-low : (d : ℕ → ℕ) (s : ℕ) → Far d s → s < 2 ^ 24 → n ≤ 16 → (i : ℕ) → i < n → d i < 2 ^ 28
   far-low d s far few most i lt = let p = times-few i s (omega (arith, lt, most)) few in let q = far i lt in omega (arith, p, q)
 
-  cut-spares : (cut : Cut) (s : ℕ) → IsSlow s cut.factor → is_small cut.last ≡ true → n ≤ 16 → (f : ℕ → ℕ) → Lanes w m l group n f → Seats f → (d : ℕ → ℕ) → Hold w m l group n f u d → Far d s
+  cut-spares : (cut : Cut) (s : ℕ) → IsSlow s cut.factor → is_small cut.last ≡ true → n ≤ 16 → (f : ℕ → ℕ) → Lanes w m l group n f → Seats f → (d : ℕ → ℕ) → HoldAny w m l group n f u d → Far d s
       → Spares (cut_lanes scope cut u) f (λ i. cut_off cut values (d i))
   cut-spares cut s slow is most f has seats d holds far =
       let few = slow.few_factor in
       let low = far-low d s far slow.few most in
       let a = multiplied-spares cut.factor (omega (arith, few)) f has d holds (λ i lt. let p = low i lt in omega (arith, p)) in
-      let product : Hold w m l group n a.after u (λ i. d i * cut.factor) =
+      let product : HoldAny w m l group n a.after u (λ i. d i * cut.factor) =
       λ i lt. a.value i lt ∙ product-is (d i) cut.factor
       (let q = mul-le-mul_right cut.factor (far i lt) in let e = together i s cut.factor in let p = times-few i (s * cut.factor) (omega (arith, lt, most)) slow.slow in omega (arith, p, q, e)) in
       let c = capped-spares cut.last cut.inner cut.own is a.after (still K f a.after a.keeps has) (seats-still K f a.after a.keeps seats) (λ i. d i * cut.factor) product in
@@ -343,13 +338,17 @@ module _ (w : World) (m : List ℕ) (l : length m ≡ w.size) (group : Group) (n
   holds-still {is} {f} a has hx i lt = a.keeps (lane r i) (slot-kept w m l group n k lies i lt (few-rounds w m l group n f has)) ∙ hx i lt
 
   -- what is added in the end
-  added-leaves : (c : ℕ) → c < 2 ^ 32 → (f : ℕ → ℕ) → Lanes w m l group n f → (x d : ℕ → ℕ) → Hold w m l group n f r (λ i. x i % 2 ^ 32) → Hold w m l group n f u d → ((i : ℕ) → i < n → d i < 2 ^ 28)
+  added-leaves : (c : ℕ) → c < 2 ^ 32 → (f : ℕ → ℕ) → Lanes w m l group n f → (x d : ℕ → ℕ) → Hold w m l group n f r (λ i. x i % 2 ^ 32) → HoldAny w m l group n f u d → ((i : ℕ) → i < n → d i < 2 ^ 28)
       → Leaves w m l group n (added c r u) f k (λ i. (x i + d i * c) % 2 ^ 32)
   added-leaves c small f has x d hx hd low =
       let a = multiplied-spares c small f has d hd (λ i lt. let p = low i lt in omega (arith, p)) in
-      let e = arithmetic-writes w m l group n a.after (still K f a.after a.keeps has) vvs.Vadd r r u (λ i. x i % 2 ^ 32) (λ i. lanes.multiply 32 (d i) c) lies.is_group lies.is_group (spare-is group) (holds-still a has hx) a.value in
+      let has1 = still K f a.after a.keeps has in
+      let ir = any-group g r lies.few lies.is_group in
+      let hx1 = holds-still a has hx in
       let end : Writes w m l group n (Vector (v.ArithmeticVv vvs.Vadd r r u true) ∷ []) a.after r (λ i. (x i + d i * c) % 2 ^ 32) =
-      record { after = e.after; line = e.line; value = λ i lt. e.value i lt ∙ added-is (x i) (d i) c; below = e.below; above = e.above } in
+      slot-writes w m l group n k lies (λ i. (x i + d i * c) % 2 ^ 32) (λ i. lanes.add 32 (held a.after r i) (held a.after u i)) has1
+      (firsts.arithmetic-vv w a.after m l g has1.configured vvs.Vadd r r u ir ir (spare-is group))
+      (λ i lt. ap (λ z. lanes.add 32 z (held a.after u i)) (slot-held w m l group n k lies a.after i ∙ hx1 i lt) ∙ ap (lanes.add 32 (x i % 2 ^ 32)) (a.value i lt) ∙ added-is (x i) (d i) c) in
       spares-first a (last w m l group n k lies end)
 
   even-far : (s : ℕ) → Far (λ i. i * s) s

@@ -6,7 +6,6 @@ use Rattle.scalar_code.specs.Words.{Emits}
 use Rattle.lane_code.specs.declared.groups.Group.{Group}
 use Rattle.lane_code.specs.Groups.{slot}
 use Rattle.lane_code.specs.Lanes.{Laned, picked}
-use Rattle.lane_code.specs.Lean.{Lean}
 
 -- It can be made in a slot and those above: its numbers are words, and no divisor is 0.
 pub record FitsLanes (own : Laned) (k : ℕ) : Type 0 where
@@ -22,16 +21,5 @@ pub record EmitsPicked (old new : List ℕ) (row : Made) (place : Place) (r u : 
 pub record EmitsLanes (old new : List ℕ) (group : Group) (own : Laned) (k r : ℕ) : Type 0 where
   pub emits : Emits old new (own.code k)
   pub can : FitsLanes own k
-  pub slot_is : r ≡ slot group k
-  pub low : r < 32
-
--- So it is of code that needs fewer groups.
-pub record FitsLean (own : Lean) (k : ℕ) : Type 0 where
-  pub fits : own.fits k ≡ true
-  pub is_word : own.own.own.is_word ≡ true
-
-pub record EmitsLean (old new : List ℕ) (group : Group) (own : Lean) (k r : ℕ) : Type 0 where
-  pub emits : Emits old new (own.code k)
-  pub can : FitsLean own k
   pub slot_is : r ≡ slot group k
   pub low : r < 32

@@ -1,6 +1,7 @@
 -- Groups of vector registers, a lane for each round of a loop of 4, 8 or 16.
 --
--- v0 holds masks. The first group behind it is scratch, and those behind that are the stack of an expression over lanes.
+-- v0 holds masks, each for the next instruction. A group is scratch, and those behind it are the stack of an expression over lanes. Where a
+-- group is four registers, scratch is the one that begins at v0: no mask stands while it is used.
 -- RISC-V Vector Extension 1.0, section 3.4 "Vector type register, vtype" for the bits of a configuration. What groups are for is this
 -- project's own.
 use Rattle.std.specs.Prelude.{ℕ, ◌+◌, ◌*◌, ◌==◌, if◌then◌else◌, Option, Some, None}
@@ -22,15 +23,23 @@ vtype_of groups.Four = 18
 abbrev pub slots : Group → ℕ
 slots groups.One = 30
 slots groups.Two = 14
-slots groups.Four = 6
+slots groups.Four = 7
 
 abbrev pub group_of_rounds : ℕ → Option Group
 group_of_rounds n = if n == 4 then Some groups.One else (if n == 8 then Some groups.Two else (if n == 16 then Some groups.Four else None))
 
 -- the first register of the scratch group
 abbrev pub spare : Group → ℕ
-spare group = registers group
+spare groups.One = 1
+spare groups.Two = 2
+spare groups.Four = 0
+
+-- the register in which bytes wait
+abbrev pub byte_spare : ℕ
+byte_spare = 1
 
 -- the first register of a group of the stack
 abbrev pub slot : Group → ℕ → ℕ
-slot group k = registers group * (k + 2)
+slot groups.One k = k + 2
+slot groups.Two k = 2 * (k + 2)
+slot groups.Four k = 4 * (k + 1)

@@ -2,7 +2,7 @@
 --
 -- Scalar registers hold what counters stand at in the first round.
 -- This project's own.
-use Rattle.std.specs.Prelude.{ℕ, ◌+◌, ◌-◌, ◌%◌, ◌^◌, ◌==◌, ◌&&◌, Bool, true, false, nat_le, nat_lt, if◌then◌else◌, List, [], ◌∷◌, ◌++◌, pos, negsuc, ◌*◌}
+use Rattle.std.specs.Prelude.{ℕ, ◌+◌, ◌%◌, ◌^◌, ◌==◌, ◌&&◌, Bool, true, false, nat_le, nat_lt, if◌then◌else◌, List, [], ◌∷◌, ◌++◌, pos, negsuc, ◌*◌}
 use Rattle.rv_insn.specs.declared.instructions.Insn.{Insn}
 use Rattle.rv_insn.specs.declared.instructions.Insn.TheVariants.{Alu, Vector}
 use Rattle.rv_insn.specs.declared.operations.AluOp.TheVariants as alus
@@ -15,7 +15,6 @@ use Rattle.rv_insn.specs.declared.vector_operations.ArithmeticViOp.TheVariants a
 use Rattle.rv_insn.specs.declared.vector_operations.ShiftViOp.TheVariants as shifts
 use Rattle.rv_insn.specs.declared.vector_operations.CompareVvOp.{CompareVvOp}
 use Rattle.rv_insn.specs.declared.vector_operations.CompareVvOp.TheVariants as compares
-use Rattle.rv_insn.specs.declared.vector_operations.CompareVxOp.TheVariants as compare_vxs
 use Rattle.rv_insn.specs.declared.vector_operations.CompareViOp.TheVariants as compare_vis
 use Rattle.rv_insn.specs.declared.vector_operations.MultiplyOp.TheVariants as multiplies
 use Rattle.halide_pipeline.specs.declared.expressions.Operation.{Operation}
@@ -36,7 +35,7 @@ use Rattle.scalar_code.specs.declared.places.Places.{Places}
 use Rattle.scalar_code.specs.Code.{scratch, second_scratch, bottom, literal, linear_code, addressed, place_of, Made, made_at}
 use Rattle.lane_code.specs.declared.goings.Going.{Going}
 use Rattle.lane_code.specs.Goings.{going_of, even_stride, are_even}
-use Rattle.lane_code.specs.Groups.{slots, spare, slot}
+use Rattle.lane_code.specs.Groups.{slots, spare, byte_spare, slot}
 use Rattle.lane_code.specs.Straying.{strayed}
 
 -- ---- how values go along with the rounds
@@ -143,23 +142,23 @@ lanes_operation op.NotEqual r s = compared compares.Vmsne r r s
 abbrev pub lanes_selection : ℕ → ℕ → ℕ → List Insn
 lanes_selection r s t = Vector (v.CompareVi compare_vis.Vmsne 0 r (pos 0) true) ∷ Vector (v.MergeVv r t s) ∷ []
 
--- The word 2^32 - 1 - n stands for -1 - n: where the mask has a 1, such a complement is made of a lane. u is scratch.
-abbrev pub lanes_complement : ℕ → ℕ → List Insn
-lanes_complement r u = Vector (v.ArithmeticVi vis.Vrsub u r (negsuc 0) true) ∷ Vector (v.MergeVv r r u) ∷ []
+-- u becomes 2^32 - 1 in each lane that is negative, and 0 in all others
+abbrev pub lanes_sign : ℕ → ℕ → List Insn
+lanes_sign r u = Vector (v.ShiftVi shifts.Vsra u r 31 true) ∷ []
 
--- a mask bit becomes 1 where the lane is negative
-abbrev pub lanes_sign : ℕ → List Insn
-lanes_sign r = Vector (v.CompareVx compare_vxs.Vmslt 0 r 0 true) ∷ []
+-- The word 2^32 - 1 - n stands for -1 - n: so each lane that is negative becomes its complement, by the signs in u.
+abbrev pub lanes_turned : ℕ → ℕ → List Insn
+lanes_turned r u = Vector (v.ArithmeticVv vvs.Vxor r r u true) ∷ []
 
--- each lane of r becomes its quotient by a literal, or its remainder, rounded to minus infinity
+-- Each lane of r becomes its quotient by a literal, or its remainder, rounded to minus infinity. u is scratch.
 abbrev pub lanes_quotient : ℕ → ℕ → ℕ → List Insn
 lanes_quotient c r u =
-    lanes_sign r ++ (lanes_complement r u ++ (literal scratch c ++ (Vector (v.MultiplyVx multiplies.Vdivu r r scratch true) ∷ lanes_complement r u)))
+    lanes_sign r u ++ (lanes_turned r u ++ (literal scratch c ++ (Vector (v.MultiplyVx multiplies.Vdivu r r scratch true) ∷ lanes_turned r u)))
 
 abbrev pub lanes_remainder : ℕ → ℕ → ℕ → List Insn
 lanes_remainder c r u =
-    lanes_sign r ++ (lanes_complement r u ++ (literal scratch c ++ (Vector (v.MultiplyVx multiplies.Vremu r r scratch true) ∷ (literal scratch (c - 1)
-    ++ (Vector (v.ArithmeticVx vxs.Vrsub u r scratch true) ∷ Vector (v.MergeVv r r u) ∷ [])))))
+    lanes_sign r u ++ (lanes_turned r u ++ (literal scratch c ++ (Vector (v.MultiplyVx multiplies.Vremu r r scratch true) ∷ (lanes_turned r u
+    ++ (Vector (v.ArithmeticVx vxs.Vand u u scratch true) ∷ Vector (v.ArithmeticVv vvs.Vadd r r u true) ∷ [])))))
 
 -- ---- sums of counters
 
@@ -304,7 +303,7 @@ lanes_by group places scope goings (layer.Remainder a c) k = a.code k ++ lanes_r
 lanes_by group places scope goings (layer.Select c a b) k =
     c.code k ++ (a.code (k + 1) ++ (b.code (k + 2) ++ lanes_selection (slot group k) (slot group (k + 1)) (slot group (k + 2))))
 lanes_by group places scope goings (layer.Load source x y) k =
-    if is_dense x y then x.own.code bottom ++ (y.own.code (bottom + 1) ++ dense (place_of places source) (slot group k) (spare group))
+    if is_dense x y then x.own.code bottom ++ (y.own.code (bottom + 1) ++ dense (place_of places source) (slot group k) byte_spare)
     else x.code k ++ rows_code group (place_of places source) y k
 
 abbrev pub laned_at : Group → Places → List Counter → List Going → Expr-F Laned → Laned

@@ -1,5 +1,5 @@
 -- What the code of an expression over lanes leaves, wherever it stands: the expression's value in each round. This project's own.
-use Rattle.std.specs.Prelude.{◌≡◌, ◌<◌, ◌≤◌, ◌⊎◌, ℕ, ◌+◌, ◌*◌, true, List, length}
+use Rattle.std.specs.Prelude.{◌≡◌, ◌<◌, ◌≤◌, ◌⊎◌, ℕ, ◌+◌, true, List, length}
 use Rattle.std.specs.List.{AllByRecursion}
 use Rattle.rv_insn.specs.declared.instructions.Insn.{Insn}
 use Rattle.halide_meaning.specs.Pixel.{Reads}
@@ -17,7 +17,6 @@ use Rattle.lane_code.specs.Groups.{registers, slot}
 use Rattle.lane_code.specs.declared.goings.Going.{Going}
 use Rattle.lane_code.specs.Goings.{going_of, gone, can_go}
 use Rattle.lane_code.specs.Lanes.{laned}
-use Rattle.lane_code.specs.Lean.{lean}
 
 -- Each round takes counters as far as they go, within the limits.
 pub record GoAlong (scope : List Counter) (goings : List Going) (at : ℕ → Values) (rounds : ℕ) : Type 0 where
@@ -33,7 +32,7 @@ pub record HasLanes (group : Group) (rounds : ℕ) (f : ℕ → ℕ) : Type 0 wh
 abbrev pub IsKept : Group → ℕ → ℕ → Type 0
 IsKept group k q =
     ((q < 20) × ((q < 13) ⊎ (14 < q)))
-    ⊎ (((q ≡ vl_number) ⊎ (q ≡ vtype_number)) ⊎ ((lane (2 * registers group) 0 ≤ q) × (q < lane (slot group k) 0)))
+    ⊎ (((q ≡ vl_number) ⊎ (q ≡ vtype_number)) ⊎ ((lane (slot group 0) 0 ≤ q) × (q < lane (slot group k) 0)))
 
 -- it leaves these numbers in a slot, one for each round, and memory as it was
 pub record LeavesLanes (world : World) (memory : List ℕ) (group : Group) (rounds : ℕ) (insns : List Insn) (f : ℕ → ℕ) (k : ℕ) (v : ℕ → ℕ) : Type 0 where
@@ -50,12 +49,3 @@ LanesLeave = (world : World) (harts : ℕ) (memory : List ℕ) (group : Group) (
     → ((round : ℕ) → round < rounds → AllByRecursion (Loads world places memory reads) (loads reads (at round) e))
     → (f : ℕ → ℕ) → Knows world harts scope (at 0) f → HasLanes group rounds f
     → LeavesLanes world memory group rounds ((laned group places scope goings e).code k) f k (λ round. value reads (at round) e)
-
--- So it is of code that needs fewer groups.
-abbrev pub LeanLanesLeave : Type 0
-LeanLanesLeave = (world : World) (harts : ℕ) (memory : List ℕ) (group : Group) (places : Places) (scope : List Counter) (goings : List Going) (at : ℕ → Values) (reads : Reads) (rounds : ℕ)
-    → length memory ≡ world.size → ArePlaces places → 1 ≤ rounds → GoAlong scope goings at rounds
-    → (e : Expr) (k : ℕ) → (lean group places scope goings e).fits k ≡ true → (made places scope e).is_word ≡ true
-    → ((round : ℕ) → round < rounds → AllByRecursion (Loads world places memory reads) (loads reads (at round) e))
-    → (f : ℕ → ℕ) → Knows world harts scope (at 0) f → HasLanes group rounds f
-    → LeavesLanes world memory group rounds ((lean group places scope goings e).code k) f k (λ round. value reads (at round) e)

@@ -5,6 +5,5 @@ pub mod Emitting
 pub mod Goings
 pub mod Groups
 pub mod Lanes
-pub mod Lean
 pub mod Leaving
 pub mod Straying

@@ -5,6 +5,9 @@ ghost use Rattle.lane_code.specs.Groups as spec;
 
 use rv_insn::Vtype11;
 
+/// The register in which bytes wait before they become lanes.
+pub const BYTE_SPARE: u8 = 1;
+
 /// How many vector registers a group has: 4, 8 or 16 rounds take 1, 2 or 4.
 #[derive(Clone, Copy, Debug, PartialEq, Eq)]
 pub enum Group {
@@ -54,7 +57,7 @@ impl Group {
         match self {
             Group::One => 30,
             Group::Two => 14,
-            Group::Four => 6,
+            Group::Four => 7,
         }
     }
 
@@ -74,7 +77,11 @@ impl Group {
     pub fn spare(self) -> u8
         ensures { (result ≡ spec.spare self) × (result < 32) }
     {
-        self.registers()
+        match self {
+            Group::One => 1,
+            Group::Two => 2,
+            Group::Four => 0,
+        }
     }
 
     /// The first register of a group of the stack.
@@ -85,7 +92,7 @@ impl Group {
         match self {
             Group::One => number + 2,
             Group::Two => 2 * (number + 2),
-            Group::Four => 4 * (number + 2),
+            Group::Four => 4 * (number + 1),
         }
     }
 }

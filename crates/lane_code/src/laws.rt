@@ -1,17 +1,12 @@
 //! Laws of code, each the contract of a function that does nothing.
 
 ghost use Rattle.lane_code.specs.DeepLeaving.{DeepLanesLeave, PairsLeave, TriplesLeave};
-ghost use Rattle.lane_code.specs.Leaving.{LanesLeave, LeanLanesLeave};
+ghost use Rattle.lane_code.specs.Leaving.{LanesLeave};
 
 /// The code of an expression over lanes leaves its value in each round, wherever it stands, where scalar registers hold what counters
 /// stand at in the first round and memory what is loaded.
 pub fn lanes_are_left()
     ensures { LanesLeave }
-{}
-
-/// So does code that needs fewer groups.
-pub fn lean_lanes_are_left()
-    ensures { LeanLanesLeave }
 {}
 
 /// So does code whose values may wait in the hart's frame, which changes no byte before the slots that are free.

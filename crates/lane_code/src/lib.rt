@@ -3,7 +3,6 @@
 //! - [`frames`]: so it does where values wait in the hart's frame (`specs/DeepLanes.antt`).
 //! - [`goings`]: how counters go along with the rounds (`specs/Goings.antt`, `specs/Straying.antt`).
 //! - [`groups`]: groups of vector registers, a lane for each round (`specs/Groups.antt`).
-//! - [`lean`]: appends that code in fewer groups, with second operands first (`specs/Lean.antt`).
 //! - [`values`]: appends the code of an expression's values (`specs/Lanes.antt`).
 //! - [`vectors`]: appends single vector instructions.
 //! - [`laws`]: **what that code leaves, wherever it stands** (`specs/Leaving.antt`, `specs/DeepLeaving.antt`).
@@ -13,6 +12,5 @@ pub mod frames;
 pub mod goings;
 pub mod groups;
 pub mod laws;
-pub mod lean;
 pub mod values;
 pub mod vectors;

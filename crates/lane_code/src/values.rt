@@ -14,11 +14,11 @@ ghost use Rattle.lane_code.specs.Straying.{strayed};
 ghost use Rattle.scalar_code.specs.Words.{Emits};
 
 use crate::goings::{Going, are_even, emit_strayed, even_stride, going_of};
-use crate::groups::Group;
+use crate::groups::{BYTE_SPARE, Group};
 use crate::vectors::{
-    arithmetic, arithmetic_by, clear, clear_low_bits, comparison, complement, lane_numbers,
-    load_at, load_byte_row, load_row, merge, merge_one, multiplication, multiplication_by, spread,
-    test_nonzero, test_sign, times_eight, times_four,
+    arithmetic, arithmetic_by, clear, clear_low_bits, comparison, lane_numbers, load_at,
+    load_byte_row, load_row, merge, merge_one, multiplication, multiplication_by, signs, spread,
+    test_nonzero, times_eight, times_four,
 };
 use halide_pipeline::{Operation, words};
 use loop_ir::expressions::{Counter, Expr, Term};
@@ -269,12 +269,12 @@ pub(crate) fn emit_lanes_selection(
     Ok(())
 }
 
-fn emit_lanes_complement(code: &mut Vec<u32>, r: u8, u: u8) -> Result<(), AllocError>
+/// Appends what makes complements of lanes, by the signs in `u`.
+fn emit_lanes_turned(code: &mut Vec<u32>, r: u8, u: u8) -> Result<(), AllocError>
     requires { (r < 32) × (u < 32) }
-    ensures { OnOk result (Emits code.old.items code.new.items (spec.lanes_complement r u)) }
+    ensures { OnOk result (Emits code.old.items code.new.items (spec.lanes_turned r u)) }
 {
-    complement(code, u, r)?;
-    merge(code, r, r, u)?;
+    arithmetic(code, ArithmeticVvOp::Vxor, r, r, u)?;
     Ok(())
 }
 
@@ -292,11 +292,11 @@ pub(crate) fn emit_lanes_quotient(
     if c == 0 {
         return Err(CodeFault::TooDeep);
     }
-    test_sign(code, r)?;
-    emit_lanes_complement(code, r, u)?;
+    signs(code, u, r)?;
+    emit_lanes_turned(code, r, u)?;
     emit_number(code, 13, c)?;
     multiplication_by(code, MultiplyOp::Vdivu, r, r, 13)?;
-    emit_lanes_complement(code, r, u)?;
+    emit_lanes_turned(code, r, u)?;
     Ok(())
 }
 
@@ -314,13 +314,13 @@ pub(crate) fn emit_lanes_remainder(
     if c == 0 {
         return Err(CodeFault::TooDeep);
     }
-    test_sign(code, r)?;
-    emit_lanes_complement(code, r, u)?;
+    signs(code, u, r)?;
+    emit_lanes_turned(code, r, u)?;
     emit_number(code, 13, c)?;
     multiplication_by(code, MultiplyOp::Vremu, r, r, 13)?;
-    emit_literal(code, 13, c - 1)?;
-    arithmetic_by(code, ArithmeticVxOp::Vrsub, u, r, 13)?;
-    merge(code, r, r, u)?;
+    emit_lanes_turned(code, r, u)?;
+    arithmetic_by(code, ArithmeticVxOp::Vand, u, u, 13)?;
+    arithmetic(code, ArithmeticVvOp::Vadd, r, r, u)?;
     Ok(())
 }
 
@@ -683,7 +683,7 @@ pub fn emit_lanes(
             if is_dense(scope, goings, x.get(), y.get()) {
                 emit_value(code, places, scope, x.get(), 20)?;
                 emit_value(code, places, scope, y.get(), 21)?;
-                emit_dense(code, &place, r, group.spare())?;
+                emit_dense(code, &place, r, BYTE_SPARE)?;
                 return Ok(r);
             }
             if !is_reached(&place) {

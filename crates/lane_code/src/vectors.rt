@@ -5,17 +5,16 @@ ghost use Rattle.rv_insn.specs.declared.instructions.Insn.TheVariants.{Vector};
 ghost use Rattle.rv_insn.specs.declared.vector_instructions.VectorInsn.TheVariants as v;
 ghost use Rattle.rv_insn.specs.declared.vector_instructions.Addressing.TheVariants as addressings;
 ghost use Rattle.rv_insn.specs.declared.vector_operations.ElementWidth.TheVariants.{Bits8 as bytes, Bits32 as words};
-ghost use Rattle.rv_insn.specs.declared.vector_operations.ShiftViOp.TheVariants.{Vsll as shift_left};
-ghost use Rattle.rv_insn.specs.declared.vector_operations.CompareVxOp.TheVariants.{Vmslt as less};
+ghost use Rattle.rv_insn.specs.declared.vector_operations.ShiftViOp.TheVariants.{Vsll as shift_left, Vsra as shift_right};
 ghost use Rattle.rv_insn.specs.declared.vector_operations.CompareViOp.TheVariants.{Vmsne as not_equal};
-ghost use Rattle.rv_insn.specs.declared.vector_operations.ArithmeticViOp.TheVariants.{Vadd as plus_number, Vand as both_bits, Vrsub as from_number};
+ghost use Rattle.rv_insn.specs.declared.vector_operations.ArithmeticViOp.TheVariants.{Vadd as plus_number, Vand as both_bits};
 ghost use Rattle.lane_code.specs.Groups as spec;
 ghost use Rattle.scalar_code.specs.Words.{Emits};
 
 use crate::groups::Group;
 use rv_insn::{
     Addressing, ArithmeticViOp, ArithmeticVvOp, ArithmeticVxOp, CompareViOp, CompareVvOp,
-    CompareVxOp, ElementWidth, Imm5, Insn, MultiplyOp, ShiftAmount, ShiftViOp, VReg, VectorInsn,
+    ElementWidth, Imm5, Insn, MultiplyOp, ShiftAmount, ShiftViOp, VReg, VectorInsn,
 };
 use scalar_code::instructions::{put, register};
 use std::alloc::AllocError;
@@ -123,16 +122,16 @@ pub fn multiplication_by(
     Ok(())
 }
 
-/// Appends what makes complements of lanes: -1 minus each.
-pub fn complement(code: &mut Vec<u32>, d: u8, a: u8) -> Result<(), AllocError>
+/// Appends what sets lanes to all ones where those of a group are negative, and else to 0.
+pub fn signs(code: &mut Vec<u32>, d: u8, a: u8) -> Result<(), AllocError>
     requires { (d < 32) × (a < 32) }
-    ensures { OnOk result (Emits code.old.items code.new.items (Vector (v.ArithmeticVi from_number d a (negsuc 0) true) ∷ [])) }
+    ensures { OnOk result (Emits code.old.items code.new.items (Vector (v.ShiftVi shift_right d a 31 true) ∷ [])) }
 {
-    let insn = VectorInsn::ArithmeticVi {
-        op: ArithmeticViOp::Vrsub,
+    let insn = VectorInsn::ShiftVi {
+        op: ShiftViOp::Vsra,
         vd: vector(d),
         vs2: vector(a),
-        imm: Imm5::new(-1).unwrap(),
+        amount: ShiftAmount::new(31).unwrap(),
         vm: true,
     };
     put_vector(code, insn)?;
@@ -229,22 +228,6 @@ pub fn comparison(code: &mut Vec<u32>, op: CompareVvOp, a: u8, b: u8) -> Result<
         vd: vector(0),
         vs2: vector(a),
         vs1: vector(b),
-        vm: true,
-    };
-    put_vector(code, insn)?;
-    Ok(())
-}
-
-/// Appends a test of which lanes are negative, into the mask.
-pub fn test_sign(code: &mut Vec<u32>, a: u8) -> Result<(), AllocError>
-    requires { a < 32 }
-    ensures { OnOk result (Emits code.old.items code.new.items (Vector (v.CompareVx less 0 a 0 true) ∷ [])) }
-{
-    let insn = VectorInsn::CompareVx {
-        op: CompareVxOp::Vmslt,
-        vd: vector(0),
-        vs2: vector(a),
-        rs1: register(0),
         vm: true,
     };
     put_vector(code, insn)?;

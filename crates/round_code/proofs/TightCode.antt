@@ -26,15 +26,13 @@ use Rattle.lane_code.specs.declared.groups.Group.{Group}
 use Rattle.lane_code.specs.declared.goings.Going.{Going}
 use Rattle.lane_code.specs.Groups.{registers, slots, slot}
 use Rattle.lane_code.specs.DeepLanes.{deep_laned}
-use Rattle.lane_code.specs.Lanes.{based, distances}
-use Rattle.lane_code.specs.Lean.{Lean, lean}
+use Rattle.lane_code.specs.Lanes.{Laned, laned, based, distances}
 use Rattle.lane_code.specs.Leaving.{GoAlong, HasLanes, IsKept}
 use Rattle.lane_code.proofs.DeepParts.{is-deep}
 use Rattle.lane_code.proofs.Distances.{based-does, columns-leave, rows-leave}
 use Rattle.lane_code.proofs.Evaluation.{Code, pair-lies, two-leave, known-still, has-still}
 use Rattle.lane_code.proofs.LanedParts.{own-is}
-use Rattle.lane_code.proofs.LeanEvaluation.{lean-lanes-leave, lean-there}
-use Rattle.lane_code.proofs.LeanParts.{is-lean}
+use Rattle.lane_code.proofs.Evaluation.{lanes-leave, slot-there}
 use Rattle.lane_code.proofs.Offsets.{offset-address}
 use Rattle.lane_code.proofs.Slots.{SlotLies}
 use Rattle.lane_code.proofs.Rows.{Leaves, few-rounds, kept-scalar, lanes-kept, slot-kept}
@@ -46,24 +44,24 @@ use Rattle.round_code.proofs.Rows.{spot-is}
 
 -- the tests of such a store
 pub record TightFits (group : Group) (places : Places) (scope : List Counter) (goings : List Going) (store : Store) : Type 0 where
-  pub fits : (if value_leads group places scope goings store then true else distances_fit group places scope goings store 0 && (lean group places scope goings store.value).fits 1) ≡ true
-  pub value_word : (lean group places scope goings store.value).own.own.is_word ≡ true
-  pub x_word : (lean group places scope goings store.x).own.own.is_word ≡ true
-  pub y_word : (lean group places scope goings store.y).own.own.is_word ≡ true
+  pub fits : (if value_leads group places scope goings store then true else distances_fit group places scope goings store 0 && (laned group places scope goings store.value).fits 1) ≡ true
+  pub value_word : (laned group places scope goings store.value).own.is_word ≡ true
+  pub x_word : (laned group places scope goings store.x).own.is_word ≡ true
+  pub y_word : (laned group places scope goings store.y).own.is_word ≡ true
 
 pub tight-parts : (group : Group) (places : Places) (scope : List Counter) (goings : List Going) (store : Store) → tight_fits group places scope goings store ≡ true → TightFits group places scope goings store
 tight-parts group places scope goings store is =
-    let values = lean group places scope goings store.value in
-    let columns = lean group places scope goings store.x in
-    let rows = lean group places scope goings store.y in
-    let a = and_parts _ (values.own.own.is_word && (columns.own.own.is_word && rows.own.own.is_word)) is in
-    let b = and_parts values.own.own.is_word (columns.own.own.is_word && rows.own.own.is_word) a.1 in
-    let c = and_parts columns.own.own.is_word rows.own.own.is_word b.1 in
+    let values = laned group places scope goings store.value in
+    let columns = laned group places scope goings store.x in
+    let rows = laned group places scope goings store.y in
+    let a = and_parts _ (values.own.is_word && (columns.own.is_word && rows.own.is_word)) is in
+    let b = and_parts values.own.is_word (columns.own.is_word && rows.own.is_word) a.1 in
+    let c = and_parts columns.own.is_word rows.own.is_word b.1 in
     record { fits = a.0; value_word = b.0; x_word = c.0; y_word = c.1 }
 
-pub deep-word : (group : Group) (places : Places) (scope : List Counter) (goings : List Going) (e : Expr) → (lean group places scope goings e).own.own.is_word ≡ true → (deep_laned group places scope goings e).own.own.is_word ≡ true
+pub deep-word : (group : Group) (places : Places) (scope : List Counter) (goings : List Going) (e : Expr) → (laned group places scope goings e).own.is_word ≡ true → (deep_laned group places scope goings e).own.own.is_word ≡ true
 deep-word group places scope goings e is =
-    ap (λ x. x.own.is_word) (is-deep group places scope goings e).own_is ∙ sym (ap (λ x. x.own.is_word) (is-lean group places scope goings e).own_is) ∙ is
+    ap (λ x. x.own.is_word) (is-deep group places scope goings e).own_is ∙ is
 
 module _ (own : Setting) (good : IsSetting own) (group : Group) (scope : List Counter) (goings : List Going) (at : ℕ → Values) (n : ℕ)
     (some : 1 ≤ n) (go : GoAlong scope goings at n) (store : Store) (funcs : Planes)
@@ -91,8 +89,8 @@ module _ (own : Setting) (good : IsSetting own) (group : Group) (scope : List Co
   abbrev place : Place
   place = place_of own.places (sources.Func store.func)
 
-  abbrev of : Expr → Lean
-  of e = lean group own.places scope goings e
+  abbrev of : Expr → Laned
+  of e = laned group own.places scope goings e
 
   abbrev of_store : ℕ → Option Effect
   of_store k = effect reads (s.Store store) (at k)
@@ -103,8 +101,8 @@ module _ (own : Setting) (good : IsSetting own) (group : Group) (scope : List Co
   word : (deep_laned group own.places scope goings store.value).own.own.is_word ≡ true
   word = deep-word group own.places scope goings store.value fit.value_word
 
-  made-word : (e : Expr) → (of e).own.own.is_word ≡ true → (made own.places scope e).is_word ≡ true
-  made-word e is = sym (ap (λ x. x.own.is_word) (is-lean group own.places scope goings e).own_is ∙ ap (λ m. m.is_word) (own-is group own.places scope goings e)) ∙ is
+  made-word : (e : Expr) → (of e).own.is_word ≡ true → (made own.places scope e).is_word ≡ true
+  made-word e is = sym (ap (λ m. m.is_word) (own-is group own.places scope goings e)) ∙ is
 
   zero-lies : SlotLies group 0
   zero-lies = slot-at group 0 (omega arith)
@@ -122,14 +120,14 @@ module _ (own : Setting) (good : IsSetting own) (group : Group) (scope : List Co
     low : (k : ℕ) → k < n → place.start + place.distance * w.hart + 4 * (y k * place.width + x k) < 2 ^ 32
     low = scattered.low own good group scope goings at n some go store funcs sound word are_run memory holds few
 
-    code-of : (e : Expr) → (of e).own.own.is_word ≡ true → ((k : ℕ) → k < n → list_all own.loaded (loads reads (at k) e) ≡ true)
+    code-of : (e : Expr) → (of e).own.is_word ≡ true → ((k : ℕ) → k < n → list_all own.loaded (loads reads (at k) e) ≡ true)
         → Code w own.harts memory group own.places scope goings at reads n holds.size good.are_places some go (of e).code (of e).fits (λ k. value reads (at k) e)
     code-of e is may k f fits knows has =
-        lean-lanes-leave w own.harts memory group own.places scope goings at reads n holds.size good.are_places some go e k fits (made-word e is)
+        lanes-leave w own.harts memory group own.places scope goings at reads n holds.size good.are_places some go e k fits (made-word e is)
         (scattered.loaded own good group scope goings at n some go store funcs sound word are_run e may memory holds) f knows has
 
     there : (e : Expr) (k : ℕ) → (of e).fits k ≡ true → k < slots group
-    there e k fits = lean-there w own.harts memory group own.places scope goings at reads n holds.size good.are_places some go e k fits
+    there e k fits = slot-there w own.harts memory group own.places scope goings at reads n holds.size good.are_places some go e k fits
 
     of-sounds : (k : ℕ) → k < n → scattered.Sounds own good group scope goings at n some go store funcs sound word are_run k
     of-sounds k b = scattered.sounds own good group scope goings at n some go store funcs sound word are_run k b

@@ -17,10 +17,9 @@ use Rattle.scalar_code.specs.Words.{Emits}
 use Rattle.scalar_code.proofs.Spelling.{emits_then}
 use Rattle.lane_code.specs.declared.groups.Group.{Group}
 use Rattle.lane_code.specs.declared.goings.Going.{Going}
-use Rattle.lane_code.specs.Emitting.{EmitsLean, FitsLean}
+use Rattle.lane_code.specs.Emitting.{EmitsLanes, FitsLanes}
 use Rattle.lane_code.specs.Groups.{slot, vtype_of}
-use Rattle.lane_code.specs.Lanes.{based, distances}
-use Rattle.lane_code.specs.Lean.{Lean, lean}
+use Rattle.lane_code.specs.Lanes.{Laned, laned, based, distances}
 use Rattle.round_code.specs.Emitting.{EmitsDistances, FitDistances}
 use Rattle.round_code.specs.Rounds.{columns_lead, distances_fit, distances_code, value_leads, stored_code, tight_code, tight_fits}
 use Rattle.round_code.proofs.TightCode.{tight-parts}
@@ -30,14 +29,14 @@ pub stored-emitted : (places : Places) (store : Store) (place : Place) (r s : �
 stored-emitted places store place r s c0 c1 c2 ep first last = emits_then (subst (λ p. Emits c0 c1 (based p)) ep first) last
 
 module _ (group : Group) (places : Places) (scope : List Counter) (goings : List Going) (store : Store) where
-  abbrev of_value : Lean
-  of_value = lean group places scope goings store.value
+  abbrev of_value : Laned
+  of_value = laned group places scope goings store.value
 
-  abbrev of_x : Lean
-  of_x = lean group places scope goings store.x
+  abbrev of_x : Laned
+  of_x = laned group places scope goings store.x
 
-  abbrev of_y : Lean
-  of_y = lean group places scope goings store.y
+  abbrev of_y : Laned
+  of_y = laned group places scope goings store.y
 
   abbrev own : Place
   own = place_of places (sources.Func store.func)
@@ -59,7 +58,7 @@ module _ (group : Group) (places : Places) (scope : List Counter) (goings : List
     placed : (place : Place) (r s t u q : ℕ) (c0 c1 : List ℕ) → place ≡ own → r ≡ u → s ≡ q → Emits c0 c1 (distances place r s t) → Emits c0 c1 (distances own u q t)
     placed place r s t u q c0 c1 ep er es a = subst (λ p. Emits c0 c1 (distances p u q t)) ep (subst (λ d. Emits c0 c1 (distances place d q t)) er (subst (λ d. Emits c0 c1 (distances place r d t)) es a))
 
-    pub columns-emitted : (place : Place) (r s : ℕ) (c0 c1 c2 c3 : List ℕ) → lead ≡ true → place ≡ own → EmitsLean c0 c1 group of_x k r → EmitsLean c1 c2 group of_y (k + 1) s → Emits c2 c3 (distances place r s s)
+    pub columns-emitted : (place : Place) (r s : ℕ) (c0 c1 c2 c3 : List ℕ) → lead ≡ true → place ≡ own → EmitsLanes c0 c1 group of_x k r → EmitsLanes c1 c2 group of_y (k + 1) s → Emits c2 c3 (distances place r s s)
         → EmitsDistances c0 c3 group places scope goings store k r
     columns-emitted place r s c0 c1 c2 c3 leads ep first second last =
         let far = subst (λ d. Emits c2 c3 (distances own (slot group k) (slot group (k + 1)) d)) second.slot_is (placed place r s s (slot group k) (slot group (k + 1)) c2 c3 ep first.slot_is second.slot_is last) in
@@ -70,7 +69,7 @@ module _ (group : Group) (places : Places) (scope : List Counter) (goings : List
           low = first.low;
         }
 
-    pub rows-emitted : (place : Place) (r s : ℕ) (c0 c1 c2 c3 : List ℕ) → lead ≡ false → place ≡ own → EmitsLean c0 c1 group of_y k r → EmitsLean c1 c2 group of_x (k + 1) s → Emits c2 c3 (distances place r s r)
+    pub rows-emitted : (place : Place) (r s : ℕ) (c0 c1 c2 c3 : List ℕ) → lead ≡ false → place ≡ own → EmitsLanes c0 c1 group of_y k r → EmitsLanes c1 c2 group of_x (k + 1) s → Emits c2 c3 (distances place r s r)
         → EmitsDistances c0 c3 group places scope goings store k r
     rows-emitted place r s c0 c1 c2 c3 leads ep first second last =
         let far = subst (λ d. Emits c2 c3 (distances own (slot group k) (slot group (k + 1)) d)) first.slot_is (placed place r s r (slot group k) (slot group (k + 1)) c2 c3 ep first.slot_is second.slot_is last) in
@@ -86,19 +85,19 @@ module _ (group : Group) (places : Places) (scope : List Counter) (goings : List
         }
 
     -- what they ask of columns and rows
-    pub columns-below : lead ≡ true → FitDistances group places scope goings store k → FitsLean of_x k
+    pub columns-below : lead ≡ true → FitDistances group places scope goings store k → FitsLanes of_x k
     columns-below leads can = record { fits = (and_parts (of_x.fits k) (of_y.fits (k + 1)) leads).0; is_word = can.x_is_word }
 
-    pub rows-above : lead ≡ true → FitDistances group places scope goings store k → FitsLean of_y (k + 1)
+    pub rows-above : lead ≡ true → FitDistances group places scope goings store k → FitsLanes of_y (k + 1)
     rows-above leads can = record { fits = (and_parts (of_x.fits k) (of_y.fits (k + 1)) leads).1; is_word = can.y_is_word }
 
     others-fit : lead ≡ false → FitDistances group places scope goings store k → (of_y.fits k ≡ true) × (of_x.fits (k + 1) ≡ true)
     others-fit leads can = and_parts (of_y.fits k) (of_x.fits (k + 1)) (sym (ap fit-by leads) ∙ can.fit)
 
-    pub rows-below : lead ≡ false → FitDistances group places scope goings store k → FitsLean of_y k
+    pub rows-below : lead ≡ false → FitDistances group places scope goings store k → FitsLanes of_y k
     rows-below leads can = record { fits = (others-fit leads can).0; is_word = can.y_is_word }
 
-    pub columns-above : lead ≡ false → FitDistances group places scope goings store k → FitsLean of_x (k + 1)
+    pub columns-above : lead ≡ false → FitDistances group places scope goings store k → FitsLanes of_x (k + 1)
     columns-above leads can = record { fits = (others-fit leads can).1; is_word = can.x_is_word }
 
   -- ---- the store
@@ -114,13 +113,13 @@ module _ (group : Group) (places : Places) (scope : List Counter) (goings : List
   abbrev parts-fit : Bool → Bool
   parts-fit t = if t then true else distances_fit group places scope goings store 0 && of_value.fits 1
 
-  words : of_value.own.own.is_word ≡ true → of_x.own.own.is_word ≡ true → of_y.own.own.is_word ≡ true → (of_value.own.own.is_word && (of_x.own.own.is_word && of_y.own.own.is_word)) ≡ true
-  words a b c = and_from of_value.own.own.is_word (of_x.own.own.is_word && of_y.own.own.is_word) a (and_from of_x.own.own.is_word of_y.own.own.is_word b c)
+  words : of_value.own.is_word ≡ true → of_x.own.is_word ≡ true → of_y.own.is_word ≡ true → (of_value.own.is_word && (of_x.own.is_word && of_y.own.is_word)) ≡ true
+  words a b c = and_from of_value.own.is_word (of_x.own.is_word && of_y.own.is_word) a (and_from of_x.own.is_word of_y.own.is_word b c)
 
   stored-at : (r s u q : ℕ) (c0 c1 : List ℕ) → r ≡ u → s ≡ q → Emits c0 c1 (stored_code places store r s) → Emits c0 c1 (stored_code places store u q)
   stored-at r s u q c0 c1 er es a = subst (λ d. Emits c0 c1 (stored_code places store d q)) er (subst (λ d. Emits c0 c1 (stored_code places store r d)) es a)
 
-  pub value-first : (r s : ℕ) (c0 c1 c2 c3 c4 : List ℕ) → first ≡ true → Emits c0 c1 (Vector (v.Vsetvli 0 15 (vtype_of group)) ∷ []) → EmitsLean c1 c2 group of_value 0 r
+  pub value-first : (r s : ℕ) (c0 c1 c2 c3 c4 : List ℕ) → first ≡ true → Emits c0 c1 (Vector (v.Vsetvli 0 15 (vtype_of group)) ∷ []) → EmitsLanes c1 c2 group of_value 0 r
       → EmitsDistances c2 c3 group places scope goings store 1 s → Emits c3 c4 (stored_code places store r s)
       → Emits c0 c4 (tight_code group places scope goings store) × (tight_fits group places scope goings store ≡ true)
   value-first r s c0 c1 c2 c3 c4 leads begin value far last = (
@@ -129,7 +128,7 @@ module _ (group : Group) (places : Places) (scope : List Counter) (goings : List
   )
 
   pub value-last : (r s : ℕ) (c0 c1 c2 c3 c4 : List ℕ) → first ≡ false → Emits c0 c1 (Vector (v.Vsetvli 0 15 (vtype_of group)) ∷ []) → EmitsDistances c1 c2 group places scope goings store 0 s
-      → EmitsLean c2 c3 group of_value 1 r → Emits c3 c4 (stored_code places store r s)
+      → EmitsLanes c2 c3 group of_value 1 r → Emits c3 c4 (stored_code places store r s)
       → Emits c0 c4 (tight_code group places scope goings store) × (tight_fits group places scope goings store ≡ true)
   value-last r s c0 c1 c2 c3 c4 leads begin far value last = (
     emits_then begin (subst (λ t. Emits c1 c4 (parts-by t)) (sym leads) (emits_then far.emits (emits_then value.emits (stored-at r s (slot group 1) (slot group 0) c3 c4 value.slot_is far.slot_is last)))),
@@ -137,7 +136,7 @@ module _ (group : Group) (places : Places) (scope : List Counter) (goings : List
   )
 
   -- what it asks of its parts
-  pub value-below : first ≡ true → tight_fits group places scope goings store ≡ true → FitsLean of_value 0
+  pub value-below : first ≡ true → tight_fits group places scope goings store ≡ true → FitsLanes of_value 0
   value-below leads is = let k = tight-parts group places scope goings store is in record { fits = (and_parts (of_value.fits 0) (distances_fit group places scope goings store 1) leads).0; is_word = k.value_word }
 
   pub distances-above : first ≡ true → tight_fits group places scope goings store ≡ true → FitDistances group places scope goings store 1
@@ -151,5 +150,5 @@ module _ (group : Group) (places : Places) (scope : List Counter) (goings : List
   pub distances-below : first ≡ false → tight_fits group places scope goings store ≡ true → FitDistances group places scope goings store 0
   distances-below leads is = let k = tight-parts group places scope goings store is in record { fit = (last-fit leads is).0; x_is_word = k.x_word; y_is_word = k.y_word }
 
-  pub value-above : first ≡ false → tight_fits group places scope goings store ≡ true → FitsLean of_value 1
+  pub value-above : first ≡ false → tight_fits group places scope goings store ≡ true → FitsLanes of_value 1
   value-above leads is = let k = tight-parts group places scope goings store is in record { fits = (last-fit leads is).1; is_word = k.value_word }

@@ -7,7 +7,7 @@ use Rattle.scalar_code.specs.Words.{Emits}
 use Rattle.lane_code.specs.declared.groups.Group.{Group}
 use Rattle.lane_code.specs.declared.goings.Going.{Going}
 use Rattle.lane_code.specs.Groups.{slot}
-use Rattle.lane_code.specs.Lean.{lean}
+use Rattle.lane_code.specs.Lanes.{laned}
 use Rattle.round_code.specs.Rounds.{Rounded, distances_fit, distances_code}
 
 -- A statement can be done for all rounds at once.
@@ -22,8 +22,8 @@ pub record EmitsRounds (old new : List ℕ) (own : Rounded) (all : Bool) (scope 
 -- The distances of a store's pixels can be made in a slot and those above.
 pub record FitDistances (group : Group) (places : Places) (scope : List Counter) (goings : List Going) (store : Store) (k : ℕ) : Type 0 where
   pub fit : distances_fit group places scope goings store k ≡ true
-  pub x_is_word : (lean group places scope goings store.x).own.own.is_word ≡ true
-  pub y_is_word : (lean group places scope goings store.y).own.own.is_word ≡ true
+  pub x_is_word : (laned group places scope goings store.x).own.is_word ≡ true
+  pub y_is_word : (laned group places scope goings store.y).own.is_word ≡ true
 
 -- words of the code are appended that leaves them in the slot, whose first register this is
 pub record EmitsDistances (old new : List ℕ) (group : Group) (places : Places) (scope : List Counter) (goings : List Going) (store : Store) (k r : ℕ) : Type 0 where

@@ -32,7 +32,6 @@ use Rattle.lane_code.specs.declared.goings.Going.TheVariants as goes
 use Rattle.lane_code.specs.Goings.{going_of, is_rate, is_slow, is_small, all_spare}
 use Rattle.lane_code.specs.DeepLanes.{deep_laned, pair_fits, pair_code, triple_fits, triple_code}
 use Rattle.lane_code.specs.Lanes.{is_stepping, is_steady, pace_of, based, distances, laned, offsets, row_offsets}
-use Rattle.lane_code.specs.Lean.{lean}
 use Rattle.lane_code.specs.Straying.{brief, brief_sum, places_of, room_code}
 
 -- ---- a row of pixels
@@ -99,31 +98,31 @@ scattered_code group places scope goings store =
 
 -- Columns are made in a slot and rows above them where the stack suffices for that, else rows first: then one group has the distances of pixels.
 abbrev pub columns_lead : Group → Places → List Counter → List Going → Store → ℕ → Bool
-columns_lead group places scope goings store k = (lean group places scope goings store.x).fits k && (lean group places scope goings store.y).fits (k + 1)
+columns_lead group places scope goings store k = (laned group places scope goings store.x).fits k && (laned group places scope goings store.y).fits (k + 1)
 
 abbrev pub distances_fit : Group → Places → List Counter → List Going → Store → ℕ → Bool
 distances_fit group places scope goings store k =
     if columns_lead group places scope goings store k then true
-    else (lean group places scope goings store.y).fits k && (lean group places scope goings store.x).fits (k + 1)
+    else (laned group places scope goings store.y).fits k && (laned group places scope goings store.x).fits (k + 1)
 
 abbrev pub distances_code : Group → Places → List Counter → List Going → Store → ℕ → List Insn
 distances_code group places scope goings store k =
     if columns_lead group places scope goings store k
-    then (lean group places scope goings store.x).code k ++ ((lean group places scope goings store.y).code (k + 1)
+    then (laned group places scope goings store.x).code k ++ ((laned group places scope goings store.y).code (k + 1)
     ++ distances (place_of places (sources.Func store.func)) (slot group k) (slot group (k + 1)) (slot group (k + 1)))
-    else (lean group places scope goings store.y).code k ++ ((lean group places scope goings store.x).code (k + 1)
+    else (laned group places scope goings store.y).code k ++ ((laned group places scope goings store.x).code (k + 1)
     ++ distances (place_of places (sources.Func store.func)) (slot group k) (slot group (k + 1)) (slot group k))
 
 -- Values are made before the distances where the stack suffices for that, else behind them.
 abbrev pub value_leads : Group → Places → List Counter → List Going → Store → Bool
-value_leads group places scope goings store = (lean group places scope goings store.value).fits 0 && distances_fit group places scope goings store 1
+value_leads group places scope goings store = (laned group places scope goings store.value).fits 0 && distances_fit group places scope goings store 1
 
 abbrev pub tight_fits : Group → Places → List Counter → List Going → Store → Bool
 tight_fits group places scope goings store =
     (if value_leads group places scope goings store then true
-    else distances_fit group places scope goings store 0 && (lean group places scope goings store.value).fits 1)
-    && ((lean group places scope goings store.value).own.own.is_word
-    && ((lean group places scope goings store.x).own.own.is_word && (lean group places scope goings store.y).own.own.is_word))
+    else distances_fit group places scope goings store 0 && (laned group places scope goings store.value).fits 1)
+    && ((laned group places scope goings store.value).own.is_word
+    && ((laned group places scope goings store.x).own.is_word && (laned group places scope goings store.y).own.is_word))
 
 -- the address that distances are counted from, and the store of a group at those in another one
 abbrev pub stored_code : Places → Store → ℕ → ℕ → List Insn
@@ -133,8 +132,8 @@ abbrev pub tight_code : Group → Places → List Counter → List Going → Sto
 tight_code group places scope goings store =
     Vector (v.Vsetvli 0 parked (vtype_of group))
     ∷ (if value_leads group places scope goings store
-    then (lean group places scope goings store.value).code 0 ++ (distances_code group places scope goings store 1 ++ stored_code places store (slot group 0) (slot group 1))
-    else distances_code group places scope goings store 0 ++ ((lean group places scope goings store.value).code 1 ++ stored_code places store (slot group 1) (slot group 0)))
+    then (laned group places scope goings store.value).code 0 ++ (distances_code group places scope goings store 1 ++ stored_code places store (slot group 0) (slot group 1))
+    else distances_code group places scope goings store 0 ++ ((laned group places scope goings store.value).code 1 ++ stored_code places store (slot group 1) (slot group 0)))
 
 -- So it is where the stack doesn't suffice for columns above the values and rows above both, and nothing can wait in a frame.
 abbrev pub lacks : Option ℕ → Bool → Bool

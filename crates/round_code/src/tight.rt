@@ -3,7 +3,7 @@
 ghost use Rattle.std.specs.Prelude.{◌≡◌, ◌+◌, ◌<◌, ◌≤◌, ◌&&◌, OnOk, IfErr, IfOk, ℕ, true};
 ghost use Rattle.scalar_code.specs.Faults.{IsFault};
 ghost use Rattle.scalar_code.specs.Words.{Emits};
-ghost use Rattle.lane_code.specs.Lean.{lean};
+ghost use Rattle.lane_code.specs.Lanes.{laned};
 ghost use Rattle.round_code.specs.Emitting.{EmitsDistances, FitDistances};
 ghost use Rattle.round_code.specs.Rounds as spec;
 
@@ -11,8 +11,7 @@ use halide_pipeline::Source;
 use lane_code::frames::{are_above, fits_lanes};
 use lane_code::goings::Going;
 use lane_code::groups::Group;
-use lane_code::lean::{emit_lean, fits_lean};
-use lane_code::values::{emit_based, emit_distances};
+use lane_code::values::{emit_based, emit_distances, emit_lanes};
 use lane_code::vectors::{configure, store_at};
 use loop_ir::expressions::{Counter, Expr};
 use loop_ir::statements::Store;
@@ -32,10 +31,10 @@ fn fit_in_turn(
     k: u8,
 ) -> bool
     requires { k ≤ 1 }
-    ensures { result ≡ ((lean group places.now scope.now goings.now first.now).fits k && (lean group places.now scope.now goings.now second.now).fits (k + 1)) }
+    ensures { result ≡ ((laned group places.now scope.now goings.now first.now).fits k && (laned group places.now scope.now goings.now second.now).fits (k + 1)) }
 {
-    fits_lean(group, places, scope, goings, first, k)
-        && fits_lean(group, places, scope, goings, second, k + 1)
+    fits_lanes(group, places, scope, goings, first, k)
+        && fits_lanes(group, places, scope, goings, second, k + 1)
 }
 
 /// Whether the distances of pixels can be made in a slot and those above, with columns or rows first.
@@ -70,13 +69,13 @@ fn emit_pixel_distances(
 {
     let place = place_of(places, Source::Func(store.func));
     if fit_in_turn(group, places, scope, goings, &store.x, &store.y, k) {
-        let columns = emit_lean(code, group, places, scope, goings, &store.x, k)?;
-        let rows = emit_lean(code, group, places, scope, goings, &store.y, k + 1)?;
+        let columns = emit_lanes(code, group, places, scope, goings, &store.x, k)?;
+        let rows = emit_lanes(code, group, places, scope, goings, &store.y, k + 1)?;
         emit_distances(code, &place, columns, rows, rows)?;
         return Ok(columns);
     }
-    let rows = emit_lean(code, group, places, scope, goings, &store.y, k)?;
-    let columns = emit_lean(code, group, places, scope, goings, &store.x, k + 1)?;
+    let rows = emit_lanes(code, group, places, scope, goings, &store.y, k)?;
+    let columns = emit_lanes(code, group, places, scope, goings, &store.x, k + 1)?;
     emit_distances(code, &place, rows, columns, rows)?;
     Ok(rows)
 }
@@ -108,7 +107,7 @@ fn value_leads(
 ) -> bool
     ensures { result ≡ spec.value_leads group places.now scope.now goings.now store.now }
 {
-    fits_lean(group, places, scope, goings, &store.value, 0)
+    fits_lanes(group, places, scope, goings, &store.value, 0)
         && distances_fit(group, places, scope, goings, store, 1)
 }
 
@@ -126,13 +125,13 @@ pub fn emit_tight(
 {
     configure(code, group, 15)?;
     if value_leads(group, places, scope, goings, store) {
-        let values = emit_lean(code, group, places, scope, goings, &store.value, 0)?;
+        let values = emit_lanes(code, group, places, scope, goings, &store.value, 0)?;
         let distances = emit_pixel_distances(code, group, places, scope, goings, store, 1)?;
         emit_stored(code, places, store, values, distances)?;
         return Ok(());
     }
     let distances = emit_pixel_distances(code, group, places, scope, goings, store, 0)?;
-    let values = emit_lean(code, group, places, scope, goings, &store.value, 1)?;
+    let values = emit_lanes(code, group, places, scope, goings, &store.value, 1)?;
     emit_stored(code, places, store, values, distances)?;
     Ok(())
 }

@@ -1,4 +1,4 @@
-use Rattle.std.proofs.Common.{◌∙◌, sym, ap, arith}
+use Rattle.std.proofs.Common.{◌∙◌, refl, sym, ap, arith}
 use Rattle.lane_code.specs.Lanes.{in_one_row, is_dense, laned}
 use Rattle.scalar_code.proofs.Refusing.{passed}
 use Rattle.lane_code.proofs.Emission.{number-emitted, linear-emitted, binary-emitted, divide-emitted, remainder-emitted, select-emitted, dense-emitted, gathered-emitted, picked-emitted, no-column, no-row, no-picked, no-first, no-third}
@@ -30,7 +30,7 @@ returns-in_ok-emit_lanes_selection-in-Select-clause-ok t c =
 
 pub returns-then-is_dense-clause-ok : goal.returns-then-is_dense-clause-ok
 returns-then-is_dense-clause-ok t c =
-    dense-emitted c.args.group c.args.places.now c.args.scope.now c.args.goings.now c.args.e.now c.args.k c.slot-r.result (let n = c.if-k-slots.false in let s = c.slots.ensures in omega (arith, n, s)) c.slot-r.ensures.0 c.slot-r.ensures.1 c.in-Load.source c.in-Load.x c.in-Load.y _ _ c.place_of-place.result _ _ _ _ _ c.in-Load.is c.get-then-is_dense.ensures c.get-then-is_dense-2.ensures c.place_of-place.ensures c.spare-then-is_dense.ensures.0 (ap (λ x. is_dense (laned c.args.group c.args.places.now c.args.scope.now c.args.goings.now x) (laned c.args.group c.args.places.now c.args.scope.now c.args.goings.now c.in-Load.y)) (sym c.get-in-Load.ensures) ∙ ap (λ y. is_dense (laned c.args.group c.args.places.now c.args.scope.now c.args.goings.now c.get-in-Load.result.now) (laned c.args.group c.args.places.now c.args.scope.now c.args.goings.now y)) (sym c.get-in-Load-2.ensures) ∙ sym (c.is_dense.ensures c.args.group c.args.places.now) ∙ c.if-is_dense.true) c.in_ok-emit_value-in-Load.ensures.ok c.in_ok-emit_value-in-Load-2.ensures.ok c.in_ok-emit_dense-in-Load.ensures
+    dense-emitted c.args.group c.args.places.now c.args.scope.now c.args.goings.now c.args.e.now c.args.k c.slot-r.result (let n = c.if-k-slots.false in let s = c.slots.ensures in omega (arith, n, s)) c.slot-r.ensures.0 c.slot-r.ensures.1 c.in-Load.source c.in-Load.x c.in-Load.y _ _ c.place_of-place.result _ _ _ _ _ c.in-Load.is c.get-then-is_dense.ensures c.get-then-is_dense-2.ensures c.place_of-place.ensures refl (ap (λ x. is_dense (laned c.args.group c.args.places.now c.args.scope.now c.args.goings.now x) (laned c.args.group c.args.places.now c.args.scope.now c.args.goings.now c.in-Load.y)) (sym c.get-in-Load.ensures) ∙ ap (λ y. is_dense (laned c.args.group c.args.places.now c.args.scope.now c.args.goings.now c.get-in-Load.result.now) (laned c.args.group c.args.places.now c.args.scope.now c.args.goings.now y)) (sym c.get-in-Load-2.ensures) ∙ sym (c.is_dense.ensures c.args.group c.args.places.now) ∙ c.if-is_dense.true) c.in_ok-emit_value-in-Load.ensures.ok c.in_ok-emit_value-in-Load-2.ensures.ok c.in_ok-emit_dense-in-Load.ensures
 
 pub returns-in_ok-emit_gathered-in-Load-clause-ok : goal.returns-in_ok-emit_gathered-in-Load-clause-ok
 returns-in_ok-emit_gathered-in-Load-clause-ok t c =

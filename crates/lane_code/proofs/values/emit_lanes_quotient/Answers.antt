@@ -4,6 +4,6 @@ use Rattle.lane_code.proofs.values.emit_lanes_quotient.Goals as goal
 
 pub returns-clause-ok : goal.returns-clause-ok
 returns-clause-ok c = (
-  emits_then c.in_ok-test_sign.ensures (emits_then c.in_ok-emit_lanes_complement.ensures (emits_then c.in_ok-emit_number.ensures.0 (emits_then c.in_ok-multiplication_by.ensures c.in_ok-emit_lanes_complement-2.ensures))),
+  emits_then c.in_ok-signs.ensures (emits_then c.in_ok-emit_lanes_turned.ensures (emits_then c.in_ok-emit_number.ensures.0 (emits_then c.in_ok-multiplication_by.ensures c.in_ok-emit_lanes_turned-2.ensures))),
   (let z = c.if-c-eq0.false in omega (arith, z), c.in_ok-emit_number.ensures.1),
 )
