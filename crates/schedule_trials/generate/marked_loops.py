@@ -133,7 +133,4 @@ CASES = [
      "f split x xo xi 1 shift\nf split xo p q 4 guard\nf reorder q xi p\nf vectorize q", Facts((16,))),
     ("the outer loop of a shift split that cuts nothing off", "input in 36\nfunc f(x) = in(x) * 5 - in(35-x)\noutput f 36",
      "f split x xo xi 4 shift\nf split xo p q 4 guard\nf reorder q xi p\nf vectorize q", Facts((36,))),
-    ("one whose rows and whose values are choices of six registers, of bytes and quotients",
-     "input in 20 4 u8\nfunc h(x,y) = 0\nupdate h(x,clamp(select(in(x,r)%3==0,0,select(in(19-x,r)/7<9,1,x*in(19-x,r))),0,3)) = select((x-9)/4<r,0-in(x,r),select(in(19-x,r)%5<3,x,r*in(19-x,r))) over r 0 4\noutput h 20 4",
-     "h.0 split x xo xi 16 guard\nh.0 reorder xi r\nh.0 vectorize xi", Facts((80,), tasks=(1, 1))),
 ]
