@@ -67,6 +67,12 @@ def update_by_columns(column, value):
             "h.0 split y yo yi 16 guard\nh.0 reorder yi r\nh.0 vectorize yi", Facts((80,), tasks=(1, 1), greatest=5))
 
 
+def update_by_table(row, value):
+    """One that reads a computed Func at a byte: its index counts from that Func's corner, which the weights don't count."""
+    return (f"input in 20 4\ninput b 20 u8\nfunc lut(x) = x % 4 - 1\nfunc h(x,y) = 0\nupdate h(x,{row}) = {value} over r 0 4\noutput h 20 4",
+            "lut compute_root\nh.0 split x xo xi 16 guard\nh.0 reorder xi r\nh.0 vectorize xi", Facts((256, 80), tasks=(1, 1, 1), greatest=5))
+
+
 CASES = [
     (f"bytes one behind the other by {factor}", *one("in(x) * 3 - in(x+1)", 36, factor, inputs="input in 37 u8")) for factor in (4, 8, 16)
 ] + [
@@ -133,4 +139,8 @@ CASES = [
      "f split x xo xi 1 shift\nf split xo p q 4 guard\nf reorder q xi p\nf vectorize q", Facts((16,))),
     ("the outer loop of a shift split that cuts nothing off", "input in 36\nfunc f(x) = in(x) * 5 - in(35-x)\noutput f 36",
      "f split x xo xi 4 shift\nf split xo p q 4 guard\nf reorder q xi p\nf vectorize q", Facts((36,))),
+    ("one whose rows weigh six registers and take seven groups", *update_by_table(f"clamp(in(clamp(x,0,19),r)+({nested(4, 'lut(b(r))')}),0,3)", "in(x,r)")),
+    ("one whose rows need six registers, and whose values weigh six and take seven groups", *update_by_table(nested(4, ROW), nested(4, "lut(b(x))"))),
+    ("a split of the outer loop of three shift splits by three", "input in 61\nfunc f(x) = in(x)\noutput f 61",
+     "f split x a xi 3 shift\nf split a c ci 3 shift\nf split c e ei 3 shift\nf split e g h 4 guard\nf reorder h xi ci ei g\nf vectorize h", Facts((61,), code="0 of 1 vector code, 1 collected")),
 ]
