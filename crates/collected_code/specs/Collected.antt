@@ -47,7 +47,8 @@ pixel_code places scope store =
     value_code places scope store.x ++ (move parked bottom ++ (value_code places scope store.y
     ++ (addressed (place_of places (sources.Func store.func)) parked bottom ++ value_code places scope store.value)))
 
--- They become those of the lane with the round's number, which register r holds, and as many lanes are configured as rounds were made.
+-- They become those of the lane with the round's number, which register r holds, and as many lanes are configured as rounds were made. Pixels are
+-- collected in the first group of the stack and addresses in the second; the third numbers the lanes.
 abbrev pub collecting : Group → ℕ → List Insn
 collecting group r =
     AluImm alu_imms.Addi second_scratch r (pos 1) ∷ Vector (v.Vsetvli 0 second_scratch (vtype_of group)) ∷ Vector (v.ElementNumbers (slot group 2) true)

@@ -129,7 +129,7 @@ impl Hart {
         }
     }
 
-    /// Does a branch. That it is laid into `execute` makes one jump of both matches; so it is for accesses and operations.
+    /// Does a branch. It is laid into `execute`, so that a turn makes no call for it; so are accesses and operations.
     #[inline(always)]
     fn execute_branch(&mut self, meaning: &Meaning) -> Result<Outcome, Trap>
         requires { IsBranch (insn_of meaning.now) }

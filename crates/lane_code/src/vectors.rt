@@ -1,4 +1,4 @@
-//! Single vector instructions as words, on whole groups and without a mask.
+//! Single vector instructions as words, on whole groups; none but merges goes by a mask.
 
 ghost use Rattle.std.specs.Prelude.{◌≡◌, ◌<◌, ◌≤ℤ◌, [], ◌∷◌, OnOk, pos, negsuc, true};
 ghost use Rattle.rv_insn.specs.declared.instructions.Insn.TheVariants.{Vector};

@@ -40,6 +40,6 @@ AnyLanesGiven =
     → length numbers ≡ 4 * registers → ((i : ℕ) → i < f vl_number → slice_index numbers i < 2 ^ 32)
     → At (at + 4) (write_group f d (f vl_number) (slice_index numbers)) (advanced (with_vectors hart (with_elements (vectors_of hart) d true numbers)))
 
--- what is written to a group is what it holds, and all else stays
+-- what is written to a group is what it holds
 abbrev pub GroupsHold : Type 0
 GroupsHold = (f : ℕ → ℕ) (d n : ℕ) (new : ℕ → ℕ) (i : ℕ) → n ≤ 16 → i < n → new i < 2 ^ 32 → held (write_group f d n new) d i ≡ new i

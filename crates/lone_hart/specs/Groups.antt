@@ -23,8 +23,8 @@ OthersStay =
 abbrev pub SizeStays : Type 0
 SizeStays = (state : Vectors) (v registers : ℕ) (numbers : List ℕ) → length (with_registers state 32 v registers numbers).registers ≡ length state.registers
 
--- A row that writes a group's lanes, unmasked: the first ones below vl become the new numbers, all else stays. (A group that begins at
--- v0 holds the mask, of which bits are numbered and no lanes.)
+-- A row that writes a group's lanes, unmasked: the first ones below vl become the new numbers, all else stays. (Of the group that
+-- begins at v0, `FirstGroup.antt` tells.)
 abbrev pub LanesGiven : Type 0
 LanesGiven =
     (at d registers : ℕ) (f : ℕ → ℕ) (hart : HartState) (numbers : List ℕ) → at + 4 < 2 ^ 32 → At at f hart → LanesConfigured f registers → 1 ≤ d → d + registers ≤ 32

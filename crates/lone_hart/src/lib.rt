@@ -3,7 +3,8 @@
 //!
 //! Bytes of memory are each for one purpose (`specs/Uses.antt`). A run alone is told forwards, from where it
 //! begins (`specs/Alone.antt`): after so many quiet turns, what is wanted holds. Code is told by paths
-//! (`specs/Paths.antt`): from one address, numbers and memory to others, whatever stands around.
+//! (`specs/Paths.antt`): from one address, numbers and memory to others, whatever stands around. Lanes of the group
+//! that begins at v0, whose bits are numbers too, are what these spell (`specs/FirstGroup.antt`).
 //!
 //! - [`laws`]: words that stand in a text, paths one after the other, and what each kind of scalar
 //!   instruction leaves, and each kind of vector row on lanes of 32 bits, in groups of up to four registers.

@@ -21,7 +21,7 @@ use scalar_code::places::Places;
 use std::alloc::AllocError;
 
 /// Whether the stack suffices for an expression in a slot and those above, and for another one above it.
-fn fit_in_turn(
+fn fit_from(
     group: Group,
     places: &Places,
     scope: &[Counter],
@@ -49,8 +49,8 @@ fn distances_fit(
     requires { k ≤ 1 }
     ensures { result ≡ spec.distances_fit group places.now scope.now goings.now store.now k }
 {
-    fit_in_turn(group, places, scope, goings, &store.x, &store.y, k)
-        || fit_in_turn(group, places, scope, goings, &store.y, &store.x, k)
+    fit_from(group, places, scope, goings, &store.x, &store.y, k)
+        || fit_from(group, places, scope, goings, &store.y, &store.x, k)
 }
 
 /// Appends what leaves in a slot, whose first register is answered, how far pixels lie from the buffer's first one.
@@ -68,7 +68,7 @@ fn emit_pixel_distances(
     ensures err { IfErr result (IsFault ⊥ (FitDistances group places.now scope.now goings.now store.now k → ⊥)) }
 {
     let place = place_of(places, Source::Func(store.func));
-    if fit_in_turn(group, places, scope, goings, &store.x, &store.y, k) {
+    if fit_from(group, places, scope, goings, &store.x, &store.y, k) {
         let columns = emit_lanes(code, group, places, scope, goings, &store.x, k)?;
         let rows = emit_lanes(code, group, places, scope, goings, &store.y, k + 1)?;
         emit_distances(code, &place, columns, rows, rows)?;
