@@ -7,7 +7,7 @@ ghost use Rattle.hart_core.specs.Scalar.{jump_fault, jump_of, jumped, linked};
 ghost use Rattle.hart_core.specs.HartState.{register, at_pc, given};
 ghost use Rattle.hart_core.specs.Meanings.{insn_of};
 ghost use Rattle.hart_core.specs.Turn.{step, step_with, fault, IsDone};
-ghost use Rattle.hart_core.specs.inner.Meanings.{IsScalar, IsBranch, IsAccess, IsOperation, IsOnRegisters, IsDoneBy, fault_by};
+ghost use Rattle.hart_core.specs.inner.Meanings.{IsScalar, IsBranch, IsAccess, IsWithImmediate, IsOperation, IsProduct, IsDoneBy, fault_by};
 
 use crate::accesses::{load, store};
 use crate::alu::{computed, computed_with_immediate, extend, is_taken, shifted};
@@ -125,11 +125,31 @@ impl Hart {
             Meaning::Ecall => Ok(self.finish()),
             Meaning::Ebreak => Err(Trap::Breakpoint),
             Meaning::Vector(_) => unreachable!(),
-            _ => Ok(self.execute_operation(meaning)),
+            Meaning::Addi { .. }
+            | Meaning::Slti { .. }
+            | Meaning::Sltiu { .. }
+            | Meaning::Xori { .. }
+            | Meaning::Ori { .. }
+            | Meaning::Andi { .. }
+            | Meaning::Slli { .. }
+            | Meaning::Srli { .. }
+            | Meaning::Srai { .. } => Ok(self.execute_with_immediate(meaning)),
+            Meaning::Add { .. }
+            | Meaning::Sub { .. }
+            | Meaning::Sll { .. }
+            | Meaning::Slt { .. }
+            | Meaning::Sltu { .. }
+            | Meaning::Xor { .. }
+            | Meaning::Srl { .. }
+            | Meaning::Sra { .. }
+            | Meaning::Or { .. }
+            | Meaning::And { .. } => Ok(self.execute_operation(meaning)),
+            _ => Ok(self.execute_product(meaning)),
         }
     }
 
-    /// Does a branch. It is laid into `execute`, so that a turn makes no call for it; so are accesses and operations.
+    /// Does a branch. It is laid into `execute`; so are the other formats. The compiler makes one jump of both matches, as long as few
+    /// meanings lead to one of them: so operations come in three.
     #[inline(always)]
     fn execute_branch(&mut self, meaning: &Meaning) -> Result<Outcome, Trap>
         requires { IsBranch (insn_of meaning.now) }
@@ -175,10 +195,10 @@ impl Hart {
         }
     }
 
-    /// Does an operation on a register and an immediate, or else on two registers.
+    /// Does an operation on a register and an immediate.
     #[inline(always)]
-    fn execute_operation(&mut self, meaning: &Meaning) -> Outcome
-        requires { IsOperation (insn_of meaning.now) }
+    fn execute_with_immediate(&mut self, meaning: &Meaning) -> Outcome
+        requires { IsWithImmediate (insn_of meaning.now) }
         ensures { (text memory : List ℕ) → IsDoneBy (insn_of meaning.now) text memory self.old self.new memory result }
     {
         match *meaning {
@@ -191,14 +211,14 @@ impl Hart {
             Meaning::Slli { rd, rs1, amount } => self.shift(ShiftOp::Slli, rd, rs1, amount),
             Meaning::Srli { rd, rs1, amount } => self.shift(ShiftOp::Srli, rd, rs1, amount),
             Meaning::Srai { rd, rs1, amount } => self.shift(ShiftOp::Srai, rd, rs1, amount),
-            _ => self.execute_on_two_registers(meaning),
+            _ => unreachable!(),
         }
     }
 
-    /// Does an operation on two registers.
+    /// Does an operation of the base set on two registers.
     #[inline(always)]
-    fn execute_on_two_registers(&mut self, meaning: &Meaning) -> Outcome
-        requires { IsOnRegisters (insn_of meaning.now) }
+    fn execute_operation(&mut self, meaning: &Meaning) -> Outcome
+        requires { IsOperation (insn_of meaning.now) }
         ensures { (text memory : List ℕ) → IsDoneBy (insn_of meaning.now) text memory self.old self.new memory result }
     {
         match *meaning {
@@ -212,6 +232,17 @@ impl Hart {
             Meaning::Sra { rd, rs1, rs2 } => self.operate(AluOp::Sra, rd, rs1, rs2),
             Meaning::Or { rd, rs1, rs2 } => self.operate(AluOp::Or, rd, rs1, rs2),
             Meaning::And { rd, rs1, rs2 } => self.operate(AluOp::And, rd, rs1, rs2),
+            _ => unreachable!(),
+        }
+    }
+
+    /// Does an operation of the extension M: a product, a quotient or a remainder.
+    #[inline(always)]
+    fn execute_product(&mut self, meaning: &Meaning) -> Outcome
+        requires { IsProduct (insn_of meaning.now) }
+        ensures { (text memory : List ℕ) → IsDoneBy (insn_of meaning.now) text memory self.old self.new memory result }
+    {
+        match *meaning {
             Meaning::Mul { rd, rs1, rs2 } => self.operate(AluOp::Mul, rd, rs1, rs2),
             Meaning::Mulh { rd, rs1, rs2 } => self.operate(AluOp::Mulh, rd, rs1, rs2),
             Meaning::Mulhsu { rd, rs1, rs2 } => self.operate(AluOp::Mulhsu, rd, rs1, rs2),

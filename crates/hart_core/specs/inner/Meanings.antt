@@ -3,6 +3,8 @@ use Rattle.std.specs.Prelude.{⊤, ◌≢◌, ℕ, List, Option, Some, None}
 use Rattle.rv_insn.specs.declared.vector_instructions.VectorInsn.{VectorInsn}
 use Rattle.rv_insn.specs.declared.instructions.Insn.{Insn}
 use Rattle.rv_insn.specs.declared.instructions.Insn.TheVariants as insns
+use Rattle.rv_insn.specs.declared.operations.AluOp.{AluOp}
+use Rattle.rv_insn.specs.declared.operations.AluOp.TheVariants as alus
 use Rattle.rv_insn.specs.declared.outcomes.Outcome.{Outcome}
 use Rattle.rv_insn.specs.declared.outcomes.Trap.{Trap}
 use Rattle.rv_insn.specs.declared.outcomes.Trap.TheVariants.{IllegalInstruction}
@@ -37,13 +39,42 @@ IsAccess (Some (insns.Load op rd rs1 imm)) = ⊤
 IsAccess (Some (insns.Store op rs1 rs2 imm)) = ⊤
 IsAccess insn = ⊥
 
--- an operation on two registers
-abbrev pub IsOnRegisters : Option Insn → Type 0
-IsOnRegisters (Some (insns.Alu op rd rs1 rs2)) = ⊤
-IsOnRegisters insn = ⊥
+-- an operation on a register and an immediate
+abbrev pub IsWithImmediate : Option Insn → Type 0
+IsWithImmediate (Some (insns.AluImm op rd rs1 imm)) = ⊤
+IsWithImmediate (Some (insns.Shift op rd rs1 amount)) = ⊤
+IsWithImmediate insn = ⊥
 
--- on two registers, or on one and an immediate
+-- the base set has the operation, and not the extension M
+abbrev pub IsOfBase : AluOp → Type 0
+IsOfBase alus.Mul = ⊥
+IsOfBase alus.Mulh = ⊥
+IsOfBase alus.Mulhsu = ⊥
+IsOfBase alus.Mulhu = ⊥
+IsOfBase alus.Div = ⊥
+IsOfBase alus.Divu = ⊥
+IsOfBase alus.Rem = ⊥
+IsOfBase alus.Remu = ⊥
+IsOfBase op = ⊤
+
+-- an operation on two registers, of the base set
 abbrev pub IsOperation : Option Insn → Type 0
-IsOperation (Some (insns.AluImm op rd rs1 imm)) = ⊤
-IsOperation (Some (insns.Shift op rd rs1 amount)) = ⊤
-IsOperation insn = IsOnRegisters insn
+IsOperation (Some (insns.Alu op rd rs1 rs2)) = IsOfBase op
+IsOperation insn = ⊥
+
+-- the extension M has the operation: a product, a quotient or a remainder
+abbrev pub IsOfProducts : AluOp → Type 0
+IsOfProducts alus.Mul = ⊤
+IsOfProducts alus.Mulh = ⊤
+IsOfProducts alus.Mulhsu = ⊤
+IsOfProducts alus.Mulhu = ⊤
+IsOfProducts alus.Div = ⊤
+IsOfProducts alus.Divu = ⊤
+IsOfProducts alus.Rem = ⊤
+IsOfProducts alus.Remu = ⊤
+IsOfProducts op = ⊥
+
+-- an operation on two registers, of that extension
+abbrev pub IsProduct : Option Insn → Type 0
+IsProduct (Some (insns.Alu op rd rs1 rs2)) = IsOfProducts op
+IsProduct insn = ⊥
