@@ -1,9 +1,9 @@
 -- Fields filled by one operand and then by the others.
 use Rattle.std.proofs.Common.{◌≡◌, ℕ, ℤ, List, [], ◌∷◌, ◌++◌, None, Result, Ok, Err, refl, sym, ap, ◌∙◌, slice_set}
-use Rattle.mnemonics.specs.Placing.{placed}
+use Rattle.assembler_mnemonics.specs.Placing.{placed}
 use Rattle.assembler.specs.Faults.{both}
-use Rattle.mnemonics.specs.declared.slots.Slot.{Slot}
-use Rattle.assembly_syntax.specs.declared.statements.Operand.{Operand}
+use Rattle.assembler_mnemonics.specs.declared.slots.Slot.{Slot}
+use Rattle.assembler_syntax.specs.declared.statements.Operand.{Operand}
 use Rattle.assembler.specs.Judging.{Context, appended, given, given_all, left_out, named_at}
 use Rattle.assembler.specs.Filling.{Fills, together}
 use Rattle.assembler.specs.declared.faults.AsmFault.{AsmFault}

@@ -4,22 +4,22 @@ use Rattle.std.specs.Int.Signed.{le_z, le_z_yes}
 use Rattle.std.proofs.lemmas.Bool.{and_parts, leb-true, ltb-true, le-leb}
 use Rattle.line_text.specs.Classes.{is_digit}
 use Rattle.line_text.specs.Reading.{◌>>=◌}
-use Rattle.mnemonics.specs.declared.slots.Slot.{Slot}
-use Rattle.mnemonics.specs.declared.slots.Slot.TheVariants as s
-use Rattle.mnemonics.specs.Placing.{GivesOne, Gives, AllGive, placed}
-use Rattle.mnemonics.specs.declared.forms.Form.{Form}
-use Rattle.mnemonics.specs.Slots.{shape, blank}
+use Rattle.assembler_mnemonics.specs.declared.slots.Slot.{Slot}
+use Rattle.assembler_mnemonics.specs.declared.slots.Slot.TheVariants as s
+use Rattle.assembler_mnemonics.specs.Placing.{GivesOne, Gives, AllGive, placed}
+use Rattle.assembler_mnemonics.specs.declared.forms.Form.{Form}
+use Rattle.assembler_mnemonics.specs.Slots.{shape, blank}
 use Rattle.assembler.specs.Filling.{Fills}
 use Rattle.std.proofs.lemmas.List.{append-nil}
-use Rattle.mnemonics.specs.Registers.{register_number, integer_letter, vector_letter}
+use Rattle.assembler_mnemonics.specs.Registers.{register_number, integer_letter, vector_letter}
 use Rattle.std.specs.Int.{int_shr}
 use Rattle.std.specs.Str.{bytes_eq}
 use Rattle.assembler.specs.Places.{address}
 use Rattle.assembler.specs.declared.surveys.Survey.{Survey}
 use Rattle.assembler.specs.declared.surveys.Here.{Here}
 use Rattle.assembler.specs.declared.faults.AsmFault.TheVariants.{Syntax, Register, Target}
-use Rattle.assembly_syntax.specs.declared.statements.Operand.{Operand}
-use Rattle.assembly_syntax.specs.declared.statements.Operand.TheVariants as o
+use Rattle.assembler_syntax.specs.declared.statements.Operand.{Operand}
+use Rattle.assembler_syntax.specs.declared.statements.Operand.TheVariants as o
 use Rattle.assembler.specs.Faults.{both, or_fault, unless}
 use Rattle.assembler.specs.Judging.{Context, is_within, number_within, register_of, in_field, in_fields, given, given_all, appended, named_type, named_at, named_or, four_names, left_out, reached, halves_of, halves_to, halves_to_label, referenced, is_odd, masked}
 use Rattle.assembler.specs.declared.faults.AsmFault.{AsmFault}

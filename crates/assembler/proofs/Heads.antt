@@ -1,13 +1,13 @@
 -- The front of a line is that of its statement.
 use Rattle.std.proofs.Common.{◌≡◌, ◌≢◌, ℕ, Bool, true, false, cond, ℤ, List, [], ◌∷◌, Option, Some, None, ◌⊎◌, inl, inr, refl, sym, ap, subst, ◌∙◌}
-use Rattle.assembly_syntax.specs.Statements.{head_of, statement_of, behind_label, command_head, commanded, is_label, only_number, operand_of, operands_of, all_operands, pieces_of, joined, with_first}
-use Rattle.assembly_syntax.specs.declared.tokens.Token.{Token}
-use Rattle.assembly_syntax.specs.declared.tokens.Token.TheVariants as t
-use Rattle.assembly_syntax.specs.declared.statements.Operand.{Operand}
-use Rattle.assembly_syntax.specs.declared.statements.Operand.TheVariants as o
-use Rattle.assembly_syntax.specs.declared.statements.Command.{Command}
-use Rattle.assembly_syntax.specs.declared.statements.Statement.{Statement}
-use Rattle.assembly_syntax.specs.declared.statements.Head.{Head}
+use Rattle.assembler_syntax.specs.Statements.{head_of, statement_of, behind_label, command_head, commanded, is_label, only_number, operand_of, operands_of, all_operands, pieces_of, joined, with_first}
+use Rattle.assembler_syntax.specs.declared.tokens.Token.{Token}
+use Rattle.assembler_syntax.specs.declared.tokens.Token.TheVariants as t
+use Rattle.assembler_syntax.specs.declared.statements.Operand.{Operand}
+use Rattle.assembler_syntax.specs.declared.statements.Operand.TheVariants as o
+use Rattle.assembler_syntax.specs.declared.statements.Command.{Command}
+use Rattle.assembler_syntax.specs.declared.statements.Statement.{Statement}
+use Rattle.assembler_syntax.specs.declared.statements.Head.{Head}
 
 -- where the only operand is a number, it is the front's
 abbrev pub Agrees : List Operand → Option ℤ → Type 0

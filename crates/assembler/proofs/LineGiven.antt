@@ -1,9 +1,9 @@
 -- What a line gives, from its tokens and its statement.
 use Rattle.std.proofs.Common.{◌≡◌, ℕ, List, Option, Some, None, Result, Ok, Err, refl, sym, ap, ◌∙◌}
-use Rattle.assembly_syntax.specs.Tokens.{tokens_of}
-use Rattle.assembly_syntax.specs.Statements.{statement_of, head_of}
-use Rattle.assembly_syntax.specs.declared.tokens.Token.{Token}
-use Rattle.assembly_syntax.specs.declared.statements.Statement.{Statement}
+use Rattle.assembler_syntax.specs.Tokens.{tokens_of}
+use Rattle.assembler_syntax.specs.Statements.{statement_of, head_of}
+use Rattle.assembler_syntax.specs.declared.tokens.Token.{Token}
+use Rattle.assembler_syntax.specs.declared.statements.Statement.{Statement}
 use Rattle.assembler.specs.Judging.{Context, Given}
 use Rattle.assembler.specs.Lines.{line_given, stated}
 use Rattle.assembler.specs.Places.{after}

@@ -2,10 +2,10 @@
 use Rattle.std.proofs.Common.{◌≡◌, ℤ, true, List, [], ◌∷◌, Ok, arith, ap}
 use Rattle.rv_insn.specs.Meaning.{fields_of}
 use Rattle.rv_insn.specs.declared.instructions.Insn.{Insn}
-use Rattle.mnemonics.specs.Forms.{form_of}
-use Rattle.mnemonics.specs.Placing.{placed}
-use Rattle.mnemonics.specs.Slots.{shape, vector_shape, blank, vector_blank, FitsSlots}
-use Rattle.mnemonics.specs.declared.forms.Form.{Form}
+use Rattle.assembler_mnemonics.specs.Forms.{form_of}
+use Rattle.assembler_mnemonics.specs.Placing.{placed}
+use Rattle.assembler_mnemonics.specs.Slots.{shape, vector_shape, blank, vector_blank, FitsSlots}
+use Rattle.assembler_mnemonics.specs.declared.forms.Form.{Form}
 use Rattle.disassembler.specs.Reading.{all_shown}
 use Rattle.assembler.specs.Judging.{Context, Coded, instruction, these_items}
 use Rattle.assembler.proofs.ListedOperands.{own_pairs, all_pairs, is_plain, is_ordered, slots_given}

@@ -7,16 +7,16 @@ use Rattle.std.proofs.lemmas.Bool.{and_parts, le-leb}
 use Rattle.std.proofs.lemmas.Int.{ints}
 use Rattle.rv_insn.specs.Meaning.{fields_of}
 use Rattle.rv_insn.specs.declared.instructions.Insn.{Insn}
-use Rattle.mnemonics.specs.Forms.{form_of, mnemonic}
-use Rattle.mnemonics.specs.Named.{forms, vector_forms, form_among, form_named}
-use Rattle.mnemonics.specs.Slots.{shape, FitsSlots}
-use Rattle.mnemonics.specs.declared.forms.Form.{Form}
-use Rattle.assembly_syntax.specs.Tokens.{tokens_of}
-use Rattle.assembly_syntax.specs.Statements.{statement_of, head_of, only_number}
-use Rattle.assembly_syntax.specs.declared.tokens.Token.{Token}
-use Rattle.assembly_syntax.specs.declared.tokens.Token.TheVariants as t
-use Rattle.assembly_syntax.specs.declared.statements.Operand.{Operand}
-use Rattle.assembly_syntax.specs.declared.statements.Operand.TheVariants as o
+use Rattle.assembler_mnemonics.specs.Forms.{form_of, mnemonic}
+use Rattle.assembler_mnemonics.specs.Named.{forms, vector_forms, form_among, form_named}
+use Rattle.assembler_mnemonics.specs.Slots.{shape, FitsSlots}
+use Rattle.assembler_mnemonics.specs.declared.forms.Form.{Form}
+use Rattle.assembler_syntax.specs.Tokens.{tokens_of}
+use Rattle.assembler_syntax.specs.Statements.{statement_of, head_of, only_number}
+use Rattle.assembler_syntax.specs.declared.tokens.Token.{Token}
+use Rattle.assembler_syntax.specs.declared.tokens.Token.TheVariants as t
+use Rattle.assembler_syntax.specs.declared.statements.Operand.{Operand}
+use Rattle.assembler_syntax.specs.declared.statements.Operand.TheVariants as o
 use Rattle.disassembler.specs.Reading.{mnemonic_said, operands_said, operands_tokens, commanding}
 use Rattle.assembler.specs.Judging.{Context, Given, Item, Coded, Raw, performed, these_items, word_number}
 use Rattle.assembler.specs.Lines.{line_given, stated, fits}

@@ -5,14 +5,14 @@ use Rattle.std.specs.Int.{int_rem_euclid, int_shr}
 use Rattle.std.specs.Int.Signed.{le_z}
 use Rattle.std.proofs.lemmas.Bool.{and_parts}
 use Rattle.std.proofs.lemmas.Int.{ints}
-use Rattle.mnemonics.specs.Configuration.{width_names, group_names, tail_names, mask_names, width_code, group_code, tail_code, mask_code, has_names, vtype_named, name_at}
-use Rattle.mnemonics.specs.Registers.{integer_letter, vector_letter, register_number}
-use Rattle.mnemonics.specs.Slots.{field_at, FitsSlot, FitsSlots}
-use Rattle.mnemonics.specs.declared.slots.Slot.{Slot}
-use Rattle.mnemonics.specs.declared.slots.Slot.TheVariants as s
-use Rattle.mnemonics.proofs.Written.{register_read_back, vtype_read_back}
-use Rattle.assembly_syntax.specs.declared.statements.Operand.{Operand}
-use Rattle.assembly_syntax.specs.declared.statements.Operand.TheVariants as o
+use Rattle.assembler_mnemonics.specs.Configuration.{width_names, group_names, tail_names, mask_names, width_code, group_code, tail_code, mask_code, has_names, vtype_named, name_at}
+use Rattle.assembler_mnemonics.specs.Registers.{integer_letter, vector_letter, register_number}
+use Rattle.assembler_mnemonics.specs.Slots.{field_at, FitsSlot, FitsSlots}
+use Rattle.assembler_mnemonics.specs.declared.slots.Slot.{Slot}
+use Rattle.assembler_mnemonics.specs.declared.slots.Slot.TheVariants as s
+use Rattle.assembler_mnemonics.proofs.Written.{register_read_back, vtype_read_back}
+use Rattle.assembler_syntax.specs.declared.statements.Operand.{Operand}
+use Rattle.assembler_syntax.specs.declared.statements.Operand.TheVariants as o
 use Rattle.disassembler.specs.Listing.{register_in}
 use Rattle.disassembler.specs.Reading.{vtype_shown, shown, all_shown}
 use Rattle.assembler.specs.Judging.{Context, number_within, register_of, halves_of, given, named_at, given_all}

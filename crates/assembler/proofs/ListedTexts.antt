@@ -12,11 +12,11 @@ use Rattle.rv_insn.specs.Meaning.{Means, fields_of}
 use Rattle.rv_insn.specs.declared.instructions.Insn.{Insn}
 use Rattle.rv_encoding.specs.Decoding.{decoded}
 use Rattle.rv_encoding.proofs.Rows.{one_spelling}
-use Rattle.mnemonics.specs.Forms.{form_of, IsWord}
-use Rattle.mnemonics.specs.Slots.{shape, FitsSlots}
-use Rattle.mnemonics.specs.declared.forms.Form.{Form}
-use Rattle.assembly_syntax.specs.Tokens.{tokens_of}
-use Rattle.assembly_syntax.specs.Statements.{statement_of}
+use Rattle.assembler_mnemonics.specs.Forms.{form_of, IsWord}
+use Rattle.assembler_mnemonics.specs.Slots.{shape, FitsSlots}
+use Rattle.assembler_mnemonics.specs.declared.forms.Form.{Form}
+use Rattle.assembler_syntax.specs.Tokens.{tokens_of}
+use Rattle.assembler_syntax.specs.Statements.{statement_of}
 use Rattle.disassembler.specs.Listing.{line_of, listed, listing}
 use Rattle.disassembler.specs.Reading.{tokens_said, statement_said}
 use Rattle.assembler.specs.Judging.{Item}

@@ -11,17 +11,17 @@ use Rattle.line_text.specs.LineReading.{located, taken_from}
 use Rattle.memory.specs.Addresses.{text_start, is_text_word, most_words, most_bytes}
 use Rattle.loader.specs.Image.{ImageContents, is_entry, is_output, is_output_or_none, is_within_limits, judged}
 use Rattle.loader.specs.declared.outputs.Output.{Output as Picture}
-use Rattle.mnemonics.specs.declared.forms.Form.{Form}
-use Rattle.mnemonics.specs.Slots.{shape, blank}
-use Rattle.mnemonics.specs.Placing.{placed}
-use Rattle.mnemonics.specs.Registers.{integer_letter}
-use Rattle.assembly_syntax.specs.Tokens.{tokens_of}
-use Rattle.assembly_syntax.specs.Statements.{head_of, statement_of}
-use Rattle.assembly_syntax.specs.declared.statements.Head.{Head}
-use Rattle.assembly_syntax.specs.declared.statements.Operand.{Operand}
-use Rattle.assembly_syntax.specs.declared.statements.Operand.TheVariants as o
-use Rattle.assembly_syntax.specs.declared.statements.Command.{Command}
-use Rattle.assembly_syntax.specs.declared.statements.Statement.{Statement}
+use Rattle.assembler_mnemonics.specs.declared.forms.Form.{Form}
+use Rattle.assembler_mnemonics.specs.Slots.{shape, blank}
+use Rattle.assembler_mnemonics.specs.Placing.{placed}
+use Rattle.assembler_mnemonics.specs.Registers.{integer_letter}
+use Rattle.assembler_syntax.specs.Tokens.{tokens_of}
+use Rattle.assembler_syntax.specs.Statements.{head_of, statement_of}
+use Rattle.assembler_syntax.specs.declared.statements.Head.{Head}
+use Rattle.assembler_syntax.specs.declared.statements.Operand.{Operand}
+use Rattle.assembler_syntax.specs.declared.statements.Operand.TheVariants as o
+use Rattle.assembler_syntax.specs.declared.statements.Command.{Command}
+use Rattle.assembler_syntax.specs.declared.statements.Statement.{Statement}
 use Rattle.assembler.specs.Faults.{both, or_fault, unless}
 use Rattle.assembler.specs.Judging as j
 use Rattle.assembler.specs.Judging.{Context, Given, Item, nothing, these_items, these_bytes, performed, section}

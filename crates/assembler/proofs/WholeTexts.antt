@@ -6,8 +6,8 @@ use Rattle.line_text.specs.Lines.{lines_of}
 use Rattle.line_text.specs.LineReading.{taken_from}
 use Rattle.line_text.specs.declared.read_errors.ReadError.{ReadError}
 use Rattle.line_text.specs.declared.read_errors.ReadError.TheVariants as errors
-use Rattle.assembly_syntax.specs.Tokens.{tokens_of}
-use Rattle.assembly_syntax.specs.Statements.{head_of}
+use Rattle.assembler_syntax.specs.Tokens.{tokens_of}
+use Rattle.assembler_syntax.specs.Statements.{head_of}
 use Rattle.assembler.specs.Judging.{Context, Given}
 use Rattle.assembler.specs.Lines.{line_given}
 use Rattle.assembler.specs.Places.{after, surveyed, unsurveyed}

@@ -2,12 +2,12 @@
 use Rattle.std.proofs.Common.{◌≡◌, ℕ, ℤ, List, Ok, refl, sym}
 use Rattle.rv_insn.specs.Meaning.{Means, fields_of}
 use Rattle.rv_insn.specs.declared.instructions.Insn.{Insn}
-use Rattle.mnemonics.specs.declared.forms.Form.{Form}
-use Rattle.mnemonics.specs.Forms.{form_of, IsWord}
-use Rattle.mnemonics.specs.Slots.{shape, blank}
-use Rattle.mnemonics.specs.Placing.{placed}
-use Rattle.mnemonics.proofs.Instructions.{means_is_word}
-use Rattle.assembly_syntax.specs.declared.statements.Operand.{Operand}
+use Rattle.assembler_mnemonics.specs.declared.forms.Form.{Form}
+use Rattle.assembler_mnemonics.specs.Forms.{form_of, IsWord}
+use Rattle.assembler_mnemonics.specs.Slots.{shape, blank}
+use Rattle.assembler_mnemonics.specs.Placing.{placed}
+use Rattle.assembler_mnemonics.proofs.Instructions.{means_is_word}
+use Rattle.assembler_syntax.specs.declared.statements.Operand.{Operand}
 use Rattle.assembler.specs.Judging.{Context, given_all, instruction}
 use Rattle.assembler.specs.Products.{Performs}
 use Rattle.assembler.specs.declared.products.Product.TheVariants as p

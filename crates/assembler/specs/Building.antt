@@ -5,8 +5,8 @@ use Rattle.line_text.specs.Reading.{Fails, FailsAt}
 use Rattle.line_text.specs.declared.read_errors.ReadError.{ReadError}
 use Rattle.line_text.specs.declared.read_errors.LocatedError.{LocatedError}
 use Rattle.loader.specs.Image.{ImageContents}
-use Rattle.assembly_syntax.specs.Tokens.{tokens_of}
-use Rattle.assembly_syntax.specs.Statements.{head_of}
+use Rattle.assembler_syntax.specs.Tokens.{tokens_of}
+use Rattle.assembler_syntax.specs.Statements.{head_of}
 use Rattle.assembler.specs.Judging.{Given}
 use Rattle.assembler.specs.Lines.{line_given}
 use Rattle.assembler.specs.Object.{Assembled, AreItems, IsObject, taken, assembled}

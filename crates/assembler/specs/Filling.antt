@@ -2,7 +2,7 @@
 -- This project's own.
 use Rattle.std.specs.Prelude.{◌≡◌, ℕ, ℤ, List, Result, Ok, Err}
 use Rattle.line_text.specs.Reading.{◌>>=◌}
-use Rattle.mnemonics.specs.Placing.{placed}
+use Rattle.assembler_mnemonics.specs.Placing.{placed}
 use Rattle.assembler.specs.Faults.{both}
 use Rattle.assembler.specs.declared.faults.AsmFault.{AsmFault}
 

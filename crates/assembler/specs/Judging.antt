@@ -12,17 +12,17 @@ use Rattle.rv_insn.specs.Encoding.{signed}
 use Rattle.rv_insn.specs.declared.operations.AluImmOp.TheVariants.{Addi}
 use Rattle.loader.specs.Image.{is_output, most_pixels}
 use Rattle.loader.specs.declared.outputs.Output.{Output as Picture}
-use Rattle.mnemonics.specs.declared.forms.Form.{Form}
-use Rattle.mnemonics.specs.declared.forms.Form.TheVariants as f
-use Rattle.mnemonics.specs.declared.slots.Slot.{Slot}
-use Rattle.mnemonics.specs.declared.slots.Slot.TheVariants as s
-use Rattle.mnemonics.specs.Slots.{shape, blank}
-use Rattle.mnemonics.specs.Placing.{placed}
-use Rattle.mnemonics.specs.Registers.{integer_letter, vector_letter, register_number}
-use Rattle.mnemonics.specs.Configuration.{vtype_named}
-use Rattle.assembly_syntax.specs.Statements.{is_label}
-use Rattle.assembly_syntax.specs.declared.statements.Operand.{Operand}
-use Rattle.assembly_syntax.specs.declared.statements.Operand.TheVariants as o
+use Rattle.assembler_mnemonics.specs.declared.forms.Form.{Form}
+use Rattle.assembler_mnemonics.specs.declared.forms.Form.TheVariants as f
+use Rattle.assembler_mnemonics.specs.declared.slots.Slot.{Slot}
+use Rattle.assembler_mnemonics.specs.declared.slots.Slot.TheVariants as s
+use Rattle.assembler_mnemonics.specs.Slots.{shape, blank}
+use Rattle.assembler_mnemonics.specs.Placing.{placed}
+use Rattle.assembler_mnemonics.specs.Registers.{integer_letter, vector_letter, register_number}
+use Rattle.assembler_mnemonics.specs.Configuration.{vtype_named}
+use Rattle.assembler_syntax.specs.Statements.{is_label}
+use Rattle.assembler_syntax.specs.declared.statements.Operand.{Operand}
+use Rattle.assembler_syntax.specs.declared.statements.Operand.TheVariants as o
 use Rattle.assembler.specs.Faults.{both, or_fault, unless}
 use Rattle.assembler.specs.Names.{label_named}
 use Rattle.assembler.specs.Places.{address}

@@ -3,10 +3,10 @@
 use Rattle.std.specs.Prelude.{ℕ, ◌==◌, ◌&&◌, Bool, true, nat_le, List, Option, Some, None, Result, Ok}
 use Rattle.memory.specs.Addresses.{most_words, most_bytes}
 use Rattle.line_text.specs.Reading.{◌>>=◌}
-use Rattle.assembly_syntax.specs.Tokens.{tokens_of}
-use Rattle.assembly_syntax.specs.Statements.{statement_of, head_of}
-use Rattle.assembly_syntax.specs.declared.statements.Command.{Command}
-use Rattle.assembly_syntax.specs.declared.statements.Statement.{Statement}
+use Rattle.assembler_syntax.specs.Tokens.{tokens_of}
+use Rattle.assembler_syntax.specs.Statements.{statement_of, head_of}
+use Rattle.assembler_syntax.specs.declared.statements.Command.{Command}
+use Rattle.assembler_syntax.specs.declared.statements.Statement.{Statement}
 use Rattle.assembler.specs.Faults.{both, or_fault, unless}
 use Rattle.assembler.specs.Names.{label_named}
 use Rattle.assembler.specs.Places.{operation_named, after}

@@ -7,14 +7,14 @@ use Rattle.line_text.specs.LineReading.{taken_from}
 use Rattle.memory.specs.Addresses.{text_start}
 use Rattle.loader.specs.Image.{ImageContents}
 use Rattle.loader.specs.declared.outputs.Output.{Output}
-use Rattle.mnemonics.specs.Forms.{IsWord}
+use Rattle.assembler_mnemonics.specs.Forms.{IsWord}
 use Rattle.assembler.specs.Places.{unsurveyed, surveyed, start, after}
 use Rattle.assembler.specs.declared.surveys.Survey.{Survey}
 use Rattle.assembler.specs.declared.surveys.Here.{Here}
 use Rattle.assembler.specs.Judging.{Given, Item, Coded, Raw}
 use Rattle.assembler.specs.Lines.{line_given}
-use Rattle.assembly_syntax.specs.Tokens.{tokens_of}
-use Rattle.assembly_syntax.specs.Statements.{head_of}
+use Rattle.assembler_syntax.specs.Tokens.{tokens_of}
+use Rattle.assembler_syntax.specs.Statements.{head_of}
 use Rattle.assembler.specs.declared.faults.AsmFault.{AsmFault}
 use Rattle.assembler.specs.declared.faults.AsmFault.TheVariants.{Syntax}
 use Rattle.assembler.specs.declared.places.Place.{Place}

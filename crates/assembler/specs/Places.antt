@@ -3,11 +3,11 @@
 use Rattle.std.specs.Prelude.{ℕ, ◌+◌, ◌*◌, ◌^◌, min, if◌then◌else◌, ℤ, pos, List, [], ◌∷◌, ◌++◌, Option, Some, None, codes}
 use Rattle.std.specs.Str.{bytes_eq}
 use Rattle.memory.specs.Addresses.{text_start, data_start}
-use Rattle.mnemonics.specs.declared.forms.Form.{Form}
-use Rattle.mnemonics.specs.Named.{form_named}
-use Rattle.assembly_syntax.specs.Tokens.{tokens_of}
-use Rattle.assembly_syntax.specs.Statements.{head_of}
-use Rattle.assembly_syntax.specs.declared.statements.Head.{Head}
+use Rattle.assembler_mnemonics.specs.declared.forms.Form.{Form}
+use Rattle.assembler_mnemonics.specs.Named.{form_named}
+use Rattle.assembler_syntax.specs.Tokens.{tokens_of}
+use Rattle.assembler_syntax.specs.Statements.{head_of}
+use Rattle.assembler_syntax.specs.declared.statements.Head.{Head}
 use Rattle.assembler.specs.declared.places.Section.{Section}
 use Rattle.assembler.specs.declared.places.Section.TheVariants.{Text, Data}
 use Rattle.assembler.specs.declared.places.Place.{Place}

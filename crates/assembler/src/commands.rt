@@ -5,7 +5,7 @@ ghost use Rattle.std.specs.Prelude.{unsigned_abs};
 ghost use Rattle.memory.specs.Addresses.{is_text_word};
 ghost use Rattle.rv_insn.specs.Encoding.{signed};
 ghost use Rattle.loader.specs.Image.{most_pixels};
-ghost use Rattle.mnemonics.specs.Registers.{integer_letter};
+ghost use Rattle.assembler_mnemonics.specs.Registers.{integer_letter};
 ghost use Rattle.assembler.specs.Judging as spec;
 ghost use Rattle.assembler.specs.Products.{Performs, Makes};
 
@@ -16,10 +16,10 @@ use crate::operations::Operation;
 use crate::places::Section;
 use crate::products::Product;
 use crate::surveys::{Here, Survey};
-use assembly_syntax::Operand;
+use assembler_mnemonics::{Form, integer_register};
+use assembler_syntax::Operand;
 use loader::{MOST_PIXELS, Output};
 use memory::{MOST_BYTES, TEXT_START};
-use mnemonics::{Form, integer_register};
 use rv_encoding::encode;
 use rv_insn::{AluImmOp, Imm12, Imm20, Insn, Reg};
 

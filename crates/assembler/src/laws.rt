@@ -4,9 +4,9 @@ ghost use Rattle.std.specs.Prelude.{◌≤◌, ℕ, List, length};
 ghost use Rattle.memory.specs.Addresses.{most_words};
 ghost use Rattle.assembler.specs.Listings.{AreWords, AssemblesBack};
 
+use assembler_mnemonics::laws::{fields_fit, means_is_word, mnemonics_tell_apart};
 use disassembler::laws::{lines_are_single, lines_say_their_words};
 use line_text::laws::lines_are_read_back;
-use mnemonics::laws::{fields_fit, means_is_word, mnemonics_tell_apart};
 use rv_encoding::decoded_is_meant;
 
 /// A law: the listing of words assembles to these words, and to nothing else.

@@ -14,7 +14,7 @@ use crate::operations::Operation;
 use crate::places::Place;
 use crate::products::Product;
 use crate::surveys::{Here, Survey, place_after};
-use assembly_syntax::{Head, Statement, Token, head_of, statement_of, tokens_of};
+use assembler_syntax::{Head, Statement, Token, head_of, statement_of, tokens_of};
 use line_text::ReadError;
 use memory::{MOST_BYTES, MOST_WORDS};
 use sqlite_items::Items;

@@ -1,15 +1,15 @@
 //! What operands give in the slots of a form.
 
 ghost use Rattle.std.specs.Prelude.{◌≡◌, ℤ, List, option_map};
-ghost use Rattle.mnemonics.specs.Registers.{integer_letter, vector_letter};
+ghost use Rattle.assembler_mnemonics.specs.Registers.{integer_letter, vector_letter};
 ghost use Rattle.assembler.specs.Judging as spec;
 ghost use Rattle.assembler.specs.Filling.{Fills, together as together_of};
 
 use crate::faults::{AsmFault, both, unless};
 use crate::labels::Label;
 use crate::surveys::{Here, Survey};
-use assembly_syntax::{Operand, is_label};
-use mnemonics::{Fields, Slot, integer_register, vector_register, vtype_named};
+use assembler_mnemonics::{Fields, Slot, integer_register, vector_register, vtype_named};
+use assembler_syntax::{Operand, is_label};
 
 /// A number, or the fault where it is out of bounds.
 pub fn number_within(least: i64, greatest: i64, number: i64) -> Result<i64, AsmFault>

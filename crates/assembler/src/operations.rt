@@ -4,8 +4,8 @@ ghost use Rattle.std.specs.Prelude.{◌≡◌};
 ghost use Rattle.assembler.specs.Places as spec;
 
 use crate::places::{Place, Section};
-use assembly_syntax::Head;
-use mnemonics::Form;
+use assembler_mnemonics::Form;
+use assembler_syntax::Head;
 
 /// What a mnemonic or a directive asks for.
 #[derive(Clone, Copy)]

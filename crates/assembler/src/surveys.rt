@@ -7,7 +7,7 @@ ghost use Rattle.assembler.specs.Places as spec;
 use crate::labels::{Label, Labels};
 use crate::operations::Operation;
 use crate::places::Place;
-use assembly_syntax::{Head, head_of, tokens_of};
+use assembler_syntax::{Head, head_of, tokens_of};
 use line_text::lines::first_line;
 use sqlite_items::Items;
 use std::alloc::{AllocError, Global};

@@ -9,7 +9,7 @@ use Rattle.halide_pipeline.specs.WellFormed.{IsWellFormed}
 use Rattle.schedule.specs.declared.plans.FuncPlan.{FuncPlan}
 use Rattle.schedule.specs.declared.schedules.Schedule.{Schedule}
 use Rattle.schedule.specs.Accepted.{Pairwise, IsPlan, IsAccepted}
-use Rattle.stage_loops.proofs.Few.{few_splits}
+use Rattle.schedule_loops.proofs.Few.{few_splits}
 use Rattle.bounds.specs.Layout.{IsInput, AreInputs, HasFewUpdates, HaveFewUpdates}
 use Rattle.bounds.specs.Views.{IsSmall, IsSmallPlan, AreSmall}
 

@@ -1,8 +1,8 @@
 -- What a loop over reads keeps.
 use Rattle.std.proofs.Common.{◌≡◌, ℕ, Bool, List, Option}
 use Rattle.halide_pipeline.specs.declared.expressions.Source.{Source}
-use Rattle.ranges.specs.declared.expressions.Asked.{Asked}
-use Rattle.ranges.specs.Expressions.{AreFitReads}
+use Rattle.bounds_ranges.specs.declared.expressions.Asked.{Asked}
+use Rattle.bounds_ranges.specs.Expressions.{AreFitReads}
 use Rattle.bounds.specs.declared.boxes.HostLoop.{HostLoop}
 use Rattle.bounds.specs.declared.boxes.Spread.{Spread}
 use Rattle.bounds.specs.Boxes.{lasts_of, gathered, IsSpread}

@@ -7,3 +7,4 @@ pub mod NoReads
 pub mod Inputs
 pub mod Accepted
 pub mod UpdatePlans
+pub mod Finding

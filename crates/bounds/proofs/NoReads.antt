@@ -1,7 +1,7 @@
 -- No reads.
 use Rattle.std.proofs.Common.{◌≡◌, ℕ, List, [], ◌∷◌}
-use Rattle.ranges.specs.declared.expressions.Asked.{Asked}
-use Rattle.ranges.specs.Expressions.{AreFitReads}
+use Rattle.bounds_ranges.specs.declared.expressions.Asked.{Asked}
+use Rattle.bounds_ranges.specs.Expressions.{AreFitReads}
 
 pub none_fit : (lasts : List ℕ) (reads : List Asked) → reads ≡ [] → AreFitReads lasts reads
 unfolding AreFitReads

@@ -3,7 +3,7 @@ use Rattle.std.proofs.Common.{◌≡◌, ◌≤◌, ℕ, ◌+◌, ◌-◌, List,
 use Rattle.std.specs.Prelude.{take, drop, get_or}
 use Rattle.schedule_lines.specs.declared.stages.Loop.{Loop}
 use Rattle.schedule_lines.specs.Making.{total}
-use Rattle.stage_loops.proofs.Lists.{first_of_rest}
+use Rattle.schedule_loops.proofs.Lists.{first_of_rest}
 
 pub total_is : (value : Loop → ℕ) (loops : List Loop) (other own : Loop) (first rest : ℕ) → 1 ≤ length loops → own ≡ get_or loops 0 other
     → first ≡ value own → rest ≡ total value (take (length loops - 1) (drop 1 loops)) → first + rest ≡ total value loops

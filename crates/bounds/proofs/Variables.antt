@@ -1,9 +1,9 @@
 -- Variables whose ranges stay within the words.
 use Rattle.std.proofs.Common.{List, ℕ}
 use Rattle.halide_pipeline.specs.declared.expressions.Variable.TheVariants as variables
-use Rattle.ranges.specs.declared.expressions.Variables.{Variables}
-use Rattle.ranges.specs.Expressions.{AreFit}
-use Rattle.ranges.specs.Ranges.{IsFit}
+use Rattle.bounds_ranges.specs.declared.expressions.Variables.{Variables}
+use Rattle.bounds_ranges.specs.Expressions.{AreFit}
+use Rattle.bounds_ranges.specs.Ranges.{IsFit}
 
 pub are_fit : (lasts : List ℕ) (given : Variables) → IsFit lasts given.first_argument → IsFit lasts given.second_argument → IsFit lasts given.first_reduction → IsFit lasts given.second_reduction
     → AreFit lasts given

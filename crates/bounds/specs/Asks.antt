@@ -8,13 +8,13 @@ use Rattle.halide_pipeline.specs.declared.definitions.Update.{Update}
 use Rattle.halide_pipeline.specs.declared.expressions.Expr.{Expr}
 use Rattle.halide_pipeline.specs.declared.expressions.Source.TheVariants as sources
 use Rattle.halide_pipeline.specs.Definitions.{is_first_in_place, is_second_in_place}
-use Rattle.ranges.specs.declared.expressions.Asked.{Asked}
-use Rattle.ranges.specs.declared.expressions.OwnCalls.{OwnCalls}
-use Rattle.ranges.specs.declared.expressions.Variables.{Variables}
-use Rattle.ranges.specs.declared.ranges.Range.{Range}
-use Rattle.ranges.specs.Bases.{no_base}
-use Rattle.ranges.specs.Ranges.{origin, spot, fit, literal}
-use Rattle.ranges.specs.Expressions.{Ranged, walked, walked_update}
+use Rattle.bounds_ranges.specs.declared.expressions.Asked.{Asked}
+use Rattle.bounds_ranges.specs.declared.expressions.OwnCalls.{OwnCalls}
+use Rattle.bounds_ranges.specs.declared.expressions.Variables.{Variables}
+use Rattle.bounds_ranges.specs.declared.ranges.Range.{Range}
+use Rattle.bounds_ranges.specs.Bases.{no_base}
+use Rattle.bounds_ranges.specs.Ranges.{origin, spot, fit, literal}
+use Rattle.bounds_ranges.specs.Expressions.{Ranged, walked, walked_update}
 use Rattle.bounds.specs.declared.boxes.SourceBox.{SourceBox}
 use Rattle.bounds.specs.Boxes.{no_loops}
 

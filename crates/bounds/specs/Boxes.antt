@@ -7,11 +7,11 @@
 use Rattle.std.specs.Prelude.{◌≡◌, ℕ, ◌+◌, ◌-◌, ◌*◌, ◌^◌, ◌&&◌, nat_le, Bool, true, if◌then◌else◌, List, [], ◌∷◌, Option, Some, None}
 use Rattle.std.specs.List.{AllByRecursion}
 use Rattle.halide_pipeline.specs.declared.expressions.Source.{Source}
-use Rattle.ranges.specs.declared.expressions.Asked.{Asked}
-use Rattle.ranges.specs.declared.ranges.Ends.{Ends}
-use Rattle.ranges.specs.declared.ranges.Range.{Range}
-use Rattle.ranges.specs.Bases.{no_base}
-use Rattle.ranges.specs.Ranges.{origin, every, ends_of, fit, IsFit, widened, together, hull}
+use Rattle.bounds_ranges.specs.declared.expressions.Asked.{Asked}
+use Rattle.bounds_ranges.specs.declared.ranges.Ends.{Ends}
+use Rattle.bounds_ranges.specs.declared.ranges.Range.{Range}
+use Rattle.bounds_ranges.specs.Bases.{no_base}
+use Rattle.bounds_ranges.specs.Ranges.{origin, every, ends_of, fit, IsFit, widened, together, hull}
 use Rattle.bounds.specs.declared.boxes.HostLoop.{HostLoop}
 use Rattle.bounds.specs.declared.boxes.SourceBox.{SourceBox}
 use Rattle.bounds.specs.declared.boxes.Spread.{Spread}

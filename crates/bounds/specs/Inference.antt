@@ -17,9 +17,9 @@ use Rattle.schedule.specs.declared.standings.LoopPlace.{LoopPlace}
 use Rattle.schedule.specs.declared.standings.Place.{Place}
 use Rattle.schedule.specs.declared.standings.Place.TheVariants as places
 use Rattle.schedule.specs.declared.standings.Standing.{Standing}
-use Rattle.ranges.specs.declared.ranges.Range.{Range}
-use Rattle.ranges.specs.Bases.{no_base}
-use Rattle.ranges.specs.Ranges.{origin, fit}
+use Rattle.bounds_ranges.specs.declared.ranges.Range.{Range}
+use Rattle.bounds_ranges.specs.Bases.{no_base}
+use Rattle.bounds_ranges.specs.Ranges.{origin, fit}
 use Rattle.bounds.specs.declared.boxes.HostLoop.{HostLoop}
 use Rattle.bounds.specs.declared.boxes.SourceBox.{SourceBox}
 use Rattle.bounds.specs.declared.boxes.Spread.{Spread}

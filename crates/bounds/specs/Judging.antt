@@ -4,9 +4,9 @@ use Rattle.std.specs.Prelude.{ℕ, ◌+◌, ◌&&◌, nat_le, nat_lt, Bool, true
 use Rattle.halide_pipeline.specs.declared.definitions.Input.{Input}
 use Rattle.halide_pipeline.specs.WellFormed.{most_points}
 use Rattle.schedule.specs.declared.plans.FuncPlan.{FuncPlan}
-use Rattle.stage_loops.specs.Counts.{shifts_fit}
-use Rattle.ranges.specs.declared.ranges.Range.{Range}
-use Rattle.ranges.specs.Ranges.{origin, widened}
+use Rattle.schedule_loops.specs.Counts.{shifts_fit}
+use Rattle.bounds_ranges.specs.declared.ranges.Range.{Range}
+use Rattle.bounds_ranges.specs.Ranges.{origin, widened}
 use Rattle.bounds.specs.declared.boxes.SourceBox.{SourceBox}
 use Rattle.bounds.specs.Boxes.{points}
 use Rattle.bounds.specs.Views.{extents_of}

@@ -8,3 +8,5 @@ pub mod Judging
 pub mod Layout
 pub mod Verdict
 pub mod Tasks
+pub mod Finding
+pub mod Parts

@@ -6,7 +6,7 @@
 use Rattle.std.specs.Prelude.{◌≡◌, ℕ, ◌&&◌, nat_le, not, if◌then◌else◌, List, Option, Some, None, Result, Ok, Err}
 use Rattle.halide_pipeline.specs.Pipelines.{Pipeline}
 use Rattle.schedule.specs.declared.schedules.Schedule.{Schedule}
-use Rattle.weights.specs.Weight.{flags_of}
+use Rattle.bounds_weights.specs.Weight.{flags_of}
 use Rattle.bounds.specs.declared.boxes.SourceBox.{SourceBox}
 use Rattle.bounds.specs.declared.faults.BoundsFault.{BoundsFault}
 use Rattle.bounds.specs.declared.faults.BoundsFault.TheVariants as faults

@@ -17,13 +17,13 @@ use Rattle.schedule.specs.declared.plans.FuncPlan.{FuncPlan}
 use Rattle.schedule.specs.declared.schedules.Schedule.{Schedule}
 use Rattle.schedule.specs.declared.standings.Standing.{Standing}
 use Rattle.schedule.specs.Legal.{is_root}
-use Rattle.stage_loops.specs.declared.extents.Extents.{Extents}
-use Rattle.stage_loops.specs.Counts.{counts, strides, AreSplits}
-use Rattle.stage_loops.specs.Reach.{reach, has_uneven}
-use Rattle.ranges.specs.declared.bases.Multiple.{Multiple}
-use Rattle.ranges.specs.declared.ranges.Range.{Range}
-use Rattle.ranges.specs.Bases.{no_base, zero_multiple, more_sum, less_sum}
-use Rattle.ranges.specs.Ranges.{ends_of, fit}
+use Rattle.schedule_loops.specs.declared.extents.Extents.{Extents}
+use Rattle.schedule_loops.specs.Counts.{counts, strides, AreSplits}
+use Rattle.schedule_loops.specs.Reach.{reach, has_uneven}
+use Rattle.bounds_ranges.specs.declared.bases.Multiple.{Multiple}
+use Rattle.bounds_ranges.specs.declared.ranges.Range.{Range}
+use Rattle.bounds_ranges.specs.Bases.{no_base, zero_multiple, more_sum, less_sum}
+use Rattle.bounds_ranges.specs.Ranges.{ends_of, fit}
 use Rattle.bounds.specs.declared.boxes.HostLoop.{HostLoop}
 use Rattle.bounds.specs.declared.boxes.SourceBox.{SourceBox}
 use Rattle.bounds.specs.Boxes.{extent}

@@ -1,16 +1,16 @@
 //! What a Func reads that is computed, inlined Funcs put in place.
 
 ghost use Rattle.std.specs.Prelude.{◌≡◌, ◌≤◌, ◌<◌, ◌+◌, ◌^◌, ◌++◌, OnOk, IfOk};
-ghost use Rattle.ranges.specs.Expressions.{AreFit, AreFitReads};
-ghost use Rattle.ranges.specs.Ranges as ranges;
-ghost use Rattle.ranges.specs.Ranges.{IsFit};
+ghost use Rattle.bounds_ranges.specs.Expressions.{AreFit, AreFitReads};
+ghost use Rattle.bounds_ranges.specs.Ranges as ranges;
+ghost use Rattle.bounds_ranges.specs.Ranges.{IsFit};
 ghost use Rattle.bounds.specs.Asks as spec;
 
 use crate::boxes::{NO_LOOPS, SourceBox};
+use bounds_ranges::bases::no_base;
+use bounds_ranges::expressions::{Asked, OwnCalls, Variables, ranged, ranged_update};
+use bounds_ranges::ranges::{Ends, LEAST, Lasts, ORIGIN, Range, fit, literal};
 use halide_pipeline::{Expr, Func, Input, Reduction, Source, Update};
-use ranges::bases::no_base;
-use ranges::expressions::{Asked, OwnCalls, Variables, ranged, ranged_update};
-use ranges::ranges::{Ends, LEAST, Lasts, ORIGIN, Range, fit, literal};
 use std::alloc::AllocError;
 
 /// The end that stands for a word, as a signed number.
@@ -188,7 +188,7 @@ fn ask_right(
 }
 
 /// Appends what an update of the Func at a place reads, and its left side as a read of the Func.
-#[tactic(auto, unfolding(crate::specs::Asks::update_asked), using(ranges::proofs::Walking::fit_behind))]
+#[tactic(auto, unfolding(crate::specs::Asks::update_asked), using(bounds_ranges::proofs::Walking::fit_behind))]
 pub fn ask_update(
     inputs: &[Input],
     funcs: &[Func],

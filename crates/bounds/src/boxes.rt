@@ -3,16 +3,16 @@
 ghost use Rattle.std.specs.Prelude.{◌≡◌, ◌≤◌, ◌+◌, ◌*◌, ◌^◌};
 ghost use Rattle.bounds.specs.Boxes as spec;
 ghost use Rattle.bounds.specs.Views as views;
-ghost use Rattle.ranges.specs.Expressions.{AreFitReads};
-ghost use Rattle.ranges.specs.Ranges.{IsFit};
+ghost use Rattle.bounds_ranges.specs.Expressions.{AreFitReads};
+ghost use Rattle.bounds_ranges.specs.Ranges.{IsFit};
 
 use crate::sources::same_source;
+use bounds_ranges::bases::no_base;
+use bounds_ranges::expressions::Asked;
+use bounds_ranges::ranges::{Ends, Lasts, ORIGIN, Range, fit, hull, widened};
 use halide_pipeline::Source;
-use ranges::bases::no_base;
-use ranges::expressions::Asked;
-use ranges::ranges::{Ends, Lasts, ORIGIN, Range, fit, hull, widened};
 use schedule_lines::LoopId;
-use stage_loops::Extents;
+use schedule_loops::Extents;
 
 /// Which points of a source are read or computed: a range for each dimension, the second one 0 to 0 where there is
 /// one dimension.
@@ -176,7 +176,7 @@ fn with_read(
 }
 
 /// The ranges so far with all reads of a source among these, of whose dimensions these count.
-#[tactic(auto, unfolding(ranges::specs::Expressions::AreFitReads))]
+#[tactic(auto, unfolding(bounds_ranges::specs::Expressions::AreFitReads))]
 pub fn gathered(
     host: &Option<HostLoop>,
     lasts: &Lasts,

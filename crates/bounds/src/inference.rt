@@ -4,15 +4,15 @@ ghost use Rattle.std.specs.Prelude.{◌≡◌, ◌+◌, ◌<◌, ◌^◌, IfOk, 
 ghost use Rattle.bounds.specs.Boxes.{AreBoxes, IsFitBox, IsBoxOrNone, IsSpread, lasts_of};
 ghost use Rattle.bounds.specs.Inference as spec;
 ghost use Rattle.bounds.specs.Views.{AreSmall};
-ghost use Rattle.ranges.specs.Ranges.{IsFit};
+ghost use Rattle.bounds_ranges.specs.Ranges.{IsFit};
 
 use crate::boxes::{HostLoop, NO_SPREAD, SourceBox, Spread, lasts_of, spread_box};
 use crate::readings::{own_updates, read_from};
 use crate::source_boxes::{SourceBoxes, in_front};
 use crate::views::host_loop;
+use bounds_ranges::bases::no_base;
+use bounds_ranges::ranges::{Ends, Lasts, ORIGIN, Range, fit};
 use halide_pipeline::{Func, Input, Pipeline, Source};
-use ranges::bases::no_base;
-use ranges::ranges::{Ends, Lasts, ORIGIN, Range, fit};
 use schedule::{LoopPlace, Place, Schedule};
 use std::alloc::{AllocError, Global};
 

@@ -2,16 +2,16 @@
 
 ghost use Rattle.std.specs.Prelude.{◌≡◌, IfOk};
 ghost use Rattle.std.specs.List.{AllByRecursion};
-ghost use Rattle.stage_loops.specs.Counts.{AreSplits, shifts_fit};
-ghost use Rattle.ranges.specs.Ranges.{IsFit};
+ghost use Rattle.schedule_loops.specs.Counts.{AreSplits, shifts_fit};
+ghost use Rattle.bounds_ranges.specs.Ranges.{IsFit};
 ghost use Rattle.bounds.specs.Boxes.{AreBoxes, IsBox};
 ghost use Rattle.bounds.specs.Judging as spec;
 ghost use Rattle.bounds.specs.Views.{IsSmallPlan, extents_of};
 
 use crate::boxes::{SourceBox, points};
 use crate::views::sizes_of;
+use bounds_ranges::ranges::{Lasts, ORIGIN, Range, widened};
 use halide_pipeline::{Input, MOST_POINTS};
-use ranges::ranges::{Lasts, ORIGIN, Range, widened};
 use schedule::FuncPlan;
 use std::alloc::{AllocError, Global};
 

@@ -5,11 +5,11 @@ ghost use Rattle.bounds.specs.Boxes.{AreBoxes, IsBoxOrNone};
 ghost use Rattle.bounds.specs.Layout as spec;
 
 use crate::boxes::{SourceBox, points};
+use bounds_weights::needs;
 use halide_pipeline::{Func, Input, Pipeline};
 use schedule::{Place, Schedule, Standing};
 use sqlite_items::Items;
 use std::alloc::{AllocError, Global};
-use weights::needs;
 
 /// Where the data begin.
 pub const DATA_START: u64 = 0x0020_0000;

@@ -10,8 +10,11 @@
 //! - [`layout`]: where inputs, boxes and frames lie (`specs/Layout.antt`).
 //! - [`tasks`]: how many tasks each phase has (`specs/Tasks.antt`).
 //! - [`sources`]: sources told apart.
+//! - [`laws`]: what each byte of the data is part of, by its address (`specs/Parts.antt`): a phase's control words, an input, the
+//!   box of a Func computed at root, the copies of that of one computed at a loop, a frame. Each is found where the layout
+//!   has it (`specs/Finding.antt`).
 //!
-//! That what is read lies in its box is proved in the crate `box_laws`.
+//! That what is read lies in its box is proved in the crate `bounds_laws`.
 #![tactic(auto)]
 
 pub mod asks;
@@ -19,6 +22,7 @@ pub mod boxes;
 pub mod faults;
 pub mod inference;
 pub mod judging;
+pub mod laws;
 pub mod layout;
 pub mod readings;
 pub mod source_boxes;
@@ -29,6 +33,7 @@ pub mod views;
 
 pub use crate::boxes::SourceBox;
 pub use crate::faults::BoundsFault;
+pub use crate::laws::{parts_are_found, parts_lie_within, roots_lie};
 pub use crate::layout::Layout;
 pub use crate::source_boxes::SourceBoxes;
 pub use crate::verdict::{Boxes, infer};

@@ -1,7 +1,7 @@
 //! The ranges in which a source is read.
 
 ghost use Rattle.std.specs.Prelude.{◌≡◌, ◌+◌, ◌<◌, ◌^◌, IfOk, length, slice_get};
-ghost use Rattle.ranges.specs.Ranges.{IsFit};
+ghost use Rattle.bounds_ranges.specs.Ranges.{IsFit};
 ghost use Rattle.bounds.specs.Boxes.{AreBoxes, IsBox, IsSpread, lasts_of};
 ghost use Rattle.bounds.specs.Inference as spec;
 ghost use Rattle.bounds.specs.Views.{AreSmall};

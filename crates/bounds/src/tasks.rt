@@ -2,10 +2,10 @@
 
 ghost use Rattle.std.specs.Prelude.{◌≡◌, IfOk, IfSome, Some, slice_get};
 ghost use Rattle.std.specs.Option.{option_copied};
-ghost use Rattle.halide_meaning.specs.Pixel as meaning;
+ghost use Rattle.halide_pipeline.specs.Pixel as meaning;
 ghost use Rattle.schedule.specs.Accepted.{IsAccepted, IsPlan};
-ghost use Rattle.stage_loops.specs.Counts.{AreSplits};
-ghost use Rattle.stage_loops.specs.Iterations.{iteration_count};
+ghost use Rattle.schedule_loops.specs.Counts.{AreSplits};
+ghost use Rattle.schedule_loops.specs.Iterations.{iteration_count};
 ghost use Rattle.bounds.specs.Boxes.{AreBoxes, IsBox, box_in};
 ghost use Rattle.bounds.specs.Tasks as spec;
 ghost use Rattle.bounds.specs.Views as views;
@@ -16,7 +16,7 @@ use crate::views::sizes_of;
 use halide_pipeline::{Func, Pipeline, Reduction, Update};
 use schedule::{FuncPlan, Schedule};
 use schedule_lines::stages::{Stage, StageName};
-use stage_loops::{Extents, LoopSizes};
+use schedule_loops::{Extents, LoopSizes};
 use std::alloc::{AllocError, Global};
 
 /// How many values a second reduction variable takes, if there is one.

@@ -11,10 +11,10 @@ use crate::inference::{boxes_from, inputs_from};
 use crate::judging::{have_few_points, inputs_hold, shifts_hold};
 use crate::layout::{Layout, MOST_DATA, laid_out};
 use crate::source_boxes::SourceBoxes;
+use bounds_weights::weighing::inlined_flags;
 use halide_pipeline::Pipeline;
 use schedule::Schedule;
 use std::alloc::Global;
-use weights::weighing::inlined_flags;
 
 /// The boxes of all sources, and where they lie in the data of a compiled image.
 #[derive(Drop)]

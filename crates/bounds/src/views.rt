@@ -1,21 +1,21 @@
 //! Between which numbers the arguments of a Func lie where it reads a source.
 
 ghost use Rattle.std.specs.Prelude.{◌≡◌, ◌≤◌, ◌+◌, ◌*◌, ◌^◌, nat_lt, not, if◌then◌else◌, Some, IfOk, length, slice_get};
-ghost use Rattle.stage_loops.specs.Counts.{AreSplits};
-ghost use Rattle.stage_loops.specs.Reach as reaching;
-ghost use Rattle.ranges.specs.Bases.{zero_multiple};
-ghost use Rattle.ranges.specs.Ranges.{IsFit};
+ghost use Rattle.schedule_loops.specs.Counts.{AreSplits};
+ghost use Rattle.schedule_loops.specs.Reach as reaching;
+ghost use Rattle.bounds_ranges.specs.Bases.{zero_multiple};
+ghost use Rattle.bounds_ranges.specs.Ranges.{IsFit};
 ghost use Rattle.bounds.specs.Boxes.{IsBox};
 ghost use Rattle.bounds.specs.Views as spec;
 
 use crate::boxes::{HostLoop, SourceBox, extents_of};
+use bounds_ranges::bases::{Base, Multiple, less_sum, more_sum, no_base};
+use bounds_ranges::ranges::{Ends, Lasts, Range, fit};
 use halide_pipeline::Variable;
-use ranges::bases::{Base, Multiple, less_sum, more_sum, no_base};
-use ranges::ranges::{Ends, Lasts, Range, fit};
 use schedule::{FuncPlan, Place, Schedule};
 use schedule_lines::stages::same_id;
 use schedule_lines::{Loop, LoopId, Stage};
-use stage_loops::LoopSizes;
+use schedule_loops::LoopSizes;
 use std::alloc::{AllocError, Global};
 
 /// How many loops stand inside this one.

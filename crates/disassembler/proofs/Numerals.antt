@@ -10,9 +10,9 @@ use Rattle.std.proofs.lemmas.Int.{ints}
 use Rattle.line_text.specs.Classes.{is_digit, is_hexadecimal}
 use Rattle.line_text.specs.Numbers.{decimal_number, hexadecimal_number, hexadecimal_value}
 use Rattle.line_text.proofs.Numerals.{decimal_digits, decimal_value}
-use Rattle.assembly_syntax.specs.declared.tokens.Token.{Token}
-use Rattle.assembly_syntax.specs.declared.tokens.Token.TheVariants as t
-use Rattle.assembly_syntax.specs.Tokens.{begins_word, continues_word, span, capped, prefixed, number_token, negative_token}
+use Rattle.assembler_syntax.specs.declared.tokens.Token.{Token}
+use Rattle.assembler_syntax.specs.declared.tokens.Token.TheVariants as t
+use Rattle.assembler_syntax.specs.Tokens.{begins_word, continues_word, span, capped, prefixed, number_token, negative_token}
 use Rattle.disassembler.specs.Listing.{hexadecimal_digit, last_digits, hexadecimal_text}
 use Rattle.disassembler.proofs.Tokens.{Reads, is_word, both_true, both, digit_continues, number_reads, negative_reads}
 

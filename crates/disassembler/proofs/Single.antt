@@ -9,14 +9,14 @@ use Rattle.line_text.specs.Lines.{is_in_line, IsLine}
 use Rattle.line_text.proofs.Numerals.{decimal_digits}
 use Rattle.rv_insn.specs.Meaning.{fields_of}
 use Rattle.rv_insn.specs.declared.instructions.Insn.{Insn}
-use Rattle.mnemonics.specs.Forms.{form_of, mnemonic}
-use Rattle.mnemonics.specs.Slots.{shape, blank, field_at, FitsSlot, FitsSlots}
-use Rattle.mnemonics.specs.Registers.{integer_letter, vector_letter}
-use Rattle.mnemonics.specs.Configuration.{width_names, group_names, tail_names, mask_names, width_code, group_code, tail_code, mask_code, has_names, name_at}
-use Rattle.mnemonics.specs.declared.forms.Form.{Form}
-use Rattle.mnemonics.specs.declared.slots.Slot.{Slot}
-use Rattle.mnemonics.specs.declared.slots.Slot.TheVariants.{Integer, Vector, MaskRegister, Number, Upper, Based, Address, Target, Configuration, Mask}
-use Rattle.assembly_syntax.specs.Tokens.{continues_word}
+use Rattle.assembler_mnemonics.specs.Forms.{form_of, mnemonic}
+use Rattle.assembler_mnemonics.specs.Slots.{shape, blank, field_at, FitsSlot, FitsSlots}
+use Rattle.assembler_mnemonics.specs.Registers.{integer_letter, vector_letter}
+use Rattle.assembler_mnemonics.specs.Configuration.{width_names, group_names, tail_names, mask_names, width_code, group_code, tail_code, mask_code, has_names, name_at}
+use Rattle.assembler_mnemonics.specs.declared.forms.Form.{Form}
+use Rattle.assembler_mnemonics.specs.declared.slots.Slot.{Slot}
+use Rattle.assembler_mnemonics.specs.declared.slots.Slot.TheVariants.{Integer, Vector, MaskRegister, Number, Upper, Based, Address, Target, Configuration, Mask}
+use Rattle.assembler_syntax.specs.Tokens.{continues_word}
 use Rattle.disassembler.specs.Listing.{hexadecimal_digit, hexadecimal_text, register_in, bracketed, names_text, vtype_text, operand_text, is_written, later_text, operands_text, instruction_text, word_text}
 use Rattle.disassembler.specs.Reaching.{Reaches, AllReach}
 use Rattle.disassembler.proofs.Tokens.{is_other, is_word, both_true, both, word_continues}

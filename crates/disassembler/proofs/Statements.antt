@@ -1,10 +1,10 @@
 -- The tokens of a mnemonic and operands are a statement.
 use Rattle.std.proofs.Common.{◌≡◌, ℕ, List, [], ◌∷◌, ◌++◌, Some, None, refl, sym, ap, ◌∙◌, append_assoc}
-use Rattle.assembly_syntax.specs.declared.tokens.Token.{Token}
-use Rattle.assembly_syntax.specs.declared.tokens.Token.TheVariants as t
-use Rattle.assembly_syntax.specs.declared.statements.Operand.{Operand}
-use Rattle.assembly_syntax.specs.declared.statements.Operand.TheVariants as o
-use Rattle.assembly_syntax.specs.Statements.{operand_of, pieces_of, all_operands, operands_of, commanded, statement_of}
+use Rattle.assembler_syntax.specs.declared.tokens.Token.{Token}
+use Rattle.assembler_syntax.specs.declared.tokens.Token.TheVariants as t
+use Rattle.assembler_syntax.specs.declared.statements.Operand.{Operand}
+use Rattle.assembler_syntax.specs.declared.statements.Operand.TheVariants as o
+use Rattle.assembler_syntax.specs.Statements.{operand_of, pieces_of, all_operands, operands_of, commanded, statement_of}
 use Rattle.disassembler.specs.Reading.{operand_tokens, later_tokens, operands_tokens, commanding}
 
 -- the pieces of later operands

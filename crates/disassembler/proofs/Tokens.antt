@@ -5,9 +5,9 @@ use Rattle.std.proofs.lemmas.Bool.{eqb-true}
 use Rattle.std.proofs.lemmas.Bool.Decides.{nat_tests}
 use Rattle.line_text.specs.Classes.{is_blank, is_digit, skip_blanks, ends, begins_name}
 use Rattle.line_text.proofs.SpanLaws.{prefix_len-front}
-use Rattle.assembly_syntax.specs.declared.tokens.Token.{Token}
-use Rattle.assembly_syntax.specs.declared.tokens.Token.TheVariants as t
-use Rattle.assembly_syntax.specs.Tokens.{begins_word, continues_word, span, number_token, negative_token, front_token, tokens_from, tokens_of}
+use Rattle.assembler_syntax.specs.declared.tokens.Token.{Token}
+use Rattle.assembler_syntax.specs.declared.tokens.Token.TheVariants as t
+use Rattle.assembler_syntax.specs.Tokens.{begins_word, continues_word, span, number_token, negative_token, front_token, tokens_from, tokens_of}
 
 -- the bytes have these tokens, however many more are asked for
 abbrev pub Reads : List ℕ → List Token → Type 0

@@ -3,12 +3,12 @@ use Rattle.std.proofs.Common.{◌≡◌, ℕ, ◌^◌, ◌<◌, Bool, true, fals
 use Rattle.std.specs.List.{list_all}
 use Rattle.rv_insn.specs.Meaning.{fields_of}
 use Rattle.rv_insn.specs.declared.instructions.Insn.{Insn}
-use Rattle.mnemonics.specs.Forms.{form_of, mnemonic}
-use Rattle.mnemonics.specs.Named.{forms, vector_forms, form_among, form_named}
-use Rattle.mnemonics.specs.Slots.{shape, vector_shape, blank, FitsSlots}
-use Rattle.mnemonics.specs.declared.forms.Form.{Form}
-use Rattle.assembly_syntax.specs.declared.tokens.Token.TheVariants as t
-use Rattle.assembly_syntax.specs.declared.statements.Operand.TheVariants as o
+use Rattle.assembler_mnemonics.specs.Forms.{form_of, mnemonic}
+use Rattle.assembler_mnemonics.specs.Named.{forms, vector_forms, form_among, form_named}
+use Rattle.assembler_mnemonics.specs.Slots.{shape, vector_shape, blank, FitsSlots}
+use Rattle.assembler_mnemonics.specs.declared.forms.Form.{Form}
+use Rattle.assembler_syntax.specs.declared.tokens.Token.TheVariants as t
+use Rattle.assembler_syntax.specs.declared.statements.Operand.TheVariants as o
 use Rattle.disassembler.specs.Listing.{hexadecimal_text, operands_text, instruction_text, word_text}
 use Rattle.disassembler.specs.Reading.{all_shown, operands_tokens, later_tokens, mnemonic_said, operands_said}
 use Rattle.disassembler.proofs.Tokens.{Reads, is_word, both_true, nothing_reads, blank_reads, word_reads}

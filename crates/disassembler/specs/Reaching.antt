@@ -2,8 +2,8 @@
 -- at most 12 bits, and a number as well. It is a premise of private functions, which every form's slots meet.
 -- This project's own.
 use Rattle.std.specs.Prelude.{ℕ, ◌<◌, pos, negsuc, ◌≤ℤ◌, List, [], ◌∷◌}
-use Rattle.mnemonics.specs.declared.slots.Slot.{Slot}
-use Rattle.mnemonics.specs.declared.slots.Slot.TheVariants.{Integer, Vector, MaskRegister, Number, Upper, Based, Address, Target, Configuration, Mask}
+use Rattle.assembler_mnemonics.specs.declared.slots.Slot.{Slot}
+use Rattle.assembler_mnemonics.specs.declared.slots.Slot.TheVariants.{Integer, Vector, MaskRegister, Number, Upper, Based, Address, Target, Configuration, Mask}
 
 abbrev pub Reaches : ℕ → Slot → Type 0
 Reaches count (Integer field) = field < count

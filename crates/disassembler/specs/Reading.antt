@@ -4,17 +4,17 @@ use Rattle.std.specs.Prelude.{ℕ, ◌==◌, if◌then◌else◌, ℤ, pos, ◌*
 use Rattle.rv_insn.specs.Meaning.{fields_of}
 use Rattle.rv_insn.specs.declared.instructions.Insn.{Insn}
 use Rattle.rv_encoding.specs.Decoding.{decoded}
-use Rattle.mnemonics.specs.Forms.{form_of, mnemonic}
-use Rattle.mnemonics.specs.Slots.{shape, field_at}
-use Rattle.mnemonics.specs.Configuration.{width_names, group_names, tail_names, mask_names, width_code, group_code, tail_code, mask_code, has_names, name_at}
-use Rattle.mnemonics.specs.Registers.{integer_letter, vector_letter}
-use Rattle.mnemonics.specs.declared.slots.Slot.{Slot}
-use Rattle.mnemonics.specs.declared.slots.Slot.TheVariants.{Integer, Vector, MaskRegister, Number, Upper, Based, Address, Target, Configuration, Mask}
-use Rattle.assembly_syntax.specs.declared.tokens.Token.{Token}
-use Rattle.assembly_syntax.specs.declared.tokens.Token.TheVariants as t
-use Rattle.assembly_syntax.specs.declared.statements.Operand.{Operand}
-use Rattle.assembly_syntax.specs.declared.statements.Operand.TheVariants as o
-use Rattle.assembly_syntax.specs.declared.statements.Statement.{Statement}
+use Rattle.assembler_mnemonics.specs.Forms.{form_of, mnemonic}
+use Rattle.assembler_mnemonics.specs.Slots.{shape, field_at}
+use Rattle.assembler_mnemonics.specs.Configuration.{width_names, group_names, tail_names, mask_names, width_code, group_code, tail_code, mask_code, has_names, name_at}
+use Rattle.assembler_mnemonics.specs.Registers.{integer_letter, vector_letter}
+use Rattle.assembler_mnemonics.specs.declared.slots.Slot.{Slot}
+use Rattle.assembler_mnemonics.specs.declared.slots.Slot.TheVariants.{Integer, Vector, MaskRegister, Number, Upper, Based, Address, Target, Configuration, Mask}
+use Rattle.assembler_syntax.specs.declared.tokens.Token.{Token}
+use Rattle.assembler_syntax.specs.declared.tokens.Token.TheVariants as t
+use Rattle.assembler_syntax.specs.declared.statements.Operand.{Operand}
+use Rattle.assembler_syntax.specs.declared.statements.Operand.TheVariants as o
+use Rattle.assembler_syntax.specs.declared.statements.Statement.{Statement}
 use Rattle.disassembler.specs.Listing.{register_in}
 
 -- ---- the operands that a slot shows: one, but four for a vtype by names, and none for a mask that is 1

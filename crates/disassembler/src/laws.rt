@@ -2,12 +2,12 @@
 
 ghost use Rattle.std.specs.Prelude.{◌≡◌, ◌<◌, ◌^◌, ℕ, Some};
 ghost use Rattle.line_text.specs.Lines.{IsLine};
-ghost use Rattle.assembly_syntax.specs.Tokens.{tokens_of};
-ghost use Rattle.assembly_syntax.specs.Statements.{statement_of};
+ghost use Rattle.assembler_syntax.specs.Tokens.{tokens_of};
+ghost use Rattle.assembler_syntax.specs.Statements.{statement_of};
 ghost use Rattle.disassembler.specs.Listing.{line_of};
 ghost use Rattle.disassembler.specs.Reading.{tokens_said, statement_said};
 
-use mnemonics::laws::{fields_fit, mnemonics_tell_apart};
+use assembler_mnemonics::laws::{fields_fit, mnemonics_tell_apart};
 use rv_encoding::decoded_is_meant;
 
 /// A law: the line of a word, without its line feed, is read as the mnemonic and the operands that it

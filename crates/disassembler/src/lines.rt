@@ -8,8 +8,8 @@ ghost use Rattle.disassembler.specs.Listing.{instruction_text, word_text, line_o
 
 use crate::numbers::push_hexadecimal;
 use crate::operands::push_operands;
-use mnemonics::laws::fields_fit;
-use mnemonics::{Fields, Form};
+use assembler_mnemonics::laws::fields_fit;
+use assembler_mnemonics::{Fields, Form};
 use rv_encoding::decode;
 use rv_insn::Insn;
 use std::alloc::AllocError;

@@ -2,14 +2,14 @@
 
 ghost use Rattle.std.specs.Prelude.{◌≡◌, ◌++◌, ◌<◌, ◌∷◌, length, OnOk, if◌then◌else◌, []};
 ghost use Rattle.std.specs.String.{string_bytes};
-ghost use Rattle.mnemonics.specs.Slots.{FitsSlot, FitsSlots};
-ghost use Rattle.mnemonics.specs.Configuration.{width_names, group_names, tail_names, mask_names, width_code, group_code, tail_code, mask_code, has_names, name_at};
-ghost use Rattle.mnemonics.specs.Registers.{integer_letter, vector_letter};
+ghost use Rattle.assembler_mnemonics.specs.Slots.{FitsSlot, FitsSlots};
+ghost use Rattle.assembler_mnemonics.specs.Configuration.{width_names, group_names, tail_names, mask_names, width_code, group_code, tail_code, mask_code, has_names, name_at};
+ghost use Rattle.assembler_mnemonics.specs.Registers.{integer_letter, vector_letter};
 ghost use Rattle.disassembler.specs.Listing as spec;
 ghost use Rattle.disassembler.specs.Reaching.{Reaches, AllReach};
 
 use crate::numbers::push_hexadecimal;
-use mnemonics::{Fields, Slot};
+use assembler_mnemonics::{Fields, Slot};
 use std::alloc::AllocError;
 
 /// What stands behind a mnemonic: nothing where there are no slots, else a space and the operands with

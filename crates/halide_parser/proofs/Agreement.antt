@@ -11,19 +11,19 @@ use Rattle.halide_pipeline.specs.declared.expressions.Variable.TheVariants as va
 use Rattle.halide_pipeline.specs.Expressions.{nodes}
 use Rattle.halide_pipeline.specs.Pipelines.{Pipeline}
 use Rattle.halide_pipeline.specs.WellFormed.{fits, is_alone}
-use Rattle.halide_syntax.specs.declared.faults.ParseFault.{ParseFault}
-use Rattle.halide_syntax.specs.declared.faults.ParseFault.TheVariants as fault
-use Rattle.halide_syntax.specs.declared.tokens.Token.{Token}
-use Rattle.halide_syntax.specs.declared.lines.Change.{Change}
-use Rattle.halide_syntax.specs.declared.lines.Definition.{Definition}
-use Rattle.halide_syntax.specs.declared.lines.Line.{Line}
-use Rattle.halide_syntax.specs.declared.lines.Line.TheVariants as line
-use Rattle.halide_syntax.specs.inner.Algebra.{made, made_index}
-use Rattle.halide_syntax.specs.inner.LineReading.{line_of, or_syntax}
-use Rattle.halide_syntax.specs.Grammar.{Written, has_part, nesting}
-use Rattle.halide_syntax.specs.LineGrammar.{FollowsGrammar}
-use Rattle.halide_syntax.specs.Tokens.{tokens_of}
-use Rattle.halide_syntax.proofs.Refusals.{line_or_syntax, agree, follows}
+use Rattle.halide_parser_syntax.specs.declared.faults.ParseFault.{ParseFault}
+use Rattle.halide_parser_syntax.specs.declared.faults.ParseFault.TheVariants as fault
+use Rattle.halide_parser_syntax.specs.declared.tokens.Token.{Token}
+use Rattle.halide_parser_syntax.specs.declared.lines.Change.{Change}
+use Rattle.halide_parser_syntax.specs.declared.lines.Definition.{Definition}
+use Rattle.halide_parser_syntax.specs.declared.lines.Line.{Line}
+use Rattle.halide_parser_syntax.specs.declared.lines.Line.TheVariants as line
+use Rattle.halide_parser_syntax.specs.inner.Algebra.{made, made_index}
+use Rattle.halide_parser_syntax.specs.inner.LineReading.{line_of, or_syntax}
+use Rattle.halide_parser_syntax.specs.Grammar.{Written, has_part, nesting}
+use Rattle.halide_parser_syntax.specs.LineGrammar.{FollowsGrammar}
+use Rattle.halide_parser_syntax.specs.Tokens.{tokens_of}
+use Rattle.halide_parser_syntax.proofs.Refusals.{line_or_syntax, agree, follows}
 use Rattle.halide_parser.specs.declared.judging.Judged.{Judged}
 use Rattle.halide_parser.specs.declared.judging.Marks.{Marks}
 use Rattle.halide_parser.specs.declared.readers.Reader.{Reader}

@@ -3,17 +3,17 @@ use Rattle.std.proofs.Common.{◌≡◌, ℕ, Option, Some, None, List, Result, 
 use Rattle.line_text.specs.Reading.{◌>>=◌, Fails}
 use Rattle.line_text.specs.declared.read_errors.ReadError.{ReadError}
 use Rattle.line_text.specs.declared.read_errors.ReadError.TheVariants as errors
-use Rattle.halide_syntax.specs.declared.faults.ParseFault.{ParseFault}
-use Rattle.halide_syntax.specs.declared.tokens.Token.{Token}
+use Rattle.halide_parser_syntax.specs.declared.faults.ParseFault.{ParseFault}
+use Rattle.halide_parser_syntax.specs.declared.tokens.Token.{Token}
 use Rattle.halide_pipeline.specs.declared.definitions.Func.{Func}
-use Rattle.halide_syntax.specs.declared.lines.Change.{Change}
-use Rattle.halide_syntax.specs.declared.lines.Line.{Line}
-use Rattle.halide_syntax.specs.declared.lines.Line.TheVariants as line
-use Rattle.halide_syntax.specs.inner.Algebra.{Algebra, writing, made as made_of}
-use Rattle.halide_syntax.specs.Grammar.{Written}
-use Rattle.halide_syntax.specs.inner.Algebra.{made_line, made_index}
-use Rattle.halide_syntax.specs.inner.LineReading.{read_line, with_made}
-use Rattle.halide_syntax.proofs.MakingLines.{read_line as made}
+use Rattle.halide_parser_syntax.specs.declared.lines.Change.{Change}
+use Rattle.halide_parser_syntax.specs.declared.lines.Line.{Line}
+use Rattle.halide_parser_syntax.specs.declared.lines.Line.TheVariants as line
+use Rattle.halide_parser_syntax.specs.inner.Algebra.{Algebra, writing, made as made_of}
+use Rattle.halide_parser_syntax.specs.Grammar.{Written}
+use Rattle.halide_parser_syntax.specs.inner.Algebra.{made_line, made_index}
+use Rattle.halide_parser_syntax.specs.inner.LineReading.{read_line, with_made}
+use Rattle.halide_parser_syntax.proofs.MakingLines.{read_line as made}
 use Rattle.halide_parser.specs.declared.judging.Judged.{Judged}
 use Rattle.halide_parser.specs.declared.readers.Reader.{Reader}
 use Rattle.halide_parser.specs.inner.Judging.{judging}

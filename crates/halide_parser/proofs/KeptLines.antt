@@ -12,12 +12,12 @@ use Rattle.halide_pipeline.specs.declared.expressions.Variable.TheVariants as va
 use Rattle.halide_pipeline.specs.Definitions.{dimensions, count_arguments}
 use Rattle.halide_pipeline.specs.WellFormed.{is_name, is_second_name, IsFunc, is_input, is_width, is_height, are_dimensions, is_source, is_func_of, is_read, is_argument}
 use Rattle.halide_pipeline.proofs.Keeping.{keeps-grows}
-use Rattle.halide_syntax.specs.declared.lines.Definition.{Definition}
-use Rattle.halide_syntax.specs.declared.lines.Extents.{Extents}
-use Rattle.halide_syntax.specs.declared.lines.Line.TheVariants as line
-use Rattle.halide_syntax.specs.declared.tokens.Token.{Token}
-use Rattle.halide_syntax.specs.inner.Algebra.{made}
-use Rattle.halide_syntax.specs.Grammar.{Written, IsRight}
+use Rattle.halide_parser_syntax.specs.declared.lines.Definition.{Definition}
+use Rattle.halide_parser_syntax.specs.declared.lines.Extents.{Extents}
+use Rattle.halide_parser_syntax.specs.declared.lines.Line.TheVariants as line
+use Rattle.halide_parser_syntax.specs.declared.tokens.Token.{Token}
+use Rattle.halide_parser_syntax.specs.inner.Algebra.{made}
+use Rattle.halide_parser_syntax.specs.Grammar.{Written, IsRight}
 use Rattle.halide_parser.specs.declared.judging.Judged.{Judged}
 use Rattle.halide_parser.specs.declared.readers.Reader.{Reader}
 use Rattle.halide_parser.specs.declared.scopes.Scope.{Scope}

@@ -7,18 +7,18 @@ use Rattle.line_text.specs.LineReading.{located, taken_from}
 use Rattle.halide_pipeline.specs.Pipelines.{Pipeline}
 use Rattle.halide_pipeline.specs.declared.definitions.Output.{Output}
 use Rattle.halide_pipeline.specs.WellFormed.{IsWellFormed}
-use Rattle.halide_syntax.specs.declared.faults.ParseFault.{ParseFault}
-use Rattle.halide_syntax.specs.declared.tokens.Token.{Token}
-use Rattle.halide_syntax.specs.declared.tokens.Token.TheVariants as t
-use Rattle.halide_syntax.specs.declared.lines.Line.{Line}
-use Rattle.halide_syntax.specs.declared.lines.Line.TheVariants as line
-use Rattle.halide_syntax.specs.declared.lines.Change.{Change}
-use Rattle.halide_syntax.specs.inner.Algebra.{writing}
-use Rattle.halide_syntax.specs.Grammar.{Written, spell}
-use Rattle.halide_syntax.specs.LineGrammar.{IsRightLine, spell_line, spell_index, spell_argument, spell_bounds, spell_second_bounds}
-use Rattle.halide_syntax.specs.inner.LineReading.{read_line}
-use Rattle.halide_syntax.specs.Tokens.{tokens_of}
-use Rattle.halide_syntax.proofs.LinesBack.{line_written}
+use Rattle.halide_parser_syntax.specs.declared.faults.ParseFault.{ParseFault}
+use Rattle.halide_parser_syntax.specs.declared.tokens.Token.{Token}
+use Rattle.halide_parser_syntax.specs.declared.tokens.Token.TheVariants as t
+use Rattle.halide_parser_syntax.specs.declared.lines.Line.{Line}
+use Rattle.halide_parser_syntax.specs.declared.lines.Line.TheVariants as line
+use Rattle.halide_parser_syntax.specs.declared.lines.Change.{Change}
+use Rattle.halide_parser_syntax.specs.inner.Algebra.{writing}
+use Rattle.halide_parser_syntax.specs.Grammar.{Written, spell}
+use Rattle.halide_parser_syntax.specs.LineGrammar.{IsRightLine, spell_line, spell_index, spell_argument, spell_bounds, spell_second_bounds}
+use Rattle.halide_parser_syntax.specs.inner.LineReading.{read_line}
+use Rattle.halide_parser_syntax.specs.Tokens.{tokens_of}
+use Rattle.halide_parser_syntax.proofs.LinesBack.{line_written}
 use Rattle.halide_parser.specs.declared.readers.Reader.{Reader}
 use Rattle.halide_parser.specs.inner.JudgedLines.{fault_of, tree_of, IsFinishable, pipeline_of, judged, judged_line, settled, settled_as, taken}
 use Rattle.halide_parser.specs.Meaning.{applied}

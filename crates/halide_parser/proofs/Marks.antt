@@ -5,14 +5,14 @@ use Rattle.halide_pipeline.specs.declared.expressions.Source.{Source}
 use Rattle.halide_pipeline.specs.declared.expressions.Variable.{Variable}
 use Rattle.halide_pipeline.specs.declared.expressions.Variable.TheVariants as variables
 use Rattle.halide_pipeline.specs.WellFormed.{is_alone, is_divisor}
-use Rattle.halide_syntax.specs.declared.tokens.ProductOperator.TheVariants as products
-use Rattle.halide_syntax.specs.declared.tokens.SumOperator.{SumOperator}
-use Rattle.halide_syntax.specs.declared.tokens.CompareOperator.{CompareOperator}
-use Rattle.halide_syntax.specs.declared.tokens.TwoFunction.{TwoFunction}
-use Rattle.halide_syntax.specs.declared.tokens.ThreeFunction.{ThreeFunction}
-use Rattle.halide_syntax.specs.declared.tokens.ThreeFunction.TheVariants as threes
-use Rattle.halide_syntax.specs.inner.Algebra.{made}
-use Rattle.halide_syntax.specs.Grammar.{Written, Literal, Bare, Group, Minus, Call, CallTwo, Two, Three, Product, Sum, Comparison, has_part, nesting}
+use Rattle.halide_parser_syntax.specs.declared.tokens.ProductOperator.TheVariants as products
+use Rattle.halide_parser_syntax.specs.declared.tokens.SumOperator.{SumOperator}
+use Rattle.halide_parser_syntax.specs.declared.tokens.CompareOperator.{CompareOperator}
+use Rattle.halide_parser_syntax.specs.declared.tokens.TwoFunction.{TwoFunction}
+use Rattle.halide_parser_syntax.specs.declared.tokens.ThreeFunction.{ThreeFunction}
+use Rattle.halide_parser_syntax.specs.declared.tokens.ThreeFunction.TheVariants as threes
+use Rattle.halide_parser_syntax.specs.inner.Algebra.{made}
+use Rattle.halide_parser_syntax.specs.Grammar.{Written, Literal, Bare, Group, Minus, Call, CallTwo, Two, Three, Product, Sum, Comparison, has_part, nesting}
 use Rattle.halide_parser.specs.declared.judging.Judged.{Judged}
 use Rattle.halide_parser.specs.declared.judging.Marks.{Marks}
 use Rattle.halide_parser.specs.declared.readers.Reader.{Reader}

@@ -1,10 +1,10 @@
 -- Going over tokens step by step, as a loop does.
 use Rattle.std.proofs.Common.{◌≡◌, ℕ, zero, suc, ◌-◌, ◌+◌, ◌<◌, ◌≤◌, true, false, List, length, Some, None, refl, sym, ap, ◌∙◌, arith}
-use Rattle.halide_syntax.specs.declared.tokens.Token.{Token}
-use Rattle.halide_syntax.specs.declared.states.State.{State}
-use Rattle.halide_syntax.specs.inner.Algebra.{Algebra}
-use Rattle.halide_syntax.specs.inner.Machine.{start, step, is_over, finished, run, expression}
-use Rattle.halide_syntax.specs.inner.LineReading.{read, or_syntax}
+use Rattle.halide_parser_syntax.specs.declared.tokens.Token.{Token}
+use Rattle.halide_parser_syntax.specs.declared.states.State.{State}
+use Rattle.halide_parser_syntax.specs.inner.Algebra.{Algebra}
+use Rattle.halide_parser_syntax.specs.inner.Machine.{start, step, is_over, finished, run, expression}
+use Rattle.halide_parser_syntax.specs.inner.LineReading.{read, or_syntax}
 
 -- With steps to spare, what is left gives the whole.
 pub record Going {V : Type 0} (alg : Algebra V) (tokens : List Token) (s : State V) (rest : List Token) : Type 0 where

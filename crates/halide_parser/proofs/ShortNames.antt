@@ -5,15 +5,15 @@ use Rattle.std.specs.List.{list_any}
 use Rattle.std.proofs.lemmas.Bool.{or_parts, and_parts, and_from, ltb-false, le-leb}
 use Rattle.halide_pipeline.specs.Names.{Named}
 use Rattle.halide_pipeline.specs.WellFormed.{is_name, is_second_name, are_names}
-use Rattle.halide_syntax.specs.declared.tokens.Token.{Token}
-use Rattle.halide_syntax.specs.declared.tokens.Token.TheVariants as t
-use Rattle.halide_syntax.specs.declared.lines.Bounds.{Bounds}
-use Rattle.halide_syntax.specs.declared.lines.Change.{Change}
-use Rattle.halide_syntax.specs.declared.lines.Definition.{Definition}
-use Rattle.halide_syntax.specs.declared.lines.Extents.{Extents}
-use Rattle.halide_syntax.specs.declared.lines.Line.TheVariants as line
-use Rattle.halide_syntax.specs.Grammar.{Written, spell, Literal, Bare, Group, Minus, Call, CallTwo, Two, Three, Product, Sum, Comparison}
-use Rattle.halide_syntax.specs.LineGrammar.{spell_line, spell_height, spell_kind, spell_argument, spell_index, spell_sign, spell_second_bounds}
+use Rattle.halide_parser_syntax.specs.declared.tokens.Token.{Token}
+use Rattle.halide_parser_syntax.specs.declared.tokens.Token.TheVariants as t
+use Rattle.halide_parser_syntax.specs.declared.lines.Bounds.{Bounds}
+use Rattle.halide_parser_syntax.specs.declared.lines.Change.{Change}
+use Rattle.halide_parser_syntax.specs.declared.lines.Definition.{Definition}
+use Rattle.halide_parser_syntax.specs.declared.lines.Extents.{Extents}
+use Rattle.halide_parser_syntax.specs.declared.lines.Line.TheVariants as line
+use Rattle.halide_parser_syntax.specs.Grammar.{Written, spell, Literal, Bare, Group, Minus, Call, CallTwo, Two, Three, Product, Sum, Comparison}
+use Rattle.halide_parser_syntax.specs.LineGrammar.{spell_line, spell_height, spell_kind, spell_argument, spell_index, spell_sign, spell_second_bounds}
 use Rattle.halide_parser.specs.Rules.{is_long}
 use Rattle.halide_parser.specs.Scopes.{bounds_name}
 

@@ -10,15 +10,15 @@ use Rattle.halide_pipeline.specs.declared.expressions.Variable.{Variable}
 use Rattle.halide_pipeline.specs.Expressions.{nodes, Brackets, bracketed, within, operation_brackets, brackets_at, brackets}
 use Rattle.halide_pipeline.specs.WellFormed.{fits, is_sized}
 use Rattle.halide_pipeline.proofs.Trees.{at_number, at_variable, at_binary, at_divide, at_remainder, at_select, at_call1, at_call2}
-use Rattle.halide_syntax.specs.declared.tokens.ProductOperator.TheVariants as products
-use Rattle.halide_syntax.specs.declared.tokens.SumOperator.{SumOperator}
-use Rattle.halide_syntax.specs.declared.tokens.SumOperator.TheVariants as sums
-use Rattle.halide_syntax.specs.declared.tokens.CompareOperator.{CompareOperator}
-use Rattle.halide_syntax.specs.declared.tokens.CompareOperator.TheVariants as comparisons
-use Rattle.halide_syntax.specs.declared.tokens.TwoFunction.TheVariants as twos
-use Rattle.halide_syntax.specs.declared.tokens.ThreeFunction.TheVariants as threes
-use Rattle.halide_syntax.specs.inner.Algebra.{made}
-use Rattle.halide_syntax.specs.Grammar.{Written, Literal, Bare, Group, Minus, Call, CallTwo, Two, Three, Product, Sum, Comparison, IsRight, level, nesting}
+use Rattle.halide_parser_syntax.specs.declared.tokens.ProductOperator.TheVariants as products
+use Rattle.halide_parser_syntax.specs.declared.tokens.SumOperator.{SumOperator}
+use Rattle.halide_parser_syntax.specs.declared.tokens.SumOperator.TheVariants as sums
+use Rattle.halide_parser_syntax.specs.declared.tokens.CompareOperator.{CompareOperator}
+use Rattle.halide_parser_syntax.specs.declared.tokens.CompareOperator.TheVariants as comparisons
+use Rattle.halide_parser_syntax.specs.declared.tokens.TwoFunction.TheVariants as twos
+use Rattle.halide_parser_syntax.specs.declared.tokens.ThreeFunction.TheVariants as threes
+use Rattle.halide_parser_syntax.specs.inner.Algebra.{made}
+use Rattle.halide_parser_syntax.specs.Grammar.{Written, Literal, Bare, Group, Minus, Call, CallTwo, Two, Three, Product, Sum, Comparison, IsRight, level, nesting}
 use Rattle.halide_parser.specs.declared.judging.Judged.{Judged}
 use Rattle.halide_parser.specs.declared.readers.Reader.{Reader}
 use Rattle.halide_parser.specs.declared.scopes.Scope.{Scope}

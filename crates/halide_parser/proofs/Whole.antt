@@ -5,7 +5,7 @@ use Rattle.line_text.specs.LineReading.{taken_from}
 use Rattle.line_text.specs.Reading.{FailsAt}
 use Rattle.line_text.specs.declared.read_errors.LocatedError.{LocatedError}
 use Rattle.line_text.specs.declared.read_errors.LocatedError.TheVariants as places
-use Rattle.halide_syntax.specs.declared.faults.ParseFault.{ParseFault}
+use Rattle.halide_parser_syntax.specs.declared.faults.ParseFault.{ParseFault}
 use Rattle.halide_parser.specs.declared.readers.Reader.{Reader}
 use Rattle.halide_parser.specs.inner.JudgedLines.{taken}
 use Rattle.halide_parser.specs.Parsing.{start, finished, parsed}

@@ -13,10 +13,10 @@ use Rattle.halide_pipeline.specs.Expressions.{nodes, nodes_at}
 use Rattle.halide_pipeline.specs.WellFormed as limits
 use Rattle.halide_pipeline.specs.WellFormed.{is_divisor}
 use Rattle.halide_pipeline.proofs.Trees.{at_number, at_variable, at_binary, at_divide, at_remainder, at_select, at_call1, at_call2}
-use Rattle.halide_syntax.specs.declared.tokens.ProductOperator.TheVariants as products
-use Rattle.halide_syntax.specs.declared.tokens.ThreeFunction.TheVariants as threes
-use Rattle.halide_syntax.specs.inner.Algebra.{made}
-use Rattle.halide_syntax.specs.Grammar.{Written, Literal, Bare, Group, Minus, Call, CallTwo, Two, Three, Product, Sum, Comparison}
+use Rattle.halide_parser_syntax.specs.declared.tokens.ProductOperator.TheVariants as products
+use Rattle.halide_parser_syntax.specs.declared.tokens.ThreeFunction.TheVariants as threes
+use Rattle.halide_parser_syntax.specs.inner.Algebra.{made}
+use Rattle.halide_parser_syntax.specs.Grammar.{Written, Literal, Bare, Group, Minus, Call, CallTwo, Two, Three, Product, Sum, Comparison}
 use Rattle.halide_parser.specs.declared.judging.Judged.{Judged}
 use Rattle.halide_parser.specs.declared.judging.Marks.{Marks}
 use Rattle.halide_parser.specs.declared.readers.Reader.{Reader}

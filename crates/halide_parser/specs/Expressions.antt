@@ -12,15 +12,15 @@ use Rattle.halide_pipeline.specs.declared.expressions.Source.{Source}
 use Rattle.halide_pipeline.specs.declared.expressions.Source.TheVariants as sources
 use Rattle.halide_pipeline.specs.Expressions.{nodes}
 use Rattle.halide_pipeline.specs.WellFormed.{is_alone, is_divisor, fits}
-use Rattle.halide_syntax.specs.declared.tokens.ProductOperator.TheVariants as products
-use Rattle.halide_syntax.specs.declared.tokens.SumOperator.{SumOperator}
-use Rattle.halide_syntax.specs.declared.tokens.SumOperator.TheVariants as sums
-use Rattle.halide_syntax.specs.declared.tokens.CompareOperator.{CompareOperator}
-use Rattle.halide_syntax.specs.declared.tokens.CompareOperator.TheVariants as comparisons
-use Rattle.halide_syntax.specs.declared.tokens.TwoFunction.{TwoFunction}
-use Rattle.halide_syntax.specs.declared.tokens.TwoFunction.TheVariants as twos
-use Rattle.halide_syntax.specs.declared.tokens.ThreeFunction.TheVariants as threes
-use Rattle.halide_syntax.specs.Grammar.{Written, Literal, Bare, Group, Minus, Call, CallTwo, Two, Three, Product, Sum, Comparison, nesting}
+use Rattle.halide_parser_syntax.specs.declared.tokens.ProductOperator.TheVariants as products
+use Rattle.halide_parser_syntax.specs.declared.tokens.SumOperator.{SumOperator}
+use Rattle.halide_parser_syntax.specs.declared.tokens.SumOperator.TheVariants as sums
+use Rattle.halide_parser_syntax.specs.declared.tokens.CompareOperator.{CompareOperator}
+use Rattle.halide_parser_syntax.specs.declared.tokens.CompareOperator.TheVariants as comparisons
+use Rattle.halide_parser_syntax.specs.declared.tokens.TwoFunction.{TwoFunction}
+use Rattle.halide_parser_syntax.specs.declared.tokens.TwoFunction.TheVariants as twos
+use Rattle.halide_parser_syntax.specs.declared.tokens.ThreeFunction.TheVariants as threes
+use Rattle.halide_parser_syntax.specs.Grammar.{Written, Literal, Bare, Group, Minus, Call, CallTwo, Two, Three, Product, Sum, Comparison, nesting}
 use Rattle.halide_parser.specs.declared.readers.Reader.{Reader}
 use Rattle.halide_parser.specs.declared.scopes.Scope.{Scope}
 use Rattle.halide_parser.specs.Readers.{source}

@@ -8,12 +8,12 @@ use Rattle.halide_pipeline.specs.declared.definitions.Update.{Update}
 use Rattle.halide_pipeline.specs.declared.definitions.Reduction.{Reduction}
 use Rattle.halide_pipeline.specs.Names.{lookup}
 use Rattle.halide_pipeline.specs.Words.{subtract}
-use Rattle.halide_syntax.specs.declared.lines.Bounds.{Bounds}
-use Rattle.halide_syntax.specs.declared.lines.Change.{Change}
-use Rattle.halide_syntax.specs.declared.lines.Definition.{Definition}
-use Rattle.halide_syntax.specs.declared.lines.Extents.{Extents}
-use Rattle.halide_syntax.specs.declared.lines.Line.{Line}
-use Rattle.halide_syntax.specs.declared.lines.Line.TheVariants as line
+use Rattle.halide_parser_syntax.specs.declared.lines.Bounds.{Bounds}
+use Rattle.halide_parser_syntax.specs.declared.lines.Change.{Change}
+use Rattle.halide_parser_syntax.specs.declared.lines.Definition.{Definition}
+use Rattle.halide_parser_syntax.specs.declared.lines.Extents.{Extents}
+use Rattle.halide_parser_syntax.specs.declared.lines.Line.{Line}
+use Rattle.halide_parser_syntax.specs.declared.lines.Line.TheVariants as line
 use Rattle.halide_parser.specs.declared.readers.Reader.{Reader}
 use Rattle.halide_parser.specs.Readers.{func_place}
 use Rattle.halide_parser.specs.Rules.{height_of, count_with}

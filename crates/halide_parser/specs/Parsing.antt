@@ -7,13 +7,13 @@ use Rattle.line_text.specs.Lines.{lines_of}
 use Rattle.line_text.specs.LineReading.{taken_from}
 use Rattle.halide_pipeline.specs.Pipelines.{Pipeline}
 use Rattle.halide_pipeline.specs.declared.definitions.Output.{Output}
-use Rattle.halide_syntax.specs.declared.faults.ParseFault.{ParseFault}
-use Rattle.halide_syntax.specs.declared.faults.ParseFault.TheVariants.{NoOutput, Syntax}
-use Rattle.halide_syntax.specs.declared.tokens.Token.{Token}
-use Rattle.halide_syntax.specs.declared.lines.Line.{Line}
-use Rattle.halide_syntax.specs.Grammar.{Written}
-use Rattle.halide_syntax.specs.Tokens.{tokens_of}
-use Rattle.halide_syntax.specs.inner.LineReading.{line_of}
+use Rattle.halide_parser_syntax.specs.declared.faults.ParseFault.{ParseFault}
+use Rattle.halide_parser_syntax.specs.declared.faults.ParseFault.TheVariants.{NoOutput, Syntax}
+use Rattle.halide_parser_syntax.specs.declared.tokens.Token.{Token}
+use Rattle.halide_parser_syntax.specs.declared.lines.Line.{Line}
+use Rattle.halide_parser_syntax.specs.Grammar.{Written}
+use Rattle.halide_parser_syntax.specs.Tokens.{tokens_of}
+use Rattle.halide_parser_syntax.specs.inner.LineReading.{line_of}
 use Rattle.halide_parser.specs.declared.readers.Reader.{Reader}
 use Rattle.halide_parser.specs.Expressions.{tree}
 use Rattle.halide_parser.specs.Meaning.{applied}
@@ -35,7 +35,7 @@ abbrev pub settled_if : Reader → List Token → Option (Line Written) → Resu
 settled_if reader tokens None = Err Syntax
 settled_if reader tokens (Some l) = settled reader tokens l
 
--- The lines so far and one more, where `read` gives the line that tokens spell (`FollowsGrammar` of `halide_syntax`).
+-- The lines so far and one more, where `read` gives the line that tokens spell (`FollowsGrammar` of `halide_parser_syntax`).
 unfoldable pub taken_by : (List Token → Option (Line Written)) → Reader → List ℕ → Result Reader ParseFault
 taken_by read reader line = tokens_of line >>= λ tokens. settled_if reader tokens (read tokens)
 
@@ -63,6 +63,6 @@ finished count reader = finished_as count reader reader.output
 unfoldable pub parsed_by : (List Token → Option (Line Written)) → Global → List ℕ → Result Pipeline (ℕ × ParseFault)
 parsed_by read alloc text = taken_from (taken_by read) 1 (start alloc text) (lines_of text) >>= λ reader. finished (length (lines_of text)) reader
 
--- The same. The call `lines_follow_the_grammar` of `halide_syntax` proves that `line_of` gives the line that tokens spell.
+-- The same. The call `lines_follow_the_grammar` of `halide_parser_syntax` proves that `line_of` gives the line that tokens spell.
 unfoldable pub parsed : Global → List ℕ → Result Pipeline (ℕ × ParseFault)
 parsed alloc text = parsed_by line_of alloc text

@@ -9,15 +9,15 @@ use Rattle.halide_pipeline.specs.declared.definitions.Output.{Output}
 use Rattle.halide_pipeline.specs.Definitions as definitions
 use Rattle.halide_pipeline.specs.Names.{lookup, is_named}
 use Rattle.halide_pipeline.specs.WellFormed.{is_alone, is_argument_name, most_extent, most_points}
-use Rattle.halide_syntax.specs.declared.faults.ParseFault.{ParseFault}
-use Rattle.halide_syntax.specs.declared.faults.ParseFault.TheVariants as fault
-use Rattle.halide_syntax.specs.declared.tokens.Token.{Token}
-use Rattle.halide_syntax.specs.declared.tokens.Token.TheVariants as t
-use Rattle.halide_syntax.specs.declared.lines.Bounds.{Bounds}
-use Rattle.halide_syntax.specs.declared.lines.Change.{Change}
-use Rattle.halide_syntax.specs.declared.lines.Line.{Line}
-use Rattle.halide_syntax.specs.declared.lines.Line.TheVariants as line
-use Rattle.halide_syntax.specs.Grammar.{Written, has_part}
+use Rattle.halide_parser_syntax.specs.declared.faults.ParseFault.{ParseFault}
+use Rattle.halide_parser_syntax.specs.declared.faults.ParseFault.TheVariants as fault
+use Rattle.halide_parser_syntax.specs.declared.tokens.Token.{Token}
+use Rattle.halide_parser_syntax.specs.declared.tokens.Token.TheVariants as t
+use Rattle.halide_parser_syntax.specs.declared.lines.Bounds.{Bounds}
+use Rattle.halide_parser_syntax.specs.declared.lines.Change.{Change}
+use Rattle.halide_parser_syntax.specs.declared.lines.Line.{Line}
+use Rattle.halide_parser_syntax.specs.declared.lines.Line.TheVariants as line
+use Rattle.halide_parser_syntax.specs.Grammar.{Written, has_part}
 use Rattle.halide_parser.specs.declared.readers.Reader.{Reader}
 use Rattle.halide_parser.specs.declared.scopes.Scope.{Scope}
 use Rattle.halide_parser.specs.Expressions.{is_unknown_at, is_wrong_count_at, is_bad_divisor_at, uses_at, alone, calls_own_at, moves_first_at, moves_second_at, exceeds}

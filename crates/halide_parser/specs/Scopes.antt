@@ -5,10 +5,10 @@ use Rattle.halide_pipeline.specs.declared.definitions.Func.{Func}
 use Rattle.halide_pipeline.specs.declared.expressions.Variable.{Variable}
 use Rattle.halide_pipeline.specs.declared.expressions.Variable.TheVariants as variables
 use Rattle.halide_pipeline.specs.Names.{is_named}
-use Rattle.halide_syntax.specs.declared.lines.Bounds.{Bounds}
-use Rattle.halide_syntax.specs.declared.lines.Change.{Change}
-use Rattle.halide_syntax.specs.declared.lines.Line.{Line}
-use Rattle.halide_syntax.specs.declared.lines.Line.TheVariants as line
+use Rattle.halide_parser_syntax.specs.declared.lines.Bounds.{Bounds}
+use Rattle.halide_parser_syntax.specs.declared.lines.Change.{Change}
+use Rattle.halide_parser_syntax.specs.declared.lines.Line.{Line}
+use Rattle.halide_parser_syntax.specs.declared.lines.Line.TheVariants as line
 use Rattle.halide_parser.specs.declared.readers.Reader.{Reader}
 use Rattle.halide_parser.specs.declared.scopes.Scope.{Scope}
 use Rattle.halide_parser.specs.Readers.{func, func_place}

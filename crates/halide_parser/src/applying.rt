@@ -10,8 +10,8 @@ use crate::judging::Judged;
 use crate::readers::{Reader, func, func_place};
 use crate::rules::height_of;
 use crate::scopes::Scope;
+use halide_parser_syntax::{Bounds, Change, Definition, Extents, Line};
 use halide_pipeline::{Expr, Func, Input, Output, Reduction, Source, Update};
-use halide_syntax::{Bounds, Change, Definition, Extents, Line};
 use sqlite_items::Items;
 use std::alloc::{AllocError, Global};
 

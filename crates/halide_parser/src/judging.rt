@@ -8,8 +8,10 @@ ghost use Rattle.halide_parser.specs.inner.Judging as spec;
 
 use crate::readers::{Reader, source};
 use crate::scopes::{Scope, variable};
+use halide_parser_syntax::{
+    CompareOperator, ProductOperator, SumOperator, ThreeFunction, TwoFunction,
+};
 use halide_pipeline::{Expr, Operation, Source, Variable};
-use halide_syntax::{CompareOperator, ProductOperator, SumOperator, ThreeFunction, TwoFunction};
 use sqlite_items::Boxed;
 use std::alloc::{AllocError, Global};
 

@@ -1,7 +1,7 @@
 //! Reads algorithm texts: [`parse`] gives the pipeline that a text names, or its first faulty line and that
 //! line's least fault.
 //!
-//! A line is cut into tokens (`halide_syntax`), and one pass over them, with a stack of open brackets in
+//! A line is cut into tokens (`halide_parser_syntax`), and one pass over them, with a stack of open brackets in
 //! place of recursion, says whether they are of the grammar and what is known of each expression
 //! ([`judging`], [`passes`], [`line_reading`]): the rules that it breaks, its size, and its tree where it is
 //! not too large. Then the rules of the line are tested from the least fault on ([`rules`]), and a faultless

@@ -2,20 +2,22 @@
 
 ghost use Rattle.std.specs.Prelude.{◌≡◌};
 ghost use Rattle.line_text.specs.Reading.{Gives};
-ghost use Rattle.halide_syntax.specs.inner.LineReading as reading;
+ghost use Rattle.halide_parser_syntax.specs.inner.LineReading as reading;
 ghost use Rattle.halide_parser.specs.inner.Judging.{judging};
 
 use crate::judging::Judged;
 use crate::passes::expression;
 use crate::readers::Reader;
 use crate::scopes::Scope;
-use halide_syntax::line_parts::{arguments, assigned, bounds, extents, kind, more_bounds, over};
-use halide_syntax::{Change, Definition, Line, ParseFault, Token};
+use halide_parser_syntax::line_parts::{
+    arguments, assigned, bounds, extents, kind, more_bounds, over,
+};
+use halide_parser_syntax::{Change, Definition, Line, ParseFault, Token};
 use line_text::ReadError;
 use sqlite_items::Items;
 
 /// Nothing, or a comma and a second index.
-#[tactic(auto, unfolding(halide_syntax::specs::inner::LineReading::index))]
+#[tactic(auto, unfolding(halide_parser_syntax::specs::inner::LineReading::index))]
 fn index<'a>(
     reader: &Reader,
     scope: &Scope,
@@ -33,7 +35,7 @@ fn index<'a>(
 }
 
 /// What stands behind `func`, the name and its bracket.
-#[tactic(auto, unfolding(halide_syntax::specs::inner::LineReading::definition))]
+#[tactic(auto, unfolding(halide_parser_syntax::specs::inner::LineReading::definition))]
 fn definition(
     reader: &Reader,
     scope: &Scope,
@@ -56,7 +58,7 @@ fn definition(
 }
 
 /// What stands behind `update`, the name and its bracket.
-#[tactic(auto, unfolding(halide_syntax::specs::inner::LineReading::change))]
+#[tactic(auto, unfolding(halide_parser_syntax::specs::inner::LineReading::change))]
 fn change(
     reader: &Reader,
     scope: &Scope,
@@ -85,7 +87,7 @@ fn change(
 /// # Errors
 ///
 /// `Syntax` where they are not of the grammar; memory ran out.
-#[tactic(auto, unfolding(halide_syntax::specs::inner::LineReading::read_line))]
+#[tactic(auto, unfolding(halide_parser_syntax::specs::inner::LineReading::read_line))]
 pub fn read_line(
     reader: &Reader,
     scope: &Scope,

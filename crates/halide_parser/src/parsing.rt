@@ -3,10 +3,10 @@
 ghost use Rattle.std.specs.Prelude.{◌≡◌, ◌+◌, ◌<◌, ◌^◌, IfOk, List, Option};
 ghost use Rattle.halide_pipeline.specs.WellFormed.{IsWellFormed};
 ghost use Rattle.line_text.specs.Reading.{Gives, GivesLocated};
-ghost use Rattle.halide_syntax.specs.declared.tokens.Token.{Token};
-ghost use Rattle.halide_syntax.specs.declared.lines.Line.{Line};
-ghost use Rattle.halide_syntax.specs.Grammar.{Written};
-ghost use Rattle.halide_syntax.specs.LineGrammar.{FollowsGrammar};
+ghost use Rattle.halide_parser_syntax.specs.declared.tokens.Token.{Token};
+ghost use Rattle.halide_parser_syntax.specs.declared.lines.Line.{Line};
+ghost use Rattle.halide_parser_syntax.specs.Grammar.{Written};
+ghost use Rattle.halide_parser_syntax.specs.LineGrammar.{FollowsGrammar};
 ghost use Rattle.halide_parser.specs.Parsing as spec;
 ghost use Rattle.halide_parser.specs.inner.JudgedLines as lines;
 
@@ -16,8 +16,8 @@ use crate::line_reading::read_line;
 use crate::readers::Reader;
 use crate::rules::fault_of;
 use crate::scopes::Scope;
+use halide_parser_syntax::{Line, ParseFault, Token, tokens_of};
 use halide_pipeline::{Names, Pipeline};
-use halide_syntax::{Line, ParseFault, Token, tokens_of};
 use line_text::{LineReader, LocatedError, ReadError, read_lines};
 use sqlite_items::Items;
 use std::alloc::Global;

@@ -3,15 +3,15 @@
 
 ghost use Rattle.std.specs.Prelude.{◌≡◌, ◌<◌, ◌≤◌, ◌+◌, ◌^◌, length, IfOk, IfSome, option_map};
 ghost use Rattle.line_text.specs.Reading.{Gives};
-ghost use Rattle.halide_syntax.specs.declared.states.Bracket.TheVariants as brackets;
-ghost use Rattle.halide_syntax.specs.inner.Machine as machine;
-ghost use Rattle.halide_syntax.specs.inner.LineReading as reading;
+ghost use Rattle.halide_parser_syntax.specs.declared.states.Bracket.TheVariants as brackets;
+ghost use Rattle.halide_parser_syntax.specs.inner.Machine as machine;
+ghost use Rattle.halide_parser_syntax.specs.inner.LineReading as reading;
 ghost use Rattle.halide_parser.specs.inner.Judging.{judging};
 
 use crate::judging::{self, Judged};
 use crate::readers::Reader;
 use crate::scopes::Scope;
-use halide_syntax::{
+use halide_parser_syntax::{
     Bracket, CompareOperator, Frame, ParseFault, Pending, ProductOperator, Stack, State,
     SumOperator, Token,
 };
@@ -455,7 +455,7 @@ fn followed<'a>(
 }
 
 /// One step of the pass; None where the tokens are not of the grammar.
-#[tactic(auto, unfolding(halide_syntax::specs::inner::Machine::step))]
+#[tactic(auto, unfolding(halide_parser_syntax::specs::inner::Machine::step))]
 fn step<'a>(
     reader: &Reader,
     scope: &Scope,
@@ -489,7 +489,7 @@ fn is_operator(tokens: &[Token]) -> bool
 }
 
 /// Whether the whole expression was read before these tokens.
-#[tactic(auto, unfolding(halide_syntax::specs::inner::Machine::is_over))]
+#[tactic(auto, unfolding(halide_parser_syntax::specs::inner::Machine::is_over))]
 fn is_over(state: &State<Judged>, tokens: &[Token]) -> bool
     ensures { result ≡ machine.is_over state.now tokens.now }
 {

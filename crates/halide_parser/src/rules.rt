@@ -7,8 +7,8 @@ ghost use Rattle.halide_parser.specs.inner.JudgedLines as lines;
 use crate::judging::{Judged, Marks, both_marks, fits, no_marks};
 use crate::readers::{Reader, func, func_place};
 use crate::scopes::is_named;
+use halide_parser_syntax::{Bounds, Change, Definition, Extents, Line, ParseFault, Token};
 use halide_pipeline::{MOST_EXTENT, MOST_POINTS, Output, Variable};
-use halide_syntax::{Bounds, Change, Definition, Extents, Line, ParseFault, Token};
 use sqlite_items::Items;
 
 fn is_blank(line: &Line<Judged>) -> bool

@@ -4,3 +4,7 @@ pub mod Names
 pub mod Pipelines
 pub mod Words
 pub mod WellFormed
+pub mod Picture
+pub mod Pixel
+pub mod Points
+pub mod Levels

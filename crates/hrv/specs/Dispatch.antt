@@ -2,19 +2,19 @@
 -- This project's own.
 use Rattle.std.specs.Prelude.{◌≡◌, ◌⊎◌, ℕ, List, codes, map, Result, Err}
 use Rattle.std.specs.declared.alloc.Global.{Global}
-use Rattle.engines.specs.declared.faults.Fault.{Fault}
-use Rattle.engines.specs.declared.faults.Fault.TheVariants.{Memory}
-use Rattle.engines.specs.Asm.{IsAssembly, IsRefusedAssembly}
-use Rattle.engines.specs.Compile.{IsCompilation, IsRefusedCompilation}
-use Rattle.engines.specs.Debug.{Talks}
-use Rattle.engines.specs.Devices.{both, bytes_of, pieces_of, sink_of, text_of, texts_of}
-use Rattle.engines.specs.Dis.{IsListing, IsRefusedImage}
-use Rattle.engines.specs.Drawing.{IsDrawing, IsRefusedDrawing}
-use Rattle.engines.specs.Engine.{Performs}
-use Rattle.engines.specs.Renew.{IsRenewal}
-use Rattle.engines.specs.Replay.{IsRefusedReplay, IsReplay}
-use Rattle.engines.specs.Run as run
-use Rattle.command_line.specs.CommandLine.{Asked, Replays, Debugs, Assembles, Lists, Renews, Draws, Compiles, Runs, Resumes}
+use Rattle.hrv_engines.specs.declared.faults.Fault.{Fault}
+use Rattle.hrv_engines.specs.declared.faults.Fault.TheVariants.{Memory}
+use Rattle.hrv_engines.specs.Asm.{IsAssembly, IsRefusedAssembly}
+use Rattle.hrv_engines.specs.Compile.{IsCompilation, IsRefusedCompilation}
+use Rattle.hrv_engines.specs.Debug.{Talks}
+use Rattle.hrv_engines.specs.Devices.{both, bytes_of, pieces_of, sink_of, text_of, texts_of}
+use Rattle.hrv_engines.specs.Dis.{IsListing, IsRefusedImage}
+use Rattle.hrv_engines.specs.Drawing.{IsDrawing, IsRefusedDrawing}
+use Rattle.hrv_engines.specs.Engine.{Performs}
+use Rattle.hrv_engines.specs.Renew.{IsRenewal}
+use Rattle.hrv_engines.specs.Replay.{IsRefusedReplay, IsReplay}
+use Rattle.hrv_engines.specs.Run as run
+use Rattle.hrv_command_line.specs.CommandLine.{Asked, Replays, Debugs, Assembles, Lists, Renews, Draws, Compiles, Runs, Resumes}
 
 -- a fact of some device at this place, by its state before and after
 abbrev pub At : {S : Type 0} → (S → List ℕ) → List ℕ → (S → S → Type 0) → Type 0

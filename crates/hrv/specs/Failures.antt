@@ -1,7 +1,7 @@
 -- The exit status of the program.
 -- This project's own.
 use Rattle.std.specs.Prelude.{ℕ}
-use Rattle.command_line.specs.Faults as words
+use Rattle.hrv_command_line.specs.Faults as words
 use Rattle.hrv.specs.declared.failures.Failure.{Failure}
 use Rattle.hrv.specs.declared.failures.Failure.TheVariants.{CommandLine, Engine}
 

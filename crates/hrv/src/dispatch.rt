@@ -3,11 +3,11 @@
 ghost use Rattle.std.specs.Prelude.{◌≡◌, codes, map, IfOk};
 ghost use Rattle.std.specs.List.{All};
 ghost use Rattle.clap.specs.Walk.{texts};
-ghost use Rattle.command_line.specs.CommandLine.{AreWithinLimits, Assembles, Compiles, Debugs, Draws, IsWithinLimits, Lists, Renews, Replays, Resumes, Runs, asked_by};
+ghost use Rattle.hrv_command_line.specs.CommandLine.{AreWithinLimits, Assembles, Compiles, Debugs, Draws, IsWithinLimits, Lists, Renews, Replays, Resumes, Runs, asked_by};
 ghost use Rattle.hrv.specs.Dispatch.{Does};
 
-use command_line::Invocation;
-use engines::{
+use hrv_command_line::Invocation;
+use hrv_engines::{
     Fault, Sink, Source, asm_bytes, compile_bytes, debug_bytes, dis_bytes, picture_bytes,
     renew_bytes, replay_bytes, resume_bytes, run_bytes,
 };

@@ -2,8 +2,8 @@
 
 ghost use Rattle.std.specs.Prelude.{◌≡◌};
 
-use command_line::CommandLineFault;
-use engines::Fault;
+use hrv_command_line::CommandLineFault;
+use hrv_engines::Fault;
 use std::alloc::{AllocError, AllocFailed};
 use thiserror::Error;
 

@@ -5,7 +5,7 @@
 
 ghost use Rattle.std.specs.Prelude.{◌≡◌, ◌≤◌, length, IfOk, None};
 
-use engines::Sink;
+use hrv_engines::Sink;
 use std::fs::{OpenFile, OpenOptions};
 use std::io;
 use std::io::Write;

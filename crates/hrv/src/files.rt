@@ -7,7 +7,7 @@ ghost use Rattle.std.specs.Prelude.{◌≡◌, ◌≤◌, length, codes, IfOk};
 
 use crate::dispatch::Devices;
 use crate::file_sinks::FileSink;
-use engines::{Sink, Source};
+use hrv_engines::{Sink, Source};
 use std::io::{Read, Write};
 use std::rt::Files;
 use std::{fs, io};

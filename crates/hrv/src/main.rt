@@ -1,6 +1,6 @@
 //! `hrv`: the machine for stencil programs, as a program.
 //!
-//! The words of its command line are read by the crate `command_line`, and each command is done by an engine of the crate `engines`.
+//! The words of its command line are read by the crate `hrv_command_line`, and each command is done by an engine of the crate `hrv_engines`.
 //!
 //! - [`dispatch`]: the engine of a command over the devices that the words name; [`dispatch::obey`], over `specs/Dispatch.antt`.
 //! - [`files`], [`file_sinks`]: the system's files and standard input and output, as devices.
@@ -15,7 +15,7 @@ mod files;
 use crate::dispatch::obey;
 use crate::failures::Failure;
 use crate::files::System;
-use command_line::{CommandLineFault, command};
+use hrv_command_line::{CommandLineFault, command};
 use std::process::ExitCode;
 use std::rt::{Env, Files};
 use std::sync::Wait;

@@ -5,9 +5,9 @@ use Rattle.std.specs.List.{list_all, AllByRecursion}
 use Rattle.std.proofs.lemmas.Bool.{and_parts, ltb-true, ltb-false}
 use Rattle.halide_pipeline.specs.declared.expressions.Source.{Source}
 use Rattle.halide_pipeline.specs.declared.expressions.Source.TheVariants as sources
-use Rattle.halide_meaning.specs.Pixel.{Planes, Reads, reads_of}
-use Rattle.reads.specs.Points.{Point, AgreeAt}
-use Rattle.reads.proofs.Seeing.{all_parts}
+use Rattle.halide_pipeline.specs.Pixel.{Planes, Reads, reads_of}
+use Rattle.halide_pipeline.specs.Points.{Point, AgreeAt}
+use Rattle.halide_pipeline.proofs.Seeing.{all_parts}
 use Rattle.loop_ir.specs.declared.expressions.Counter.{Counter}
 use Rattle.loop_ir.specs.declared.statements.LoopKind.{LoopKind}
 use Rattle.loop_ir.specs.declared.statements.Store.{Store}

@@ -2,9 +2,9 @@
 use Rattle.std.proofs.Common.{◌≡◌, ℕ, [], ◌∷◌, ◌++◌, refl, ap, ◌∙◌}
 use Rattle.std.specs.Prelude.{cond, ◌==◌}
 use Rattle.halide_pipeline.specs.Words as word
-use Rattle.halide_meaning.specs.Pixel.{Reads}
-use Rattle.reads.specs.Points.{Seen, AgreeAt, Agree}
-use Rattle.reads.proofs.Seeing.{all_parts}
+use Rattle.halide_pipeline.specs.Pixel.{Reads}
+use Rattle.halide_pipeline.specs.Points.{Seen, AgreeAt, Agree}
+use Rattle.halide_pipeline.proofs.Seeing.{all_parts}
 use Rattle.loop_ir.specs.declared.expressions.Expr.TheOpen.{Expr-F}
 use Rattle.loop_ir.specs.declared.expressions.Expr.TheOpen as layer
 use Rattle.loop_ir.specs.Counters.{Values}

@@ -7,7 +7,7 @@ use Rattle.std.proofs.lemmas.Bool.Decides.{nat_tests}
 use Rattle.std.proofs.lemmas.Nat.{div-mul-add}
 use Rattle.std.proofs.lemmas.Option.{slice_get-get_or, slice_get_past}
 use Rattle.std.proofs.Math.Nat.{mul-le-mul_right}
-use Rattle.halide_meaning.specs.Pixel.{Planes}
+use Rattle.halide_pipeline.specs.Pixel.{Planes}
 use Rattle.loop_ir.specs.Buffers.{BufferContents, has_point, has_point_of_any, plane_of, plane_of_any, planes, points_of, Points, put}
 
 -- ---- rows of a buffer

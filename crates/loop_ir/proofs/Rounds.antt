@@ -1,7 +1,7 @@
 -- What the rounds of each kind of statement are, in terms of its parts, and that what they touch is what soundness asks about.
 use Rattle.std.proofs.Common.{◌≡◌, ℕ, Bool, ap, sym, subst, ◌∙◌}
-use Rattle.halide_meaning.specs.Pixel.{Reads}
-use Rattle.reads.specs.Points.{Point}
+use Rattle.halide_pipeline.specs.Pixel.{Reads}
+use Rattle.halide_pipeline.specs.Points.{Point}
 use Rattle.loop_ir.specs.declared.expressions.Counter.{Counter}
 use Rattle.loop_ir.specs.declared.statements.LoopKind.{LoopKind}
 use Rattle.loop_ir.specs.declared.statements.Store.{Store}

@@ -1,7 +1,7 @@
 -- What each kind of statement does, in terms of its parts.
 use Rattle.std.proofs.Common.{◌≡◌, ℕ, ap, sym, ◌∙◌}
 use Rattle.std.specs.Prelude.{if◌then◌else◌, nat_lt}
-use Rattle.halide_meaning.specs.Pixel.{Planes, reads_of}
+use Rattle.halide_pipeline.specs.Pixel.{Planes, reads_of}
 use Rattle.loop_ir.specs.declared.expressions.Counter.{Counter}
 use Rattle.loop_ir.specs.declared.statements.LoopKind.{LoopKind}
 use Rattle.loop_ir.specs.declared.statements.Store.{Store}

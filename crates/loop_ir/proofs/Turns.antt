@@ -1,6 +1,6 @@
 -- One more turn of a loop.
 use Rattle.std.proofs.Common.{◌≡◌, ℕ, suc, ◌+◌, List, ◌∷◌, refl, ap, ◌∙◌, sym, arith}
-use Rattle.halide_meaning.specs.Pixel.{Planes}
+use Rattle.halide_pipeline.specs.Pixel.{Planes}
 use Rattle.loop_ir.specs.declared.expressions.Counter.{Counter}
 use Rattle.loop_ir.specs.declared.running.Standing.{Standing}
 use Rattle.loop_ir.specs.declared.statements.Stmt.{Stmt}

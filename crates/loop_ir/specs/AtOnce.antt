@@ -3,7 +3,7 @@
 -- A round is a statement that stores once at most, without a loop: a store, behind the values of split loops and their guards.
 -- This project's own.
 use Rattle.std.specs.Prelude.{◌≡◌, ℕ, nat_lt, if◌then◌else◌, true, Option, Some, None}
-use Rattle.halide_meaning.specs.Pixel.{Planes, Reads, reads_of}
+use Rattle.halide_pipeline.specs.Pixel.{Planes, Reads, reads_of}
 use Rattle.loop_ir.specs.declared.statements.Stmt.{Stmt, fold-Stmt}
 use Rattle.loop_ir.specs.declared.statements.Stmt.TheOpen.{Stmt-F}
 use Rattle.loop_ir.specs.declared.statements.Stmt.TheOpen as layer

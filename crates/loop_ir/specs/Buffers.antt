@@ -2,7 +2,7 @@
 -- This project's own.
 use Rattle.std.specs.Prelude.{◌≡◌, ℕ, ◌+◌, ◌*◌, ◌^◌, ◌<◌, ◌==◌, ◌&&◌, Bool, false, nat_lt, if◌then◌else◌, List, length, slice_index, slice_get, Option, Some, None}
 use Rattle.std.specs.List.{All}
-use Rattle.halide_meaning.specs.Pixel.{Plane, Planes}
+use Rattle.halide_pipeline.specs.Pixel.{Plane, Planes}
 
 -- pixels by rows, each row from the left
 pub record BufferContents : Type 0 where

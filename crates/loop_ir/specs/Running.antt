@@ -2,7 +2,7 @@
 -- This project's own.
 use Rattle.std.specs.Prelude.{ℕ, zero, suc, min, nat_lt, if◌then◌else◌, Option, Some, None}
 use Rattle.halide_pipeline.specs.Words as word
-use Rattle.halide_meaning.specs.Pixel.{Planes, Reads, reads_of}
+use Rattle.halide_pipeline.specs.Pixel.{Planes, Reads, reads_of}
 use Rattle.loop_ir.specs.declared.expressions.Counter.{Counter}
 use Rattle.loop_ir.specs.declared.statements.Phase.{Phase}
 use Rattle.loop_ir.specs.declared.statements.Store.{Store}

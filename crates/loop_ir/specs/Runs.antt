@@ -5,8 +5,8 @@
 -- This project's own.
 use Rattle.std.specs.Prelude.{◌≡◌, ◌≢◌, ℕ, ◌==◌, ◌&&◌, not, nat_lt, if◌then◌else◌, Bool, true}
 use Rattle.halide_pipeline.specs.declared.expressions.Source.TheVariants as sources
-use Rattle.halide_meaning.specs.Pixel.{Reads}
-use Rattle.reads.specs.Points.{Point}
+use Rattle.halide_pipeline.specs.Pixel.{Reads}
+use Rattle.halide_pipeline.specs.Points.{Point}
 use Rattle.loop_ir.specs.declared.statements.Stmt.{Stmt, fold-Stmt, map-Stmt}
 use Rattle.loop_ir.specs.declared.statements.Stmt.TheOpen.{Stmt-F}
 use Rattle.loop_ir.specs.declared.statements.Stmt.TheOpen as layer

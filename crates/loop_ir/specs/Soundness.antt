@@ -4,8 +4,8 @@
 -- This project's own.
 use Rattle.std.specs.Prelude.{◌≡◌, ℕ, zero, suc, nat_lt, Bool, true, ◌&&◌, if◌then◌else◌, List, ◌++◌}
 use Rattle.std.specs.List.{list_all}
-use Rattle.halide_meaning.specs.Pixel.{Planes, Reads, reads_of}
-use Rattle.reads.specs.Points.{Point}
+use Rattle.halide_pipeline.specs.Pixel.{Planes, Reads, reads_of}
+use Rattle.halide_pipeline.specs.Points.{Point}
 use Rattle.loop_ir.specs.declared.statements.Store.{Store}
 use Rattle.loop_ir.specs.declared.statements.Stmt.{Stmt, fold-Stmt}
 use Rattle.loop_ir.specs.declared.statements.Stmt.TheOpen.{Stmt-F}

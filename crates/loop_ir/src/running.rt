@@ -1,7 +1,7 @@
 //! What statements do.
 
 ghost use Rattle.std.specs.Prelude.{◌≡◌, ◌%◌, ◌^◌, ◌∷◌, IfOk, OnOk, drop};
-ghost use Rattle.halide_meaning.specs.Pixel.{reads_of};
+ghost use Rattle.halide_pipeline.specs.Pixel.{reads_of};
 ghost use Rattle.loop_ir.specs.Buffers.{planes, points_of, put};
 ghost use Rattle.loop_ir.specs.Counters.{values_of};
 ghost use Rattle.loop_ir.specs.Expressions as expression;

@@ -13,28 +13,28 @@ use Rattle.halide_pipeline.specs.Definitions.{is_first_in_place, is_second_in_pl
 use Rattle.halide_pipeline.specs.Pipelines.{Pipeline}
 use Rattle.halide_pipeline.specs.WellFormed.{IsWellFormed, is_box}
 use Rattle.halide_pipeline.specs.Words as word
-use Rattle.halide_meaning.specs.declared.environments.Environment.{Environment}
-use Rattle.halide_meaning.specs.Pixel.{variable, points, second_extent, second_value, at_reduction}
+use Rattle.halide_pipeline.specs.declared.environments.Environment.{Environment}
+use Rattle.halide_pipeline.specs.Pixel.{variable, points, second_extent, second_value, at_reduction}
 use Rattle.schedule_lines.specs.declared.stages.LoopId.TheVariants as ids
 use Rattle.schedule.specs.declared.schedules.Schedule.{Schedule}
 use Rattle.schedule.specs.declared.standings.Standing.{Standing}
 use Rattle.schedule.specs.Uses.{IsReached}
-use Rattle.stage_loops.specs.declared.extents.Extents.{Extents}
-use Rattle.stage_loops.specs.Counts as loops
-use Rattle.stage_loops.specs.Stages.{IsVisitOf, extent_in, first_loops, has_variable}
-use Rattle.stage_loops.specs.Visits.{Visit, visit_of}
-use Rattle.ranges.specs.Laws.{Below}
+use Rattle.schedule_loops.specs.declared.extents.Extents.{Extents}
+use Rattle.schedule_loops.specs.Counts as loops
+use Rattle.schedule_loops.specs.Stages.{IsVisitOf, extent_in, first_loops, has_variable}
+use Rattle.schedule_loops.specs.Visits.{Visit, visit_of}
+use Rattle.bounds_ranges.specs.Laws.{Below}
 use Rattle.bounds.specs.declared.boxes.SourceBox.{SourceBox}
 use Rattle.bounds.specs.declared.verdict.Boxes.{Boxes}
 use Rattle.bounds.specs.Boxes.{extent, lasts_of}
 use Rattle.bounds.specs.Verdict.{inferred}
-use Rattle.box_laws.specs.HostLaws.{IsHosted, IsInPlace}
-use Rattle.box_laws.specs.Laws.{LiesIn, IsNear, IsComputed}
-use Rattle.box_laws.proofs.BoxesHosted.{boxes_are_hosted, points_are_near, visits_lie}
+use Rattle.bounds_laws.specs.HostLaws.{IsHosted, IsInPlace}
+use Rattle.bounds_laws.specs.Laws.{LiesIn, IsNear, IsComputed}
+use Rattle.bounds_laws.proofs.BoxesHosted.{boxes_are_hosted, points_are_near, visits_lie}
 use Rattle.loop_ir.specs.Counters.{Values}
 use Rattle.loop_ir.specs.Expressions.{linear_value}
-use Rattle.nest_lowering.specs.Nests.{put_loops}
-use Rattle.expression_lowering.specs.declared.calls.Corner.{Corner}
+use Rattle.lowering_nests.specs.Nests.{put_loops}
+use Rattle.lowering_expressions.specs.declared.calls.Corner.{Corner}
 use Rattle.lowering.specs.Planes.{BoxCorner, has_point}
 use Rattle.lowering.specs.PurePhases.{whole_at}
 use Rattle.lowering.specs.Updates.{visited_point, second_reduced, update_extents, in_place, is_visited, IsCornerAt, IsBegin, host_at, hosted_turns}

@@ -3,8 +3,8 @@ use Rattle.std.proofs.Common.{◌≡◌, ℕ, ◌+◌, ◌*◌, ◌%◌, ◌^◌
 use Rattle.std.proofs.lemmas.Nat.{mul-mod_second}
 use Rattle.std.proofs.Math.Nat.{mul-add, mul_comm}
 use Rattle.halide_pipeline.specs.Words as word
-use Rattle.ranges.specs.declared.ranges.Range.{Range}
-use Rattle.ranges.specs.Bases.{more_sum, less_sum}
+use Rattle.bounds_ranges.specs.declared.ranges.Range.{Range}
+use Rattle.bounds_ranges.specs.Bases.{more_sum, less_sum}
 use Rattle.loop_ir.specs.declared.expressions.Counter.{Counter}
 use Rattle.loop_ir.specs.declared.expressions.Linear.{Linear}
 use Rattle.loop_ir.specs.declared.expressions.Term.{Term}

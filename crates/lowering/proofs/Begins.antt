@@ -4,13 +4,13 @@ use Rattle.std.specs.Prelude.{◌==◌}
 use Rattle.std.proofs.lemmas.Bool.{cases_eq, eq-eqb, ne_eqb}
 use Rattle.std.proofs.Math.Nat.{mul-le-mul}
 use Rattle.halide_pipeline.specs.Words as word
-use Rattle.ranges.specs.declared.bases.Multiple.{Multiple}
-use Rattle.ranges.specs.declared.ranges.Range.{Range}
-use Rattle.ranges.specs.Bases.{more_sum, less_sum}
-use Rattle.ranges.specs.Laws.{Below, Lies}
-use Rattle.ranges.specs.Ranges.{IsFit}
+use Rattle.bounds_ranges.specs.declared.bases.Multiple.{Multiple}
+use Rattle.bounds_ranges.specs.declared.ranges.Range.{Range}
+use Rattle.bounds_ranges.specs.Bases.{more_sum, less_sum}
+use Rattle.bounds_ranges.specs.Laws.{Below, Lies}
+use Rattle.bounds_ranges.specs.Ranges.{IsFit}
 use Rattle.bounds.specs.Boxes.{extent}
-use Rattle.box_laws.specs.HostLaws.{IsFrom}
+use Rattle.bounds_laws.specs.HostLaws.{IsFrom}
 
 -- ---- sums of bases
 

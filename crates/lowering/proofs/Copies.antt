@@ -19,17 +19,17 @@ use Rattle.schedule_lines.specs.declared.stages.Stage.{Stage}
 use Rattle.schedule_lines.specs.Loops.{is_marked, same_id}
 use Rattle.schedule_lines.specs.Making.{IsStage, total, is_stray}
 use Rattle.schedule.specs.Plans.{with_loop, with_second, with_reduction}
-use Rattle.stage_loops.specs.declared.extents.Extents.{Extents}
-use Rattle.stage_loops.specs.Counts as loops
-use Rattle.stage_loops.specs.Stages.{IsStageOf, first_loops, has_variable}
-use Rattle.stage_loops.proofs.Ids.{same_id-self, cases_id}
-use Rattle.stage_loops.proofs.Making.{Stays, by_making, total_parts, bare_total, total-append}
-use Rattle.stage_loops.proofs.Nesting.{has_id}
-use Rattle.stage_loops.proofs.Selecting.{Unique}
-use Rattle.weights.specs.Copies.{copies, all_copies, copies_from, factor_of}
-use Rattle.weights.specs.Weight.{stage_weight}
+use Rattle.schedule_loops.specs.declared.extents.Extents.{Extents}
+use Rattle.schedule_loops.specs.Counts as loops
+use Rattle.schedule_loops.specs.Stages.{IsStageOf, first_loops, has_variable}
+use Rattle.schedule_loops.proofs.Ids.{same_id-self, cases_id}
+use Rattle.schedule_loops.proofs.Making.{Stays, by_making, total_parts, bare_total, total-append}
+use Rattle.schedule_loops.proofs.Nesting.{has_id}
+use Rattle.schedule_loops.proofs.Selecting.{Unique}
+use Rattle.bounds_weights.specs.Copies.{copies, all_copies, copies_from, factor_of}
+use Rattle.bounds_weights.specs.Weight.{stage_weight}
 use Rattle.loop_ir.specs.Sizes.{are_copies, loop_room}
-use Rattle.nest_lowering.specs.Sizes.{nest_size}
+use Rattle.lowering_nests.specs.Sizes.{nest_size}
 use Rattle.lowering.specs.PurePhases.{inside_of}
 use Rattle.lowering.proofs.VectorLoops.{fits, flaw, stage_flawless}
 

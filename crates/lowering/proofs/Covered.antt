@@ -11,17 +11,17 @@ use Rattle.schedule.specs.declared.plans.FuncPlan.{FuncPlan}
 use Rattle.schedule.specs.declared.schedules.Schedule.{Schedule}
 use Rattle.schedule.specs.declared.standings.Place.{Place}
 use Rattle.schedule.specs.Accepted.{IsAccepted}
-use Rattle.stage_loops.specs.declared.extents.Extents.{Extents}
-use Rattle.stage_loops.specs.Stages.{IsVisitOf, first_loops, has_variable, is_slice_of, extent_in}
-use Rattle.stage_loops.specs.Visits.{Visit}
-use Rattle.ranges.specs.declared.ranges.Range.{Range}
+use Rattle.schedule_loops.specs.declared.extents.Extents.{Extents}
+use Rattle.schedule_loops.specs.Stages.{IsVisitOf, first_loops, has_variable, is_slice_of, extent_in}
+use Rattle.schedule_loops.specs.Visits.{Visit}
+use Rattle.bounds_ranges.specs.declared.ranges.Range.{Range}
 use Rattle.bounds.specs.declared.boxes.SourceBox.{SourceBox}
 use Rattle.bounds.specs.declared.verdict.Boxes.{Boxes}
 use Rattle.bounds.specs.Boxes.{IsBox, box_in, extent}
 use Rattle.bounds.specs.Verdict.{inferred}
 use Rattle.bounds.specs.Views.{extents_of}
-use Rattle.box_laws.specs.Laws.{IsComputed}
-use Rattle.box_laws.proofs.Flat.{one_row_boxes}
+use Rattle.bounds_laws.specs.Laws.{IsComputed}
+use Rattle.bounds_laws.proofs.Flat.{one_row_boxes}
 use Rattle.lowering.specs.Planes.{has_point, box_points}
 use Rattle.lowering.specs.PurePhases.{IsComputedAt}
 use Rattle.lowering.proofs.Facts.{is_box}

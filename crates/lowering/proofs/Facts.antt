@@ -15,21 +15,21 @@ use Rattle.schedule.specs.declared.standings.Standing.{Standing}
 use Rattle.schedule.specs.Accepted.{IsAccepted, IsPlan, IsLegal, IsHosted as HasHost}
 use Rattle.schedule.specs.Uses.{IsReached}
 use Rattle.schedule.proofs.Uses.{numbered_at}
-use Rattle.stage_loops.specs.Counts.{AreSplits, shifts_fit}
-use Rattle.stage_loops.specs.Stages.{IsStageOf, KeepsRules}
-use Rattle.stage_loops.proofs.AcceptedStages.{accepted as accepted_stages, pair_at}
-use Rattle.stage_loops.proofs.Few.{few_splits}
+use Rattle.schedule_loops.specs.Counts.{AreSplits, shifts_fit}
+use Rattle.schedule_loops.specs.Stages.{IsStageOf, KeepsRules}
+use Rattle.schedule_loops.proofs.AcceptedStages.{accepted as accepted_stages, pair_at}
+use Rattle.schedule_loops.proofs.Few.{few_splits}
 use Rattle.bounds.specs.declared.boxes.SourceBox.{SourceBox}
 use Rattle.bounds.specs.declared.verdict.Boxes.{Boxes}
 use Rattle.bounds.specs.Boxes.{IsBox, extent, points, lasts_of}
 use Rattle.bounds.specs.Judging.{have_few_points}
 use Rattle.bounds.specs.Verdict.{inferred}
 use Rattle.bounds.specs.Views.{extents_of}
-use Rattle.box_laws.specs.HostLaws.{IsHosted}
-use Rattle.box_laws.specs.Laws.{IsComputed, host_in}
-use Rattle.box_laws.proofs.BoxesHosted.{boxes_are_hosted}
-use Rattle.box_laws.proofs.BoxFacts.{is_judged, shifts_at}
-use Rattle.nest_lowering.specs.Nests.{AreFew}
+use Rattle.bounds_laws.specs.HostLaws.{IsHosted}
+use Rattle.bounds_laws.specs.Laws.{IsComputed, host_in}
+use Rattle.bounds_laws.proofs.BoxesHosted.{boxes_are_hosted}
+use Rattle.bounds_laws.proofs.BoxFacts.{is_judged, shifts_at}
+use Rattle.lowering_nests.specs.Nests.{AreFew}
 use Rattle.lowering.specs.PurePhases.{IsComputedAt}
 
 -- ---- where it is computed

@@ -8,36 +8,36 @@ use Rattle.halide_pipeline.specs.declared.definitions.Func.{Func}
 use Rattle.halide_pipeline.specs.declared.expressions.Variable.TheVariants as variables
 use Rattle.halide_pipeline.specs.Pipelines.{Pipeline}
 use Rattle.halide_pipeline.specs.WellFormed.{IsWellFormed}
-use Rattle.halide_meaning.specs.Pixel.{Plane, Planes, Reads, pixels, stage}
-use Rattle.reads.specs.Points.{Point}
+use Rattle.halide_pipeline.specs.Pixel.{Plane, Planes, Reads, pixels, stage}
+use Rattle.halide_pipeline.specs.Points.{Point}
 use Rattle.schedule_lines.specs.declared.stages.LoopId.TheVariants as ids
 use Rattle.schedule.specs.declared.plans.FuncPlan.{FuncPlan}
 use Rattle.schedule.specs.declared.schedules.Schedule.{Schedule}
 use Rattle.schedule.specs.declared.standings.LoopPlace.{LoopPlace}
 use Rattle.schedule.specs.declared.standings.Place.TheVariants as places
 use Rattle.schedule.specs.Accepted.{IsAccepted}
-use Rattle.stage_loops.specs.declared.extents.Extents.{Extents}
-use Rattle.stage_loops.specs.Counts as loops
-use Rattle.stage_loops.specs.Reach.{wholes}
-use Rattle.stage_loops.specs.Stages.{IsStageOf, KeepsRules, IsVisitOf}
-use Rattle.stage_loops.specs.Visits.{Visit, zeros, visit_of, visits, is_slice}
-use Rattle.stage_loops.proofs.Covering.{visited}
-use Rattle.stage_loops.proofs.Slices.{visits_within}
-use Rattle.stage_loops.proofs.TurnsFound.{of_all}
-use Rattle.stage_loops.proofs.Wholes.{visits_of_wholes}
-use Rattle.ranges.specs.Laws.{Below, AnswerWords}
+use Rattle.schedule_loops.specs.declared.extents.Extents.{Extents}
+use Rattle.schedule_loops.specs.Counts as loops
+use Rattle.schedule_loops.specs.Reach.{wholes}
+use Rattle.schedule_loops.specs.Stages.{IsStageOf, KeepsRules, IsVisitOf}
+use Rattle.schedule_loops.specs.Visits.{Visit, zeros, visit_of, visits, is_slice}
+use Rattle.schedule_loops.proofs.Covering.{visited}
+use Rattle.schedule_loops.proofs.Slices.{visits_within}
+use Rattle.schedule_loops.proofs.TurnsFound.{of_all}
+use Rattle.schedule_loops.proofs.Wholes.{visits_of_wholes}
+use Rattle.bounds_ranges.specs.Laws.{Below, AnswerWords}
 use Rattle.bounds.specs.declared.boxes.SourceBox.{SourceBox}
 use Rattle.bounds.specs.declared.verdict.Boxes.{Boxes}
 use Rattle.bounds.specs.Boxes.{extent}
 use Rattle.bounds.specs.Verdict.{inferred}
 use Rattle.bounds.specs.Views.{extents_of}
-use Rattle.box_laws.specs.HostLaws.{values_in}
+use Rattle.bounds_laws.specs.HostLaws.{values_in}
 use Rattle.loop_ir.specs.declared.statements.Stmt.{Stmt}
 use Rattle.loop_ir.specs.Buffers.{Points}
 use Rattle.loop_ir.specs.Counters.{Values}
 use Rattle.loop_ir.specs.Running.{run}
 use Rattle.loop_ir.specs.Soundness.{is_sound}
-use Rattle.nest_lowering.specs.Nests.{loops_of, put_loops, all, AreSmall, Repeats}
+use Rattle.lowering_nests.specs.Nests.{loops_of, put_loops, all, AreSmall, Repeats}
 use Rattle.lowering.specs.Corners.{turns_for, turns_at}
 use Rattle.lowering.specs.Hosting.{hosting, Keeps, Leaves, IsAnswered, DoesNest, MayTouch, IsSoundNest}
 use Rattle.lowering.specs.Planes.{box_points}

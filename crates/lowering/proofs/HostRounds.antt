@@ -7,7 +7,7 @@ use Rattle.std.specs.List.{AllByRecursion}
 use Rattle.std.proofs.lemmas.Bool.{and_from}
 use Rattle.halide_pipeline.specs.declared.definitions.Func.{Func}
 use Rattle.halide_pipeline.specs.Pipelines.{Pipeline}
-use Rattle.halide_meaning.specs.Pixel.{Reads}
+use Rattle.halide_pipeline.specs.Pixel.{Reads}
 use Rattle.schedule_lines.specs.declared.stages.Loop.{Loop}
 use Rattle.schedule_lines.specs.declared.stages.LoopId.{LoopId}
 use Rattle.schedule_lines.specs.declared.stages.Stage.{Stage}
@@ -21,20 +21,20 @@ use Rattle.schedule.specs.declared.standings.Standing.{Standing}
 use Rattle.schedule.specs.Accepted.{IsAccepted, IsHost, IsHosted as HasHost}
 use Rattle.schedule.specs.Uses.{IsReached}
 use Rattle.schedule.proofs.Uses.{numbered_at}
-use Rattle.stage_loops.specs.declared.extents.Extents.{Extents}
-use Rattle.stage_loops.specs.Counts as loops
-use Rattle.stage_loops.specs.Counts.{counts}
-use Rattle.stage_loops.specs.Iterations.{parallel}
-use Rattle.stage_loops.specs.Reach.{wholes}
-use Rattle.stage_loops.specs.Stages.{IsStageOf, KeepsRules}
-use Rattle.stage_loops.proofs.Nesting.{has_id, has_same}
+use Rattle.schedule_loops.specs.declared.extents.Extents.{Extents}
+use Rattle.schedule_loops.specs.Counts as loops
+use Rattle.schedule_loops.specs.Counts.{counts}
+use Rattle.schedule_loops.specs.Iterations.{parallel}
+use Rattle.schedule_loops.specs.Reach.{wholes}
+use Rattle.schedule_loops.specs.Stages.{IsStageOf, KeepsRules}
+use Rattle.schedule_loops.proofs.Nesting.{has_id, has_same}
 use Rattle.bounds.specs.declared.verdict.Boxes.{Boxes}
 use Rattle.loop_ir.specs.declared.statements.Stmt.{Stmt}
 use Rattle.loop_ir.specs.Counters.{Values}
 use Rattle.loop_ir.specs.Rounds.{may_be_at_once}
-use Rattle.nest_lowering.specs.Nests.{Repeats}
-use Rattle.nest_lowering.specs.Rounds.{AllAreSmall, IsLeaf, MayBeAtOnce, MayBeVectorized, MayBeUnder, is_vectorized_loop}
-use Rattle.nest_lowering.proofs.Rounds.{may_be_vectorized}
+use Rattle.lowering_nests.specs.Nests.{Repeats}
+use Rattle.lowering_nests.specs.Rounds.{AllAreSmall, IsLeaf, MayBeAtOnce, MayBeVectorized, MayBeUnder, is_vectorized_loop}
+use Rattle.lowering_nests.proofs.Rounds.{may_be_vectorized}
 use Rattle.lowering.specs.Hosting.{IsNestAt, IsNestOf, HasNests, None_left, One_more, HasLoops, No_loops, One_outside, HasOutermost}
 use Rattle.lowering.specs.Rounds.{at_once_first}
 use Rattle.lowering.proofs.VectorLoops.{others_are, unique_loops}

@@ -12,9 +12,9 @@ use Rattle.halide_pipeline.specs.declared.expressions.Variable.TheVariants as va
 use Rattle.halide_pipeline.specs.Pipelines.{Pipeline}
 use Rattle.halide_pipeline.specs.WellFormed.{IsWellFormed}
 use Rattle.halide_pipeline.specs.Words as word
-use Rattle.halide_meaning.specs.Pixel.{Plane, Planes, reads_of, with_plane, func_plane, pixels, stage}
-use Rattle.reads.specs.Points.{Agree}
-use Rattle.reads.proofs.Earlier.{pixels_before, pixels_fewer}
+use Rattle.halide_pipeline.specs.Pixel.{Plane, Planes, reads_of, with_plane, func_plane, pixels, stage}
+use Rattle.halide_pipeline.specs.Points.{Agree}
+use Rattle.halide_pipeline.proofs.Earlier.{pixels_before, pixels_fewer}
 use Rattle.schedule_lines.specs.declared.stages.Loop.{Loop}
 use Rattle.schedule_lines.specs.declared.stages.LoopId.{LoopId}
 use Rattle.schedule_lines.specs.declared.stages.LoopId.TheVariants as ids
@@ -28,41 +28,41 @@ use Rattle.schedule.specs.Accepted.{IsAccepted, IsPlan, IsHost, IsHosted as HasH
 use Rattle.schedule.specs.Standing.{comes_first, pure_loops_of}
 use Rattle.schedule.specs.Uses.{IsReached, IsRootReached, HasHostAtRoot}
 use Rattle.schedule.proofs.Uses.{numbered_at, some_before}
-use Rattle.stage_loops.specs.declared.extents.Extents.{Extents}
-use Rattle.stage_loops.specs.Counts as loops
-use Rattle.stage_loops.specs.Reach.{AreTurns, wholes}
-use Rattle.stage_loops.specs.Stages.{IsStageOf, IsVisitOf, first_loops, has_variable, extent_in}
-use Rattle.stage_loops.specs.Visits.{upto, over_loops, visit_of}
-use Rattle.stage_loops.proofs.FirstLoops.{plain, sound_made}
-use Rattle.stage_loops.proofs.Nesting.{nest-append}
-use Rattle.stage_loops.proofs.Selecting.{Unique}
-use Rattle.stage_loops.proofs.TurnsFound.{of_all}
-use Rattle.ranges.specs.Laws.{Below, AnswerWords}
+use Rattle.schedule_loops.specs.declared.extents.Extents.{Extents}
+use Rattle.schedule_loops.specs.Counts as loops
+use Rattle.schedule_loops.specs.Reach.{AreTurns, wholes}
+use Rattle.schedule_loops.specs.Stages.{IsStageOf, IsVisitOf, first_loops, has_variable, extent_in}
+use Rattle.schedule_loops.specs.Visits.{upto, over_loops, visit_of}
+use Rattle.schedule_loops.proofs.FirstLoops.{plain, sound_made}
+use Rattle.schedule_loops.proofs.Nesting.{nest-append}
+use Rattle.schedule_loops.proofs.Selecting.{Unique}
+use Rattle.schedule_loops.proofs.TurnsFound.{of_all}
+use Rattle.bounds_ranges.specs.Laws.{Below, AnswerWords}
 use Rattle.bounds.specs.declared.boxes.SourceBox.{SourceBox}
 use Rattle.bounds.specs.declared.verdict.Boxes.{Boxes}
 use Rattle.bounds.specs.Boxes.{no_loops, lasts_of, extent}
 use Rattle.bounds.specs.Verdict.{inferred}
 use Rattle.bounds.specs.Views.{extents_of, inner_count, host_loop, host_loop_in, lasts_in}
-use Rattle.box_laws.specs.Callers.{IsReadWithin, StandsAt, HasLoop, IsWithin}
-use Rattle.box_laws.specs.HostLaws.{gone, IsFrom, IsTakenTo, IsReachedIn, AreTurnsFrom, turns_from, values_in}
-use Rattle.box_laws.specs.Laws.{LiesIn, pure_points}
-use Rattle.box_laws.proofs.Found.{no_below}
-use Rattle.box_laws.proofs.HostArguments.{turns_below}
-use Rattle.box_laws.proofs.InViews.{host_is}
-use Rattle.box_laws.proofs.PutIn.{pair_there}
-use Rattle.box_laws.proofs.StandingWithin.{one_standing}
+use Rattle.bounds_laws.specs.Callers.{IsReadWithin, StandsAt, HasLoop, IsWithin}
+use Rattle.bounds_laws.specs.HostLaws.{gone, IsFrom, IsTakenTo, IsReachedIn, AreTurnsFrom, turns_from, values_in}
+use Rattle.bounds_laws.specs.Laws.{LiesIn, pure_points}
+use Rattle.bounds_laws.proofs.Found.{no_below}
+use Rattle.bounds_laws.proofs.HostArguments.{turns_below}
+use Rattle.bounds_laws.proofs.InViews.{host_is}
+use Rattle.bounds_laws.proofs.PutIn.{pair_there}
+use Rattle.bounds_laws.proofs.StandingWithin.{one_standing}
 use Rattle.loop_ir.specs.declared.statements.Stmt.{Stmt}
 use Rattle.loop_ir.specs.Counters.{Values, with}
 use Rattle.loop_ir.specs.Running.{run, turns}
-use Rattle.nest_lowering.specs.Nests.{put_loops, all, AreSmall, Repeats}
-use Rattle.expression_lowering.specs.Lowering.{placed}
+use Rattle.lowering_nests.specs.Nests.{put_loops, all, AreSmall, Repeats}
+use Rattle.lowering_expressions.specs.Lowering.{placed}
 use Rattle.lowering.specs.Corners.{first_of, turns_for, turns_at}
 use Rattle.lowering.specs.Hosting.{hosting, Holds, Keeps, Leaves, IsAnswered, AreUpdatesAnswered, DoesNests, IsNestAt, HasNests, None_left, One_more, HasLoops, No_loops, One_outside}
 use Rattle.lowering.specs.Planes.{box_points}
 use Rattle.lowering.specs.PurePhases.{IsComputedAt, IsAtRoot, IsStoreOf}
 use Rattle.lowering.proofs.Facts.{staged, lasts_are, hosted_before, few, splits}
-use Rattle.nest_lowering.proofs.Few.{few_turns}
-use Rattle.stage_loops.proofs.Ids.{with_same}
+use Rattle.lowering_nests.proofs.Few.{few_turns}
+use Rattle.schedule_loops.proofs.Ids.{with_same}
 use Rattle.lowering.proofs.Filling.{loops_hosting}
 use Rattle.lowering.proofs.Lists.{all_upto}
 use Rattle.lowering.proofs.LoopTurns.{count_at, counted_is, count_found, count_first, drop_front, turns_drop, turns_take, turns_with, none_outside, turns_stay, hosting_with, small_with, nest_takes, all_contained}

@@ -4,8 +4,8 @@ use Rattle.std.specs.Prelude.{◌||◌}
 use Rattle.std.specs.List.{AllByRecursion, list_all, list_any}
 use Rattle.std.proofs.lemmas.Bool.{and_from, cases_eq, or_parts}
 use Rattle.std.proofs.lemmas.List.Folds.{list_any-append}
-use Rattle.reads.proofs.Seeing.{all_parts}
-use Rattle.stage_loops.specs.Visits.{upto}
+use Rattle.halide_pipeline.proofs.Seeing.{all_parts}
+use Rattle.schedule_loops.specs.Visits.{upto}
 
 pub any_map : {A B : Type 0} (test : B → Bool) (f : A → B) (xs : List A) → list_any test (map f xs) ≡ list_any (λ x. test (f x)) xs
 any_map test f [] = refl

@@ -10,18 +10,18 @@ use Rattle.schedule_lines.specs.declared.stages.LoopId.{LoopId}
 use Rattle.schedule_lines.specs.Loops.{find, same_id}
 use Rattle.schedule_lines.specs.Making.{total}
 use Rattle.schedule.specs.Standing.{comes_first}
-use Rattle.stage_loops.specs.Counts.{Values, with}
-use Rattle.stage_loops.specs.Reach.{AreTurns}
-use Rattle.stage_loops.specs.Visits.{upto, nest}
-use Rattle.stage_loops.proofs.Ids.{cases_id, same_id-true, same_id-self, with_same, with_other}
-use Rattle.stage_loops.proofs.Making.{total-append}
-use Rattle.stage_loops.proofs.Nesting.{has_id, has_same}
-use Rattle.stage_loops.proofs.Selecting.{Unique}
+use Rattle.schedule_loops.specs.Counts.{Values, with}
+use Rattle.schedule_loops.specs.Reach.{AreTurns}
+use Rattle.schedule_loops.specs.Visits.{upto, nest}
+use Rattle.schedule_loops.proofs.Ids.{cases_id, same_id-true, same_id-self, with_same, with_other}
+use Rattle.schedule_loops.proofs.Making.{total-append}
+use Rattle.schedule_loops.proofs.Nesting.{has_id, has_same}
+use Rattle.schedule_loops.proofs.Selecting.{Unique}
 use Rattle.bounds.specs.Views.{inner_count}
-use Rattle.box_laws.specs.HostLaws.{turn_of, turn_at, turns_from}
+use Rattle.bounds_laws.specs.HostLaws.{turn_of, turn_at, turns_from}
 use Rattle.loop_ir.specs.declared.expressions.Counter.{Counter}
 use Rattle.loop_ir.specs.Counters as counters
-use Rattle.nest_lowering.specs.Nests.{AreSmall}
+use Rattle.lowering_nests.specs.Nests.{AreSmall}
 use Rattle.lowering.specs.Hosting.{hosting}
 
 -- ---- loops inside one

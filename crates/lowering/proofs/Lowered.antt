@@ -7,7 +7,7 @@ use Rattle.halide_pipeline.specs.declared.definitions.Update.{Update}
 use Rattle.halide_pipeline.specs.Pipelines.{Pipeline}
 use Rattle.halide_pipeline.specs.WellFormed.{IsWellFormed, is_func_of}
 use Rattle.halide_pipeline.specs.Words as word
-use Rattle.halide_meaning.specs.Pixel.{Planes, reads_of, func_plane, stage, pixels}
+use Rattle.halide_pipeline.specs.Pixel.{Planes, reads_of, func_plane, stage, pixels}
 use Rattle.schedule.specs.declared.plans.FuncPlan.{FuncPlan}
 use Rattle.schedule.specs.declared.schedules.Schedule.{Schedule}
 use Rattle.schedule.specs.declared.standings.Place.{Place}
@@ -18,19 +18,19 @@ use Rattle.schedule.specs.Legal.{is_inlined, is_root}
 use Rattle.schedule.specs.Standing as standing
 use Rattle.schedule.specs.Standing.{standings_from}
 use Rattle.schedule.proofs.Uses.{IsSome, output_standing, standing_some}
-use Rattle.stage_loops.proofs.AcceptedStages.{pair_at}
-use Rattle.ranges.specs.Laws.{Lies, AnswerWords}
+use Rattle.schedule_loops.proofs.AcceptedStages.{pair_at}
+use Rattle.bounds_ranges.specs.Laws.{Lies, AnswerWords}
 use Rattle.bounds.specs.declared.boxes.SourceBox.{SourceBox}
 use Rattle.bounds.specs.declared.verdict.Boxes.{Boxes}
 use Rattle.bounds.specs.Boxes.{box_in, no_loops, lasts_of, extent}
 use Rattle.bounds.specs.Verdict.{inferred}
 use Rattle.bounds.specs.Views.{extents_of}
-use Rattle.box_laws.specs.Closure.{is_put_in, is_boxed}
-use Rattle.box_laws.specs.Laws.{LiesIn, IsBoxed, IsComputed, host_in}
-use Rattle.box_laws.proofs.BoxFacts.{HasBox, has_box}
-use Rattle.box_laws.proofs.Closure.{all_reads_are_held}
-use Rattle.box_laws.proofs.OwnReads.{output_lies}
-use Rattle.box_laws.proofs.PutIn.{pair_there}
+use Rattle.bounds_laws.specs.Closure.{is_put_in, is_boxed}
+use Rattle.bounds_laws.specs.Laws.{LiesIn, IsBoxed, IsComputed, host_in}
+use Rattle.bounds_laws.proofs.BoxFacts.{HasBox, has_box}
+use Rattle.bounds_laws.proofs.Closure.{all_reads_are_held}
+use Rattle.bounds_laws.proofs.OwnReads.{output_lies}
+use Rattle.bounds_laws.proofs.PutIn.{pair_there}
 use Rattle.loop_ir.specs.declared.statements.Phase.{Phase}
 use Rattle.loop_ir.specs.Buffers.{Points}
 use Rattle.lowering.specs.Lowered.{IsStagePhase, Pure, Updating, ArePhasesOf, None_yet, IsNotAtRoot, AreLowered, No_func, Passed, Computed, tasks_of, DoPixels, LeaveOutput, PhasesDoPixels, PhasesLeaveOutput}

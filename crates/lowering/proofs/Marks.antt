@@ -3,10 +3,10 @@ use Rattle.std.proofs.Common.{◌≡◌, ℕ, zero, suc, ◌<◌, ◌≤◌, Boo
 use Rattle.std.specs.Prelude.{◌||◌}
 use Rattle.std.specs.List.{AllByRecursion, list_any}
 use Rattle.std.proofs.lemmas.List.Folds.{list_any-append}
-use Rattle.stage_loops.specs.Visits.{upto}
+use Rattle.schedule_loops.specs.Visits.{upto}
 use Rattle.loop_ir.specs.Running.{turns}
 use Rattle.loop_ir.specs.Stores.{Trace}
-use Rattle.nest_lowering.specs.Nests.{all}
+use Rattle.lowering_nests.specs.Nests.{all}
 
 -- a step that marks exactly if this holds
 abbrev pub Tells : (Trace → Trace) → Bool → Type 0

@@ -1,14 +1,14 @@
 -- Words counted from the corner of a range.
 use Rattle.std.proofs.Common.{◌≡◌, ℕ, ◌+◌, ◌-◌, ◌%◌, ◌^◌, ◌<◌, ◌≤◌, List, [], ◌∷◌, refl, arith}
 use Rattle.halide_pipeline.specs.Words as word
-use Rattle.ranges.specs.declared.bases.Multiple.{Multiple}
-use Rattle.ranges.specs.declared.ranges.Range.{Range}
-use Rattle.ranges.specs.Bases.{more_sum, less_sum}
-use Rattle.ranges.specs.Laws.{Below, Lies}
-use Rattle.ranges.proofs.Sums.{more_below, less_below}
-use Rattle.ranges.specs.Ranges.{least, greatest, IsFit}
+use Rattle.bounds_ranges.specs.declared.bases.Multiple.{Multiple}
+use Rattle.bounds_ranges.specs.declared.ranges.Range.{Range}
+use Rattle.bounds_ranges.specs.Bases.{more_sum, less_sum}
+use Rattle.bounds_ranges.specs.Laws.{Below, Lies}
+use Rattle.bounds_ranges.proofs.Sums.{more_below, less_below}
+use Rattle.bounds_ranges.specs.Ranges.{least, greatest, IsFit}
 use Rattle.bounds.specs.Boxes.{no_loops, extent}
-use Rattle.box_laws.specs.HostLaws.{IsFrom}
+use Rattle.bounds_laws.specs.HostLaws.{IsFrom}
 use Rattle.lowering.specs.Corners.{first_of}
 use Rattle.lowering.specs.Planes.{word_at}
 

@@ -3,9 +3,9 @@ use Rattle.std.proofs.Common.{◌≡◌, ℕ, Bool, true, false, cond, List, [],
 use Rattle.std.specs.Prelude.{◌==◌, ◌&&◌, ◌||◌}
 use Rattle.std.specs.List.{AllByRecursion, list_any}
 use Rattle.std.proofs.lemmas.Bool.{and_parts, and_from, eqb-true, eq-eqb, or_parts}
-use Rattle.halide_meaning.specs.Pixel.{Plane, Planes}
+use Rattle.halide_pipeline.specs.Pixel.{Plane, Planes}
 use Rattle.loop_ir.specs.Buffers.{Points, put}
-use Rattle.nest_lowering.specs.Nests.{all}
+use Rattle.lowering_nests.specs.Nests.{all}
 use Rattle.lowering.specs.Hosting.{Keeps}
 
 -- ---- one point written

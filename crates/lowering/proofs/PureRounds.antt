@@ -11,18 +11,18 @@ use Rattle.halide_pipeline.specs.Definitions.{dimensions}
 use Rattle.halide_pipeline.specs.Pipelines.{Pipeline}
 use Rattle.halide_pipeline.specs.WellFormed.{IsWellFormed, is_argument}
 use Rattle.halide_pipeline.specs.Words as word
-use Rattle.halide_meaning.specs.Pixel.{Reads, at_point}
-use Rattle.reads.specs.Points.{Point, Hold}
+use Rattle.halide_pipeline.specs.Pixel.{Reads, at_point}
+use Rattle.halide_pipeline.specs.Points.{Point, Hold}
 use Rattle.schedule_lines.specs.declared.stages.Loop.{Loop}
 use Rattle.schedule_lines.specs.declared.stages.Stage.{Stage}
 use Rattle.schedule.specs.declared.schedules.Schedule.{Schedule}
-use Rattle.stage_loops.specs.declared.extents.Extents.{Extents}
-use Rattle.stage_loops.specs.Stages.{IsStageOf, KeepsRules}
-use Rattle.inlining.specs.Inlining.{inlined}
-use Rattle.inlining.specs.Laws.{seen_variable}
-use Rattle.inlining.specs.Values.{seeing}
-use Rattle.box_laws.proofs.PutIn.{flags}
-use Rattle.box_laws.proofs.StayingReads.{IsBelow, AreBelow, within}
+use Rattle.schedule_loops.specs.declared.extents.Extents.{Extents}
+use Rattle.schedule_loops.specs.Stages.{IsStageOf, KeepsRules}
+use Rattle.bounds_inlining.specs.Inlining.{inlined}
+use Rattle.bounds_inlining.specs.Laws.{seen_variable}
+use Rattle.bounds_inlining.specs.Values.{seeing}
+use Rattle.bounds_laws.proofs.PutIn.{flags}
+use Rattle.bounds_laws.proofs.StayingReads.{IsBelow, AreBelow, within}
 use Rattle.loop_ir.specs.declared.statements.Stmt.{Stmt}
 use Rattle.loop_ir.specs.declared.statements.Stmt.TheVariants as s
 use Rattle.loop_ir.specs.declared.statements.Store.{Store}
@@ -32,9 +32,9 @@ use Rattle.loop_ir.specs.Rounds.{Rounds, everywhere, all_points, all_but, is_sou
 use Rattle.loop_ir.specs.Soundness.{is_sound, store_loads}
 use Rattle.loop_ir.proofs.Rounds.{rounds_store}
 use Rattle.loop_ir.proofs.Sound.{sound_store}
-use Rattle.nest_lowering.specs.Rounds.{IsLeaf, LoadsNoneOf, MayBeUnder, is_vectorized_loop}
-use Rattle.expression_lowering.specs.declared.calls.Corner.{Corner}
-use Rattle.expression_lowering.specs.Lowering.{placed, place as place_in}
+use Rattle.lowering_nests.specs.Rounds.{IsLeaf, LoadsNoneOf, MayBeUnder, is_vectorized_loop}
+use Rattle.lowering_expressions.specs.declared.calls.Corner.{Corner}
+use Rattle.lowering_expressions.specs.Lowering.{placed, place as place_in}
 use Rattle.lowering.specs.PurePhases.{IsSoundPure, whole_at}
 use Rattle.lowering.proofs.UpdateRounds.{source_stays, all_hold, missed_elsewhere}
 use Rattle.lowering.proofs.VectorLoops.{vectorized, others_are}

@@ -3,7 +3,7 @@ use Rattle.std.proofs.Common.{◌≡◌, ℕ, Bool, List, refl, ap, subst, ◌�
 use Rattle.std.specs.Prelude.{◌&&◌}
 use Rattle.halide_pipeline.specs.declared.definitions.Func.{Func}
 use Rattle.halide_pipeline.specs.Pipelines.{Pipeline}
-use Rattle.halide_meaning.specs.Pixel.{Plane, Planes, with_plane, pure_plane, stage, pixels}
+use Rattle.halide_pipeline.specs.Pixel.{Plane, Planes, with_plane, pure_plane, stage, pixels}
 use Rattle.schedule.specs.declared.plans.FuncPlan.{FuncPlan}
 use Rattle.schedule.specs.declared.schedules.Schedule.{Schedule}
 use Rattle.schedule.specs.declared.standings.Standing.{Standing}

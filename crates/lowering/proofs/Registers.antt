@@ -15,12 +15,12 @@ use Rattle.halide_pipeline.specs.declared.expressions.Variable.{Variable}
 use Rattle.halide_pipeline.specs.Definitions.{dimensions}
 use Rattle.halide_pipeline.specs.Pipelines.{Pipeline}
 use Rattle.halide_pipeline.specs.WellFormed.{IsWellFormed, keeps, keeps_index, is_read, is_func_of, is_divisor, is_argument, is_update_variable, most_number}
-use Rattle.inlining.specs.Inlining.{Algebra, answer, answered, flagged, func_in, inside, inlined, made_in, through, through_at}
-use Rattle.inlining.specs.Laws.{RelatesLevels}
-use Rattle.inlining.specs.Weights.{needing}
-use Rattle.inlining.proofs.Kept.{folds_are_related}
-use Rattle.inlining.proofs.KeptFolds.{KeptLevels, kept_folds_related}
-use Rattle.inlining.proofs.Steps.{inside_is}
+use Rattle.bounds_inlining.specs.Inlining.{Algebra, answer, answered, flagged, func_in, inside, inlined, made_in, through, through_at}
+use Rattle.bounds_inlining.specs.Laws.{RelatesLevels}
+use Rattle.bounds_inlining.specs.Weights.{needing}
+use Rattle.bounds_inlining.proofs.Kept.{folds_are_related}
+use Rattle.bounds_inlining.proofs.KeptFolds.{KeptLevels, kept_folds_related}
+use Rattle.bounds_inlining.proofs.Steps.{inside_is}
 use Rattle.schedule.specs.declared.plans.FuncPlan.{FuncPlan}
 use Rattle.schedule.specs.declared.schedules.Schedule.{Schedule}
 use Rattle.schedule.specs.declared.standings.Place.{Place}
@@ -31,14 +31,14 @@ use Rattle.schedule.specs.Uses.{IsReached}
 use Rattle.schedule_lines.specs.declared.stages.Loop.{Loop}
 use Rattle.schedule_lines.specs.declared.stages.Split.{Split}
 use Rattle.schedule_lines.specs.declared.stages.Stage.{Stage}
-use Rattle.stage_loops.specs.declared.extents.Extents.{Extents}
-use Rattle.stage_loops.specs.Counts.{counts, AreSplits}
-use Rattle.stage_loops.specs.Iterations as iterations
-use Rattle.nest_lowering.specs.Nests.{AreFew}
-use Rattle.nest_lowering.proofs.Few.{few_turns}
-use Rattle.weights.specs.Need.{need_in, second_need, update_need, updates_needs, func_needs, computed_needs, funcs_needs, needs, no_needs}
-use Rattle.weights.specs.Weight.{flags_of, is_computed}
-use Rattle.box_laws.specs.Laws.{IsComputed}
+use Rattle.schedule_loops.specs.declared.extents.Extents.{Extents}
+use Rattle.schedule_loops.specs.Counts.{counts, AreSplits}
+use Rattle.schedule_loops.specs.Iterations as iterations
+use Rattle.lowering_nests.specs.Nests.{AreFew}
+use Rattle.lowering_nests.proofs.Few.{few_turns}
+use Rattle.bounds_weights.specs.Need.{need_in, second_need, update_need, updates_needs, func_needs, computed_needs, funcs_needs, needs, no_needs}
+use Rattle.bounds_weights.specs.Weight.{flags_of, is_computed}
+use Rattle.bounds_laws.specs.Laws.{IsComputed}
 use Rattle.loop_ir.specs.declared.expressions.Expr as loop
 use Rattle.loop_ir.specs.declared.expressions.Expr.TheVariants as e
 use Rattle.loop_ir.specs.declared.expressions.Linear.{Linear}
@@ -46,8 +46,8 @@ use Rattle.loop_ir.specs.declared.statements.Store.{Store}
 use Rattle.loop_ir.specs.declared.statements.Stmt.TheVariants as s
 use Rattle.loop_ir.specs.Needs.{divisor_need, greatest_need, need}
 use Rattle.loop_ir.proofs.Needs.{greatest_store}
-use Rattle.expression_lowering.specs.Needing.{taking}
-use Rattle.expression_lowering.proofs.Taking.{linear_need}
+use Rattle.lowering_expressions.specs.Needing.{taking}
+use Rattle.lowering_expressions.proofs.Taking.{linear_need}
 use Rattle.lowering.specs.Registers.{taken, second_taken, update_taken, most_need}
 use Rattle.lowering.specs.Updates.{IsUpdateAt}
 

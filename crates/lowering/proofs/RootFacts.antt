@@ -12,18 +12,18 @@ use Rattle.schedule.specs.declared.standings.Place.TheVariants as places
 use Rattle.schedule.specs.declared.standings.Standing.{Standing}
 use Rattle.schedule.specs.Accepted.{IsAccepted}
 use Rattle.schedule.specs.Uses.{IsReached}
-use Rattle.ranges.specs.declared.ranges.Range.{Range}
-use Rattle.ranges.specs.Laws.{Lies}
-use Rattle.ranges.specs.Ranges.{IsFit}
+use Rattle.bounds_ranges.specs.declared.ranges.Range.{Range}
+use Rattle.bounds_ranges.specs.Laws.{Lies}
+use Rattle.bounds_ranges.specs.Ranges.{IsFit}
 use Rattle.bounds.specs.declared.boxes.SourceBox.{SourceBox}
 use Rattle.bounds.specs.declared.verdict.Boxes.{Boxes}
 use Rattle.bounds.specs.Boxes.{IsBox, no_loops, extent}
 use Rattle.bounds.specs.Verdict.{inferred}
-use Rattle.box_laws.specs.HostLaws.{IsFrom}
-use Rattle.box_laws.proofs.Found.{no_below}
+use Rattle.bounds_laws.specs.HostLaws.{IsFrom}
+use Rattle.bounds_laws.proofs.Found.{no_below}
 use Rattle.loop_ir.specs.Counters.{Values}
 use Rattle.loop_ir.specs.Expressions.{linear_value}
-use Rattle.expression_lowering.specs.declared.calls.Corner.{Corner}
+use Rattle.lowering_expressions.specs.declared.calls.Corner.{Corner}
 use Rattle.lowering.specs.Corners.{IsCornerOf, AreCorners}
 use Rattle.lowering.specs.Planes.{word_at}
 use Rattle.lowering.specs.PurePhases.{IsAtRoot}

@@ -14,7 +14,7 @@ use Rattle.halide_pipeline.specs.Expressions.{same_variable}
 use Rattle.halide_pipeline.specs.Pipelines.{Pipeline}
 use Rattle.halide_pipeline.specs.WellFormed.{IsWellFormed, is_box}
 use Rattle.halide_pipeline.specs.Words as word
-use Rattle.halide_meaning.specs.Pixel.{Reads, second_value}
+use Rattle.halide_pipeline.specs.Pixel.{Reads, second_value}
 use Rattle.schedule_lines.specs.declared.stages.Loop.{Loop}
 use Rattle.schedule_lines.specs.declared.stages.LoopId.{LoopId}
 use Rattle.schedule_lines.specs.declared.stages.LoopId.TheVariants as ids
@@ -23,24 +23,24 @@ use Rattle.schedule_lines.specs.declared.stages.Stage.{Stage}
 use Rattle.schedule_lines.specs.Loops.{is_reduction}
 use Rattle.schedule_lines.specs.Making.{total}
 use Rattle.schedule.specs.declared.schedules.Schedule.{Schedule}
-use Rattle.stage_loops.specs.declared.extents.Extents.{Extents}
-use Rattle.stage_loops.specs.Counts as loops
-use Rattle.stage_loops.specs.Counts.{counts, strides, is_uneven, extent_of}
-use Rattle.stage_loops.specs.Reach.{AreTurns, AgreeWhereUneven, base, wholes}
-use Rattle.stage_loops.specs.Stages.{IsStageOf, KeepsRules, first_loops, has_variable}
-use Rattle.stage_loops.proofs.Bounded.{within}
-use Rattle.stage_loops.proofs.Ids.{cases_id, same_variable-self, with_other, with_same}
-use Rattle.stage_loops.proofs.Nesting.{has_id, has_other, has_same}
-use Rattle.stage_loops.proofs.Stepping.{stepped}
+use Rattle.schedule_loops.specs.declared.extents.Extents.{Extents}
+use Rattle.schedule_loops.specs.Counts as loops
+use Rattle.schedule_loops.specs.Counts.{counts, strides, is_uneven, extent_of}
+use Rattle.schedule_loops.specs.Reach.{AreTurns, AgreeWhereUneven, base, wholes}
+use Rattle.schedule_loops.specs.Stages.{IsStageOf, KeepsRules, first_loops, has_variable}
+use Rattle.schedule_loops.proofs.Bounded.{within}
+use Rattle.schedule_loops.proofs.Ids.{cases_id, same_variable-self, with_other, with_same}
+use Rattle.schedule_loops.proofs.Nesting.{has_id, has_other, has_same}
+use Rattle.schedule_loops.proofs.Stepping.{stepped}
 use Rattle.bounds.specs.declared.boxes.SourceBox.{SourceBox}
-use Rattle.box_laws.proofs.PutIn.{flags}
+use Rattle.bounds_laws.proofs.PutIn.{flags}
 use Rattle.loop_ir.specs.declared.statements.Stmt.{Stmt}
 use Rattle.loop_ir.specs.Counters.{Values}
 use Rattle.loop_ir.specs.Expressions.{linear_value}
-use Rattle.nest_lowering.specs.Nests.{AreFew, loops_of, put_loops}
-use Rattle.nest_lowering.specs.Rounds.{LoadsNoneOf, MayBeUnder, is_vectorized_loop}
-use Rattle.nest_lowering.proofs.Rounds.{turns_more}
-use Rattle.expression_lowering.specs.declared.calls.Corner.{Corner}
+use Rattle.lowering_nests.specs.Nests.{AreFew, loops_of, put_loops}
+use Rattle.lowering_nests.specs.Rounds.{LoadsNoneOf, MayBeUnder, is_vectorized_loop}
+use Rattle.lowering_nests.proofs.Rounds.{turns_more}
+use Rattle.lowering_expressions.specs.declared.calls.Corner.{Corner}
 use Rattle.lowering.specs.PurePhases.{whole_at}
 use Rattle.lowering.specs.Updates.{IsSoundUpdate, second_reduced, update_extents}
 use Rattle.schedule.specs.declared.standings.Place.TheVariants as places

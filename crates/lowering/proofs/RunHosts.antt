@@ -7,7 +7,7 @@ use Rattle.std.proofs.lemmas.List.Folds.{list_any-append}
 use Rattle.halide_pipeline.specs.declared.definitions.Func.{Func}
 use Rattle.halide_pipeline.specs.declared.expressions.Variable.TheVariants as variables
 use Rattle.halide_pipeline.specs.Pipelines.{Pipeline}
-use Rattle.halide_meaning.specs.Pixel.{Reads}
+use Rattle.halide_pipeline.specs.Pixel.{Reads}
 use Rattle.schedule_lines.specs.declared.stages.Loop.{Loop}
 use Rattle.schedule_lines.specs.declared.stages.LoopId.{LoopId}
 use Rattle.schedule_lines.specs.declared.stages.Stage.{Stage}
@@ -15,14 +15,14 @@ use Rattle.schedule.specs.declared.plans.FuncPlan.{FuncPlan}
 use Rattle.schedule.specs.declared.schedules.Schedule.{Schedule}
 use Rattle.schedule.specs.declared.standings.LoopPlace.{LoopPlace}
 use Rattle.schedule.specs.Accepted.{IsAccepted}
-use Rattle.stage_loops.specs.declared.extents.Extents.{Extents}
-use Rattle.stage_loops.specs.Counts as loops
-use Rattle.stage_loops.specs.Iterations.{parallel}
-use Rattle.stage_loops.specs.Reach.{AreTurns, wholes}
-use Rattle.stage_loops.specs.Stages.{IsStageOf, KeepsRules}
-use Rattle.stage_loops.specs.Visits.{upto, nest, over_loops, visit_of, is_slice}
-use Rattle.stage_loops.proofs.Nesting.{nest-append}
-use Rattle.stage_loops.proofs.Wholes.{visits_of_wholes}
+use Rattle.schedule_loops.specs.declared.extents.Extents.{Extents}
+use Rattle.schedule_loops.specs.Counts as loops
+use Rattle.schedule_loops.specs.Iterations.{parallel}
+use Rattle.schedule_loops.specs.Reach.{AreTurns, wholes}
+use Rattle.schedule_loops.specs.Stages.{IsStageOf, KeepsRules}
+use Rattle.schedule_loops.specs.Visits.{upto, nest, over_loops, visit_of, is_slice}
+use Rattle.schedule_loops.proofs.Nesting.{nest-append}
+use Rattle.schedule_loops.proofs.Wholes.{visits_of_wholes}
 use Rattle.bounds.specs.declared.verdict.Boxes.{Boxes}
 use Rattle.loop_ir.specs.declared.statements.Stmt.{Stmt}
 use Rattle.loop_ir.specs.Counters.{Values, with}
@@ -30,9 +30,9 @@ use Rattle.loop_ir.specs.Rounds.{all_but, all_points}
 use Rattle.loop_ir.specs.Runs.{are_same, point_of, stores_in_runs}
 use Rattle.loop_ir.specs.Soundness.{every, is_sound}
 use Rattle.loop_ir.proofs.Runs.{others_store_in_no_run}
-use Rattle.nest_lowering.specs.Nests.{loops_of, put_loops, AreSmall, Repeats}
-use Rattle.nest_lowering.specs.Rounds.{IsLeaf, is_vectorized_loop}
-use Rattle.nest_lowering.proofs.Rounds.{turns_more}
+use Rattle.lowering_nests.specs.Nests.{loops_of, put_loops, AreSmall, Repeats}
+use Rattle.lowering_nests.specs.Rounds.{IsLeaf, is_vectorized_loop}
+use Rattle.lowering_nests.proofs.Rounds.{turns_more}
 use Rattle.lowering.specs.Hosting.{hosting, in_runs_first, IsNestAt, IsNestOf, HasNests, None_left, One_more, HasLoops, No_loops, One_outside, HasOutermost}
 use Rattle.lowering.specs.PurePhases.{MissesPure, whole_at}
 use Rattle.lowering.specs.Runs.{innermost, outside_innermost, turns_of, run_of, are_turns, is_in_run, is_vectorized_first}

@@ -8,11 +8,11 @@ use Rattle.schedule_lines.specs.declared.stages.Loop.{Loop}
 use Rattle.schedule_lines.specs.declared.stages.LoopId.{LoopId}
 use Rattle.schedule_lines.specs.declared.stages.Stage.{Stage}
 use Rattle.schedule_lines.specs.Loops.{same_id}
-use Rattle.stage_loops.specs.declared.extents.Extents.{Extents}
-use Rattle.stage_loops.specs.Counts as loops
-use Rattle.stage_loops.specs.Reach.{AreTurns}
-use Rattle.stage_loops.specs.Visits.{Visit, upto, nest, over_loops, visit_of, zeros}
-use Rattle.stage_loops.proofs.Ids.{cases_id, same_id-true, with_same, with_other}
+use Rattle.schedule_loops.specs.declared.extents.Extents.{Extents}
+use Rattle.schedule_loops.specs.Counts as loops
+use Rattle.schedule_loops.specs.Reach.{AreTurns}
+use Rattle.schedule_loops.specs.Visits.{Visit, upto, nest, over_loops, visit_of, zeros}
+use Rattle.schedule_loops.proofs.Ids.{cases_id, same_id-true, with_same, with_other}
 use Rattle.lowering.specs.Runs.{innermost, outside_innermost, is_among, turns_of, run_of, runs, are_turns, IsRunOf, RunsAreListed}
 use Rattle.lowering.proofs.LoopTurns.{contains_upto}
 

@@ -19,16 +19,16 @@ use Rattle.schedule.specs.declared.standings.LoopPlace.{LoopPlace}
 use Rattle.schedule.specs.declared.standings.Place.{Place}
 use Rattle.schedule.specs.declared.standings.Place.TheVariants as places
 use Rattle.schedule.specs.declared.standings.Standing.{Standing}
-use Rattle.stage_loops.specs.declared.extents.Extents.{Extents}
-use Rattle.stage_loops.specs.Counts as loops
-use Rattle.stage_loops.specs.Iterations.{parallel}
-use Rattle.stage_loops.specs.Stages.{KeepsRules}
-use Rattle.stage_loops.proofs.Ids.{same_id-self, cases_id}
-use Rattle.stage_loops.proofs.Nesting.{has_id}
-use Rattle.stage_loops.proofs.Selecting.{Unique}
+use Rattle.schedule_loops.specs.declared.extents.Extents.{Extents}
+use Rattle.schedule_loops.specs.Counts as loops
+use Rattle.schedule_loops.specs.Iterations.{parallel}
+use Rattle.schedule_loops.specs.Stages.{KeepsRules}
+use Rattle.schedule_loops.proofs.Ids.{same_id-self, cases_id}
+use Rattle.schedule_loops.proofs.Nesting.{has_id}
+use Rattle.schedule_loops.proofs.Selecting.{Unique}
 use Rattle.schedule.specs.Legal.{is_inlined, is_root}
-use Rattle.weights.specs.Copies.{copies, all_copies, host_copies, copies_from}
-use Rattle.weights.specs.Weight.{flags_of, is_computed, update_nodes, stage_weight}
+use Rattle.bounds_weights.specs.Copies.{copies, all_copies, host_copies, copies_from}
+use Rattle.bounds_weights.specs.Weight.{flags_of, is_computed, update_nodes, stage_weight}
 use Rattle.bounds.specs.declared.boxes.SourceBox.{SourceBox}
 use Rattle.bounds.specs.declared.verdict.Boxes.{Boxes}
 use Rattle.loop_ir.specs.declared.statements.Phase.{Phase}

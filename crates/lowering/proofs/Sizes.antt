@@ -18,13 +18,13 @@ use Rattle.schedule_lines.specs.declared.stages.Stage.{Stage}
 use Rattle.schedule_lines.specs.Loops.{same_id}
 use Rattle.schedule_lines.specs.Making.{total}
 use Rattle.schedule.specs.Plans.{with_loop, with_second}
-use Rattle.stage_loops.specs.Stages.{has_variable, first_loops, IsStageOf}
-use Rattle.stage_loops.proofs.FirstLoops.{plain, there, update_start}
-use Rattle.stage_loops.proofs.Making.{Stays, by_making, split_by, total_parts, bare_total}
-use Rattle.stage_loops.proofs.Nesting.{has_id}
-use Rattle.inlining.specs.Inlining.{flagged}
-use Rattle.inlining.specs.Weights.{counting}
-use Rattle.weights.specs.Weight.{nodes_in, second_nodes, update_nodes}
+use Rattle.schedule_loops.specs.Stages.{has_variable, first_loops, IsStageOf}
+use Rattle.schedule_loops.proofs.FirstLoops.{plain, there, update_start}
+use Rattle.schedule_loops.proofs.Making.{Stays, by_making, split_by, total_parts, bare_total}
+use Rattle.schedule_loops.proofs.Nesting.{has_id}
+use Rattle.bounds_inlining.specs.Inlining.{flagged}
+use Rattle.bounds_inlining.specs.Weights.{counting}
+use Rattle.bounds_weights.specs.Weight.{nodes_in, second_nodes, update_nodes}
 use Rattle.loop_ir.specs.declared.expressions.Expr as loop
 use Rattle.loop_ir.specs.declared.expressions.Expr.TheVariants as e
 use Rattle.loop_ir.specs.declared.expressions.Linear.{Linear}
@@ -32,8 +32,8 @@ use Rattle.loop_ir.specs.declared.statements.Store.{Store}
 use Rattle.loop_ir.specs.declared.statements.Stmt.TheVariants as s
 use Rattle.loop_ir.specs.Sizes.{kept, size, size_of, whole_size}
 use Rattle.loop_ir.proofs.Sizes.{whole_store}
-use Rattle.expression_lowering.specs.Sizing.{IsGiven}
-use Rattle.expression_lowering.proofs.Sizing.{linear_size}
+use Rattle.lowering_expressions.specs.Sizing.{IsGiven}
+use Rattle.lowering_expressions.proofs.Sizing.{linear_size}
 use Rattle.lowering.specs.Sizes.{counted, second_counted, update_counted, IsGivenIndex}
 use Rattle.lowering.proofs.Registers.{count-same, at-most}
 

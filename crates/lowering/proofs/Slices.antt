@@ -2,10 +2,10 @@
 use Rattle.std.proofs.Common.{◌≡◌, ℕ, zero, suc, ◌+◌, ◌-◌, Bool, true, false, cond, List, [], ◌∷◌, map, refl, sym, ap, subst, ◌∙◌, arith}
 use Rattle.std.specs.Prelude.{◌&&◌, ◌||◌}
 use Rattle.std.specs.List.{AllByRecursion, list_any}
-use Rattle.halide_meaning.specs.Pixel.{Planes}
-use Rattle.stage_loops.specs.Visits.{Visit, is_slice, slice, rising}
+use Rattle.halide_pipeline.specs.Pixel.{Planes}
+use Rattle.schedule_loops.specs.Visits.{Visit, is_slice, slice, rising}
 use Rattle.loop_ir.specs.Stores.{Trace}
-use Rattle.nest_lowering.specs.Nests.{all}
+use Rattle.lowering_nests.specs.Nests.{all}
 use Rattle.lowering.proofs.Marks.{or_none, or_or}
 
 -- ---- the first of what is left of a slice

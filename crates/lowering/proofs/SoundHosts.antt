@@ -9,8 +9,8 @@ use Rattle.halide_pipeline.specs.declared.expressions.Source.TheVariants as sour
 use Rattle.halide_pipeline.specs.declared.expressions.Variable.TheVariants as variables
 use Rattle.halide_pipeline.specs.Pipelines.{Pipeline}
 use Rattle.halide_pipeline.specs.WellFormed.{IsWellFormed}
-use Rattle.halide_meaning.specs.Pixel.{Planes, Reads, reads_of, pixels}
-use Rattle.reads.specs.Points.{Point}
+use Rattle.halide_pipeline.specs.Pixel.{Planes, Reads, reads_of, pixels}
+use Rattle.halide_pipeline.specs.Points.{Point}
 use Rattle.schedule_lines.specs.declared.stages.Loop.{Loop}
 use Rattle.schedule_lines.specs.declared.stages.LoopId.TheVariants as ids
 use Rattle.schedule.specs.declared.plans.FuncPlan.{FuncPlan}
@@ -20,31 +20,31 @@ use Rattle.schedule.specs.declared.standings.Place.TheVariants as places
 use Rattle.schedule.specs.declared.standings.Standing.{Standing}
 use Rattle.schedule.specs.Accepted.{IsAccepted}
 use Rattle.schedule.specs.Uses.{IsReached}
-use Rattle.stage_loops.specs.declared.extents.Extents.{Extents}
-use Rattle.stage_loops.specs.Counts as loops
-use Rattle.stage_loops.specs.Reach.{AreTurns, wholes}
-use Rattle.stage_loops.specs.Stages.{IsStageOf, IsVisitOf}
-use Rattle.stage_loops.specs.Visits.{upto, over_loops, visit_of}
-use Rattle.stage_loops.proofs.FirstLoops.{plain, sound_made}
-use Rattle.stage_loops.proofs.Ids.{with_same}
-use Rattle.stage_loops.proofs.Nesting.{nest-append}
-use Rattle.stage_loops.proofs.Selecting.{Unique}
-use Rattle.stage_loops.proofs.TurnsFound.{of_all}
-use Rattle.ranges.specs.Laws.{Below, AnswerWords}
+use Rattle.schedule_loops.specs.declared.extents.Extents.{Extents}
+use Rattle.schedule_loops.specs.Counts as loops
+use Rattle.schedule_loops.specs.Reach.{AreTurns, wholes}
+use Rattle.schedule_loops.specs.Stages.{IsStageOf, IsVisitOf}
+use Rattle.schedule_loops.specs.Visits.{upto, over_loops, visit_of}
+use Rattle.schedule_loops.proofs.FirstLoops.{plain, sound_made}
+use Rattle.schedule_loops.proofs.Ids.{with_same}
+use Rattle.schedule_loops.proofs.Nesting.{nest-append}
+use Rattle.schedule_loops.proofs.Selecting.{Unique}
+use Rattle.schedule_loops.proofs.TurnsFound.{of_all}
+use Rattle.bounds_ranges.specs.Laws.{Below, AnswerWords}
 use Rattle.bounds.specs.declared.boxes.SourceBox.{SourceBox}
 use Rattle.bounds.specs.declared.verdict.Boxes.{Boxes}
 use Rattle.bounds.specs.Boxes.{box_in, no_loops}
 use Rattle.bounds.specs.Verdict.{inferred}
 use Rattle.bounds.specs.Views.{extents_of, inner_count}
-use Rattle.box_laws.specs.Closure.{is_within}
-use Rattle.box_laws.specs.HostLaws.{values_in}
-use Rattle.box_laws.specs.Laws.{LiesIn}
+use Rattle.bounds_laws.specs.Closure.{is_within}
+use Rattle.bounds_laws.specs.HostLaws.{values_in}
+use Rattle.bounds_laws.specs.Laws.{LiesIn}
 use Rattle.loop_ir.specs.declared.statements.Stmt.{Stmt}
 use Rattle.loop_ir.specs.Buffers.{Points}
 use Rattle.loop_ir.specs.Counters.{with}
 use Rattle.loop_ir.specs.Soundness.{every, is_sound}
-use Rattle.nest_lowering.specs.Nests.{put_loops, AreSmall, Repeats}
-use Rattle.nest_lowering.proofs.Few.{few_turns}
+use Rattle.lowering_nests.specs.Nests.{put_loops, AreSmall, Repeats}
+use Rattle.lowering_nests.proofs.Few.{few_turns}
 use Rattle.lowering.specs.Corners.{turns_for}
 use Rattle.lowering.specs.Hosting.{hosting, MayTouch, IsSoundNest, HasNests, None_left, One_more, HasLoops, No_loops, One_outside}
 use Rattle.lowering.specs.Planes.{has_point, box_points}

@@ -8,8 +8,8 @@ use Rattle.halide_pipeline.specs.declared.expressions.Source.TheVariants as sour
 use Rattle.halide_pipeline.specs.declared.expressions.Variable.TheVariants as variables
 use Rattle.halide_pipeline.specs.Pipelines.{Pipeline}
 use Rattle.halide_pipeline.specs.WellFormed.{IsWellFormed}
-use Rattle.halide_meaning.specs.Pixel.{Reads}
-use Rattle.reads.specs.Points.{Point}
+use Rattle.halide_pipeline.specs.Pixel.{Reads}
+use Rattle.halide_pipeline.specs.Points.{Point}
 use Rattle.schedule_lines.specs.declared.stages.Loop.{Loop}
 use Rattle.schedule_lines.specs.declared.stages.LoopId.TheVariants as ids
 use Rattle.schedule_lines.specs.declared.stages.Stage.{Stage}
@@ -21,28 +21,28 @@ use Rattle.schedule.specs.declared.standings.Standing.{Standing}
 use Rattle.schedule.specs.Accepted.{IsAccepted}
 use Rattle.schedule.specs.Legal.{is_root}
 use Rattle.schedule.specs.Uses.{IsReached}
-use Rattle.stage_loops.specs.declared.extents.Extents.{Extents}
-use Rattle.stage_loops.specs.Counts.{counts}
-use Rattle.stage_loops.specs.Counts as loops
-use Rattle.stage_loops.specs.Iterations.{parallel, iteration, iteration_count, count_of}
-use Rattle.stage_loops.specs.Reach.{AreTurns, wholes}
-use Rattle.stage_loops.specs.Stages.{IsStageOf, KeepsRules, IsVisitOf}
-use Rattle.stage_loops.specs.Visits.{Visit, zeros, visit_of, is_slice}
-use Rattle.stage_loops.proofs.Ids.{with_same}
-use Rattle.stage_loops.proofs.Parallel.{outermost}
-use Rattle.ranges.specs.Laws.{AnswerWords}
+use Rattle.schedule_loops.specs.declared.extents.Extents.{Extents}
+use Rattle.schedule_loops.specs.Counts.{counts}
+use Rattle.schedule_loops.specs.Counts as loops
+use Rattle.schedule_loops.specs.Iterations.{parallel, iteration, iteration_count, count_of}
+use Rattle.schedule_loops.specs.Reach.{AreTurns, wholes}
+use Rattle.schedule_loops.specs.Stages.{IsStageOf, KeepsRules, IsVisitOf}
+use Rattle.schedule_loops.specs.Visits.{Visit, zeros, visit_of, is_slice}
+use Rattle.schedule_loops.proofs.Ids.{with_same}
+use Rattle.schedule_loops.proofs.Parallel.{outermost}
+use Rattle.bounds_ranges.specs.Laws.{AnswerWords}
 use Rattle.bounds.specs.declared.boxes.SourceBox.{SourceBox}
 use Rattle.bounds.specs.declared.verdict.Boxes.{Boxes}
 use Rattle.bounds.specs.Verdict.{inferred}
 use Rattle.bounds.specs.Views.{extents_of}
-use Rattle.box_laws.proofs.Callers.{or_left, or_right}
+use Rattle.bounds_laws.proofs.Callers.{or_left, or_right}
 use Rattle.loop_ir.specs.declared.expressions.Counter.{Counter}
 use Rattle.loop_ir.specs.declared.statements.Phase.{Phase}
 use Rattle.loop_ir.specs.declared.statements.Stmt.{Stmt}
 use Rattle.loop_ir.specs.Buffers.{Points}
 use Rattle.loop_ir.specs.Running.{task_values}
 use Rattle.loop_ir.specs.Soundness.{is_sound}
-use Rattle.nest_lowering.specs.Nests.{AreSmall}
+use Rattle.lowering_nests.specs.Nests.{AreSmall}
 use Rattle.lowering.specs.HostedFuncs.{hosted_from, is_hosted, is_at_loop_of}
 use Rattle.lowering.specs.Hosting.{hosting, HasOutermost, IsBody}
 use Rattle.lowering.specs.Planes.{box_points, owns}

@@ -7,25 +7,25 @@ use Rattle.std.proofs.Math.Nat.{mod-eq_of_lt}
 use Rattle.halide_pipeline.specs.declared.expressions.Variable.{Variable}
 use Rattle.halide_pipeline.specs.declared.expressions.Variable.TheVariants as variables
 use Rattle.halide_pipeline.specs.Pipelines.{Pipeline}
-use Rattle.halide_meaning.specs.Pixel.{Planes}
+use Rattle.halide_pipeline.specs.Pixel.{Planes}
 use Rattle.schedule_lines.specs.declared.stages.Loop.{Loop}
 use Rattle.schedule_lines.specs.declared.stages.LoopId.TheVariants as ids
 use Rattle.schedule_lines.specs.declared.stages.Split.{Split}
 use Rattle.schedule.specs.declared.schedules.Schedule.{Schedule}
 use Rattle.schedule.specs.declared.standings.LoopPlace.{LoopPlace}
 use Rattle.schedule.specs.Accepted.{IsAccepted}
-use Rattle.stage_loops.specs.declared.extents.Extents.{Extents}
-use Rattle.stage_loops.specs.Counts as loops
-use Rattle.stage_loops.specs.Reach.{wholes}
-use Rattle.stage_loops.specs.Visits.{upto, over_loops}
-use Rattle.stage_loops.proofs.Nesting.{nest-append}
+use Rattle.schedule_loops.specs.declared.extents.Extents.{Extents}
+use Rattle.schedule_loops.specs.Counts as loops
+use Rattle.schedule_loops.specs.Reach.{wholes}
+use Rattle.schedule_loops.specs.Visits.{upto, over_loops}
+use Rattle.schedule_loops.proofs.Nesting.{nest-append}
 use Rattle.bounds.specs.declared.verdict.Boxes.{Boxes}
 use Rattle.loop_ir.specs.declared.statements.Stmt.{Stmt}
 use Rattle.loop_ir.specs.Buffers.{Points}
 use Rattle.loop_ir.specs.Counters.{Values, with}
 use Rattle.loop_ir.specs.Stores.{Trace, trace}
-use Rattle.nest_lowering.specs.Nests.{put_loops, all, AreFew, AreSmall, Repeats}
-use Rattle.nest_lowering.proofs.Few.{few_turns}
+use Rattle.lowering_nests.specs.Nests.{put_loops, all, AreFew, AreSmall, Repeats}
+use Rattle.lowering_nests.proofs.Few.{few_turns}
 use Rattle.lowering.specs.Hosting.{hosting, IsNestOf, HasNests, None_left, One_more, HasLoops, No_loops, One_outside}
 use Rattle.lowering.specs.PurePhases.{HitsPure, whole_at}
 use Rattle.lowering.proofs.Facts.{hosted_before}

@@ -6,7 +6,7 @@ use Rattle.halide_pipeline.specs.declared.definitions.Func.{Func}
 use Rattle.halide_pipeline.specs.declared.expressions.Variable.TheVariants as variables
 use Rattle.halide_pipeline.specs.Pipelines.{Pipeline}
 use Rattle.halide_pipeline.specs.WellFormed.{IsWellFormed}
-use Rattle.halide_meaning.specs.Pixel.{Planes, Reads}
+use Rattle.halide_pipeline.specs.Pixel.{Planes, Reads}
 use Rattle.schedule_lines.specs.declared.stages.Loop.{Loop}
 use Rattle.schedule_lines.specs.declared.stages.LoopId.{LoopId}
 use Rattle.schedule_lines.specs.declared.stages.Mark.{Mark}
@@ -18,12 +18,12 @@ use Rattle.schedule.specs.declared.plans.FuncPlan.{FuncPlan}
 use Rattle.schedule.specs.declared.schedules.Schedule.{Schedule}
 use Rattle.schedule.specs.declared.standings.Place.TheVariants as places
 use Rattle.schedule.specs.Accepted.{IsAccepted}
-use Rattle.stage_loops.specs.declared.extents.Extents.{Extents}
-use Rattle.stage_loops.specs.Counts as loops
-use Rattle.stage_loops.specs.Iterations.{parallel, iteration, iteration_count, count_of}
-use Rattle.stage_loops.specs.Reach.{AreTurns, wholes}
-use Rattle.stage_loops.specs.Stages.{IsStageOf, KeepsRules, IsVisitOf}
-use Rattle.stage_loops.specs.Visits.{Visit, zeros, visit_of, is_slice}
+use Rattle.schedule_loops.specs.declared.extents.Extents.{Extents}
+use Rattle.schedule_loops.specs.Counts as loops
+use Rattle.schedule_loops.specs.Iterations.{parallel, iteration, iteration_count, count_of}
+use Rattle.schedule_loops.specs.Reach.{AreTurns, wholes}
+use Rattle.schedule_loops.specs.Stages.{IsStageOf, KeepsRules, IsVisitOf}
+use Rattle.schedule_loops.specs.Visits.{Visit, zeros, visit_of, is_slice}
 use Rattle.bounds.specs.declared.boxes.SourceBox.{SourceBox}
 use Rattle.bounds.specs.declared.verdict.Boxes.{Boxes}
 use Rattle.bounds.specs.Verdict.{inferred}
@@ -36,10 +36,10 @@ use Rattle.loop_ir.specs.Counters.{Values}
 use Rattle.loop_ir.specs.Running.{task_values}
 use Rattle.loop_ir.specs.Runs.{stores_in_runs}
 use Rattle.loop_ir.specs.Stores.{is_stored_by, is_stored_by_task}
-use Rattle.nest_lowering.specs.Nests.{AreSmall}
-use Rattle.nest_lowering.specs.Rounds.{IsLeaf, is_vectorized_loop}
-use Rattle.nest_lowering.proofs.Few.{few_turns}
-use Rattle.nest_lowering.proofs.Rounds.{turns_more}
+use Rattle.lowering_nests.specs.Nests.{AreSmall}
+use Rattle.lowering_nests.specs.Rounds.{IsLeaf, is_vectorized_loop}
+use Rattle.lowering_nests.proofs.Few.{few_turns}
+use Rattle.lowering_nests.proofs.Rounds.{turns_more}
 use Rattle.lowering.specs.Hosting.{HasLoops, HasOutermost, IsBody, hosting}
 use Rattle.lowering.specs.Planes.{box_points, owns}
 use Rattle.lowering.specs.PurePhases.{IsAtRoot, IsStoreOf, inside_of, counter_of}

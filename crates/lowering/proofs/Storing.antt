@@ -7,13 +7,13 @@ use Rattle.halide_pipeline.specs.declared.definitions.Func.{Func}
 use Rattle.halide_pipeline.specs.declared.expressions.Expr.{Expr}
 use Rattle.halide_pipeline.specs.declared.expressions.Variable.TheVariants as variables
 use Rattle.halide_pipeline.specs.Words as word
-use Rattle.halide_meaning.specs.declared.environments.Environment.{Environment}
-use Rattle.halide_meaning.specs.Pixel.{Reads, variable, reads_of, at_point}
-use Rattle.reads.specs.Points.{Point, Hold}
-use Rattle.reads.proofs.Seeing.{all_both}
-use Rattle.inlining.specs.Inlining.{inlined}
-use Rattle.inlining.specs.Laws.{seen_variable}
-use Rattle.inlining.specs.Values.{values as valuing, seeing}
+use Rattle.halide_pipeline.specs.declared.environments.Environment.{Environment}
+use Rattle.halide_pipeline.specs.Pixel.{Reads, variable, reads_of, at_point}
+use Rattle.halide_pipeline.specs.Points.{Point, Hold}
+use Rattle.halide_pipeline.proofs.Seeing.{all_both}
+use Rattle.bounds_inlining.specs.Inlining.{inlined}
+use Rattle.bounds_inlining.specs.Laws.{seen_variable}
+use Rattle.bounds_inlining.specs.Values.{values as valuing, seeing}
 use Rattle.loop_ir.specs.declared.expressions.Expr.{fold-roll-Expr}
 use Rattle.loop_ir.specs.declared.expressions.Expr as expressions
 use Rattle.loop_ir.specs.declared.expressions.Expr.TheOpen as layer
@@ -32,10 +32,10 @@ use Rattle.loop_ir.specs.Stores.{Trace}
 use Rattle.loop_ir.proofs.Sound.{sound_store}
 use Rattle.loop_ir.proofs.Traces.{trace_store}
 use Rattle.loop_ir.proofs.Trees.{run_store}
-use Rattle.expression_lowering.specs.declared.calls.Corner.{Corner}
-use Rattle.expression_lowering.specs.declared.lowering.Arguments.{Arguments}
-use Rattle.expression_lowering.specs.Lowering.{environment, placed, place as place_in}
-use Rattle.expression_lowering.proofs.Following.{linear_passes}
+use Rattle.lowering_expressions.specs.declared.calls.Corner.{Corner}
+use Rattle.lowering_expressions.specs.declared.lowering.Arguments.{Arguments}
+use Rattle.lowering_expressions.specs.Lowering.{environment, placed, place as place_in}
+use Rattle.lowering_expressions.proofs.Following.{linear_passes}
 use Rattle.lowering.specs.PurePhases.{StoresPure, HitsPure, IsSoundPure, MissesPure, whole_at}
 use Rattle.lowering.proofs.Lists.{all_pass}
 

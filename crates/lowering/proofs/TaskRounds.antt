@@ -1,24 +1,24 @@
 -- Rounds of vectorized loops may be done at once in each task, if they may be under the loops inside the parallel one.
 use Rattle.std.proofs.Common.{◌≡◌, ℕ, ◌-◌, ◌^◌, ◌<◌, true, List, [], ◌∷◌, ◌++◌, length, take, Option, Some, None, sym, ap, subst, ◌∙◌, arith, append-nil}
-use Rattle.halide_meaning.specs.Pixel.{Reads}
+use Rattle.halide_pipeline.specs.Pixel.{Reads}
 use Rattle.schedule_lines.specs.declared.stages.Loop.{Loop}
 use Rattle.schedule_lines.specs.declared.stages.LoopId.{LoopId}
 use Rattle.schedule_lines.specs.declared.stages.Stage.{Stage}
-use Rattle.stage_loops.specs.declared.extents.Extents.{Extents}
-use Rattle.stage_loops.specs.Counts.{counts}
-use Rattle.stage_loops.specs.Iterations.{parallel, count_of, iteration_count}
-use Rattle.stage_loops.specs.Stages.{KeepsRules}
-use Rattle.stage_loops.proofs.Parallel.{outermost}
+use Rattle.schedule_loops.specs.declared.extents.Extents.{Extents}
+use Rattle.schedule_loops.specs.Counts.{counts}
+use Rattle.schedule_loops.specs.Iterations.{parallel, count_of, iteration_count}
+use Rattle.schedule_loops.specs.Stages.{KeepsRules}
+use Rattle.schedule_loops.proofs.Parallel.{outermost}
 use Rattle.loop_ir.specs.declared.expressions.Counter.{Counter}
 use Rattle.loop_ir.specs.declared.statements.Phase.{Phase}
 use Rattle.loop_ir.specs.Counters.{no_values, with}
 use Rattle.loop_ir.specs.Rounds.{may_be_at_once}
 use Rattle.loop_ir.specs.Running.{task_values}
-use Rattle.nest_lowering.specs.Nests.{loops_of}
-use Rattle.nest_lowering.specs.Rounds.{AllAreSmall, MayBeAtOnce}
-use Rattle.nest_lowering.proofs.Repeating.{loops_with}
-use Rattle.nest_lowering.proofs.Rounds.{small_with, turns_more}
-use Rattle.stage_loops.specs.Reach.{AreTurns}
+use Rattle.lowering_nests.specs.Nests.{loops_of}
+use Rattle.lowering_nests.specs.Rounds.{AllAreSmall, MayBeAtOnce}
+use Rattle.lowering_nests.proofs.Repeating.{loops_with}
+use Rattle.lowering_nests.proofs.Rounds.{small_with, turns_more}
+use Rattle.schedule_loops.specs.Reach.{AreTurns}
 use Rattle.lowering.specs.PurePhases.{inside_of, counter_of}
 use Rattle.lowering.specs.Rounds.{RoundsMayBeAtOnce}
 use Rattle.lowering.proofs.Lists.{before_last}

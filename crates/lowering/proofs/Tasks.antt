@@ -5,24 +5,24 @@ use Rattle.halide_pipeline.specs.declared.definitions.Func.{Func}
 use Rattle.halide_pipeline.specs.Pipelines.{Pipeline}
 use Rattle.halide_pipeline.specs.WellFormed.{IsWellFormed}
 use Rattle.halide_pipeline.specs.Words as word
-use Rattle.halide_meaning.specs.Pixel.{Plane, Planes, reads_of, pixels, variable, at_point, pure_plane}
+use Rattle.halide_pipeline.specs.Pixel.{Plane, Planes, reads_of, pixels, variable, at_point, pure_plane}
 use Rattle.schedule_lines.specs.declared.stages.Loop.{Loop}
 use Rattle.schedule_lines.specs.declared.stages.Stage.{Stage}
 use Rattle.schedule.specs.declared.plans.FuncPlan.{FuncPlan}
 use Rattle.schedule.specs.declared.schedules.Schedule.{Schedule}
 use Rattle.schedule.specs.Accepted.{IsAccepted}
-use Rattle.stage_loops.specs.declared.extents.Extents.{Extents}
-use Rattle.stage_loops.specs.Counts.{AreSplits, counts}
-use Rattle.stage_loops.specs.Counts as loops
-use Rattle.stage_loops.specs.Iterations.{parallel, is_turn, iteration, iteration_count, count_of}
-use Rattle.stage_loops.specs.Reach.{wholes}
-use Rattle.stage_loops.specs.Stages.{IsStageOf, KeepsRules, IsVisitOf, is_slice_of}
-use Rattle.stage_loops.specs.Visits.{Visit, nest, over_loops, zeros, visit_of, visits, slice, is_slice}
-use Rattle.stage_loops.proofs.Covering.{visited}
-use Rattle.stage_loops.proofs.Parallel.{outermost, iteration_turn, all_iterations, slice_owner}
-use Rattle.stage_loops.proofs.Slices.{visits_within}
-use Rattle.stage_loops.proofs.Wholes.{visits_of_wholes}
-use Rattle.ranges.specs.Laws.{AnswerWords}
+use Rattle.schedule_loops.specs.declared.extents.Extents.{Extents}
+use Rattle.schedule_loops.specs.Counts.{AreSplits, counts}
+use Rattle.schedule_loops.specs.Counts as loops
+use Rattle.schedule_loops.specs.Iterations.{parallel, is_turn, iteration, iteration_count, count_of}
+use Rattle.schedule_loops.specs.Reach.{wholes}
+use Rattle.schedule_loops.specs.Stages.{IsStageOf, KeepsRules, IsVisitOf, is_slice_of}
+use Rattle.schedule_loops.specs.Visits.{Visit, nest, over_loops, zeros, visit_of, visits, slice, is_slice}
+use Rattle.schedule_loops.proofs.Covering.{visited}
+use Rattle.schedule_loops.proofs.Parallel.{outermost, iteration_turn, all_iterations, slice_owner}
+use Rattle.schedule_loops.proofs.Slices.{visits_within}
+use Rattle.schedule_loops.proofs.Wholes.{visits_of_wholes}
+use Rattle.bounds_ranges.specs.Laws.{AnswerWords}
 use Rattle.bounds.specs.declared.boxes.SourceBox.{SourceBox}
 use Rattle.bounds.specs.declared.verdict.Boxes.{Boxes}
 use Rattle.bounds.specs.Boxes.{box_in, no_loops, extent}
@@ -32,18 +32,18 @@ use Rattle.loop_ir.specs.declared.expressions.Counter.{Counter}
 use Rattle.loop_ir.specs.declared.statements.Phase.{Phase}
 use Rattle.loop_ir.specs.declared.statements.Stmt.{Stmt}
 use Rattle.loop_ir.specs.Running.{run, task_values, run_task}
-use Rattle.nest_lowering.proofs.Few.{few_turns}
+use Rattle.lowering_nests.proofs.Few.{few_turns}
 use Rattle.lowering.specs.Phases.{Hold, DoesTask, DoesPhase}
 use Rattle.std.proofs.Common.{◌≡◌, ℕ, suc, ◌-◌, ◌<◌, ◌≤◌, Bool, true, false, cond, List, [], ◌∷◌, ◌++◌, length, take, map, Option, Some, None, refl, sym, ap, subst, ◌∙◌, arith, inl, inr, true≢false, append-nil, length-append}
 use Rattle.std.proofs.lemmas.Bool.{and_parts, and_from, lt-ltb, eq-eqb, ne_eqb, eqb-true, cases_eq}
-use Rattle.halide_meaning.specs.Pixel as pixel
+use Rattle.halide_pipeline.specs.Pixel as pixel
 use Rattle.schedule.specs.declared.standings.Place.TheVariants as places
-use Rattle.stage_loops.specs.Reach.{AreTurns}
-use Rattle.stage_loops.proofs.Ids.{with_same}
-use Rattle.stage_loops.proofs.TurnsFound.{of_all}
+use Rattle.schedule_loops.specs.Reach.{AreTurns}
+use Rattle.schedule_loops.proofs.Ids.{with_same}
+use Rattle.schedule_loops.proofs.TurnsFound.{of_all}
 use Rattle.bounds.specs.Boxes.{no_loops}
 use Rattle.loop_ir.specs.Counters.{Values, with}
-use Rattle.nest_lowering.specs.Nests.{AreFew, AreSmall}
+use Rattle.lowering_nests.specs.Nests.{AreFew, AreSmall}
 use Rattle.lowering.specs.Corners.{first_of}
 use Rattle.lowering.specs.Hosting.{hosting, HasOutermost, IsBody}
 use Rattle.lowering.specs.Planes.{word_at, corner_of, held, box_points, with_pure, owns}

@@ -6,7 +6,7 @@ use Rattle.halide_pipeline.specs.declared.definitions.Func.{Func}
 use Rattle.halide_pipeline.specs.declared.definitions.Update.{Update}
 use Rattle.halide_pipeline.specs.Pipelines.{Pipeline}
 use Rattle.halide_pipeline.specs.Words as word
-use Rattle.halide_meaning.specs.Pixel.{Planes, stage, pixels}
+use Rattle.halide_pipeline.specs.Pixel.{Planes, stage, pixels}
 use Rattle.schedule_lines.specs.declared.stages.LoopId.{LoopId}
 use Rattle.schedule.specs.declared.plans.FuncPlan.{FuncPlan}
 use Rattle.schedule.specs.declared.schedules.Schedule.{Schedule}
@@ -16,23 +16,23 @@ use Rattle.schedule.specs.declared.standings.Place.TheVariants as places
 use Rattle.schedule.specs.declared.standings.Standing.{Standing}
 use Rattle.schedule.specs.Accepted.{IsAccepted, IsPlan, IsUpdateStage}
 use Rattle.schedule.proofs.Uses.{IsSome}
-use Rattle.stage_loops.specs.Counts as loops
-use Rattle.stage_loops.proofs.AcceptedStages.{pair_at}
-use Rattle.ranges.specs.Laws.{Below}
+use Rattle.schedule_loops.specs.Counts as loops
+use Rattle.schedule_loops.proofs.AcceptedStages.{pair_at}
+use Rattle.bounds_ranges.specs.Laws.{Below}
 use Rattle.bounds.specs.declared.boxes.HostLoop.{HostLoop}
 use Rattle.bounds.specs.declared.boxes.SourceBox.{SourceBox}
 use Rattle.bounds.specs.declared.verdict.Boxes.{Boxes}
 use Rattle.bounds.specs.Boxes.{IsBox, no_loops, lasts_of, extent}
 use Rattle.bounds.specs.Verdict.{inferred}
-use Rattle.box_laws.specs.HostLaws.{IsFrom}
-use Rattle.box_laws.specs.Laws.{IsComputed, values_for, host_in}
-use Rattle.box_laws.proofs.PutIn.{pair_there}
+use Rattle.bounds_laws.specs.HostLaws.{IsFrom}
+use Rattle.bounds_laws.specs.Laws.{IsComputed, values_for, host_in}
+use Rattle.bounds_laws.proofs.PutIn.{pair_there}
 use Rattle.loop_ir.specs.declared.statements.Stmt.{Stmt}
 use Rattle.loop_ir.specs.Counters.{Values}
 use Rattle.loop_ir.specs.Running.{run}
 use Rattle.loop_ir.specs.Soundness.{is_sound}
-use Rattle.nest_lowering.specs.Nests.{loops_of, put_loops}
-use Rattle.expression_lowering.specs.declared.calls.Corner.{Corner}
+use Rattle.lowering_nests.specs.Nests.{loops_of, put_loops}
+use Rattle.lowering_expressions.specs.declared.calls.Corner.{Corner}
 use Rattle.lowering.specs.Corners.{first_of, turns_for, IsCorner, AreCorners}
 use Rattle.lowering.specs.Hosting.{hosting, Leaves, DoesFirst, DoesNest, DoesNests, IsSoundNest}
 use Rattle.lowering.specs.Planes.{BoxCorner, box_points}

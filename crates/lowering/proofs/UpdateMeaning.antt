@@ -14,10 +14,10 @@ use Rattle.halide_pipeline.specs.Definitions.{dimensions, is_first_in_place, is_
 use Rattle.halide_pipeline.specs.Expressions.{uses}
 use Rattle.halide_pipeline.specs.Pipelines.{Pipeline}
 use Rattle.halide_pipeline.specs.WellFormed.{keeps, keeps_index, is_read, is_func_of, is_update_variable, is_used, is_used_in, IsWellFormed, IsUpdate}
-use Rattle.halide_meaning.specs.declared.environments.Environment.{Environment}
-use Rattle.halide_meaning.specs.Pixel.{Plane, Planes, Reads, value, variable, reads_of, with_plane, index_value, pixels, stage, after, at_reduction}
-use Rattle.reads.specs.Points.{Point, Seen, AgreeAt, Agree}
-use Rattle.reads.proofs.Seeing.{all_parts}
+use Rattle.halide_pipeline.specs.declared.environments.Environment.{Environment}
+use Rattle.halide_pipeline.specs.Pixel.{Plane, Planes, Reads, value, variable, reads_of, with_plane, index_value, pixels, stage, after, at_reduction}
+use Rattle.halide_pipeline.specs.Points.{Point, Seen, AgreeAt, Agree}
+use Rattle.halide_pipeline.proofs.Seeing.{all_parts}
 use Rattle.schedule.specs.declared.schedules.Schedule.{Schedule}
 use Rattle.schedule.specs.declared.standings.Place.{Place}
 use Rattle.schedule.specs.declared.standings.Place.TheVariants as places
@@ -26,17 +26,17 @@ use Rattle.schedule.specs.Accepted.{IsAccepted}
 use Rattle.schedule.specs.Calls.{calls, second_calls, update_calls, updates_call, func_calls, place_calls, place_calls_of}
 use Rattle.schedule.specs.Legal.{is_inlined}
 use Rattle.schedule.specs.Uses.{IsReached}
-use Rattle.inlining.specs.Inlining.{inlined, is_computed}
-use Rattle.inlining.specs.Values.{values as valuing}
-use Rattle.inlining.proofs.Pixels.{inlining_keeps_values, inlining_keeps_updates}
-use Rattle.inlining.proofs.Seeing.{sees_inlined_values, inlined_values_depend_on_reads}
-use Rattle.ranges.specs.Laws.{AnswerWords}
-use Rattle.ranges.proofs.PixelWords.{pixels_are_words, stages_are_words, with_words}
-use Rattle.box_laws.specs.Closure.{is_put_in}
-use Rattle.box_laws.specs.Laws.{IsComputed, update_points, seen_in, second_seen}
+use Rattle.bounds_inlining.specs.Inlining.{inlined, is_computed}
+use Rattle.bounds_inlining.specs.Values.{values as valuing}
+use Rattle.bounds_inlining.proofs.Pixels.{inlining_keeps_values, inlining_keeps_updates}
+use Rattle.bounds_inlining.proofs.Seeing.{sees_inlined_values, inlined_values_depend_on_reads}
+use Rattle.bounds_ranges.specs.Laws.{AnswerWords}
+use Rattle.bounds_ranges.proofs.PixelWords.{pixels_are_words, stages_are_words, with_words}
+use Rattle.bounds_laws.specs.Closure.{is_put_in}
+use Rattle.bounds_laws.specs.Laws.{IsComputed, update_points, seen_in, second_seen}
 use Rattle.bounds.specs.Sources.{same_source}
-use Rattle.box_laws.proofs.Callers.{or_left, or_right, updates_one}
-use Rattle.box_laws.proofs.PutIn.{put, flags, reached, same_seen, put_simple, reaching}
+use Rattle.bounds_laws.proofs.Callers.{or_left, or_right, updates_one}
+use Rattle.bounds_laws.proofs.PutIn.{put, flags, reached, same_seen, put_simple, reaching}
 use Rattle.lowering.specs.Updates.{index_of}
 use Rattle.lowering.proofs.Used.{same_value}
 

@@ -12,32 +12,32 @@ use Rattle.halide_pipeline.specs.Definitions.{is_first_in_place, is_second_in_pl
 use Rattle.halide_pipeline.specs.Pipelines.{Pipeline}
 use Rattle.halide_pipeline.specs.WellFormed.{IsWellFormed}
 use Rattle.halide_pipeline.specs.Words as word
-use Rattle.halide_meaning.specs.Pixel.{Planes, points}
+use Rattle.halide_pipeline.specs.Pixel.{Planes, points}
 use Rattle.schedule_lines.specs.declared.stages.LoopId.TheVariants as ids
 use Rattle.schedule_lines.specs.declared.stages.Stage.{Stage}
 use Rattle.schedule.specs.declared.plans.FuncPlan.{FuncPlan}
 use Rattle.schedule.specs.declared.schedules.Schedule.{Schedule}
 use Rattle.schedule.specs.declared.standings.Standing.{Standing}
 use Rattle.schedule.specs.Accepted.{IsAccepted}
-use Rattle.stage_loops.specs.declared.extents.Extents.{Extents}
-use Rattle.stage_loops.specs.Counts as loops
-use Rattle.stage_loops.specs.Reach.{wholes}
-use Rattle.stage_loops.specs.Stages.{IsStageOf, KeepsRules, IsVisitOf}
-use Rattle.stage_loops.specs.Visits.{Visit, visit_of, slice, rising, zeros}
-use Rattle.stage_loops.proofs.Bounded.{within}
+use Rattle.schedule_loops.specs.declared.extents.Extents.{Extents}
+use Rattle.schedule_loops.specs.Counts as loops
+use Rattle.schedule_loops.specs.Reach.{wholes}
+use Rattle.schedule_loops.specs.Stages.{IsStageOf, KeepsRules, IsVisitOf}
+use Rattle.schedule_loops.specs.Visits.{Visit, visit_of, slice, rising, zeros}
+use Rattle.schedule_loops.proofs.Bounded.{within}
 use Rattle.bounds.specs.declared.boxes.SourceBox.{SourceBox}
 use Rattle.bounds.specs.declared.verdict.Boxes.{Boxes}
 use Rattle.bounds.specs.Verdict.{inferred}
-use Rattle.box_laws.specs.Laws.{IsComputed}
-use Rattle.box_laws.proofs.PutIn.{flags}
-use Rattle.box_laws.proofs.StandingWithin.{one_standing}
+use Rattle.bounds_laws.specs.Laws.{IsComputed}
+use Rattle.bounds_laws.proofs.PutIn.{flags}
+use Rattle.bounds_laws.proofs.StandingWithin.{one_standing}
 use Rattle.loop_ir.specs.declared.statements.Stmt.{Stmt}
 use Rattle.loop_ir.specs.Counters.{Values}
 use Rattle.loop_ir.specs.Running.{run}
 use Rattle.loop_ir.specs.Soundness.{is_sound}
-use Rattle.nest_lowering.specs.Nests.{loops_of, put_loops, all, AreSmall, Repeats}
-use Rattle.expression_lowering.specs.declared.calls.Corner.{Corner}
-use Rattle.expression_lowering.specs.Lowering.{placed, place as place_in}
+use Rattle.lowering_nests.specs.Nests.{loops_of, put_loops, all, AreSmall, Repeats}
+use Rattle.lowering_expressions.specs.declared.calls.Corner.{Corner}
+use Rattle.lowering_expressions.specs.Lowering.{placed, place as place_in}
 use Rattle.lowering.specs.Planes.{BoxCorner, has_point, box_points}
 use Rattle.lowering.specs.Updates.{IsComputedIn, IsUpdateAt, StoresUpdate, IsSoundUpdate, DoesUpdate, AreSoundLoops, update_extents, in_place, is_visited, IsCornerAt, stage_from}
 use Rattle.lowering.proofs.Lists.{all_pass}

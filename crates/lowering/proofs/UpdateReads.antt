@@ -10,8 +10,8 @@ use Rattle.halide_pipeline.specs.declared.expressions.Source.TheVariants as sour
 use Rattle.halide_pipeline.specs.Pipelines.{Pipeline}
 use Rattle.halide_pipeline.specs.WellFormed.{IsWellFormed}
 use Rattle.halide_pipeline.specs.Words as word
-use Rattle.halide_meaning.specs.Pixel.{Planes, Reads, reads_of, with_plane, pixels, points}
-use Rattle.reads.specs.Points.{Point}
+use Rattle.halide_pipeline.specs.Pixel.{Planes, Reads, reads_of, with_plane, pixels, points}
+use Rattle.halide_pipeline.specs.Points.{Point}
 use Rattle.schedule_lines.specs.declared.stages.Stage.{Stage}
 use Rattle.schedule.specs.declared.plans.FuncPlan.{FuncPlan}
 use Rattle.schedule.specs.declared.schedules.Schedule.{Schedule}
@@ -23,28 +23,28 @@ use Rattle.schedule.specs.Accepted.{IsAccepted, IsPlan, IsLegal, IsHosted}
 use Rattle.schedule.specs.Legal.{is_inlined, is_nowhere}
 use Rattle.schedule.specs.Uses.{IsReached}
 use Rattle.schedule.proofs.Uses.{IsSome, some_before, numbered_at}
-use Rattle.stage_loops.specs.Counts as loops
-use Rattle.stage_loops.proofs.AcceptedStages.{pair_at}
-use Rattle.inlining.specs.Inlining.{flagged}
-use Rattle.ranges.specs.Laws.{Below, Lies, AnswerWords}
-use Rattle.weights.specs.Weight.{flags_of}
+use Rattle.schedule_loops.specs.Counts as loops
+use Rattle.schedule_loops.proofs.AcceptedStages.{pair_at}
+use Rattle.bounds_inlining.specs.Inlining.{flagged}
+use Rattle.bounds_ranges.specs.Laws.{Below, Lies, AnswerWords}
+use Rattle.bounds_weights.specs.Weight.{flags_of}
 use Rattle.bounds.specs.declared.boxes.SourceBox.{SourceBox}
 use Rattle.bounds.specs.declared.verdict.Boxes.{Boxes}
 use Rattle.bounds.specs.Boxes.{no_loops, lasts_of, extent}
 use Rattle.bounds.specs.Sources.{same_source}
 use Rattle.bounds.specs.Verdict.{inferred}
-use Rattle.box_laws.specs.Callers.{IsReadThrough, AreReadThrough, IsReadWithin, StandsAt, HasLoop, IsWithin}
-use Rattle.box_laws.specs.Laws.{LiesIn, IsBoxed, AreBoxed, IsComputed, host_in, update_points}
-use Rattle.box_laws.proofs.BoxesHosted.{boxes_are_hosted, points_are_near}
-use Rattle.box_laws.proofs.Callers.{update_points_are_read_through}
-use Rattle.box_laws.proofs.Found.{no_below}
-use Rattle.box_laws.proofs.PutIn.{pair_there}
-use Rattle.box_laws.proofs.StandingWithin.{flag_is, one_standing, readers_stand_within}
-use Rattle.box_laws.proofs.Updates.{update_reads_of_funcs_lie}
+use Rattle.bounds_laws.specs.Callers.{IsReadThrough, AreReadThrough, IsReadWithin, StandsAt, HasLoop, IsWithin}
+use Rattle.bounds_laws.specs.Laws.{LiesIn, IsBoxed, AreBoxed, IsComputed, host_in, update_points}
+use Rattle.bounds_laws.proofs.BoxesHosted.{boxes_are_hosted, points_are_near}
+use Rattle.bounds_laws.proofs.Callers.{update_points_are_read_through}
+use Rattle.bounds_laws.proofs.Found.{no_below}
+use Rattle.bounds_laws.proofs.PutIn.{pair_there}
+use Rattle.bounds_laws.proofs.StandingWithin.{flag_is, one_standing, readers_stand_within}
+use Rattle.bounds_laws.proofs.Updates.{update_reads_of_funcs_lie}
 use Rattle.loop_ir.specs.Counters.{Values}
-use Rattle.nest_lowering.specs.Nests.{put_loops}
-use Rattle.expression_lowering.specs.declared.calls.Corner.{Corner}
-use Rattle.expression_lowering.specs.Lowering.{placed}
+use Rattle.lowering_nests.specs.Nests.{put_loops}
+use Rattle.lowering_expressions.specs.declared.calls.Corner.{Corner}
+use Rattle.lowering_expressions.specs.Lowering.{placed}
 use Rattle.lowering.specs.Planes.{word_at, held, box_points}
 use Rattle.lowering.specs.Corners.{AreCorners}
 use Rattle.lowering.specs.PurePhases.{IsAtRoot, RootsAreShared}

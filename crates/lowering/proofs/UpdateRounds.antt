@@ -13,29 +13,29 @@ use Rattle.halide_pipeline.specs.Definitions.{is_first_in_place, is_second_in_pl
 use Rattle.halide_pipeline.specs.Pipelines.{Pipeline}
 use Rattle.halide_pipeline.specs.WellFormed.{IsWellFormed}
 use Rattle.halide_pipeline.specs.Words as word
-use Rattle.halide_meaning.specs.declared.environments.Environment.{Environment}
-use Rattle.halide_meaning.specs.Pixel.{Reads, variable, at_reduction}
-use Rattle.reads.specs.Points.{Point, Hold}
-use Rattle.reads.proofs.Seeing.{all_parts}
+use Rattle.halide_pipeline.specs.declared.environments.Environment.{Environment}
+use Rattle.halide_pipeline.specs.Pixel.{Reads, variable, at_reduction}
+use Rattle.halide_pipeline.specs.Points.{Point, Hold}
+use Rattle.halide_pipeline.proofs.Seeing.{all_parts}
 use Rattle.schedule.specs.declared.schedules.Schedule.{Schedule}
-use Rattle.inlining.specs.Inlining.{inlined}
-use Rattle.inlining.specs.Laws.{seen_variable}
-use Rattle.inlining.specs.Values.{values as valuing, seeing}
-use Rattle.inlining.proofs.Seeing.{sees_inlined_values}
+use Rattle.bounds_inlining.specs.Inlining.{inlined}
+use Rattle.bounds_inlining.specs.Laws.{seen_variable}
+use Rattle.bounds_inlining.specs.Values.{values as valuing, seeing}
+use Rattle.bounds_inlining.proofs.Seeing.{sees_inlined_values}
 use Rattle.bounds.specs.Sources.{same_source}
-use Rattle.box_laws.specs.HostLaws.{IsInPlace}
-use Rattle.box_laws.specs.Laws.{update_points, seen_in, second_seen}
-use Rattle.box_laws.proofs.PutIn.{flags}
-use Rattle.box_laws.proofs.StayingReads.{own_reads_stay}
+use Rattle.bounds_laws.specs.HostLaws.{IsInPlace}
+use Rattle.bounds_laws.specs.Laws.{update_points, seen_in, second_seen}
+use Rattle.bounds_laws.proofs.PutIn.{flags}
+use Rattle.bounds_laws.proofs.StayingReads.{own_reads_stay}
 use Rattle.loop_ir.specs.declared.statements.Stmt.{Stmt}
 use Rattle.loop_ir.specs.Counters.{Values}
 use Rattle.loop_ir.specs.Expressions.{linear_value}
 use Rattle.loop_ir.specs.Rounds.{everywhere, all_points, all_but, is_source_of}
 use Rattle.loop_ir.specs.Soundness.{is_sound}
-use Rattle.nest_lowering.specs.Rounds.{LoadsNoneOf}
-use Rattle.expression_lowering.specs.declared.calls.Corner.{Corner}
-use Rattle.expression_lowering.specs.Lowering as places
-use Rattle.expression_lowering.specs.Lowering.{placed, place as place_in}
+use Rattle.lowering_nests.specs.Rounds.{LoadsNoneOf}
+use Rattle.lowering_expressions.specs.declared.calls.Corner.{Corner}
+use Rattle.lowering_expressions.specs.Lowering as places
+use Rattle.lowering_expressions.specs.Lowering.{placed, place as place_in}
 use Rattle.lowering.specs.PurePhases.{whole_at}
 use Rattle.lowering.specs.Updates.{IsSoundUpdate, index_of, points_of_index, visited_point}
 use Rattle.lowering.proofs.Begins.{on_back}

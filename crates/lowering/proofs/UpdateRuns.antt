@@ -8,29 +8,29 @@ use Rattle.halide_pipeline.specs.declared.expressions.Variable.TheVariants as va
 use Rattle.halide_pipeline.specs.Pipelines.{Pipeline}
 use Rattle.halide_pipeline.specs.WellFormed.{IsWellFormed}
 use Rattle.halide_pipeline.specs.Words as word
-use Rattle.halide_meaning.specs.Pixel.{Plane, Planes, reads_of, pixels, stage, points, after, after_all}
+use Rattle.halide_pipeline.specs.Pixel.{Plane, Planes, reads_of, pixels, stage, points, after, after_all}
 use Rattle.schedule_lines.specs.declared.stages.LoopId.TheVariants as ids
 use Rattle.schedule.specs.declared.schedules.Schedule.{Schedule}
 use Rattle.schedule.specs.declared.standings.Standing.{Standing}
 use Rattle.schedule.specs.Accepted.{IsAccepted}
 use Rattle.schedule.specs.Uses.{IsReached}
-use Rattle.stage_loops.specs.declared.extents.Extents.{Extents}
-use Rattle.stage_loops.specs.Counts as loops
-use Rattle.stage_loops.specs.Stages.{IsVisitOf}
-use Rattle.stage_loops.specs.Visits.{Visit, visit_of, slice, rising}
-use Rattle.ranges.specs.Laws.{Below, AnswerWords}
+use Rattle.schedule_loops.specs.declared.extents.Extents.{Extents}
+use Rattle.schedule_loops.specs.Counts as loops
+use Rattle.schedule_loops.specs.Stages.{IsVisitOf}
+use Rattle.schedule_loops.specs.Visits.{Visit, visit_of, slice, rising}
+use Rattle.bounds_ranges.specs.Laws.{Below, AnswerWords}
 use Rattle.bounds.specs.declared.boxes.SourceBox.{SourceBox}
 use Rattle.bounds.specs.declared.verdict.Boxes.{Boxes}
 use Rattle.bounds.specs.Boxes.{lasts_of}
 use Rattle.bounds.specs.Verdict.{inferred}
-use Rattle.box_laws.specs.Laws.{IsComputed}
-use Rattle.box_laws.proofs.Callers.{or_right}
-use Rattle.box_laws.proofs.PutIn.{flags}
+use Rattle.bounds_laws.specs.Laws.{IsComputed}
+use Rattle.bounds_laws.proofs.Callers.{or_right}
+use Rattle.bounds_laws.proofs.PutIn.{flags}
 use Rattle.loop_ir.specs.declared.statements.Stmt.{Stmt}
 use Rattle.loop_ir.specs.Counters.{Values}
 use Rattle.loop_ir.specs.Stores.{Trace, trace}
-use Rattle.nest_lowering.specs.Nests.{put_loops, all}
-use Rattle.expression_lowering.specs.declared.calls.Corner.{Corner}
+use Rattle.lowering_nests.specs.Nests.{put_loops, all}
+use Rattle.lowering_expressions.specs.declared.calls.Corner.{Corner}
 use Rattle.lowering.specs.Planes.{BoxCorner, has_point, box_points}
 use Rattle.lowering.specs.Stored.{named_point, is_point}
 use Rattle.lowering.specs.Updates.{StoresUpdate, HitsUpdate, update_extents, is_visited, IsCornerAt, IsBegin, ReadsPixels, host_at, hosted_turns, stage_from}

@@ -8,7 +8,7 @@ use Rattle.halide_pipeline.specs.declared.definitions.Update.{Update}
 use Rattle.halide_pipeline.specs.declared.expressions.Variable.TheVariants as variables
 use Rattle.halide_pipeline.specs.Definitions.{dimensions, is_first_in_place, is_second_in_place}
 use Rattle.halide_pipeline.specs.WellFormed.{IsUpdate}
-use Rattle.stage_loops.specs.Stages.{first_loops, is_slice_of, extent_in, has_variable}
+use Rattle.schedule_loops.specs.Stages.{first_loops, is_slice_of, extent_in, has_variable}
 use Rattle.bounds.specs.declared.boxes.SourceBox.{SourceBox}
 use Rattle.bounds.specs.Boxes.{extent}
 use Rattle.lowering.specs.Planes.{has_point}

@@ -14,19 +14,19 @@ use Rattle.schedule.specs.declared.schedules.Schedule.{Schedule}
 use Rattle.schedule.specs.declared.standings.Standing.{Standing}
 use Rattle.schedule.specs.Accepted.{IsAccepted, IsPlan, IsLegal}
 use Rattle.schedule.specs.Uses.{IsReached}
-use Rattle.stage_loops.specs.Counts.{AreSplits}
-use Rattle.stage_loops.specs.Stages.{IsStageOf, KeepsRules}
-use Rattle.stage_loops.proofs.AcceptedStages.{accepted as accepted_stages, pair_at}
-use Rattle.stage_loops.proofs.Few.{few_splits}
+use Rattle.schedule_loops.specs.Counts.{AreSplits}
+use Rattle.schedule_loops.specs.Stages.{IsStageOf, KeepsRules}
+use Rattle.schedule_loops.proofs.AcceptedStages.{accepted as accepted_stages, pair_at}
+use Rattle.schedule_loops.proofs.Few.{few_splits}
 use Rattle.bounds.specs.declared.boxes.SourceBox.{SourceBox}
 use Rattle.bounds.specs.declared.verdict.Boxes.{Boxes}
 use Rattle.bounds.specs.Boxes.{IsBox, extent, points}
 use Rattle.bounds.specs.Judging.{have_few_points}
 use Rattle.bounds.specs.Verdict.{inferred}
-use Rattle.box_laws.specs.Laws.{IsComputed}
-use Rattle.box_laws.proofs.BoxesHosted.{boxes_are_hosted}
-use Rattle.box_laws.proofs.BoxFacts.{is_judged}
-use Rattle.nest_lowering.specs.Nests.{AreFew}
+use Rattle.bounds_laws.specs.Laws.{IsComputed}
+use Rattle.bounds_laws.proofs.BoxesHosted.{boxes_are_hosted}
+use Rattle.bounds_laws.proofs.BoxFacts.{is_judged}
+use Rattle.lowering_nests.specs.Nests.{AreFew}
 use Rattle.lowering.specs.Updates.{IsUpdateAt, update_extents}
 use Rattle.lowering.proofs.Facts.{few_at, first_few, second_few}
 use Rattle.lowering.proofs.UpdateFacts as facts

@@ -12,31 +12,31 @@ use Rattle.halide_pipeline.specs.Definitions.{is_first_in_place, is_second_in_pl
 use Rattle.halide_pipeline.specs.Pipelines.{Pipeline}
 use Rattle.halide_pipeline.specs.WellFormed.{IsWellFormed}
 use Rattle.halide_pipeline.specs.Words as word
-use Rattle.halide_meaning.specs.declared.environments.Environment.{Environment}
-use Rattle.halide_meaning.specs.Pixel.{Plane, Planes, Reads, variable, reads_of, pixels, points, at_reduction}
-use Rattle.reads.specs.Points.{Point, Agree}
+use Rattle.halide_pipeline.specs.declared.environments.Environment.{Environment}
+use Rattle.halide_pipeline.specs.Pixel.{Plane, Planes, Reads, variable, reads_of, pixels, points, at_reduction}
+use Rattle.halide_pipeline.specs.Points.{Point, Agree}
 use Rattle.schedule_lines.specs.declared.stages.LoopId.TheVariants as ids
 use Rattle.schedule.specs.declared.schedules.Schedule.{Schedule}
 use Rattle.schedule.specs.declared.standings.Standing.{Standing}
 use Rattle.schedule.specs.Accepted.{IsAccepted}
 use Rattle.schedule.specs.Uses.{IsReached}
-use Rattle.stage_loops.specs.declared.extents.Extents.{Extents}
-use Rattle.stage_loops.specs.Counts as loops
-use Rattle.stage_loops.specs.Stages.{IsVisitOf}
-use Rattle.stage_loops.specs.Visits.{Visit, visit_of}
-use Rattle.inlining.specs.Inlining.{inlined}
-use Rattle.inlining.specs.Values.{values as valuing}
-use Rattle.ranges.specs.Laws.{Below, AnswerWords}
+use Rattle.schedule_loops.specs.declared.extents.Extents.{Extents}
+use Rattle.schedule_loops.specs.Counts as loops
+use Rattle.schedule_loops.specs.Stages.{IsVisitOf}
+use Rattle.schedule_loops.specs.Visits.{Visit, visit_of}
+use Rattle.bounds_inlining.specs.Inlining.{inlined}
+use Rattle.bounds_inlining.specs.Values.{values as valuing}
+use Rattle.bounds_ranges.specs.Laws.{Below, AnswerWords}
 use Rattle.bounds.specs.declared.boxes.SourceBox.{SourceBox}
 use Rattle.bounds.specs.declared.verdict.Boxes.{Boxes}
 use Rattle.bounds.specs.Boxes.{box_in, extent, lasts_of}
 use Rattle.bounds.specs.Sources.{same_source}
 use Rattle.bounds.specs.Verdict.{inferred}
-use Rattle.box_laws.specs.HostLaws.{IsHosted, IsInPlace}
-use Rattle.box_laws.specs.Laws.{LiesIn, AreBoxed, IsNear, IsComputed, update_points}
-use Rattle.box_laws.proofs.OwnPoints.{own_points_lie}
-use Rattle.box_laws.proofs.PutIn.{flags}
-use Rattle.box_laws.proofs.StayingReads.{own_reads_stay}
+use Rattle.bounds_laws.specs.HostLaws.{IsHosted, IsInPlace}
+use Rattle.bounds_laws.specs.Laws.{LiesIn, AreBoxed, IsNear, IsComputed, update_points}
+use Rattle.bounds_laws.proofs.OwnPoints.{own_points_lie}
+use Rattle.bounds_laws.proofs.PutIn.{flags}
+use Rattle.bounds_laws.proofs.StayingReads.{own_reads_stay}
 use Rattle.loop_ir.specs.declared.statements.Stmt.{Stmt}
 use Rattle.loop_ir.specs.Buffers.{Points, put}
 use Rattle.loop_ir.specs.Counters.{Values}
@@ -44,9 +44,9 @@ use Rattle.loop_ir.specs.Expressions.{linear_value}
 use Rattle.loop_ir.specs.Running.{run}
 use Rattle.loop_ir.specs.Stores.{Trace, trace}
 use Rattle.loop_ir.proofs.Stored.{traces_follow_runs}
-use Rattle.nest_lowering.specs.Nests.{put_loops}
-use Rattle.expression_lowering.specs.declared.calls.Corner.{Corner}
-use Rattle.expression_lowering.specs.Lowering.{placed}
+use Rattle.lowering_nests.specs.Nests.{put_loops}
+use Rattle.lowering_expressions.specs.declared.calls.Corner.{Corner}
+use Rattle.lowering_expressions.specs.Lowering.{placed}
 use Rattle.lowering.specs.Planes.{BoxCorner, has_point, box_points}
 use Rattle.lowering.specs.Stored.{named_point, is_point}
 use Rattle.lowering.specs.Updates.{StoresUpdate, HitsUpdate, index_of, visited_point, update_extents, in_place, is_visited, IsCornerAt, IsBegin, ReadsPixels, host_at, hosted_turns}

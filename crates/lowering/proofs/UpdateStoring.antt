@@ -5,12 +5,12 @@ use Rattle.halide_pipeline.specs.declared.definitions.Func.{Func}
 use Rattle.halide_pipeline.specs.declared.definitions.Update.{Update}
 use Rattle.halide_pipeline.specs.Words as word
 use Rattle.halide_pipeline.specs.declared.expressions.Expr.{Expr}
-use Rattle.halide_meaning.specs.declared.environments.Environment.{Environment}
-use Rattle.halide_meaning.specs.Pixel.{Planes, Reads, variable, reads_of}
-use Rattle.reads.specs.Points.{Point, Hold}
-use Rattle.inlining.specs.Inlining.{inlined}
-use Rattle.inlining.specs.Laws.{seen_variable}
-use Rattle.inlining.specs.Values.{values as valuing, seeing}
+use Rattle.halide_pipeline.specs.declared.environments.Environment.{Environment}
+use Rattle.halide_pipeline.specs.Pixel.{Planes, Reads, variable, reads_of}
+use Rattle.halide_pipeline.specs.Points.{Point, Hold}
+use Rattle.bounds_inlining.specs.Inlining.{inlined}
+use Rattle.bounds_inlining.specs.Laws.{seen_variable}
+use Rattle.bounds_inlining.specs.Values.{values as valuing, seeing}
 use Rattle.loop_ir.specs.declared.expressions.Expr as expressions
 use Rattle.loop_ir.specs.declared.statements.Stmt.TheVariants as s
 use Rattle.loop_ir.specs.Buffers.{Points, put}
@@ -20,9 +20,9 @@ use Rattle.loop_ir.specs.declared.expressions.Linear.{Linear}
 use Rattle.loop_ir.specs.Stores.{Trace}
 use Rattle.loop_ir.proofs.Traces.{trace_store}
 use Rattle.loop_ir.proofs.Trees.{run_store}
-use Rattle.expression_lowering.specs.declared.calls.Corner.{Corner}
-use Rattle.expression_lowering.specs.declared.lowering.Arguments.{Arguments}
-use Rattle.expression_lowering.specs.Lowering.{environment, placed, place as place_in}
+use Rattle.lowering_expressions.specs.declared.calls.Corner.{Corner}
+use Rattle.lowering_expressions.specs.declared.lowering.Arguments.{Arguments}
+use Rattle.lowering_expressions.specs.Lowering.{environment, placed, place as place_in}
 use Rattle.lowering.specs.Updates.{StoresUpdate, HitsUpdate, IsSoundUpdate, visited_point, index_of, points_of_index}
 use Rattle.lowering.proofs.Storing.{store_sound}
 

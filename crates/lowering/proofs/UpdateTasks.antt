@@ -11,9 +11,9 @@ use Rattle.halide_pipeline.specs.Definitions.{is_first_in_place, is_second_in_pl
 use Rattle.halide_pipeline.specs.Pipelines.{Pipeline}
 use Rattle.halide_pipeline.specs.WellFormed.{IsWellFormed}
 use Rattle.halide_pipeline.specs.Words as word
-use Rattle.halide_meaning.specs.Pixel.{Plane, Planes, Reads, reads_of, with_plane, pixels, points, second_extent}
-use Rattle.reads.specs.Points.{Point}
-use Rattle.halide_meaning.specs.Pixel as meaning
+use Rattle.halide_pipeline.specs.Pixel.{Plane, Planes, Reads, reads_of, with_plane, pixels, points, second_extent}
+use Rattle.halide_pipeline.specs.Points.{Point}
+use Rattle.halide_pipeline.specs.Pixel as meaning
 use Rattle.schedule_lines.specs.declared.stages.Loop.{Loop}
 use Rattle.schedule_lines.specs.declared.stages.LoopId.TheVariants as ids
 use Rattle.schedule_lines.specs.declared.stages.Stage.{Stage}
@@ -23,28 +23,28 @@ use Rattle.schedule.specs.declared.standings.LoopPlace.{LoopPlace}
 use Rattle.schedule.specs.declared.standings.Place.{Place}
 use Rattle.schedule.specs.declared.standings.Place.TheVariants as places
 use Rattle.schedule.specs.Accepted.{IsAccepted}
-use Rattle.stage_loops.specs.declared.extents.Extents.{Extents}
-use Rattle.stage_loops.specs.Counts.{counts}
-use Rattle.stage_loops.specs.Counts as loops
-use Rattle.stage_loops.specs.Iterations.{parallel, iteration, iteration_count, count_of}
-use Rattle.stage_loops.specs.Reach.{wholes}
-use Rattle.stage_loops.specs.Stages.{IsStageOf, KeepsRules, IsVisitOf, points_of}
-use Rattle.stage_loops.specs.Visits.{Visit, visit_of, slice, rising}
+use Rattle.schedule_loops.specs.declared.extents.Extents.{Extents}
+use Rattle.schedule_loops.specs.Counts.{counts}
+use Rattle.schedule_loops.specs.Counts as loops
+use Rattle.schedule_loops.specs.Iterations.{parallel, iteration, iteration_count, count_of}
+use Rattle.schedule_loops.specs.Reach.{wholes}
+use Rattle.schedule_loops.specs.Stages.{IsStageOf, KeepsRules, IsVisitOf, points_of}
+use Rattle.schedule_loops.specs.Visits.{Visit, visit_of, slice, rising}
 use Rattle.std.proofs.Math.Nat.{mul-le-mul}
 use Rattle.std.proofs.lemmas.List.{append-nil}
-use Rattle.stage_loops.proofs.Bounded.{within}
-use Rattle.stage_loops.proofs.Ids.{same_id-self}
-use Rattle.stage_loops.proofs.Parallel.{outermost}
-use Rattle.ranges.specs.Laws.{Below, AnswerWords}
-use Rattle.ranges.specs.Ranges.{IsFit}
+use Rattle.schedule_loops.proofs.Bounded.{within}
+use Rattle.schedule_loops.proofs.Ids.{same_id-self}
+use Rattle.schedule_loops.proofs.Parallel.{outermost}
+use Rattle.bounds_ranges.specs.Laws.{Below, AnswerWords}
+use Rattle.bounds_ranges.specs.Ranges.{IsFit}
 use Rattle.bounds.specs.declared.boxes.SourceBox.{SourceBox}
 use Rattle.bounds.specs.declared.verdict.Boxes.{Boxes}
 use Rattle.bounds.specs.Boxes.{IsBox, box_in, no_loops, lasts_of}
 use Rattle.bounds.specs.Verdict.{inferred}
-use Rattle.box_laws.specs.Callers.{IsReadWithin}
-use Rattle.box_laws.specs.HostLaws.{IsFrom}
-use Rattle.box_laws.specs.Laws.{IsComputed, host_in, values_for}
-use Rattle.box_laws.proofs.Found.{no_below}
+use Rattle.bounds_laws.specs.Callers.{IsReadWithin}
+use Rattle.bounds_laws.specs.HostLaws.{IsFrom}
+use Rattle.bounds_laws.specs.Laws.{IsComputed, host_in, values_for}
+use Rattle.bounds_laws.proofs.Found.{no_below}
 use Rattle.loop_ir.specs.declared.expressions.Counter.{Counter}
 use Rattle.loop_ir.specs.declared.statements.Phase.{Phase}
 use Rattle.loop_ir.specs.declared.statements.Stmt.{Stmt}
@@ -53,10 +53,10 @@ use Rattle.loop_ir.specs.Counters.{Values}
 use Rattle.loop_ir.specs.Running.{run, task_values, run_task}
 use Rattle.loop_ir.specs.Soundness.{is_sound}
 use Rattle.loop_ir.specs.Stores.{Trace, is_stored_by, is_stored_by_task}
-use Rattle.nest_lowering.specs.Nests.{loops_of, put_loops, all, AreSmall, Repeats}
-use Rattle.nest_lowering.proofs.Few.{few_turns}
+use Rattle.lowering_nests.specs.Nests.{loops_of, put_loops, all, AreSmall, Repeats}
+use Rattle.lowering_nests.proofs.Few.{few_turns}
 use Rattle.schedule_lines.specs.Loops.{same_id}
-use Rattle.expression_lowering.specs.Lowering.{placed, place as place_in}
+use Rattle.lowering_expressions.specs.Lowering.{placed, place as place_in}
 use Rattle.lowering.specs.Phases.{Hold, DoesTask, DoesPhase}
 use Rattle.lowering.specs.Planes.{BoxCorner, word_at, corner_of, held, has_point, box_points}
 use Rattle.lowering.specs.PurePhases.{IsAtRoot, inside_of, counter_of}

@@ -12,41 +12,41 @@ use Rattle.halide_pipeline.specs.declared.expressions.Variable.TheVariants as va
 use Rattle.halide_pipeline.specs.Pipelines.{Pipeline}
 use Rattle.halide_pipeline.specs.WellFormed.{IsWellFormed}
 use Rattle.halide_pipeline.specs.Words as word
-use Rattle.halide_meaning.specs.declared.environments.Environment.{Environment}
-use Rattle.halide_meaning.specs.Pixel.{Reads, points, variable, at_reduction}
-use Rattle.reads.specs.Points.{Point, Hold}
-use Rattle.reads.proofs.Seeing.{all_parts}
+use Rattle.halide_pipeline.specs.declared.environments.Environment.{Environment}
+use Rattle.halide_pipeline.specs.Pixel.{Reads, points, variable, at_reduction}
+use Rattle.halide_pipeline.specs.Points.{Point, Hold}
+use Rattle.halide_pipeline.proofs.Seeing.{all_parts}
 use Rattle.schedule_lines.specs.declared.stages.LoopId.TheVariants as ids
 use Rattle.schedule.specs.declared.schedules.Schedule.{Schedule}
 use Rattle.schedule.specs.declared.standings.Standing.{Standing}
 use Rattle.schedule.specs.Uses.{IsReached}
-use Rattle.stage_loops.specs.declared.extents.Extents.{Extents}
-use Rattle.stage_loops.specs.Counts as loops
-use Rattle.stage_loops.specs.Stages.{IsVisitOf}
-use Rattle.stage_loops.specs.Visits.{Visit, visit_of}
-use Rattle.inlining.specs.Inlining.{inlined}
-use Rattle.inlining.specs.Laws.{seen_variable}
-use Rattle.inlining.specs.Values.{values as valuing, seeing}
-use Rattle.inlining.proofs.Seeing.{sees_inlined_values}
-use Rattle.ranges.specs.Laws.{Below, AnswerWords}
+use Rattle.schedule_loops.specs.declared.extents.Extents.{Extents}
+use Rattle.schedule_loops.specs.Counts as loops
+use Rattle.schedule_loops.specs.Stages.{IsVisitOf}
+use Rattle.schedule_loops.specs.Visits.{Visit, visit_of}
+use Rattle.bounds_inlining.specs.Inlining.{inlined}
+use Rattle.bounds_inlining.specs.Laws.{seen_variable}
+use Rattle.bounds_inlining.specs.Values.{values as valuing, seeing}
+use Rattle.bounds_inlining.proofs.Seeing.{sees_inlined_values}
+use Rattle.bounds_ranges.specs.Laws.{Below, AnswerWords}
 use Rattle.bounds.specs.declared.boxes.SourceBox.{SourceBox}
 use Rattle.bounds.specs.declared.verdict.Boxes.{Boxes}
 use Rattle.bounds.specs.Boxes.{lasts_of}
 use Rattle.bounds.specs.Sources.{same_source}
 use Rattle.bounds.specs.Verdict.{inferred}
-use Rattle.box_laws.specs.HostLaws.{IsInPlace}
-use Rattle.box_laws.specs.Laws.{LiesIn, AreBoxed, IsNear, IsComputed, update_points, seen_in, second_seen}
-use Rattle.box_laws.proofs.OwnPoints.{own_points_lie}
-use Rattle.box_laws.proofs.PutIn.{flags}
-use Rattle.box_laws.proofs.StayingReads.{own_reads_stay}
+use Rattle.bounds_laws.specs.HostLaws.{IsInPlace}
+use Rattle.bounds_laws.specs.Laws.{LiesIn, AreBoxed, IsNear, IsComputed, update_points, seen_in, second_seen}
+use Rattle.bounds_laws.proofs.OwnPoints.{own_points_lie}
+use Rattle.bounds_laws.proofs.PutIn.{flags}
+use Rattle.bounds_laws.proofs.StayingReads.{own_reads_stay}
 use Rattle.loop_ir.specs.declared.statements.Stmt.{Stmt}
 use Rattle.loop_ir.specs.Buffers.{Points}
 use Rattle.loop_ir.specs.Counters.{Values}
 use Rattle.loop_ir.specs.Expressions.{linear_value}
 use Rattle.loop_ir.specs.Soundness.{is_sound}
-use Rattle.nest_lowering.specs.Nests.{put_loops}
-use Rattle.expression_lowering.specs.declared.calls.Corner.{Corner}
-use Rattle.expression_lowering.specs.Lowering.{placed, place as place_in}
+use Rattle.lowering_nests.specs.Nests.{put_loops}
+use Rattle.lowering_expressions.specs.declared.calls.Corner.{Corner}
+use Rattle.lowering_expressions.specs.Lowering.{placed, place as place_in}
 use Rattle.lowering.specs.Planes.{BoxCorner, has_point}
 use Rattle.lowering.specs.Updates.{IsSoundUpdate, LoadsOthers, index_of, points_of_index, visited_point, update_extents, is_visited, IsCornerAt, IsBegin, host_at, hosted_turns}
 use Rattle.lowering.proofs.AtVisit as visiting

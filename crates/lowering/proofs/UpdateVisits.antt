@@ -7,22 +7,22 @@ use Rattle.halide_pipeline.specs.declared.definitions.Func.{Func}
 use Rattle.halide_pipeline.specs.declared.definitions.Update.{Update}
 use Rattle.schedule_lines.specs.declared.stages.Loop.{Loop}
 use Rattle.schedule_lines.specs.declared.stages.Stage.{Stage}
-use Rattle.stage_loops.specs.declared.extents.Extents.{Extents}
-use Rattle.stage_loops.specs.Counts.{counts}
-use Rattle.stage_loops.specs.Counts as loops
-use Rattle.stage_loops.specs.Iterations.{parallel, is_turn, iteration, iteration_count, count_of}
-use Rattle.stage_loops.specs.Reach.{wholes}
-use Rattle.stage_loops.specs.Stages.{IsStageOf, KeepsRules, IsVisitOf, is_slice_of, points_of}
-use Rattle.stage_loops.specs.Visits.{Visit, nest, over_loops, zeros, visit_of, visits, slice, is_slice, rising}
-use Rattle.stage_loops.proofs.Parallel.{outermost, iteration_turn, all_iterations, slice_owner}
-use Rattle.stage_loops.proofs.Rising.{slice_is}
-use Rattle.stage_loops.proofs.Slices.{visits_within}
-use Rattle.stage_loops.proofs.Turns.{upto_one, filter-upto}
-use Rattle.stage_loops.proofs.Wholes.{visits_of_wholes}
+use Rattle.schedule_loops.specs.declared.extents.Extents.{Extents}
+use Rattle.schedule_loops.specs.Counts.{counts}
+use Rattle.schedule_loops.specs.Counts as loops
+use Rattle.schedule_loops.specs.Iterations.{parallel, is_turn, iteration, iteration_count, count_of}
+use Rattle.schedule_loops.specs.Reach.{wholes}
+use Rattle.schedule_loops.specs.Stages.{IsStageOf, KeepsRules, IsVisitOf, is_slice_of, points_of}
+use Rattle.schedule_loops.specs.Visits.{Visit, nest, over_loops, zeros, visit_of, visits, slice, is_slice, rising}
+use Rattle.schedule_loops.proofs.Parallel.{outermost, iteration_turn, all_iterations, slice_owner}
+use Rattle.schedule_loops.proofs.Rising.{slice_is}
+use Rattle.schedule_loops.proofs.Slices.{visits_within}
+use Rattle.schedule_loops.proofs.Turns.{upto_one, filter-upto}
+use Rattle.schedule_loops.proofs.Wholes.{visits_of_wholes}
 use Rattle.loop_ir.specs.Counters.{no_values}
 use Rattle.loop_ir.specs.Running.{task_values}
-use Rattle.nest_lowering.specs.Nests.{loops_of}
-use Rattle.nest_lowering.proofs.Repeating.{loops_with}
+use Rattle.lowering_nests.specs.Nests.{loops_of}
+use Rattle.lowering_nests.proofs.Repeating.{loops_with}
 use Rattle.lowering.specs.PurePhases.{inside_of, counter_of}
 use Rattle.lowering.proofs.Lists.{any_gives, none_kept, all_upto, before_last}
 

@@ -7,10 +7,10 @@ use Rattle.halide_pipeline.specs.declared.expressions.Expr.TheOpen as layer
 use Rattle.halide_pipeline.specs.declared.expressions.Variable.{Variable}
 use Rattle.halide_pipeline.specs.Expressions.{uses, uses_at}
 use Rattle.halide_pipeline.specs.Words as word
-use Rattle.halide_meaning.specs.declared.environments.Environment.{Environment}
-use Rattle.halide_meaning.specs.Pixel.{Reads, value, value_at, variable}
-use Rattle.stage_loops.proofs.Ids.{same_variable-self}
-use Rattle.box_laws.proofs.Callers.{or_left, or_right}
+use Rattle.halide_pipeline.specs.declared.environments.Environment.{Environment}
+use Rattle.halide_pipeline.specs.Pixel.{Reads, value, value_at, variable}
+use Rattle.schedule_loops.proofs.Ids.{same_variable-self}
+use Rattle.bounds_laws.proofs.Callers.{or_left, or_right}
 
 module _ (reads : Reads) (one other : Environment) where
   abbrev Used : Expr → Type 0

@@ -11,9 +11,9 @@ use Rattle.halide_pipeline.specs.Definitions.{dimensions}
 use Rattle.halide_pipeline.specs.Pipelines.{Pipeline}
 use Rattle.halide_pipeline.specs.WellFormed.{is_argument, IsWellFormed}
 use Rattle.halide_pipeline.specs.Words as word
-use Rattle.halide_meaning.specs.Pixel.{Planes, Reads, reads_of, pixels, value, variable, at_point}
-use Rattle.halide_meaning.specs.Pixel as pixel
-use Rattle.reads.specs.Points.{Point, Seen, Agree}
+use Rattle.halide_pipeline.specs.Pixel.{Planes, Reads, reads_of, pixels, value, variable, at_point}
+use Rattle.halide_pipeline.specs.Pixel as pixel
+use Rattle.halide_pipeline.specs.Points.{Point, Seen, Agree}
 use Rattle.schedule_lines.specs.declared.stages.LoopId.{LoopId}
 use Rattle.schedule.specs.declared.plans.FuncPlan.{FuncPlan}
 use Rattle.schedule.specs.declared.schedules.Schedule.{Schedule}
@@ -26,35 +26,35 @@ use Rattle.schedule.specs.Calls.{calls, updates_call, func_calls, place_calls, p
 use Rattle.schedule.specs.Legal.{is_inlined, is_nowhere}
 use Rattle.schedule.specs.Uses.{IsReached}
 use Rattle.schedule.proofs.Uses.{IsSome, some_before}
-use Rattle.stage_loops.proofs.AcceptedStages.{pair_at}
-use Rattle.stage_loops.specs.Counts as loops
-use Rattle.inlining.specs.Inlining.{inlined, flagged}
-use Rattle.inlining.specs.Values.{values as valuing}
-use Rattle.inlining.proofs.Pixels.{inlining_keeps_values}
-use Rattle.inlining.proofs.Seeing.{sees_inlined_values, inlined_values_depend_on_reads}
-use Rattle.ranges.specs.Laws.{Below, AnswerWords}
-use Rattle.ranges.proofs.PixelWords.{pixels_are_words}
-use Rattle.weights.specs.Weight.{flags_of}
+use Rattle.schedule_loops.proofs.AcceptedStages.{pair_at}
+use Rattle.schedule_loops.specs.Counts as loops
+use Rattle.bounds_inlining.specs.Inlining.{inlined, flagged}
+use Rattle.bounds_inlining.specs.Values.{values as valuing}
+use Rattle.bounds_inlining.proofs.Pixels.{inlining_keeps_values}
+use Rattle.bounds_inlining.proofs.Seeing.{sees_inlined_values, inlined_values_depend_on_reads}
+use Rattle.bounds_ranges.specs.Laws.{Below, AnswerWords}
+use Rattle.bounds_ranges.proofs.PixelWords.{pixels_are_words}
+use Rattle.bounds_weights.specs.Weight.{flags_of}
 use Rattle.bounds.specs.declared.boxes.SourceBox.{SourceBox}
 use Rattle.bounds.specs.declared.verdict.Boxes.{Boxes}
 use Rattle.bounds.specs.Boxes.{no_loops, IsBox}
 use Rattle.bounds.specs.Sources.{same_source}
 use Rattle.bounds.specs.Verdict.{inferred}
-use Rattle.box_laws.specs.Callers.{ReadsThrough, IsReadThrough, AreReadThrough, IsReadWithin}
-use Rattle.box_laws.specs.HostLaws.{values_in, MayBeArguments}
-use Rattle.box_laws.specs.Laws.{LiesIn, IsBoxed, AreBoxed, IsComputed, IsNear, host_in, pure_points, update_points}
-use Rattle.box_laws.proofs.BoxesHosted.{boxes_are_hosted, points_are_near}
-use Rattle.box_laws.proofs.Callers.{pure_points_are_read_through, update_points_are_read_through, or_left}
-use Rattle.box_laws.proofs.Found.{no_below}
-use Rattle.box_laws.proofs.FoundFuncs.{pure_reads_of_funcs_lie}
-use Rattle.box_laws.proofs.LoopReads.{pure_reads_in_loops_lie, update_reads_in_loops_lie}
-use Rattle.box_laws.proofs.PutIn.{put, flags, same_seen, put_simple, reaching, reached, pair_there}
-use Rattle.box_laws.proofs.StandingWithin.{flag_is, readers_stand_within}
-use Rattle.box_laws.proofs.Updates.{update_reads_of_funcs_lie}
+use Rattle.bounds_laws.specs.Callers.{ReadsThrough, IsReadThrough, AreReadThrough, IsReadWithin}
+use Rattle.bounds_laws.specs.HostLaws.{values_in, MayBeArguments}
+use Rattle.bounds_laws.specs.Laws.{LiesIn, IsBoxed, AreBoxed, IsComputed, IsNear, host_in, pure_points, update_points}
+use Rattle.bounds_laws.proofs.BoxesHosted.{boxes_are_hosted, points_are_near}
+use Rattle.bounds_laws.proofs.Callers.{pure_points_are_read_through, update_points_are_read_through, or_left}
+use Rattle.bounds_laws.proofs.Found.{no_below}
+use Rattle.bounds_laws.proofs.FoundFuncs.{pure_reads_of_funcs_lie}
+use Rattle.bounds_laws.proofs.LoopReads.{pure_reads_in_loops_lie, update_reads_in_loops_lie}
+use Rattle.bounds_laws.proofs.PutIn.{put, flags, same_seen, put_simple, reaching, reached, pair_there}
+use Rattle.bounds_laws.proofs.StandingWithin.{flag_is, readers_stand_within}
+use Rattle.bounds_laws.proofs.Updates.{update_reads_of_funcs_lie}
 use Rattle.loop_ir.specs.Counters.{Values}
-use Rattle.nest_lowering.specs.Nests.{loops_of}
-use Rattle.expression_lowering.specs.declared.calls.Corner.{Corner}
-use Rattle.expression_lowering.specs.Lowering.{placed}
+use Rattle.lowering_nests.specs.Nests.{loops_of}
+use Rattle.lowering_expressions.specs.declared.calls.Corner.{Corner}
+use Rattle.lowering_expressions.specs.Lowering.{placed}
 use Rattle.lowering.specs.Corners.{first_of, turns_for, turns_at, IsCornerOf, AreCorners}
 use Rattle.lowering.specs.Hosting.{Holds, Keeps}
 use Rattle.lowering.specs.PurePhases.{IsComputedAt, IsAtRoot}

@@ -24,18 +24,18 @@ use Rattle.schedule.specs.declared.legality.LoopRule.TheVariants as rules_of
 use Rattle.schedule.specs.Accepted.{keeps}
 use Rattle.schedule.specs.Plans.{with_loop, with_second, with_reduction, reduction_loops, with_first_in_place}
 use Rattle.schedule.specs.Legal.{is_vector_length, is_empty, breaks}
-use Rattle.stage_loops.specs.declared.extents.Extents.{Extents}
-use Rattle.stage_loops.specs.Counts.{Values, counts, more_counts, whole_counts, strides, more_strides, whole_strides, is_uneven, more_uneven}
-use Rattle.stage_loops.specs.Stages.{IsStageOf, KeepsRules, first_loops, has_variable}
-use Rattle.stage_loops.proofs.FirstLoops.{plain, sound}
-use Rattle.stage_loops.proofs.Ids.{is_old, same_variable-self, old_apart, inner_new, outer_new, same_id-self}
-use Rattle.stage_loops.proofs.Linear.{uneven-more, strides-more}
-use Rattle.stage_loops.proofs.Making.{Sound, Stays, by_making, sound_stays, split_by, total-append, total_parts, bare_total, counts-more}
-use Rattle.stage_loops.proofs.Nesting.{has_id, has_same}
-use Rattle.box_laws.proofs.Callers.{or_right}
-use Rattle.stage_loops.proofs.Selecting.{Unique}
+use Rattle.schedule_loops.specs.declared.extents.Extents.{Extents}
+use Rattle.schedule_loops.specs.Counts.{Values, counts, more_counts, whole_counts, strides, more_strides, whole_strides, is_uneven, more_uneven}
+use Rattle.schedule_loops.specs.Stages.{IsStageOf, KeepsRules, first_loops, has_variable}
+use Rattle.schedule_loops.proofs.FirstLoops.{plain, sound}
+use Rattle.schedule_loops.proofs.Ids.{is_old, same_variable-self, old_apart, inner_new, outer_new, same_id-self}
+use Rattle.schedule_loops.proofs.Linear.{uneven-more, strides-more}
+use Rattle.schedule_loops.proofs.Making.{Sound, Stays, by_making, sound_stays, split_by, total-append, total_parts, bare_total, counts-more}
+use Rattle.schedule_loops.proofs.Nesting.{has_id, has_same}
+use Rattle.bounds_laws.proofs.Callers.{or_right}
+use Rattle.schedule_loops.proofs.Selecting.{Unique}
 use Rattle.loop_ir.specs.Rounds.{is_round_count}
-use Rattle.nest_lowering.specs.Rounds.{is_vectorized_loop}
+use Rattle.lowering_nests.specs.Rounds.{is_vectorized_loop}
 
 -- ---- what is asked of loops
 

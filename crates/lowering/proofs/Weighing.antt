@@ -23,9 +23,9 @@ use Rattle.halide_pipeline.specs.declared.definitions.Reduction.{Reduction}
 use Rattle.halide_pipeline.specs.declared.expressions.Variable.{Variable}
 use Rattle.halide_pipeline.specs.declared.expressions.Variable.TheVariants as variables
 use Rattle.schedule.specs.Standing.{pure_loops_of}
-use Rattle.stage_loops.proofs.Making.{Stays, by_making, total_parts, bare_total}
-use Rattle.weights.specs.Copies.{copies, all_copies, copies_from, host_copies, factor_of}
-use Rattle.weights.specs.Weight.{flags_of, is_computed, nodes_in, update_nodes, stage_weight, updates_weight, func_weight, computed_weight, funcs_weight, weight}
+use Rattle.schedule_loops.proofs.Making.{Stays, by_making, total_parts, bare_total}
+use Rattle.bounds_weights.specs.Copies.{copies, all_copies, copies_from, host_copies, factor_of}
+use Rattle.bounds_weights.specs.Weight.{flags_of, is_computed, nodes_in, update_nodes, stage_weight, updates_weight, func_weight, computed_weight, funcs_weight, weight}
 use Rattle.bounds.specs.declared.verdict.Boxes.{Boxes}
 use Rattle.loop_ir.specs.declared.statements.Phase.{Phase}
 use Rattle.lowering.specs.Lowered.{AreLowered}

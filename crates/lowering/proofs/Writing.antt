@@ -9,38 +9,38 @@ use Rattle.halide_pipeline.specs.declared.expressions.Variable.TheVariants as va
 use Rattle.halide_pipeline.specs.Pipelines.{Pipeline}
 use Rattle.halide_pipeline.specs.WellFormed.{IsWellFormed}
 use Rattle.halide_pipeline.specs.Words as word
-use Rattle.halide_meaning.specs.Pixel.{Plane, Planes, Reads, reads_of, pixels, stage, value, variable, at_point}
-use Rattle.reads.specs.Points.{Point, Agree, Hold}
+use Rattle.halide_pipeline.specs.Pixel.{Plane, Planes, Reads, reads_of, pixels, stage, value, variable, at_point}
+use Rattle.halide_pipeline.specs.Points.{Point, Agree, Hold}
 use Rattle.schedule_lines.specs.declared.stages.LoopId.TheVariants as ids
 use Rattle.schedule.specs.declared.plans.FuncPlan.{FuncPlan}
 use Rattle.schedule.specs.declared.schedules.Schedule.{Schedule}
 use Rattle.schedule.specs.declared.standings.Place.{Place}
 use Rattle.schedule.specs.Accepted.{IsAccepted}
-use Rattle.stage_loops.specs.declared.extents.Extents.{Extents}
-use Rattle.stage_loops.specs.Counts as loops
-use Rattle.stage_loops.specs.Stages.{IsVisitOf}
-use Rattle.stage_loops.specs.Visits.{visit_of}
-use Rattle.inlining.specs.Inlining.{inlined, flagged}
-use Rattle.inlining.specs.Laws.{seen_variable}
-use Rattle.inlining.specs.Values.{values as valuing, seeing}
-use Rattle.ranges.specs.Laws.{Below}
-use Rattle.weights.specs.Weight.{flags_of}
+use Rattle.schedule_loops.specs.declared.extents.Extents.{Extents}
+use Rattle.schedule_loops.specs.Counts as loops
+use Rattle.schedule_loops.specs.Stages.{IsVisitOf}
+use Rattle.schedule_loops.specs.Visits.{visit_of}
+use Rattle.bounds_inlining.specs.Inlining.{inlined, flagged}
+use Rattle.bounds_inlining.specs.Laws.{seen_variable}
+use Rattle.bounds_inlining.specs.Values.{values as valuing, seeing}
+use Rattle.bounds_ranges.specs.Laws.{Below}
+use Rattle.bounds_weights.specs.Weight.{flags_of}
 use Rattle.bounds.specs.declared.boxes.SourceBox.{SourceBox}
 use Rattle.bounds.specs.declared.verdict.Boxes.{Boxes}
 use Rattle.bounds.specs.Boxes.{IsBox, extent}
 use Rattle.bounds.specs.Verdict.{inferred}
 use Rattle.bounds.specs.Views.{extents_of}
-use Rattle.box_laws.specs.HostLaws.{IsFrom}
-use Rattle.box_laws.specs.Laws.{LiesIn, IsComputed, pure_points}
-use Rattle.box_laws.proofs.BoxesHosted.{visits_lie}
+use Rattle.bounds_laws.specs.HostLaws.{IsFrom}
+use Rattle.bounds_laws.specs.Laws.{LiesIn, IsComputed, pure_points}
+use Rattle.bounds_laws.proofs.BoxesHosted.{visits_lie}
 use Rattle.loop_ir.specs.declared.statements.Stmt.{Stmt}
 use Rattle.loop_ir.specs.Buffers.{Points, put}
 use Rattle.loop_ir.specs.Counters.{Values}
 use Rattle.loop_ir.specs.Expressions.{linear_value}
 use Rattle.loop_ir.specs.Running.{run}
 use Rattle.loop_ir.specs.Soundness.{is_sound}
-use Rattle.nest_lowering.specs.Nests.{put_loops}
-use Rattle.expression_lowering.specs.Lowering.{placed, place as place_in}
+use Rattle.lowering_nests.specs.Nests.{put_loops}
+use Rattle.lowering_expressions.specs.Lowering.{placed, place as place_in}
 use Rattle.lowering.specs.Corners.{first_of, turns_for}
 use Rattle.lowering.specs.Hosting.{Keeps}
 use Rattle.lowering.specs.Planes.{box_points}

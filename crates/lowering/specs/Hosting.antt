@@ -10,8 +10,8 @@ use Rattle.halide_pipeline.specs.declared.definitions.Update.{Update}
 use Rattle.halide_pipeline.specs.declared.expressions.Source.TheVariants as sources
 use Rattle.halide_pipeline.specs.Pipelines.{Pipeline}
 use Rattle.halide_pipeline.specs.Words as word
-use Rattle.halide_meaning.specs.Pixel.{Plane, Planes, Reads, reads_of, with_plane, points, stage, pixels}
-use Rattle.reads.specs.Points.{Point, Agree, Hold}
+use Rattle.halide_pipeline.specs.Pixel.{Plane, Planes, Reads, reads_of, with_plane, points, stage, pixels}
+use Rattle.halide_pipeline.specs.Points.{Point, Agree, Hold}
 use Rattle.schedule_lines.specs.declared.stages.Loop.{Loop}
 use Rattle.schedule_lines.specs.declared.stages.Mark.TheVariants as marks
 use Rattle.schedule_lines.specs.declared.stages.Stage.{Stage}
@@ -20,16 +20,16 @@ use Rattle.schedule.specs.declared.plans.FuncPlan.{FuncPlan}
 use Rattle.schedule.specs.declared.schedules.Schedule.{Schedule}
 use Rattle.schedule.specs.declared.standings.LoopPlace.{LoopPlace}
 use Rattle.schedule.specs.declared.standings.Place.TheVariants as places
-use Rattle.stage_loops.specs.declared.extents.Extents.{Extents}
-use Rattle.stage_loops.specs.Counts as loops
-use Rattle.stage_loops.specs.Iterations.{parallel}
-use Rattle.stage_loops.specs.Reach.{wholes}
-use Rattle.ranges.specs.Laws.{Below, AnswerWords}
+use Rattle.schedule_loops.specs.declared.extents.Extents.{Extents}
+use Rattle.schedule_loops.specs.Counts as loops
+use Rattle.schedule_loops.specs.Iterations.{parallel}
+use Rattle.schedule_loops.specs.Reach.{wholes}
+use Rattle.bounds_ranges.specs.Laws.{Below, AnswerWords}
 use Rattle.bounds.specs.declared.boxes.SourceBox.{SourceBox}
 use Rattle.bounds.specs.declared.verdict.Boxes.{Boxes}
 use Rattle.bounds.specs.Boxes.{extent}
 use Rattle.bounds.specs.Sources.{same_source}
-use Rattle.box_laws.specs.Laws.{LiesIn, pure_points, update_points}
+use Rattle.bounds_laws.specs.Laws.{LiesIn, pure_points, update_points}
 use Rattle.loop_ir.specs.declared.statements.Stmt.{Stmt}
 use Rattle.loop_ir.specs.Buffers.{Points}
 use Rattle.loop_ir.specs.Counters.{Values, no_values, with}
@@ -39,18 +39,18 @@ use Rattle.loop_ir.specs.Sizes.{loop_room, whole_size}
 use Rattle.loop_ir.specs.Running.{run, turns}
 use Rattle.loop_ir.specs.Soundness.{every, is_sound}
 use Rattle.loop_ir.specs.Stores.{Trace, trace}
-use Rattle.nest_lowering.specs.Nests.{loops_of, put_loops, AreSmall, Repeats}
-use Rattle.expression_lowering.specs.declared.calls.Corner.{Corner}
-use Rattle.expression_lowering.specs.Lowering.{placed, place as place_in}
+use Rattle.lowering_nests.specs.Nests.{loops_of, put_loops, AreSmall, Repeats}
+use Rattle.lowering_expressions.specs.declared.calls.Corner.{Corner}
+use Rattle.lowering_expressions.specs.Lowering.{placed, place as place_in}
 use Rattle.lowering.specs.Corners.{first_of, turns_for, AreCorners}
 use Rattle.lowering.specs.Planes.{has_point, box_points}
 use Rattle.lowering.specs.PurePhases.{IsComputedAt, inside_of}
 use Rattle.lowering.specs.Registers.{most_need}
 use Rattle.lowering.specs.Sizes.{func_share}
-use Rattle.weights.specs.Weight.{flags_of}
+use Rattle.bounds_weights.specs.Weight.{flags_of}
 use Rattle.lowering.specs.Rounds.{MayAlwaysBeAtOnce, at_once_first}
-use Rattle.nest_lowering.specs.Rounds.{GoesAround, IsLeaf}
-use Rattle.nest_lowering.specs.Runs.{RunsAround}
+use Rattle.lowering_nests.specs.Rounds.{GoesAround, IsLeaf}
+use Rattle.lowering_nests.specs.Runs.{RunsAround}
 use Rattle.loop_ir.specs.Rounds.{may_be_at_once}
 use Rattle.loop_ir.specs.Runs.{is_about, stores_in_runs}
 

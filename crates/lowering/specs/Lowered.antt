@@ -7,13 +7,13 @@ use Rattle.halide_pipeline.specs.declared.definitions.Update.{Update}
 use Rattle.halide_pipeline.specs.Pipelines.{Pipeline}
 use Rattle.halide_pipeline.specs.WellFormed.{IsWellFormed}
 use Rattle.halide_pipeline.specs.Words as word
-use Rattle.halide_meaning.specs.Pixel.{Planes, reads_of, pixels}
+use Rattle.halide_pipeline.specs.Pixel.{Planes, reads_of, pixels}
 use Rattle.schedule_lines.specs.declared.stages.Stage.{Stage}
 use Rattle.schedule.specs.declared.plans.FuncPlan.{FuncPlan}
 use Rattle.schedule.specs.declared.schedules.Schedule.{Schedule}
 use Rattle.schedule.specs.Accepted.{IsAccepted}
-use Rattle.stage_loops.specs.Iterations.{iteration_count}
-use Rattle.ranges.specs.Laws.{AnswerWords}
+use Rattle.schedule_loops.specs.Iterations.{iteration_count}
+use Rattle.bounds_ranges.specs.Laws.{AnswerWords}
 use Rattle.bounds.specs.declared.boxes.SourceBox.{SourceBox}
 use Rattle.bounds.specs.declared.verdict.Boxes.{Boxes}
 use Rattle.bounds.specs.Boxes.{box_in}

@@ -1,8 +1,8 @@
 -- Phases one after the other, the tasks of each in any order.
 -- This project's own.
 use Rattle.std.specs.Prelude.{◌≡◌, ℕ, Bool, false, true, List, [], ◌∷◌}
-use Rattle.halide_meaning.specs.Pixel.{Planes}
-use Rattle.stage_loops.specs.Iterations.{IsOrder}
+use Rattle.halide_pipeline.specs.Pixel.{Planes}
+use Rattle.schedule_loops.specs.Iterations.{IsOrder}
 use Rattle.loop_ir.specs.Buffers.{Points}
 use Rattle.lowering.specs.Phases.{DoesPhase, Done}
 

@@ -6,8 +6,8 @@
 -- buffers each hart has for itself are private: they hold anything before a task, and what they hold after it doesn't count.
 -- This project's own.
 use Rattle.std.specs.Prelude.{◌≡◌, ◌<◌, ℕ, Bool, true, false, List, [], ◌∷◌}
-use Rattle.halide_meaning.specs.Pixel.{Planes}
-use Rattle.stage_loops.specs.Iterations.{IsOrder}
+use Rattle.halide_pipeline.specs.Pixel.{Planes}
+use Rattle.schedule_loops.specs.Iterations.{IsOrder}
 use Rattle.loop_ir.specs.Buffers.{Points}
 
 -- The points of a Func that pass a test hold these planes, and so do all points of other Funcs, private ones apart.

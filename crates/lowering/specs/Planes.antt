@@ -6,13 +6,13 @@ use Rattle.std.specs.Prelude.{ℕ, ◌+◌, ◌-◌, ◌%◌, ◌^◌, ◌&&◌,
 use Rattle.std.specs.List.{list_any}
 use Rattle.halide_pipeline.specs.declared.definitions.Func.{Func}
 use Rattle.halide_pipeline.specs.Words as word
-use Rattle.halide_meaning.specs.Pixel.{Plane, Planes, with_plane, pure_plane, pixels}
+use Rattle.halide_pipeline.specs.Pixel.{Plane, Planes, with_plane, pure_plane, pixels}
 use Rattle.schedule_lines.specs.declared.stages.Stage.{Stage}
-use Rattle.stage_loops.specs.declared.extents.Extents.{Extents}
-use Rattle.stage_loops.specs.Iterations.{iteration}
-use Rattle.stage_loops.specs.Visits.{is_slice}
+use Rattle.schedule_loops.specs.declared.extents.Extents.{Extents}
+use Rattle.schedule_loops.specs.Iterations.{iteration}
+use Rattle.schedule_loops.specs.Visits.{is_slice}
 use Rattle.loop_ir.specs.Buffers.{Points}
-use Rattle.ranges.specs.Ranges.{least}
+use Rattle.bounds_ranges.specs.Ranges.{least}
 use Rattle.bounds.specs.declared.boxes.SourceBox.{SourceBox}
 use Rattle.bounds.specs.Boxes.{box_in, extent}
 

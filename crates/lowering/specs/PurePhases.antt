@@ -8,8 +8,8 @@ use Rattle.halide_pipeline.specs.declared.expressions.Variable.{Variable}
 use Rattle.halide_pipeline.specs.declared.expressions.Variable.TheVariants as variables
 use Rattle.halide_pipeline.specs.Pipelines.{Pipeline}
 use Rattle.halide_pipeline.specs.Words as word
-use Rattle.halide_meaning.specs.Pixel.{Planes, Reads, variable, reads_of, pixels, at_point}
-use Rattle.reads.specs.Points.{Point, Hold}
+use Rattle.halide_pipeline.specs.Pixel.{Planes, Reads, variable, reads_of, pixels, at_point}
+use Rattle.halide_pipeline.specs.Points.{Point, Hold}
 use Rattle.schedule_lines.specs.declared.stages.Loop.{Loop}
 use Rattle.schedule_lines.specs.declared.stages.LoopId.TheVariants as ids
 use Rattle.schedule.specs.declared.plans.FuncPlan.{FuncPlan}
@@ -20,11 +20,11 @@ use Rattle.schedule.specs.declared.standings.Place.TheVariants as places
 use Rattle.schedule.specs.declared.standings.Standing.{Standing}
 use Rattle.schedule.specs.Legal.{is_root}
 use Rattle.schedule.specs.Uses.{IsReached}
-use Rattle.inlining.specs.Inlining.{inlined, flagged}
-use Rattle.inlining.specs.Laws.{seen_variable}
-use Rattle.inlining.specs.Values.{values as valuing, seeing}
-use Rattle.ranges.specs.Laws.{AnswerWords}
-use Rattle.weights.specs.Weight.{flags_of}
+use Rattle.bounds_inlining.specs.Inlining.{inlined, flagged}
+use Rattle.bounds_inlining.specs.Laws.{seen_variable}
+use Rattle.bounds_inlining.specs.Values.{values as valuing, seeing}
+use Rattle.bounds_ranges.specs.Laws.{AnswerWords}
+use Rattle.bounds_weights.specs.Weight.{flags_of}
 use Rattle.bounds.specs.declared.boxes.SourceBox.{SourceBox}
 use Rattle.bounds.specs.declared.verdict.Boxes.{Boxes}
 use Rattle.bounds.specs.Views.{extents_of}
@@ -39,8 +39,8 @@ use Rattle.loop_ir.specs.Running.{run, run_task}
 use Rattle.loop_ir.specs.Runs.{point_of}
 use Rattle.loop_ir.specs.Soundness.{is_sound}
 use Rattle.loop_ir.specs.Stores.{Trace, trace}
-use Rattle.expression_lowering.specs.declared.calls.Corner.{Corner}
-use Rattle.expression_lowering.specs.Lowering.{placed, place as place_in}
+use Rattle.lowering_expressions.specs.declared.calls.Corner.{Corner}
+use Rattle.lowering_expressions.specs.Lowering.{placed, place as place_in}
 use Rattle.lowering.specs.Phases.{DoesPhase}
 use Rattle.lowering.specs.Corners.{IsCorner, AreCorners}
 use Rattle.lowering.specs.Planes.{held, box_points, with_pure, owns}

@@ -7,12 +7,12 @@ use Rattle.halide_pipeline.specs.declared.definitions.Update.{Update}
 use Rattle.halide_pipeline.specs.declared.expressions.Expr.{Expr}
 use Rattle.halide_pipeline.specs.Pipelines.{Pipeline}
 use Rattle.schedule.specs.declared.schedules.Schedule.{Schedule}
-use Rattle.inlining.specs.Inlining.{inlined, flagged}
-use Rattle.weights.specs.Need.{needs}
+use Rattle.bounds_inlining.specs.Inlining.{inlined, flagged}
+use Rattle.bounds_weights.specs.Need.{needs}
 use Rattle.loop_ir.specs.declared.statements.Phase.{Phase}
 use Rattle.loop_ir.specs.Depths.{task_depth}
 use Rattle.loop_ir.specs.Needs.{greatest_need}
-use Rattle.expression_lowering.specs.Needing.{taking}
+use Rattle.lowering_expressions.specs.Needing.{taking}
 
 -- ---- stores
 

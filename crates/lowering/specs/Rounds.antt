@@ -5,13 +5,13 @@
 -- leaves out the last ones where guards forbid them.
 -- This project's own.
 use Rattle.std.specs.Prelude.{◌≡◌, ◌<◌, ℕ, Bool, true, Option, Some, None}
-use Rattle.halide_meaning.specs.Pixel.{Reads}
+use Rattle.halide_pipeline.specs.Pixel.{Reads}
 use Rattle.loop_ir.specs.declared.statements.Phase.{Phase}
 use Rattle.loop_ir.specs.declared.statements.Stmt.{Stmt}
 use Rattle.loop_ir.specs.Counters.{Values}
 use Rattle.loop_ir.specs.Rounds.{may_be_at_once}
 use Rattle.loop_ir.specs.Running.{task_values}
-use Rattle.nest_lowering.specs.Rounds.{AllAreSmall}
+use Rattle.lowering_nests.specs.Rounds.{AllAreSmall}
 
 -- in each task, however loads are answered
 abbrev pub RoundsMayBeAtOnce : Phase → Type 0

@@ -4,22 +4,22 @@
 -- This project's own.
 use Rattle.std.specs.Prelude.{◌≡◌, ◌<◌, ℕ, ◌&&◌, ◌||◌, nat_lt, if◌then◌else◌, Bool, true, false, List, [], ◌∷◌}
 use Rattle.std.specs.List.{Contains, list_any}
-use Rattle.halide_meaning.specs.Pixel.{Reads}
+use Rattle.halide_pipeline.specs.Pixel.{Reads}
 use Rattle.schedule_lines.specs.declared.stages.Loop.{Loop}
 use Rattle.schedule_lines.specs.declared.stages.LoopId.{LoopId}
 use Rattle.schedule_lines.specs.declared.stages.Stage.{Stage}
 use Rattle.schedule_lines.specs.Loops.{same_id}
-use Rattle.stage_loops.specs.declared.extents.Extents.{Extents}
-use Rattle.stage_loops.specs.Counts as loops
-use Rattle.stage_loops.specs.Counts.{counts}
-use Rattle.stage_loops.specs.Reach.{AreTurns}
-use Rattle.stage_loops.specs.Visits.{Visit, nest, over_loops, visit_of, zeros, is_slice}
+use Rattle.schedule_loops.specs.declared.extents.Extents.{Extents}
+use Rattle.schedule_loops.specs.Counts as loops
+use Rattle.schedule_loops.specs.Counts.{counts}
+use Rattle.schedule_loops.specs.Reach.{AreTurns}
+use Rattle.schedule_loops.specs.Visits.{Visit, nest, over_loops, visit_of, zeros, is_slice}
 use Rattle.loop_ir.specs.declared.statements.Phase.{Phase}
 use Rattle.loop_ir.specs.Counters.{Values}
 use Rattle.loop_ir.specs.Runs.{stores_in_runs}
 use Rattle.loop_ir.specs.Running.{task_values}
-use Rattle.nest_lowering.specs.Nests.{loops_of}
-use Rattle.nest_lowering.specs.Rounds.{is_vectorized_loop}
+use Rattle.lowering_nests.specs.Nests.{loops_of}
+use Rattle.lowering_nests.specs.Rounds.{is_vectorized_loop}
 
 -- The innermost of these loops is vectorized.
 abbrev pub is_vectorized_first : List Loop → Bool

@@ -11,15 +11,15 @@ use Rattle.schedule_lines.specs.declared.stages.Stage.{Stage}
 use Rattle.schedule.specs.declared.plans.FuncPlan.{FuncPlan}
 use Rattle.schedule.specs.declared.schedules.Schedule.{Schedule}
 use Rattle.schedule.specs.declared.standings.Standing.{Standing}
-use Rattle.inlining.specs.Inlining.{inlined, flagged}
-use Rattle.inlining.specs.Weights.{counting}
-use Rattle.weights.specs.Copies.{host_copies}
-use Rattle.weights.specs.Weight.{flags_of, nodes_in, update_nodes, stage_weight}
+use Rattle.bounds_inlining.specs.Inlining.{inlined, flagged}
+use Rattle.bounds_inlining.specs.Weights.{counting}
+use Rattle.bounds_weights.specs.Copies.{host_copies}
+use Rattle.bounds_weights.specs.Weight.{flags_of, nodes_in, update_nodes, stage_weight}
 use Rattle.loop_ir.specs.declared.expressions.Expr as loop
 use Rattle.loop_ir.specs.declared.expressions.Expr.TheVariants as e
 use Rattle.loop_ir.specs.declared.statements.Phase.{Phase}
 use Rattle.loop_ir.specs.Sizes.{size, whole_size}
-use Rattle.expression_lowering.specs.Sizing.{IsGiven}
+use Rattle.lowering_expressions.specs.Sizing.{IsGiven}
 use Rattle.lowering.specs.HostedFuncs.{is_hosted}
 
 -- ---- stores

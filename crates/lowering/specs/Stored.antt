@@ -9,12 +9,12 @@ use Rattle.halide_pipeline.specs.declared.definitions.Func.{Func}
 use Rattle.halide_pipeline.specs.declared.definitions.Update.{Update}
 use Rattle.halide_pipeline.specs.Pipelines.{Pipeline}
 use Rattle.halide_pipeline.specs.Words as word
-use Rattle.halide_meaning.specs.Pixel.{Planes, Reads, value, index_value, at_reduction, reads_of, pixels}
+use Rattle.halide_pipeline.specs.Pixel.{Planes, Reads, value, index_value, at_reduction, reads_of, pixels}
 use Rattle.schedule_lines.specs.declared.stages.Stage.{Stage}
 use Rattle.schedule.specs.declared.schedules.Schedule.{Schedule}
-use Rattle.stage_loops.specs.Iterations.{points_written}
-use Rattle.stage_loops.specs.Visits.{Visit}
-use Rattle.ranges.specs.Laws.{AnswerWords}
+use Rattle.schedule_loops.specs.Iterations.{points_written}
+use Rattle.schedule_loops.specs.Visits.{Visit}
+use Rattle.bounds_ranges.specs.Laws.{AnswerWords}
 use Rattle.bounds.specs.declared.boxes.SourceBox.{SourceBox}
 use Rattle.bounds.specs.declared.verdict.Boxes.{Boxes}
 use Rattle.loop_ir.specs.declared.statements.Phase.{Phase}

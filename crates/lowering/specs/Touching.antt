@@ -9,17 +9,17 @@ use Rattle.std.specs.List.{list_any}
 use Rattle.halide_pipeline.specs.declared.expressions.Source.{Source}
 use Rattle.halide_pipeline.specs.declared.expressions.Source.TheVariants as sources
 use Rattle.halide_pipeline.specs.Pipelines.{Pipeline}
-use Rattle.reads.specs.Points.{Point}
+use Rattle.halide_pipeline.specs.Points.{Point}
 use Rattle.schedule.specs.declared.schedules.Schedule.{Schedule}
 use Rattle.schedule.specs.declared.standings.Standing.{Standing}
 use Rattle.bounds.specs.declared.boxes.SourceBox.{SourceBox}
 use Rattle.bounds.specs.declared.verdict.Boxes.{Boxes}
-use Rattle.box_laws.specs.Closure.{is_within}
+use Rattle.bounds_laws.specs.Closure.{is_within}
 use Rattle.loop_ir.specs.declared.statements.Phase.{Phase}
 use Rattle.loop_ir.specs.Buffers.{Points}
 use Rattle.loop_ir.specs.Running.{task_values}
 use Rattle.loop_ir.specs.Soundness.{IsSound}
-use Rattle.ranges.specs.Laws.{AnswerWords}
+use Rattle.bounds_ranges.specs.Laws.{AnswerWords}
 use Rattle.lowering.specs.Planes.{box_points}
 use Rattle.lowering.specs.PurePhases.{is_at_root}
 

@@ -14,9 +14,9 @@ use Rattle.halide_pipeline.specs.declared.expressions.Variable.TheVariants as va
 use Rattle.halide_pipeline.specs.Definitions.{is_first_in_place, is_second_in_place}
 use Rattle.halide_pipeline.specs.Pipelines.{Pipeline}
 use Rattle.halide_pipeline.specs.Words as word
-use Rattle.halide_meaning.specs.declared.environments.Environment.{Environment}
-use Rattle.halide_meaning.specs.Pixel.{Plane, Planes, Reads, variable, reads_of, with_plane, points, second_extent, stage, pixels}
-use Rattle.reads.specs.Points.{Point, Hold}
+use Rattle.halide_pipeline.specs.declared.environments.Environment.{Environment}
+use Rattle.halide_pipeline.specs.Pixel.{Plane, Planes, Reads, variable, reads_of, with_plane, points, second_extent, stage, pixels}
+use Rattle.halide_pipeline.specs.Points.{Point, Hold}
 use Rattle.schedule_lines.specs.declared.stages.LoopId.{LoopId}
 use Rattle.schedule_lines.specs.declared.stages.Stage.{Stage}
 use Rattle.schedule.specs.declared.plans.FuncPlan.{FuncPlan}
@@ -24,22 +24,22 @@ use Rattle.schedule.specs.declared.schedules.Schedule.{Schedule}
 use Rattle.schedule.specs.declared.standings.Place.TheVariants as places
 use Rattle.schedule.specs.declared.standings.Standing.{Standing}
 use Rattle.schedule.specs.Uses.{IsReached}
-use Rattle.stage_loops.specs.declared.extents.Extents.{Extents}
-use Rattle.stage_loops.specs.Counts as loops
-use Rattle.stage_loops.specs.Iterations.{iteration}
-use Rattle.stage_loops.specs.Visits.{Visit, is_slice}
-use Rattle.inlining.specs.Inlining.{inlined, flagged}
-use Rattle.inlining.specs.Laws.{seen_variable}
-use Rattle.inlining.specs.Values.{values as valuing, seeing}
-use Rattle.ranges.specs.Laws.{Below, AnswerWords}
-use Rattle.weights.specs.Weight.{flags_of}
+use Rattle.schedule_loops.specs.declared.extents.Extents.{Extents}
+use Rattle.schedule_loops.specs.Counts as loops
+use Rattle.schedule_loops.specs.Iterations.{iteration}
+use Rattle.schedule_loops.specs.Visits.{Visit, is_slice}
+use Rattle.bounds_inlining.specs.Inlining.{inlined, flagged}
+use Rattle.bounds_inlining.specs.Laws.{seen_variable}
+use Rattle.bounds_inlining.specs.Values.{values as valuing, seeing}
+use Rattle.bounds_ranges.specs.Laws.{Below, AnswerWords}
+use Rattle.bounds_weights.specs.Weight.{flags_of}
 use Rattle.bounds.specs.declared.boxes.HostLoop.{HostLoop}
 use Rattle.bounds.specs.declared.boxes.SourceBox.{SourceBox}
 use Rattle.bounds.specs.declared.verdict.Boxes.{Boxes}
 use Rattle.bounds.specs.Boxes.{extent, lasts_of}
 use Rattle.bounds.specs.Sources.{same_source}
-use Rattle.box_laws.specs.HostLaws.{IsFrom}
-use Rattle.box_laws.specs.Laws.{LiesIn, values_for, host_in, IsComputed, update_points}
+use Rattle.bounds_laws.specs.HostLaws.{IsFrom}
+use Rattle.bounds_laws.specs.Laws.{LiesIn, values_for, host_in, IsComputed, update_points}
 use Rattle.loop_ir.specs.declared.statements.Stmt.{Stmt}
 use Rattle.loop_ir.specs.Buffers.{Points, put}
 use Rattle.loop_ir.specs.Counters.{Values}
@@ -47,9 +47,9 @@ use Rattle.loop_ir.specs.Expressions.{linear_value}
 use Rattle.loop_ir.specs.Running.{run}
 use Rattle.loop_ir.specs.Soundness.{is_sound}
 use Rattle.loop_ir.specs.Stores.{Trace, trace}
-use Rattle.nest_lowering.specs.Nests.{loops_of, put_loops}
-use Rattle.expression_lowering.specs.declared.calls.Corner.{Corner}
-use Rattle.expression_lowering.specs.Lowering.{placed, place as place_in}
+use Rattle.lowering_nests.specs.Nests.{loops_of, put_loops}
+use Rattle.lowering_expressions.specs.declared.calls.Corner.{Corner}
+use Rattle.lowering_expressions.specs.Lowering.{placed, place as place_in}
 use Rattle.lowering.specs.Planes.{BoxCorner, from_corner, has_point, box_points}
 use Rattle.lowering.specs.Corners.{IsCorner, AreCorners}
 use Rattle.lowering.specs.PurePhases.{whole_at}

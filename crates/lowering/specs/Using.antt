@@ -4,10 +4,10 @@ use Rattle.std.specs.Prelude.{◌≡◌, ℕ, zero, suc, ◌<◌, Bool, true, Li
 use Rattle.std.specs.List.{All}
 use Rattle.halide_pipeline.specs.declared.definitions.Func.{Func}
 use Rattle.halide_pipeline.specs.declared.definitions.Input.{Input}
-use Rattle.halide_meaning.specs.Picture.{PictureContents, IsPicture}
-use Rattle.halide_meaning.specs.Pixel.{Planes, input_planes, reads_of, pixels}
-use Rattle.stage_loops.specs.Iterations.{IsOrder}
-use Rattle.ranges.specs.Laws.{AnswerWords}
+use Rattle.halide_pipeline.specs.Picture.{PictureContents, IsPicture}
+use Rattle.halide_pipeline.specs.Pixel.{Planes, input_planes, reads_of, pixels}
+use Rattle.schedule_loops.specs.Iterations.{IsOrder}
+use Rattle.bounds_ranges.specs.Laws.{AnswerWords}
 use Rattle.bounds.specs.declared.boxes.SourceBox.{SourceBox}
 use Rattle.bounds.specs.Boxes.{extent}
 use Rattle.loop_ir.specs.Buffers.{BufferContents, points_of}

@@ -4,16 +4,16 @@ ghost use Rattle.std.specs.Prelude.{◌≡◌, ◌-◌, ◌<◌, ◌≤◌, ◌^
 ghost use Rattle.std.specs.Option.{option_copied};
 ghost use Rattle.schedule.specs.Accepted.{IsAccepted};
 ghost use Rattle.schedule.specs.declared.standings.Place.TheVariants as places;
-ghost use Rattle.stage_loops.specs.Counts.{AreSplits, counts};
-ghost use Rattle.stage_loops.specs.Iterations.{parallel};
+ghost use Rattle.schedule_loops.specs.Counts.{AreSplits, counts};
+ghost use Rattle.schedule_loops.specs.Iterations.{parallel};
 ghost use Rattle.bounds.specs.Boxes.{box_in};
 ghost use Rattle.bounds.specs.Verdict.{inferred};
 ghost use Rattle.loop_ir.specs.Depths.{depth};
 ghost use Rattle.loop_ir.specs.Needs.{greatest_need};
 ghost use Rattle.loop_ir.specs.Runs.{is_about};
 ghost use Rattle.loop_ir.specs.Sizes.{whole_size};
-ghost use Rattle.weights.specs.Weight.{flags_of};
-ghost use Rattle.nest_lowering.specs.Nests.{AreFew};
+ghost use Rattle.bounds_weights.specs.Weight.{flags_of};
+ghost use Rattle.lowering_nests.specs.Nests.{AreFew};
 ghost use Rattle.lowering.specs.HostedFuncs as hosted;
 ghost use Rattle.lowering.specs.Hosting as spec;
 ghost use Rattle.lowering.specs.PurePhases.{IsComputedAt, inside_of};
@@ -28,13 +28,13 @@ use crate::updates::{UpdateOf, update_nest};
 use bounds::{Boxes, SourceBox};
 use halide_pipeline::{Func, Pipeline};
 use loop_ir::statements::Stmt;
-use nest_lowering::loops::loop_once;
-use nest_lowering::splits::with_splits;
+use lowering_nests::loops::loop_once;
+use lowering_nests::splits::with_splits;
 use schedule::{FuncPlan, LoopPlace, Place, Schedule, Standing};
 use schedule_lines::stages::same_id;
 use schedule_lines::{Loop, Stage};
+use schedule_loops::{Extents, LoopSizes};
 use sqlite_items::{Boxed, Items};
-use stage_loops::{Extents, LoopSizes};
 use std::alloc::{AllocError, Global};
 
 /// Whether the output reaches a Func that is computed at a loop of the host.

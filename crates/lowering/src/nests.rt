@@ -5,7 +5,7 @@ ghost use Rattle.halide_pipeline.specs.WellFormed.{IsWellFormed};
 ghost use Rattle.schedule.specs.Accepted.{IsAccepted};
 ghost use Rattle.schedule.specs.declared.standings.Place.TheVariants as places;
 ghost use Rattle.bounds.specs.Verdict.{inferred};
-ghost use Rattle.weights.specs.Weight.{flags_of, nodes_in, stage_weight};
+ghost use Rattle.bounds_weights.specs.Weight.{flags_of, nodes_in, stage_weight};
 ghost use Rattle.loop_ir.specs.Depths.{depth};
 ghost use Rattle.loop_ir.specs.Needs.{greatest_need};
 ghost use Rattle.loop_ir.specs.Runs.{is_about};
@@ -13,7 +13,7 @@ ghost use Rattle.loop_ir.specs.Sizes.{whole_size};
 ghost use Rattle.lowering.specs.Hosting.{DoesNest, IsSoundNest, StoresInIt};
 ghost use Rattle.lowering.specs.PurePhases.{IsComputedAt, IsStoreOf};
 ghost use Rattle.lowering.specs.Rounds.{MayAlwaysBeAtOnce};
-ghost use Rattle.nest_lowering.specs.Rounds.{IsLeaf};
+ghost use Rattle.lowering_nests.specs.Rounds.{IsLeaf};
 ghost use Rattle.lowering.specs.Registers.{most_need, taken};
 ghost use Rattle.lowering.specs.Sizes.{counted};
 
@@ -21,12 +21,12 @@ use crate::corners::{corner_of, corners_of};
 use crate::stores::pure_store;
 use bounds::boxes::extents_of;
 use bounds::{Boxes, SourceBox};
+use bounds_weights::weighing::inlined_flags;
 use halide_pipeline::{Func, Pipeline};
 use loop_ir::statements::Stmt;
-use nest_lowering::nests::with_nest;
+use lowering_nests::nests::with_nest;
 use schedule::{FuncPlan, LoopPlace, Place, Schedule};
 use std::alloc::{AllocError, Global};
-use weights::weighing::inlined_flags;
 
 /// The store of the pure definition of a Func with this box, which is computed there.
 pub(crate) fn store_of(

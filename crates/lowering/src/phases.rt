@@ -8,7 +8,7 @@ ghost use Rattle.lowering.specs.Lowered as spec;
 ghost use Rattle.lowering.specs.PurePhases.{IsAtRoot};
 ghost use Rattle.lowering.specs.Registers.{TakeFew};
 ghost use Rattle.lowering.specs.Sizes.{words_of};
-ghost use Rattle.weights.specs.Weight.{weight};
+ghost use Rattle.bounds_weights.specs.Weight.{weight};
 
 use crate::hosting::box_at;
 use crate::pure_phases::{is_at_root, pure_phase};

@@ -2,13 +2,13 @@
 
 ghost use Rattle.std.specs.Prelude.{◌≡◌, ◌+◌, ◌<◌, ◌≤◌, ◌^◌, ◌++◌, IfOk, Ok, OnOk, length};
 ghost use Rattle.schedule.specs.Accepted.{IsAccepted};
-ghost use Rattle.stage_loops.specs.Counts.{AreSplits};
-ghost use Rattle.stage_loops.specs.Iterations as iterations;
+ghost use Rattle.schedule_loops.specs.Counts.{AreSplits};
+ghost use Rattle.schedule_loops.specs.Iterations as iterations;
 ghost use Rattle.bounds.specs.Verdict.{inferred};
 ghost use Rattle.bounds.specs.Views as views;
 ghost use Rattle.loop_ir.specs.Depths.{task_depth};
 ghost use Rattle.loop_ir.specs.Needs.{greatest_need};
-ghost use Rattle.nest_lowering.specs.Nests.{AreFew};
+ghost use Rattle.lowering_nests.specs.Nests.{AreFew};
 ghost use Rattle.lowering.specs.HostedFuncs.{hosted_from};
 ghost use Rattle.lowering.specs.Planes.{owns};
 ghost use Rattle.lowering.specs.PurePhases as spec;
@@ -29,8 +29,8 @@ use loop_ir::expressions::Counter;
 use loop_ir::statements::Phase;
 use schedule::{FuncPlan, Place, Schedule, Standing};
 use schedule_lines::Stage;
+use schedule_loops::{Extents, LoopSizes};
 use sqlite_items::Items;
-use stage_loops::{Extents, LoopSizes};
 use std::alloc::{AllocError, Global};
 
 /// What stands at the number of a task.

@@ -2,26 +2,26 @@
 
 ghost use Rattle.std.specs.Prelude.{◌≡◌, ◌≤◌, ◌%◌, ◌^◌, IfOk, List, max, true, ◌+◌, ◌*◌, length};
 ghost use Rattle.halide_pipeline.specs.Words as word;
-ghost use Rattle.halide_meaning.specs.Pixel.{at_point};
-ghost use Rattle.inlining.specs.Inlining.{flagged};
+ghost use Rattle.halide_pipeline.specs.Pixel.{at_point};
+ghost use Rattle.bounds_inlining.specs.Inlining.{flagged};
 ghost use Rattle.loop_ir.specs.Counters.{Values};
 ghost use Rattle.loop_ir.specs.Depths.{depth};
 ghost use Rattle.loop_ir.specs.Expressions.{linear_value};
 ghost use Rattle.loop_ir.specs.Needs.{greatest_need};
 ghost use Rattle.loop_ir.specs.Runs.{is_about};
 ghost use Rattle.loop_ir.specs.Sizes.{whole_size};
-ghost use Rattle.expression_lowering.specs.Lowering.{environment};
-ghost use Rattle.expression_lowering.specs.Sizing.{AreShort, AreShortArguments, IsShort};
-ghost use Rattle.nest_lowering.specs.Rounds.{IsLeaf};
+ghost use Rattle.lowering_expressions.specs.Lowering.{environment};
+ghost use Rattle.lowering_expressions.specs.Sizing.{AreShort, AreShortArguments, IsShort};
+ghost use Rattle.lowering_nests.specs.Rounds.{IsLeaf};
 ghost use Rattle.lowering.specs.PurePhases.{HitsPure, IsSoundPure, MissesPure, StoresPure, whole_at};
 ghost use Rattle.lowering.specs.Registers.{taken};
 ghost use Rattle.lowering.specs.Sizes.{counted};
 
-use expression_lowering::{Arguments, Corner, lowered};
 use halide_pipeline::{Expr, Func, Variable};
 use loop_ir::expressions as terms;
 use loop_ir::expressions::{Counter, Linear};
 use loop_ir::statements::{Stmt, Store};
+use lowering_expressions::{Arguments, Corner, lowered};
 use schedule_lines::LoopId;
 use std::alloc::{AllocError, Global};
 

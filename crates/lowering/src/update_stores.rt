@@ -2,31 +2,31 @@
 
 ghost use Rattle.std.specs.Prelude.{◌≡◌, ◌+◌, ◌<◌, ◌≤◌, ◌^◌, Bool, IfOk, List, true, ◌*◌, length};
 ghost use Rattle.halide_pipeline.specs.Words as word;
-ghost use Rattle.halide_meaning.specs.Pixel.{Reads, variable as variable_in};
-ghost use Rattle.reads.specs.Points.{Hold, Point};
-ghost use Rattle.inlining.specs.Inlining.{flagged, inlined};
-ghost use Rattle.inlining.specs.Laws.{seen_variable};
-ghost use Rattle.inlining.specs.Values.{values as valuing, seeing};
+ghost use Rattle.halide_pipeline.specs.Pixel.{Reads, variable as variable_in};
+ghost use Rattle.halide_pipeline.specs.Points.{Hold, Point};
+ghost use Rattle.bounds_inlining.specs.Inlining.{flagged, inlined};
+ghost use Rattle.bounds_inlining.specs.Laws.{seen_variable};
+ghost use Rattle.bounds_inlining.specs.Values.{values as valuing, seeing};
 ghost use Rattle.loop_ir.specs.Counters.{Values};
 ghost use Rattle.loop_ir.specs.Depths.{depth};
 ghost use Rattle.loop_ir.specs.Expressions.{linear_value, loads, value};
 ghost use Rattle.loop_ir.specs.Needs.{greatest_need, need};
 ghost use Rattle.loop_ir.specs.Runs.{is_about};
 ghost use Rattle.loop_ir.specs.Sizes.{whole_size};
-ghost use Rattle.expression_lowering.specs.Lowering.{environment, place as place_in, placed};
-ghost use Rattle.expression_lowering.specs.Sizing.{AreShort, AreShortArguments, IsShort};
+ghost use Rattle.lowering_expressions.specs.Lowering.{environment, place as place_in, placed};
+ghost use Rattle.lowering_expressions.specs.Sizing.{AreShort, AreShortArguments, IsShort};
 ghost use Rattle.lowering.specs.Registers.{second_taken, update_taken};
 ghost use Rattle.lowering.specs.Sizes.{IsGivenIndex, update_counted};
 ghost use Rattle.lowering.specs.Updates as spec;
-ghost use Rattle.nest_lowering.specs.Rounds.{IsLeaf};
+ghost use Rattle.lowering_nests.specs.Rounds.{IsLeaf};
 
 use crate::stores::whole_of;
-use expression_lowering::calls::counted_from;
-use expression_lowering::{Arguments, Corner, lowered};
 use halide_pipeline::{Expr, Func, Reduction, Update, Variable};
 use loop_ir::expressions as terms;
 use loop_ir::expressions::Linear;
 use loop_ir::statements::{Stmt, Store};
+use lowering_expressions::calls::counted_from;
+use lowering_expressions::{Arguments, Corner, lowered};
 use std::alloc::{AllocError, Global};
 
 /// The sum of two.

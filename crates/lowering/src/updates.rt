@@ -1,23 +1,23 @@
 //! Phases of updates, and their loops where the Func is computed at a loop.
 
 ghost use Rattle.std.specs.Prelude.{◌≡◌, ◌+◌, ◌<◌, ◌≤◌, ◌^◌, List, [], IfOk, Ok, Some, length, slice_get, suc, true, ◌*◌};
-ghost use Rattle.halide_meaning.specs.Pixel as meaning;
+ghost use Rattle.halide_pipeline.specs.Pixel as meaning;
 ghost use Rattle.schedule.specs.Accepted.{IsAccepted};
-ghost use Rattle.stage_loops.specs.Counts.{AreSplits, counts};
-ghost use Rattle.stage_loops.specs.Iterations as iterations;
-ghost use Rattle.stage_loops.specs.Reach.{wholes};
-ghost use Rattle.inlining.specs.Inlining.{flagged};
-ghost use Rattle.weights.specs.Weight.{flags_of, stage_weight, update_nodes};
+ghost use Rattle.schedule_loops.specs.Counts.{AreSplits, counts};
+ghost use Rattle.schedule_loops.specs.Iterations as iterations;
+ghost use Rattle.schedule_loops.specs.Reach.{wholes};
+ghost use Rattle.bounds_inlining.specs.Inlining.{flagged};
+ghost use Rattle.bounds_weights.specs.Weight.{flags_of, stage_weight, update_nodes};
 ghost use Rattle.bounds.specs.Boxes.{IsBox};
 ghost use Rattle.bounds.specs.Verdict.{inferred};
 ghost use Rattle.loop_ir.specs.Depths.{depth, task_depth};
 ghost use Rattle.loop_ir.specs.Needs.{greatest_need};
 ghost use Rattle.loop_ir.specs.Runs.{is_about};
 ghost use Rattle.loop_ir.specs.Sizes.{whole_size};
-ghost use Rattle.expression_lowering.specs.Sizing.{AreShort, IsShort};
-ghost use Rattle.nest_lowering.specs.Nests.{AreFew, Repeats};
-ghost use Rattle.nest_lowering.specs.Rounds.{IsLeaf, MayBeAtOnce, MayBeUnder};
-ghost use Rattle.nest_lowering.specs.Sizes.{nest_size};
+ghost use Rattle.lowering_expressions.specs.Sizing.{AreShort, IsShort};
+ghost use Rattle.lowering_nests.specs.Nests.{AreFew, Repeats};
+ghost use Rattle.lowering_nests.specs.Rounds.{IsLeaf, MayBeAtOnce, MayBeUnder};
+ghost use Rattle.lowering_nests.specs.Sizes.{nest_size};
 ghost use Rattle.schedule_lines.specs.declared.stages.Loop.{Loop};
 ghost use Rattle.lowering.specs.Hosting.{StoresInIt};
 ghost use Rattle.lowering.specs.PurePhases as pure;
@@ -35,16 +35,16 @@ use crate::pure_phases::{byte_inputs, task_count, task_counter};
 use crate::update_stores::update_store;
 use bounds::boxes::extents_of;
 use bounds::{Boxes, SourceBox};
-use expression_lowering::Corner;
+use bounds_weights::weighing::inlined_flags;
 use halide_pipeline::{Func, Pipeline, Reduction, Update};
 use loop_ir::statements::{Phase, Stmt};
-use nest_lowering::nests::with_nest;
+use lowering_expressions::Corner;
+use lowering_nests::nests::with_nest;
 use schedule::{FuncPlan, Place, Schedule};
 use schedule_lines::Stage;
+use schedule_loops::Extents;
 use sqlite_items::Items;
-use stage_loops::Extents;
 use std::alloc::{AllocError, Global};
-use weights::weighing::inlined_flags;
 
 /// An update of a Func that is computed, with the Func's box and the update's loops.
 #[derive(Clone, Copy)]

@@ -6,9 +6,9 @@ use Rattle.std.specs.declared.alloc.AllocError.{AllocError}
 use Rattle.std.specs.declared.alloc.Global.{Global}
 use Rattle.picture.specs.declared.scenes.Slice.{Slice}
 use Rattle.picture.specs.declared.scenes.Table.{Table}
-use Rattle.halide_meaning.specs.Picture.{PictureContents}
+use Rattle.halide_pipeline.specs.Picture.{PictureContents}
 use Rattle.halide_pipeline.specs.declared.definitions.Func.{Func}
-use Rattle.halide_meaning.specs.Pixel.{Plane}
+use Rattle.halide_pipeline.specs.Pixel.{Plane}
 use Rattle.picture.specs.inner.Evaluation.{IsTable, IsSliceOf, AreSlicesOf, numbered_pixel}
 
 zip_ok : {X : Type 0} (R : ℕ → X → Type 0) (places : List ℕ) (values : List X) → AllZip (λ at (r : Result X AllocError). IfOk r (R at)) places (map Ok values) → AllZip R places values

@@ -10,11 +10,11 @@ use Rattle.halide_pipeline.specs.declared.definitions.Update.{Update}
 use Rattle.halide_pipeline.specs.declared.definitions.Func.{Func}
 use Rattle.halide_pipeline.specs.Definitions.{is_first_in_place, is_second_in_place}
 use Rattle.halide_pipeline.specs.Expressions.{uses}
-use Rattle.halide_meaning.specs.declared.environments.Environment.{Environment}
+use Rattle.halide_pipeline.specs.declared.environments.Environment.{Environment}
 use Rattle.picture.specs.declared.scenes.Scene.{Scene}
 use Rattle.picture.specs.declared.scenes.Slice.{Slice}
 use Rattle.picture.specs.declared.scenes.State.TheVariants as states
-use Rattle.halide_meaning.specs.Pixel.{Plane, Planes, Reads, value, variable, index_value, reads_of, with_plane, at_reduction, is_hit, after, after_all, stage, points}
+use Rattle.halide_pipeline.specs.Pixel.{Plane, Planes, Reads, value, variable, index_value, reads_of, with_plane, at_reduction, is_hit, after, after_all, stage, points}
 use Rattle.picture.specs.Slices.{is_on, is_forward, mentions, index_uses}
 use Rattle.picture.specs.Writes.{written, Sets, IsNone}
 use Rattle.picture.specs.inner.Evaluation.{inputs_of, earlier_of, after_some, after_of, stage_some, stage_of, reads_in, stage_in, Holds, IsForward, IsSliceOf}

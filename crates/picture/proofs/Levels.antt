@@ -7,7 +7,7 @@ use Rattle.halide_pipeline.specs.declared.definitions.Update.{Update}
 use Rattle.halide_pipeline.specs.declared.definitions.Func.{Func}
 use Rattle.picture.specs.declared.scenes.Scene.{Scene}
 use Rattle.picture.specs.declared.scenes.State.TheVariants as states
-use Rattle.halide_meaning.specs.Pixel.{Plane, Planes, value, reads_of, with_plane, at_reduction, is_hit, after, stage, func_plane, pixels}
+use Rattle.halide_pipeline.specs.Pixel.{Plane, Planes, value, reads_of, with_plane, at_reduction, is_hit, after, stage, func_plane, pixels}
 use Rattle.picture.specs.inner.Evaluation.{inputs_of, earlier_of, after_some, after_of, reads_in}
 
 pub pixels-past : (funcs : List Func) (inputs : Planes) (count place x y : ℕ) → count ≤ place → pixels funcs inputs count place x y ≡ 0

@@ -5,9 +5,9 @@ use Rattle.std.proofs.Math.Nat.{mul-le-mul_right}
 use Rattle.halide_pipeline.specs.Words as word
 use Rattle.picture.specs.declared.scenes.Known.{Known}
 use Rattle.picture.specs.declared.scenes.Table.{Table}
-use Rattle.halide_meaning.specs.Pixel.{Plane}
+use Rattle.halide_pipeline.specs.Pixel.{Plane}
 use Rattle.picture.specs.inner.Evaluation.{IsTable, AreTablesOf, AreKnownOf, IsKnown, plane_in, numbered_pixel}
-use Rattle.halide_meaning.specs.Picture.{PictureContents}
+use Rattle.halide_pipeline.specs.Picture.{PictureContents}
 use Rattle.halide_pipeline.specs.declared.definitions.Func.{Func}
 use Rattle.std.specs.Prelude.{slice_get}
 

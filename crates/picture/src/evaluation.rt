@@ -312,7 +312,7 @@ fn tabulate_all(
 }
 
 /// The picture of a pipeline's output, from the pictures that its inputs ask for. Each pixel is the
-/// value that the definition of a pixel has there, in arithmetic on words (`halide_meaning`); an
+/// value that the definition of a pixel has there, in arithmetic on words (`halide_pipeline`); an
 /// input is 0 outside its picture. Refused where there aren't as many pictures as inputs, else where
 /// a picture hasn't its input's size; and where memory runs out.
 pub fn evaluate(

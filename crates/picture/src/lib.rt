@@ -1,11 +1,11 @@
 //! Pictures, and the picture that a pipeline makes of others.
 //!
-//! `halide_meaning` has what a picture holds, `specs/Spelling.antt` its text and
+//! `halide_pipeline` has what a picture holds, `specs/Spelling.antt` its text and
 //! `specs/Reading.antt` what a text is read as: [`Picture::read`] reads exactly what is spelled so
 //! and else names the first fault, [`Picture::write`] spells a picture, and [`one_spelling`] is the
 //! law that each picture has one spelling and no spelling begins another.
 //!
-//! `halide_meaning` has what the pixels of a pipeline are, and `specs/Evaluated.antt` what
+//! `halide_pipeline` has what the pixels of a pipeline are, and `specs/Evaluated.antt` what
 //! [`evaluate`] answers: the output's pixels, or why the pictures aren't those that are asked for.
 //! Each Func gets a table of the pixels that are wanted of it (`boxes`), filled by as many threads
 //! as there are processors (`evaluation`); what no table has is computed as it is defined (`plain`).

@@ -2,7 +2,7 @@
 
 ghost use Rattle.std.specs.Prelude.{◌≡◌, ◌<◌, IfSome};
 ghost use Rattle.halide_pipeline.specs.WellFormed.{is_width, is_height};
-ghost use Rattle.halide_meaning.specs.Picture.{IsPicture, picture_if, pixel_at};
+ghost use Rattle.halide_pipeline.specs.Picture.{IsPicture, picture_if, pixel_at};
 
 use halide_pipeline::{MOST_EXTENT, MOST_POINTS};
 use std::marker::Model;
@@ -18,7 +18,7 @@ pub struct Picture {
 }
 
 impl Model for Picture {
-    ghost use Rattle.halide_meaning.specs.Picture.{PictureContents, IsPicture};
+    ghost use Rattle.halide_pipeline.specs.Picture.{PictureContents, IsPicture};
 
     ghost Value = { PictureContents };
 

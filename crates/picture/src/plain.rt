@@ -3,20 +3,19 @@
 ghost use Rattle.std.specs.Prelude.{◌≡◌, ◌<◌, ◌≤◌, ◌+◌, ◌-◌, ◌*◌, ◌/◌, ◌%◌, ◌^◌, ◌==◌, ◌&&◌, ℕ, List, IfOk, IfSome, IsTrue, true, Some, None, slice_get, slice_index, length};
 ghost use Rattle.std.specs.Option.{option_copied};
 ghost use Rattle.halide_pipeline.specs.Expressions.{nodes};
-ghost use Rattle.halide_meaning.specs.Pixel as spec;
+ghost use Rattle.halide_pipeline.specs.Pixel as spec;
 ghost use Rattle.halide_pipeline.specs.Words as word;
 ghost use Rattle.picture.specs.inner.Evaluation.{inputs_of, earlier_of, plane_of, after_of, funcs_in, reads_in, stage_of, stage_in, IsForward, IsState, AreTables, AreKnownOf, AreSlicesOf, IsSliceOf, IsTable, all_nodes, index_nodes, update_nodes};
 ghost use Rattle.picture.specs.Slices.{is_on, is_forward, mentions};
 ghost use Rattle.picture.specs.declared.scenes.State.TheVariants as states;
 ghost use Rattle.picture.specs.declared.scenes.Table.{Table};
 ghost use Rattle.halide_pipeline.specs.declared.definitions.Func.{Func};
-ghost use Rattle.halide_meaning.specs.Picture.{PictureContents};
+ghost use Rattle.halide_pipeline.specs.Picture.{PictureContents};
 
 use crate::pictures::Picture;
 use crate::scenes::{Known, Scene, Slice, State, Table};
 use crate::writes::Writes;
-use halide_meaning::Environment;
-use halide_pipeline::{Expr, Func, Reduction, Source, Update, Variable, words};
+use halide_pipeline::{Environment, Expr, Func, Reduction, Source, Update, Variable, words};
 use std::alloc::{AllocError, Global};
 
 /// What a variable stands for.
@@ -197,7 +196,7 @@ pub(crate) fn is_forward(update: &Update) -> bool
 
 /// The value of an expression in a definition of the Func at a place.
 #[cycle(pixel)]
-#[tactic(auto, unfolding(halide_meaning::specs::Pixel::value, halide_pipeline::specs::Expressions::nodes))]
+#[tactic(auto, unfolding(halide_pipeline::specs::Pixel::value, halide_pipeline::specs::Expressions::nodes))]
 fn value(
     alloc: Global,
     scene: &Scene,
@@ -387,7 +386,7 @@ pub(crate) fn pixel(
 
 /// A pixel of a Func after so many whole updates.
 #[cycle(pixel)]
-#[tactic(auto, unfolding(halide_meaning::specs::Pixel::stage))]
+#[tactic(auto, unfolding(halide_pipeline::specs::Pixel::stage))]
 fn stage(
     alloc: Global,
     scene: &Scene,
@@ -551,7 +550,7 @@ fn after_of(
 
 /// A pixel of a Func after so many whole updates and so many points of this next one.
 #[cycle(pixel)]
-#[tactic(auto, unfolding(halide_meaning::specs::Pixel::after))]
+#[tactic(auto, unfolding(halide_pipeline::specs::Pixel::after))]
 fn after(
     alloc: Global,
     scene: &Scene,

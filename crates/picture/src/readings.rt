@@ -3,7 +3,7 @@
 ghost use Rattle.std.specs.Prelude.{◌≡◌, ◌+◌, ◌*◌, ◌<◌, ◌≤◌, ℕ, length, IfOk, IsTrue, Ok, codes, vec_len};
 ghost use Rattle.line_text.specs.Reading.{Gives};
 ghost use Rattle.halide_pipeline.specs.WellFormed.{is_width, is_height};
-ghost use Rattle.halide_meaning.specs.Picture.{PictureContents, IsPicture};
+ghost use Rattle.halide_pipeline.specs.Picture.{PictureContents, IsPicture};
 ghost use Rattle.picture.specs.Spelling.{spelled};
 ghost use Rattle.picture.specs.Reading as spec;
 

@@ -8,7 +8,7 @@ use Rattle.rv_insn.specs.declared.instructions.Insn.TheVariants.{Store as Save}
 use Rattle.rv_insn.specs.declared.operations.StoreOp.TheVariants as stores
 use Rattle.std.specs.Prelude.{pos}
 use Rattle.halide_pipeline.specs.declared.expressions.Source.TheVariants as sources
-use Rattle.halide_meaning.specs.Pixel.{Reads}
+use Rattle.halide_pipeline.specs.Pixel.{Reads}
 use Rattle.loop_ir.specs.declared.expressions.Counter.{Counter}
 use Rattle.loop_ir.specs.declared.statements.LoopKind.{LoopKind}
 use Rattle.loop_ir.specs.declared.statements.LoopKind.TheVariants as kinds
@@ -21,15 +21,15 @@ use Rattle.loop_ir.specs.declared.statements.Stmt.TheVariants.{rolls-Store, roll
 use Rattle.loop_ir.specs.declared.statements.Stmt.TheVariants as s
 use Rattle.loop_ir.specs.Rounds.{Rounds, rounds, is_round_count}
 use Rattle.loop_ir.proofs.Rounds.{rounds_store, rounds_sequence, rounds_for, rounds_bind}
-use Rattle.scalar_code.specs.declared.places.Places.{Places}
-use Rattle.scalar_code.specs.Code.{move, addressed, place_of, seat, value_code, whole_code, bind_code, test}
-use Rattle.scalar_code.specs.Fitting.{is_word, has_seat, fits_whole}
-use Rattle.lane_code.specs.declared.groups.Group.{Group}
-use Rattle.lane_code.specs.declared.groups.Group.TheVariants as groups
-use Rattle.lane_code.specs.Groups.{registers, group_of_rounds}
-use Rattle.collected_code.specs.Collected.{collected, collecting, is_one_store, round_fits, one_round_code, collected_code, collected_fits}
-use Rattle.collected_code.proofs.Emission.{code-store as round-store, code-bind as round-bind, loop-length, no-sequence, no-for}
-use Rattle.collected_code.proofs.Unrolled.{one-store-store, one-store-sequence, one-store-for, one-store-bind, round-fits-store, round-fits-bind}
+use Rattle.task_code_scalar.specs.declared.places.Places.{Places}
+use Rattle.task_code_scalar.specs.Code.{move, addressed, place_of, seat, value_code, whole_code, bind_code, test}
+use Rattle.task_code_scalar.specs.Fitting.{is_word, has_seat, fits_whole}
+use Rattle.task_code_lanes.specs.declared.groups.Group.{Group}
+use Rattle.task_code_lanes.specs.declared.groups.Group.TheVariants as groups
+use Rattle.task_code_lanes.specs.Groups.{registers, group_of_rounds}
+use Rattle.task_code_vector.specs.Collected.{collected, collecting, is_one_store, round_fits, one_round_code, collected_code, collected_fits}
+use Rattle.task_code_vector.proofs.CollectedEmission.{code-store as round-store, code-bind as round-bind, loop-length, no-sequence, no-for}
+use Rattle.task_code_vector.proofs.Unrolled.{one-store-store, one-store-sequence, one-store-for, one-store-bind, round-fits-store, round-fits-bind}
 use Rattle.task_code.specs.Code.{stmt_code, group_collected}
 use Rattle.task_code.specs.Fitting.{fits}
 use Rattle.task_code.proofs.Unrolled.{code-store, code-bind, fits-store, fits-for, fits-bind}

@@ -10,8 +10,8 @@ use Rattle.rv_insn.specs.declared.operations.StoreOp.TheVariants as save_ops
 use Rattle.memory.specs.Access.{Word, access_at, number_in, touched}
 use Rattle.halide_pipeline.specs.declared.expressions.Source.{Source}
 use Rattle.halide_pipeline.specs.declared.expressions.Source.TheVariants as sources
-use Rattle.halide_meaning.specs.Pixel.{Planes, Reads, reads_of}
-use Rattle.reads.specs.Points.{Point, Seen}
+use Rattle.halide_pipeline.specs.Pixel.{Planes, Reads, reads_of}
+use Rattle.halide_pipeline.specs.Points.{Point, Seen}
 use Rattle.loop_ir.specs.declared.expressions.Counter.{Counter}
 use Rattle.loop_ir.specs.declared.expressions.Expr.TheVariants as e
 use Rattle.loop_ir.specs.declared.expressions.Linear.{Linear}
@@ -24,18 +24,18 @@ use Rattle.loop_ir.specs.Rounds.{Rounds}
 use Rattle.loop_ir.proofs.Rounds.{rounds_store}
 use Rattle.loop_ir.proofs.Sound.{sound_store}
 use Rattle.loop_ir.proofs.Trees.{run_store}
-use Rattle.lone_hart.specs.LaneMemory.{firsts}
-use Rattle.lone_hart.specs.Paths.{Stand, end, Path}
-use Rattle.scalar_code.specs.Code.{leaf, Deep, deep, deep_at, deep_leaf, is_linear, linear_code, literal, move, addressed}
+use Rattle.multi_hart_logic.specs.LaneMemory.{firsts}
+use Rattle.multi_hart_logic.specs.Paths.{Stand, end, Path}
+use Rattle.task_code_scalar.specs.Code.{leaf, Deep, deep, deep_at, deep_leaf, is_linear, linear_code, literal, move, addressed}
 use Rattle.task_code.specs.Code.{task_code, restored}
-use Rattle.scalar_code.specs.Evaluation.{IsPlace, ArePlaces}
-use Rattle.scalar_code.specs.Fitting.{has_room, is_word}
+use Rattle.task_code_scalar.specs.Evaluation.{IsPlace, ArePlaces}
+use Rattle.task_code_scalar.specs.Fitting.{has_room, is_word}
 use Rattle.task_code.specs.Fitting.{fits_task, task_turns}
-use Rattle.scalar_code.specs.Layout.{func_point, address_of, size_of, IsAt, MayStore, MayLoad, Laid}
-use Rattle.scalar_code.specs.Doing.{IsSetting, MayBeWrittenAtOnce, SoundIn, HoldsFuncs}
+use Rattle.task_code_scalar.specs.Layout.{func_point, address_of, size_of, IsAt, MayStore, MayLoad, Laid}
+use Rattle.task_code_scalar.specs.Doing.{IsSetting, MayBeWrittenAtOnce, SoundIn, HoldsFuncs}
 use Rattle.task_code.specs.Doing.{AtOnceIn}
 use Rattle.task_code.specs.Example.{example_counter, counted, example_store, example_phase, example_place, example_places, example_ticket, example_text, example_data, example_world, nothing, its_points, is_its_point, example_setting, ExampleIsDone}
-use Rattle.scalar_code.proofs.Spelling.{stand-spelled}
+use Rattle.task_code_scalar.proofs.Spelling.{stand-spelled}
 use Rattle.task_code.proofs.Unrolled.{code-store, fits-store, turns-store}
 use Rattle.task_code.proofs.Finishing.{tasks-done}
 use Rattle.task_code.proofs.ExampleWords.{example_insns, example-spelled}

@@ -13,7 +13,7 @@ use Rattle.rv_encoding.specs.Keys.{key_in}
 use Rattle.rv_insn.specs.Table.{scalar_table, r_type, i_type, s_type, b_type, u_type, j_type, amo_type, whole_word}
 use Rattle.rv_insn.specs.Encoding.{fixed, span}
 use Rattle.task_code.specs.Example.{example_text}
-use Rattle.scalar_code.specs.Words.{Spell}
+use Rattle.task_code_scalar.specs.Words.{Spell}
 
 means-0 : decoded 0x00000A37 ≡ Some (Lui 20 0)
 unfolding decoded decode.rd_of decode.u_immediate_of key_in scalar_table r_type i_type s_type b_type u_type j_type amo_type whole_word fixed span

@@ -6,19 +6,19 @@ use Rattle.std.proofs.lemmas.Bool.Decides.{nat_tests}
 use Rattle.loop_ir.specs.declared.expressions.Counter.{Counter}
 use Rattle.loop_ir.specs.Counters.{same_counter}
 use Rattle.loop_ir.specs.Running.{task_values}
-use Rattle.lone_hart.specs.Alone.{World}
-use Rattle.lone_hart.specs.Paths.{Stand, Line}
-use Rattle.lone_hart.proofs.Paths.{block-then, line-then, stand-front, writes-first}
-use Rattle.scalar_code.specs.Code.{literal}
+use Rattle.multi_hart_logic.specs.Alone.{World}
+use Rattle.multi_hart_logic.specs.Paths.{Stand, Line}
+use Rattle.multi_hart_logic.proofs.Paths.{block-then, line-then, stand-front, writes-first}
+use Rattle.task_code_scalar.specs.Code.{literal}
 use Rattle.task_code.specs.Code.{restored, stmt_code, task_scope}
-use Rattle.scalar_code.specs.Evaluation.{Knows}
-use Rattle.scalar_code.specs.Fitting.{is_word}
+use Rattle.task_code_scalar.specs.Evaluation.{Knows}
+use Rattle.task_code_scalar.specs.Fitting.{is_word}
 use Rattle.task_code.specs.Code.{stmt_turns}
 use Rattle.task_code.specs.Fitting.{fits}
 use Rattle.task_code.specs.Tasks.{TasksAreDone, AppendedWordsStand}
-use Rattle.scalar_code.proofs.Values.{literal-sets}
-use Rattle.scalar_code.proofs.Spelling.{stand-spelled, spell-length}
-use Rattle.scalar_code.proofs.Looping.{end-length}
+use Rattle.task_code_scalar.proofs.Values.{literal-sets}
+use Rattle.task_code_scalar.proofs.Spelling.{stand-spelled, spell-length}
+use Rattle.task_code_scalar.proofs.Looping.{end-length}
 use Rattle.task_code.proofs.Following.{statements-done}
 
 below : (n k : ℕ) → nat_lt n k ≡ true → n < k

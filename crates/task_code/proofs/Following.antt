@@ -4,7 +4,7 @@ use Rattle.std.specs.Prelude.{◌⊎◌, ◌==◌, ◌&&◌, ◌||◌, not, if�
 use Rattle.std.proofs.lemmas.Bool.{and_parts, or_cases, true≢false, not-true, eq-eqb}
 use Rattle.std.proofs.lemmas.Bool.Decides.{nat_tests}
 use Rattle.rv_insn.specs.declared.instructions.Insn.{Insn}
-use Rattle.halide_meaning.specs.Pixel.{Planes, reads_of}
+use Rattle.halide_pipeline.specs.Pixel.{Planes, reads_of}
 use Rattle.loop_ir.specs.declared.expressions.Counter.{Counter}
 use Rattle.loop_ir.specs.declared.statements.LoopKind.{LoopKind}
 use Rattle.loop_ir.specs.declared.statements.Store.{Store}
@@ -26,26 +26,26 @@ use Rattle.loop_ir.specs.Sizes.{are_copies, is_laid_out}
 use Rattle.loop_ir.specs.Soundness.{every, is_sound}
 use Rattle.loop_ir.proofs.Trees.{run_store, run_sequence, run_for, run_bind}
 use Rattle.loop_ir.proofs.Sound.{sound_store, sound_sequence, sound_for, sound_bind}
-use Rattle.scalar_code.specs.Code.{seat, laid_out_code, loop_code, turns_code, whole_code}
+use Rattle.task_code_scalar.specs.Code.{seat, laid_out_code, loop_code, turns_code, whole_code}
 use Rattle.task_code.specs.Code.{stmt_code, turns_of}
-use Rattle.scalar_code.specs.Evaluation.{Knows}
-use Rattle.scalar_code.specs.Fitting.{is_word, has_seat, fits_whole, total}
+use Rattle.task_code_scalar.specs.Evaluation.{Knows}
+use Rattle.task_code_scalar.specs.Fitting.{is_word, has_seat, fits_whole, total}
 use Rattle.task_code.specs.Code.{stmt_turns}
 use Rattle.task_code.specs.Fitting.{fits}
-use Rattle.scalar_code.specs.Layout.{AreWords}
-use Rattle.scalar_code.specs.Doing.{Setting, IsSetting, SoundIn, RunsIn, HoldsFuncs, stored_points}
+use Rattle.task_code_scalar.specs.Layout.{AreWords}
+use Rattle.task_code_scalar.specs.Doing.{Setting, IsSetting, SoundIn, RunsIn, HoldsFuncs, stored_points}
 use Rattle.task_code.specs.Doing.{AtOnceIn, StatementsAreDone}
-use Rattle.scalar_code.proofs.Keeping.{knows-still}
-use Rattle.scalar_code.proofs.Going.{Hits, hits_if, Does, went-hits, went-is, does-then}
-use Rattle.scalar_code.proofs.Tracing.{hit, made, hit_before, hit-store, hit-sequence, hit-for, hit-first, hit-later, hit-bind}
-use Rattle.scalar_code.proofs.Placing.{store-does}
-use Rattle.scalar_code.proofs.Copying.{laid-does}
-use Rattle.scalar_code.proofs.Looping.{each-turn, loop-does}
-use Rattle.scalar_code.proofs.Binding.{bind-does}
-use Rattle.round_code.specs.Rounds.{rounds_code, rounds_turns, rounds_fit}
-use Rattle.round_code.proofs.Looping.{loop-does as rounds-done}
-use Rattle.collected_code.proofs.Looping.{loop-does as collected-done}
-use Rattle.lane_code.specs.declared.groups.Group.{Group}
+use Rattle.task_code_scalar.proofs.Keeping.{knows-still}
+use Rattle.task_code_scalar.proofs.Going.{Hits, hits_if, Does, went-hits, went-is, does-then}
+use Rattle.task_code_scalar.proofs.Tracing.{hit, made, hit_before, hit-store, hit-sequence, hit-for, hit-first, hit-later, hit-bind}
+use Rattle.task_code_scalar.proofs.Placing.{store-does}
+use Rattle.task_code_scalar.proofs.Copying.{laid-does}
+use Rattle.task_code_scalar.proofs.Looping.{each-turn, loop-does}
+use Rattle.task_code_scalar.proofs.Binding.{bind-does}
+use Rattle.task_code_vector.specs.Rounds.{rounds_code, rounds_turns, rounds_fit}
+use Rattle.task_code_vector.proofs.Looping.{loop-does as rounds-done}
+use Rattle.task_code_vector.proofs.CollectedLooping.{loop-does as collected-done}
+use Rattle.task_code_lanes.specs.declared.groups.Group.{Group}
 use Rattle.task_code.specs.Code.{code_taken, turns_taken, group_taken, group_collected, code_otherwise, turns_otherwise}
 use Rattle.task_code.proofs.Taking.{IsTaken, is-taken}
 use Rattle.task_code.proofs.Unrolled.{in_turn, turns_in_turn, code-store, code-sequence, code-for, code-bind, fits-store, fits-sequence, fits-for, fits-bind, turns-store, turns-sequence, turns-for, turns-bind}

@@ -25,11 +25,11 @@ use Rattle.loop_ir.specs.declared.statements.Stmt.TheVariants as s
 use Rattle.loop_ir.specs.Sizes.{Size, leaf, kept, size, size_at, size_of, are_copies, is_laid_out, loop_size, loop_room, whole_size}
 use Rattle.loop_ir.proofs.Folds.{Both, left_of, right_of, folds_related}
 use Rattle.loop_ir.proofs.Sizes.{whole_store, whole_sequence, whole_for, whole_bind}
-use Rattle.scalar_code.specs.declared.places.Pixels.{Pixels}
-use Rattle.scalar_code.specs.declared.places.Pixels.TheVariants as pixels
-use Rattle.scalar_code.specs.declared.places.Place.{Place}
-use Rattle.scalar_code.specs.declared.places.Places.{Places}
-use Rattle.scalar_code.specs.Code.{Made, Deep, pair, divided, triple, beside, operation, quotient, remainder, selection, literal, move, scaled, raised, copied, addressed, fetch, loading, place_of, terms_code, seat, seat_in, made_at, spill, unspill, frames_of, on_stack, deep_or, deep_leaf, deep_at, deep, second_code, value_code, store_code, test, bounded, whole_code, bind_code}
+use Rattle.task_code_scalar.specs.declared.places.Pixels.{Pixels}
+use Rattle.task_code_scalar.specs.declared.places.Pixels.TheVariants as pixels
+use Rattle.task_code_scalar.specs.declared.places.Place.{Place}
+use Rattle.task_code_scalar.specs.declared.places.Places.{Places}
+use Rattle.task_code_scalar.specs.Code.{Made, Deep, pair, divided, triple, beside, operation, quotient, remainder, selection, literal, move, scaled, raised, copied, addressed, fetch, loading, place_of, terms_code, seat, seat_in, made_at, spill, unspill, frames_of, on_stack, deep_or, deep_leaf, deep_at, deep, second_code, value_code, store_code, test, bounded, whole_code, bind_code}
 use Rattle.task_code.specs.Code.{stmt_code, task_scope, restored}
 use Rattle.task_code.specs.Lengths.{StatementsAreShort, TasksAreShort}
 use Rattle.task_code.specs.Code.{code_taken, group_of_loop, group_taken}

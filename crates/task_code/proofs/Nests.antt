@@ -12,15 +12,15 @@ use Rattle.loop_ir.specs.declared.statements.Stmt.{Stmt}
 use Rattle.loop_ir.specs.declared.statements.Stmt.TheVariants as s
 use Rattle.loop_ir.specs.declared.statements.Whole.{Whole}
 use Rattle.loop_ir.specs.Sizes.{is_laid_out}
-use Rattle.scalar_code.specs.declared.places.Places.{Places}
-use Rattle.scalar_code.specs.Code.{seat, store_code, turns_code, bind_code}
+use Rattle.task_code_scalar.specs.declared.places.Places.{Places}
+use Rattle.task_code_scalar.specs.Code.{seat, store_code, turns_code, bind_code}
 use Rattle.task_code.specs.Code.{stmt_code, task_scope, restored}
-use Rattle.scalar_code.specs.Fitting.{is_word, has_room, has_seat, fits_store, fits_whole}
+use Rattle.task_code_scalar.specs.Fitting.{is_word, has_room, has_seat, fits_store, fits_whole}
 use Rattle.task_code.specs.Fitting.{fits}
 use Rattle.task_code.specs.Tasks.{EmitsStmt, EmitsTask}
-use Rattle.scalar_code.specs.Words.{Emits}
-use Rattle.scalar_code.proofs.WordTests.{word-test}
-use Rattle.scalar_code.proofs.Spelling.{emits_then, emits-is, emits-apart}
+use Rattle.task_code_scalar.specs.Words.{Emits}
+use Rattle.task_code_scalar.proofs.WordTests.{word-test}
+use Rattle.task_code_scalar.proofs.Spelling.{emits_then, emits-is, emits-apart}
 use Rattle.task_code.specs.Code.{code_taken, group_taken}
 use Rattle.task_code.proofs.Unrolled.{in_turn, code-store, code-sequence, code-for, code-bind, fits-store, fits-sequence, fits-for, fits-bind}
 

@@ -14,9 +14,9 @@ use Rattle.loop_ir.specs.declared.statements.Stmt.TheVariants.{rolls-Store, roll
 use Rattle.loop_ir.specs.declared.statements.Stmt.TheVariants as s
 use Rattle.loop_ir.specs.Depths.{depth, count_of}
 use Rattle.loop_ir.proofs.Depths.{depth_sequence, depth_for, depth_bind}
-use Rattle.scalar_code.specs.declared.places.Places.{Places}
+use Rattle.task_code_scalar.specs.declared.places.Places.{Places}
 use Rattle.task_code.specs.Code.{task_scope}
-use Rattle.scalar_code.specs.Fitting.{is_word, has_seat, fits_store, fits_whole}
+use Rattle.task_code_scalar.specs.Fitting.{is_word, has_seat, fits_store, fits_whole}
 use Rattle.task_code.specs.Fitting.{fits, parts_fit_at, parts_fit, CountersHaveSeats}
 use Rattle.task_code.proofs.Unrolled.{fits-store, fits-sequence, fits-for, fits-bind}
 

@@ -18,17 +18,17 @@ use Rattle.loop_ir.specs.Needs.{greatest_need}
 use Rattle.loop_ir.specs.Sizes.{are_copies, is_laid_out, loop_size}
 use Rattle.loop_ir.proofs.Depths.{depth_sequence, depth_for, depth_bind}
 use Rattle.loop_ir.proofs.Needs.{greatest_store, greatest_sequence, greatest_for, greatest_bind}
-use Rattle.scalar_code.specs.declared.CodeFault.{CodeFault}
-use Rattle.scalar_code.specs.declared.places.Places.{Places}
-use Rattle.scalar_code.specs.Code.{seat, copies_code, laid_out_code, loop_code, turns_code, loop_tail}
+use Rattle.task_code_scalar.specs.declared.CodeFault.{CodeFault}
+use Rattle.task_code_scalar.specs.declared.places.Places.{Places}
+use Rattle.task_code_scalar.specs.Code.{seat, copies_code, laid_out_code, loop_code, turns_code, loop_tail}
 use Rattle.task_code.specs.Code.{stmt_code, task_scope, restored}
-use Rattle.scalar_code.specs.Faults.{IsLong, HasRoom, FitsStore}
-use Rattle.scalar_code.specs.Words.{Emits}
+use Rattle.task_code_scalar.specs.Faults.{IsLong, HasRoom, FitsStore}
+use Rattle.task_code_scalar.specs.Words.{Emits}
 use Rattle.task_code.specs.Faults.{IsStmtFault, IsTaskFault, FitsStmt}
 use Rattle.task_code.specs.Tasks.{EmitsStmt}
-use Rattle.scalar_code.proofs.Refusing.{passed}
-use Rattle.scalar_code.proofs.Spelling.{emits-length}
-use Rattle.collected_code.proofs.Emission.{bind-length, less-room}
+use Rattle.task_code_scalar.proofs.Refusing.{passed}
+use Rattle.task_code_scalar.proofs.Spelling.{emits-length}
+use Rattle.task_code_vector.proofs.CollectedEmission.{bind-length, less-room}
 use Rattle.task_code.specs.Code.{group_of_loop}
 use Rattle.task_code.specs.Taking.{IsTakenFault}
 use Rattle.task_code.proofs.Nests.{turns-made}

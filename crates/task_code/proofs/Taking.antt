@@ -8,15 +8,15 @@ use Rattle.loop_ir.specs.declared.expressions.Counter.{Counter}
 use Rattle.loop_ir.specs.declared.statements.LoopKind.{LoopKind}
 use Rattle.loop_ir.specs.declared.statements.LoopKind.TheVariants as kinds
 use Rattle.loop_ir.specs.declared.statements.Stmt.{Stmt}
-use Rattle.scalar_code.specs.declared.places.Places.{Places}
-use Rattle.scalar_code.specs.Faults.{IsLong}
-use Rattle.scalar_code.specs.Words.{Emits}
-use Rattle.scalar_code.proofs.Spelling.{emits-is, emits-length, emits-apart}
-use Rattle.lane_code.specs.declared.groups.Group.{Group}
-use Rattle.lane_code.specs.Groups.{group_of_rounds}
-use Rattle.round_code.specs.Rounds.{rounds_code, rounds_fit}
-use Rattle.collected_code.specs.Collected.{collected_code}
-use Rattle.collected_code.specs.Faults.{EmitsCollected}
+use Rattle.task_code_scalar.specs.declared.places.Places.{Places}
+use Rattle.task_code_scalar.specs.Faults.{IsLong}
+use Rattle.task_code_scalar.specs.Words.{Emits}
+use Rattle.task_code_scalar.proofs.Spelling.{emits-is, emits-length, emits-apart}
+use Rattle.task_code_lanes.specs.declared.groups.Group.{Group}
+use Rattle.task_code_lanes.specs.Groups.{group_of_rounds}
+use Rattle.task_code_vector.specs.Rounds.{rounds_code, rounds_fit}
+use Rattle.task_code_vector.specs.Collected.{collected_code}
+use Rattle.task_code_vector.specs.Faults.{EmitsCollected}
 use Rattle.loop_ir.specs.Sizes.{whole_size}
 use Rattle.task_code.specs.Code.{stmt_code, fitting, group_of_loop, is_short, if_short, group_taken, group_collected, code_otherwise, code_taken}
 use Rattle.task_code.specs.Taking.{EmitsAtOnce, EmitsOtherwise, otherwise}

@@ -16,13 +16,13 @@ use Rattle.loop_ir.specs.declared.statements.Stmt.TheVariants as stmts
 use Rattle.loop_ir.specs.Counters.{Values, with}
 use Rattle.loop_ir.specs.Running.{whole_value}
 use Rattle.loop_ir.specs.Sizes.{are_copies, is_laid_out, whole_size}
-use Rattle.scalar_code.specs.declared.places.Places.{Places}
-use Rattle.scalar_code.specs.Code.{seat, literal, store_code, turns_code, whole_code, bind_code}
-use Rattle.scalar_code.specs.Fitting.{total}
-use Rattle.lane_code.specs.declared.groups.Group.{Group}
-use Rattle.lane_code.specs.Groups.{group_of_rounds}
-use Rattle.round_code.specs.Rounds.{rounds_code, rounds_turns, rounds_fit}
-use Rattle.collected_code.specs.Collected.{is_one_store, collected_code, collected_turns}
+use Rattle.task_code_scalar.specs.declared.places.Places.{Places}
+use Rattle.task_code_scalar.specs.Code.{seat, literal, store_code, turns_code, whole_code, bind_code}
+use Rattle.task_code_scalar.specs.Fitting.{total}
+use Rattle.task_code_lanes.specs.declared.groups.Group.{Group}
+use Rattle.task_code_lanes.specs.Groups.{group_of_rounds}
+use Rattle.task_code_vector.specs.Rounds.{rounds_code, rounds_turns, rounds_fit}
+use Rattle.task_code_vector.specs.Collected.{is_one_store, collected_code, collected_turns}
 
 -- ---- loops whose rounds are done at once
 

@@ -1,15 +1,15 @@
 -- What the code of a statement leaves, wherever it stands: what the statement does to the buffers, in turns that hang on no buffer.
 -- This project's own.
 use Rattle.std.specs.Prelude.{◌≡◌, ℕ, true, List}
-use Rattle.halide_meaning.specs.Pixel.{Planes, reads_of}
+use Rattle.halide_pipeline.specs.Pixel.{Planes, reads_of}
 use Rattle.loop_ir.specs.declared.expressions.Counter.{Counter}
 use Rattle.loop_ir.specs.declared.statements.Stmt.{Stmt}
 use Rattle.loop_ir.specs.Counters.{Values}
 use Rattle.loop_ir.specs.Rounds.{may_be_at_once}
 use Rattle.loop_ir.specs.Running.{run}
-use Rattle.scalar_code.specs.Doing.{Setting, IsSetting, SoundIn, RunsIn, HoldsFuncs, Done, stored_points}
-use Rattle.scalar_code.specs.Evaluation.{Knows}
-use Rattle.scalar_code.specs.Layout.{AreWords}
+use Rattle.task_code_scalar.specs.Doing.{Setting, IsSetting, SoundIn, RunsIn, HoldsFuncs, Done, stored_points}
+use Rattle.task_code_scalar.specs.Evaluation.{Knows}
+use Rattle.task_code_scalar.specs.Layout.{AreWords}
 use Rattle.task_code.specs.Code.{stmt_code, stmt_turns}
 use Rattle.task_code.specs.Fitting.{fits}
 

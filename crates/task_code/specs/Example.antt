@@ -6,8 +6,8 @@ use Rattle.std.specs.Prelude.{◌%◌, ◌≡◌, ◌<◌, ℕ, ◌+◌, ◌*◌
 use Rattle.memory.specs.Addresses.{text_start}
 use Rattle.memory.specs.Access.{word_at}
 use Rattle.halide_pipeline.specs.declared.expressions.Source.TheVariants as sources
-use Rattle.halide_meaning.specs.Pixel.{Planes}
-use Rattle.reads.specs.Points.{Point}
+use Rattle.halide_pipeline.specs.Pixel.{Planes}
+use Rattle.halide_pipeline.specs.Points.{Point}
 use Rattle.schedule_lines.specs.declared.stages.LoopId.TheVariants as ids
 use Rattle.loop_ir.specs.declared.expressions.Counter.{Counter}
 use Rattle.loop_ir.specs.declared.expressions.Expr.TheVariants as e
@@ -16,13 +16,13 @@ use Rattle.loop_ir.specs.declared.statements.Phase.{Phase}
 use Rattle.loop_ir.specs.declared.statements.Store.{Store}
 use Rattle.loop_ir.specs.declared.statements.Stmt.TheVariants as s
 use Rattle.loop_ir.specs.Buffers.{Points}
-use Rattle.lone_hart.specs.Uses.{Use, Control, Fixed, Owned, Task}
-use Rattle.lone_hart.specs.Alone.{World}
-use Rattle.lone_hart.specs.Paths.{Path}
-use Rattle.scalar_code.specs.declared.places.Pixels.TheVariants as pixels
-use Rattle.scalar_code.specs.declared.places.Place.{Place}
-use Rattle.scalar_code.specs.declared.places.Places.{Places}
-use Rattle.scalar_code.specs.Doing.{Setting}
+use Rattle.multi_hart_logic.specs.Uses.{Use, Control, Fixed, Owned, Task}
+use Rattle.multi_hart_logic.specs.Alone.{World}
+use Rattle.multi_hart_logic.specs.Paths.{Path}
+use Rattle.task_code_scalar.specs.declared.places.Pixels.TheVariants as pixels
+use Rattle.task_code_scalar.specs.declared.places.Place.{Place}
+use Rattle.task_code_scalar.specs.declared.places.Places.{Places}
+use Rattle.task_code_scalar.specs.Doing.{Setting}
 use Rattle.task_code.specs.Tasks.{HasDrawn}
 
 -- ---- the phase

@@ -5,10 +5,10 @@ use Rattle.loop_ir.specs.declared.statements.Phase.{Phase}
 use Rattle.loop_ir.specs.declared.statements.Stmt.{Stmt}
 use Rattle.loop_ir.specs.Depths.{depth, task_depth}
 use Rattle.loop_ir.specs.Needs.{greatest_need}
-use Rattle.scalar_code.specs.declared.CodeFault.{CodeFault}
-use Rattle.scalar_code.specs.declared.places.Places.{Places}
+use Rattle.task_code_scalar.specs.declared.CodeFault.{CodeFault}
+use Rattle.task_code_scalar.specs.declared.places.Places.{Places}
 use Rattle.task_code.specs.Code.{stmt_code, task_code}
-use Rattle.scalar_code.specs.Faults.{IsFault, IsLong, LieLow, HasRoom}
+use Rattle.task_code_scalar.specs.Faults.{IsFault, IsLong, LieLow, HasRoom}
 
 -- of a statement among so many counters, of which 14 have registers
 abbrev pub FitsStmt : Places → Stmt → ℕ → Type 0

@@ -8,9 +8,9 @@ use Rattle.loop_ir.specs.declared.statements.Stmt.TheOpen.{Stmt-F}
 use Rattle.loop_ir.specs.declared.statements.Stmt.TheOpen as parts
 use Rattle.loop_ir.specs.Depths.{task_depth}
 use Rattle.loop_ir.specs.Running.{task_values}
-use Rattle.scalar_code.specs.declared.places.Places.{Places}
+use Rattle.task_code_scalar.specs.declared.places.Places.{Places}
 use Rattle.task_code.specs.Code.{stmt_turns, restored, task_scope}
-use Rattle.scalar_code.specs.Fitting.{is_word, fits_store, has_seat, fits_whole}
+use Rattle.task_code_scalar.specs.Fitting.{is_word, fits_store, has_seat, fits_whole}
 
 -- ---- registers suffice, and numbers are words
 

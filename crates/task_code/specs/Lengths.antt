@@ -4,7 +4,7 @@ use Rattle.loop_ir.specs.declared.expressions.Counter.{Counter}
 use Rattle.loop_ir.specs.declared.statements.Phase.{Phase}
 use Rattle.loop_ir.specs.declared.statements.Stmt.{Stmt}
 use Rattle.loop_ir.specs.Sizes.{whole_size}
-use Rattle.scalar_code.specs.declared.places.Places.{Places}
+use Rattle.task_code_scalar.specs.declared.places.Places.{Places}
 use Rattle.task_code.specs.Code.{stmt_code, task_code}
 
 -- wherever buffers lie, and among whatever counters

@@ -4,13 +4,13 @@ use Rattle.rv_insn.specs.declared.instructions.Insn.{Insn}
 use Rattle.loop_ir.specs.declared.expressions.Counter.{Counter}
 use Rattle.loop_ir.specs.declared.statements.LoopKind.{LoopKind}
 use Rattle.loop_ir.specs.declared.statements.Stmt.{Stmt}
-use Rattle.scalar_code.specs.declared.CodeFault.{CodeFault}
-use Rattle.scalar_code.specs.declared.places.Places.{Places}
-use Rattle.scalar_code.specs.Faults.{IsFault, IsLong}
-use Rattle.scalar_code.specs.Words.{Emits}
-use Rattle.lane_code.specs.declared.groups.Group.{Group}
-use Rattle.round_code.specs.Rounds.{rounds_code}
-use Rattle.collected_code.specs.Faults.{FitsRound}
+use Rattle.task_code_scalar.specs.declared.CodeFault.{CodeFault}
+use Rattle.task_code_scalar.specs.declared.places.Places.{Places}
+use Rattle.task_code_scalar.specs.Faults.{IsFault, IsLong}
+use Rattle.task_code_scalar.specs.Words.{Emits}
+use Rattle.task_code_lanes.specs.declared.groups.Group.{Group}
+use Rattle.task_code_vector.specs.Rounds.{rounds_code}
+use Rattle.task_code_vector.specs.Faults.{FitsRound}
 use Rattle.task_code.specs.Code.{code_otherwise, code_taken, group_collected, group_taken}
 
 -- Words of the code are appended where there are groups in which they can be; of words where there are none nothing is said.

@@ -3,20 +3,20 @@
 use Rattle.std.specs.Prelude.{◌≡◌, ◌<◌, ◌≤◌, ℕ, ◌+◌, ◌*◌, ◌^◌, true, List, ◌++◌, length}
 use Rattle.rv_insn.specs.declared.instructions.Insn.{Insn}
 use Rattle.memory.specs.Addresses.{byte_at, AreBytes, text_start, most_words}
-use Rattle.halide_meaning.specs.Pixel.{Planes}
+use Rattle.halide_pipeline.specs.Pixel.{Planes}
 use Rattle.loop_ir.specs.declared.expressions.Counter.{Counter}
 use Rattle.loop_ir.specs.declared.statements.Phase.{Phase}
 use Rattle.loop_ir.specs.declared.statements.Stmt.{Stmt}
 use Rattle.loop_ir.specs.Running.{run_task, task_values}
 use Rattle.loop_ir.specs.Stores.{is_stored_by_task}
-use Rattle.lone_hart.specs.Paths.{Stand, end, Block, Writes}
-use Rattle.scalar_code.specs.declared.places.Places.{Places}
+use Rattle.multi_hart_logic.specs.Paths.{Stand, end, Block, Writes}
+use Rattle.task_code_scalar.specs.declared.places.Places.{Places}
 use Rattle.task_code.specs.Code.{stmt_code, task_code}
 use Rattle.task_code.specs.Fitting.{fits, fits_task, task_turns}
-use Rattle.scalar_code.specs.Layout.{IsOf, IsElsewhere}
+use Rattle.task_code_scalar.specs.Layout.{IsOf, IsElsewhere}
 use Rattle.task_code.specs.Doing.{AtOnceIn}
-use Rattle.scalar_code.specs.Doing.{Setting, IsSetting, SoundIn, RunsIn, HoldsFuncs}
-use Rattle.scalar_code.specs.Words.{Emits}
+use Rattle.task_code_scalar.specs.Doing.{Setting, IsSetting, SoundIn, RunsIn, HoldsFuncs}
+use Rattle.task_code_scalar.specs.Words.{Emits}
 
 -- where a task begins: its number was drawn
 pub record HasDrawn (own : Setting) (task : ℕ) (f : ℕ → ℕ) : Type 0 where

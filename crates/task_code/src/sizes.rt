@@ -5,7 +5,7 @@ ghost use Rattle.loop_ir.specs.Sizes as spec;
 
 use loop_ir::expressions::Expr;
 use loop_ir::statements::{LoopKind, Stmt, Store};
-use scalar_code::loops::are_copies;
+use task_code_scalar::loops::are_copies;
 
 fn plus(a: u32, b: u32) -> u32
     requires { (a ≤ 2 ^ 18) × (b ≤ 2 ^ 18) }

@@ -1,30 +1,30 @@
 //! The code of statements and of a task.
 
 ghost use Rattle.std.specs.Prelude.{◌≡◌, ◌+◌, ◌^◌, ◌<◌, ◌&&◌, nat_le, nat_lt, OnErr, OnOk, IfErr, IfOk, true};
-ghost use Rattle.scalar_code.specs.Code.{store_code};
+ghost use Rattle.task_code_scalar.specs.Code.{store_code};
 ghost use Rattle.task_code.specs.Code as spec;
-ghost use Rattle.scalar_code.specs.Faults.{FitsStore, IsFault};
+ghost use Rattle.task_code_scalar.specs.Faults.{FitsStore, IsFault};
 ghost use Rattle.task_code.specs.Faults.{IsStmtFault, IsTaskFault};
-ghost use Rattle.scalar_code.specs.Fitting.{fits_store};
+ghost use Rattle.task_code_scalar.specs.Fitting.{fits_store};
 ghost use Rattle.task_code.specs.Taking.{EmitsAtOnce, EmitsOtherwise, EmitsTaken, IsOtherwiseFault, IsTakenFault};
 ghost use Rattle.task_code.specs.Tasks.{EmitsStmt, EmitsTask};
-ghost use Rattle.scalar_code.specs.Words.{Emits};
+ghost use Rattle.task_code_scalar.specs.Words.{Emits};
 
 use crate::sizes::{at_once_size, is_laid_out};
-use collected_code::collecting::{emit_collected, is_one_store};
 use halide_pipeline::Source;
-use lane_code::groups::Group;
 use loop_ir::expressions::Counter;
 use loop_ir::statements::{LoopKind, Phase, Stmt, Store};
-use round_code::rounds::emit_rounds;
-use scalar_code::CodeFault;
-use scalar_code::expressions::{emit_number, place_of};
-use scalar_code::frames::emit_deep;
-use scalar_code::instructions::{emit_literal, store_word};
-use scalar_code::loops::{append, emit_bind, emit_move, emit_turns, next_seat, with_counter};
-use scalar_code::operations::emit_addressed;
-use scalar_code::places::Places;
 use std::alloc::{AllocError, Global};
+use task_code_lanes::groups::Group;
+use task_code_scalar::CodeFault;
+use task_code_scalar::expressions::{emit_number, place_of};
+use task_code_scalar::frames::emit_deep;
+use task_code_scalar::instructions::{emit_literal, store_word};
+use task_code_scalar::loops::{append, emit_bind, emit_move, emit_turns, next_seat, with_counter};
+use task_code_scalar::operations::emit_addressed;
+use task_code_scalar::places::Places;
+use task_code_vector::collecting::{emit_collected, is_one_store};
+use task_code_vector::rounds::emit_rounds;
 
 fn emit_store(
     code: &mut Vec<u32>,

@@ -14,14 +14,14 @@ use Rattle.halide_parser.specs.declared.judging.Judged.{Judged}
 use Rattle.halide_parser.specs.declared.readers.Reader.{Reader}
 use Rattle.halide_parser.specs.declared.scopes.Scope.{Scope}
 use Rattle.halide_pipeline.specs.declared.expressions.Source.{Source}
-use Rattle.halide_syntax.specs.declared.tokens.ProductOperator.{ProductOperator}
-use Rattle.halide_syntax.specs.declared.tokens.ProductOperator.TheVariants as products
-use Rattle.halide_syntax.specs.declared.tokens.SumOperator.{SumOperator}
-use Rattle.halide_syntax.specs.declared.tokens.CompareOperator.{CompareOperator}
-use Rattle.halide_syntax.specs.declared.tokens.TwoFunction.{TwoFunction}
-use Rattle.halide_syntax.specs.declared.tokens.ThreeFunction.{ThreeFunction}
-use Rattle.halide_syntax.specs.declared.tokens.ThreeFunction.TheVariants as threes
-use Rattle.halide_syntax.specs.inner.Algebra.{Algebra}
+use Rattle.halide_parser_syntax.specs.declared.tokens.ProductOperator.{ProductOperator}
+use Rattle.halide_parser_syntax.specs.declared.tokens.ProductOperator.TheVariants as products
+use Rattle.halide_parser_syntax.specs.declared.tokens.SumOperator.{SumOperator}
+use Rattle.halide_parser_syntax.specs.declared.tokens.CompareOperator.{CompareOperator}
+use Rattle.halide_parser_syntax.specs.declared.tokens.TwoFunction.{TwoFunction}
+use Rattle.halide_parser_syntax.specs.declared.tokens.ThreeFunction.{ThreeFunction}
+use Rattle.halide_parser_syntax.specs.declared.tokens.ThreeFunction.TheVariants as threes
+use Rattle.halide_parser_syntax.specs.inner.Algebra.{Algebra}
 use Rattle.halide_parser.specs.Expressions.{is_own, two_operation, sum_operation, comparison_operation}
 use Rattle.halide_parser.specs.Readers.{source}
 use Rattle.halide_parser.specs.Scopes.{variable}

@@ -13,10 +13,10 @@ use Rattle.picture.specs.declared.scenes.Slice.{Slice}
 use Rattle.picture.specs.declared.scenes.Table.{Table}
 use Rattle.picture.specs.declared.scenes.State.{State}
 use Rattle.picture.specs.declared.scenes.State.TheVariants as states
-use Rattle.halide_meaning.specs.Picture.{PictureContents}
+use Rattle.halide_pipeline.specs.Picture.{PictureContents}
 use Rattle.picture.specs.Slices.{is_on}
 use Rattle.picture.specs.Writes.{written}
-use Rattle.halide_meaning.specs.Pixel.{Plane, Planes, Reads, input_planes, reads_of, with_plane, after, stage, func_plane, pixels}
+use Rattle.halide_pipeline.specs.Pixel.{Plane, Planes, Reads, input_planes, reads_of, with_plane, after, stage, func_plane, pixels}
 
 -- ---- planes of a scene
 

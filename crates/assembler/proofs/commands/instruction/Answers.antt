@@ -1,6 +1,6 @@
 use Rattle.std.proofs.Common.{refl, ◌∙◌}
-use Rattle.mnemonics.specs.Slots.{blank}
-use Rattle.mnemonics.proofs.Placed.{length_placed, filled_fits, filled_keeps}
+use Rattle.assembler_mnemonics.specs.Slots.{blank}
+use Rattle.assembler_mnemonics.proofs.Placed.{length_placed, filled_fits, filled_keeps}
 use Rattle.assembler.proofs.Giving.{filled}
 use Rattle.assembler.proofs.Words.{word_of, gives_word}
 use Rattle.assembler.proofs.commands.instruction.Goals as goal

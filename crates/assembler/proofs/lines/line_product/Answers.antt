@@ -1,5 +1,5 @@
 use Rattle.std.proofs.Common.{sym, ap, ◌∙◌}
-use Rattle.assembly_syntax.specs.Statements.{head_of}
+use Rattle.assembler_syntax.specs.Statements.{head_of}
 use Rattle.assembler.specs.Places.{after}
 use Rattle.assembler.proofs.LineGiven.{no_statement, product_given, fault_given}
 use Rattle.assembler.proofs.lines.line_product.Goals as goal

@@ -1,6 +1,6 @@
 use Rattle.std.proofs.Common.{None, sym, ap, ◌∙◌}
 use Rattle.std.specs.Option.{option_copied}
-use Rattle.stage_loops.proofs.Few.{few_splits}
+use Rattle.schedule_loops.proofs.Few.{few_splits}
 use Rattle.bounds.proofs.UpdatePlans.{update_splits}
 use Rattle.bounds.proofs.tasks.stage_tasks.Goals as goal
 

@@ -1,7 +1,7 @@
 use Rattle.std.proofs.Common.{sym, ap, ◌∙◌}
 use Rattle.std.specs.Option.{option_copied}
 use Rattle.schedule.specs.Accepted.{IsPlan}
-use Rattle.stage_loops.proofs.AcceptedStages.{pair_at}
+use Rattle.schedule_loops.proofs.AcceptedStages.{pair_at}
 use Rattle.bounds.proofs.tasks.tasks.Goals as goal
 
 pub stage_tasks-requires-clause-plan : goal.stage_tasks-requires-clause-plan

@@ -1,4 +1,4 @@
-use Rattle.stage_loops.specs.Reach as reaching
+use Rattle.schedule_loops.specs.Reach as reaching
 use Rattle.bounds.proofs.Totals.{total_is}
 use Rattle.bounds.proofs.views.+reach.Goals as goal
 

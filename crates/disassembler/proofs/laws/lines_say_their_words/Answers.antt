@@ -1,6 +1,6 @@
 use Rattle.std.proofs.Common.{◌∙◌, ap}
 use Rattle.rv_encoding.specs.Decoding.{decoded}
-use Rattle.assembly_syntax.specs.Statements.{statement_of}
+use Rattle.assembler_syntax.specs.Statements.{statement_of}
 use Rattle.disassembler.specs.Listing.{line_of}
 use Rattle.disassembler.specs.Reading.{mnemonic_said, operands_said, tokens_said}
 use Rattle.disassembler.proofs.Statements.{statement_back}

@@ -1,4 +1,4 @@
-use Rattle.mnemonics.specs.Forms.{form_of}
+use Rattle.assembler_mnemonics.specs.Forms.{form_of}
 use Rattle.disassembler.proofs.Slots.{form_reaches}
 use Rattle.disassembler.proofs.lines.push_instruction.Goals as goal
 

@@ -3,7 +3,7 @@ use Rattle.std.proofs.lemmas.Result.{err_from_is_err_and}
 use Rattle.line_text.specs.Reading.{FailsAt}
 use Rattle.halide_parser.specs.Parsing.{parsed}
 use Rattle.halide_pipeline.specs.Pipelines.{Pipeline}
-use Rattle.halide_syntax.specs.declared.faults.ParseFault.{ParseFault}
+use Rattle.halide_parser_syntax.specs.declared.faults.ParseFault.{ParseFault}
 use Rattle.halide_parser.proofs.Agreement.{by_reading}
 use Rattle.halide_parser.proofs.KeptTexts.{parsed_keeps, lines_finish}
 use Rattle.halide_parser.proofs.Whole.{few_lines, fails, ends}

@@ -1,6 +1,6 @@
 use Rattle.std.proofs.Common.{◌≡◌, None, Some, true, false, option_map, sym, ap, ◌∙◌}
 use Rattle.std.proofs.lemmas.Result.{err_from_is_err_and}
-use Rattle.halide_syntax.specs.inner.Machine.{is_over, step}
+use Rattle.halide_parser_syntax.specs.inner.Machine.{is_over, step}
 use Rattle.halide_parser.specs.inner.Judging.{judging}
 use Rattle.halide_parser.proofs.PassLoop.{starts, ends, refuses, goes_on}
 use Rattle.halide_parser.proofs.passes.expression.Goals as goal

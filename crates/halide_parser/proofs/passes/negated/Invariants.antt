@@ -1,5 +1,5 @@
 use Rattle.std.proofs.Common.{◌≡◌}
-use Rattle.halide_syntax.specs.inner.Machine.{negated}
+use Rattle.halide_parser_syntax.specs.inner.Machine.{negated}
 use Rattle.halide_parser.specs.inner.Judging.{judging}
 use Rattle.halide_parser.proofs.passes.negated.Given as goal
 

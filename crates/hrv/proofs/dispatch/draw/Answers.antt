@@ -1,7 +1,7 @@
 use Rattle.std.proofs.Common.{◌∙◌, ap, inl, inr}
 use Rattle.std.specs.Prelude.{map}
 use Rattle.clap.specs.Walk.{texts}
-use Rattle.engines.specs.declared.faults.Fault.TheVariants.{Memory}
+use Rattle.hrv_engines.specs.declared.faults.Fault.TheVariants.{Memory}
 use Rattle.hrv.proofs.Answers.{err_of}
 use Rattle.hrv.proofs.dispatch.draw.Goals as goal
 

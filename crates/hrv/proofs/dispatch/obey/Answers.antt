@@ -1,5 +1,5 @@
 use Rattle.std.proofs.Common.{refl, subst}
-use Rattle.command_line.specs.CommandLine.{IsWithinLimits, asked_by}
+use Rattle.hrv_command_line.specs.CommandLine.{IsWithinLimits, asked_by}
 use Rattle.hrv.proofs.dispatch.obey.Goals as goal
 
 pub run-requires-sync-R : goal.run-requires-sync-R

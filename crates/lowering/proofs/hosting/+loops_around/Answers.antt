@@ -1,6 +1,6 @@
 use Rattle.std.proofs.Common.{ℕ, ◌-◌, ◌<◌, List, length, take, subst}
 use Rattle.schedule_lines.specs.declared.stages.Loop.{Loop}
-use Rattle.stage_loops.specs.Counts.{counts}
+use Rattle.schedule_loops.specs.Counts.{counts}
 use Rattle.lowering.specs.Hosting.{HasLoops, No_loops, One_outside}
 use Rattle.lowering.proofs.Lists.{last_of, none_below, fewer_taken}
 use Rattle.lowering.proofs.hosting.+loops_around.Goals as goal

@@ -2,7 +2,7 @@ use Rattle.std.proofs.Common.{◌≡◌, ℕ, suc, ◌*◌, ◌≤◌, sym, subs
 use Rattle.std.specs.Prelude.{slice_get}
 use Rattle.lowering.specs.Hosting.{DoesNests}
 use Rattle.lowering.proofs.UpdateFilling.{pure_stage, stage_there, nothing_there, some_within}
-use Rattle.weights.specs.Weight.{flags_of}
+use Rattle.bounds_weights.specs.Weight.{flags_of}
 use Rattle.loop_ir.specs.Sizes.{whole_size}
 use Rattle.lowering.specs.Sizes.{shares}
 use Rattle.lowering.proofs.hosting.+nests_upto.Goals as goal

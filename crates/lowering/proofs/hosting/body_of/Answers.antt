@@ -1,14 +1,14 @@
 use Rattle.std.proofs.Common.{List, [], ◌∷◌, ◌+◌, ◌*◌, length, ap, subst, ◌∙◌}
 use Rattle.schedule_lines.specs.declared.stages.Loop.{Loop}
 use Rattle.schedule_lines.specs.declared.stages.Split.{Split}
-use Rattle.stage_loops.specs.Counts.{counts}
-use Rattle.stage_loops.specs.Iterations.{parallel}
-use Rattle.stage_loops.specs.Reach.{wholes}
-use Rattle.stage_loops.specs.Sizes.{SizedLoops}
+use Rattle.schedule_loops.specs.Counts.{counts}
+use Rattle.schedule_loops.specs.Iterations.{parallel}
+use Rattle.schedule_loops.specs.Reach.{wholes}
+use Rattle.schedule_loops.specs.Sizes.{SizedLoops}
 use Rattle.loop_ir.specs.Depths.{depth}
 use Rattle.loop_ir.specs.Sizes.{whole_size}
-use Rattle.nest_lowering.specs.Nests.{Repeats}
-use Rattle.nest_lowering.proofs.Repeating.{repeats_itself}
+use Rattle.lowering_nests.specs.Nests.{Repeats}
+use Rattle.lowering_nests.proofs.Repeating.{repeats_itself}
 use Rattle.lowering.specs.Hosting.{HasLoops}
 use Rattle.lowering.specs.PurePhases.{inside_of}
 use Rattle.lowering.proofs.hosting.body_of.Goals as goal

@@ -1,5 +1,5 @@
 use Rattle.std.proofs.Common.{ℕ, ◌*◌, ◌≤◌, subst}
-use Rattle.weights.specs.Weight.{flags_of}
+use Rattle.bounds_weights.specs.Weight.{flags_of}
 use Rattle.loop_ir.specs.Sizes.{whole_size}
 use Rattle.lowering.specs.Hosting.{DoesNests}
 use Rattle.lowering.specs.Sizes.{shares}

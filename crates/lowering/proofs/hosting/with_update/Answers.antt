@@ -1,6 +1,6 @@
 use Rattle.std.proofs.Common.{◌≡◌, Option, Some, List, sym, ap, subst, ◌∙◌, arith}
 use Rattle.std.specs.Prelude.{slice_get}
-use Rattle.expression_lowering.specs.declared.calls.Corner.{Corner}
+use Rattle.lowering_expressions.specs.declared.calls.Corner.{Corner}
 use Rattle.lowering.specs.Updates.{DoesUpdate, AreSoundLoops}
 use Rattle.lowering.proofs.Alone.{both_alone}
 use Rattle.lowering.proofs.UpdateFilling.{computed_in, corner_there, one_more_stage, one_more_sound, same_corners, nothing_there}
@@ -9,8 +9,8 @@ use Rattle.loop_ir.specs.Rounds.{may_be_at_once}
 use Rattle.loop_ir.specs.Runs.{is_about}
 use Rattle.halide_pipeline.specs.declared.definitions.Update.{Update}
 use Rattle.schedule_lines.specs.declared.stages.Stage.{Stage}
-use Rattle.weights.specs.Weight.{flags_of, update_nodes, stage_weight}
-use Rattle.expression_lowering.specs.Sizing.{AreShort}
+use Rattle.bounds_weights.specs.Weight.{flags_of, update_nodes, stage_weight}
+use Rattle.lowering_expressions.specs.Sizing.{AreShort}
 use Rattle.lowering.specs.Sizes.{update_share}
 use Rattle.lowering.proofs.hosting.with_update.Goals as goal
 

@@ -1,21 +1,21 @@
 use Rattle.std.proofs.Common.{None, List, length, ap, subst, sym, arith, [], append-nil}
 use Rattle.schedule_lines.specs.declared.stages.Loop.{Loop}
 use Rattle.schedule_lines.specs.declared.stages.Split.{Split}
-use Rattle.stage_loops.specs.Counts.{AreSplits}
+use Rattle.schedule_loops.specs.Counts.{AreSplits}
 use Rattle.bounds.specs.Views.{extents_of}
 use Rattle.schedule.specs.declared.standings.Place.TheVariants as places
-use Rattle.stage_loops.specs.declared.extents.Extents.{Extents}
-use Rattle.stage_loops.specs.Reach.{wholes}
-use Rattle.nest_lowering.specs.Nests.{AreFew, Repeats}
+use Rattle.schedule_loops.specs.declared.extents.Extents.{Extents}
+use Rattle.schedule_loops.specs.Reach.{wholes}
+use Rattle.lowering_nests.specs.Nests.{AreFew, Repeats}
 use Rattle.lowering.proofs.Alone.{pure_alone, nest_alone}
 use Rattle.lowering.proofs.Facts.{is_box, splits, few, few_loops, hosted_before, staged}
 use Rattle.lowering.proofs.Filling.{fills, touches}
-use Rattle.box_laws.specs.Laws.{IsComputed}
+use Rattle.bounds_laws.specs.Laws.{IsComputed}
 use Rattle.schedule.specs.declared.standings.Place.{Place}
 use Rattle.lowering.proofs.Registers.{pure-most}
-use Rattle.nest_lowering.specs.Rounds.{MayBeUnder}
+use Rattle.lowering_nests.specs.Rounds.{MayBeUnder}
 use Rattle.lowering.proofs.PureRounds.{pure_under}
-use Rattle.weights.specs.Weight.{flags_of, nodes_in}
+use Rattle.bounds_weights.specs.Weight.{flags_of, nodes_in}
 use Rattle.loop_ir.specs.Sizes.{whole_size}
 use Rattle.lowering.proofs.Copies.{nest-light, same-nest}
 use Rattle.lowering.proofs.Sizes.{more-loops, pure-counted}

@@ -1,14 +1,14 @@
 use Rattle.std.proofs.Common.{◌+◌, ◌*◌, ◌≤◌, Bool, List, ap, ◌∙◌, subst, sym}
 use Rattle.halide_pipeline.specs.declared.definitions.Func.{Func}
 use Rattle.schedule.specs.declared.plans.FuncPlan.{FuncPlan}
-use Rattle.inlining.specs.Inlining.{flagged}
-use Rattle.weights.specs.Weight.{flags_of}
-use Rattle.expression_lowering.specs.declared.calls.Corner.{Corner}
+use Rattle.bounds_inlining.specs.Inlining.{flagged}
+use Rattle.bounds_weights.specs.Weight.{flags_of}
+use Rattle.lowering_expressions.specs.declared.calls.Corner.{Corner}
 use Rattle.lowering.specs.Corners.{IsCorner}
 use Rattle.lowering.specs.PurePhases.{StoresPure, IsSoundPure}
 use Rattle.lowering.proofs.UpdateFilling.{same_corners}
 use Rattle.loop_ir.specs.Sizes.{whole_size}
-use Rattle.expression_lowering.specs.Sizing.{AreShort}
+use Rattle.lowering_expressions.specs.Sizing.{AreShort}
 use Rattle.lowering.specs.Sizes.{counted}
 use Rattle.lowering.proofs.nests.store_of.Goals as goal
 

@@ -1,12 +1,12 @@
 use Rattle.std.proofs.Common.{◌≤◌, ◌+◌, None, Option, length, sym, ap, subst, ◌∙◌, refl, arith}
 use Rattle.schedule.specs.declared.standings.Place.{Place}
 use Rattle.schedule.specs.declared.standings.Place.TheVariants as places
-use Rattle.stage_loops.specs.declared.extents.Extents.{Extents}
-use Rattle.stage_loops.specs.Iterations as iterations
-use Rattle.box_laws.specs.Laws.{IsComputed}
+use Rattle.schedule_loops.specs.declared.extents.Extents.{Extents}
+use Rattle.schedule_loops.specs.Iterations as iterations
+use Rattle.bounds_laws.specs.Laws.{IsComputed}
 use Rattle.loop_ir.specs.declared.expressions.Counter.{Counter}
 use Rattle.loop_ir.specs.Depths.{depth, count_of}
-use Rattle.nest_lowering.specs.Nests.{AreFew}
+use Rattle.lowering_nests.specs.Nests.{AreFew}
 use Rattle.lowering.specs.HostedFuncs.{hosted_from}
 use Rattle.lowering.specs.Hosting.{IsBody}
 use Rattle.lowering.specs.PurePhases.{inside_of}
@@ -17,16 +17,16 @@ use Rattle.lowering.proofs.SoundTasks.{touches}
 use Rattle.lowering.proofs.StoredTasks.{stores_its_own, stores_in_its_runs}
 use Rattle.lowering.proofs.Tasks.{does_phase}
 use Rattle.lowering.proofs.Registers.{pure-most}
-use Rattle.nest_lowering.proofs.Few.{few_turns}
+use Rattle.lowering_nests.proofs.Few.{few_turns}
 use Rattle.lowering.proofs.HostRounds.{body_at_once}
 use Rattle.lowering.proofs.PureRounds.{pure_under}
 use Rattle.lowering.proofs.TaskRounds.{outside_of, loops_by, tasks_at_once}
 use Rattle.lowering.proofs.Facts.{staged}
-use Rattle.stage_loops.proofs.FirstLoops.{plain, sound_made}
-use Rattle.weights.specs.Weight.{flags_of, nodes_in}
+use Rattle.schedule_loops.proofs.FirstLoops.{plain, sound_made}
+use Rattle.bounds_weights.specs.Weight.{flags_of, nodes_in}
 use Rattle.lowering.proofs.Shares.{body-size}
-use Rattle.stage_loops.specs.Counts as loops
-use Rattle.weights.specs.Copies.{all_copies}
+use Rattle.schedule_loops.specs.Counts as loops
+use Rattle.bounds_weights.specs.Copies.{all_copies}
 use Rattle.loop_ir.specs.Sizes.{whole_size}
 use Rattle.lowering.specs.Sizes.{hosted_shares}
 use Rattle.lowering.proofs.Copies.{stage-paid, copies-some, is-light}

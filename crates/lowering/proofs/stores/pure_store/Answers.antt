@@ -1,4 +1,4 @@
-use Rattle.inlining.specs.Inlining.{flagged}
+use Rattle.bounds_inlining.specs.Inlining.{flagged}
 use Rattle.loop_ir.proofs.Depths.{depth_store}
 use Rattle.lowering.proofs.Registers.{pure-store}
 use Rattle.lowering.proofs.Storing.{stores_pure, hits_pure, misses_pure, sound_pure}

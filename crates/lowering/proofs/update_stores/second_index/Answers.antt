@@ -1,15 +1,15 @@
 use Rattle.std.proofs.Common.{◌≤◌, Option, refl, ap, ◌∙◌, subst, sym, arith}
 use Rattle.halide_pipeline.specs.declared.expressions.Expr.{Expr}
-use Rattle.halide_meaning.specs.Pixel.{variable as variable_in}
-use Rattle.reads.specs.Points.{Hold}
-use Rattle.inlining.specs.Inlining.{flagged, inlined}
-use Rattle.inlining.specs.Laws.{seen_variable}
-use Rattle.inlining.specs.Values.{values as valuing, seeing}
-use Rattle.expression_lowering.specs.Lowering.{environment, place as place_in, placed}
-use Rattle.expression_lowering.proofs.Following.{number_loads, number_value}
+use Rattle.halide_pipeline.specs.Pixel.{variable as variable_in}
+use Rattle.halide_pipeline.specs.Points.{Hold}
+use Rattle.bounds_inlining.specs.Inlining.{flagged, inlined}
+use Rattle.bounds_inlining.specs.Laws.{seen_variable}
+use Rattle.bounds_inlining.specs.Values.{values as valuing, seeing}
+use Rattle.lowering_expressions.specs.Lowering.{environment, place as place_in, placed}
+use Rattle.lowering_expressions.proofs.Following.{number_loads, number_value}
 use Rattle.loop_ir.specs.declared.expressions.Expr.TheVariants as terms
 use Rattle.loop_ir.specs.Needs.{need}
-use Rattle.expression_lowering.proofs.Taking.{number_need}
+use Rattle.lowering_expressions.proofs.Taking.{number_need}
 use Rattle.lowering.specs.Registers.{second_taken}
 use Rattle.lowering.specs.Updates as spec
 use Rattle.lowering.specs.Sizes.{IsGivenIndex}

@@ -1,5 +1,5 @@
 use Rattle.std.proofs.Common.{◌≡◌, suc, ◌+◌, arith, refl, ◌∙◌}
-use Rattle.inlining.specs.Inlining.{flagged}
+use Rattle.bounds_inlining.specs.Inlining.{flagged}
 use Rattle.loop_ir.proofs.Depths.{depth_store}
 use Rattle.lowering.proofs.Registers.{store-need}
 use Rattle.lowering.proofs.UpdateStoring.{stores_update, hits_update, sound_update}

@@ -1,9 +1,9 @@
 use Rattle.std.proofs.Common.{List, subst}
 use Rattle.schedule_lines.specs.declared.stages.Loop.{Loop}
 use Rattle.schedule_lines.specs.declared.stages.Split.{Split}
-use Rattle.stage_loops.specs.Counts.{counts}
-use Rattle.stage_loops.specs.Iterations as iterations
-use Rattle.nest_lowering.specs.Rounds.{IsLeaf, MayBeAtOnce, MayBeUnder}
+use Rattle.schedule_loops.specs.Counts.{counts}
+use Rattle.schedule_loops.specs.Iterations as iterations
+use Rattle.lowering_nests.specs.Rounds.{IsLeaf, MayBeAtOnce, MayBeUnder}
 use Rattle.loop_ir.specs.Sizes.{whole_size}
 use Rattle.lowering.specs.PurePhases as pure
 use Rattle.lowering.proofs.Copies.{same-nest}

@@ -1,10 +1,10 @@
 use Rattle.std.proofs.Common.{List, subst}
 use Rattle.schedule_lines.specs.declared.stages.Loop.{Loop}
 use Rattle.schedule_lines.specs.declared.stages.Split.{Split}
-use Rattle.stage_loops.specs.Counts.{counts}
+use Rattle.schedule_loops.specs.Counts.{counts}
 use Rattle.loop_ir.specs.Sizes.{whole_size}
 use Rattle.lowering.proofs.Copies.{same-nest}
-use Rattle.nest_lowering.specs.Rounds.{IsLeaf, MayBeAtOnce, MayBeUnder}
+use Rattle.lowering_nests.specs.Rounds.{IsLeaf, MayBeAtOnce, MayBeUnder}
 use Rattle.lowering.proofs.updates.nest_of.Goals as goal
 
 pub returns-clause-rounds : goal.returns-clause-rounds

@@ -1,13 +1,13 @@
 use Rattle.std.proofs.Common.{List, subst, sym}
 use Rattle.schedule.specs.declared.plans.FuncPlan.{FuncPlan}
 use Rattle.schedule.specs.declared.standings.Place.TheVariants as places
-use Rattle.inlining.specs.Inlining.{flagged}
-use Rattle.weights.specs.Weight.{flags_of}
-use Rattle.expression_lowering.specs.declared.calls.Corner.{Corner}
+use Rattle.bounds_inlining.specs.Inlining.{flagged}
+use Rattle.bounds_weights.specs.Weight.{flags_of}
+use Rattle.lowering_expressions.specs.declared.calls.Corner.{Corner}
 use Rattle.lowering.specs.Corners.{IsCorner}
 use Rattle.lowering.specs.Updates as spec
 use Rattle.lowering.proofs.UpdateFilling.{same_corners}
-use Rattle.expression_lowering.specs.Sizing.{AreShort}
+use Rattle.lowering_expressions.specs.Sizing.{AreShort}
 use Rattle.lowering.proofs.updates.root_store.Goals as goal
 
 pub returns-clause-stores : goal.returns-clause-stores

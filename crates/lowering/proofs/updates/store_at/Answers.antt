@@ -1,7 +1,7 @@
 use Rattle.std.proofs.Common.{◌+◌, ◌*◌, ◌≤◌, Bool, List, ap, ◌∙◌, subst}
 use Rattle.halide_pipeline.specs.declared.definitions.Func.{Func}
-use Rattle.inlining.specs.Inlining.{flagged}
-use Rattle.weights.specs.Weight.{flags_of}
+use Rattle.bounds_inlining.specs.Inlining.{flagged}
+use Rattle.bounds_weights.specs.Weight.{flags_of}
 use Rattle.lowering.specs.Updates as spec
 use Rattle.loop_ir.specs.Sizes.{whole_size}
 use Rattle.lowering.specs.Sizes.{update_counted}

@@ -1,19 +1,19 @@
 use Rattle.std.proofs.Common.{Some, sym, subst, arith, [], append-nil, refl}
-use Rattle.stage_loops.specs.declared.extents.Extents.{Extents}
-use Rattle.stage_loops.specs.Reach.{wholes}
-use Rattle.nest_lowering.specs.Nests.{AreFew, Repeats}
-use Rattle.inlining.specs.Inlining.{flagged}
-use Rattle.weights.specs.Weight.{flags_of, update_nodes}
+use Rattle.schedule_loops.specs.declared.extents.Extents.{Extents}
+use Rattle.schedule_loops.specs.Reach.{wholes}
+use Rattle.lowering_nests.specs.Nests.{AreFew, Repeats}
+use Rattle.bounds_inlining.specs.Inlining.{flagged}
+use Rattle.bounds_weights.specs.Weight.{flags_of, update_nodes}
 use Rattle.lowering.proofs.Alone.{update_alone, nest_alone}
 use Rattle.lowering.proofs.UpdateNests.{does_nest, sound_nest}
 use Rattle.lowering.proofs.UpdateStages.{splits, few, few_loops, is_box, place_small}
 use Rattle.lowering.proofs.Registers.{update-most}
-use Rattle.stage_loops.specs.declared.extents.Extents.{Extents}
-use Rattle.nest_lowering.specs.Rounds.{MayBeUnder}
+use Rattle.schedule_loops.specs.declared.extents.Extents.{Extents}
+use Rattle.lowering_nests.specs.Rounds.{MayBeUnder}
 use Rattle.lowering.proofs.RoundsApart.{update_under}
 use Rattle.lowering.proofs.UpdateStages.{staged}
 use Rattle.halide_pipeline.specs.declared.expressions.Source.TheVariants as sources
-use Rattle.expression_lowering.proofs.Sizing.{short_of}
+use Rattle.lowering_expressions.proofs.Sizing.{short_of}
 use Rattle.loop_ir.specs.Sizes.{whole_size}
 use Rattle.lowering.proofs.Copies.{nest-light}
 use Rattle.lowering.proofs.Sizes.{more-loops, update-counted}

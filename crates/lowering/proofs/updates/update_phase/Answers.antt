@@ -1,12 +1,12 @@
 use Rattle.std.proofs.Common.{length, ◌≤◌, ◌+◌, Option, Some, sym, ap, subst, ◌∙◌, arith, refl}
 use Rattle.schedule.specs.declared.standings.Place.{Place}
-use Rattle.stage_loops.specs.declared.extents.Extents.{Extents}
-use Rattle.stage_loops.specs.Iterations as iterations
-use Rattle.stage_loops.specs.Reach.{wholes}
-use Rattle.box_laws.specs.Laws.{IsComputed}
+use Rattle.schedule_loops.specs.declared.extents.Extents.{Extents}
+use Rattle.schedule_loops.specs.Iterations as iterations
+use Rattle.schedule_loops.specs.Reach.{wholes}
+use Rattle.bounds_laws.specs.Laws.{IsComputed}
 use Rattle.loop_ir.specs.declared.expressions.Counter.{Counter}
 use Rattle.loop_ir.specs.Depths.{depth, count_of}
-use Rattle.nest_lowering.specs.Nests.{AreFew, Repeats}
+use Rattle.lowering_nests.specs.Nests.{AreFew, Repeats}
 use Rattle.lowering.specs.PurePhases as pure
 use Rattle.lowering.proofs.RootFacts.{is_box}
 use Rattle.lowering.proofs.Depths.{update_few}
@@ -14,12 +14,12 @@ use Rattle.lowering.proofs.UpdateStages.{splits, few, few_loops, place_small}
 use Rattle.lowering.proofs.SoundHosts.{dark, dark_words}
 use Rattle.lowering.proofs.UpdateTasks.{does_update, touches, names_owned, task_stores}
 use Rattle.lowering.proofs.Registers.{update-most}
-use Rattle.nest_lowering.specs.Rounds.{MayBeUnder}
-use Rattle.nest_lowering.proofs.Few.{few_turns}
+use Rattle.lowering_nests.specs.Rounds.{MayBeUnder}
+use Rattle.lowering_nests.proofs.Few.{few_turns}
 use Rattle.lowering.proofs.RoundsApart.{update_under, counted_at_root}
 use Rattle.lowering.proofs.TaskRounds.{outside_of, loops_by, tasks_at_once}
 use Rattle.lowering.proofs.UpdateStages.{staged}
-use Rattle.weights.specs.Weight.{flags_of, update_nodes}
+use Rattle.bounds_weights.specs.Weight.{flags_of, update_nodes}
 use Rattle.loop_ir.specs.Sizes.{whole_size}
 use Rattle.lowering.proofs.Copies.{task-light}
 use Rattle.lowering.proofs.Sizes.{more-loops, update-counted}

@@ -1,6 +1,6 @@
 use Rattle.std.proofs.Common.{◌∷◌}
 use Rattle.task_code.proofs.Nests.{store-emitted, sequence-emitted, inner-emitted, for-emitted, bind-emitted}
-use Rattle.scalar_code.proofs.Refusing.{passed}
+use Rattle.task_code_scalar.proofs.Refusing.{passed}
 use Rattle.task_code.proofs.StmtRefusing.{part-passed, no-store, first-part, second-part, for-part, for-long, for-passed, for-seatless, bind-part, bind-long, bind-seatless}
 use Rattle.task_code.proofs.statements.+emit_stmt.Goals as goal
 

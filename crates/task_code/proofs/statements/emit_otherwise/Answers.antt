@@ -1,4 +1,4 @@
-use Rattle.scalar_code.proofs.Refusing.{passed}
+use Rattle.task_code_scalar.proofs.Refusing.{passed}
 use Rattle.task_code.proofs.Collecting.{may-collect}
 use Rattle.task_code.proofs.Taking.{turns-otherwise, collected-otherwise, collected-long}
 use Rattle.task_code.proofs.statements.emit_otherwise.Goals as goal

@@ -1,4 +1,4 @@
-use Rattle.scalar_code.proofs.Spelling.{emits_then}
+use Rattle.task_code_scalar.proofs.Spelling.{emits_then}
 use Rattle.task_code.proofs.statements.emit_restored.Goals as goal
 
 pub returns : goal.returns

@@ -2,10 +2,10 @@ use Rattle.std.proofs.Common.{[], ◌∷◌, ◌++◌, subst}
 use Rattle.std.specs.Prelude.{pos}
 use Rattle.rv_insn.specs.declared.instructions.Insn.TheVariants.{Store as Save}
 use Rattle.rv_insn.specs.declared.operations.StoreOp.TheVariants.{Sw}
-use Rattle.scalar_code.specs.Code.{addressed, value_code, move}
-use Rattle.scalar_code.specs.Words.{Emits}
-use Rattle.scalar_code.proofs.Spelling.{emits_then}
-use Rattle.collected_code.proofs.Emission.{store-fits}
+use Rattle.task_code_scalar.specs.Code.{addressed, value_code, move}
+use Rattle.task_code_scalar.specs.Words.{Emits}
+use Rattle.task_code_scalar.proofs.Spelling.{emits_then}
+use Rattle.task_code_vector.proofs.CollectedEmission.{store-fits}
 use Rattle.task_code.proofs.statements.emit_store.Goals as goal
 
 pub returns-clause-ok : goal.returns-clause-ok

@@ -1,6 +1,6 @@
 use Rattle.std.proofs.Common.{◌∙◌, ap}
 use Rattle.std.specs.Prelude.{if◌then◌else◌, ◌==◌, ◌&&◌}
-use Rattle.halide_meaning.specs.Pixel.{Plane}
+use Rattle.halide_pipeline.specs.Pixel.{Plane}
 use Rattle.loop_ir.specs.Buffers.{BufferContents, has_point, plane_of}
 use Rattle.loop_ir.proofs.Points.{written}
 use Rattle.loop_ir.proofs.buffers.Buffer.set.Goals as goal

@@ -1,7 +1,0 @@
-use Rattle.std.proofs.Common.{◌≡◌, ◌<◌, ◌^◌, ◌+◌, take}
-use Rattle.line_text.specs.Numbers.{decimal_number}
-use Rattle.assembly_syntax.specs.Tokens.{capped}
-use Rattle.assembly_syntax.proofs.tokens.decimal.Given as goal
-
-abbrev pub invariant-loop-digit : goal.invariant-loop-digit
-invariant-loop-digit l = (l.number ≡ capped (decimal_number (take l.digit-index l.digits))) × (l.number < 2 ^ 32 + 2)

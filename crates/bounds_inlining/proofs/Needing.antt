@@ -1,0 +1,96 @@
+-- A table needs what the definition needs.
+use Rattle.std.proofs.Common.{◌≡◌, ℕ, ◌+◌, ◌<◌, Bool, List, [], ◌∷◌, ◌++◌, length, Option, None, Some, refl, sym, ap, subst, ◌∙◌, arith, inl, inr}
+use Rattle.std.proofs.lemmas.Bool.{cases_lt, cases_eq, lt-ltb}
+use Rattle.std.proofs.lemmas.Option.{slice_get_past}
+use Rattle.halide_pipeline.specs.declared.definitions.Func.{Func}
+use Rattle.halide_pipeline.specs.declared.expressions.Expr.{Expr}
+use Rattle.halide_pipeline.specs.declared.expressions.Expr.TheOpen.{Expr-F}
+use Rattle.halide_pipeline.specs.declared.expressions.Expr.TheOpen as layer
+use Rattle.halide_pipeline.specs.declared.expressions.Variable.{Variable}
+use Rattle.halide_pipeline.specs.Levels.{Both, left_of, right_of}
+use Rattle.bounds_inlining.specs.declared.needs.Need.{Need}
+use Rattle.bounds_inlining.specs.Inlining.{second_of, arguments, through, inside, inlined, made_in, made_of, func_in, flagged}
+use Rattle.bounds_inlining.specs.Weights.{needing}
+use Rattle.bounds_inlining.specs.inner.Summing.{Same, need_at, need_call, need_of, need_in, needed, SameCall, Needs, need_made}
+use Rattle.bounds_inlining.proofs.Through.{Answers, arguments_related, seconds_related, through_related}
+use Rattle.bounds_inlining.proofs.Steps.{inside_is, inside_past}
+use Rattle.bounds_inlining.proofs.Counting.{get_before, get_last, more_length}
+
+levels : (y : Expr-F (Both Same)) → Same (needing.level (left_of Same y)) (needing.level (right_of Same y))
+unfolding needing
+levels (layer.Number n) = refl
+levels (layer.Variable v) = refl
+levels (layer.Binary op a b) = omega (arith, a.is, b.is)
+levels (layer.Divide a n) = omega (arith, a.is)
+levels (layer.Remainder a n) = omega (arith, a.is)
+levels (layer.Select c a b) = omega (arith, c.is, a.is, b.is)
+levels (layer.Call1 s a) = omega (arith, a.is)
+levels (layer.Call2 s a b) = omega (arith, a.is, b.is)
+
+answers_of : (f g : Option (ℕ → Option ℕ → ℕ)) → SameCall f g → Answers Same f g
+answers_of None None same = tt
+answers_of None (Some g) same = absurd same
+answers_of (Some f) None same = absurd same
+answers_of (Some f) (Some g) same = same
+
+pub needs_through : (flags : List Bool) (funcs : List Func) (table : List (Option Need)) → Needs flags funcs table → (va vb : Variable → ℕ) → ((v : Variable) → Same (va v) (vb v)) → (e : Expr)
+    → Same (through needing (needed table) va e) (inlined needing (flagged flags) funcs (length table) vb e)
+needs_through flags funcs table known va vb vars e =
+    through_related Same needing needing levels (needed table) (inside needing (flagged flags) funcs (length table))
+    (λ place. answers_of (needed table place) (inside needing (flagged flags) funcs (length table) place) (known place)) va vb vars e
+
+-- a call needs what its definition does
+pub needs_made : (flags : List Bool) (funcs : List Func) (table : List (Option Need)) → Needs flags funcs table → (func : Func) (need : Need)
+    → ((x y : ℕ) → Same (need_at need x y) (through needing (needed table) (arguments 1 x y) func.pure))
+    → SameCall (Some (need_call need)) (Some (made_of needing (inside needing (flagged flags) funcs (length table)) func))
+unfolding needing
+needs_made flags funcs table known func need sums = λ x y z u e f.
+    sums x (second_of 1 y)
+    ∙ needs_through flags funcs table known (arguments 1 x (second_of 1 y)) (arguments 1 z (second_of 1 u)) (arguments_related Same 1 x (second_of 1 y) 1 z (second_of 1 u) refl e (seconds_related Same 1 y 1 u refl f)) func.pure
+
+-- ---- a table that grows
+
+pub no_needs : (flags : List Bool) (funcs : List Func) → Needs flags funcs []
+unfolding inside
+no_needs flags funcs place = tt
+
+same_needed : (f g h k : Option (ℕ → Option ℕ → ℕ)) → f ≡ h → g ≡ k → SameCall h k → SameCall f g
+same_needed f g h k e i same = subst (λ (x : Option (ℕ → Option ℕ → ℕ)). SameCall x g) (sym e) (subst (λ (y : Option (ℕ → Option ℕ → ℕ)). SameCall h y) (sym i) same)
+
+module _ (flags : List Bool) (funcs : List Func) (table : List (Option Need)) (call : Option Need) where
+  abbrev is_inlined : ℕ → Bool
+  is_inlined = flagged flags
+
+  func_before : (place count : ℕ) → place < count → func_in funcs is_inlined (count + 1) place ≡ func_in funcs is_inlined count place
+  func_before place count less = rw (lt-ltb place (count + 1) (omega (arith, less))) (rw (lt-ltb place count less) refl)
+
+  inside_same : (place count : ℕ) → place < count → inside needing is_inlined funcs (count + 1) place ≡ inside needing is_inlined funcs count place
+  inside_same place count less =
+      inside_is needing is_inlined funcs (count + 1) place
+      ∙ ap (λ (f : Option Func). made_in needing (inside needing is_inlined funcs place) f) (func_before place count less)
+      ∙ sym (inside_is needing is_inlined funcs count place)
+
+  at_count : (count : ℕ) → length table ≡ count → Needs flags funcs table → SameCall (need_of call) (need_made flags funcs count) → (place : ℕ)
+      → SameCall (needed (table ++ call ∷ []) place) (inside needing is_inlined funcs (count + 1) place)
+  at_count count size known next place = elim (cases_lt place count) [
+    | inl less ↦
+        let here : SameCall (needed table place) (inside needing is_inlined funcs count place) =
+        subst (λ (n : ℕ). SameCall (needed table place) (inside needing is_inlined funcs n place)) size (known place) in
+        same_needed (needed (table ++ call ∷ []) place) (inside needing is_inlined funcs (count + 1) place) (needed table place) (inside needing is_inlined funcs count place)
+        (ap need_in (get_before table (call ∷ []) place (omega (arith, less, size)))) (inside_same place count less) here
+    | inr more ↦ elim (cases_eq place count) [
+      | inl same ↦
+          same_needed (needed (table ++ call ∷ []) place) (inside needing is_inlined funcs (count + 1) place) (need_of call) (need_made flags funcs count)
+          (ap need_in (get_last table call place (same ∙ sym size)))
+          (ap (λ (at : ℕ). inside needing is_inlined funcs (count + 1) at) same ∙ inside_is needing is_inlined funcs (count + 1) count) next
+      | inr other ↦
+          same_needed (needed (table ++ call ∷ []) place) (inside needing is_inlined funcs (count + 1) place) None None
+          (ap need_in (slice_get_past (table ++ call ∷ []) place (omega (arith, more_length table call, size, more, other))))
+          (inside_past needing is_inlined funcs (count + 1) place (omega (arith, more, other))) tt
+    ]
+  ]
+
+  pub needs_more : (count : ℕ) → length table ≡ count → Needs flags funcs table → SameCall (need_of call) (need_made flags funcs count) → Needs flags funcs (table ++ call ∷ [])
+  needs_more count size known next place =
+      let grown : length (table ++ call ∷ []) ≡ count + 1 = more_length table call ∙ ap (λ (n : ℕ). n + 1) size in
+      subst (λ (n : ℕ). SameCall (needed (table ++ call ∷ []) place) (inside needing is_inlined funcs n place)) (sym grown) (at_count count size known next place)

@@ -1,0 +1,346 @@
+-- Wherever a reader's arguments are in its box, loops take them to the view with which a source is asked.
+use Rattle.std.proofs.Common.{◌≡◌, ℕ, zero, suc, ◌+◌, ◌-◌, ◌^◌, ◌<◌, ◌≤◌, Bool, true, false, cond, List, [], ◌∷◌, ◌++◌, length, take, drop, Option, None, Some, refl, sym, ap, subst, ◌∙◌, arith, true≢false}
+use Rattle.std.specs.Prelude.{◌==◌, nat_lt, slice_get, Ok}
+use Rattle.std.proofs.lemmas.Bool.{and_parts, and_from, lt-ltb, eqb-true}
+use Rattle.halide_pipeline.specs.declared.definitions.Func.{Func}
+use Rattle.halide_pipeline.specs.declared.expressions.Variable.TheVariants as variables
+use Rattle.halide_pipeline.specs.Definitions.{dimensions}
+use Rattle.halide_pipeline.specs.Pipelines.{Pipeline}
+use Rattle.halide_pipeline.specs.WellFormed.{IsWellFormed}
+use Rattle.schedule_lines.specs.declared.stages.Loop.{Loop}
+use Rattle.schedule_lines.specs.declared.stages.LoopId.{LoopId}
+use Rattle.schedule_lines.specs.declared.stages.LoopId.TheVariants as ids
+use Rattle.schedule_lines.specs.declared.stages.Stage.{Stage}
+use Rattle.schedule_lines.specs.Loops.{same_id}
+use Rattle.schedule.specs.declared.plans.FuncPlan.{FuncPlan}
+use Rattle.schedule.specs.declared.schedules.Schedule.{Schedule}
+use Rattle.schedule.specs.declared.standings.LoopPlace.{LoopPlace}
+use Rattle.schedule.specs.declared.standings.Place.{Place}
+use Rattle.schedule.specs.declared.standings.Place.TheVariants as places
+use Rattle.schedule.specs.declared.standings.Standing.{Standing}
+use Rattle.schedule.specs.Accepted.{IsAccepted, IsPlan, IsLegal, IsHosted}
+use Rattle.schedule.specs.Standing.{comes_first, pure_loops_of}
+use Rattle.schedule.specs.Uses.{IsRootReached, HasHostAtRoot}
+use Rattle.schedule.proofs.Uses.{numbered_at}
+use Rattle.schedule_loops.specs.declared.extents.Extents.{Extents}
+use Rattle.schedule_loops.specs.Counts.{Values, shifts_fit}
+use Rattle.schedule_loops.specs.Laws.{IsMadeIn}
+use Rattle.schedule_loops.specs.Reach.{wholes}
+use Rattle.schedule_loops.specs.Stages.{IsStageOf, first_loops, has_variable, extent_in, is_slice_of}
+use Rattle.schedule_loops.specs.Visits.{Visit}
+use Rattle.schedule_loops.proofs.AcceptedStages.{accepted as accepted_stages, pair_at}
+use Rattle.schedule_loops.proofs.Covering.{visited}
+use Rattle.schedule_loops.proofs.TurnsFound.{of_all, visits_are_made}
+use Rattle.bounds_ranges.specs.declared.bases.Multiple.{Multiple}
+use Rattle.bounds_ranges.specs.declared.ranges.Range.{Range}
+use Rattle.bounds_ranges.specs.Bases.{more_sum, less_sum}
+use Rattle.bounds_ranges.specs.Laws.{Below, Lies}
+use Rattle.bounds_ranges.specs.Ranges.{origin, spot}
+use Rattle.bounds.specs.declared.boxes.HostLoop.{HostLoop}
+use Rattle.bounds.specs.declared.boxes.SourceBox.{SourceBox}
+use Rattle.bounds.specs.declared.verdict.Boxes.{Boxes}
+use Rattle.bounds.specs.Boxes.{box_in, no_loops, lasts_of, extent}
+use Rattle.bounds_laws.specs.Callers.{IsReadWithin, StandsAt, HasLoop, IsWithin}
+use Rattle.bounds_laws.specs.HostLaws.{turns_from, gone, IsGone, IsTakenTo, AgreeFrom}
+use Rattle.bounds.specs.Inference.{host_of}
+use Rattle.bounds_laws.specs.Laws.{LiesIn, values_for, host_in, IsComputed}
+use Rattle.bounds.specs.Verdict.{inferred}
+use Rattle.bounds.specs.Views.{extents_of, inner_count, host_loop_in, host_loop, host_view_in, host_view, settled_box, view_of}
+use Rattle.bounds_laws.proofs.BoxFacts.{HasBox, has_box, is_judged, shifts_at}
+use Rattle.bounds_laws.proofs.Flat.{one_row_boxes}
+use Rattle.bounds_laws.proofs.Found.{no_below}
+use Rattle.bounds_laws.proofs.HostArguments.{host_arguments_lie}
+use Rattle.bounds_laws.proofs.Settled.{settled_boxes_hold}
+use Rattle.bounds_laws.proofs.StandingWithin.{one_standing}
+
+-- a reader's point lies in the view with which a source is asked, while the loops of the source's host have these values
+pub record Sees (pipeline : Pipeline) (schedule : Schedule) (boxes : Boxes) (reader : ℕ) (own : SourceBox) (x y : ℕ) (place : Place) : Type 0 where
+  pub host : Option HostLoop
+  pub host_is : host_in schedule boxes.funcs place ≡ host
+  pub view : SourceBox
+  pub view_is : view_of (slice_get schedule.funcs reader) (slice_get schedule.standings reader) own host ≡ view
+  pub values : List ℕ
+  pub below_view : Below values view.lasts
+  pub below_host : Below (values_for host values) (lasts_of host)
+  pub lies : LiesIn values view x y
+
+-- ---- lists
+
+parted : {A : Type 0} (n : ℕ) (xs : List A) → xs ≡ take n xs ++ drop n xs
+parted zero xs = refl
+parted (suc n) [] = refl
+parted {A} (suc n) (x ∷ xs) = ap (λ (ys : List A). x ∷ ys) (parted n xs)
+
+taken_length : {A : Type 0} (n : ℕ) (xs : List A) → n ≤ length xs → length (take n xs) ≡ n
+taken_length zero xs few = refl
+taken_length (suc n) [] few = absurd (omega (arith, few))
+taken_length (suc n) (x ∷ xs) few = ap suc (taken_length n xs (omega (arith, few)))
+
+count_few : (id : LoopId) (loops : List Loop) → inner_count id loops ≤ length loops
+count_few id [] = omega arith
+count_few id (first ∷ outside) = by_test (same_id first.id id) (count_few id outside)
+  where
+    by_test : (test : Bool) → inner_count id outside ≤ length outside → cond test 0 (suc (inner_count id outside)) ≤ suc (length outside)
+    by_test true few = omega arith
+    by_test false few = omega (arith, few)
+
+agree_self : (inner : ℕ) (values : List ℕ) → AgreeFrom inner values values
+agree_self zero [] = tt
+agree_self (suc inner) [] = tt
+agree_self zero (v ∷ values) = (refl, agree_self zero values)
+agree_self (suc inner) (v ∷ values) = agree_self inner values
+
+-- ---- a box with no loops
+
+pub zero_values : (values : List ℕ) → Below values no_loops → values ≡ no_loops
+zero_values [] below = absurd below
+zero_values (a ∷ []) below = absurd below.1
+zero_values (a ∷ b ∷ []) below = absurd below.1.1
+zero_values (a ∷ b ∷ c ∷ []) below = absurd below.1.1.1
+zero_values (a ∷ b ∷ c ∷ d ∷ []) below = absurd below.1.1.1.1
+zero_values (a ∷ b ∷ c ∷ d ∷ e ∷ []) below =
+    let none : (n : ℕ) → n ≤ 0 → n ≡ 0 = λ n l. omega (arith, l) in
+    rw (none a below.0, none b below.1.0, none c below.1.1.0, none d below.1.1.1.0, none e below.1.1.1.1.0) refl
+zero_values (a ∷ b ∷ c ∷ d ∷ e ∷ f ∷ values) below = absurd below.1.1.1.1.1
+
+more_none : (base : List Multiple) → more_sum base no_loops ≡ 0
+more_none [] = refl
+more_none (a ∷ []) = omega arith
+more_none (a ∷ b ∷ []) = omega arith
+more_none (a ∷ b ∷ c ∷ []) = omega arith
+more_none (a ∷ b ∷ c ∷ d ∷ []) = omega arith
+more_none (a ∷ b ∷ c ∷ d ∷ e ∷ []) = omega arith
+more_none (a ∷ b ∷ c ∷ d ∷ e ∷ f ∷ base) = omega arith
+
+less_none : (base : List Multiple) → less_sum base no_loops ≡ 0
+less_none [] = refl
+less_none (a ∷ []) = omega arith
+less_none (a ∷ b ∷ []) = omega arith
+less_none (a ∷ b ∷ c ∷ []) = omega arith
+less_none (a ∷ b ∷ c ∷ d ∷ []) = omega arith
+less_none (a ∷ b ∷ c ∷ d ∷ e ∷ []) = omega arith
+less_none (a ∷ b ∷ c ∷ d ∷ e ∷ f ∷ base) = omega arith
+
+-- between the ends of a range, as a signed number
+record Stands (range : Range) (x : ℕ) : Type 0 where
+  word : x < 2 ^ 32
+  low : range.low ≤ spot x
+  high : spot x ≤ range.high
+
+stands : (range : Range) (values : List ℕ) (x : ℕ) → Below values no_loops → Lies no_loops values range x → Stands range x
+stands range values x below l =
+    let z = zero_values values below in
+    let m : more_sum range.base values ≡ 0 = ap (more_sum range.base) z ∙ more_none range.base in
+    let n : less_sum range.base values ≡ 0 = ap (less_sum range.base) z ∙ less_none range.base in
+    record { word = l.word; low = omega (arith, l.low, m, n); high = omega (arith, l.high, m, n) }
+
+-- ---- arguments of a Func
+
+has_first : (func : Func) → has_variable variables.FirstArgument (first_loops func None) ≡ true
+has_first func = by_second func.second_argument refl
+  where
+    by_second : (second : Option (List ℕ)) → func.second_argument ≡ second → has_variable variables.FirstArgument (first_loops func None) ≡ true
+    by_second None e = rw e refl
+    by_second (Some name) e = rw e refl
+
+one_without : (func : Func) → has_variable variables.SecondArgument (first_loops func None) ≡ false → dimensions func ≡ 1
+one_without func = by_second func.second_argument refl
+  where
+    by_second : (second : Option (List ℕ)) → func.second_argument ≡ second → has_variable variables.SecondArgument (first_loops func None) ≡ false → dimensions func ≡ 1
+    by_second None e none = rw e refl
+    by_second (Some name) e none = absurd (true≢false (sym (rw e refl) ∙ none))
+
+module _ (pipeline : Pipeline) (schedule : Schedule) (boxes : Boxes) (rules : IsWellFormed pipeline) (accepted : IsAccepted pipeline schedule) (is : inferred pipeline schedule ≡ Ok boxes) where
+  -- ---- the reader has the loop
+
+  module _ (reader : ℕ) (own : SourceBox) (own_is : slice_get boxes.funcs reader ≡ Some (Some own)) (box : HasBox pipeline schedule boxes reader own) (root : box.standing.place ≡ places.Root) (plan : FuncPlan) (plan_is : slice_get schedule.funcs reader ≡ Some plan)
+      (id : LoopId) (values : List ℕ) (below : Below values own.lasts) (x y : ℕ) (lies : LiesIn values own x y) where
+    func : Func
+    func = box.func
+
+    stage : Stage
+    stage = plan.pure
+
+    inner : ℕ
+    inner = inner_count id stage.loops
+
+    inside : List Loop
+    inside = take inner stage.loops
+
+    outside : List Loop
+    outside = drop inner stage.loops
+
+    extents : Extents
+    extents = extents_of own
+
+    no_lasts : own.lasts ≡ no_loops
+    no_lasts = box.lasts ∙ ap (λ (p : Place). lasts_of (host_in schedule boxes.funcs p)) root
+
+    below_none : Below values no_loops
+    below_none = subst (λ (l : List ℕ). Below values l) no_lasts below
+
+    in_x : Stands own.x x
+    in_x = stands own.x values x below_none (subst (λ (l : List ℕ). Lies l values own.x x) no_lasts lies.first)
+
+    in_y : Stands own.y y
+    in_y = stands own.y values y below_none (subst (λ (l : List ℕ). Lies l values own.y y) no_lasts lies.second)
+
+    stage_is : IsStageOf func None stage
+    unfolding func stage
+    stage_is =
+        (accepted_stages box.func plan box.standing (pair_at IsPlan pipeline.funcs schedule.funcs reader box.func plan accepted.plans box.func_is plan_is)
+        (pair_at IsLegal schedule.funcs schedule.standings reader plan box.standing accepted.legal plan_is box.there.standing) box.there.reached).0.0
+
+    -- how far the point is from the corner
+    far_x : ℕ
+    far_x = spot x - own.x.low
+
+    far_y : ℕ
+    far_y = cond (has_variable variables.SecondArgument (first_loops func None)) (spot y - own.y.low) 0
+
+    slice_by : (test : Bool) → has_variable variables.SecondArgument (first_loops func None) ≡ test → cond test (spot y - own.y.low) 0 < cond test (extent own.y) 1
+    slice_by true e = omega (arith, in_y.low, in_y.high)
+    slice_by false e = omega arith
+
+    is_slice : is_slice_of func None extents far_x far_y ≡ true
+    unfolding far_x far_y extents
+    is_slice =
+        and_from (nat_lt far_x (extent_in func None extents variables.FirstArgument)) (nat_lt far_y (extent_in func None extents variables.SecondArgument))
+        (rw (has_first func) (lt-ltb (spot x - own.x.low) (extent own.x) (omega (arith, in_x.low, in_x.high))))
+        (lt-ltb far_y (extent_in func None extents variables.SecondArgument) (slice_by (has_variable variables.SecondArgument (first_loops func None)) refl))
+
+    fits : shifts_fit extents stage.splits ≡ true
+    unfolding extents stage
+    fits = shifts_at schedule.funcs boxes.funcs reader plan own (is_judged pipeline schedule boxes is).shifts plan_is own_is
+
+    made : IsMadeIn extents stage inside outside (record { x = far_x; y = far_y; number = 0 })
+    unfolding inside outside
+    made = visits_are_made extents stage inside outside (parted inner stage.loops) (record { x = far_x; y = far_y; number = 0 }) (visited func extents far_x far_y is_slice stage stage_is fits)
+
+    at_first : made.whole (ids.Whole variables.FirstArgument) ≡ far_x
+    at_first = ap (λ (v : Visit). v.x) made.visit_is
+
+    at_second : made.whole (ids.Whole variables.SecondArgument) ≡ far_y
+    at_second = ap (λ (v : Visit). v.y) made.visit_is
+
+    gone_x : IsGone own.x (gone func variables.FirstArgument made.whole) x
+    unfolding far_x
+    gone_x = record { word = in_x.word; is = rw (has_first func) (omega (arith, at_first, in_x.low)) }
+
+    gone_by : (test : Bool) → has_variable variables.SecondArgument (first_loops func None) ≡ test → far_y ≡ cond test (spot y - own.y.low) 0
+        → spot y ≡ own.y.low + cond test (made.whole (ids.Whole variables.SecondArgument)) 0
+    unfolding func
+    gone_by true e f = omega (arith, at_second, f, in_y.low)
+    gone_by false e f =
+        let row = one_row_boxes pipeline schedule boxes rules accepted is reader func own box.func_is (one_without func e) own_is in
+        let low : own.y.low ≡ origin = ap (λ (r : Range). r.low) row in
+        let high : own.y.high ≡ origin = ap (λ (r : Range). r.high) row in
+        omega (arith, low, high, in_y.low, in_y.high)
+
+    gone_y : IsGone own.y (gone func variables.SecondArgument made.whole) y
+    unfolding far_y
+    gone_y = record { word = in_y.word; is = gone_by (has_variable variables.SecondArgument (first_loops func None)) refl refl }
+
+    turns : List ℕ
+    turns = turns_from (length inside) made.turns stage.loops
+
+    taken : Below turns (host_loop plan own id).lasts × LiesIn turns (host_view stage own (host_loop plan own id)) x y
+    unfolding turns inside outside inner stage extents
+    taken =
+        let h = host_arguments_lie func plan own id inside outside made.turns stage_is (parted inner stage.loops) (taken_length inner stage.loops (count_few id stage.loops)) made.are in (
+          h.0,
+          of_all (λ (whole : Values). (a b : ℕ) → IsTakenTo func own whole a b → LiesIn turns (host_view stage own (host_loop plan own id)) a b) (wholes extents stage.splits inside made.turns) h.1 made.whole made.visited x y
+              (record { first = gone_x; second = gone_y }),
+        )
+
+    pub host_sees : (place : Place) → host_in schedule boxes.funcs place ≡ Some (host_loop plan own id) → Sees pipeline schedule boxes reader own x y place
+    unfolding stage host_view_in
+    host_sees place host_is = record {
+      host = Some (host_loop plan own id);
+      host_is = host_is;
+      view = host_view plan.pure own (host_loop plan own id);
+      view_is = rw (box.there.standing, plan_is) (rw root refl);
+      values = turns;
+      below_view = taken.0;
+      below_host = taken.0;
+      lies = taken.1;
+    }
+
+  -- ---- whichever it is
+
+  module _ (reader : ℕ) (own : SourceBox) (own_is : slice_get boxes.funcs reader ≡ Some (Some own)) (values : List ℕ) (below : Below values own.lasts) (x y : ℕ) (lies : LiesIn values own x y) where
+    box : HasBox pipeline schedule boxes reader own
+    box = has_box pipeline schedule boxes accepted is reader own own_is
+
+    root_sees : (place : Place) → host_in schedule boxes.funcs place ≡ None → Sees pipeline schedule boxes reader own x y place
+    root_sees place none = record {
+      host = None;
+      host_is = none;
+      view = own;
+      view_is = refl;
+      values = values;
+      below_view = below;
+      below_host = no_below;
+      lies = lies;
+    }
+
+    here : (n : ℕ) → 0 + n ≡ n
+    here n = omega arith
+
+    module _ (func : ℕ) (within : IsReadWithin schedule reader func) (at : LoopPlace) (place_is : within.own.place ≡ places.At at) where
+      rooted : IsRootReached schedule.standings at.func
+      rooted =
+          let h : HasHostAtRoot schedule.standings func within.own = subst (λ (n : ℕ). HasHostAtRoot schedule.standings n within.own) (here func) (numbered_at (HasHostAtRoot schedule.standings) 0 schedule.standings accepted.hosts_at_root func within.own within.there.standing) in
+          h within.there.reached at place_is
+
+      hosted : IsHosted pipeline schedule.funcs func within.own
+      hosted = subst (λ (n : ℕ). IsHosted pipeline schedule.funcs n within.own) (here func) (numbered_at (IsHosted pipeline schedule.funcs) 0 schedule.standings accepted.hosts func within.own within.there.standing)
+
+      by_loop : StandsAt schedule at reader → Sees pipeline schedule boxes reader own x y (places.At at)
+      unfolding box host_loop_in
+      by_loop (HasLoop same) =
+          let host = hosted at place_is in
+          let plan_is : slice_get schedule.funcs reader ≡ Some host.plan = ap (λ (n : ℕ). slice_get schedule.funcs n) same ∙ host.plan_is in
+          let standing_is = one_standing schedule.standings reader box.standing rooted.own box.there.standing (ap (λ (n : ℕ). slice_get schedule.standings n) same ∙ rooted.there.standing) in
+          let root : box.standing.place ≡ places.Root = ap (λ (s : Standing). s.place) standing_is ∙ rooted.root in
+          let box_is : slice_get boxes.funcs at.func ≡ Some (Some own) = ap (λ (n : ℕ). slice_get boxes.funcs n) (sym same) ∙ own_is in
+          host_sees reader own own_is box root host.plan plan_is at.inside values below x y lies (places.At at) (rw (host.plan_is, box_is) refl)
+      by_loop (IsWithin st other there other_place inside) = by_box (slice_get schedule.funcs at.func) refl (box_in (slice_get boxes.funcs at.func)) refl
+        where
+          same_func : other.func ≡ at.func
+          same_func = eqb-true other.func at.func (and_parts (other.func == at.func) (comes_first other.inside at.inside (pure_loops_of (slice_get schedule.funcs other.func))) inside).0
+
+          own_place : box.standing.place ≡ places.At other
+          own_place = ap (λ (s : Standing). s.place) (one_standing schedule.standings reader box.standing st box.there.standing there.standing) ∙ other_place
+
+          own_lasts : own.lasts ≡ lasts_of (host_of other (slice_get schedule.funcs at.func) (box_in (slice_get boxes.funcs at.func)))
+          own_lasts =
+              box.lasts ∙ ap (λ (p : Place). lasts_of (host_in schedule boxes.funcs p)) own_place
+              ∙ ap (λ (n : ℕ). lasts_of (host_of other (slice_get schedule.funcs n) (box_in (slice_get boxes.funcs n)))) same_func
+
+          by_box : (plan : Option FuncPlan) → slice_get schedule.funcs at.func ≡ plan → (host_box : Option SourceBox) → box_in (slice_get boxes.funcs at.func) ≡ host_box
+              → Sees pipeline schedule boxes reader own x y (places.At at)
+          by_box None p host_box b = root_sees (places.At at) (rw p refl)
+          by_box (Some plan) p None b = root_sees (places.At at) (rw (p, b) refl)
+          by_box (Some plan) p (Some host_box) b =
+              let host = host_loop plan host_box at.inside in
+              let lasts_are : own.lasts ≡ host.lasts = own_lasts ∙ rw (p, b) refl in
+              record {
+                host = Some host;
+                host_is = rw (p, b) refl;
+                view = settled_box host.inner own;
+                view_is = rw box.there.standing (rw own_place refl);
+                values = values;
+                below_view = below;
+                below_host = subst (λ (l : List ℕ). Below values l) lasts_are below;
+                lies = settled_boxes_hold host.inner own values values below (agree_self host.inner values) x y lies;
+              }
+
+    pub sees : (func : ℕ) (within : IsReadWithin schedule reader func) → IsComputed func within.own.place → Sees pipeline schedule boxes reader own x y within.own.place
+    sees func within computed = by_place within.own.place refl computed
+      where
+        by_place : (place : Place) → within.own.place ≡ place → IsComputed func place → Sees pipeline schedule boxes reader own x y place
+        by_place places.Root e c = root_sees places.Root refl
+        by_place (places.At at) e c = by_loop func within at e (within.within at e)
+        by_place places.Inlined e c = absurd c
+        by_place places.Nowhere e c = absurd c

@@ -1,0 +1,100 @@
+-- A reader of a Func that is computed at a loop stands at that loop.
+use Rattle.std.proofs.Common.{◌≡◌, ℕ, zero, suc, ◌+◌, ◌<◌, true, List, [], ◌∷◌, Some, refl, sym, ap, subst, ◌∙◌, arith}
+use Rattle.std.specs.Prelude.{slice_get}
+use Rattle.halide_pipeline.specs.Pipelines.{Pipeline}
+use Rattle.schedule.specs.declared.schedules.Schedule.{Schedule}
+use Rattle.schedule.specs.declared.standings.LoopPlace.{LoopPlace}
+use Rattle.schedule.specs.declared.standings.Place.{Place}
+use Rattle.schedule.specs.declared.standings.Place.TheVariants as places
+use Rattle.schedule.specs.declared.standings.Standing.{Standing}
+use Rattle.schedule.specs.Accepted.{IsAccepted}
+use Rattle.schedule.specs.Calls.{place_calls}
+use Rattle.schedule.specs.Legal.{is_inlined}
+use Rattle.schedule.specs.Standing.{standings_from, is_within}
+use Rattle.schedule.specs.Standing as standing
+use Rattle.schedule.specs.Uses.{IsReached, StandsWithin, Host, Computed, Inlined, HasUsesWithin, HasHostAtRoot, IsRootReached}
+use Rattle.schedule.proofs.Uses.{IsThereReached, called_is_reached, numbered_at}
+use Rattle.bounds_inlining.specs.Inlining.{flagged}
+use Rattle.bounds_weights.specs.Weight.{flags_of}
+use Rattle.bounds_laws.specs.Callers.{ReadsThrough, Calls, Through, StandsAt, HasLoop, IsWithin, ReadersStandWithin}
+use Rattle.bounds_laws.specs.Laws.{IsComputed}
+
+-- a flag that is set is that of an inlined Func
+pub flag_is : (standings : List Standing) (place : ℕ) (own : Standing) → slice_get standings place ≡ Some own → flagged (flags_of standings) place ≡ is_inlined own.place
+flag_is [] place own found = absurd cc
+flag_is (first ∷ others) zero own found = let first_is : first ≡ own = cc in ap (λ (s : Standing). is_inlined s.place) first_is
+flag_is (first ∷ others) (suc place) own found = flag_is others place own found
+
+pub one_standing : (standings : List Standing) (place : ℕ) (a b : Standing) → slice_get standings place ≡ Some a → slice_get standings place ≡ Some b → a ≡ b
+one_standing standings place a b e f = cc
+
+module _ (pipeline : Pipeline) (schedule : Schedule) (accepted : IsAccepted pipeline schedule) where
+  standings_are : schedule.standings ≡ standings_from pipeline schedule.funcs 0 schedule.funcs
+  unfolding standing.standings
+  standings_are = accepted.standings
+
+  pub called_reached : (reader : ℕ) (its : Standing) → IsReached schedule.standings reader its → (func : ℕ) → func < reader → place_calls pipeline reader func ≡ true → IsThereReached schedule.standings func
+  called_reached reader its there func before called =
+      subst (λ (l : List Standing). IsThereReached l func) (sym standings_are)
+      (called_is_reached pipeline schedule.funcs reader its (subst (λ (l : List Standing). IsReached l reader its) standings_are there) func before called)
+
+  pub record IsReadBefore (reader func : ℕ) : Type 0 where
+    pub reached : IsThereReached schedule.standings func
+    pub before : func < reader
+
+  pub read_reached : (reader : ℕ) (its : Standing) → IsReached schedule.standings reader its → (func : ℕ) → ReadsThrough pipeline schedule.standings reader func → IsReadBefore reader func
+  read_reached reader its there func (Calls _ _ before called) = record { reached = called_reached reader its there func before called; before = before }
+  read_reached reader its there func (Through _ between _ before flag called through) =
+      let b = called_reached reader its there between before called in
+      let r = read_reached between b.own b.there func through in
+      record { reached = r.reached; before = omega (arith, r.before, before) }
+
+  module _ (func : ℕ) (own : Standing) (own_there : IsReached schedule.standings func own) (host : LoopPlace) (place_is : own.place ≡ places.At host) where
+    here : (n : ℕ) → 0 + n ≡ n
+    here n = omega arith
+
+    uses : HasUsesWithin pipeline schedule.funcs schedule.standings func own
+    uses = subst (λ (n : ℕ). HasUsesWithin pipeline schedule.funcs schedule.standings n own) (here func) (numbered_at (HasUsesWithin pipeline schedule.funcs schedule.standings) 0 schedule.standings accepted.uses func own own_there.standing)
+
+    rooted : IsRootReached schedule.standings host.func
+    rooted =
+        let h : HasHostAtRoot schedule.standings func own = subst (λ (n : ℕ). HasHostAtRoot schedule.standings n own) (here func) (numbered_at (HasHostAtRoot schedule.standings) 0 schedule.standings accepted.hosts_at_root func own own_there.standing) in
+        h own_there.reached host place_is
+
+    -- an inlined Func within the loop has its readers there
+    passed_on : (between : ℕ) (its : Standing) → IsReached schedule.standings between its → is_inlined its.place ≡ true → StandsWithin pipeline schedule.funcs schedule.standings host between
+        → (reader : ℕ) (reading : Standing) → between < reader → IsReached schedule.standings reader reading → place_calls pipeline reader between ≡ true → StandsWithin pipeline schedule.funcs schedule.standings host reader
+    passed_on between its there inlined Host reader reading before reading_there called =
+        let same = one_standing schedule.standings host.func its rooted.own there.standing rooted.there.standing in
+        let wrong : is_inlined places.Root ≡ true = ap is_inlined (sym (ap (λ (s : Standing). s.place) same ∙ rooted.root)) ∙ inlined in
+        absurd cc
+    passed_on between its there inlined (Computed _ other at other_there other_place within) reader reading before reading_there called =
+        let same = one_standing schedule.standings between its other there.standing other_there.standing in
+        let wrong : is_inlined (places.At at) ≡ true = ap is_inlined (sym (ap (λ (s : Standing). s.place) same ∙ other_place)) ∙ inlined in
+        absurd cc
+    passed_on between its there inlined (Inlined _ other other_there other_place callers) reader reading before reading_there called = callers reader reading before reading_there called
+
+    within : (reader : ℕ) (its : Standing) → IsReached schedule.standings reader its → ReadsThrough pipeline schedule.standings reader func → StandsWithin pipeline schedule.funcs schedule.standings host reader
+    within reader its there (Calls _ _ before called) = uses host place_is reader its before there called
+    within reader its there (Through _ between _ before flag called through) =
+        let b = called_reached reader its there between before called in
+        passed_on between b.own b.there (sym (flag_is schedule.standings between b.own b.there.standing) ∙ flag) (within between b.own b.there through) reader its before there called
+
+    stands : (reader : ℕ) (its : Standing) → IsReached schedule.standings reader its → IsComputed reader its.place → StandsWithin pipeline schedule.funcs schedule.standings host reader → StandsAt schedule host reader
+    stands reader its there computed Host = HasLoop refl
+    stands reader its there computed (Computed _ other at other_there other_place inside) = IsWithin other at other_there other_place inside
+    stands reader its there computed (Inlined _ other other_there other_place callers) =
+        let same = one_standing schedule.standings reader its other there.standing other_there.standing in
+        absurd (subst (λ (p : Place). IsComputed reader p) (ap (λ (s : Standing). s.place) same ∙ other_place) computed)
+
+pub readers_stand_within : ReadersStandWithin
+readers_stand_within pipeline schedule accepted reader its there computed func through =
+    let read = read_reached pipeline schedule accepted reader its there func through in
+    record {
+      own = read.reached.own;
+      there = read.reached.there;
+      before = read.before;
+      within = λ host place_is.
+          stands pipeline schedule accepted func read.reached.own read.reached.there host place_is reader its there computed
+          (within pipeline schedule accepted func read.reached.own read.reached.there host place_is reader its there through);
+    }

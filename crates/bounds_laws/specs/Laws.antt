@@ -1,0 +1,176 @@
+-- Boxes hold what is read.
+-- This project's own.
+use Rattle.std.specs.Prelude.{◌≡◌, ◌<◌, ◌≤◌, ℕ, suc, ◌+◌, ◌-◌, ◌^◌, Bool, true, not, List, [], ◌∷◌, ◌++◌, Option, Some, None, slice_get, Ok}
+use Rattle.std.specs.List.{AllByRecursion}
+use Rattle.halide_pipeline.specs.declared.definitions.Func.{Func}
+use Rattle.halide_pipeline.specs.declared.definitions.Update.{Update}
+use Rattle.halide_pipeline.specs.declared.expressions.Expr.{Expr}
+use Rattle.halide_pipeline.specs.declared.expressions.Source.{Source}
+use Rattle.halide_pipeline.specs.declared.expressions.Source.TheVariants as sources
+use Rattle.halide_pipeline.specs.Definitions.{is_first_in_place, is_second_in_place}
+use Rattle.halide_pipeline.specs.Pipelines.{Pipeline}
+use Rattle.halide_pipeline.specs.WellFormed.{IsWellFormed}
+use Rattle.halide_pipeline.specs.declared.environments.Environment.{Environment}
+use Rattle.halide_pipeline.specs.Pixel.{Reads, at_point, at_reduction, points}
+use Rattle.halide_pipeline.specs.Points.{Point, Seen}
+use Rattle.schedule.specs.declared.schedules.Schedule.{Schedule}
+use Rattle.schedule.specs.declared.standings.Place.{Place}
+use Rattle.schedule.specs.declared.standings.Place.TheVariants as places
+use Rattle.schedule.specs.declared.standings.Standing.{Standing}
+use Rattle.bounds_inlining.specs.Inlining.{inlined, flagged}
+use Rattle.bounds_inlining.specs.Laws.{seen_variable}
+use Rattle.bounds_inlining.specs.Values.{seeing}
+use Rattle.bounds_ranges.specs.Laws.{Below, Lies, AnswerWords}
+use Rattle.bounds_ranges.specs.Ranges.{origin, spot}
+use Rattle.bounds_weights.specs.Weight.{flags_of}
+use Rattle.bounds.specs.declared.boxes.HostLoop.{HostLoop}
+use Rattle.bounds.specs.declared.boxes.SourceBox.{SourceBox}
+use Rattle.bounds.specs.declared.verdict.Boxes.{Boxes}
+use Rattle.bounds.specs.Boxes.{box_in, no_loops, lasts_of}
+use Rattle.bounds.specs.Inference.{host_of}
+use Rattle.bounds.specs.Sources.{same_source}
+use Rattle.bounds.specs.Verdict.{inferred}
+use Rattle.bounds.specs.Views.{view_of}
+
+-- While loops have these values, the point lies in the box.
+pub record LiesIn (values : List ℕ) (own : SourceBox) (x y : ℕ) : Type 0 where
+  pub first : Lies own.lasts values own.x x
+  pub second : Lies own.lasts values own.y y
+
+-- the values of the host's loops, where there is a host
+abbrev pub values_for : Option HostLoop → List ℕ → List ℕ
+values_for None values = no_loops
+values_for (Some host) values = values
+
+-- There is a box, and the point lies in it; nothing is said where there is no such source.
+abbrev pub IsBoxed : List ℕ → Option (Option SourceBox) → ℕ → ℕ → Type 0
+IsBoxed values None x y = Unit {0}
+IsBoxed values (Some None) x y = ⊥
+IsBoxed values (Some (Some own)) x y = LiesIn values own x y
+
+-- Of these points those of the source lie in its box.
+abbrev pub AreBoxed : List ℕ → Source → Option (Option SourceBox) → List Point → Type 0
+AreBoxed values source own points = AllByRecursion (λ point. same_source point.source source ≡ true → IsBoxed values own point.x point.y) points
+
+-- what a pure definition reads through its inlined Funcs, while its arguments are these
+abbrev pub pure_points : Pipeline → Schedule → Reads → ℕ → Func → ℕ → ℕ → List Point
+pure_points pipeline schedule reads reader func x y =
+    (inlined (seeing reads) (flagged (flags_of schedule.standings)) pipeline.funcs reader (seen_variable (at_point x y)) func.pure).points
+
+-- Wherever loops take a point of a Func's box, all that its pure definition reads there of inputs lies in their boxes.
+abbrev pub PureReadsOfInputsLie : Type 0
+PureReadsOfInputsLie = (pipeline : Pipeline) (schedule : Schedule) (boxes : Boxes) → IsWellFormed pipeline → inferred pipeline schedule ≡ Ok boxes
+    → (reader : ℕ) (func : Func) (own : SourceBox) → slice_get pipeline.funcs reader ≡ Some func → slice_get boxes.funcs reader ≡ Some (Some own)
+    → (reads : Reads) → AnswerWords pipeline.inputs reads
+    → (values : List ℕ) → Below values own.lasts → (x y : ℕ) → LiesIn values own x y
+    → (place : ℕ) → AreBoxed no_loops (sources.Input place) (slice_get boxes.inputs place) (pure_points pipeline schedule reads reader func x y)
+
+-- ---- Funcs
+
+-- the loop at which a Func with this place is computed
+abbrev pub host_in : Schedule → List (Option SourceBox) → Place → Option HostLoop
+host_in schedule boxes (places.At at) = host_of at (slice_get schedule.funcs at.func) (box_in (slice_get boxes at.func))
+host_in schedule boxes _ = None
+
+-- A Func is computed at root, or at a loop of a Func behind it.
+abbrev pub IsComputed : ℕ → Place → Type 0
+IsComputed func places.Root = Unit {0}
+IsComputed func (places.At at) = func < at.func
+IsComputed func places.Inlined = ⊥
+IsComputed func places.Nowhere = ⊥
+
+-- Wherever loops take the arguments of a Func, all that its pure definition reads there of another Func that is computed lies in the box of
+-- that one, while the loops of the host have these values.
+abbrev pub PureReadsOfFuncsLie : Type 0
+PureReadsOfFuncsLie = (pipeline : Pipeline) (schedule : Schedule) (boxes : Boxes) → IsWellFormed pipeline → inferred pipeline schedule ≡ Ok boxes
+    → (reader : ℕ) (func : Func) (own : SourceBox) → slice_get pipeline.funcs reader ≡ Some func → slice_get boxes.funcs reader ≡ Some (Some own)
+    → (place : ℕ) (sought : Standing) → place < reader → slice_get schedule.standings place ≡ Some sought → sought.is_reached ≡ true → IsComputed place sought.place
+    → (host : Option HostLoop) → host_in schedule boxes.funcs sought.place ≡ host
+    → (view : SourceBox) → view_of (slice_get schedule.funcs reader) (slice_get schedule.standings reader) own host ≡ view
+    → (reads : Reads) → AnswerWords pipeline.inputs reads
+    → (values : List ℕ) → Below values view.lasts → Below (values_for host values) (lasts_of host) → (x y : ℕ) → LiesIn values view x y
+    → AreBoxed (values_for host values) (sources.Func place) (slice_get boxes.funcs place) (pure_points pipeline schedule reads reader func x y)
+
+-- ---- updates
+
+abbrev pub seen_in : Pipeline → Schedule → Reads → ℕ → Environment → Expr → Seen
+seen_in pipeline schedule reads count environment e =
+    inlined (seeing reads) (flagged (flags_of schedule.standings)) pipeline.funcs count (seen_variable environment) e
+
+abbrev pub second_seen : Pipeline → Schedule → Reads → ℕ → Environment → Option Expr → Seen
+second_seen pipeline schedule reads count environment None = record { value = 0; points = [] }
+second_seen pipeline schedule reads count environment (Some e) = seen_in pipeline schedule reads count environment e
+
+-- What an update reads through its inlined Funcs at a point of its reduction box, while its arguments are these: what its left indexes read,
+-- the point that these name, of its own Func, and what its right side reads.
+abbrev pub points_at : Pipeline → Schedule → Reads → ℕ → Update → Environment → List Point
+points_at pipeline schedule reads reader update environment =
+    (seen_in pipeline schedule reads reader environment update.left_x).points
+    ++ ((second_seen pipeline schedule reads reader environment update.left_y).points
+    ++ (record {
+      source = sources.Func reader;
+      x = (seen_in pipeline schedule reads reader environment update.left_x).value;
+      y = (second_seen pipeline schedule reads reader environment update.left_y).value;
+    } ∷ (seen_in pipeline schedule reads (suc reader) environment update.right).points))
+
+abbrev pub update_points : Pipeline → Schedule → Reads → ℕ → Update → ℕ → ℕ → ℕ → List Point
+update_points pipeline schedule reads reader update number x y = points_at pipeline schedule reads reader update (at_reduction update number x y)
+
+-- as a signed number, from -2^24 to 2^24
+pub record IsNear (x : ℕ) : Type 0 where
+  pub low : origin - 2 ^ 24 ≤ spot x
+  pub high : spot x ≤ origin + 2 ^ 24
+
+-- Wherever loops take a point of a Func's box, all that its updates read there of inputs lies in their boxes.
+abbrev pub UpdateReadsOfInputsLie : Type 0
+UpdateReadsOfInputsLie = (pipeline : Pipeline) (schedule : Schedule) (boxes : Boxes) → IsWellFormed pipeline → inferred pipeline schedule ≡ Ok boxes
+    → (reader : ℕ) (func : Func) (own : SourceBox) → slice_get pipeline.funcs reader ≡ Some func → slice_get boxes.funcs reader ≡ Some (Some own)
+    → (at : ℕ) (update : Update) → slice_get func.updates at ≡ Some update
+    → (reads : Reads) → AnswerWords pipeline.inputs reads
+    → (values : List ℕ) → Below values own.lasts → (x y : ℕ) → LiesIn values own x y → IsNear x → IsNear y → (number : ℕ) → number < points update
+    → (place : ℕ) → AreBoxed no_loops (sources.Input place) (slice_get boxes.inputs place) (update_points pipeline schedule reads reader update number x y)
+
+-- And all that they read there of another Func that is computed lies in the box of that one.
+abbrev pub UpdateReadsOfFuncsLie : Type 0
+UpdateReadsOfFuncsLie = (pipeline : Pipeline) (schedule : Schedule) (boxes : Boxes) → IsWellFormed pipeline → inferred pipeline schedule ≡ Ok boxes
+    → (reader : ℕ) (func : Func) (own : SourceBox) → slice_get pipeline.funcs reader ≡ Some func → slice_get boxes.funcs reader ≡ Some (Some own)
+    → (at : ℕ) (update : Update) → slice_get func.updates at ≡ Some update
+    → (place : ℕ) (sought : Standing) → place < reader → slice_get schedule.standings place ≡ Some sought → sought.is_reached ≡ true → IsComputed place sought.place
+    → (host : Option HostLoop) → host_in schedule boxes.funcs sought.place ≡ host
+    → (view : SourceBox) → view_of (slice_get schedule.funcs reader) (slice_get schedule.standings reader) own host ≡ view
+    → (reads : Reads) → AnswerWords pipeline.inputs reads
+    → (values : List ℕ) → Below values view.lasts → Below (values_for host values) (lasts_of host) → (x y : ℕ) → LiesIn values view x y → IsNear x → IsNear y
+    → (number : ℕ) → number < points update
+    → AreBoxed (values_for host values) (sources.Func place) (slice_get boxes.funcs place) (update_points pipeline schedule reads reader update number x y)
+
+-- ---- a Func's own box
+
+-- The output's picture lies in its Func's box.
+abbrev pub OutputLies : Type 0
+OutputLies = (pipeline : Pipeline) (schedule : Schedule) (boxes : Boxes) → IsWellFormed pipeline → inferred pipeline schedule ≡ Ok boxes
+    → (sought : Standing) → slice_get schedule.standings pipeline.output.func ≡ Some sought → sought.is_reached ≡ true → sought.place ≡ places.Root
+    → (x y : ℕ) → x < pipeline.output.width → y < pipeline.output.height → IsBoxed no_loops (slice_get boxes.funcs pipeline.output.func) x y
+
+-- Where dimensions count, the point lies in the box in these.
+pub record LiesPartly (values : List ℕ) (own : SourceBox) (counts_first counts_second : Bool) (x y : ℕ) : Type 0 where
+  pub first : counts_first ≡ true → Lies own.lasts values own.x x
+  pub second : counts_second ≡ true → Lies own.lasts values own.y y
+
+abbrev pub IsPartlyBoxed : List ℕ → Option (Option SourceBox) → Bool → Bool → ℕ → ℕ → Type 0
+IsPartlyBoxed values None first second x y = Unit {0}
+IsPartlyBoxed values (Some None) first second x y = Unit {0}
+IsPartlyBoxed values (Some (Some own)) first second x y = LiesPartly values own first second x y
+
+-- What an update of a Func at root reads of its own Func, the point that its left side names among it, lies in the Func's box in each
+-- dimension that isn't in place.
+abbrev pub OwnReadsLie : Type 0
+OwnReadsLie = (pipeline : Pipeline) (schedule : Schedule) (boxes : Boxes) → IsWellFormed pipeline → inferred pipeline schedule ≡ Ok boxes
+    → (reader : ℕ) (func : Func) (sought : Standing) → slice_get pipeline.funcs reader ≡ Some func
+    → slice_get schedule.standings reader ≡ Some sought → sought.is_reached ≡ true → sought.place ≡ places.Root
+    → (at : ℕ) (update : Update) → slice_get func.updates at ≡ Some update
+    → (reads : Reads) → AnswerWords pipeline.inputs reads
+    → (x y : ℕ) → x < 2 ^ 32 → y < 2 ^ 32 → IsNear x → IsNear y → (number : ℕ) → number < points update
+    → AllByRecursion
+    (λ point. same_source point.source (sources.Func reader) ≡ true
+    → IsPartlyBoxed no_loops (slice_get boxes.funcs reader) (not (is_first_in_place update)) (not (is_second_in_place update)) point.x point.y)
+    (update_points pipeline schedule reads reader update number x y)

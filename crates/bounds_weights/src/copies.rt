@@ -1,0 +1,65 @@
+//! How often a stage's code stands, for loops that are unrolled.
+
+ghost use Rattle.std.specs.Prelude.{◌≡◌};
+ghost use Rattle.bounds_weights.specs.Copies as spec;
+ghost use Rattle.bounds_weights.specs.inner.Tables.{capped};
+
+use schedule::{FuncPlan, Place};
+use schedule_lines::stages::{Loop, LoopId, Mark, is_marked, same_id};
+use sqlite_items::at;
+
+/// How many copies there are of the code in a loop.
+fn copies(own: &Loop) -> u32
+    ensures { result ≡ spec.copies own.now }
+{
+    if is_marked(own, Mark::Unrolled) {
+        match own.inner_of {
+            None => 1,
+            Some(factor) => factor,
+        }
+    } else {
+        1
+    }
+}
+
+/// How many there are of the code in all these loops, or the greatest `u32` if there are more.
+#[tactic(auto, using(crate::proofs::Capping::times_first))]
+pub fn all_copies(loops: &[Loop]) -> u32
+    ensures { result ≡ capped (spec.all_copies loops.now) }
+{
+    match loops {
+        [] => 1,
+        [first, outside @ ..] => copies(first).saturating_mul(all_copies(outside)),
+    }
+}
+
+/// How many there are of the code in a loop and those outside of it, or the greatest `u32`.
+#[tactic(auto, using(crate::proofs::Capping::times_first))]
+fn copies_from(id: LoopId, loops: &[Loop]) -> u32
+    ensures { result ≡ capped (spec.copies_from id loops.now) }
+{
+    match loops {
+        [] => 1,
+        [first, outside @ ..] => {
+            if same_id(first.id, id) {
+                copies(first).saturating_mul(all_copies(outside))
+            } else {
+                copies_from(id, outside)
+            }
+        }
+    }
+}
+
+/// How many there are of the code of a Func that is computed here, for the loop at which it is and those outside of
+/// it; or the greatest `u32` if there are more.
+pub fn host_copies(plans: &[FuncPlan], place: Place) -> u32
+    ensures { result ≡ capped (spec.host_copies plans.now place) }
+{
+    match place {
+        Place::Inlined | Place::Root | Place::Nowhere => 1,
+        Place::At(host) => match at(plans, host.func) {
+            None => 1,
+            Some(plan) => copies_from(host.inside, plan.pure.loops.as_slice()),
+        },
+    }
+}

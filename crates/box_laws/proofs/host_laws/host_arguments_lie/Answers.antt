@@ -1,5 +1,0 @@
-use Rattle.box_laws.proofs.HostArguments.{host_arguments_lie}
-use Rattle.box_laws.proofs.host_laws.host_arguments_lie.Goals as goal
-
-pub returns : goal.returns
-returns c = host_arguments_lie

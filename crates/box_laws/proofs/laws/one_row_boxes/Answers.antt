@@ -1,5 +1,0 @@
-use Rattle.box_laws.proofs.Flat.{one_row_boxes}
-use Rattle.box_laws.proofs.laws.one_row_boxes.Goals as goal
-
-pub returns : goal.returns
-returns c = one_row_boxes

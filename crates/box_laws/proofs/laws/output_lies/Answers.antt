@@ -1,5 +1,0 @@
-use Rattle.box_laws.proofs.OwnReads.{output_lies}
-use Rattle.box_laws.proofs.laws.output_lies.Goals as goal
-
-pub returns : goal.returns
-returns c = output_lies

@@ -1,5 +1,0 @@
-use Rattle.box_laws.proofs.Updates.{update_reads_of_funcs_lie}
-use Rattle.box_laws.proofs.laws.update_reads_of_funcs_lie.Goals as goal
-
-pub returns : goal.returns
-returns c = update_reads_of_funcs_lie

@@ -1,4 +1,0 @@
-use Rattle.collected_code.proofs.collecting.+emit_round.Given as goal
-
-abbrev pub decreases-emit_round : goal.decreases-emit_round
-decreases-emit_round l = goal.size-emit_round l

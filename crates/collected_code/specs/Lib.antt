@@ -1,3 +1,0 @@
-pub mod Collected
-pub mod Doing
-pub mod Faults

@@ -1,8 +1,0 @@
-use Rattle.command_line.proofs.AskedWords.{marked_asm, plain_asm}
-use Rattle.command_line.proofs.command_lines.asm_is_named.Goals as goal
-
-pub returns-clause-plain : goal.returns-clause-plain
-returns-clause-plain c = plain_asm
-
-pub returns-clause-marked : goal.returns-clause-marked
-returns-clause-marked c = marked_asm

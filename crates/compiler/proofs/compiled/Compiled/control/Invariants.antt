@@ -1,6 +1,0 @@
-use Rattle.std.proofs.Common.{◌≡◌}
-use Rattle.compiler.specs.ControlWords.{control_words}
-use Rattle.compiler.proofs.compiled.Compiled.control.Given as goal
-
-abbrev pub invariant-loop-phase : goal.invariant-loop-phase
-invariant-loop-phase l = l.words.items ≡ control_words l.phase

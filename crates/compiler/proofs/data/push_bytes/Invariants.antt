@@ -1,5 +1,0 @@
-use Rattle.std.proofs.Common.{◌≡◌, ◌++◌, take}
-use Rattle.compiler.proofs.data.push_bytes.Given as goal
-
-abbrev pub invariant-loop-pixel : goal.invariant-loop-pixel
-invariant-loop-pixel l = l.bytes.items ≡ l.initial.bytes.items ++ take l.pixel-index l.pixels

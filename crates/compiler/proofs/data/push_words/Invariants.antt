@@ -1,6 +1,0 @@
-use Rattle.std.proofs.Common.{◌≡◌, ◌++◌, take}
-use Rattle.compiler.specs.Data.{word_bytes}
-use Rattle.compiler.proofs.data.push_words.Given as goal
-
-abbrev pub invariant-loop-pixel : goal.invariant-loop-pixel
-invariant-loop-pixel l = l.bytes.items ≡ l.initial.bytes.items ++ word_bytes (take l.pixel-index l.pixels)

@@ -1,5 +1,0 @@
-use Rattle.expression_lowering.proofs.Following.{number_follows}
-use Rattle.expression_lowering.proofs.parts.number.Goals as goal
-
-pub returns-clause-follows : goal.returns-clause-follows
-returns-clause-follows c = λ corners values reads given. number_follows corners values reads given c.args.number

@@ -1,5 +1,0 @@
-use Rattle.halide_syntax.proofs.Sound.{is_written}
-use Rattle.halide_syntax.proofs.laws.expressions_are_written.Goals as goal
-
-pub returns : goal.returns
-returns c = λ tokens w rest e. is_written tokens w rest e

@@ -1,0 +1,191 @@
+-- The program's words: which subcommand they name, and that what is wrong with them is what is wrong with its own.
+use Rattle.std.proofs.Common.{◌≡◌, ◌∙◌, Bool, codes, true, false, refl, sym, ap, ap₂, subst, List, [], ◌∷◌, ◌++◌, append-nil, append_assoc, Some, None}
+use Rattle.std.specs.Prelude.{fold, is_some}
+use Rattle.std.specs.Str.{bytes_eq}
+use Rattle.std.proofs.lemmas.Slice.Eq.{bytes_eq-Decides}
+use Rattle.clap.proofs.OnLiterals.{clap_on_literals}
+use Rattle.clap.specs.Walk.{Held, Step, Text, Walk, finished, idle, nothing_held, rows_after, settled, stop_after, subcommand_met, walk, walk_from, walked, word_met}
+use Rattle.clap.specs.Simple.{App, Shape, built, entered, names_of, subcommand_of}
+use Rattle.clap.specs.Kinds.{Kinds, or_else}
+use Rattle.clap.specs.Faults.{check_fault, defaults_fault, entered_fault, fault_of, level_fault, settle_fault, step_fault, turn_fault, walk_fault, word_fault}
+use Rattle.clap.specs.declared.error.ErrorKind.TheVariants as kind
+use Rattle.hrv_command_line.specs.CommandLine.{hrv_app}
+use Rattle.hrv_command_line.proofs.HelpOnly.{HasHelpOnly, both_pass, is_idle, some_fault, value_met}
+
+abbrev pub app : App
+app = built hrv_app
+
+-- the names of the subcommands
+pub data IsName : Text → Type 0 where
+  is_replay : IsName (codes "replay")
+  is_debug : IsName (codes "debug")
+  is_asm : IsName (codes "asm")
+  is_dis : IsName (codes "dis")
+  is_renew : IsName (codes "renew")
+  is_picture : IsName (codes "picture")
+  is_compile : IsName (codes "compile")
+  is_run : IsName (codes "run")
+
+-- past the subcommand, the words are its own
+abbrev pub stopped : Held → Text → List Text → Walk
+stopped h name words = record (walk_from h) { stopped = Some (name, words) }
+
+after_stop : (name : Text) (h : Held) (before words : List Text)
+    → fold (walked app.top.rules (names_of app)) (stopped h name before) words ≡ stopped h name (before ++ words)
+unfolding walked
+after_stop name h before [] = ap (stopped h name) (sym (append-nil before))
+after_stop name h before (word ∷ rest) =
+    after_stop name h (before ++ word ∷ []) rest ∙ ap (stopped h name) (append_assoc before (word ∷ []) rest)
+
+no_more_faults : (name : Text) (h : Held) (before words : List Text) → walk_fault app.top (names_of app) (stopped h name before) words ≡ []
+unfolding walked walk_fault
+no_more_faults name h before [] = refl
+no_more_faults name h before (word ∷ rest) = no_more_faults name h (before ++ word ∷ []) rest
+
+fault_none : fault_of hrv_app [] ≡ [] → ⊥
+unfolding clap_on_literals
+fault_none e = some_fault kind.MissingSubcommand [] e
+
+-- a first `--` leaves no subcommand
+fault_marked : (rest : List Text) → fault_of hrv_app (codes "--" ∷ rest) ≡ [] → ⊥
+unfolding clap_on_literals
+fault_marked [] e = some_fault kind.MissingSubcommand [] e
+fault_marked (word ∷ rest) e = some_fault kind.UnknownArgument (kind.InvalidSubcommand ∷ []) e
+
+top_help : HasHelpOnly app.top.rules
+top_help = record { long = λ name. refl; short = λ x. refl }
+
+abbrev top_fault : Text → Kinds
+top_fault word = turn_fault app.top (names_of app) (walk_from nothing_held) word
+
+-- nor does a first word that is no subcommand
+stray : (word : Text) → subcommand_met (names_of app) idle word ≡ None → bytes_eq word (codes "--") ≡ false → top_fault word ≡ [] → ⊥
+stray word unnamed unmarked e =
+    let met = word_met app.top.rules (names_of app) false idle 1 word nothing_held in
+    let parts = both_pass (word_fault app.top (names_of app) false idle word nothing_held) (step_fault app.top 1 met.0 met.1) e in
+    let is_value = value_met app.top (names_of app) top_help idle is_idle 1 word [] None unnamed unmarked parts.0 in
+    some_fault kind.UnknownArgument (kind.InvalidSubcommand ∷ []) (subst (λ (m : Held × Step). step_fault app.top 1 m.0 m.1 ≡ []) is_value parts.1)
+
+-- words that begin with a subcommand's name
+pub record Named (words : List Text) : Type 0 where
+  pub name : Text
+  pub is_name : IsName name
+  pub rest : List Text
+  pub split : words ≡ name ∷ rest
+
+begins : (word : Text) (rest : List Text) (name : Text) → IsName name → bytes_eq name word ≡ true → Named (word ∷ rest)
+begins word rest name is_name same =
+    record { name = name; is_name = is_name; rest = rest; split = ap (λ w. w ∷ rest) (sym ((bytes_eq-Decides name word).0 same)) }
+
+-- the first word is one of them
+pub first_is_name : (words : List Text) → fault_of hrv_app words ≡ [] → Named words
+unfolding walk_fault
+first_is_name [] e = absurd (fault_none e)
+first_is_name (word ∷ rest) e = by_replay (bytes_eq (codes "replay") word) refl
+  where
+    first : top_fault word ≡ []
+    first = (both_pass (top_fault word) _ (both_pass (walk_fault app.top (names_of app) (walk_from nothing_held) (word ∷ rest)) _ e).0).0
+
+    by_mark : (b : Bool) → bytes_eq word (codes "--") ≡ b → subcommand_met (names_of app) idle word ≡ None → Named (word ∷ rest)
+    by_mark true mark unnamed = absurd (fault_marked rest (subst (λ w. fault_of hrv_app (w ∷ rest) ≡ []) ((bytes_eq-Decides word (codes "--")).0 mark) e))
+    by_mark false mark unnamed = absurd (stray word unnamed mark first)
+
+    by_help : (b : Bool) → bytes_eq (codes "help") word ≡ b → bytes_eq (codes "replay") word ≡ false → bytes_eq (codes "debug") word ≡ false
+        → bytes_eq (codes "asm") word ≡ false → bytes_eq (codes "dis") word ≡ false → bytes_eq (codes "renew") word ≡ false → bytes_eq (codes "picture") word ≡ false
+        → bytes_eq (codes "compile") word ≡ false → bytes_eq (codes "run") word ≡ false → Named (word ∷ rest)
+    by_help true help no_replay no_debug no_asm no_dis no_renew no_picture no_compile no_run =
+        absurd (some_fault _ _ (rw (no_replay, no_debug, no_asm, no_dis, no_renew, no_picture, no_compile, no_run, help) at first))
+    by_help false help no_replay no_debug no_asm no_dis no_renew no_picture no_compile no_run =
+        by_mark (bytes_eq word (codes "--")) refl (rw (no_replay, no_debug, no_asm, no_dis, no_renew, no_picture, no_compile, no_run, help) refl)
+
+    by_run : (b : Bool) → bytes_eq (codes "run") word ≡ b → bytes_eq (codes "replay") word ≡ false → bytes_eq (codes "debug") word ≡ false
+        → bytes_eq (codes "asm") word ≡ false → bytes_eq (codes "dis") word ≡ false → bytes_eq (codes "renew") word ≡ false → bytes_eq (codes "picture") word ≡ false
+        → bytes_eq (codes "compile") word ≡ false → Named (word ∷ rest)
+    by_run true same no_replay no_debug no_asm no_dis no_renew no_picture no_compile = begins word rest (codes "run") is_run same
+    by_run false other no_replay no_debug no_asm no_dis no_renew no_picture no_compile =
+        by_help (bytes_eq (codes "help") word) refl no_replay no_debug no_asm no_dis no_renew no_picture no_compile other
+
+    by_compile : (b : Bool) → bytes_eq (codes "compile") word ≡ b → bytes_eq (codes "replay") word ≡ false → bytes_eq (codes "debug") word ≡ false
+        → bytes_eq (codes "asm") word ≡ false → bytes_eq (codes "dis") word ≡ false → bytes_eq (codes "renew") word ≡ false → bytes_eq (codes "picture") word ≡ false
+        → Named (word ∷ rest)
+    by_compile true same no_replay no_debug no_asm no_dis no_renew no_picture = begins word rest (codes "compile") is_compile same
+    by_compile false other no_replay no_debug no_asm no_dis no_renew no_picture =
+        by_run (bytes_eq (codes "run") word) refl no_replay no_debug no_asm no_dis no_renew no_picture other
+
+    by_picture : (b : Bool) → bytes_eq (codes "picture") word ≡ b → bytes_eq (codes "replay") word ≡ false → bytes_eq (codes "debug") word ≡ false
+        → bytes_eq (codes "asm") word ≡ false → bytes_eq (codes "dis") word ≡ false → bytes_eq (codes "renew") word ≡ false → Named (word ∷ rest)
+    by_picture true same no_replay no_debug no_asm no_dis no_renew = begins word rest (codes "picture") is_picture same
+    by_picture false other no_replay no_debug no_asm no_dis no_renew =
+        by_compile (bytes_eq (codes "compile") word) refl no_replay no_debug no_asm no_dis no_renew other
+
+    by_renew : (b : Bool) → bytes_eq (codes "renew") word ≡ b → bytes_eq (codes "replay") word ≡ false → bytes_eq (codes "debug") word ≡ false
+        → bytes_eq (codes "asm") word ≡ false → bytes_eq (codes "dis") word ≡ false → Named (word ∷ rest)
+    by_renew true same no_replay no_debug no_asm no_dis = begins word rest (codes "renew") is_renew same
+    by_renew false other no_replay no_debug no_asm no_dis = by_picture (bytes_eq (codes "picture") word) refl no_replay no_debug no_asm no_dis other
+
+    by_dis : (b : Bool) → bytes_eq (codes "dis") word ≡ b → bytes_eq (codes "replay") word ≡ false → bytes_eq (codes "debug") word ≡ false
+        → bytes_eq (codes "asm") word ≡ false → Named (word ∷ rest)
+    by_dis true same no_replay no_debug no_asm = begins word rest (codes "dis") is_dis same
+    by_dis false other no_replay no_debug no_asm = by_renew (bytes_eq (codes "renew") word) refl no_replay no_debug no_asm other
+
+    by_asm : (b : Bool) → bytes_eq (codes "asm") word ≡ b → bytes_eq (codes "replay") word ≡ false → bytes_eq (codes "debug") word ≡ false
+        → Named (word ∷ rest)
+    by_asm true same no_replay no_debug = begins word rest (codes "asm") is_asm same
+    by_asm false other no_replay no_debug = by_dis (bytes_eq (codes "dis") word) refl no_replay no_debug other
+
+    by_debug : (b : Bool) → bytes_eq (codes "debug") word ≡ b → bytes_eq (codes "replay") word ≡ false → Named (word ∷ rest)
+    by_debug true same no_replay = begins word rest (codes "debug") is_debug same
+    by_debug false other no_replay = by_asm (bytes_eq (codes "asm") word) refl no_replay other
+
+    by_replay : (b : Bool) → bytes_eq (codes "replay") word ≡ b → Named (word ∷ rest)
+    by_replay true same = begins word rest (codes "replay") is_replay same
+    by_replay false other = by_debug (bytes_eq (codes "debug") word) refl other
+
+-- ---- a subcommand by its name
+
+-- what the program's command makes of the name
+pub record IsSubcommand (name : Text) (leaf : Shape) : Type 0 where
+  pub quiet : top_fault name ≡ []
+  pub stops : walked app.top.rules (names_of app) (walk_from nothing_held) name ≡ stopped nothing_held name []
+  pub enters : (words : List Text) → entered_fault app (Some (name, words)) ≡ level_fault leaf [] nothing_held words false []
+  pub rows : (words : List Text) → entered app (Some (name, words)) ≡ Some (name, rows_after leaf.rules [] words)
+
+name_stops : {name : Text} {leaf : Shape} (s : IsSubcommand name leaf) (words : List Text)
+    → walk app.top.rules (names_of app) nothing_held (name ∷ words) ≡ stopped nothing_held name words
+name_stops {name} s words = ap (λ w. fold (walked app.top.rules (names_of app)) w words) s.stops ∙ after_stop name nothing_held [] words
+
+pub name_met : {name : Text} {leaf : Shape} (s : IsSubcommand name leaf) (words : List Text)
+    → stop_after app.top.rules (names_of app) (name ∷ words) ≡ Some (name, words)
+name_met s words = ap (λ (w : Walk). w.stopped) (name_stops s words)
+
+-- what the subcommand is given
+pub name_given : {name : Text} {leaf : Shape} (s : IsSubcommand name leaf) (words : List Text)
+    → subcommand_of hrv_app (name ∷ words) ≡ Some (name, rows_after leaf.rules [] words)
+name_given s words = ap (entered app) (name_met s words) ∙ s.rows words
+
+-- the words after the name have no fault of their own
+pub name_passes : {name : Text} {leaf : Shape} (s : IsSubcommand name leaf) (words : List Text) → fault_of hrv_app (name ∷ words) ≡ []
+    → level_fault leaf [] nothing_held words false [] ≡ []
+name_passes {name} s words e =
+    let stop = stop_after app.top.rules (names_of app) (name ∷ words) in
+    let parts = both_pass (walk_fault app.top (names_of app) (walk_from nothing_held) (name ∷ words)) _ e in
+    let below : entered_fault app stop ≡ [] = (both_pass (entered_fault app stop) _ parts.1).0 in
+    sym (s.enters words) ∙ subst (λ o. entered_fault app o ≡ []) (name_met s words) below
+
+-- what is wrong once the program's words are read, by what the subcommand's are
+abbrev closing : Kinds → Bool → Walk → Kinds
+closing below is_entered w = or_else below (or_else (settle_fault app.top.rules app.top.args_override_self w.held)
+    (or_else (defaults_fault (settled app.top.rules w.held).rows app.top.rules)
+    (check_fault app.top (finished app.top.rules w.held) is_entered)))
+
+-- and if they have none, there is none
+pub name_free : {name : Text} {leaf : Shape} (s : IsSubcommand name leaf) (words : List Text) → level_fault leaf [] nothing_held words false [] ≡ []
+    → fault_of hrv_app (name ∷ words) ≡ []
+unfolding walk_fault defaults_fault
+name_free {name} s words e =
+    let w = stopped nothing_held name words in
+    let no_turn : walk_fault app.top (names_of app) (walk_from nothing_held) (name ∷ words) ≡ [] =
+    ap₂ or_else s.quiet (ap (λ from. walk_fault app.top (names_of app) from words) s.stops ∙ no_more_faults name nothing_held [] words) in
+    let there : is_some (entered app (Some (name, words))) ≡ true = ap is_some (s.rows words) in
+    ap₂ or_else no_turn (ap (λ (from : Walk). closing (entered_fault app from.stopped) (is_some (entered app from.stopped)) from) (name_stops s words)
+    ∙ ap₂ (λ below b. closing below b w) (s.enters words ∙ e) there)

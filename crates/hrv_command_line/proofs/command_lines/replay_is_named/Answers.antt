@@ -1,0 +1,11 @@
+use Rattle.hrv_command_line.proofs.AskedWords.{marked_replay, only_spelled, plain_replay}
+use Rattle.hrv_command_line.proofs.command_lines.replay_is_named.Goals as goal
+
+pub returns-clause-plain : goal.returns-clause-plain
+returns-clause-plain c = plain_replay
+
+pub returns-clause-marked : goal.returns-clause-marked
+returns-clause-marked c = marked_replay
+
+pub returns-clause-only : goal.returns-clause-only
+returns-clause-only c = only_spelled

@@ -1,0 +1,14 @@
+use Rattle.hrv_command_line.proofs.RunForms.{marked_run, options_run, plain_run, resumed_run}
+use Rattle.hrv_command_line.proofs.command_lines.run_is_named.Goals as goal
+
+pub returns-clause-plain : goal.returns-clause-plain
+returns-clause-plain c = plain_run
+
+pub returns-clause-marked : goal.returns-clause-marked
+returns-clause-marked c = marked_run
+
+pub returns-clause-options : goal.returns-clause-options
+returns-clause-options c = options_run
+
+pub returns-clause-resumed : goal.returns-clause-resumed
+returns-clause-resumed c = λ image log old image_plain log_plain old_plain. resumed_run image log old old_plain image_plain log_plain

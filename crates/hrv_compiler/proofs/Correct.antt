@@ -1,0 +1,237 @@
+-- An image does what it should on every list of turns: its harts share the work of the phases.
+use Rattle.std.proofs.Common.{◌≡◌, ℕ, suc, ◌-◌, ◌*◌, ◌<◌, ◌≤◌, ◌⊎◌, true, List, [], ◌∷◌, ◌++◌, length, Some, None, sym, ap, subst, ◌∙◌, arith, true≢false}
+use Rattle.std.specs.Prelude.{◌&&◌, nat_le, slice_get}
+use Rattle.std.specs.List.{AllByRecursion}
+use Rattle.std.proofs.lemmas.Bool.{and_parts, leb-true}
+use Rattle.std.proofs.lemmas.Option.{slice_get_within}
+use Rattle.memory.specs.Addresses.{text_start, byte_at}
+use Rattle.hart_core.specs.declared.harts.Status.TheVariants.{Finished}
+use Rattle.hart_core.specs.HartState.{HartState}
+use Rattle.multi_hart.specs.Finished.{all_finished}
+use Rattle.multi_hart.specs.Run.{State, run}
+use Rattle.multi_hart.proofs.TurnByTurn.{shape-run}
+use Rattle.multi_hart_logic.specs.Paths.{Stand}
+use Rattle.multi_hart_logic.specs.Uses.{Fixed, Owned}
+use Rattle.halide_pipeline.specs.WellFormed.{is_width, is_height}
+use Rattle.halide_pipeline.specs.Picture.{PictureContents}
+use Rattle.halide_pipeline.specs.Pixel.{Planes, input_planes, reads_of, pixels}
+use Rattle.bounds_ranges.specs.Laws.{AnswerWords}
+use Rattle.loop_ir.specs.declared.statements.Phase.{Phase}
+use Rattle.loader.specs.Image.{ImageContents}
+use Rattle.picture.specs.Evaluated.{judged}
+use Rattle.task_code_scalar.specs.declared.places.Places.{Places}
+use Rattle.vector_codegen_sharing.specs.Phases.{Phase as SharedPhase}
+use Rattle.vector_codegen_sharing.specs.Programs.{Program, Opens}
+use Rattle.vector_codegen_sharing.specs.Promises.{OnlyBy, Waits, WrittenAs as SharedWrittenAs}
+use Rattle.vector_codegen_sharing.specs.Solo.{TaskWrites}
+use Rattle.vector_codegen_sharing.proofs.Assignments.{every-assignment}
+use Rattle.vector_codegen_sharing.proofs.Gates.{gate-once}
+use Rattle.vector_codegen_sharing.proofs.Races.{never-races}
+use Rattle.vector_codegen_sharing.proofs.Reach.{can-finish}
+use Rattle.vector_codegen_sharing.proofs.Results.{never-traps, one-result}
+use Rattle.vector_codegen_sharing.proofs.Single.{alone-stops}
+use Rattle.vector_codegen.specs.PhaseCode.{program}
+use Rattle.vector_codegen.specs.Sharing.{phase}
+use Rattle.vector_codegen.proofs.Sharing.{programs-share}
+use Rattle.vector_codegen.specs.Programs.{Fits, HasFewTasks, parts_from}
+use Rattle.vector_codegen.proofs.ProgramStanding.{programs-stand}
+use Rattle.vector_codegen_laws.specs.Places.{places_of}
+use Rattle.vector_codegen_laws.specs.Settings.{places, size}
+use Rattle.vector_codegen_laws.specs.Sharing.{HasCode, HoldsPixels, AreShared, parts}
+use Rattle.vector_codegen_laws.proofs.Sharing.{phases-are-shared}
+use Rattle.vector_codegen_laws.specs.Stages.{StagePlace, stages}
+use Rattle.hrv_compiler.specs.Assigned.{byte_of_point, WrittenAs, IsReached, IsAssigned}
+use Rattle.hrv_compiler.specs.Compiled.{CompiledContents, IsCompiled}
+use Rattle.hrv_compiler.specs.Correct.{opening, Race, ShowsOutput, IsCorrect, Correct}
+use Rattle.hrv_compiler.specs.Data.{image_data}
+use Rattle.hrv_compiler.specs.ControlWords.{control_words}
+use Rattle.hrv_compiler.specs.Images.{ArePictures, image_of}
+use Rattle.hrv_compiler.proofs.Asked.{answer-words}
+use Rattle.hrv_compiler.proofs.Control.{control-byte}
+use Rattle.hrv_compiler.proofs.Low.{layout_is}
+use Rattle.hrv_compiler.proofs.Nonempty.{some_phases}
+use Rattle.hrv_compiler.proofs.Counted.{phases-counted}
+use Rattle.hrv_compiler.proofs.Opening.{phases_are, opens}
+use Rattle.hrv_compiler.proofs.OutputBox.{RootOutput, root_output}
+use Rattle.hrv_compiler.proofs.Shown.{shows-output}
+
+-- ---- each phase has code
+
+have-code : (own : Places) (harts : ℕ) → harts ≤ 8 → (phases : List Phase) → AllByRecursion (Fits own) phases → AllByRecursion HasFewTasks phases → AllByRecursion (HasCode own harts) phases
+have-code own harts l [] fit few = tt
+have-code own harts l (first ∷ phases) fit few =
+    (record { fits = fit.0; few = let n = few.0 in omega (arith, n, l) }, have-code own harts l phases fit.1 few.1)
+
+module _ (own : CompiledContents) (rules : IsCompiled own) (pictures : List PictureContents) (none : judged own.pipeline.inputs pictures ≡ None) (are : ArePictures pictures) where
+  abbrev phases : List Phase
+  phases = rules.words_are.phases
+
+  counted : own.boxes.layout.phases ≡ length phases
+  counted =
+      phases_are own rules pictures none are
+      ∙ phases-counted own.pipeline own.schedule own.boxes rules.accepted rules.inferred_is phases rules.words_are.are_lowered
+
+  abbrev pub bytes : List ℕ
+  bytes = image_data own.boxes.layout own.pipeline.inputs pictures
+
+  abbrev planes : Planes
+  planes = input_planes pictures
+
+  abbrev there : Places
+  there = places own.pipeline own.schedule own.boxes.funcs
+
+  pub places-are : places_of own.pipeline own.schedule own.boxes.funcs own.boxes.layout ≡ there
+  places-are = ap (places_of own.pipeline own.schedule own.boxes.funcs) (layout_is own.pipeline own.schedule own.boxes rules.inferred_is)
+
+  answers : AnswerWords own.pipeline.inputs (reads_of planes (pixels own.pipeline.funcs planes 0))
+  answers = answer-words own.pipeline.inputs own.pipeline.funcs pictures none are
+
+  root : RootOutput own.pipeline own.schedule own.boxes
+  root = root_output own.pipeline own.schedule own.boxes rules.well_formed rules.accepted rules.inferred_is
+
+  some : 1 ≤ length phases
+  some =
+      some_phases own.pipeline own.schedule own.boxes (length own.pipeline.funcs) phases rules.words_are.are_lowered own.pipeline.output.func root.func root.plan root.own
+      (slice_get_within own.pipeline.funcs own.pipeline.output.func root.func root.at_root.func_is) root.at_root
+
+  abbrev pub last : ℕ
+  last = length phases - 1
+
+  pub count : length phases ≡ suc last
+  count = let l = some in omega (arith, l)
+
+  stands : Stand own.words text_start (program 0 (parts own.pipeline own.schedule own.boxes phases))
+  stands =
+      subst (λ (p : Places). Stand own.words text_start (program 0 (parts_from p 0 phases))) places-are
+      (programs-stand (places_of own.pipeline own.schedule own.boxes.funcs own.boxes.layout) phases own.words rules.words_are.is_program)
+
+  abbrev image : ImageContents
+  image = image_of own pictures
+
+  module _ (harts : ℕ) (some_harts : 0 < harts) (few_harts : harts ≤ 8) where
+    codes : AllByRecursion (HasCode there harts) phases
+    codes =
+        have-code there harts few_harts phases
+        (subst (λ (p : Places). AllByRecursion (Fits p) phases) places-are rules.words_are.is_program.fit) rules.words_are.is_program.few_tasks
+
+    abbrev pub IsSharedSo : Type 0
+    IsSharedSo = AreShared own.pipeline own.schedule own.boxes harts phases last own.words bytes planes
+
+    pub shared : IsSharedSo
+    shared =
+        phases-are-shared own.pipeline own.schedule own.boxes rules.well_formed rules.accepted rules.inferred_is planes answers phases rules.words_are.are_lowered harts some_harts few_harts codes last count
+        own.words bytes stands (opens own rules pictures none are answers)
+
+    module _ (is : IsSharedSo) where
+      abbrev pub steps : ℕ → SharedPhase
+      steps = phase own.words (size own.pipeline own.schedule own.boxes.funcs) harts (parts own.pipeline own.schedule own.boxes phases) is.matter
+
+      whole : Program steps last × (Opens (steps 0) text_start bytes × ((k : ℕ) → k ≤ last → TaskWrites (steps k)))
+      whole = programs-share own.words (size own.pipeline own.schedule own.boxes.funcs) harts (parts own.pipeline own.schedule own.boxes phases) is.matter last bytes is.is_shared
+
+      pub goes : Program steps last
+      goes = whole.0
+
+      pub begins : Opens (steps 0) text_start bytes
+      begins = whole.1.0
+
+      none-races : (turns : List ℕ) → Race (control_words own.boxes.layout.phases) (run (opening image harts) turns) → ⊥
+      none-races turns race =
+          never-races steps last text_start bytes turns goes begins (record {
+            first = race.first;
+            second = race.second;
+            apart = race.apart;
+            one = race.one;
+            other = race.other;
+            is_first = race.is_first;
+            is_second = race.is_second;
+            place = race.place;
+            no_control = λ within.
+                let l = within.1 in
+                let all = counted in
+                true≢false (sym (control-byte own.boxes.layout.phases race.place within.0 (let one = count in omega (arith, l, all, one))) ∙ race.no_control);
+            written = race.written;
+            touched = race.touched;
+          })
+
+      module _ (turns : List ℕ) (finished : all_finished (run (opening image harts) turns) ≡ true) where
+        abbrev end : State
+        end = run (opening image harts) turns
+
+        text-stays : end.text ≡ own.words
+        text-stays = (shape-run (opening image harts) turns).text
+
+        left : ((address task : ℕ) → task < (steps last).tasks → (steps last).uses address ≡ Owned task → byte_at end.text end.memory address ≡ (steps last).result address)
+            × ((address : ℕ) → (steps last).uses address ≡ Fixed → byte_at end.text end.memory address ≡ (steps last).start address)
+        left = one-result steps last text_start bytes turns goes begins finished
+
+        holds : HoldsPixels own.pipeline own.schedule own.boxes end.text end.memory planes
+        holds =
+            subst (λ (text : List ℕ). HoldsPixels own.pipeline own.schedule own.boxes text end.memory planes) (sym text-stays)
+            (is.ends end.memory (λ address task l u. ap (λ (text : List ℕ). byte_at text end.memory address) (sym text-stays) ∙ left.0 address task l u)
+            (λ address u. ap (λ (text : List ℕ). byte_at text end.memory address) (sym text-stays) ∙ left.1 address u))
+
+        shows : ShowsOutput own.pipeline pictures end image.output
+        shows =
+            let extents = and_parts (is_width own.pipeline.output.width) (is_height own.pipeline.output.width own.pipeline.output.height) rules.well_formed.output in
+            let wide = and_parts (nat_le 1 own.pipeline.output.width) (nat_le own.pipeline.output.width 65536) extents.0 in
+            let all = and_parts (nat_le 1 own.pipeline.output.height && nat_le own.pipeline.output.height 65536) (nat_le (own.pipeline.output.width * own.pipeline.output.height) 1048576) extents.1 in
+            let high = and_parts (nat_le 1 own.pipeline.output.height) (nat_le own.pipeline.output.height 65536) all.0 in
+            shows-output own rules pictures none are (leb-true own.pipeline.output.width 65536 wide.1) (leb-true own.pipeline.output.height 65536 high.1) end holds
+
+      last-is : last ≡ own.boxes.layout.phases - 1
+      last-is = let all = counted in omega (arith, all)
+
+      is-correct : IsCorrect own.pipeline pictures own.boxes.layout.phases image harts
+      is-correct = record {
+        never_traps = λ turns. never-traps steps last text_start bytes turns goes begins;
+        never_races = none-races;
+        leaves_pixels = shows;
+        can_finish = λ turns. can-finish steps last text_start bytes turns goes begins;
+        gates_once = λ turns number hart l. let all = counted in gate-once steps last text_start bytes turns goes begins number hart (let one = count in omega (arith, l, all, one));
+        stops_alone = λ turns hart l.
+            subst (λ (n : ℕ). (more : List ℕ) × OnlyBy hart more
+            × (Waits n hart (opening image harts) (turns ++ more) ⊎ ((one : HartState) → slice_get (run (opening image harts) (turns ++ more)).harts hart ≡ Some one → one.status ≡ Finished))) last-is
+            (alone-stops steps last text_start bytes turns goes begins hart l);
+      }
+
+      -- ---- assignments
+
+      module _ (assigned : ℕ → ℕ → ℕ) (below : (number iteration : ℕ) → assigned number iteration < harts) where
+        stage_written : (number : ℕ) (stage : StagePlace) → slice_get (stages own.pipeline own.schedule own.boxes) number ≡ Some stage → (turns : List ℕ)
+            → SharedWrittenAs (steps number) (assigned number) (opening image harts) turns
+            → WrittenAs own.pipeline own.schedule own.boxes pictures stage (assigned number) (opening image harts) turns
+        stage_written number stage e turns written iteration x y byte l writes small =
+            let bytes_own = is.own_bytes number stage e iteration l x y byte writes small in
+            written iteration (byte_of_point own.pipeline own.schedule own.boxes stage.func x y byte) (subst (λ (n : ℕ). iteration < n) (sym (is.tasks_are number stage e)) l)
+            bytes_own.0 bytes_own.1
+
+        reached : IsReached own.pipeline own.schedule own.boxes pictures image harts assigned
+        reached =
+            let all = every-assignment steps last text_start bytes assigned goes begins whole.1.1 (λ number task l k. below number task) in
+            let long = is.stages_are in
+            record {
+              turns = all.0;
+              named = all.1;
+              finished = all.2;
+              earlier = λ number stage e l.
+                  let done = all.3 number (omega (arith, l, long)) in
+                  record {
+                    before = done.before;
+                    after = done.after;
+                    split = done.split;
+                    full = done.full;
+                    first = done.first;
+                    writers = stage_written number stage e done.before done.writers;
+                  };
+              last = λ number stage e l.
+                  let here : last ≡ number = omega (arith, l, long) in
+                  stage_written number stage e all.0
+                  (subst (λ (n : ℕ). SharedWrittenAs (steps n) (assigned n) (opening image harts) all.0) here all.4);
+            }
+
+  pub is-assigned : IsAssigned own.pipeline own.schedule own.boxes pictures image
+  is-assigned harts some_harts few_harts assigned below = reached harts some_harts few_harts (shared harts some_harts few_harts) assigned below
+
+  pub correct : Correct own.pipeline pictures own.boxes.layout.phases image
+  correct harts some_harts few_harts = is-correct harts some_harts few_harts (shared harts some_harts few_harts)

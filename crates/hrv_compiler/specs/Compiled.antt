@@ -1,0 +1,62 @@
+-- What was compiled: a pipeline under a schedule that was accepted for it, and the words of its phases.
+-- This project's own.
+use Rattle.std.specs.Prelude.{◌≡◌, ℕ, ◌+◌, ◌*◌, ◌-◌, List, length, slice_get, slice_index, Option, Some, None, Ok}
+use Rattle.std.specs.declared.alloc.Global.{Global}
+use Rattle.halide_pipeline.specs.Pipelines.{Pipeline}
+use Rattle.halide_pipeline.specs.WellFormed.{IsWellFormed}
+use Rattle.halide_parser.specs.Parsing.{parsed}
+use Rattle.schedule.specs.declared.schedules.Schedule.{Schedule}
+use Rattle.schedule.specs.Accepted.{IsAccepted}
+use Rattle.schedule.specs.Schedules.{read}
+use Rattle.bounds.specs.declared.boxes.SourceBox.{SourceBox}
+use Rattle.bounds.specs.declared.verdict.Boxes.{Boxes}
+use Rattle.bounds.specs.Boxes.{box_in, extent}
+use Rattle.bounds.specs.Verdict.{inferred}
+use Rattle.bounds_ranges.specs.Ranges.{origin}
+use Rattle.loader.specs.declared.outputs.Output.{Output}
+use Rattle.loop_ir.specs.declared.statements.Phase.{Phase}
+use Rattle.lowering.specs.Lowered.{AreLowered}
+use Rattle.vector_codegen_laws.specs.Places.{places_of}
+use Rattle.vector_codegen.specs.Programs.{IsProgram}
+
+pub record CompiledContents : Type 0 where
+  pub pipeline : Pipeline
+  pub schedule : Schedule
+  pub boxes : Boxes
+  -- the machine's text, whose first word is the entry
+  pub words : List ℕ
+
+-- The words are those of the phases of a pipeline under a schedule.
+pub record AreWordsOf (pipeline : Pipeline) (schedule : Schedule) (boxes : Boxes) (words : List ℕ) : Type 0 where
+  pub phases : List Phase
+  pub are_lowered : AreLowered pipeline schedule boxes (length pipeline.funcs) phases
+  pub is_program : IsProgram (places_of pipeline schedule boxes.funcs boxes.layout) phases words
+
+-- The schedule was accepted for the pipeline, the boxes were inferred for both, and the words are those of their phases.
+pub record IsCompiled (own : CompiledContents) : Type 0 where
+  pub well_formed : IsWellFormed own.pipeline
+  pub accepted : IsAccepted own.pipeline own.schedule
+  pub inferred_is : inferred own.pipeline own.schedule ≡ Ok own.boxes
+  pub words_are : AreWordsOf own.pipeline own.schedule own.boxes own.words
+
+-- It is what these texts mean.
+pub record Means (alloc : Global) (algorithm schedule : List ℕ) (own : CompiledContents) : Type 0 where
+  pub algorithm_is : parsed alloc algorithm ≡ Ok own.pipeline
+  pub schedule_is : read own.pipeline schedule ≡ Ok own.schedule
+
+-- ---- the output
+
+-- from the first point of a box that begins so far to the left and above, and has such rows
+abbrev pub output_in : ℕ → Option SourceBox → ℕ → ℕ → Option Output
+output_in at None width height = None
+output_in at (Some own) width height = Some (record {
+  address = at + 4 * ((origin - own.y.low) * extent own.x + (origin - own.x.low));
+  width = width;
+  height = height;
+  stride = 4 * extent own.x;
+})
+
+-- The output lies where the layout has its Func, from point 0, 0 on.
+abbrev pub output_of : Pipeline → Boxes → Option Output
+output_of pipeline boxes =
+    output_in (slice_index boxes.layout.roots pipeline.output.func) (box_in (slice_get boxes.funcs pipeline.output.func)) pipeline.output.width pipeline.output.height

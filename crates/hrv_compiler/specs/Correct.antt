@@ -1,0 +1,89 @@
+-- What an image does, however many harts there are and whatever list says which hart makes the next turn: a schedule changes speed and never
+-- pixels.
+--
+-- Only the algorithm's pixels, the image, and the run of the machine from it are named here; nothing of loops, boxes or code.
+-- This project's own.
+use Rattle.std.specs.Prelude.{◌≡◌, ◌≢◌, ◌<◌, ◌≤◌, ◌⊎◌, ℕ, ◌+◌, ◌-◌, ◌*◌, ◌&&◌, nat_le, nat_lt, Bool, true, false, List, ◌++◌, length, slice_get, Option, Some, None}
+use Rattle.std.specs.List.{list_any}
+use Rattle.memory.specs.Access.{word_at}
+use Rattle.hart_core.specs.declared.harts.Status.TheVariants.{Finished}
+use Rattle.hart_core.specs.HartState.{HartState}
+use Rattle.hart_core.specs.Turn.{next_of}
+use Rattle.multi_hart.specs.Finished.{all_finished}
+use Rattle.multi_hart.specs.Frame.{reads, writes}
+use Rattle.multi_hart.specs.Run.{State, opened, run}
+use Rattle.multi_hart_logic.specs.Alone.{is_in}
+use Rattle.vector_codegen_sharing.specs.Programs.{gate_word}
+use Rattle.vector_codegen_sharing.specs.Promises.{NoTrap, Name, OnlyBy, Waits}
+use Rattle.vector_codegen_sharing.specs.Writers.{times_written}
+use Rattle.halide_pipeline.specs.Pipelines.{Pipeline}
+use Rattle.halide_pipeline.specs.Picture.{PictureContents}
+use Rattle.halide_pipeline.specs.Pixel.{output_pixel}
+use Rattle.loader.specs.Image.{ImageContents}
+use Rattle.loader.specs.declared.outputs.Output.{Output}
+use Rattle.hrv_compiler.specs.ControlWords.{control_words}
+
+-- ---- pixels
+
+-- the word of the output's pixel in a column and a row
+abbrev pub shown : State → Output → ℕ → ℕ → ℕ
+shown state output x y = word_at state.text state.memory (output.address + y * output.stride + 4 * x)
+
+-- The output is a picture of the algorithm's extents, and each of its words is the algorithm's pixel.
+pub record ShowsPixels (pipeline : Pipeline) (pictures : List PictureContents) (state : State) (output : Output) : Type 0 where
+  pub width : output.width ≡ pipeline.output.width
+  pub height : output.height ≡ pipeline.output.height
+  pub pixels : (x y : ℕ) → x < output.width → y < output.height → shown state output x y ≡ output_pixel pipeline pictures x y
+
+abbrev pub ShowsOutput : Pipeline → List PictureContents → State → Option Output → Type 0
+ShowsOutput pipeline pictures state None = ⊥
+ShowsOutput pipeline pictures state (Some output) = ShowsPixels pipeline pictures state output
+
+-- ---- races
+
+-- the byte is one of these words
+abbrev pub is_byte_of : List ℕ → ℕ → Bool
+is_byte_of words place = list_any (λ word. nat_le word place && nat_lt place (word + 4)) words
+
+-- Two harts' next turns both touch a byte that is in none of these words, and the first writes it. (A hart that doesn't run touches nothing,
+-- and only bytes of data are written.)
+pub record Race (control : List ℕ) (state : State) : Type 0 where
+  pub first : ℕ
+  pub second : ℕ
+  pub apart : first ≢ second
+  pub one : HartState
+  pub other : HartState
+  pub is_first : slice_get state.harts first ≡ Some one
+  pub is_second : slice_get state.harts second ≡ Some other
+  pub place : ℕ
+  pub no_control : is_byte_of control place ≡ false
+  pub written : is_in place (writes (next_of state.text (length state.memory) one) one) ≡ true
+  pub touched : (is_in place (reads (next_of state.text (length state.memory) other) other) ≡ true) ⊎ (is_in place (writes (next_of state.text (length state.memory) other) other) ≡ true)
+
+-- ---- all of it
+
+-- every hart at the entry
+abbrev pub opening : ImageContents → ℕ → State
+opening image harts = opened image.entry image.words image.bytes harts
+
+-- So many harts, which share the work of so many phases by the words of control.
+pub record IsCorrect (pipeline : Pipeline) (pictures : List PictureContents) (phases : ℕ) (image : ImageContents) (harts : ℕ) : Type 0 where
+  -- no hart traps
+  pub never_traps : (turns : List ℕ) → NoTrap (run (opening image harts) turns)
+  -- no race but on the words of control
+  pub never_races : (turns : List ℕ) → Race (control_words phases) (run (opening image harts) turns) → ⊥
+  -- wherever all harts have finished, the output is the algorithm's
+  pub leaves_pixels : (turns : List ℕ) → all_finished (run (opening image harts) turns) ≡ true → ShowsOutput pipeline pictures (run (opening image harts) turns) image.output
+  -- from everywhere, further turns of these harts make all finish
+  pub can_finish : (turns : List ℕ) → (more : List ℕ) × Name harts more × (all_finished (run (opening image harts) (turns ++ more)) ≡ true)
+  -- each hart writes each gate word at most once
+  pub gates_once : (turns : List ℕ) (phase hart : ℕ) → phase < phases → times_written hart (gate_word phase) (opening image harts) turns ≤ 1
+  -- from everywhere a hart that is given turns alone finishes, or waits at the gate of a phase that isn't the last
+  pub stops_alone : (turns : List ℕ) (hart : ℕ) → hart < harts
+      → (more : List ℕ) × OnlyBy hart more
+      × (Waits (phases - 1) hart (opening image harts) (turns ++ more)
+      ⊎ ((one : HartState) → slice_get (run (opening image harts) (turns ++ more)).harts hart ≡ Some one → one.status ≡ Finished))
+
+-- for every number of harts
+abbrev pub Correct : Pipeline → List PictureContents → ℕ → ImageContents → Type 0
+Correct pipeline pictures phases image = (harts : ℕ) → 0 < harts → harts ≤ 8 → IsCorrect pipeline pictures phases image harts

@@ -1,0 +1,17 @@
+-- A box that holds a picture from point 0, 0 on, and that begins at an address of data.
+-- This project's own.
+use Rattle.std.specs.Prelude.{◌<◌, ◌≤◌, ℕ, ◌+◌, ◌*◌, ◌^◌}
+use Rattle.bounds.specs.declared.boxes.SourceBox.{SourceBox}
+use Rattle.bounds.specs.Boxes.{IsBox, points}
+use Rattle.bounds_ranges.specs.Ranges.{origin}
+
+pub record Holds (at : ℕ) (own : SourceBox) (width height : ℕ) : Type 0 where
+  pub rules : IsBox own
+  pub few : points own ≤ 2 ^ 20
+  pub low : at + 4 * points own < 2 ^ 32
+  pub left : own.x.low ≤ origin
+  pub right : origin + width ≤ own.x.high + 1
+  pub top : own.y.low ≤ origin
+  pub bottom : origin + height ≤ own.y.high + 1
+  pub wide : 0 < width
+  pub high : 0 < height

@@ -1,0 +1,41 @@
+-- A turn that writes a point of a vectorized Func writes the points of one run of its vectorized loop, and nothing else: those that its pure
+-- definition visits while this loop takes all its values, guards obeyed, and its other loops stay.
+--
+-- It is said of Funcs at root without updates, and names no code. A vectorized loop is the innermost one of its stage: a schedule is refused else
+-- (`schedule/specs/Legal.antt`).
+-- This project's own.
+use Rattle.std.specs.Prelude.{◌≡◌, ◌<◌, ◌≤◌, ℕ, true, List, []}
+use Rattle.halide_pipeline.specs.declared.definitions.Func.{Func}
+use Rattle.schedule.specs.declared.plans.FuncPlan.{FuncPlan}
+use Rattle.bounds.specs.declared.boxes.SourceBox.{SourceBox}
+use Rattle.bounds.specs.Boxes.{extent}
+use Rattle.bounds.specs.Views.{extents_of}
+use Rattle.loader.specs.Image.{ImageContents}
+use Rattle.multi_hart_logic.specs.Alone.{is_in}
+use Rattle.lowering.specs.PurePhases.{IsAtRoot}
+use Rattle.lowering.specs.Runs.{is_vectorized_first}
+use Rattle.multi_hart.specs.Run.{run}
+use Rattle.vector_codegen_laws.specs.Runs.{IsOneRun}
+use Rattle.vector_codegen_sharing.specs.Writers.{written_next}
+use Rattle.hrv_compiler.specs.Assigned.{byte_of_point}
+use Rattle.hrv_compiler.specs.Compiled.{CompiledContents}
+use Rattle.hrv_compiler.specs.Correct.{opening}
+
+module _ (own : CompiledContents) where
+  -- The Func at a place is computed at root and has no updates, and the innermost loop of its pure definition is vectorized.
+  pub record IsInVectors (place : ℕ) : Type 0 where
+    pub func : Func
+    pub plan : FuncPlan
+    pub box : SourceBox
+    pub at_root : IsAtRoot own.pipeline own.schedule own.boxes place func plan box
+    pub no_updates : func.updates ≡ []
+    pub vectorized : is_vectorized_first plan.pure.loops ≡ true
+
+  -- On 1 to 8 harts and after every list of turns: where a hart's next turn writes a byte of a point of such a Func, counted from the corner of its
+  -- box, it writes one run.
+  abbrev pub WritesWholeRuns : ImageContents → Type 0
+  WritesWholeRuns image =
+      (place : ℕ) (is : IsInVectors place) (harts : ℕ)
+      → 0 < harts → harts ≤ 8 → (turns : List ℕ) (hart x y byte : ℕ) → x < extent is.box.x → y < extent is.box.y → byte < 4
+      → is_in (byte_of_point own.pipeline own.schedule own.boxes place x y byte) (written_next (run (opening image harts) turns) hart) ≡ true
+      → IsOneRun own.pipeline own.schedule own.boxes place (extents_of is.box) is.plan.pure (written_next (run (opening image harts) turns) hart)

@@ -1,0 +1,46 @@
+-- Why an algorithm under a schedule isn't compiled: the first fault that stands. The algorithm's text is judged first, then the schedule's,
+-- how heavy the schedule is, the boxes, and how many registers expressions need.
+-- This project's own.
+use Rattle.std.specs.Prelude.{◌≡◌, ◌⊎◌, ℕ, nat_lt, if◌then◌else◌, List, Option, Some, None, Result, Ok, Err}
+use Rattle.std.specs.declared.alloc.Global.{Global}
+use Rattle.halide_pipeline.specs.Pipelines.{Pipeline}
+use Rattle.halide_parser_syntax.specs.declared.faults.ParseFault.{ParseFault}
+use Rattle.halide_parser.specs.Parsing.{parsed}
+use Rattle.schedule_lines.specs.declared.faults.ScheduleFault.{ScheduleFault}
+use Rattle.schedule.specs.declared.schedules.Schedule.{Schedule}
+use Rattle.schedule.specs.Schedules.{read}
+use Rattle.bounds_weights.specs.declared.faults.WeightError.TheVariants as weights
+use Rattle.bounds_weights.specs.declared.stage_needs.StageNeeds.{StageNeeds}
+use Rattle.bounds_weights.specs.Need.{needs, is_too_deep}
+use Rattle.bounds_weights.specs.Weight.{weight, most_weight}
+use Rattle.bounds.specs.declared.faults.BoundsFault.{BoundsFault}
+use Rattle.bounds.specs.declared.verdict.Boxes.{Boxes}
+use Rattle.bounds.specs.Verdict.{inferred}
+use Rattle.hrv_compiler.specs.declared.faults.CompileFault.{CompileFault}
+use Rattle.hrv_compiler.specs.declared.faults.CompileFault.TheVariants as faults
+
+abbrev pub by_needs : StageNeeds → Option CompileFault
+by_needs own = if is_too_deep own then Some faults.TooDeep else None
+
+abbrev pub by_boxes : Pipeline → Schedule → Result Boxes BoundsFault → Option CompileFault
+by_boxes pipeline schedule (Ok boxes) = by_needs (needs pipeline schedule)
+by_boxes pipeline schedule (Err fault) = Some (faults.Bounds fault)
+
+abbrev pub by_weight : Pipeline → Schedule → ℕ → Option CompileFault
+by_weight pipeline schedule own = if nat_lt most_weight own then Some (faults.Lower weights.TooHeavy) else by_boxes pipeline schedule (inferred pipeline schedule)
+
+abbrev pub by_schedule : Pipeline → Result Schedule (ℕ × ScheduleFault) → Option CompileFault
+by_schedule pipeline (Ok schedule) = by_weight pipeline schedule (weight pipeline schedule)
+by_schedule pipeline (Err fault) = Some (faults.Schedule fault.0 fault.1)
+
+abbrev pub by_algorithm : List ℕ → Result Pipeline (ℕ × ParseFault) → Option CompileFault
+by_algorithm schedule (Ok pipeline) = by_schedule pipeline (read pipeline schedule)
+by_algorithm schedule (Err fault) = Some (faults.Parse fault.0 fault.1)
+
+-- the first fault of two texts
+unfoldable pub refusal_of : Global → List ℕ → List ℕ → Option CompileFault
+refusal_of alloc algorithm schedule = by_algorithm schedule (parsed alloc algorithm)
+
+-- The fault stands first, or memory ran out.
+abbrev pub IsFirst : Option CompileFault → CompileFault → Type 0
+IsFirst wanted fault = (wanted ≡ Some fault) ⊎ (fault ≡ faults.Memory)

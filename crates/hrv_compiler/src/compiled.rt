@@ -1,0 +1,142 @@
+//! Compiled programs and their images.
+
+ghost use Rattle.std.specs.Prelude.{◌≡◌, ◌*◌, ◌<◌, ◌≤◌, IfErr, IfOk, None, Ok, Some, slice_get};
+ghost use Rattle.std.specs.Option.{option_copied};
+ghost use Rattle.bounds.specs.Boxes.{box_in};
+ghost use Rattle.bounds.specs.Verdict.{inferred};
+ghost use Rattle.halide_pipeline.specs.WellFormed.{IsWellFormed};
+ghost use Rattle.loader.specs.Image as images;
+ghost use Rattle.memory.specs.Addresses.{text_start};
+ghost use Rattle.picture.specs.Evaluated.{judged};
+ghost use Rattle.schedule.specs.Accepted.{IsAccepted};
+ghost use Rattle.hrv_compiler.specs.Assigned.{IsAssigned};
+ghost use Rattle.hrv_compiler.specs.Compiled.{output_in, output_of};
+ghost use Rattle.hrv_compiler.specs.Correct.{Correct};
+ghost use Rattle.hrv_compiler.specs.ControlWords.{control_words};
+ghost use Rattle.hrv_compiler.specs.Images.{ArePictures, IsRefusedInput, image_of};
+ghost use Rattle.hrv_compiler.specs.Outputs.{Holds};
+ghost use Rattle.hrv_compiler.specs.Runs.{WritesWholeRuns};
+
+use crate::data::image_data;
+use bounds::boxes::extents_of;
+use bounds::{Boxes, SourceBox};
+use bounds_ranges::ranges::ORIGIN;
+use halide_pipeline::Pipeline;
+use loader::{Image, Output};
+use lowering::hosting::box_at;
+use memory::{DATA_START, TEXT_START};
+use picture::{EvalError, Picture, judge};
+use schedule::Schedule;
+use std::alloc::{AllocError, Global};
+use std::marker::Model;
+
+/// A pipeline under a schedule that was accepted for it, with the words of its phases. Contracts see a
+/// `CompiledContents` that is an `IsCompiled` (`specs/Compiled.antt`).
+#[derive(Drop)]
+pub struct Compiled {
+    pub(crate) pipeline: Pipeline,
+    pub(crate) schedule: Schedule,
+    pub(crate) boxes: Boxes,
+    pub(crate) words: Vec<u32>,
+}
+
+impl Model for Compiled {
+    ghost use Rattle.std.specs.Coded.{codes};
+    ghost use Rattle.halide_pipeline.specs.contracts.expressions.Expr as e;
+    ghost use Rattle.hrv_compiler.specs.Compiled.{CompiledContents, IsCompiled};
+
+    ghost Value = { CompiledContents };
+
+    ghost coded = { Prim.hlevel (codes, e.the_row.coded) };
+
+    ghost view = { λ c. record { pipeline = c.pipeline; schedule = c.schedule; boxes = c.boxes; words = c.words.items } };
+
+    ghost invariant = { λ c. IsCompiled (record { pipeline = c.pipeline; schedule = c.schedule; boxes = c.boxes; words = c.words.items }) };
+}
+
+/// The output's picture in a box that begins at an address.
+fn output_in(at: u64, own: &SourceBox, width: u32, height: u32) -> Output
+    requires { Holds at own.now width height }
+    ensures { Some result ≡ output_in at (Some own.now) width height }
+{
+    let row = u64::from(extents_of(own).first_argument);
+    let first = (ORIGIN - own.y.low) * row + (ORIGIN - own.x.low);
+    Output {
+        address: (at + 4 * first) as u32,
+        width,
+        height,
+        stride: (4 * row) as u32,
+    }
+}
+
+impl Compiled {
+    /// The image that computes the output of these input pictures, on 1 to 8 harts.
+    ///
+    /// Text and entry are the same for all pictures. The data are zeros, but for the pixels of the inputs
+    /// (`specs/Images.antt`).
+    ///
+    /// On every list that says which hart makes the next turn, no hart traps, none race but on the words of
+    /// [`Compiled::control`], and wherever all have finished the output is the algorithm's (`specs/Correct.antt`). Every
+    /// assignment of iterations to harts is reached by some list (`specs/Assigned.antt`). Where the innermost loop of a
+    /// Func at root without updates is vectorized, a turn that writes a point of the Func writes one run of that loop,
+    /// and nothing else (`specs/Runs.antt`).
+    ///
+    /// # Errors
+    ///
+    /// There aren't as many pictures as inputs; one has another size than its input; one of an input of bytes has a pixel
+    /// outside 0 to 255. Memory ran out.
+    pub fn image(&self, alloc: Global, pictures: &[Picture]) -> Result<Image, EvalError>
+        ensures judged { IfOk result (λ image. judged self.now.pipeline.inputs pictures.now ≡ None) }
+        ensures pictures { IfOk result (λ image. ArePictures pictures.now) }
+        ensures is { IfOk result (λ image. image ≡ image_of self.now pictures.now) }
+        ensures correct { IfOk result (λ image. Correct self.now.pipeline pictures.now self.now.boxes.layout.phases image) }
+        ensures assigned { IfOk result (λ image. IsAssigned self.now.pipeline self.now.schedule self.now.boxes pictures.now image) }
+        ensures runs { IfOk result (λ image. WritesWholeRuns self.now image) }
+        ensures err { IfErr result (IsRefusedInput (judged self.now.pipeline.inputs pictures.now)) }
+    {
+        if let Some(error) = judge(self.pipeline.inputs(), pictures) {
+            return Err(error);
+        }
+        let data = image_data(alloc, &self.boxes.layout, self.pipeline.inputs(), pictures)?;
+        let mut words = Vec::new(alloc);
+        words.extend_from_slice(self.words.as_slice())?;
+        let output = self.output();
+        Ok(Image::new(TEXT_START, words, data, Some(output)).unwrap())
+    }
+
+    /// Where the output's picture lies in the data.
+    fn output(&self) -> Output
+        ensures { Some result ≡ output_of self.now.pipeline self.now.boxes }
+    {
+        let output = self.pipeline.output();
+        let at = self.boxes.layout.roots.get(output.func).unwrap();
+        let own = box_at(self.boxes.funcs.as_slice(), output.func).unwrap();
+        output_in(*at, own, output.width, output.height)
+    }
+
+    /// How many phases there are.
+    fn phases(&self) -> u32
+        ensures is { result ≡ self.now.boxes.layout.phases }
+        ensures few { 8 * result ≤ 33554432 }
+    {
+        self.boxes.layout.phases as u32
+    }
+
+    /// The words of data by which harts share their work: of each phase, in order, the one to draw tasks and the one
+    /// to wait at.
+    ///
+    /// # Errors
+    ///
+    /// Memory ran out.
+    pub fn control(&self, alloc: Global) -> Result<Vec<u32>, AllocError>
+        ensures { IfOk result (λ words. words.items ≡ control_words self.now.boxes.layout.phases) }
+    {
+        let mut words = Vec::new(alloc);
+        for phase in 0..self.phases() {
+            let ticket = DATA_START + 8 * phase;
+            words.push(ticket)?;
+            words.push(ticket + 4)?;
+        }
+        Ok(words)
+    }
+}

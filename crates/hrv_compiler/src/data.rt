@@ -1,0 +1,107 @@
+//! The data of an image.
+
+ghost use Rattle.std.specs.Prelude.{◌≡◌, ◌≤◌, ◌+◌, ◌*◌, ◌++◌, true, IfOk, None, OnOk, length, map, nat_lt};
+ghost use Rattle.std.specs.List.{list_all};
+ghost use Rattle.halide_pipeline.specs.Picture.{IsPicture};
+ghost use Rattle.bounds.specs.Layout as layouts;
+ghost use Rattle.picture.specs.Evaluated.{hold_bytes, holds_bytes, judged};
+ghost use Rattle.loader.specs.Spelling.{padded};
+ghost use Rattle.hrv_compiler.specs.Addresses.{LiesLow};
+ghost use Rattle.hrv_compiler.specs.Data as spec;
+ghost use Rattle.hrv_compiler.specs.Images.{ArePictures};
+
+use bounds::Layout;
+use halide_pipeline::Input;
+use picture::Picture;
+use std::alloc::{AllocError, Global};
+
+/// Appends the bytes of pixels, four a pixel.
+fn push_words(bytes: &mut Vec<u8>, pixels: &[u32]) -> Result<(), AllocError>
+    ensures { OnOk result (bytes.new.items ≡ bytes.old.items ++ spec.word_bytes pixels.now) }
+{
+    for pixel in pixels {
+        bytes.extend_from_slice(&pixel.to_le_bytes())?;
+    }
+    Ok(())
+}
+
+/// Appends pixels that are bytes.
+fn push_bytes(bytes: &mut Vec<u8>, pixels: &[u32]) -> Result<(), AllocError>
+    requires { list_all (λ pixel. nat_lt pixel 256) pixels.now ≡ true }
+    ensures { OnOk result (bytes.new.items ≡ bytes.old.items ++ pixels.now) }
+{
+    for pixel in pixels {
+        bytes.push(*pixel as u8)?;
+    }
+    Ok(())
+}
+
+/// The bytes of an input's picture.
+fn input_data(alloc: Global, input: &Input, picture: &Picture) -> Result<Vec<u8>, AllocError>
+    requires { holds_bytes input.now picture.now ≡ true }
+    ensures is { IfOk result (λ bytes. bytes.items ≡ spec.input_data input.now picture.now) }
+    ensures rules { IfOk result (λ bytes. IsPicture picture.now) }
+{
+    let mut bytes = Vec::new(alloc);
+    let pixels = picture.pixels();
+    if input.is_bytes {
+        push_bytes(&mut bytes, pixels)?;
+        bytes.resize((pixels.len() + 3) / 4 * 4, 0)?;
+    } else {
+        push_words(&mut bytes, pixels)?;
+    }
+    Ok(bytes)
+}
+
+/// Appends the bytes of all inputs' pictures.
+fn push_inputs(
+    alloc: Global,
+    bytes: &mut Vec<u8>,
+    inputs: &[Input],
+    pictures: &[Picture],
+) -> Result<(), AllocError>
+    requires count { length pictures.now ≡ length inputs.now }
+    requires hold { hold_bytes inputs.now pictures.now ≡ true }
+    ensures is { OnOk result (bytes.new.items ≡ bytes.old.items ++ spec.inputs_data inputs.now pictures.now) }
+    ensures rules { OnOk result (ArePictures pictures.now) }
+{
+    let [input, inputs @ ..] = inputs else {
+        return Ok(());
+    };
+    let [picture, pictures @ ..] = pictures else {
+        return Ok(());
+    };
+    bytes.extend_from_slice(input_data(alloc, input, picture)?.as_slice())?;
+    push_inputs(alloc, bytes, inputs, pictures)?;
+    Ok(())
+}
+
+/// Puts zeros behind bytes, up to so many.
+fn pad(bytes: &mut Vec<u8>, size: usize) -> Result<(), AllocError>
+    requires { length bytes.old.items ≤ size }
+    ensures { OnOk result (bytes.new.items ≡ padded size bytes.old.items) }
+{
+    bytes.resize(size, 0)?;
+    Ok(())
+}
+
+/// The data of an image with these input pictures: zeros, but for the pixels.
+pub(crate) fn image_data(
+    alloc: Global,
+    layout: &Layout,
+    inputs: &[Input],
+    pictures: &[Picture],
+) -> Result<Vec<u8>, AllocError>
+    requires low { LiesLow layout.now }
+    requires judged { judged inputs.now pictures.now ≡ None }
+    requires room { 8 * layout.now.phases + layouts.total (map layouts.input_bytes inputs.now) ≤ layout.now.size }
+    ensures is { IfOk result (λ bytes. bytes.items ≡ spec.image_data layout.now inputs.now pictures.now) }
+    ensures rules { IfOk result (λ bytes. ArePictures pictures.now) }
+{
+    let size = layout.size as usize;
+    let mut bytes = Vec::with_capacity(alloc, size)?;
+    pad(&mut bytes, 8 * layout.phases as usize)?;
+    push_inputs(alloc, &mut bytes, inputs, pictures)?;
+    pad(&mut bytes, size)?;
+    Ok(bytes)
+}

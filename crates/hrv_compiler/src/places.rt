@@ -1,0 +1,170 @@
+//! Where the buffers of a pipeline lie, for the code of its tasks.
+
+ghost use Rattle.std.specs.Prelude.{◌≡◌, ◌≤◌, ◌*◌, IfOk, Ok};
+ghost use Rattle.halide_pipeline.specs.WellFormed.{most_points};
+ghost use Rattle.schedule.specs.Accepted.{IsAccepted};
+ghost use Rattle.bounds.specs.Boxes.{AreBoxes, IsBox, IsBoxOrNone, extent, points};
+ghost use Rattle.bounds.specs.Verdict.{inferred};
+ghost use Rattle.task_code_scalar.specs.Code as code;
+ghost use Rattle.vector_codegen_laws.specs.Places as spec;
+ghost use Rattle.hrv_compiler.specs.Addresses.{AreAddresses, HasFewPoints, HaveFewPoints, IsAddress};
+
+use bounds::boxes::{extents_of, points};
+use bounds::{Boxes, SourceBox};
+use halide_pipeline::{Input, Pipeline};
+use schedule::{Place as Standpoint, Schedule, Standing};
+use sqlite_items::Items;
+use std::alloc::{AllocError, Global};
+use task_code_scalar::places::{Pixels, Place, Places};
+
+fn input_place(at: u64, input: &Input) -> Place
+    requires { IsAddress at }
+    ensures { result ≡ spec.input_place at input.now }
+{
+    Place {
+        start: at as u32,
+        width: input.width,
+        distance: 0,
+        pixels: if input.is_bytes {
+            Pixels::Bytes
+        } else {
+            Pixels::Words
+        },
+    }
+}
+
+#[tactic(auto, unfolding(crate::specs::Addresses::AreAddresses))]
+fn input_places(alloc: Global, ats: &[u64], inputs: &[Input]) -> Result<Vec<Place>, AllocError>
+    requires { AreAddresses ats.now }
+    ensures { IfOk result (λ places. places.items ≡ spec.input_places ats.now inputs.now) }
+{
+    match ats {
+        [] => Ok(Vec::new(alloc)),
+        [at, others @ ..] => match inputs {
+            [] => Ok(Vec::new(alloc)),
+            [input, behind @ ..] => {
+                let mut places = input_places(alloc, others, behind)?;
+                places.insert(0, input_place(*at, input))?;
+                Ok(places)
+            }
+        },
+    }
+}
+
+/// A place where nothing lies.
+fn nowhere() -> Place
+    ensures { result ≡ code.nowhere }
+{
+    Place {
+        start: 0,
+        width: 0,
+        distance: 0,
+        pixels: Pixels::Words,
+    }
+}
+
+/// How many bytes a copy of a box has.
+fn copy_bytes(own: &SourceBox) -> u32
+    requires rules { IsBox own.now }
+    requires few { points own.now ≤ most_points }
+    ensures { result ≡ 4 * points own.now }
+{
+    4 * points(own) as u32
+}
+
+fn func_place(place: Standpoint, own: &Option<SourceBox>, root: u64, private: u64) -> Place
+    requires rules { IsBoxOrNone own.now }
+    requires few { HasFewPoints own.now }
+    requires root { IsAddress root }
+    requires private { IsAddress private }
+    ensures { result ≡ spec.func_place place own.now root private }
+{
+    let Some(own) = own else {
+        return nowhere();
+    };
+    let width = extents_of(own).first_argument;
+    match place {
+        Standpoint::Root => Place {
+            start: root as u32,
+            width,
+            distance: 0,
+            pixels: Pixels::Words,
+        },
+        Standpoint::At(_) => Place {
+            start: private as u32,
+            width,
+            distance: copy_bytes(own),
+            pixels: Pixels::Words,
+        },
+        Standpoint::Inlined | Standpoint::Nowhere => nowhere(),
+    }
+}
+
+#[tactic(auto, unfolding(crate::specs::Addresses::AreAddresses, crate::specs::Addresses::HaveFewPoints))]
+fn func_places(
+    alloc: Global,
+    standings: &[Standing],
+    boxes: &[Option<SourceBox>],
+    roots: &[u64],
+    privates: &[u64],
+) -> Result<Vec<Place>, AllocError>
+    requires rules { AreBoxes boxes.now }
+    requires few { HaveFewPoints boxes.now }
+    requires roots { AreAddresses roots.now }
+    requires privates { AreAddresses privates.now }
+    ensures { IfOk result (λ places. places.items ≡ spec.func_places standings.now boxes.now roots.now privates.now) }
+{
+    let [standing, standings @ ..] = standings else {
+        return Ok(Vec::new(alloc));
+    };
+    let [own, boxes @ ..] = boxes else {
+        return Ok(Vec::new(alloc));
+    };
+    let [root, roots @ ..] = roots else {
+        return Ok(Vec::new(alloc));
+    };
+    let [private, privates @ ..] = privates else {
+        return Ok(Vec::new(alloc));
+    };
+    let mut places = func_places(alloc, standings, boxes, roots, privates)?;
+    places.insert(0, func_place(standing.place, own, *root, *private))?;
+    Ok(places)
+}
+
+/// Where the buffers of a pipeline lie, of which a schedule was read for it and boxes inferred for both: at the
+/// layout's addresses.
+///
+/// # Errors
+///
+/// Memory ran out.
+#[tactic(auto, using(crate::proofs::Low::have_few, crate::proofs::Low::inputs_low))]
+pub fn places(
+    alloc: Global,
+    pipeline: &Pipeline,
+    schedule: &Schedule,
+    boxes: &Boxes,
+) -> Result<Places, AllocError>
+    requires accepted { IsAccepted pipeline.now schedule.now }
+    requires boxes { inferred pipeline.now schedule.now ≡ Ok boxes.now }
+    ensures { IfOk result (λ places. places ≡ spec.places_of pipeline.now schedule.now boxes.now.funcs boxes.now.layout) }
+{
+    let layout = &boxes.layout;
+    let inputs = input_places(alloc, layout.inputs.as_slice(), pipeline.inputs())?;
+    let funcs = func_places(
+        alloc,
+        schedule.standings.as_slice(),
+        boxes.funcs.as_slice(),
+        layout.roots.as_slice(),
+        layout.privates.as_slice(),
+    )?;
+    let frames = if layout.has_frames {
+        Some(layout.frames as u32)
+    } else {
+        None
+    };
+    Ok(Places {
+        inputs: Items::from_vec(inputs),
+        funcs: Items::from_vec(funcs),
+        frames,
+    })
+}

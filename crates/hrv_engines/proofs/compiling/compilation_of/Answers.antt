@@ -1,0 +1,16 @@
+use Rattle.std.specs.Prelude.{map}
+use Rattle.std.specs.String.{string_bytes}
+use Rattle.hrv_engines.specs.Compile.{IsCompilation, IsRefusedCompilation}
+use Rattle.hrv_engines.proofs.Compilations.{no_memory, wrong_inputs}
+use Rattle.hrv_engines.proofs.compiling.compilation_of.Goals as goal
+
+pub returns-in_err-image : goal.returns-in_err-image
+returns-in_err-image c =
+    wrong_inputs (λ bytes. bytes.items) c.args.alloc ((c.args.algorithm.now, c.args.schedule.now), map string_bytes c.args.inputs.now) c.in_ok-program.program c.in_ok-pictures.pictures.items c.from_residual-in_err-image.result
+    c.in_err-image.field-0.0 c.from_residual-in_err-image.ensures.1 c.in_ok-program.ensures.passed c.in_ok-program.ensures.means c.in_ok-pictures.ensures.ok
+    (rw (c.deref.ensures.value) at c.in_err-image.ensures.err)
+
+pub returns-in_err-store : goal.returns-in_err-store
+returns-in_err-store c =
+    no_memory (λ bytes. bytes.items) (IsCompilation c.args.alloc) (IsRefusedCompilation c.args.alloc)
+    ((c.args.algorithm.now, c.args.schedule.now), map string_bytes c.args.inputs.now) c.from_residual-in_err-store.result c.from_residual-in_err-store.ensures.1

@@ -1,0 +1,158 @@
+//! What the engines read from and write to.
+//!
+//! An engine is generic over both traits, so that its contract names the bytes that were read and written, and a test can hand in
+//! devices that fail.
+
+ghost use Rattle.std.specs.Prelude.{◌≡◌, ℕ, ◌+◌, ◌<◌, ◌≤◌, ◌^◌, List, [], ◌++◌, length, take, OnOk, OnErr, IfOk};
+ghost use Rattle.std.specs.String.{string_bytes};
+ghost use Rattle.hrv_engines.specs.Devices.{bytes_of, sink_of, text_of};
+ghost use Rattle.hrv_engines.specs.Engine.{Reads, Writes, WritesEach};
+
+use crate::faults::Fault;
+use std::alloc::Global;
+use std::io;
+
+/// Bytes to be read, from a file or from memory.
+pub trait Source {
+    /// Its path, as the user gave it.
+    ghost place: { Self → List ℕ };
+
+    /// How many of its reads have failed.
+    ghost failed: { Self → ℕ };
+
+    /// From one state to a later one it gave these bytes.
+    ghost gave: { Self → List ℕ → Self → Type 0 };
+
+    /// It has no more bytes.
+    ghost ended: { Self → Type 0 };
+
+    /// The path that a refusal names.
+    fn path(&self) -> &str
+        ensures { result.now ≡ place self.now };
+
+    /// How many reads have failed.
+    fn failures(&self) -> u64
+        ensures { result ≡ failed self.now };
+
+    /// Reads some bytes to the front of a buffer, and says how many; 0 at the end, or for an empty
+    /// buffer.
+    fn read(&mut self, buffer: &mut [u8]) -> io::Result<usize>
+        requires { failed self.old + 1 < 2 ^ 64 }
+        ensures count { IfOk result (λ n. n ≤ length buffer.old) }
+        ensures given { IfOk result (λ n. gave self.old (take n buffer.new) self.new) }
+        ensures at_end { IfOk result (λ n. n ≡ 0 → 0 < length buffer.old → ended self.new) }
+        ensures well { OnOk result (failed self.new ≡ failed self.old) }
+        ensures nothing { OnErr result (gave self.old [] self.new) }
+        ensures grew { OnErr result (failed self.old < failed self.new) }
+        ensures path { place self.new ≡ place self.old };
+
+    /// Without a read it gives nothing.
+    ghost gave_nothing: { (s : Self) → gave s [] s };
+
+    /// Reads one after the other give their bytes one after the other.
+    ghost gave_more: { (s t u : Self) (xs ys : List ℕ) → gave s xs t → gave t ys u → gave s (xs ++ ys) u };
+}
+
+/// A place for bytes to be written to.
+pub trait Sink {
+    /// Its path, or `-` for standard output.
+    ghost place: { Self → List ℕ };
+
+    /// How many of its writes have failed.
+    ghost failed: { Self → ℕ };
+
+    /// From one state to a later one it took these bytes.
+    ghost took: { Self → List ℕ → Self → Type 0 };
+
+    /// The path that a refusal names.
+    fn path(&self) -> &str
+        ensures { result.now ≡ place self.now };
+
+    /// How many writes have failed. A write that took no byte of some counts.
+    fn failures(&self) -> u64
+        ensures { result ≡ failed self.now };
+
+    /// Writes a front of the bytes, and says how many.
+    fn write(&mut self, bytes: &[u8]) -> io::Result<usize>
+        requires { failed self.old + 1 < 2 ^ 64 }
+        ensures count { IfOk result (λ n. n ≤ length bytes.now) }
+        ensures taken { IfOk result (λ n. took self.old (take n bytes.now) self.new) }
+        ensures nothing { OnErr result (took self.old [] self.new) }
+        ensures well { IfOk result (λ n. 0 < n → failed self.new ≡ failed self.old) }
+        ensures stuck { IfOk result (λ n. n ≡ 0 → 0 < length bytes.now → failed self.old < failed self.new) }
+        ensures grew { OnErr result (failed self.old < failed self.new) }
+        ensures path { place self.new ≡ place self.old };
+
+    /// Without a write it takes nothing.
+    ghost took_nothing: { (s : Self) → took s [] s };
+
+    /// Writes one after the other are taken one after the other.
+    ghost took_more: { (s t u : Self) (xs ys : List ℕ) → took s xs t → took t ys u → took s (xs ++ ys) u };
+}
+
+/// Reads all that a source has left. What was read stands in memory once.
+pub fn read_all<S: Source>(alloc: Global, source: &mut S) -> Result<Vec<u8>, Fault>
+    requires { S.failed source.old + 1 < 2 ^ 64 }
+    ensures { Reads (λ bytes. bytes.items) (bytes_of S.place S.failed S.gave S.ended source.old source.new) result }
+{
+    // Made before the first read, so that a read that fails needs no memory.
+    let path = String::from_str(alloc, source.path())?;
+    let mut all = Vec::new(alloc);
+    let mut buffer = [0; CHUNK];
+    loop {
+        let Ok(count) = source.read(&mut buffer) else {
+            return Err(Fault::File(path));
+        };
+        if count == 0 {
+            return Ok(all);
+        }
+        all.extend_from_slice(&buffer[..count])?;
+    }
+}
+
+/// Reads all that a source has left, as a text.
+pub fn read_text<S: Source>(alloc: Global, source: &mut S) -> Result<String, Fault>
+    requires { S.failed source.old + 1 < 2 ^ 64 }
+    ensures { Reads string_bytes (text_of S.place S.failed S.gave S.ended source.old source.new) result }
+{
+    let path = String::from_str(alloc, source.path())?;
+    let bytes = read_all(alloc, source)?;
+    match String::from_utf8(bytes) {
+        Ok(text) => Ok(text),
+        Err(_) => Err(Fault::File(path)),
+    }
+}
+
+/// How many bytes are read at a time.
+pub const CHUNK: usize = 65_536;
+
+/// Writes all the bytes.
+pub fn write_all<S: Sink>(alloc: Global, sink: &mut S, bytes: &[u8]) -> Result<(), Fault>
+    requires { S.failed sink.old + 1 < 2 ^ 64 }
+    ensures writes { Writes (sink_of S.place S.failed S.took sink.old sink.new) bytes.now result }
+    ensures path { S.place sink.new ≡ S.place sink.old }
+{
+    // Made before the first write, so that a write that fails needs no memory.
+    let path = String::from_str(alloc, sink.path())?;
+    if !write_each(sink, bytes) {
+        return Err(Fault::File(path));
+    }
+    Ok(())
+}
+
+/// Writes the bytes up to a write that fails: whether all are written. It takes no memory.
+pub fn write_each<S: Sink>(sink: &mut S, bytes: &[u8]) -> bool
+    requires { S.failed sink.old + 1 < 2 ^ 64 }
+    ensures writes { WritesEach (sink_of S.place S.failed S.took sink.old sink.new) (S.place sink.old) bytes.now result }
+    ensures path { S.place sink.new ≡ S.place sink.old }
+{
+    let mut written = 0;
+    while written < bytes.len() {
+        let (_, rest) = bytes.split_at(written);
+        match sink.write(rest) {
+            Ok(count) if count > 0 => written += count,
+            _ => return false,
+        }
+    }
+    true
+}

@@ -1,6 +1,0 @@
-use Rattle.std.proofs.Common.{◌≡◌, length}
-use Rattle.inlining.specs.inner.Summing.{Counts}
-use Rattle.inlining.proofs.counts.count_calls.Given as goal
-
-abbrev pub invariant-loop-place : goal.invariant-loop-place
-invariant-loop-place l = Counts l.flags l.funcs l.table.items × (length l.table.items ≡ l.place)

@@ -1,5 +1,0 @@
-use Rattle.inlining.proofs.Passing.{computed_points_are_tested}
-use Rattle.inlining.proofs.laws.computed_points_are_tested.Goals as goal
-
-pub returns : goal.returns
-returns c = computed_points_are_tested

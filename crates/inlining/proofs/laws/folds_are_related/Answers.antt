@@ -1,6 +1,0 @@
-use Rattle.std.proofs.Common.{◌≡◌, true}
-use Rattle.inlining.proofs.Kept as kept
-use Rattle.inlining.proofs.laws.folds_are_related.Goals as goal
-
-pub returns : goal.returns
-returns g c = λ test. kept.folds_are_related (λ a b. test a b ≡ true)

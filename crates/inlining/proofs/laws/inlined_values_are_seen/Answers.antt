@@ -1,5 +1,0 @@
-use Rattle.inlining.proofs.Seeing.{sees_inlined_values}
-use Rattle.inlining.proofs.laws.inlined_values_are_seen.Goals as goal
-
-pub returns : goal.returns
-returns c = sees_inlined_values

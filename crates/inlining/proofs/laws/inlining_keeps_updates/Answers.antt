@@ -1,5 +1,0 @@
-use Rattle.inlining.proofs.Pixels.{inlining_keeps_updates}
-use Rattle.inlining.proofs.laws.inlining_keeps_updates.Goals as goal
-
-pub returns : goal.returns
-returns c = inlining_keeps_updates

@@ -1,5 +1,0 @@
-use Rattle.inlining.proofs.Passing.{passing_is_closed}
-use Rattle.inlining.proofs.laws.passing_is_closed.Goals as goal
-
-pub returns : goal.returns
-returns c = passing_is_closed

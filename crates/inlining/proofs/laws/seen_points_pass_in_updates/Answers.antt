@@ -1,5 +1,0 @@
-use Rattle.inlining.proofs.Passing.{seen_points_pass_in_updates}
-use Rattle.inlining.proofs.laws.seen_points_pass_in_updates.Goals as goal
-
-pub returns : goal.returns
-returns c = seen_points_pass_in_updates

@@ -1,8 +1,0 @@
-use Rattle.lone_hart.proofs.LaneStores.{stores, stores-write}
-use Rattle.lone_hart.proofs.laws.lanes_are_stored.Goals as goal
-
-pub returns-clause-memory : goal.returns-clause-memory
-returns-clause-memory c = stores
-
-pub returns-clause-writes : goal.returns-clause-writes
-returns-clause-writes c = stores-write

@@ -1,0 +1,99 @@
+//! Loads of buffers.
+
+ghost use Rattle.std.specs.Prelude.{◌≡◌, ◌≤◌, ◌+◌, ℕ, Bool, List, Option, IfOk, length, max};
+ghost use Rattle.std.specs.Option.{option_copied};
+ghost use Rattle.halide_pipeline.specs.Words as word;
+ghost use Rattle.halide_pipeline.specs.declared.expressions.Expr.TheOpen as layer;
+ghost use Rattle.halide_pipeline.specs.Pixel.{Reads};
+ghost use Rattle.halide_pipeline.specs.Points.{Point, Seen, Hold};
+ghost use Rattle.loop_ir.specs.Counters.{Values};
+ghost use Rattle.loop_ir.specs.Expressions.{value, loads, linear_value};
+ghost use Rattle.loop_ir.specs.Needs.{leaf, need, need_of};
+ghost use Rattle.loop_ir.specs.Sizes.{kept, size, size_of};
+ghost use Rattle.lowering_expressions.specs.Lowering as spec;
+ghost use Rattle.lowering_expressions.specs.Sizing.{AreShort, IsGiven};
+ghost use Rattle.lowering_expressions.specs.inner.Following.{Follows, algebra};
+ghost use Rattle.lowering_expressions.specs.inner.Sizing.{IsGivenSecond, call_nodes};
+
+use crate::parts::{new_binary, new_load};
+use halide_pipeline::{Operation, Source};
+use loop_ir::expressions::{Expr, Linear};
+use std::alloc::{AllocError, Global};
+
+/// The point of a Func that stands first in its buffer.
+#[derive(Debug, Drop)]
+pub struct Corner {
+    pub x: Linear,
+    pub y: Linear,
+}
+
+/// The corner of a source's buffer; None for inputs, whose buffers begin at 0, 0.
+fn corner_of<'a>(corners: &'a [Corner], source: Source) -> Option<&'a Corner>
+    ensures { option_copied result ≡ spec.corner_of corners.now source }
+{
+    match source {
+        Source::Input(_) => None,
+        Source::Func(place) => corners.get(place),
+    }
+}
+
+/// A coordinate, counted from a corner.
+///
+/// # Errors
+///
+/// Memory ran out.
+pub fn counted_from(alloc: Global, coordinate: Expr, corner: &Linear) -> Result<Expr, AllocError>
+    ensures value { IfOk result (λ made. (reads : Reads) (values : Values)
+        → value reads values made ≡ word.subtract (value reads values coordinate) (linear_value values corner.now)) }
+    ensures loads { IfOk result (λ made. (reads : Reads) (values : Values) (test : Point → Bool)
+        → Hold test (loads reads values coordinate) → Hold test (loads reads values made)) }
+    ensures needs { IfOk result (λ made. need made ≡ need coordinate) }
+    ensures leaf { IfOk result (λ made. (n : ℕ) → coordinate ≡ Expr.Number n → need_of made ≡ leaf) }
+    ensures sizes { IfOk result (λ made. length corner.now.terms ≤ 5 → size made ≤ size coordinate + 26) }
+    ensures numbers { IfOk result (λ made. length corner.now.terms ≤ 5 → (n : ℕ) → coordinate ≡ Expr.Number n → (kept (size_of made) ≡ 0) × (size made ≤ 22)) }
+{
+    match coordinate {
+        Expr::Number(number) => {
+            let made = Linear::of_number(alloc, number).minus(corner)?;
+            Ok(Expr::Linear(made))
+        }
+        Expr::Linear(own) => {
+            let made = own.minus(corner)?;
+            Ok(Expr::Linear(made))
+        }
+        other => {
+            let begin = corner.copy(alloc)?;
+            let made = new_binary(alloc, Operation::Subtract, other, Expr::Linear(begin))?;
+            Ok(made)
+        }
+    }
+}
+
+/// What the buffer of a source holds at a point of it.
+pub(crate) fn load(
+    alloc: Global,
+    corners: &[Corner],
+    source: Source,
+    x: Expr,
+    y: Expr,
+) -> Result<Expr, AllocError>
+    ensures follows { IfOk result (λ made. (values : Values) (reads : Reads) (given : List Point) (left right : Seen)
+        → Follows corners.now values reads given x left → Follows corners.now values reads given y right
+        → Follows corners.now values reads given made ((algebra corners.now values reads).level (layer.Call2 source left right))) }
+    ensures needs { IfOk result (λ made. need made ≤ max (need x) (1 + need y)) }
+    ensures alone { IfOk result (λ made. (n : ℕ) → y ≡ Expr.Number n → need made ≤ need x) }
+    ensures sizes { IfOk result (λ made. AreShort corners.now → (left : ℕ) (right : Option ℕ) → IsGiven (size x) left → IsGivenSecond y right → IsGiven (size made) (call_nodes left right)) }
+{
+    match corner_of(corners, source) {
+        None => {
+            let made = new_load(alloc, source, x, y)?;
+            Ok(made)
+        }
+        Some(corner) => {
+            let x = counted_from(alloc, x, &corner.x)?;
+            let y = counted_from(alloc, y, &corner.y)?;
+            let made = new_load(alloc, source, x, y)?;
+            Ok(made)
+        }
+    }
+}

@@ -1,0 +1,220 @@
+//! Definitions with their inlined Funcs put in place.
+
+ghost use Rattle.std.specs.Prelude.{◌≡◌, ◌≤◌, ℕ, Bool, List, Option, Some, IfOk};
+ghost use Rattle.halide_pipeline.specs.declared.expressions.Expr.TheOpen as layer;
+ghost use Rattle.halide_pipeline.specs.declared.expressions.Variable.{Variable as Variables};
+ghost use Rattle.halide_pipeline.specs.Pixel.{Reads, variable as variable_in};
+ghost use Rattle.halide_pipeline.specs.Points.{Point, Seen, Hold};
+ghost use Rattle.bounds_inlining.specs.Inlining.{answer, answered, flagged, inlined, inside};
+ghost use Rattle.bounds_inlining.specs.Laws.{seen_variable};
+ghost use Rattle.bounds_inlining.specs.Values.{values as valuing, seeing};
+ghost use Rattle.loop_ir.specs.Counters.{Values};
+ghost use Rattle.loop_ir.specs.Expressions.{value, loads};
+ghost use Rattle.bounds_inlining.specs.Weights.{counting};
+ghost use Rattle.loop_ir.specs.Needs.{need};
+ghost use Rattle.loop_ir.specs.Sizes.{size};
+ghost use Rattle.lowering_expressions.specs.Lowering.{environment, place, placed};
+ghost use Rattle.lowering_expressions.specs.Needing.{taking};
+ghost use Rattle.lowering_expressions.specs.inner.Following.{Follows, algebra, variable_terms, term_loads};
+ghost use Rattle.lowering_expressions.specs.Sizing.{AreShort, AreShortArguments, IsGiven};
+ghost use Rattle.lowering_expressions.specs.inner.Sizing.{AreGiven, IsGivenSecond, call_nodes, term_size};
+ghost use Rattle.lowering_expressions.specs.inner.Taking.{AreTaken, IsSecond, call_need, term_need};
+
+use crate::calls::{Corner, load};
+use crate::parts::{binary, copy, divide, number, remainder, select};
+use bounds_inlining::inlined_func;
+use halide_pipeline::{Expr, Func, Source, Variable};
+use loop_ir::expressions as terms;
+use loop_ir::expressions::Linear;
+use std::alloc::{AllocError, Global};
+
+/// What stands for the variables of a definition.
+#[derive(Debug, Drop)]
+pub struct Arguments {
+    pub first_argument: Linear,
+    pub second_argument: Linear,
+    pub first_reduction: Linear,
+    pub second_reduction: Linear,
+}
+
+/// What stands for the variables of a definition, behind calls of inlined Funcs.
+#[derive(Clone, Copy)]
+struct Terms<'a> {
+    first_argument: &'a terms::Expr,
+    second_argument: &'a terms::Expr,
+    first_reduction: &'a terms::Expr,
+    second_reduction: &'a terms::Expr,
+}
+
+/// What stands for a variable.
+fn variable_of(
+    alloc: Global,
+    variables: &Terms<'_>,
+    variable: Variable,
+) -> Result<terms::Expr, AllocError>
+    ensures follows { IfOk result (λ made. (corners : List Corner) (values : Values) (reads : Reads)
+        → Follows corners values reads (term_loads reads values variables.now) made (variable_terms reads values variables.now variable)) }
+    ensures needs { IfOk result (λ made. need made ≡ term_need variables.now variable) }
+    ensures sizes { IfOk result (λ made. size made ≡ term_size variables.now variable) }
+{
+    match variable {
+        Variable::FirstArgument => {
+            let made = copy(alloc, variables.first_argument)?;
+            Ok(made)
+        }
+        Variable::SecondArgument => {
+            let made = copy(alloc, variables.second_argument)?;
+            Ok(made)
+        }
+        Variable::FirstReduction => {
+            let made = copy(alloc, variables.first_reduction)?;
+            Ok(made)
+        }
+        Variable::SecondReduction => {
+            let made = copy(alloc, variables.second_reduction)?;
+            Ok(made)
+        }
+    }
+}
+
+/// A definition that calls the first so many Funcs, of which the flagged ones are put in place.
+#[cycle(lowering)]
+fn lowered_in(
+    alloc: Global,
+    funcs: &[Func],
+    flags: &[bool],
+    count: usize,
+    corners: &[Corner],
+    variables: &Terms<'_>,
+    expr: &Expr,
+) -> Result<terms::Expr, AllocError>
+    ensures follows { IfOk result (λ made. (values : Values) (reads : Reads) → Follows corners.now values reads (term_loads reads values variables.now) made
+        (inlined (algebra corners.now values reads) (flagged flags.now) funcs.now count (variable_terms reads values variables.now) expr.now)) }
+    ensures needs { IfOk result (λ made. (most : Variables → ℕ) → AreTaken variables.now most → need made ≤ inlined taking (flagged flags.now) funcs.now count most expr.now) }
+    ensures sizes { IfOk result (λ made. AreShort corners.now → (nodes : Variables → ℕ) → AreGiven variables.now nodes → IsGiven (size made) (inlined counting (flagged flags.now) funcs.now count nodes expr.now)) }
+{
+    match expr {
+        Expr::Number(own) => Ok(number(*own)),
+        Expr::Variable(own) => {
+            let made = variable_of(alloc, variables, *own)?;
+            Ok(made)
+        }
+        Expr::Binary(operation, a, b) => {
+            let a = lowered_in(alloc, funcs, flags, count, corners, variables, a.get())?;
+            let b = lowered_in(alloc, funcs, flags, count, corners, variables, b.get())?;
+            let made = binary(alloc, *operation, a, b)?;
+            Ok(made)
+        }
+        Expr::Divide(a, divisor) => {
+            let a = lowered_in(alloc, funcs, flags, count, corners, variables, a.get())?;
+            let made = divide(alloc, a, *divisor)?;
+            Ok(made)
+        }
+        Expr::Remainder(a, divisor) => {
+            let a = lowered_in(alloc, funcs, flags, count, corners, variables, a.get())?;
+            let made = remainder(alloc, a, *divisor)?;
+            Ok(made)
+        }
+        Expr::Select(c, a, b) => {
+            let c = lowered_in(alloc, funcs, flags, count, corners, variables, c.get())?;
+            let a = lowered_in(alloc, funcs, flags, count, corners, variables, a.get())?;
+            let b = lowered_in(alloc, funcs, flags, count, corners, variables, b.get())?;
+            let made = select(alloc, c, a, b)?;
+            Ok(made)
+        }
+        Expr::Call1(source, x) => {
+            let x = lowered_in(alloc, funcs, flags, count, corners, variables, x.get())?;
+            let made = called(alloc, funcs, flags, count, corners, *source, x, number(0))?;
+            Ok(made)
+        }
+        Expr::Call2(source, x, y) => {
+            let x = lowered_in(alloc, funcs, flags, count, corners, variables, x.get())?;
+            let y = lowered_in(alloc, funcs, flags, count, corners, variables, y.get())?;
+            let made = called(alloc, funcs, flags, count, corners, *source, x, y)?;
+            Ok(made)
+        }
+    }
+}
+
+/// A call in such a definition, with its second argument or 0.
+#[cycle(lowering)]
+fn called(
+    alloc: Global,
+    funcs: &[Func],
+    flags: &[bool],
+    count: usize,
+    corners: &[Corner],
+    source: Source,
+    x: terms::Expr,
+    y: terms::Expr,
+) -> Result<terms::Expr, AllocError>
+    ensures follows { IfOk result (λ made. (values : Values) (reads : Reads) (given : List Point) (left right : Seen)
+        → Follows corners.now values reads given x left → Follows corners.now values reads given y right
+        → Follows corners.now values reads given made
+        (answered ((algebra corners.now values reads).level (layer.Call2 source left right)) left (Some right) (answer (inside (algebra corners.now values reads) (flagged flags.now) funcs.now count) source))) }
+    ensures needs { IfOk result (λ made. (left : ℕ) (right : Option ℕ) → need x ≤ left → IsSecond y right
+        → need made ≤ answered (call_need left right) left right (answer (inside taking (flagged flags.now) funcs.now count) source)) }
+    ensures sizes { IfOk result (λ made. AreShort corners.now → (left : ℕ) (right : Option ℕ) → IsGiven (size x) left → IsGivenSecond y right
+        → IsGiven (size made) (answered (call_nodes left right) left right (answer (inside counting (flagged flags.now) funcs.now count) source))) }
+{
+    match source {
+        Source::Input(_) => {
+            let made = load(alloc, corners, source, x, y)?;
+            Ok(made)
+        }
+        Source::Func(place) => match inlined_func(funcs, flags, count, place) {
+            None => {
+                let made = load(alloc, corners, source, x, y)?;
+                Ok(made)
+            }
+            Some(func) => {
+                let zero = number(0);
+                let variables = Terms {
+                    first_argument: &x,
+                    second_argument: &y,
+                    first_reduction: &zero,
+                    second_reduction: &zero,
+                };
+                let made = lowered_in(alloc, funcs, flags, place, corners, &variables, &func.pure)?;
+                Ok(made)
+            }
+        },
+    }
+}
+
+/// What a definition comes to that calls the first so many Funcs: those whose flags are set are put in place, and
+/// what it reads of inputs and of all others is loaded from their buffers, counted from their corners.
+///
+/// # Errors
+///
+/// Memory ran out.
+pub fn lowered(
+    alloc: Global,
+    funcs: &[Func],
+    flags: &[bool],
+    count: usize,
+    corners: &[Corner],
+    variables: &Arguments,
+    expr: &Expr,
+) -> Result<terms::Expr, AllocError>
+    ensures value { IfOk result (λ made. (reads : Reads) (values : Values) → value reads values made
+        ≡ inlined (valuing (placed corners.now values reads)) (flagged flags.now) funcs.now count (variable_in (environment values variables.now)) expr.now) }
+    ensures loads { IfOk result (λ made. (reads : Reads) (values : Values) (test : Point → Bool)
+        → Hold (λ point. test (place corners.now values point)) (inlined (seeing (placed corners.now values reads)) (flagged flags.now) funcs.now count (seen_variable (environment values variables.now)) expr.now).points
+        → Hold test (loads reads values made)) }
+    ensures needs { IfOk result (λ made. need made ≤ inlined taking (flagged flags.now) funcs.now count (λ v. 1) expr.now) }
+    ensures sizes { IfOk result (λ made. AreShort corners.now → AreShortArguments variables.now → IsGiven (size made) (inlined counting (flagged flags.now) funcs.now count (λ v. 1) expr.now)) }
+{
+    let first_argument = terms::Expr::Linear(variables.first_argument.copy(alloc)?);
+    let second_argument = terms::Expr::Linear(variables.second_argument.copy(alloc)?);
+    let first_reduction = terms::Expr::Linear(variables.first_reduction.copy(alloc)?);
+    let second_reduction = terms::Expr::Linear(variables.second_reduction.copy(alloc)?);
+    let standing = Terms {
+        first_argument: &first_argument,
+        second_argument: &second_argument,
+        first_reduction: &first_reduction,
+        second_reduction: &second_reduction,
+    };
+    let made = lowered_in(alloc, funcs, flags, count, corners, &standing, expr)?;
+    Ok(made)
+}

@@ -1,0 +1,189 @@
+//! Expressions from their parts: each follows what is seen of a definition if its parts do.
+
+ghost use Rattle.std.specs.Prelude.{◌≡◌, ◌≤◌, ◌+◌, ℕ, Bool, List, IfOk, IfSome, max};
+ghost use Rattle.halide_pipeline.specs.Words as word;
+ghost use Rattle.halide_pipeline.specs.declared.expressions.Expr.TheOpen as layer;
+ghost use Rattle.halide_pipeline.specs.Pixel.{Reads};
+ghost use Rattle.halide_pipeline.specs.Points.{Hold, Point, Seen};
+ghost use Rattle.loop_ir.specs.Counters.{Values};
+ghost use Rattle.loop_ir.specs.Expressions.{loads, value};
+ghost use Rattle.loop_ir.specs.Needs.{divisor_need, need};
+ghost use Rattle.loop_ir.specs.Sizes.{size};
+ghost use Rattle.lowering_expressions.specs.declared.calls.Corner.{Corner};
+ghost use Rattle.lowering_expressions.specs.inner.Following.{Follows, algebra};
+
+use halide_pipeline::{Operation, Source, words};
+use loop_ir::expressions::Expr;
+use sqlite_items::Boxed;
+use std::alloc::{AllocError, Global};
+
+/// The same expression once more.
+pub(crate) fn copy(alloc: Global, own: &Expr) -> Result<Expr, AllocError>
+    ensures { IfOk result (λ made. made ≡ own.now) }
+{
+    match own {
+        Expr::Number(number) => Ok(Expr::Number(*number)),
+        Expr::Linear(linear) => {
+            let made = linear.copy(alloc)?;
+            Ok(Expr::Linear(made))
+        }
+        Expr::Binary(operation, a, b) => {
+            let a = copy(alloc, a.get())?;
+            let b = copy(alloc, b.get())?;
+            let made = new_binary(alloc, *operation, a, b)?;
+            Ok(made)
+        }
+        Expr::Divide(a, divisor) => {
+            let a = copy(alloc, a.get())?;
+            Ok(Expr::Divide(Boxed::new(alloc, a)?, *divisor))
+        }
+        Expr::Remainder(a, divisor) => {
+            let a = copy(alloc, a.get())?;
+            Ok(Expr::Remainder(Boxed::new(alloc, a)?, *divisor))
+        }
+        Expr::Select(c, a, b) => {
+            let c = copy(alloc, c.get())?;
+            let a = copy(alloc, a.get())?;
+            let b = copy(alloc, b.get())?;
+            let made = new_select(alloc, c, a, b)?;
+            Ok(made)
+        }
+        Expr::Load(source, x, y) => {
+            let x = copy(alloc, x.get())?;
+            let y = copy(alloc, y.get())?;
+            let made = new_load(alloc, *source, x, y)?;
+            Ok(made)
+        }
+    }
+}
+
+/// An operation on two, as a tree.
+pub(crate) fn new_binary(
+    alloc: Global,
+    operation: Operation,
+    a: Expr,
+    b: Expr,
+) -> Result<Expr, AllocError>
+    ensures { IfOk result (λ made. made ≡ Expr.Binary operation a b) }
+{
+    let left = Boxed::new(alloc, a)?;
+    let right = Boxed::new(alloc, b)?;
+    Ok(Expr::Binary(operation, left, right))
+}
+
+/// A choice, as a tree.
+fn new_select(alloc: Global, c: Expr, a: Expr, b: Expr) -> Result<Expr, AllocError>
+    ensures { IfOk result (λ made. made ≡ Expr.Select c a b) }
+{
+    let condition = Boxed::new(alloc, c)?;
+    let left = Boxed::new(alloc, a)?;
+    let right = Boxed::new(alloc, b)?;
+    Ok(Expr::Select(condition, left, right))
+}
+
+/// What the buffer of a source holds at x and y.
+pub(crate) fn new_load(alloc: Global, source: Source, x: Expr, y: Expr) -> Result<Expr, AllocError>
+    ensures { IfOk result (λ made. made ≡ Expr.Load source x y) }
+{
+    let column = Boxed::new(alloc, x)?;
+    let row = Boxed::new(alloc, y)?;
+    Ok(Expr::Load(source, column, row))
+}
+
+/// A number.
+pub(crate) fn number(number: u32) -> Expr
+    ensures is { result ≡ Expr.Number number }
+    ensures follows { (corners : List Corner) (values : Values) (reads : Reads) (given : List Point)
+        → Follows corners values reads given result ((algebra corners values reads).level (layer.Number number)) }
+{
+    Expr::Number(number)
+}
+
+/// An operation on two.
+pub(crate) fn binary(
+    alloc: Global,
+    operation: Operation,
+    a: Expr,
+    b: Expr,
+) -> Result<Expr, AllocError>
+    ensures follows { IfOk result (λ made. (corners : List Corner) (values : Values) (reads : Reads) (given : List Point) (left right : Seen)
+        → Follows corners values reads given a left → Follows corners values reads given b right
+        → Follows corners values reads given made ((algebra corners values reads).level (layer.Binary operation left right))) }
+    ensures needs { IfOk result (λ made. need made ≤ max (need a) (1 + need b)) }
+    ensures sizes { IfOk result (λ made. size made ≤ size a + size b + 19) }
+{
+    match shift_of(operation, &b) {
+        None => {
+            let made = new_binary(alloc, operation, a, b)?;
+            Ok(made)
+        }
+        Some(number) => {
+            let made = shifted(alloc, a, number)?;
+            Ok(made)
+        }
+    }
+}
+
+/// What is added to a left side, if the operation adds a number to it or takes one away.
+fn shift_of(operation: Operation, right: &Expr) -> Option<u32>
+    ensures { IfSome result (λ n. (reads : Reads) (values : Values) (x : ℕ) → word.applied operation x (value reads values right.now) ≡ word.add x n) }
+{
+    match right {
+        Expr::Number(number) => match operation {
+            Operation::Add => Some(*number),
+            Operation::Subtract => Some(words::subtract(0, *number)),
+            _ => None,
+        },
+        _ => None,
+    }
+}
+
+/// An expression and so much more.
+fn shifted(alloc: Global, own: Expr, number: u32) -> Result<Expr, AllocError>
+    ensures value { IfOk result (λ made. (reads : Reads) (values : Values) → value reads values made ≡ word.add (value reads values own) number) }
+    ensures loads { IfOk result (λ made. (reads : Reads) (values : Values) (test : Point → Bool) → Hold test (loads reads values own) → Hold test (loads reads values made)) }
+    ensures needs { IfOk result (λ made. need made ≤ need own) }
+    ensures sizes { IfOk result (λ made. size made ≤ size own + 6) }
+{
+    match own {
+        Expr::Linear(linear) => Ok(Expr::Linear(linear.plus_number(number))),
+        other => {
+            let made = new_binary(alloc, Operation::Add, other, Expr::Number(number))?;
+            Ok(made)
+        }
+    }
+}
+
+/// A quotient.
+pub(crate) fn divide(alloc: Global, a: Expr, divisor: u32) -> Result<Expr, AllocError>
+    ensures follows { IfOk result (λ made. (corners : List Corner) (values : Values) (reads : Reads) (given : List Point) (own : Seen)
+        → Follows corners values reads given a own → Follows corners values reads given made ((algebra corners values reads).level (layer.Divide own divisor))) }
+    ensures needs { IfOk result (λ made. need made ≤ max (need a) (divisor_need divisor)) }
+    ensures sizes { IfOk result (λ made. size made ≤ size a + 11) }
+{
+    let own = Boxed::new(alloc, a)?;
+    Ok(Expr::Divide(own, divisor))
+}
+
+/// A remainder.
+pub(crate) fn remainder(alloc: Global, a: Expr, divisor: u32) -> Result<Expr, AllocError>
+    ensures follows { IfOk result (λ made. (corners : List Corner) (values : Values) (reads : Reads) (given : List Point) (own : Seen)
+        → Follows corners values reads given a own → Follows corners values reads given made ((algebra corners values reads).level (layer.Remainder own divisor))) }
+    ensures needs { IfOk result (λ made. need made ≤ max (need a) (divisor_need divisor)) }
+    ensures sizes { IfOk result (λ made. size made ≤ size a + 13) }
+{
+    let own = Boxed::new(alloc, a)?;
+    Ok(Expr::Remainder(own, divisor))
+}
+
+/// A choice.
+pub(crate) fn select(alloc: Global, c: Expr, a: Expr, b: Expr) -> Result<Expr, AllocError>
+    ensures follows { IfOk result (λ made. (corners : List Corner) (values : Values) (reads : Reads) (given : List Point) (test left right : Seen)
+        → Follows corners values reads given c test → Follows corners values reads given a left → Follows corners values reads given b right
+        → Follows corners values reads given made ((algebra corners values reads).level (layer.Select test left right))) }
+    ensures needs { IfOk result (λ made. need made ≤ max (need c) (max (1 + need a) (2 + need b))) }
+    ensures sizes { IfOk result (λ made. size made ≤ size c + size a + size b + 33) }
+{
+    let made = new_select(alloc, c, a, b)?;
+    Ok(made)
+}

@@ -1,0 +1,23 @@
+-- How many words loops around a body ask for.
+use Rattle.std.proofs.Common.{◌≡◌, ℕ, ◌-◌, ◌≤◌, Bool, List, ◌∷◌, length, get_or, take, drop, sym, ap, subst, ◌∙◌}
+use Rattle.schedule_lines.specs.declared.stages.Loop.{Loop}
+use Rattle.schedule_lines.specs.declared.stages.Mark.TheVariants as marks
+use Rattle.schedule_lines.specs.Loops.{is_marked}
+use Rattle.schedule_loops.proofs.Lists.{first_of_rest}
+use Rattle.schedule_loops.specs.Counts as loops
+use Rattle.loop_ir.specs.declared.statements.LoopKind.{LoopKind}
+use Rattle.loop_ir.specs.Sizes.{is_laid_out, loop_room}
+use Rattle.lowering_nests.specs.Sizes.{nest_size}
+
+module _ (counts : loops.Values) where
+  pub once_size : (own : Loop) (kind : LoopKind) → is_laid_out kind ≡ is_marked marks.Unrolled own → (count : ℕ) → count ≡ counts own.id
+      → (made body : ℕ) → made ≡ loop_room (is_laid_out kind) count body → made ≡ loop_room (is_marked marks.Unrolled own) (counts own.id) body
+  once_size own kind kind_is count count_is made body is =
+      is ∙ ap (λ (b : Bool). loop_room b count body) kind_is ∙ ap (λ (n : ℕ). loop_room (is_marked marks.Unrolled own) n body) count_is
+
+  pub nested_size : (all : List Loop) (own : Loop) (made inner body : ℕ) → 1 ≤ length all → own ≡ get_or all 0 own → inner ≡ loop_room (is_marked marks.Unrolled own) (counts own.id) body
+      → made ≡ nest_size counts (take (length all - 1) (drop 1 all)) inner → made ≡ nest_size counts all body
+  nested_size all own made inner body some is once others =
+      let rest = take (length all - 1) (drop 1 all) in
+      let front : own ∷ rest ≡ all = ap (λ (o : Loop). o ∷ rest) is ∙ sym (first_of_rest all own some) in
+      others ∙ ap (λ (n : ℕ). nest_size counts rest n) once ∙ ap (λ (ls : List Loop). nest_size counts ls body) front

@@ -1,5 +1,0 @@
-use Rattle.mnemonics.proofs.Instructions.{names_agree as agreed}
-use Rattle.mnemonics.proofs.laws.names_agree.Goals as goal
-
-pub returns : goal.returns
-returns c = agreed

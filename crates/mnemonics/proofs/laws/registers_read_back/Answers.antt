@@ -1,5 +1,0 @@
-use Rattle.mnemonics.proofs.Written.{register_read_back}
-use Rattle.mnemonics.proofs.laws.registers_read_back.Goals as goal
-
-pub returns : goal.returns
-returns c = register_read_back

@@ -1,5 +1,0 @@
-use Rattle.mnemonics.proofs.Instructions.{told_apart as apart}
-use Rattle.mnemonics.proofs.laws.told_apart.Goals as goal
-
-pub returns : goal.returns
-returns c = apart

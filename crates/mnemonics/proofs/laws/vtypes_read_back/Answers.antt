@@ -1,5 +1,0 @@
-use Rattle.mnemonics.proofs.Written.{vtype_read_back}
-use Rattle.mnemonics.proofs.laws.vtypes_read_back.Goals as goal
-
-pub returns : goal.returns
-returns c = vtype_read_back

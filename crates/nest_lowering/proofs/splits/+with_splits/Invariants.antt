@@ -1,5 +1,0 @@
-use Rattle.std.proofs.Common.{length}
-use Rattle.nest_lowering.proofs.splits.+with_splits.Given as goal
-
-abbrev pub decreases-with_splits : goal.decreases-with_splits
-decreases-with_splits l = length l.splits.now

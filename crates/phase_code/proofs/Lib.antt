@@ -1,4 +1,0 @@
-pub mod Refusing
-pub mod Standing
-pub mod Setting
-pub mod Sharing

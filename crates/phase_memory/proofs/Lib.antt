@@ -1,6 +1,0 @@
-pub mod Listing
-pub mod There
-pub mod Numbers
-pub mod Laying
-pub mod Holding
-pub mod Runs

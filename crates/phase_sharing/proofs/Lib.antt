@@ -1,9 +1,0 @@
-pub mod Facts
-pub mod Places
-pub mod Words
-pub mod Counting
-pub mod Matters
-pub mod Running
-pub mod Chain
-pub mod Between
-pub mod Sharing

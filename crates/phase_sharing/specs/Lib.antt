@@ -1,3 +1,0 @@
-pub mod Stages
-pub mod Runs
-pub mod Sharing

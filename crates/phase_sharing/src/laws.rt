@@ -1,9 +1,0 @@
-//! Laws of phases that share their work, each the contract of a function that does nothing.
-
-ghost use Rattle.phase_sharing.specs.Sharing.{PhasesAreShared};
-
-/// Harts over the phases of a pipeline, whose code stands at the beginning of the text, share their work from data that are zeros but for the
-/// inputs' pixels. Where the last phase's tasks are done, each Func at root has its pixels.
-pub fn phases_are_shared()
-    ensures { PhasesAreShared }
-{}

@@ -1,5 +1,0 @@
-use Rattle.std.proofs.Common.{length}
-use Rattle.program_code.proofs.generation.+push_phases.Given as goal
-
-abbrev pub decreases-push_phases : goal.decreases-push_phases
-decreases-push_phases l = length l.phases.now

@@ -1,5 +1,0 @@
-use Rattle.ranges.proofs.PixelWords.{pixels_are_words}
-use Rattle.ranges.proofs.laws.pixels_are_words.Goals as goal
-
-pub returns : goal.returns
-returns c = pixels_are_words

@@ -1,5 +1,0 @@
-use Rattle.ranges.proofs.PixelWords.{stages_are_words}
-use Rattle.ranges.proofs.laws.stages_are_words.Goals as goal
-
-pub returns : goal.returns
-returns c = stages_are_words

@@ -1,5 +1,0 @@
-use Rattle.ranges.proofs.Operations.{update_ranges_cover}
-use Rattle.ranges.proofs.laws.update_ranges_cover.Goals as goal
-
-pub returns : goal.returns
-returns c = update_ranges_cover

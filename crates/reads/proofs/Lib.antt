@@ -1,5 +1,0 @@
-pub mod Folds
-pub mod Seeing
-pub mod Tracing
-pub mod Earlier
-pub mod Holding

@@ -1,5 +1,0 @@
-use Rattle.reads.proofs.Tracing.{pixels_depend_on_inputs}
-use Rattle.reads.proofs.laws.pixels_depend_on_inputs.Goals as goal
-
-pub returns : goal.returns
-returns c = pixels_depend_on_inputs

@@ -1,5 +1,0 @@
-use Rattle.reads.proofs.Tracing.{stages_depend_on_reads}
-use Rattle.reads.proofs.laws.stages_depend_on_reads.Goals as goal
-
-pub returns : goal.returns
-returns c = stages_depend_on_reads

@@ -1,5 +1,0 @@
-use Rattle.reads.proofs.Seeing.{values_are_seen}
-use Rattle.reads.proofs.laws.values_are_seen.Goals as goal
-
-pub returns : goal.returns
-returns c = values_are_seen

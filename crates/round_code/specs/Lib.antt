@@ -1,3 +1,0 @@
-pub mod Doing
-pub mod Emitting
-pub mod Rounds

@@ -1,5 +1,0 @@
-use Rattle.scalar_code.proofs.Spelling.{emits_then}
-use Rattle.scalar_code.proofs.loops.emit_laid_out.Goals as goal
-
-pub returns-clause-ok : goal.returns-clause-ok
-returns-clause-ok c = λ insns is. emits_then c.in_ok-emit_move.ensures (c.in_ok-emit_copies.ensures insns is)

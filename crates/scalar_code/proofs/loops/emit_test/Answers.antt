@@ -1,5 +1,0 @@
-use Rattle.scalar_code.proofs.Spelling.{emits_then}
-use Rattle.scalar_code.proofs.loops.emit_test.Goals as goal
-
-pub returns-clause-ok : goal.returns-clause-ok
-returns-clause-ok c = (emits_then c.in_ok-emit_number.ensures.0 (emits_then c.in_ok-branch_below.ensures c.in_ok-jump_forth.ensures.ok), c.in_ok-emit_number.ensures.1)

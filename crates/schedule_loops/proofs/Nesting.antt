@@ -1,0 +1,65 @@
+-- Nests of loops.
+use Rattle.std.proofs.Common.{◌≡◌, ℕ, ◌<◌, ◌≤◌, Bool, false, List, [], ◌∷◌, ◌++◌, refl, ap, subst, ◌∙◌, arith, inl, inr}
+use Rattle.std.specs.Prelude.{if◌then◌else◌, filter}
+use Rattle.schedule_lines.specs.declared.stages.Loop.{Loop}
+use Rattle.schedule_lines.specs.declared.stages.LoopId.{LoopId}
+use Rattle.schedule_lines.specs.Loops.{same_id}
+use Rattle.schedule_lines.specs.Making.{total}
+use Rattle.schedule_loops.specs.Counts.{Values, with}
+use Rattle.schedule_loops.specs.Visits.{upto, nest}
+use Rattle.schedule_loops.proofs.Turns.{upto_same, filter-upto}
+use Rattle.schedule_loops.proofs.Ids.{cases_id, turned_id, with_same, with_other, same_id-self}
+
+-- 1 for the loop that is this one
+abbrev pub has_id : LoopId → Loop → ℕ
+has_id id own = if same_id own.id id then 1 else 0
+
+-- The value of each of the loops is one of its turns.
+abbrev pub InRange : Values → List Loop → Values → Type 0
+InRange counts loops values = (id : LoopId) → 1 ≤ total (has_id id) loops → values id < counts id
+
+pub has_other : (id : LoopId) (own : Loop) → same_id own.id id ≡ false → has_id id own ≡ 0
+has_other id own d = rw d refl
+
+pub has_same : (own : Loop) → has_id own.id own ≡ 1
+has_same own = rw (same_id-self own.id) refl
+
+pub in_range_more : (counts : Values) (own : Loop) (outside : List Loop) (values : Values) (n : ℕ) → InRange counts outside values → n < counts own.id → InRange counts (own ∷ outside) (with own.id n values)
+in_range_more counts own outside values n in_range l id there = elim (cases_id own.id id) [
+  | inl e ↦ subst (λ (i : LoopId). with own.id n values i < counts i) e (omega (arith, with_same own.id n values, l))
+  | inr d ↦
+      let out : 1 ≤ total (has_id id) outside = omega (arith, has_other id own d, there) in
+      omega (arith, with_other own.id n values id (turned_id own.id id d), in_range id out)
+]
+
+-- bodies that list the same under all turns do so in a nest
+pub nest_same : {A : Type 0} (counts : Values) (loops : List Loop) (f g : Values → List A) → ((values : Values) → InRange counts loops values → f values ≡ g values)
+    → (values : Values) → nest counts loops f values ≡ nest counts loops g values
+nest_same counts [] f g same values = same values (λ id there. absurd (omega arith))
+nest_same counts (own ∷ outside) f g same values =
+    nest_same counts outside (λ outer. upto (counts own.id) (λ turn. f (with own.id turn outer))) (λ outer. upto (counts own.id) (λ turn. g (with own.id turn outer)))
+    (λ outer in_range. upto_same (counts own.id) (λ turn. f (with own.id turn outer)) (λ turn. g (with own.id turn outer)) (λ turn l. same (with own.id turn outer) (in_range_more counts own outside outer turn in_range l)))
+    values
+
+pub nest-append : {A : Type 0} (counts : Values) (inside outside : List Loop) (body : Values → List A) (values : Values) → nest counts (inside ++ outside) body values ≡ nest counts outside (nest counts inside body) values
+nest-append counts [] outside body values = refl
+nest-append counts (own ∷ inside) outside body values = nest-append counts inside outside (λ outer. upto (counts own.id) (λ turn. body (with own.id turn outer))) values
+
+-- what passes a test in a nest
+pub filter-nest : {A : Type 0} (test : A → Bool) (counts : Values) (loops : List Loop) (body : Values → List A) (values : Values) → filter test (nest counts loops body values) ≡ nest counts loops (λ v. filter test (body v)) values
+filter-nest test counts [] body values = refl
+filter-nest test counts (own ∷ outside) body values =
+    filter-nest test counts outside (λ outer. upto (counts own.id) (λ turn. body (with own.id turn outer))) values
+    ∙ nest_same counts outside (λ outer. filter test (upto (counts own.id) (λ turn. body (with own.id turn outer)))) (λ outer. upto (counts own.id) (λ turn. filter test (body (with own.id turn outer))))
+    (λ outer in_range. filter-upto test (counts own.id) (λ turn. body (with own.id turn outer))) values
+
+-- Each of the loops has as many turns by one count as by another.
+abbrev pub SameCounts : Values → Values → List Loop → Type 0
+SameCounts one other [] = Unit {0}
+SameCounts one other (own ∷ outside) = (one own.id ≡ other own.id) × SameCounts one other outside
+
+pub nest_counts : {A : Type 0} (one other : Values) (loops : List Loop) (body : Values → List A) → SameCounts one other loops → (values : Values) → nest one loops body values ≡ nest other loops body values
+nest_counts one other [] body same values = refl
+nest_counts {A} one other (own ∷ outside) body same values =
+    nest_counts one other outside (λ outer. upto (one own.id) (λ turn. body (with own.id turn outer))) same.1 values
+    ∙ ap (λ (n : ℕ). nest other outside (λ outer. upto n (λ turn. body (with own.id turn outer))) values) same.0

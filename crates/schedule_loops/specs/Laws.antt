@@ -1,0 +1,139 @@
+-- What holds of every stage that lines make, and of every one that is accepted.
+-- This project's own.
+use Rattle.std.specs.Prelude.{◌≡◌, ◌<◌, ◌++◌, ℕ, ◌+◌, true, false, if◌then◌else◌, List, [], ◌∷◌, map, Contains, slice_get, Option, Some, None}
+use Rattle.std.specs.List.{AllByRecursion}
+use Rattle.halide_pipeline.specs.declared.definitions.Func.{Func}
+use Rattle.halide_pipeline.specs.declared.definitions.Update.{Update}
+use Rattle.halide_pipeline.specs.declared.expressions.Variable.{Variable}
+use Rattle.schedule_lines.specs.declared.stages.Loop.{Loop}
+use Rattle.schedule_lines.specs.declared.stages.LoopId.TheVariants as ids
+use Rattle.schedule_lines.specs.declared.stages.Split.{Split}
+use Rattle.schedule_lines.specs.declared.stages.Stage.{Stage}
+use Rattle.schedule.specs.declared.plans.FuncPlan.{FuncPlan}
+use Rattle.schedule.specs.declared.standings.Standing.{Standing}
+use Rattle.schedule.specs.Accepted.{IsPlan, IsLegal}
+use Rattle.schedule_loops.specs.declared.extents.Extents.{Extents}
+use Rattle.schedule_loops.specs.Counts.{Values, with, counts, extent_of, shifts_fit, AreSplits}
+use Rattle.schedule_loops.specs.Iterations.{parallel, iteration, iteration_count, points_written, in_turn, IsOrder, HasOwner}
+use Rattle.schedule_loops.specs.Reach.{base, AreTurns, AgreeWhereUneven, has_uneven, wholes, IsReached}
+use Rattle.schedule_loops.specs.Stages.{IsStageOf, KeepsRules, IsVisitOf, first_loops, has_variable, is_slice_of, points_of}
+use Rattle.schedule_loops.specs.Visits.{Visit, nest, over_loops, zeros, upto, visit_of, visits, slice, rising}
+
+-- Where the output reaches a Func, an accepted schedule has such stages for its pure definition and for each of its updates.
+abbrev pub AcceptedStages : Type 0
+AcceptedStages = (func : Func) (plan : FuncPlan) (own : Standing) → IsPlan func plan → IsLegal plan own → own.is_reached ≡ true
+    → (IsStageOf func None plan.pure × KeepsRules plan.pure)
+    × ((at : ℕ) (update : Update) (stage : Stage) → slice_get func.updates at ≡ Some update → slice_get plan.updates at ≡ Some stage
+    → IsStageOf func (Some update) stage × KeepsRules stage)
+
+-- The splits of a stage are few, and their factors small.
+abbrev pub StagesHaveFewSplits : Type 0
+StagesHaveFewSplits = (func : Func) (update : Option Update) (stage : Stage)
+    → IsStageOf func update stage → AreSplits stage.splits
+
+-- Each visit of a stage is one of its slices and reduction points.
+abbrev pub VisitsLieWithin : Type 0
+VisitsLieWithin = (func : Func) (update : Option Update) (extents : Extents) (stage : Stage)
+    → IsStageOf func update stage
+    → AllByRecursion (IsVisitOf func update extents) (visits extents stage)
+
+-- Whatever lines make of an update, each slice that there is sees all its reduction points, once each and in rising order, and no other
+-- does.
+abbrev pub UpdatesKeepTheirOrder : Type 0
+UpdatesKeepTheirOrder = (func : Func) (update : Update) (extents : Extents) (stage : Stage)
+    → IsStageOf func (Some update) stage
+    → (x y : ℕ)
+    → slice x y (visits extents stage)
+    ≡ rising x y 0 (if is_slice_of func (Some update) extents x y then points_of func (Some update) extents else 0)
+
+-- A pure definition is visited at each point of its box, if each shifted split has a whole round.
+abbrev pub PureStagesCover : Type 0
+PureStagesCover = (func : Func) (extents : Extents) (stage : Stage)
+    → IsStageOf func None stage → shifts_fit extents stage.splits ≡ true
+    → (x y : ℕ) → is_slice_of func None extents x y ≡ true
+    → Contains (visits extents stage) (record { x = x; y = y; number = 0 })
+
+-- The iterations of an accepted stage in rising order are all that it visits.
+abbrev pub IterationsAreAll : Type 0
+IterationsAreAll = (func : Func) (update : Option Update) (extents : Extents) (stage : Stage)
+    → IsStageOf func update stage → KeepsRules stage
+    → visits extents stage ≡ upto (iteration_count extents stage) (iteration extents stage)
+
+-- An iteration is what the loops inside the parallel one list in a turn of that.
+abbrev pub IterationsAreTurns : Type 0
+IterationsAreTurns = (func : Func) (update : Option Update) (extents : Extents) (stage : Stage) (inside : List Loop) (own : Loop)
+    → IsStageOf func update stage
+    → stage.loops ≡ inside ++ own ∷ [] → parallel stage ≡ Some own
+    → (number : ℕ) → number < counts extents stage.splits own.id
+    → iteration extents stage number
+    ≡ nest (counts extents stage.splits) inside (over_loops extents stage.splits (λ whole. visit_of extents whole ∷ [])) (with own.id number zeros)
+
+-- Each slice belongs to one iteration: so iterations of a pure definition visit points apart, and those of an update slices apart.
+abbrev pub IterationsAreApart : Type 0
+IterationsAreApart = (func : Func) (update : Option Update) (extents : Extents) (stage : Stage)
+    → IsStageOf func update stage → KeepsRules stage
+    → (x y : ℕ) → is_slice_of func update extents x y ≡ true
+    → HasOwner (iteration_count extents stage) (iteration extents stage) x y
+
+-- Iterations write points apart, where the left side names points apart at visits of slices apart, as a pure definition's does.
+abbrev pub IterationsWriteApart : Type 0
+IterationsWriteApart = (func : Func) (update : Option Update) (extents : Extents) (stage : Stage)
+    → IsStageOf func update stage → KeepsRules stage
+    → (left : Visit → ℕ × ℕ)
+    → ((one other : Visit) → IsVisitOf func update extents one → IsVisitOf func update extents other
+    → left one ≡ left other → (one.x ≡ other.x) × (one.y ≡ other.y))
+    → (first second : ℕ) → first < iteration_count extents stage → second < iteration_count extents stage
+    → (point : ℕ × ℕ)
+    → Contains (points_written left extents stage first) point → Contains (points_written left extents stage second) point
+    → first ≡ second
+
+-- In whatever order the iterations are done, each slice sees what it sees in rising order.
+abbrev pub IterationsInAnyOrder : Type 0
+IterationsInAnyOrder = (func : Func) (update : Option Update) (extents : Extents) (stage : Stage)
+    → IsStageOf func update stage → KeepsRules stage
+    → (order : List ℕ) → IsOrder (iteration_count extents stage) order
+    → (x y : ℕ) → slice x y (in_turn (iteration extents stage) order) ≡ slice x y (visits extents stage)
+
+-- While the loops outside are in given turns, those inside visit values of a variable that lie in its extent; and between a base and
+-- what the loops inside can add to it, unless an uneven loop is among those outside.
+abbrev pub VariablesAreReached : Type 0
+VariablesAreReached = (func : Func) (update : Option Update) (extents : Extents) (stage : Stage) (inside outside : List Loop) (variable : Variable) (turns : Values)
+    → IsStageOf func update stage
+    → stage.loops ≡ inside ++ outside → has_variable variable (first_loops func update) ≡ true
+    → AreTurns (counts extents stage.splits) outside turns
+    → AllByRecursion (λ whole. whole (ids.Whole variable) < extent_of extents variable) (wholes extents stage.splits inside turns)
+    × (has_uneven stage.splits variable outside ≡ false
+    → AllByRecursion (IsReached extents stage.splits variable inside outside turns) (wholes extents stage.splits inside turns))
+
+-- Where uneven loops are in the same turns, the values of a variable differ as the bases of all loops do: each turn of an even loop
+-- takes the variable its stride further.
+abbrev pub EvenLoopsStep : Type 0
+EvenLoopsStep = (func : Func) (update : Option Update) (extents : Extents) (stage : Stage) (variable : Variable) (one_turns other_turns one other : Values)
+    → IsStageOf func update stage
+    → has_variable variable (first_loops func update) ≡ true
+    → AreTurns (counts extents stage.splits) stage.loops one_turns
+    → AreTurns (counts extents stage.splits) stage.loops other_turns
+    → AgreeWhereUneven stage.splits stage.loops one_turns other_turns
+    → over_loops extents stage.splits (λ whole. whole ∷ []) one_turns ≡ one ∷ []
+    → over_loops extents stage.splits (λ whole. whole ∷ []) other_turns ≡ other ∷ []
+    → one (ids.Whole variable) + base stage.splits variable other_turns stage.loops
+    ≡ other (ids.Whole variable) + base stage.splits variable one_turns stage.loops
+
+-- What loops visit is seen from the values of whole variables that they visit.
+abbrev pub VisitsAreOfWholes : Type 0
+VisitsAreOfWholes = (extents : Extents) (splits : List Split) (inside : List Loop) (turns : Values)
+    → nest (counts extents splits) inside (over_loops extents splits (λ whole. visit_of extents whole ∷ [])) turns
+    ≡ map (visit_of extents) (wholes extents splits inside turns)
+
+-- A visit is one that the loops inside make while those outside are in some turns.
+pub record IsMadeIn (extents : Extents) (stage : Stage) (inside outside : List Loop) (visit : Visit) : Type 0 where
+  pub turns : Values
+  pub are : AreTurns (counts extents stage.splits) outside turns
+  pub whole : Values
+  pub visited : Contains (wholes extents stage.splits inside turns) whole
+  pub visit_is : visit_of extents whole ≡ visit
+
+-- Each visit of a stage is, wherever its loops are parted into those inside and those outside.
+abbrev pub VisitsAreMade : Type 0
+VisitsAreMade = (extents : Extents) (stage : Stage) (inside outside : List Loop) → stage.loops ≡ inside ++ outside
+    → (visit : Visit) → Contains (visits extents stage) visit → IsMadeIn extents stage inside outside visit

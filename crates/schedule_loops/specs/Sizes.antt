@@ -1,0 +1,17 @@
+-- How many turns loops have and how far these go, as values.
+-- This project's own.
+use Rattle.std.specs.Prelude.{List}
+use Rattle.schedule_lines.specs.declared.stages.LoopId.{LoopId}
+use Rattle.schedule_lines.specs.declared.stages.Split.{Split}
+use Rattle.schedule_loops.specs.declared.extents.Extents.{Extents}
+use Rattle.schedule_loops.specs.declared.sizes.LoopSize.{LoopSize}
+use Rattle.schedule_loops.specs.Counts.{counts, strides, is_uneven}
+
+-- The extents of whole variables, and the splits of a stage.
+pub record SizedLoops : Type 0 where
+  pub extents : Extents
+  pub splits : List Split
+
+-- the size of a loop that these splits leave
+abbrev pub size : SizedLoops → LoopId → LoopSize
+size own id = record { count = counts own.extents own.splits id; stride = strides own.splits id; is_uneven = is_uneven own.splits id }

@@ -1,0 +1,90 @@
+//! Laws of the definitions, each the contract of a function that does nothing.
+
+ghost use Rattle.std.specs.Prelude.{◌≡◌, ◌∷◌, []};
+ghost use Rattle.schedule_loops.specs.Laws as law;
+ghost use Rattle.schedule_loops.specs.Rows as row;
+ghost use Rattle.schedule_loops.specs.Visits.{visits};
+
+use schedule_lines::Tail;
+
+/// An accepted schedule gives what the laws ask of stages.
+pub fn accepted_stages()
+    ensures { law.AcceptedStages }
+{}
+
+/// A stage that lines make of its first loops has at most 4 splits, by factors of 1 to 64.
+pub fn stages_have_few_splits()
+    ensures { law.StagesHaveFewSplits }
+{}
+
+/// What a stage visits lies in its box, and among its reduction points.
+pub fn visits_lie_within()
+    ensures { law.VisitsLieWithin }
+{}
+
+/// Under every nest that lines make of an update, each slice (the visits with the same arguments in place) sees
+/// its reduction points in rising order, each once.
+pub fn updates_keep_their_order()
+    ensures { law.UpdatesKeepTheirOrder }
+{}
+
+/// Under every nest that lines make of a pure definition, each point of the box is visited, if the extent of each
+/// loop that a shifted split divides is not below the factor.
+pub fn pure_stages_cover()
+    ensures { law.PureStagesCover }
+{}
+
+/// The iterations of the parallel loop, in rising order, are all that an accepted stage visits.
+pub fn iterations_are_all()
+    ensures { law.IterationsAreAll }
+{}
+
+/// An iteration of the parallel loop is what the loops inside it list in one of its turns.
+pub fn iterations_are_turns()
+    ensures { law.IterationsAreTurns }
+{}
+
+/// Iterations of the parallel loop of an accepted stage visit slices apart: of a pure definition, points apart.
+pub fn iterations_are_apart()
+    ensures { law.IterationsAreApart }
+{}
+
+/// Iterations of the parallel loop of an accepted stage write points apart, where the left side names points apart
+/// of slices apart.
+pub fn iterations_write_apart()
+    ensures { law.IterationsWriteApart }
+{}
+
+/// The iterations of an accepted stage may be done in any order: each slice sees the same visits in the same order.
+pub fn iterations_in_any_order()
+    ensures { law.IterationsInAnyOrder }
+{}
+
+/// A variable is its base plus what the loops inside add to it, or lies in its whole extent.
+pub fn variables_are_reached()
+    ensures { law.VariablesAreReached }
+{}
+
+/// A turn of a loop that is not uneven takes its variable its stride further.
+pub fn even_loops_step()
+    ensures { law.EvenLoopsStep }
+{}
+
+/// Visits are seen from the values of whole variables that loops visit.
+pub fn visits_are_of_wholes()
+    ensures { law.VisitsAreOfWholes }
+{}
+
+/// Each visit is one that the loops inside make while those outside are in some turns.
+pub fn visits_are_made()
+    ensures { law.VisitsAreMade }
+{}
+
+/// Worked rows: 5 values split by 4 under guard, 8 by 3 under shift, and an update with its argument inside.
+#[tactic(auto, unfolding(crate::specs::Visits::upto))]
+pub fn worked_rows()
+    ensures guarded { row.first_values 5 4 Tail.Guard ≡ 0 ∷ 1 ∷ 2 ∷ 3 ∷ 4 ∷ [] }
+    ensures shifted { row.first_values 8 3 Tail.Shift ≡ 0 ∷ 1 ∷ 2 ∷ 3 ∷ 4 ∷ 5 ∷ 5 ∷ 6 ∷ 7 ∷ [] }
+    ensures turned { visits row.turned_extents row.turned
+        ≡ row.visit 0 0 ∷ row.visit 1 0 ∷ row.visit 0 1 ∷ row.visit 1 1 ∷ row.visit 0 2 ∷ row.visit 1 2 ∷ [] }
+{}

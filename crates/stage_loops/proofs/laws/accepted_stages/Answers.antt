@@ -1,5 +1,0 @@
-use Rattle.stage_loops.proofs.AcceptedStages.{accepted}
-use Rattle.stage_loops.proofs.laws.accepted_stages.Goals as goal
-
-pub returns : goal.returns
-returns c = accepted

@@ -1,5 +1,0 @@
-use Rattle.stage_loops.proofs.Stepping.{stepped}
-use Rattle.stage_loops.proofs.laws.even_loops_step.Goals as goal
-
-pub returns : goal.returns
-returns c = stepped

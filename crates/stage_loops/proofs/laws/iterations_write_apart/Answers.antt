@@ -1,5 +1,0 @@
-use Rattle.stage_loops.proofs.Written.{written_apart}
-use Rattle.stage_loops.proofs.laws.iterations_write_apart.Goals as goal
-
-pub returns : goal.returns
-returns c = λ func update extents stage is rules left apart. written_apart func update extents stage is rules left apart

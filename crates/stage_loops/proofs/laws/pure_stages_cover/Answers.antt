@@ -1,5 +1,0 @@
-use Rattle.stage_loops.proofs.Covering.{visited}
-use Rattle.stage_loops.proofs.laws.pure_stages_cover.Goals as goal
-
-pub returns : goal.returns
-returns c = λ func extents stage is fit x y there. visited func extents x y there stage is fit

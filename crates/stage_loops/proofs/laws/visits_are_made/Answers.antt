@@ -1,5 +1,0 @@
-use Rattle.stage_loops.proofs.TurnsFound.{visits_are_made}
-use Rattle.stage_loops.proofs.laws.visits_are_made.Goals as goal
-
-pub returns : goal.returns
-returns c = visits_are_made

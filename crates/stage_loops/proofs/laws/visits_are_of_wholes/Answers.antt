@@ -1,5 +1,0 @@
-use Rattle.stage_loops.proofs.Wholes.{visits_of_wholes}
-use Rattle.stage_loops.proofs.laws.visits_are_of_wholes.Goals as goal
-
-pub returns : goal.returns
-returns c = visits_of_wholes

@@ -1,0 +1,98 @@
+//! Groups of vector registers that hold a number for each round of a loop.
+
+ghost use Rattle.std.specs.Prelude.{◌≡◌, ◌*◌, ◌<◌, ◌≤◌};
+ghost use Rattle.task_code_lanes.specs.Groups as spec;
+
+use rv_insn::Vtype11;
+
+/// The register in which bytes wait before they become lanes.
+pub const BYTE_SPARE: u8 = 1;
+
+/// How many vector registers a group has: 4, 8 or 16 rounds take 1, 2 or 4.
+#[derive(Clone, Copy, Debug, PartialEq, Eq)]
+pub enum Group {
+    One,
+    Two,
+    Four,
+}
+
+impl Group {
+    /// The group with a lane for each of so many rounds, if there is one.
+    pub fn of_rounds(count: u32) -> Option<Group>
+        ensures { result ≡ spec.group_of_rounds count }
+    {
+        if count == 4 {
+            Some(Group::One)
+        } else if count == 8 {
+            Some(Group::Two)
+        } else if count == 16 {
+            Some(Group::Four)
+        } else {
+            None
+        }
+    }
+
+    /// How many registers it has.
+    fn registers(self) -> u8
+        ensures { (result ≡ spec.registers self) × (result ≤ 4) }
+    {
+        match self {
+            Group::One => 1,
+            Group::Two => 2,
+            Group::Four => 4,
+        }
+    }
+
+    /// How many lanes of 32 bits it has.
+    pub fn lanes(self) -> u32
+        ensures { result ≡ 4 * spec.registers self }
+    {
+        4 * u32::from(self.registers())
+    }
+
+    /// How many groups the stack has.
+    pub fn slots(self) -> u8
+        ensures { (result ≡ spec.slots self) × (result ≤ 30) }
+    {
+        match self {
+            Group::One => 30,
+            Group::Two => 14,
+            Group::Four => 7,
+        }
+    }
+
+    /// The configuration of lanes of 32 bits in such groups.
+    pub fn vtype(self) -> Vtype11
+        ensures { result ≡ spec.vtype_of self }
+    {
+        let bits = match self {
+            Group::One => 16,
+            Group::Two => 17,
+            Group::Four => 18,
+        };
+        Vtype11::new(bits).unwrap()
+    }
+
+    /// The first register of the scratch group.
+    pub fn spare(self) -> u8
+        ensures { (result ≡ spec.spare self) × (result < 32) }
+    {
+        match self {
+            Group::One => 1,
+            Group::Two => 2,
+            Group::Four => 0,
+        }
+    }
+
+    /// The first register of a group of the stack.
+    pub fn slot(self, number: u8) -> u8
+        requires { number < spec.slots self }
+        ensures { (result ≡ spec.slot self number) × (result < 32) }
+    {
+        match self {
+            Group::One => number + 2,
+            Group::Two => 2 * (number + 2),
+            Group::Four => 4 * (number + 1),
+        }
+    }
+}

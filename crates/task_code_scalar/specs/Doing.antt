@@ -1,0 +1,92 @@
+-- Where code runs, and what code of a statement leaves: what the statement does to the buffers, in turns that hang on no buffer.
+-- This project's own.
+use Rattle.std.specs.Prelude.{◌≡◌, ℕ, ◌<◌, Bool, true, List, length}
+use Rattle.rv_insn.specs.declared.instructions.Insn.{Insn}
+use Rattle.memory.specs.Access.{Word, touched}
+use Rattle.memory.specs.Addresses.{byte_at, AreBytes}
+use Rattle.halide_pipeline.specs.Pixel.{Planes, reads_of}
+use Rattle.halide_pipeline.specs.Points.{Point}
+use Rattle.loop_ir.specs.declared.expressions.Counter.{Counter}
+use Rattle.loop_ir.specs.declared.statements.Stmt.{Stmt}
+use Rattle.loop_ir.specs.Buffers.{Points}
+use Rattle.loop_ir.specs.Counters.{Values}
+use Rattle.loop_ir.specs.Runs.{stores_in_runs}
+use Rattle.loop_ir.specs.Soundness.{is_sound, Have}
+use Rattle.loop_ir.specs.Stores.{is_stored_by}
+use Rattle.multi_hart_logic.specs.Alone.{World, Keeps}
+use Rattle.multi_hart_logic.specs.LaneMemory.{accesses_to}
+use Rattle.multi_hart_logic.specs.Paths.{Stand, Block, Writes}
+use Rattle.task_code_scalar.specs.declared.places.Places.{Places}
+use Rattle.task_code_scalar.specs.Evaluation.{Knows, ArePlaces}
+use Rattle.task_code_scalar.specs.Layout.{func_point, address_of, IsOf, Laid, Holds, IsElsewhere, AreWords}
+
+-- what stays while a task is done: where the hart runs and how many there are, where buffers lie and what inputs hold, which points the
+-- Funcs' buffers have, which of them may be written, and which points of any source may be loaded; at which Funcs' points code stores in whole
+-- runs of vectorized loops alone, and whether a run of such a Func stores at a point, while the counters outside of its loop stand at some values
+pub record Setting : Type 0 where
+  pub world : World
+  pub harts : ℕ
+  pub places : Places
+  pub inputs : Planes
+  pub points : Points
+  pub written : Points
+  pub loaded : Point → Bool
+  pub in_runs : ℕ → Bool
+  pub run : ℕ → ℕ → ℕ → Values → Bool
+
+-- a point is one of so many
+pub record IsAmong (n : ℕ) (x y : ℕ → ℕ) (a b : ℕ) : Type 0 where
+  pub number : ℕ
+  pub below : number < n
+  pub x_is : x number ≡ a
+  pub y_is : y number ≡ b
+
+-- So many points of a Func are those of one run: all at which it stores, and no others.
+pub record AreRun (own : Setting) (n func : ℕ) (x y : ℕ → ℕ) : Type 0 where
+  pub values : Values
+  pub each : (k : ℕ) → k < n → own.run func (x k) (y k) values ≡ true
+  pub all : (a b : ℕ) → own.run func a b values ≡ true → IsAmong n x y a b
+
+-- One turn may write several points, if each may be written, and where their Func is stored in runs, they are a run.
+abbrev pub MayBeWrittenAtOnce : Setting → Type 0
+MayBeWrittenAtOnce own = (n func : ℕ) (x y : ℕ → ℕ) → ((k : ℕ) → k < n → own.written func (x k) (y k) ≡ true) → (own.in_runs func ≡ true → AreRun own n func x y)
+    → Keeps own.world (touched (accesses_to Word n (λ k. address_of own.world own.places (func_point func (x k) (y k)))))
+
+pub record IsSetting (own : Setting) : Type 0 where
+  pub are_places : ArePlaces own.places
+  pub laid : Laid own.world own.places own.written own.loaded
+  pub have : Have own.written own.points
+  pub are_words : AreWords own.inputs
+  pub at_once : MayBeWrittenAtOnce own
+
+-- a statement writes and loads what it may, whatever words buffers hold
+abbrev pub SoundIn : Setting → Stmt → Values → Type 0
+SoundIn own statement values =
+    (funcs : Planes) → AreWords funcs → is_sound (reads_of own.inputs funcs) own.written own.loaded statement values ≡ true
+
+-- it stores at points of Funcs that are stored in runs by such runs alone, whatever words buffers hold
+abbrev pub RunsIn : Setting → Stmt → Values → Type 0
+RunsIn own statement values = (funcs : Planes) → AreWords funcs → (func : ℕ) → own.in_runs func ≡ true → (x y : ℕ)
+    → stores_in_runs (reads_of own.inputs funcs) func x y (own.run func x y) statement values ≡ true
+
+-- memory holds bytes, and these buffers
+pub record HoldsFuncs (own : Setting) (memory : List ℕ) (funcs : Planes) : Type 0 where
+  pub size : length memory ≡ own.world.size
+  pub are_bytes : AreBytes memory
+  pub are_words : AreWords funcs
+  pub holds : Holds own.world own.places own.loaded memory (reads_of own.inputs funcs)
+
+-- the code comes to its end in so many turns; memory then holds these buffers, and each point of `stored` was written on the way
+pub record Done (own : Setting) (code : List Insn) (turns : ℕ) (scope : List Counter) (values : Values) (f : ℕ → ℕ) (memory : List ℕ) (funcs : Planes) (stored : Points) : Type 0 where
+  pub after : ℕ → ℕ
+  pub left : List ℕ
+  pub block : Block own.world code turns f memory after left
+  pub knows : Knows own.world own.harts scope values after
+  pub holds : HoldsFuncs own left funcs
+  pub elsewhere : (byte : ℕ) → IsElsewhere own.world own.places own.written byte → byte_at own.world.text left byte ≡ byte_at own.world.text memory byte
+  pub are_bytes : AreBytes memory → AreBytes left
+  pub writes : (func x y byte at : ℕ) → stored func x y ≡ true → IsOf own.world own.places func x y byte → Stand own.world.text at code → Writes own.world at turns f memory byte
+
+-- the points of Funcs at which a statement's run stores
+abbrev pub stored_points : Setting → Stmt → Values → Planes → Points
+stored_points own statement values funcs func x y = is_stored_by own.points own.inputs func x y statement values funcs

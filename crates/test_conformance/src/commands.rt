@@ -1,0 +1,173 @@
+//! What the commands write, each by its engine over files in memory.
+
+ghost use Rattle.std.specs.Prelude.{◌≡◌, IfOk};
+ghost use Rattle.std.specs.List.{All};
+
+use crate::algorithms::push_bytes;
+use crate::devices::{Devices, devices_of};
+use crate::failures::Failure;
+use hrv_engines::{
+    Fault, asm_bytes, debug_bytes, dis_bytes, picture_bytes, renew_bytes, replay_bytes,
+};
+use std::alloc::{AllocError, Global};
+use std::thread::Threads;
+use test_cases::{Part, bytes_of};
+use test_devices::{Page, Tape};
+
+/// The image that a source becomes.
+pub fn push_image(alloc: Global, parts: &[Part], out: &mut String) -> Result<(), Failure> {
+    let (parts, devices) = devices_of(parts);
+    let [source] = parts else {
+        return Err(Failure::Malformed("not one part"));
+    };
+    let source = source.bytes(alloc, "source")?;
+    let mut page = devices.page(alloc)?;
+    let answered = asm_bytes(alloc, &mut devices.tape("source", &source)?, &mut page);
+    push_stored(answered, &page, out)
+}
+
+/// The listing of an image.
+pub fn push_lines(alloc: Global, parts: &[Part], out: &mut String) -> Result<(), Failure> {
+    let (parts, devices) = devices_of(parts);
+    let [image] = parts else {
+        return Err(Failure::Malformed("not one part"));
+    };
+    let image = bytes_of(alloc, image.named("image")?)?;
+    let mut page = devices.page(alloc)?;
+    let answered = dis_bytes(alloc, &mut devices.tape("image", &image)?, &mut page);
+    push_answer(answered, &page, out)
+}
+
+/// An image in the newest format.
+pub fn push_renewal(alloc: Global, parts: &[Part], out: &mut String) -> Result<(), Failure> {
+    let (parts, devices) = devices_of(parts);
+    let [image] = parts else {
+        return Err(Failure::Malformed("not one part"));
+    };
+    let image = bytes_of(alloc, image.named("image")?)?;
+    let mut page = devices.page(alloc)?;
+    let answered = renew_bytes(alloc, &mut devices.tape("image", &image)?, &mut page);
+    push_stored(answered, &page, out)
+}
+
+/// The dump of a machine after a log's turns.
+pub fn push_replay(alloc: Global, parts: &[Part], out: &mut String) -> Result<(), Failure> {
+    let (parts, devices) = devices_of(parts);
+    let [image, log] = parts else {
+        return Err(Failure::Malformed("not two parts"));
+    };
+    let image = bytes_of(alloc, image.named("image")?)?;
+    let log = bytes_of(alloc, log.named("log")?)?;
+    let mut page = devices.page(alloc)?;
+    let answered = replay_bytes(
+        alloc,
+        &mut devices.tape("image", &image)?,
+        &mut devices.tape("log", &log)?,
+        &mut page,
+    );
+    push_answer(answered, &page, out)
+}
+
+/// What is answered to lines about an image and a log.
+pub fn push_talk(alloc: Global, parts: &[Part], out: &mut String) -> Result<(), Failure> {
+    let (parts, devices) = devices_of(parts);
+    let [image, log, lines] = parts else {
+        return Err(Failure::Malformed("not three parts"));
+    };
+    let image = bytes_of(alloc, image.named("image")?)?;
+    let log = bytes_of(alloc, log.named("log")?)?;
+    let lines = lines.bytes(alloc, "lines")?;
+    let mut page = devices.page(alloc)?;
+    let answered = debug_bytes(
+        alloc,
+        &mut devices.tape("image", &image)?,
+        &mut devices.tape("log", &log)?,
+        &mut devices.tape("lines", &lines)?,
+        &mut page,
+    );
+    push_answer(answered, &page, out)
+}
+
+/// The picture that an algorithm draws from pictures.
+pub fn push_drawing(
+    rt: &(impl Threads + Sync),
+    alloc: Global,
+    parts: &[Part],
+    out: &mut String,
+) -> Result<(), Failure> {
+    let (parts, devices) = devices_of(parts);
+    let [algorithm, inputs @ ..] = parts else {
+        return Err(Failure::Malformed("no parts"));
+    };
+    let algorithm = algorithm.bytes(alloc, "algorithm")?;
+    let texts = texts_of(alloc, inputs)?;
+    let mut pictures = pictures_of(alloc, &devices, &texts)?;
+    let mut page = devices.page(alloc)?;
+    let answered = picture_bytes(
+        rt,
+        alloc,
+        &mut devices.tape("algorithm", &algorithm)?,
+        pictures.as_mut_slice(),
+        &mut page,
+    );
+    push_answer(answered, &page, out)
+}
+
+/// The bytes of each picture.
+pub fn texts_of(alloc: Global, inputs: &[Part]) -> Result<Vec<Vec<u8>>, Failure> {
+    let mut texts = Vec::new(alloc);
+    for input in inputs {
+        texts.push(input.bytes(alloc, "picture")?)?;
+    }
+    Ok(texts)
+}
+
+/// Each input in memory.
+pub fn pictures_of<'a>(
+    alloc: Global,
+    devices: &Devices,
+    texts: &'a [Vec<u8>],
+) -> Result<Vec<Tape<'a>>, Failure>
+    ensures { IfOk result (λ tapes. All (λ tape. tape.failures ≡ 0) tapes.items) }
+{
+    let mut tapes = Vec::new(alloc);
+    let mut rest = texts;
+    while let [text, others @ ..] = rest {
+        tapes.push(devices.tape("picture", text)?)?;
+        rest = others;
+    }
+    Ok(tapes)
+}
+
+/// What the command wrote, or why it refused. A backslash ends a text whose last line has no line feed.
+pub fn push_answer(
+    answered: Result<(), Fault>,
+    page: &Page,
+    out: &mut String,
+) -> Result<(), Failure> {
+    push_bytes(&page.bytes, out)?;
+    if !matches!(page.bytes.last(), None | Some(b'\n')) {
+        out.push_str("\\\n")?;
+    }
+    Ok(answered?)
+}
+
+/// The bytes that the command wrote, 32 a line, or why it refused.
+pub fn push_stored(
+    answered: Result<(), Fault>,
+    page: &Page,
+    out: &mut String,
+) -> Result<(), Failure> {
+    for line in page.bytes.chunks(32) {
+        push_digits(line, out)?;
+    }
+    Ok(answered?)
+}
+
+/// A line with the digits of bytes.
+pub fn push_digits(bytes: &[u8], out: &mut String) -> Result<(), AllocError> {
+    for byte in bytes {
+        write!(out, "{byte:02x}")?;
+    }
+    out.push_str("\n")
+}

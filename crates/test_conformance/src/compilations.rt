@@ -1,0 +1,140 @@
+//! Compiled images: what the rules say of their bytes, and the pictures that they leave.
+
+use crate::algorithms::push_bytes;
+use crate::commands::{pictures_of, push_digits, push_stored, texts_of};
+use crate::devices::devices_of;
+use crate::failures::Failure;
+use disassembler::write_lines;
+use hrv_engines::{Fault, compile_bytes, replay_bytes};
+use loader::{Image, read_image};
+use std::alloc::{AllocError, Global};
+use test_cases::Part;
+use test_devices::{Page, empty_page, tape_of};
+
+/// What compiling the texts of a case stores, and how it ended.
+fn compiled(alloc: Global, parts: &[Part]) -> Result<(Page, Result<(), Fault>), Failure> {
+    let (parts, devices) = devices_of(parts);
+    let [algorithm, schedule, inputs @ ..] = parts else {
+        return Err(Failure::Malformed("not two parts"));
+    };
+    let algorithm = algorithm.bytes(alloc, "algorithm")?;
+    let schedule = schedule.bytes(alloc, "schedule")?;
+    let texts = texts_of(alloc, inputs)?;
+    let mut pictures = pictures_of(alloc, &devices, &texts)?;
+    let mut page = devices.page(alloc)?;
+    let answered = compile_bytes(
+        alloc,
+        &mut devices.tape("algorithm", &algorithm)?,
+        &mut devices.tape("schedule", &schedule)?,
+        pictures.as_mut_slice(),
+        &mut page,
+    );
+    Ok((page, answered))
+}
+
+/// An image that is stored without its words, and the picture that one hart leaves; or the bytes up to a refusal.
+pub fn push_compilation(alloc: Global, parts: &[Part], out: &mut String) -> Result<(), Failure> {
+    let (page, answered) = compiled(alloc, parts)?;
+    if answered.is_err() {
+        return push_stored(answered, &page, out);
+    }
+    let image = read_image(alloc, &page.bytes)?;
+    push_data(&page.bytes, &image, out)?;
+    push_left(alloc, &page.bytes, out)
+}
+
+/// How many lines of a compiled image's listing are vector loads and stores, of each kind, and how the lanes of one hart are configured
+/// once it has finished.
+pub fn push_accesses(alloc: Global, parts: &[Part], out: &mut String) -> Result<(), Failure> {
+    let (page, answered) = compiled(alloc, parts)?;
+    if answered.is_err() {
+        return push_stored(answered, &page, out);
+    }
+    let image = read_image(alloc, &page.bytes)?;
+    let mut lines = Vec::new(alloc);
+    write_lines(image.words(), &mut lines)?;
+    let Ok(listing) = str::from_utf8(&lines) else {
+        return Err(Failure::Malformed("the listing is no text"));
+    };
+    push_count(listing, "vle8.v", out)?;
+    push_count(listing, "vle32.v", out)?;
+    push_count(listing, "vluxei32.v", out)?;
+    push_count(listing, "vse32.v", out)?;
+    push_count(listing, "vsuxei32.v", out)?;
+    push_lanes(alloc, &page.bytes, out)
+}
+
+/// A mnemonic, and how many lines begin with it.
+fn push_count(listing: &str, mnemonic: &str, out: &mut String) -> Result<(), AllocError> {
+    let mut count = 0_usize;
+    for line in listing.lines() {
+        if line.trim_start().starts_with(mnemonic) {
+            count = count.wrapping_add(1);
+        }
+    }
+    writeln!(out, "{mnemonic} {count}")
+}
+
+/// How many bytes the data have, those that are stored, and where the output lies.
+fn push_data(bytes: &[u8], image: &Image, out: &mut String) -> Result<(), AllocError> {
+    let size = image.data().len();
+    writeln!(out, "data {size}")?;
+    let words = 4_usize.wrapping_mul(image.words().len());
+    let (_, stored) = bytes.split_at(words.wrapping_add(36).min(bytes.len()));
+    for line in stored.chunks(32) {
+        push_digits(line, out)?;
+    }
+    match image.output() {
+        Some(output) => {
+            let (address, stride) = (output.address, output.stride);
+            let (width, height) = (output.width, output.height);
+            writeln!(out, "output 0x{address:08x} {width} {height} {stride}")
+        }
+        None => Ok(()),
+    }
+}
+
+/// A log of 2^40 turns of one hart.
+static LONGEST: [u8; 25] = *b"HRL1\x01\0\0\0\x01\0\0\0\0\0\0\0\0\0\0\0\0\0\x01\0\0";
+
+/// The dump behind all turns of one hart.
+fn dumped(alloc: Global, image: &[u8]) -> Result<Page, Failure> {
+    let mut page = empty_page(alloc);
+    let log = LONGEST.as_slice();
+    replay_bytes(
+        alloc,
+        &mut tape_of("image", image),
+        &mut tape_of("log", log),
+        &mut page,
+    )?;
+    Ok(page)
+}
+
+/// The dump's line on how lanes are configured.
+fn push_lanes(alloc: Global, image: &[u8], out: &mut String) -> Result<(), Failure> {
+    let page = dumped(alloc, image)?;
+    let Ok(dump) = str::from_utf8(&page.bytes) else {
+        return Err(Failure::Malformed("the answer is no text"));
+    };
+    for line in dump.lines() {
+        if line.starts_with("  vl ") {
+            writeln!(out, "{}", line.trim_start())?;
+        }
+    }
+    Ok(())
+}
+
+/// The picture behind all turns of one hart.
+fn push_left(alloc: Global, image: &[u8], out: &mut String) -> Result<(), Failure> {
+    let page = dumped(alloc, image)?;
+    let Ok(dump) = str::from_utf8(&page.bytes) else {
+        return Err(Failure::Malformed("the answer is no text"));
+    };
+    match dump.split_once("picture ") {
+        Some((_, picture)) => {
+            out.push_str("picture ")?;
+            push_bytes(picture.as_bytes(), out)
+        }
+        None => Err(Failure::Malformed("the image leaves no picture")),
+    }
+}

@@ -1,0 +1,85 @@
+//! Command lines.
+
+use crate::failures::Failure;
+use hrv_command_line::{Invocation, command};
+use std::alloc::{AllocError, Global};
+use test_cases::Part;
+
+/// What the words of a command line ask for, or the first line of why they are refused.
+pub fn push_invocation(alloc: Global, parts: &[Part], out: &mut String) -> Result<(), Failure> {
+    let [words] = parts else {
+        return Err(Failure::Malformed("not one part"));
+    };
+    let words = words_of(alloc, words.named("words")?)?;
+    match command(alloc, &words) {
+        Ok(invocation) => push_asked(&invocation, out)?,
+        Err(fault) => {
+            let text = format!(in alloc; "{fault}")?;
+            push_first_line(text.as_str(), out)?;
+        }
+    }
+    Ok(())
+}
+
+/// The words, one a line.
+fn words_of<'a>(alloc: Global, lines: &'a str) -> Result<Vec<&'a str>, AllocError> {
+    let mut words = Vec::new(alloc);
+    for word in lines.lines() {
+        words.push(word)?;
+    }
+    Ok(words)
+}
+
+/// A command and the files that it names.
+fn push_asked(invocation: &Invocation, out: &mut String) -> Result<(), AllocError> {
+    match invocation {
+        Invocation::Asm { source, image } => writeln!(out, "asm from {source} to {image}"),
+        Invocation::Dis { image } => writeln!(out, "dis of {image}"),
+        Invocation::Renew { old, new } => writeln!(out, "renew from {old} to {new}"),
+        Invocation::Replay { image, log } => writeln!(out, "replay of {image} by {log}"),
+        Invocation::Debug { image, log } => writeln!(out, "debug of {image} by {log}"),
+        Invocation::Picture { algorithm, inputs } => {
+            write!(out, "picture by {algorithm} of")?;
+            push_inputs(inputs, out)
+        }
+        Invocation::Compile {
+            algorithm,
+            schedule,
+            image,
+            inputs,
+        } => {
+            write!(out, "compile {algorithm} by {schedule} to {image} with")?;
+            push_inputs(inputs, out)
+        }
+        Invocation::Run {
+            image,
+            log,
+            harts,
+            turns,
+        } => writeln!(
+            out,
+            "run of {image} to {log} by {harts} harts of {turns} turns"
+        ),
+        Invocation::Resume {
+            image,
+            log,
+            old,
+            turns,
+        } => writeln!(out, "run of {image} from {old} to {log} of {turns} turns"),
+    }
+}
+
+/// The rest of a line: the files of inputs.
+fn push_inputs(inputs: &[&str], out: &mut String) -> Result<(), AllocError> {
+    for input in inputs {
+        write!(out, " {input}")?;
+    }
+    out.push_str("\n")
+}
+
+fn push_first_line(text: &str, out: &mut String) -> Result<(), AllocError> {
+    match text.lines().next() {
+        Some(line) => writeln!(out, "{line}"),
+        None => out.push_str("\n"),
+    }
+}

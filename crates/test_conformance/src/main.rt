@@ -1,0 +1,145 @@
+//! `test_conformance`: what the libraries and the engines answer to cases that lie in files.
+//!
+//! The program reads the files that its arguments name (`test_cases`), and prints each case's kind and name and below it the answer.
+//! `stdout` holds what the rules say of the cases in `data/`; none of it was copied from this program. What algorithms under schedules come
+//! to stands beside it (`test_trials`).
+//!
+//! | Kind | Parts | Answer |
+//! |---|---|---|
+//! | `parse` | `algorithm` | `accepted` |
+//! | `draw` | `algorithm`, any number of `picture` | the picture that is drawn |
+//! | `read` | `picture` | the picture's text |
+//! | `schedule` | `algorithm`, `schedule` | each Func's standing, loops and splits |
+//! | `assemble` | `text` | the object |
+//! | `list` | `words`: a word in hexadecimal each line | the line of each |
+//! | `turn` | `before`: an assembly text; `instructions`: one each line | each line, and what it changes behind the text before |
+//! | `asm` | `source` | the image's bytes, in hexadecimal |
+//! | `dis` | `image` | the listing |
+//! | `renew` | `image` | the renewed image's bytes, in hexadecimal |
+//! | `replay` | `image`, `log`: lines in hexadecimal | the dump |
+//! | `debug` | `image`, `log`: lines in hexadecimal; `lines` | the talk |
+//! | `run` | `image`; `turns`: how many a hart makes at most | the bytes of the log of one hart, in hexadecimal, and the dump |
+//! | `resume` | `image`, `log`; `turns` | the same, from where a log of one hart ends |
+//! | `compile` | `algorithm`, `schedule`, any number of `picture` | the image without its words, and the picture that one hart leaves |
+//! | `accesses` | `algorithm`, `schedule`, any number of `picture` | how many lines of the image's listing are vector loads and stores, by mnemonic, and how lanes are configured once one hart has finished |
+//! | `words` | `words`: a word of a command line each line | the command and its files, or the refusal's first line |
+//!
+//! Images and logs always stand in hexadecimal. The cases of `draw` and of those from `asm` to `compile` go through the engines; a last part
+//! `devices` says how their files give and take bytes: a line `NAME STEP` for at most so many bytes a call, `NAME STEP CALLS` where the
+//! call behind so many fails. What is written is `page`; the log that a run writes has the lines of `new`.
+//!
+//! A refusal stands in place of an answer, or behind what was written before, as `hrv` prints it; a backslash ends a text without a
+//! last line feed there. A case that isn't one of these is answered `malformed: ` and why.
+//!
+//! - [`algorithms`], [`schedules`], [`assemblies`], [`turns`], [`commands`], [`runs`], [`compilations`], [`invocations`]: the answers, a module each for
+//!   one family.
+//! - [`devices`]: files in memory.
+//! - [`harts`]: what a hart holds, as lines.
+//! - [`failures`]: what stands in place of an answer.
+#![tactic(auto)]
+
+mod algorithms;
+mod assemblies;
+mod commands;
+mod compilations;
+mod devices;
+mod failures;
+mod harts;
+mod invocations;
+mod runs;
+mod schedules;
+mod turns;
+
+use crate::algorithms::{push_reading, push_verdict};
+use crate::assemblies::{push_listing, push_object};
+use crate::commands::{push_drawing, push_image, push_lines, push_renewal, push_replay, push_talk};
+use crate::compilations::{push_accesses, push_compilation};
+use crate::failures::Failure;
+use crate::invocations::push_invocation;
+use crate::runs::{push_resumption, push_run};
+use crate::schedules::push_schedule;
+use crate::turns::push_changes;
+use std::alloc::{AllocError, Global};
+use std::rt::{Env, Files};
+use std::sync::Wait;
+use std::thread::Threads;
+use std::{env, fs, io};
+use test_cases::{Case, read_cases};
+
+fn main(rt: HostRuntime) -> io::Result<()> {
+    for path in env::args(&rt)?.skip(1) {
+        print_file(&rt, path.as_str())?;
+    }
+    Ok(())
+}
+
+/// Prints what is answered to the cases of a file.
+fn print_file<R: Files + Print + AllocGlobal + Threads + Wait + Sync>(
+    rt: &R,
+    path: &str,
+) -> io::Result<()> {
+    let alloc = rt.alloc();
+    let text = fs::read_to_string(rt, path)?;
+    println!(rt; "file {path}")?;
+    match read_cases(alloc, text.as_str()) {
+        Ok(cases) => print_cases(rt, &cases),
+        Err(fault) => println!(rt; "{fault}"),
+    }
+}
+
+/// Prints what is answered to each case.
+fn print_cases<R: Print + AllocGlobal + Threads + Wait + Sync>(
+    rt: &R,
+    cases: &[Case],
+) -> io::Result<()> {
+    for case in cases {
+        let text = answer(rt, rt.alloc(), case)?;
+        print!(rt; "{text}")?;
+    }
+    Ok(())
+}
+
+/// A case's heading and the answer to it, or what stands in its place.
+fn answer(
+    rt: &(impl Threads + Wait + Sync),
+    alloc: Global,
+    case: &Case,
+) -> Result<String, AllocError> {
+    let mut text = String::new(alloc);
+    let Case { kind, name, .. } = case;
+    writeln!(text, "== {kind} {name}")?;
+    if let Err(failure) = push_answer(rt, alloc, case, &mut text) {
+        writeln!(text, "{failure}")?;
+    }
+    Ok(text)
+}
+
+/// Appends the answer to a case.
+fn push_answer(
+    rt: &(impl Threads + Wait + Sync),
+    alloc: Global,
+    case: &Case,
+    out: &mut String,
+) -> Result<(), Failure> {
+    let parts = case.parts.as_slice();
+    match case.kind.as_str() {
+        "parse" => push_verdict(alloc, parts, out),
+        "draw" => push_drawing(rt, alloc, parts, out),
+        "read" => push_reading(alloc, parts, out),
+        "schedule" => push_schedule(alloc, parts, out),
+        "assemble" => push_object(alloc, parts, out),
+        "list" => push_listing(alloc, parts, out),
+        "turn" => push_changes(alloc, parts, out),
+        "asm" => push_image(alloc, parts, out),
+        "dis" => push_lines(alloc, parts, out),
+        "renew" => push_renewal(alloc, parts, out),
+        "replay" => push_replay(alloc, parts, out),
+        "debug" => push_talk(alloc, parts, out),
+        "run" => push_run(rt, alloc, parts, out),
+        "resume" => push_resumption(rt, alloc, parts, out),
+        "compile" => push_compilation(alloc, parts, out),
+        "accesses" => push_accesses(alloc, parts, out),
+        "words" => push_invocation(alloc, parts, out),
+        _ => Err(Failure::Malformed("an unknown kind of case")),
+    }
+}

@@ -1,0 +1,87 @@
+//! What runs by threads leave: the log of their turns, and the dump behind them. They are of one hart, since a case has one answer.
+
+use crate::commands::{push_answer, push_digits};
+use crate::devices::devices_of;
+use crate::failures::Failure;
+use hrv_engines::{Fault, resume_bytes, run_bytes};
+use std::alloc::Global;
+use std::sync::Wait;
+use std::thread::Threads;
+use test_cases::{Part, bytes_of};
+use test_devices::Page;
+
+/// A run of an image from its start.
+pub fn push_run(
+    rt: &(impl Threads + Wait + Sync),
+    alloc: Global,
+    parts: &[Part],
+    out: &mut String,
+) -> Result<(), Failure> {
+    let (parts, devices) = devices_of(parts);
+    let [image, turns] = parts else {
+        return Err(Failure::Malformed("not two parts"));
+    };
+    let image = bytes_of(alloc, image.named("image")?)?;
+    let limit = limit_of(turns.named("turns")?)?;
+    let mut new = devices.new_log(alloc)?;
+    let mut page = devices.page(alloc)?;
+    let answered = run_bytes(
+        rt,
+        alloc,
+        &mut devices.tape("image", &image)?,
+        &mut new,
+        &mut page,
+        1,
+        limit,
+    );
+    push_left(answered, &new, &page, out)
+}
+
+/// A run of an image that goes on from a log.
+pub fn push_resumption(
+    rt: &(impl Threads + Wait + Sync),
+    alloc: Global,
+    parts: &[Part],
+    out: &mut String,
+) -> Result<(), Failure> {
+    let (parts, devices) = devices_of(parts);
+    let [image, log, turns] = parts else {
+        return Err(Failure::Malformed("not three parts"));
+    };
+    let image = bytes_of(alloc, image.named("image")?)?;
+    let log = bytes_of(alloc, log.named("log")?)?;
+    let limit = limit_of(turns.named("turns")?)?;
+    let mut new = devices.new_log(alloc)?;
+    let mut page = devices.page(alloc)?;
+    let answered = resume_bytes(
+        rt,
+        alloc,
+        &mut devices.tape("image", &image)?,
+        &mut devices.tape("log", &log)?,
+        &mut new,
+        &mut page,
+        limit,
+    );
+    push_left(answered, &new, &page, out)
+}
+
+/// How many turns a hart makes at most.
+fn limit_of(lines: &str) -> Result<u64, Failure> {
+    match lines.trim().parse::<u64>() {
+        Ok(limit) => Ok(limit),
+        Err(_) => Err(Failure::Malformed("turns without a number")),
+    }
+}
+
+/// The bytes of the log that was written, 32 a line, and behind them the dump, or why the run refused.
+fn push_left(
+    answered: Result<(), Fault>,
+    new: &Page,
+    page: &Page,
+    out: &mut String,
+) -> Result<(), Failure> {
+    for line in new.bytes.chunks(32) {
+        push_digits(line, out)?;
+    }
+    push_answer(answered, page, out)
+}

@@ -1,0 +1,109 @@
+//! `test_trials`: whether an algorithm under a schedule leaves the reference picture, whichever way it is computed.
+//!
+//! The program reads the files that its arguments name (`test_cases`), and prints each case's kind and name and below it the answer.
+//! `stdout` holds what the rules say of the cases in `data/`; none of it was copied from this program.
+//!
+//! | Kind | Parts | Answer |
+//! |---|---|---|
+//! | `boxes` | `algorithm`, `schedule` | the image's data and output, the phases with their tasks, each address and box |
+//! | `trial` | `algorithm`, `schedule`, a `picture` for each input | the image's data, output and control words, the reference picture, and a line for each other way |
+//! | `assign` | `algorithm`, `schedule`, `assignment`, a `picture` for each input | for each row of the output which harts changed it |
+//!
+//! The other ways are loop nests, with the tasks of each phase in rising order, in falling order and from both ends, and anything in
+//! private buffers before each: whether they leave the picture; and the compiled image, on 1, 2, 3 and 8 harts, at several paces of these
+//! harts: what the words hold by which harts share their work (of each phase the one to draw tasks, and the one to wait at), and whether
+//! the picture is another one. Where loops are vectorized, a last line says whether all of them are vector code, or how many, and how many collect
+//! their pixels.
+//!
+//! An assignment is a list of harts, of three. Each of them is stepped alone until it has drawn a task of the first phase, so that the
+//! iterations are theirs in this order; then all are stepped in turn until they finish.
+//!
+//! A refusal stands in place of an answer, as `hrv` prints it. `rt try` builds with checks, so that all cases of `random.txt` take some
+//! minutes: `rt try --seconds 900 -- data/random.txt`.
+//!
+//! - [`boxes`]: which points are computed and read, and where they lie.
+//! - [`trials`]: the answer to a trial.
+//! - [`nests`]: loop nests.
+//! - [`runs`]: images, and the paces of their harts.
+//! - [`vectors`]: which vectorized loops are vector code.
+//! - [`assignments`]: the answer to an assignment.
+//! - [`images`], [`pictures`]: what an image is, and what pictures hold, as lines.
+//! - [`failures`]: what stands in place of an answer.
+#![tactic(auto)]
+
+mod assignments;
+mod boxes;
+mod failures;
+mod images;
+mod nests;
+mod pictures;
+mod runs;
+mod trials;
+mod vectors;
+
+use crate::assignments::push_assignment;
+use crate::boxes::push_boxes;
+use crate::failures::Failure;
+use crate::trials::push_trial;
+use std::alloc::{AllocError, Global};
+use std::rt::{Env, Files};
+use std::thread::Threads;
+use std::{env, fs, io};
+use test_cases::{Case, read_cases};
+
+fn main(rt: HostRuntime) -> io::Result<()> {
+    for path in env::args(&rt)?.skip(1) {
+        print_file(&rt, path.as_str())?;
+    }
+    Ok(())
+}
+
+/// Prints what is answered to the cases of a file.
+fn print_file<R: Files + Print + AllocGlobal + Threads + Sync>(
+    rt: &R,
+    path: &str,
+) -> io::Result<()> {
+    let alloc = rt.alloc();
+    let text = fs::read_to_string(rt, path)?;
+    println!(rt; "file {path}")?;
+    match read_cases(alloc, text.as_str()) {
+        Ok(cases) => print_cases(rt, &cases),
+        Err(fault) => println!(rt; "{fault}"),
+    }
+}
+
+/// Prints what is answered to each case.
+fn print_cases<R: Print + AllocGlobal + Threads + Sync>(rt: &R, cases: &[Case]) -> io::Result<()> {
+    for case in cases {
+        let text = answer(rt, rt.alloc(), case)?;
+        print!(rt; "{text}")?;
+    }
+    Ok(())
+}
+
+/// A case's heading and the answer to it, or what stands in its place.
+fn answer(rt: &(impl Threads + Sync), alloc: Global, case: &Case) -> Result<String, AllocError> {
+    let mut text = String::new(alloc);
+    let Case { kind, name, .. } = case;
+    writeln!(text, "== {kind} {name}")?;
+    if let Err(failure) = push_answer(rt, alloc, case, &mut text) {
+        writeln!(text, "{failure}")?;
+    }
+    Ok(text)
+}
+
+/// Appends the answer to a case.
+fn push_answer(
+    rt: &(impl Threads + Sync),
+    alloc: Global,
+    case: &Case,
+    out: &mut String,
+) -> Result<(), Failure> {
+    let parts = case.parts.as_slice();
+    match case.kind.as_str() {
+        "boxes" => push_boxes(alloc, parts, out),
+        "trial" => push_trial(rt, alloc, parts, out),
+        "assign" => push_assignment(alloc, parts, out),
+        _ => Err(Failure::Malformed("an unknown kind of case")),
+    }
+}

@@ -1,0 +1,48 @@
+//! One case: the image and the picture, and the ways that compute it.
+
+use crate::failures::Failure;
+use crate::images::{build, push_control, push_image};
+use crate::nests::push_nests;
+use crate::pictures::{inputs_of, text_of};
+use crate::runs::push_runs;
+use crate::vectors::push_vectors;
+use halide_parser::parse;
+use picture::{Picture, evaluate};
+use std::alloc::Global;
+use std::thread::Threads;
+use test_cases::Part;
+
+/// Appends what the image is, the picture, a line for each way that computes it, and which vectorized loops are vector code.
+pub fn push_trial(
+    rt: &(impl Threads + Sync),
+    alloc: Global,
+    parts: &[Part],
+    out: &mut String,
+) -> Result<(), Failure> {
+    let [algorithm, schedule, pictures @ ..] = parts else {
+        return Err(Failure::Malformed("not two parts"));
+    };
+    let algorithm = algorithm.named("algorithm")?;
+    let schedule = schedule.named("schedule")?;
+    let inputs = inputs_of(alloc, pictures)?;
+    let built = build(alloc, algorithm, schedule, &inputs)?;
+    push_image(&built.image, out)?;
+    push_control(&built.control, out)?;
+    let wanted = reference(rt, alloc, algorithm, &inputs)?;
+    out.push_str(wanted.as_str())?;
+    push_nests(alloc, algorithm, schedule, &inputs, wanted.as_str(), out)?;
+    push_runs(alloc, &built, wanted.as_str(), out)?;
+    push_vectors(alloc, algorithm, schedule, &built.image, out)
+}
+
+/// The text of the reference picture.
+fn reference(
+    rt: &(impl Threads + Sync),
+    alloc: Global,
+    algorithm: &str,
+    inputs: &[Picture],
+) -> Result<String, Failure> {
+    let pipeline = parse(algorithm, alloc)?;
+    let picture = evaluate(rt, alloc, &pipeline, inputs)?;
+    text_of(alloc, &picture)
+}

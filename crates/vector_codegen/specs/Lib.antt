@@ -1,0 +1,3 @@
+pub mod PhaseCode
+pub mod Sharing
+pub mod Programs

@@ -1,0 +1,99 @@
+//! The words of phases, one behind the other.
+
+ghost use Rattle.std.specs.Prelude.{◌≡◌, ◌+◌, ◌<◌, ◌≤◌, ◌==◌, OnOk, IfErr, IfOk, length};
+ghost use Rattle.std.specs.List.{AllByRecursion};
+ghost use Rattle.task_code_scalar.specs.Words.{Emits};
+ghost use Rattle.vector_codegen.specs.PhaseCode.{phase_code, program};
+ghost use Rattle.vector_codegen_sharing.specs.Programs.{ticket_word};
+ghost use Rattle.vector_codegen.specs.Programs as spec;
+
+use crate::emit_phase;
+use loop_ir::statements::Phase;
+use memory::{DATA_START, MOST_WORDS};
+use std::alloc::Global;
+use task_code::emit;
+use task_code_scalar::CodeFault;
+use task_code_scalar::places::Places;
+
+/// A program has at most so many phases: the code around a phase's tasks takes 16 words.
+const MOST_PHASES: usize = MOST_WORDS / 16;
+
+/// Harts count tasks in a word, with those that they draw in vain.
+const MOST_TASKS: u32 = 1 << 31;
+
+/// The address of a phase's ticket word.
+fn ticket_of(number: u32) -> u32
+    requires { number < 16384 }
+    ensures is { result ≡ ticket_word number }
+    ensures low { result + 4 < 4294967296 }
+{
+    DATA_START + 8 * number
+}
+
+/// Appends the words of the phase with this number.
+fn push_phase(
+    alloc: Global,
+    code: &mut Vec<u32>,
+    places: &Places,
+    number: u32,
+    phase: &Phase,
+    is_last: bool,
+) -> Result<(), CodeFault>
+    requires { number < 16384 }
+    ensures emits { OnOk result (Emits code.old.items code.new.items (phase_code is_last (ticket_word number) (spec.part_of places.now number phase.now))) }
+    ensures fits { OnOk result (spec.Fits places.now phase.now) }
+    ensures few { OnOk result (spec.HasFewTasks phase.now) }
+    ensures err { IfErr result (spec.IsPhaseAtFault places.now number is_last phase.now) }
+{
+    if phase.tasks > MOST_TASKS {
+        return Err(CodeFault::TooLong);
+    }
+    let ticket = ticket_of(number);
+    let mut words = Vec::new(alloc);
+    emit(alloc, phase, places, ticket, &mut words)?;
+    emit_phase(code, is_last, ticket, phase.tasks, words.as_slice())?;
+    Ok(())
+}
+
+/// Appends the words of phases, the first of which has this number.
+fn push_phases(
+    alloc: Global,
+    code: &mut Vec<u32>,
+    places: &Places,
+    number: u32,
+    phases: &[Phase],
+) -> Result<(), CodeFault>
+    requires { number + length phases.now ≤ 16384 }
+    ensures emits { OnOk result (Emits code.old.items code.new.items (program number (spec.parts_from places.now number phases.now))) }
+    ensures fit { OnOk result (AllByRecursion (spec.Fits places.now) phases.now) }
+    ensures few { OnOk result (AllByRecursion spec.HasFewTasks phases.now) }
+    ensures err { IfErr result (spec.ArePhasesAtFault places.now number phases.now) }
+{
+    let [phase, others @ ..] = phases else {
+        return Ok(());
+    };
+    push_phase(alloc, code, places, number, phase, others.is_empty())?;
+    push_phases(alloc, code, places, number + 1, others)?;
+    Ok(())
+}
+
+/// The words of the program that phases make, where buffers lie so.
+///
+/// # Errors
+///
+/// Memory ran out; the program is longer than a text may be, or a phase has more than 2^31 tasks; or an expression or a nest of
+/// loops has no registers left.
+pub fn generate(alloc: Global, phases: &[Phase], places: &Places) -> Result<Vec<u32>, CodeFault>
+    ensures ok { IfOk result (λ words. spec.IsProgram places.now phases.now words.items) }
+    ensures err { IfErr result (spec.ArePhasesAtFault places.now 0 phases.now) }
+{
+    if phases.len() > MOST_PHASES {
+        return Err(CodeFault::TooLong);
+    }
+    let mut code = Vec::new(alloc);
+    push_phases(alloc, &mut code, places, 0, phases)?;
+    if code.len() > MOST_WORDS {
+        return Err(CodeFault::TooLong);
+    }
+    Ok(code)
+}

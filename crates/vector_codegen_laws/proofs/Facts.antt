@@ -1,0 +1,270 @@
+-- What is known of the phase of a stage of a Func, whichever stage it is, and of points of buffers.
+use Rattle.std.proofs.Common.{◌≡◌, ℕ, suc, ◌+◌, ◌<◌, ◌≤◌, Bool, true, false, cond, List, [], ◌∷◌, length, Option, Some, None, refl, sym, ap, ◌∙◌, arith, inl, inr, true≢false}
+use Rattle.std.specs.Prelude.{◌&&◌, ◌||◌, nat_lt, slice_get, Ok}
+use Rattle.std.proofs.lemmas.Bool.{and_parts, and_from, cases_eq, ne_eqb, lt-ltb, ltb-true}
+use Rattle.std.proofs.lemmas.Option.{slice_get_within}
+use Rattle.halide_pipeline.specs.declared.definitions.Func.{Func}
+use Rattle.halide_pipeline.specs.declared.definitions.Update.{Update}
+use Rattle.halide_pipeline.specs.Pipelines.{Pipeline}
+use Rattle.halide_pipeline.specs.Pixel.{Planes, reads_of, pixels}
+use Rattle.schedule_lines.specs.declared.stages.Stage.{Stage}
+use Rattle.schedule.specs.declared.plans.FuncPlan.{FuncPlan}
+use Rattle.schedule.specs.declared.schedules.Schedule.{Schedule}
+use Rattle.schedule.specs.declared.standings.LoopPlace.{LoopPlace}
+use Rattle.schedule.specs.declared.standings.Place.{Place}
+use Rattle.schedule.specs.declared.standings.Place.TheVariants as standpoints
+use Rattle.schedule.specs.declared.standings.Standing.{Standing}
+use Rattle.schedule.specs.Accepted.{IsAccepted}
+use Rattle.schedule.specs.Legal.{is_root}
+use Rattle.schedule_loops.specs.Iterations.{iteration_count}
+use Rattle.bounds_ranges.specs.Laws.{AnswerWords}
+use Rattle.bounds.specs.declared.boxes.SourceBox.{SourceBox}
+use Rattle.bounds.specs.declared.verdict.Boxes.{Boxes}
+use Rattle.bounds.specs.Boxes.{box_in, extent}
+use Rattle.bounds.specs.Verdict.{inferred}
+use Rattle.bounds.specs.Views.{extents_of}
+use Rattle.bounds_laws.specs.Laws.{IsComputed}
+use Rattle.bounds_laws.proofs.BoxFacts.{HasBox, has_box}
+use Rattle.loop_ir.specs.declared.statements.Phase.{Phase}
+use Rattle.loop_ir.specs.Stores.{is_stored_by_task}
+use Rattle.lowering.specs.HostedFuncs.{hosted_from, is_hosted, is_at_loop_of}
+use Rattle.lowering.specs.Lowered.{IsStagePhase, Pure, Updating}
+use Rattle.lowering.specs.Phases.{Hold}
+use Rattle.lowering.specs.Planes.{held, has_point, box_points, owns}
+use Rattle.lowering.specs.PurePhases.{IsAtRoot}
+use Rattle.lowering.specs.Stages.{is_at_loop, is_private_in, is_private, after_stages, DoesStage}
+use Rattle.lowering.specs.Stored.{names}
+use Rattle.lowering.specs.Rounds.{RoundsMayBeAtOnce}
+use Rattle.lowering.specs.Runs.{StoresInRuns}
+use Rattle.lowering.specs.Touching.{is_listed, is_root_at, is_root_in, TouchesItsOwn}
+use Rattle.lowering.specs.Updates.{IsUpdateAt, update_extents, owns_update}
+use Rattle.vector_codegen_laws.specs.Points.{RootPoint, PrivatePoint}
+use Rattle.vector_codegen_laws.specs.Stages.{StagePlace, iterations, iterations_in, iterations_of, update_iterations, writes, writes_in, writes_of, update_writes}
+
+-- ---- points of a buffer
+
+-- the buffer has the point
+record PointIn (entry : Option (Option SourceBox)) (x y : ℕ) : Type 0 where
+  own : SourceBox
+  is : entry ≡ Some (Some own)
+  column : x < extent own.x
+  row : y < extent own.y
+
+point_in : (entry : Option (Option SourceBox)) (x y : ℕ) → has_point (box_in entry) x y ≡ true → PointIn entry x y
+point_in None x y e = absurd (true≢false (sym e))
+point_in (Some None) x y e = absurd (true≢false (sym e))
+point_in (Some (Some own)) x y e =
+    let k = and_parts (nat_lt x (extent own.x)) (nat_lt y (extent own.y)) e in
+    record { own = own; is = refl; column = ltb-true x (extent own.x) k.0; row = ltb-true y (extent own.y) k.1 }
+
+-- a Func is computed at a loop
+pub record IsAtLoop (schedule : Schedule) (func : ℕ) : Type 0 where
+  pub standing : Standing
+  pub standing_is : slice_get schedule.standings func ≡ Some standing
+  pub loop : LoopPlace
+  pub at_loop : standing.place ≡ standpoints.At loop
+
+root_of : (own : Standing) (place : Place) → own.place ≡ place → is_root place ≡ true → own.place ≡ standpoints.Root
+root_of own standpoints.Root e t = e
+root_of own (standpoints.At at) e t = absurd (true≢false (sym t))
+root_of own standpoints.Inlined e t = absurd (true≢false (sym t))
+root_of own standpoints.Nowhere e t = absurd (true≢false (sym t))
+
+module _ (pipeline : Pipeline) (schedule : Schedule) (boxes : Boxes) where
+  pub root_point : (func x y : ℕ) (standing : Standing) → slice_get schedule.standings func ≡ Some standing → standing.place ≡ standpoints.Root → box_points boxes.funcs func x y ≡ true
+      → RootPoint pipeline schedule boxes.funcs func x y
+  root_point func x y standing e r t =
+      let p = point_in (slice_get boxes.funcs func) x y t in
+      record { standing = standing; standing_is = e; at_root = r; own = p.own; box_is = p.is; column = p.column; row = p.row }
+
+  pub private_point : (func x y : ℕ) → IsAtLoop schedule func → box_points boxes.funcs func x y ≡ true → PrivatePoint pipeline schedule boxes.funcs func x y
+  private_point func x y l t =
+      let p = point_in (slice_get boxes.funcs func) x y t in
+      record { standing = l.standing; standing_is = l.standing_is; loop = l.loop; at_loop = l.at_loop; own = p.own; box_is = p.is; column = p.column; row = p.row }
+
+  -- a point of a Func that is known to stand at root
+  pub listed_root_point : (func x y : ℕ) → is_root_at schedule.standings func ≡ true → box_points boxes.funcs func x y ≡ true → RootPoint pipeline schedule boxes.funcs func x y
+  listed_root_point func x y r t = by_standing (slice_get schedule.standings func) refl r
+    where
+      by_standing : (standing : Option Standing) → slice_get schedule.standings func ≡ standing → is_root_in standing ≡ true → RootPoint pipeline schedule boxes.funcs func x y
+      by_standing None e s = absurd (true≢false (sym s))
+      by_standing (Some own) e s = root_point func x y own e (root_of own own.place refl (and_parts own.is_reached (is_root own.place) s).1) t
+
+  -- the buffer of a Func at root has its points
+  pub point_there : (func x y : ℕ) → RootPoint pipeline schedule boxes.funcs func x y → box_points boxes.funcs func x y ≡ true
+  point_there func x y p =
+      ap (λ (e : Option (Option SourceBox)). has_point (box_in e) x y) p.box_is
+      ∙ and_from (nat_lt x (extent p.own.x)) (nat_lt y (extent p.own.y)) (lt-ltb x (extent p.own.x) p.column) (lt-ltb y (extent p.own.y) p.row)
+
+  -- a point of a buffer that isn't private is one of a Func at root
+  module _ (accepted : IsAccepted pipeline schedule) (is : inferred pipeline schedule ≡ Ok boxes) where
+    pub shared_point : (func x y : ℕ) → is_private schedule.standings func ≡ false → box_points boxes.funcs func x y ≡ true → RootPoint pipeline schedule boxes.funcs func x y
+    shared_point func x y shared t =
+        let p = point_in (slice_get boxes.funcs func) x y t in
+        let b = has_box pipeline schedule boxes accepted is func p.own p.is in
+        by_place p.own b b.standing.place refl b.computed
+      where
+        by_place : (own : SourceBox) → (b : HasBox pipeline schedule boxes func own) → (place : Place) → b.standing.place ≡ place → IsComputed func place → RootPoint pipeline schedule boxes.funcs func x y
+        by_place own b standpoints.Root w c = root_point func x y b.standing b.there.standing w t
+        by_place own b (standpoints.At at) w c =
+            absurd (true≢false (sym (ap is_private_in b.there.standing ∙ (ap (λ (r : Bool). r && is_at_loop b.standing.place) b.there.reached ∙ ap is_at_loop w)) ∙ shared))
+        by_place own b standpoints.Inlined w c = absurd c
+        by_place own b standpoints.Nowhere w c = absurd c
+
+-- ---- Funcs at loops of a host
+
+record Listed (host at k : ℕ) (standings : List Standing) : Type 0 where
+  n : ℕ
+  place_is : k ≡ at + n
+  own : Standing
+  there : slice_get standings n ≡ Some own
+  hosted : is_hosted host own ≡ true
+
+listed_later : (host at k : ℕ) (first : Standing) (others : List Standing) → Listed host (suc at) k others → Listed host at k (first ∷ others)
+listed_later host at k first others l = let e = l.place_is in record { n = suc l.n; place_is = omega (arith, e); own = l.own; there = l.there; hosted = l.hosted }
+
+listed_here : (host at k : ℕ) (first : Standing) (others : List Standing) → (is_listed (hosted_from host (suc at) others) k ≡ true → Listed host (suc at) k others)
+    → (b : Bool) → is_hosted host first ≡ b → is_listed (cond b (at ∷ hosted_from host (suc at) others) (hosted_from host (suc at) others)) k ≡ true → Listed host at k (first ∷ others)
+listed_here host at k first others next false f e = listed_later host at k first others (next e)
+listed_here host at k first others next true f e = elim (cases_eq at k) [
+  | inl q ↦ record { n = 0; place_is = omega (arith, q); own = first; there = refl; hosted = f }
+  | inr d ↦ listed_later host at k first others (next (sym (ap (λ (b : Bool). b || is_listed (hosted_from host (suc at) others) k) (ne_eqb at k d)) ∙ e))
+]
+
+listed_of : (host at : ℕ) (standings : List Standing) (k : ℕ) → is_listed (hosted_from host at standings) k ≡ true → Listed host at k standings
+listed_of host at [] k e = absurd (true≢false (sym e))
+listed_of host at (first ∷ others) k e = listed_here host at k first others (λ f. listed_of host (suc at) others k f) (is_hosted host first) refl e
+
+record LoopOf (place : Place) : Type 0 where
+  loop : LoopPlace
+  is : place ≡ standpoints.At loop
+
+loop_of : (host : ℕ) (place : Place) → is_at_loop_of host place ≡ true → LoopOf place
+loop_of host (standpoints.At at) e = record { loop = at; is = refl }
+loop_of host standpoints.Root e = absurd (true≢false (sym e))
+loop_of host standpoints.Inlined e = absurd (true≢false (sym e))
+loop_of host standpoints.Nowhere e = absurd (true≢false (sym e))
+
+hosted_at_loop : (schedule : Schedule) (host func : ℕ) → is_listed (hosted_from host 0 schedule.standings) func ≡ true → IsAtLoop schedule func
+hosted_at_loop schedule host func e =
+    let l = listed_of host 0 schedule.standings func e in
+    let p = l.place_is in
+    let here : l.n ≡ func = omega (arith, p) in
+    let loop = loop_of host l.own.place (and_parts l.own.is_reached (is_at_loop_of host l.own.place) l.hosted).1 in
+    record { standing = l.own; standing_is = ap (slice_get schedule.standings) (sym here) ∙ l.there; loop = loop.loop; at_loop = loop.is }
+
+-- ---- the phase of a stage
+
+-- which stage of a Func a phase computes, and which points each task owns
+pub record Work : Type 0 where
+  pub place : ℕ
+  pub func : Func
+  pub plan : FuncPlan
+  pub own : SourceBox
+  pub number : ℕ
+  pub owned : ℕ → ℕ → ℕ → Bool
+  pub phase : Phase
+
+-- its stage, by its place
+abbrev pub stage_of : Work → StagePlace
+stage_of work = record { func = work.place; number = work.number }
+
+pub record IsKnown (pipeline : Pipeline) (schedule : Schedule) (boxes : Boxes) (work : Work) : Type 0 where
+  pub at : IsAtRoot pipeline schedule boxes work.place work.func work.plan work.own
+  pub stores_in_runs : work.number ≡ 0 → StoresInRuns work.place (extents_of work.own) work.plan.pure work.phase
+  pub number_is : work.number ≤ length work.func.updates
+  pub func_is : slice_get pipeline.funcs work.place ≡ Some work.func
+  pub standing : Standing
+  pub standing_is : slice_get schedule.standings work.place ≡ Some standing
+  pub at_root : standing.place ≡ standpoints.Root
+  -- its private buffers are those of Funcs at loops
+  pub hosted : (func : ℕ) → is_listed work.phase.private func ≡ true → IsAtLoop schedule func
+  pub does : DoesStage pipeline schedule boxes work.place work.func work.number work.owned work.phase
+  pub touches : TouchesItsOwn pipeline schedule boxes work.place work.owned work.phase
+  pub rounds : RoundsMayBeAtOnce work.phase
+  pub tasks_are : work.phase.tasks ≡ iterations pipeline schedule boxes (stage_of work)
+  -- from what the stage begins with, a task stores at the points that its iteration writes, and owns them
+  pub stores : (inputs : Planes) → AnswerWords pipeline.inputs (reads_of inputs (pixels pipeline.funcs inputs 0)) → (funcs : Planes) (task : ℕ) → task < work.phase.tasks
+      → Hold (box_points boxes.funcs) (is_private schedule.standings) work.place (work.owned task) (held boxes.funcs (after_stages pipeline.funcs inputs work.place work.func work.number)) funcs
+      → (x y : ℕ) → is_stored_by_task (box_points boxes.funcs) inputs work.phase task work.place x y funcs ≡ writes pipeline schedule boxes inputs (stage_of work) task x y
+  pub owned_writes : (inputs : Planes) → AnswerWords pipeline.inputs (reads_of inputs (pixels pipeline.funcs inputs 0)) → (task : ℕ) → task < work.phase.tasks
+      → (x y : ℕ) → writes pipeline schedule boxes inputs (stage_of work) task x y ≡ true → work.owned task x y ≡ true
+
+pub record KnownPhase (pipeline : Pipeline) (schedule : Schedule) (boxes : Boxes) (place : ℕ) (func : Func) (plan : FuncPlan) (own : SourceBox) (number : ℕ) (phase : Phase) : Type 0 where
+  pub owned : ℕ → ℕ → ℕ → Bool
+  pub known : IsKnown pipeline schedule boxes (record {
+    place = place;
+    func = func;
+    plan = plan;
+    own = own;
+    number = number;
+    owned = owned;
+    phase = phase;
+  })
+
+module _ (pipeline : Pipeline) (schedule : Schedule) (boxes : Boxes) (place : ℕ) (func : Func) (plan : FuncPlan) (own : SourceBox) (at : IsAtRoot pipeline schedule boxes place func plan own) where
+  iterations_are : (number : ℕ) → iterations pipeline schedule boxes (record { func = place; number = number }) ≡ iterations_of pipeline schedule boxes func plan own number
+  iterations_are number =
+      ap (λ (f : Option Func). iterations_in pipeline schedule boxes f (slice_get schedule.funcs place) (slice_get boxes.funcs place) number) at.func_is
+      ∙ (ap (λ (q : Option FuncPlan). iterations_in pipeline schedule boxes (Some func) q (slice_get boxes.funcs place) number) at.plan_is
+      ∙ ap (λ (b : Option (Option SourceBox)). iterations_in pipeline schedule boxes (Some func) (Some plan) b number) at.box_is)
+
+  writes_are : (inputs : Planes) (number task x y : ℕ)
+      → writes pipeline schedule boxes inputs (record { func = place; number = number }) task x y ≡ writes_of pipeline schedule boxes inputs place func plan own number task x y
+  writes_are inputs number task x y =
+      ap (λ (f : Option Func). writes_in pipeline schedule boxes inputs place f (slice_get schedule.funcs place) (slice_get boxes.funcs place) number task x y) at.func_is
+      ∙ (ap (λ (q : Option FuncPlan). writes_in pipeline schedule boxes inputs place (Some func) q (slice_get boxes.funcs place) number task x y) at.plan_is
+      ∙ ap (λ (b : Option (Option SourceBox)). writes_in pipeline schedule boxes inputs place (Some func) (Some plan) b number task x y) at.box_is)
+
+  module _ (number : ℕ) (update : Update) (stage : Stage) (it : IsUpdateAt schedule place func plan number update stage) where
+    update_iterations_are : iterations pipeline schedule boxes (record { func = place; number = suc number }) ≡ iteration_count (update_extents own update) stage
+    update_iterations_are =
+        iterations_are (suc number)
+        ∙ (ap (λ (u : Option Update). update_iterations pipeline schedule boxes own u (slice_get plan.updates number)) it.update_is
+        ∙ ap (λ (s : Option Stage). update_iterations pipeline schedule boxes own (Some update) s) it.stage_is)
+
+    update_writes_are : (inputs : Planes) (task x y : ℕ) → writes pipeline schedule boxes inputs (record { func = place; number = suc number }) task x y ≡ names pipeline inputs place own update stage task x y
+    update_writes_are inputs task x y =
+        writes_are inputs (suc number) task x y
+        ∙ (ap (λ (u : Option Update). update_writes pipeline schedule boxes inputs place own u (slice_get plan.updates number) task x y) it.update_is
+        ∙ ap (λ (s : Option Stage). update_writes pipeline schedule boxes inputs place own (Some update) s task x y) it.stage_is)
+
+  pub known_phase : (number : ℕ) (phase : Phase) → IsStagePhase pipeline schedule boxes place func plan own number phase → KnownPhase pipeline schedule boxes place func plan own number phase
+  known_phase _ _ (Pure phase tasks private_is bytes does touches few stores rounds in_runs) = record {
+    owned = owns (extents_of own) plan.pure;
+    known = record {
+      at = at;
+      stores_in_runs = λ first. in_runs;
+      number_is = omega arith;
+      func_is = at.func_is;
+      standing = at.standing;
+      standing_is = at.there.standing;
+      at_root = at.placed_is;
+      hosted = λ k e. hosted_at_loop schedule place k (sym (ap (λ (l : List ℕ). is_listed l k) private_is) ∙ e);
+      does = does;
+      touches = touches;
+      rounds = rounds;
+      tasks_are = tasks ∙ sym (iterations_are 0);
+      stores = λ inputs begun funcs task below holds x y. stores inputs funcs task below x y ∙ sym (writes_are inputs 0 task x y);
+      owned_writes = λ inputs begun task below x y written. sym (writes_are inputs 0 task x y) ∙ written;
+    };
+  }
+  known_phase _ _ (Updating number update stage phase it tasks private_is bytes does touches few stores rounds) = record {
+    owned = owns_update own update stage;
+    known = record {
+      at = at;
+      stores_in_runs = λ first. absurd (omega (arith, first));
+      number_is = let inside = slice_get_within func.updates number update it.update_is in omega (arith, inside);
+      func_is = at.func_is;
+      standing = at.standing;
+      standing_is = at.there.standing;
+      at_root = at.placed_is;
+      hosted = λ k e. absurd (true≢false (sym e ∙ ap (λ (l : List ℕ). is_listed l k) private_is));
+      does = does;
+      touches = touches;
+      rounds = rounds;
+      tasks_are = tasks ∙ sym (update_iterations_are number update stage it);
+      stores = λ inputs begun funcs task below holds x y. stores.exactly inputs begun funcs task below holds x y ∙ sym (update_writes_are number update stage it inputs task x y);
+      owned_writes = λ inputs begun task below x y written. stores.owned inputs begun task below x y (sym (update_writes_are number update stage it inputs task x y) ∙ written);
+    };
+  }

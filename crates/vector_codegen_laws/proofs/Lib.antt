@@ -1,0 +1,15 @@
+pub mod Listing
+pub mod There
+pub mod Numbers
+pub mod Laying
+pub mod Holding
+pub mod RunBytes
+pub mod Facts
+pub mod Places
+pub mod Words
+pub mod Counting
+pub mod Matters
+pub mod Running
+pub mod Chain
+pub mod Between
+pub mod Sharing

@@ -1,0 +1,9 @@
+pub mod Places
+pub mod Uses
+pub mod Points
+pub mod RunBytes
+pub mod Settings
+pub mod Held
+pub mod Stages
+pub mod Runs
+pub mod Sharing

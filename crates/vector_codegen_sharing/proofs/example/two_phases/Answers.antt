@@ -1,0 +1,8 @@
+use Rattle.vector_codegen_sharing.proofs.ExampleProgram.{example-is-program, example-result}
+use Rattle.vector_codegen_sharing.proofs.example.two_phases.Goals as goal
+
+pub returns-clause-program : goal.returns-clause-program
+returns-clause-program c = example-is-program
+
+pub returns-clause-result : goal.returns-clause-result
+returns-clause-result c = example-result

@@ -1,0 +1,22 @@
+//! What holds on every list of turns of harts that share the tasks of phases.
+//!
+//! A program has phases, one after the other (`specs/Programs.antt`). In each the harts draw the numbers
+//! of tasks from a ticket word by `amoadd.w`, do them, and before the next phase wait for one another at a gate word
+//! (`specs/Phases.antt` has this code and the registers that it uses). A task's code is known by its run
+//! alone (`specs/Solo.antt`) over bytes of which each is for one purpose (`multi_hart_logic`'s `specs/Uses.antt`); nothing of
+//! other harts enters there. What then holds on every list of turns is stated in `specs/Promises.antt`.
+//!
+//! - [`laws`]: no hart traps, no race, one result, the end stays within reach, waiting at gates
+//!   alone, every assignment of tasks to harts, each turn by its phase's rule.
+//! - [`example`]: a program of two phases that meets every premise.
+#![tactic(auto)]
+
+pub mod example;
+mod example_runs;
+pub mod laws;
+
+pub use crate::example::{example_machine, example_words, two_phases};
+pub use crate::laws::{
+    alone_stops, can_finish, done_among_others, every_assignment, gate_once, never_races,
+    never_traps, one_result, paths_do_jobs, rules_kept,
+};

@@ -1,5 +1,0 @@
-use Rattle.std.proofs.Common.{length}
-use Rattle.weights.proofs.copies.+all_copies.Given as goal
-
-abbrev pub decreases-all_copies : goal.decreases-all_copies
-decreases-all_copies l = length l.loops.now

@@ -1,5 +1,0 @@
-use Rattle.std.proofs.Common.{length}
-use Rattle.weights.proofs.stage_needs.+funcs_needs.Given as goal
-
-abbrev pub decreases-funcs_needs : goal.decreases-funcs_needs
-decreases-funcs_needs l = length l.funcs.now
