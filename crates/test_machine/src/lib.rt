@@ -1,18 +1,12 @@
-//! Tests of the machine's crates that no file of cases can ask: calls of harts, memories, logs and sessions, and machines that threads share.
+//! Tests of the machine's crates that no file of cases can ask: calls of harts, memories, logs and sessions.
 //!
 //! - [`memories`]: turns over a memory that covers text alone, and turns whose instruction is given.
 //! - [`machines`]: many turns at once.
 //! - [`vectors`]: a vector state that is set and read.
 //! - [`logs`]: logs that are made turn by turn, and looked up.
 //! - [`sessions`]: the debugger over 2 ^ 40 turns, and back to places that it keeps.
-//! - [`boards`]: numbers and a stop on a board.
-//! - [`counters`]: a program of two harts that is driven, stopped, held, and run on from a log.
 #![tactic(auto)]
 
-#[cfg(test)]
-mod boards;
-#[cfg(test)]
-mod counters;
 #[cfg(test)]
 mod logs;
 #[cfg(test)]

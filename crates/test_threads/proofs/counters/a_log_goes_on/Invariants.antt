@@ -1,5 +1,5 @@
 use Rattle.shared_machine.specs.Tallies.{number_name, tally_name}
-use Rattle.test_machine.proofs.counters.a_log_goes_on.Given as goal
+use Rattle.test_threads.proofs.counters.a_log_goes_on.Given as goal
 
 abbrev pub ghosts-resume_counter-O-Origin : goal.ghosts-resume_counter-O-Origin
 ghosts-resume_counter-O-Origin g a = record { image = a.image; harts = a.log.harts; resumed = a.log.turns }

@@ -1,6 +1,6 @@
 use Rattle.std.proofs.Common.{[]}
 use Rattle.shared_machine.specs.Tallies.{number_name, tally_name}
-use Rattle.test_machine.proofs.counters.two_harts_count.Given as goal
+use Rattle.test_threads.proofs.counters.two_harts_count.Given as goal
 
 abbrev pub ghosts-drive_counter-O-Origin : goal.ghosts-drive_counter-O-Origin
 ghosts-drive_counter-O-Origin g a = record { image = a.image; harts = 2; resumed = [] }

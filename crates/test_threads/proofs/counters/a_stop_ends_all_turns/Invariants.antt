@@ -1,6 +1,6 @@
 use Rattle.std.proofs.Common.{[]}
 use Rattle.shared_machine.specs.Tallies.{number_name, tally_name}
-use Rattle.test_machine.proofs.counters.a_stop_ends_all_turns.Given as goal
+use Rattle.test_threads.proofs.counters.a_stop_ends_all_turns.Given as goal
 
 abbrev pub ghosts-stop_counter-O-Origin : goal.ghosts-stop_counter-O-Origin
 ghosts-stop_counter-O-Origin g a = record { image = a.image; harts = 2; resumed = [] }

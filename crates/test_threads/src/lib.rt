@@ -1,0 +1,10 @@
+//! Tests of machines that threads share, as no file of cases can ask.
+//!
+//! - [`boards`]: numbers and a stop on a board.
+//! - [`counters`]: a program of two harts that is driven, stopped, held, and run on from a log.
+#![tactic(auto)]
+
+#[cfg(test)]
+mod boards;
+#[cfg(test)]
+mod counters;
