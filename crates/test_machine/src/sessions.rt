@@ -22,23 +22,40 @@ const IDLE: [u8; 25] = [
     0, 0, 0, 0, 0, 0, 1, 0, 0,
 ];
 
-/// A hart that has finished stands on its address in each of its turns.
-#[test]
-fn idle_turns(rt: HostRuntime) -> Result<(), Fail> {
-    let alloc = rt.alloc();
-    let image = read_image(alloc, &COUNTER)?;
-    let mut session = Session::open(alloc, image, TurnLog::read(alloc, &IDLE)?)?;
+/// A session over the bytes of an image and of a log.
+fn opened(alloc: Global, image: &[u8], log: &[u8]) -> Result<Session, Fail> {
+    let image = read_image(alloc, image)?;
+    let log = TurnLog::read(alloc, log)?;
+    let session = Session::open(alloc, image, log)?;
+    Ok(session)
+}
+
+/// From the end the stop before it is the last idle turn, and behind that there is none.
+fn check_last_stop<R: Abort>(rt: &R, alloc: Global, session: &mut Session) {
     let all = session.length();
     assert_eq!(rt; session.set_break(0x0001_000c), Ok(()));
     assert_eq!(rt; session.goto(alloc, all), Ok(()));
     assert_eq!(rt; session.reverse(alloc), Ok(()));
     assert_eq!(rt; session.place(), (1 << 40) - 1);
     assert_eq!(rt; session.forward(alloc), Err(Refusal::NoStop));
+}
+
+/// From the start the stops are the hart's last instruction, and then each idle turn.
+fn check_first_stops<R: Abort>(rt: &R, alloc: Global, session: &mut Session) {
     assert_eq!(rt; session.goto(alloc, 0), Ok(()));
-    for place in [3, 4, 5] {
+    for place in 3..6 {
         assert_eq!(rt; session.forward(alloc), Ok(()));
         assert_eq!(rt; session.place(), place);
     }
+}
+
+/// A hart that has finished stands on its address in each of its turns.
+#[test]
+fn idle_turns(rt: HostRuntime) -> Result<(), Fail> {
+    let alloc = rt.alloc();
+    let mut session = opened(alloc, &COUNTER, &IDLE)?;
+    check_last_stop(&rt, alloc, &mut session);
+    check_first_stops(&rt, alloc, &mut session);
     Ok(())
 }
 
@@ -64,21 +81,31 @@ const LONG: [u8; 25] = [
     0, 0xa0, 0x86, 1, 0, 0, 0, 0, 0,
 ];
 
-/// Going back makes the turns from the nearest copy alone, and turns of a hart that has stopped aren't steps.
+/// A session stands at a place, and has made so many steps.
+fn check_at<R: Abort>(rt: &R, session: &Session, place: u64, steps: u64) {
+    assert_eq!(rt; session.place(), place);
+    assert_eq!(rt; session.steps(), steps);
+}
+
+/// Going back makes the turns from the nearest copy alone.
 #[test]
 fn kept_places(rt: HostRuntime) -> Result<(), Fail> {
     let alloc = rt.alloc();
-    let image = read_image(alloc, &ROUND)?;
-    let mut session = Session::open(alloc, image, TurnLog::read(alloc, &LONG)?)?;
+    let mut session = opened(alloc, &ROUND, &LONG)?;
     assert_eq!(rt; session.goto(alloc, 100_000), Ok(()));
-    assert_eq!(rt; session.steps(), 100_000);
+    check_at(&rt, &session, 100_000, 100_000);
     assert_eq!(rt; session.back(alloc), Ok(()));
-    assert_eq!(rt; session.place(), 99_999);
-    assert_eq!(rt; session.steps(), 101_695);
-    let image = read_image(alloc, &COUNTER)?;
-    let mut idle = Session::open(alloc, image, TurnLog::read(alloc, &IDLE)?)?;
-    assert_eq!(rt; idle.goto(alloc, 1 << 40), Ok(()));
-    assert_eq!(rt; idle.steps(), 4);
+    check_at(&rt, &session, 99_999, 101_695);
+    Ok(())
+}
+
+/// Turns of a hart that has stopped aren't steps.
+#[test]
+fn passed_turns(rt: HostRuntime) -> Result<(), Fail> {
+    let alloc = rt.alloc();
+    let mut session = opened(alloc, &COUNTER, &IDLE)?;
+    assert_eq!(rt; session.goto(alloc, 1 << 40), Ok(()));
+    check_at(&rt, &session, 1 << 40, 4);
     Ok(())
 }
 
@@ -136,8 +163,7 @@ fn walk<R: Abort>(rt: &R, alloc: Global, session: &mut Session) {
 #[test]
 fn back_and_forth(rt: HostRuntime) -> Result<(), Fail> {
     let alloc = rt.alloc();
-    let image = read_image(alloc, &COUNTING)?;
-    let mut session = Session::open(alloc, image, TurnLog::read(alloc, &LONG)?)?;
+    let mut session = opened(alloc, &COUNTING, &LONG)?;
     walk(&rt, alloc, &mut session);
     Ok(())
 }

@@ -3,9 +3,9 @@
 ghost use Rattle.std.specs.Prelude.{◌<◌, length};
 
 use crate::failures::Failure;
-use crate::images::{Built, build, output_of};
+use crate::images::{build, output_of};
 use crate::pictures::{inputs_of, pixel_at};
-use loader::Output;
+use loader::{Image, Output};
 use memory::DATA_START;
 use multi_hart::Machine;
 use std::alloc::{AllocError, Global};
@@ -34,19 +34,35 @@ pub fn push_assignment(alloc: Global, parts: &[Part], out: &mut String) -> Resul
     let inputs = inputs_of(alloc, pictures)?;
     let algorithm = algorithm.named("algorithm")?;
     let schedule = schedule.named("schedule")?;
-    let Built { image, .. } = build(alloc, algorithm, schedule, &inputs)?;
+    let built = build(alloc, algorithm, schedule, &inputs)?;
+    push_rows(alloc, &built.image, assignment.named("assignment")?, out)
+}
+
+/// The same of an image.
+fn push_rows(
+    alloc: Global,
+    image: &Image,
+    assignment: &str,
+    out: &mut String,
+) -> Result<(), Failure> {
     let mut machine = image.machine(alloc, HARTS as usize)?;
-    let mut rows = rows_of(alloc, &machine, output_of(&image)?)?;
-    for word in assignment.named("assignment")?.split_whitespace() {
-        let Ok(hart) = word.parse::<u32>() else {
-            return Err(Failure::Malformed("a hart that is no number"));
-        };
-        draw_task(&mut machine, hart);
-        rows.take_changes(&machine, hart)?;
-    }
+    let mut rows = rows_of(alloc, &machine, output_of(image)?)?;
+    assign(&mut machine, &mut rows, assignment)?;
     finish(&mut machine, &mut rows)?;
     for (row, harts) in rows.changed_by.iter().enumerate() {
         push_row(row, *harts, out)?;
+    }
+    Ok(())
+}
+
+/// Has each hart that is named draw a task, one after the other.
+fn assign(machine: &mut Machine, rows: &mut Rows, assignment: &str) -> Result<(), Failure> {
+    for word in assignment.split_whitespace() {
+        let Ok(hart) = word.parse::<u32>() else {
+            return Err(Failure::Malformed("a hart that is no number"));
+        };
+        draw_task(machine, hart);
+        rows.take_changes(machine, hart)?;
     }
     Ok(())
 }

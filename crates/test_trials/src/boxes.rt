@@ -24,26 +24,43 @@ pub fn push_boxes(alloc: Global, parts: &[Part], out: &mut String) -> Result<(),
     let algorithm = algorithm.named("algorithm")?;
     let schedule = schedule.named("schedule")?;
     let pipeline = parse(algorithm, alloc)?;
-    let inputs = blank_inputs(alloc, &pipeline)?;
-    push_image(&build(alloc, algorithm, schedule, &inputs)?.image, out)?;
+    push_blank_image(alloc, &pipeline, algorithm, schedule, out)?;
     let schedule = read(schedule, &pipeline, alloc)?;
     push_data(alloc, &pipeline, &schedule, out)
+}
+
+/// What the image for blank inputs is.
+fn push_blank_image(
+    alloc: Global,
+    pipeline: &Pipeline,
+    algorithm: &str,
+    schedule: &str,
+    out: &mut String,
+) -> Result<(), Failure> {
+    let inputs = blank_inputs(alloc, pipeline)?;
+    let built = build(alloc, algorithm, schedule, &inputs)?;
+    push_image(&built.image, out)
 }
 
 /// A picture of zeros for each input.
 fn blank_inputs(alloc: Global, pipeline: &Pipeline) -> Result<Vec<Picture>, Failure> {
     let mut inputs = Vec::new(alloc);
     for input in pipeline.inputs() {
-        let mut pixels = Vec::new(alloc);
-        for _ in 0..input.width.wrapping_mul(input.height) {
-            pixels.push(0)?;
-        }
-        match Picture::new(input.width, input.height, pixels) {
-            Some(blank) => inputs.push(blank)?,
-            None => return Err(Failure::Malformed("an input that is no picture")),
-        }
+        inputs.push(blank_picture(alloc, input.width, input.height)?)?;
     }
     Ok(inputs)
+}
+
+/// A picture of zeros.
+fn blank_picture(alloc: Global, width: u32, height: u32) -> Result<Picture, Failure> {
+    let mut pixels = Vec::new(alloc);
+    for _ in 0..width.wrapping_mul(height) {
+        pixels.push(0)?;
+    }
+    match Picture::new(width, height, pixels) {
+        Some(blank) => Ok(blank),
+        None => Err(Failure::Malformed("an input that is no picture")),
+    }
 }
 
 /// The phases, and each place in the data with its box.

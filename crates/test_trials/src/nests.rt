@@ -58,12 +58,23 @@ pub fn push_nests(
 ) -> Result<(), Failure> {
     let pipeline = parse(algorithm, alloc)?;
     let schedule = read(schedule, &pipeline, alloc)?;
-    let mut inputs = Vec::new(alloc);
-    for picture in pictures {
-        let pixels = picture.pixels().to_vec(alloc)?;
-        inputs.push(buffer(picture.width(), picture.height(), pixels)?)?;
-    }
+    let inputs = buffers_of(alloc, pictures)?;
     push_lowered(alloc, &pipeline, &schedule, &inputs, wanted, out)
+}
+
+/// A buffer of each picture.
+fn buffers_of(alloc: Global, pictures: &[Picture]) -> Result<Vec<Buffer>, Failure> {
+    let mut buffers = Vec::new(alloc);
+    for picture in pictures {
+        buffers.push(buffer_of(alloc, picture)?)?;
+    }
+    Ok(buffers)
+}
+
+/// A picture's pixels.
+fn buffer_of(alloc: Global, picture: &Picture) -> Result<Buffer, Failure> {
+    let pixels = picture.pixels().to_vec(alloc)?;
+    buffer(picture.width(), picture.height(), pixels)
 }
 
 /// The same of a schedule that was accepted for its pipeline.
@@ -80,15 +91,20 @@ fn push_lowered(
     let boxes = infer(pipeline, schedule, alloc)?;
     let phases = lower(alloc, pipeline, schedule, &boxes)?;
     for order in [Order::Rising, Order::Falling, Order::FromBothEnds] {
-        let drawn = drawn(alloc, pipeline, &boxes, &phases, inputs, order)?;
-        let is_wanted = drawn.as_str() == wanted;
-        let what = if is_wanted {
-            "the picture"
-        } else {
-            "another picture"
-        };
-        writeln!(out, "tasks {}: {what}", order.name())?;
+        let text = drawn(alloc, pipeline, &boxes, &phases, inputs, order)?;
+        push_order(order, text.as_str() == wanted, out)?;
     }
+    Ok(())
+}
+
+/// The line of an order of tasks.
+fn push_order(order: Order, is_wanted: bool, out: &mut String) -> Result<(), Failure> {
+    let what = if is_wanted {
+        "the picture"
+    } else {
+        "another picture"
+    };
+    writeln!(out, "tasks {}: {what}", order.name())?;
     Ok(())
 }
 
@@ -109,18 +125,37 @@ fn drawn(
     inputs: &[Buffer],
     order: Order,
 ) -> Result<String, Failure> {
+    let mut funcs = blank_buffers(alloc, boxes)?;
+    for phase in phases {
+        do_phase(alloc, boxes, phase, inputs, order, &mut funcs)?;
+    }
+    output_text(alloc, pipeline, boxes, &funcs)
+}
+
+/// A buffer of zeros for each Func.
+fn blank_buffers(alloc: Global, boxes: &Boxes) -> Result<Vec<Buffer>, Failure> {
     let mut funcs = Vec::new(alloc);
     for own in boxes.funcs.as_slice() {
         funcs.push(filled(alloc, own, 0)?)?;
     }
-    for phase in phases {
-        for place in 0..phase.tasks {
-            let task = order.task(place, phase.tasks);
-            spoil(alloc, boxes, phase, task, &mut funcs)?;
-            run_task(alloc, phase, task, inputs, &mut funcs)?;
-        }
+    Ok(funcs)
+}
+
+/// Does the tasks of a phase in this order.
+fn do_phase(
+    alloc: Global,
+    boxes: &Boxes,
+    phase: &Phase,
+    inputs: &[Buffer],
+    order: Order,
+    funcs: &mut [Buffer],
+) -> Result<(), Failure> {
+    for place in 0..phase.tasks {
+        let task = order.task(place, phase.tasks);
+        spoil(alloc, boxes, phase, task, funcs)?;
+        run_task(alloc, phase, task, inputs, funcs)?;
     }
-    output_text(alloc, pipeline, boxes, &funcs)
+    Ok(())
 }
 
 /// A buffer of the points of a box: of zeros, or where there is a seed, of other pixels.

@@ -1,7 +1,7 @@
 //! One case: the image and the picture, and the ways that compute it.
 
 use crate::failures::Failure;
-use crate::images::{build, push_control, push_image};
+use crate::images::{Built, build, push_control, push_image};
 use crate::nests::push_nests;
 use crate::pictures::{inputs_of, text_of};
 use crate::runs::push_runs;
@@ -25,14 +25,32 @@ pub fn push_trial(
     let algorithm = algorithm.named("algorithm")?;
     let schedule = schedule.named("schedule")?;
     let inputs = inputs_of(alloc, pictures)?;
-    let built = build(alloc, algorithm, schedule, &inputs)?;
-    push_image(&built.image, out)?;
-    push_control(&built.control, out)?;
-    let wanted = reference(rt, alloc, algorithm, &inputs)?;
+    push_with_inputs(rt, alloc, algorithm, schedule, &inputs, out)
+}
+
+/// The same with the pictures as inputs.
+fn push_with_inputs(
+    rt: &(impl Threads + Sync),
+    alloc: Global,
+    algorithm: &str,
+    schedule: &str,
+    inputs: &[Picture],
+    out: &mut String,
+) -> Result<(), Failure> {
+    let built = build(alloc, algorithm, schedule, inputs)?;
+    push_built(&built, out)?;
+    let wanted = reference(rt, alloc, algorithm, inputs)?;
     out.push_str(wanted.as_str())?;
-    push_nests(alloc, algorithm, schedule, &inputs, wanted.as_str(), out)?;
+    push_nests(alloc, algorithm, schedule, inputs, wanted.as_str(), out)?;
     push_runs(alloc, &built, wanted.as_str(), out)?;
     push_vectors(alloc, algorithm, schedule, &built.image, out)
+}
+
+/// What the image is.
+fn push_built(built: &Built, out: &mut String) -> Result<(), Failure> {
+    push_image(&built.image, out)?;
+    push_control(&built.control, out)?;
+    Ok(())
 }
 
 /// The text of the reference picture.
