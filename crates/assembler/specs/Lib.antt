@@ -8,3 +8,4 @@ pub mod Names
 pub mod Object
 pub mod Places
 pub mod Products
+pub mod inner

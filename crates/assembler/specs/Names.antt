@@ -1,16 +1,12 @@
 -- Labels with their names, in order.
 -- This project's own.
-use Rattle.std.specs.Prelude.{ℕ, List, [], ◌∷◌, map, Option, Some, None, if◌then◌else◌, Vec}
+use Rattle.std.specs.Prelude.{ℕ, List, [], ◌∷◌, Option, Some, None, if◌then◌else◌}
 use Rattle.std.specs.Str.{bytes_eq}
-use Rattle.std.specs.declared.alloc.Global.{Global}
 use Rattle.assembler.specs.declared.labels.Label.{Label}
 
 -- a name and what it stands for
 abbrev pub Named : Type 0
 Named = List ℕ × Label
-
-abbrev pub pairs_of : List (Vec ℕ Global × Label) → List Named
-pairs_of entries = map (λ entry. (entry.0.items, entry.1)) entries
 
 -- the label of a name: the first that has it
 abbrev pub label_named : List Named → List ℕ → Option Label

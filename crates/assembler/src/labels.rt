@@ -4,8 +4,8 @@ ghost use Rattle.std.specs.Prelude.{◌≡◌, ◌++◌, ◌∷◌, [], OnOk, On
 ghost use Rattle.assembler.specs.Names.{label_named};
 
 use crate::places::Section;
-use indexmap::IndexMap;
 use std::alloc::{AllocError, Global};
+use std::collections::BTreeMap;
 use std::marker::Model;
 
 /// Where a label is defined: the number of its line, from 1 on, its section, and the address that it names. An
@@ -17,19 +17,30 @@ pub struct Label {
     pub address: u64,
 }
 
-/// Labels by their names, in the order in which they were added. Contracts see the list of the pairs.
+/// A label, and how many labels were added before it.
+#[derive(Clone, Copy)]
+struct Numbered {
+    number: usize,
+    label: Label,
+}
+
+/// Labels by their names. They are found by order and not by a hash, so that no choice of names makes them slow to find.
+/// Contracts see the list of the pairs, in the order in which they were added.
 #[derive(Drop)]
 pub struct Labels {
-    places: IndexMap<Vec<u8>, Label>,
+    places: BTreeMap<Vec<u8>, Numbered>,
 }
 
 impl Model for Labels {
     ghost use Rattle.std.specs.Prelude.{List};
-    ghost use Rattle.assembler.specs.Names.{pairs_of, Named};
+    ghost use Rattle.assembler.specs.Names.{Named};
+    ghost use Rattle.assembler.specs.inner.Numbering.{pairs_of, AreNumbered};
 
     ghost Value = { List Named };
 
     ghost view = { λ n. pairs_of n.places.entries };
+
+    ghost invariant = { λ n. AreNumbered n.places.entries };
 }
 
 impl Labels {
@@ -38,7 +49,7 @@ impl Labels {
         ensures { result ≡ [] }
     {
         Labels {
-            places: IndexMap::new(alloc),
+            places: BTreeMap::new(alloc),
         }
     }
 
@@ -46,7 +57,8 @@ impl Labels {
     pub fn get(&self, name: &[u8]) -> Option<Label>
         ensures { result ≡ label_named self.now name.now }
     {
-        self.places.get(name).copied()
+        let found = self.places.get(name).copied()?;
+        Some(found.label)
     }
 
     /// Adds a label that is not there yet.
@@ -60,7 +72,8 @@ impl Labels {
         ensures err { OnErr result (self.new ≡ self.old) }
     {
         let key = Vec::from_slice(alloc, name)?;
-        self.places.insert(key, label)?;
+        let number = self.places.len();
+        self.places.insert(key, Numbered { number, label })?;
         Ok(())
     }
 }
