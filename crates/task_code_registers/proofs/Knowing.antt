@@ -1,0 +1,81 @@
+-- What scopes know.
+use Rattle.std.proofs.Common.{◌≡◌, ℕ, suc, ◌+◌, ◌-◌, ◌*◌, ◌%◌, ◌^◌, ◌<◌, ◌≤◌, List, [], ◌∷◌, length, get_or, take, drop, Bool, true, false, refl, ap, ◌∙◌, sym, subst, arith, inl, inr}
+use Rattle.std.specs.Prelude.{◌≢◌, ◌⊎◌, ◌==◌, ◌&&◌, ◌||◌, if◌then◌else◌, not, nat_lt, nat_eq}
+use Rattle.std.proofs.Math.Seq.{take-length}
+use Rattle.std.proofs.lemmas.Bool.{and_parts, ltb-true}
+use Rattle.std.proofs.lemmas.Bool.Decides.{nat_tests}
+use Rattle.loop_ir.specs.declared.expressions.Counter.{Counter}
+use Rattle.loop_ir.specs.declared.expressions.Linear.{Linear}
+use Rattle.loop_ir.specs.declared.expressions.Term.{Term}
+use Rattle.loop_ir.specs.Counters.{Values, same_counter}
+use Rattle.loop_ir.specs.Expressions.{linear_value, sum_of}
+use Rattle.task_code_registers.specs.declared.scopes.Form.{Form}
+use Rattle.task_code_registers.specs.declared.scopes.Held.{Held}
+use Rattle.task_code_registers.specs.Registers.{may_hold, is_reserved}
+use Rattle.task_code_registers.specs.Scopes.{Knows, AreHolders, IsHolder, IsFree, IsKept, form_value}
+
+-- ---- registers that may hold forms
+
+pub record MayHold (q : ℕ) : Type 0 where
+  pub low : 1 ≤ q
+  pub high : q < 20
+  pub first : q ≢ 13
+  pub second : q ≢ 14
+
+pub fails-at : (q n : ℕ) → may_hold q ≡ true → may_hold n ≡ false → q ≢ n
+pub fails-at q n t f e = let g : may_hold q ≡ false = ap may_hold e ∙ f in cc (t, g)
+
+pub may-hold : (q : ℕ) → may_hold q ≡ true → MayHold q
+may-hold q t = record {
+  low = let n = fails-at q 0 t refl in omega (arith, n);
+  high = ltb-true q 20 (and_parts (nat_lt q 20) (not (is_reserved q)) t).0;
+  first = fails-at q 13 t refl;
+  second = fails-at q 14 t refl;
+}
+
+-- ---- scopes
+
+pub knows-zero : (hart : ℕ) (scope : List Held) (values : Values) (f : ℕ → ℕ) → Knows hart scope values f → f 0 ≡ 0
+knows-zero hart [] values f k = k.0
+knows-zero hart (own ∷ others) values f k = knows-zero hart others values f k.1
+
+pub knows-hart : (hart : ℕ) (scope : List Held) (values : Values) (f : ℕ → ℕ) → Knows hart scope values f → f 10 ≡ hart
+knows-hart hart [] values f k = k.1
+knows-hart hart (own ∷ others) values f k = knows-hart hart others values f k.1
+
+-- what is kept is known still
+pub knows-still : (hart : ℕ) (scope : List Held) (values : Values) (f g : ℕ → ℕ) → ((q : ℕ) → IsKept scope q → g q ≡ f q) → Knows hart scope values f
+    → Knows hart scope values g
+knows-still hart [] values f g same k = (same 0 (inl refl) ∙ k.0, same 10 (inr (inl refl)) ∙ k.1)
+knows-still hart (own ∷ others) values f g same k = (same own.register (inl refl) ∙ k.0, knows-still hart others values f g (λ q h. same q (inr h)) k.1)
+
+-- and no register that holds a form is scratch
+pub holder-apart : (q : ℕ) → IsHolder q → (q ≢ 13) × (q ≢ 14)
+holder-apart q (inl t) = let m = may-hold q t in (m.first, m.second)
+holder-apart q (inr o) = ((λ e. omega (arith, o, e)), (λ e. omega (arith, o, e)))
+
+pub kept-apart : (scope : List Held) (q : ℕ) → AreHolders scope → IsKept scope q → (q ≢ 13) × (q ≢ 14)
+kept-apart [] q holders o = ((λ e. omega (arith, o, e)), (λ e. omega (arith, o, e)))
+kept-apart (own ∷ others) q holders (inl e) =
+    let a = holder-apart own.register holders.0 in
+    let one = a.0 in
+    let two = a.1 in
+    ((λ x. one (sym e ∙ x)), (λ x. two (sym e ∙ x)))
+kept-apart (own ∷ others) q holders (inr h) = kept-apart others q holders.1.1 h
+
+-- the first of a list, and those behind it
+pub others-are : {A : Type 0} (xs : List A) (other : A) → 1 ≤ length xs → xs ≡ get_or xs 0 other ∷ take (length xs - 1) (drop 1 xs)
+others-are [] other some = absurd (omega (arith, some))
+others-are (x ∷ xs) other some =
+    let n : suc (length xs) - 1 ≡ length xs = omega arith in
+    ap (λ ys. x ∷ ys) (sym (ap (λ (k : ℕ). take k xs) n ∙ take-length xs))
+
+-- ---- values of forms
+
+pub linear-small : (values : Values) (own : Linear) → linear_value values own < 2 ^ 32
+unfolding linear_value
+linear-small values own = omega arith
+
+pub form-small : (hart : ℕ) (values : Values) (form : Form) → form_value hart values form < 2 ^ 32
+unfolding form_value
+form-small hart values form = omega arith

@@ -1,0 +1,206 @@
+-- Forms made in registers.
+use Rattle.std.proofs.Common.{◌≡◌, ℕ, suc, ◌+◌, ◌-◌, ◌*◌, ◌%◌, ◌^◌, ◌<◌, ◌≤◌, List, [], ◌∷◌, ◌++◌, length, get_or, take, drop, Bool, true, false, refl, ap, ◌∙◌, sym, subst, arith, inl, inr}
+use Rattle.std.specs.Prelude.{◌≢◌, ◌⊎◌, ◌==◌, ◌&&◌, ◌||◌, if◌then◌else◌, nat_lt, pos, Option, Some, None, IfSome}
+use Rattle.std.proofs.Math.Nat.{mod-add-mod, add-mod-mod, mod-eq_of_lt}
+use Rattle.std.proofs.lemmas.Nat.{mul-mod_first}
+use Rattle.std.proofs.lemmas.Bool.{and_parts}
+use Rattle.halide_pipeline.specs.Words as word
+use Rattle.loop_ir.specs.declared.expressions.Counter.{Counter}
+use Rattle.loop_ir.specs.declared.expressions.Linear.{Linear}
+use Rattle.loop_ir.specs.declared.expressions.Term.{Term}
+use Rattle.loop_ir.specs.Counters.{Values, same_counter}
+use Rattle.loop_ir.specs.Expressions.{linear_value, sum_of}
+use Rattle.multi_hart_logic.specs.Alone.{World}
+use Rattle.multi_hart_logic.proofs.Paths.{line-then, stay}
+use Rattle.task_code_scalar.specs.Words.{Emits}
+use Rattle.task_code_scalar.proofs.Spelling.{emits_then, emits-none}
+use Rattle.task_code_registers.specs.declared.scopes.Form.{Form}
+use Rattle.task_code_registers.specs.declared.scopes.Held.{Held}
+use Rattle.task_code_registers.specs.declared.sums.Near.{Near}
+use Rattle.task_code_registers.specs.Emitting.{Fits, Puts, Makes, MakesOf, MakesForm, MakesAddress, IsNear, IsRest, HoldsVariable, sum_value}
+use Rattle.task_code_registers.specs.Registers.{may_hold}
+use Rattle.task_code_registers.specs.Scopes.{Knows, AreHolders, IsFree, IsKept, form_value, is_variable, is_once, has_variable, have_registers}
+use Rattle.task_code_registers.proofs.Knowing.{MayHold, may-hold, knows-zero, knows-hart, knows-still, kept-apart, others-are, linear-small, form-small}
+use Rattle.task_code_registers.proofs.Making.{puts-then, puts-is, short-then}
+
+-- ---- distances
+
+pub zero-more : (values : Values) (terms rest : List Term) (first : Term) → terms ≡ first ∷ rest → first.stride ≡ 0 → sum_of values rest ≡ 0 → sum_of values terms ≡ 0
+zero-more values terms rest first e z r =
+    ap (sum_of values) e ∙ (let g : values first.counter * 0 + 0 ≡ 0 = omega arith in ap (λ s. values first.counter * s + sum_of values rest) z ∙ ap (λ s. values first.counter * 0 + s) r ∙ g)
+
+apart-by : (a b d : ℕ) → a < 2 ^ 32 → b < 2 ^ 32 → d ≡ (a + (2 ^ 32 - b)) % 2 ^ 32 → a ≡ (b + d) % 2 ^ 32
+apart-by a b d la lb e = omega (arith, la, lb, e)
+
+linear-apart : (values : Values) (own base made : Linear) (d : ℕ) → d ≡ word.add made.number 0 → sum_of values made.terms ≡ 0
+    → linear_value values made ≡ word.subtract (linear_value values own) (linear_value values base) → linear_value values own ≡ (linear_value values base + d) % 2 ^ 32
+unfolding linear_value word.subtract word.add
+linear-apart values own base made d ed none e =
+    apart-by (linear_value values own) (linear_value values base) d (linear-small values own) (linear-small values base)
+    (ed ∙ sym (ap (λ s. (made.number + s) % 2 ^ 32) none) ∙ e)
+
+moved : (a b h d : ℕ) → a ≡ (b + d) % 2 ^ 32 → (a + h) % 2 ^ 32 ≡ ((b + h) % 2 ^ 32 + d) % 2 ^ 32
+moved a b h d e = omega (arith, e)
+
+-- two forms with the same part of the hart's number
+pub form-apart : (own base : Form) (made : Linear) (d : ℕ) → own.per_hart ≡ base.per_hart → d ≡ word.add made.number 0 → ((values : Values) → sum_of values made.terms ≡ 0)
+    → ((values : Values) → linear_value values made ≡ word.subtract (linear_value values own.sum) (linear_value values base.sum))
+    → (hart : ℕ) (values : Values) → form_value hart values own ≡ (form_value hart values base + d) % 2 ^ 32
+unfolding form_value
+form-apart own base made d same ed none e hart values =
+    ap (λ k. (linear_value values own.sum + hart * k) % 2 ^ 32) same
+    ∙ moved (linear_value values own.sum) (linear_value values base.sum) (hart * base.per_hart) d (linear-apart values own.sum base.sum made d ed (none values) (e values))
+
+pub distance-word : (d n : ℕ) → d ≡ word.add n 0 → d < 2 ^ 32
+unfolding word.add
+distance-word d n e = omega (arith, e)
+
+-- ---- what is near
+
+pub near-first : (scope : List Held) (item other : Held) (own : Form) (d : ℕ) → 1 ≤ length scope → item ≡ get_or scope 0 other → may_hold item.register ≡ true
+    → (d < 2 ^ 32) × ((hart : ℕ) (values : Values) → form_value hart values own ≡ (form_value hart values item.form + d) % 2 ^ 32) → IsNear scope own item.register d
+near-first [] item other own d some ei may e = absurd (omega (arith, some))
+near-first (first ∷ others) item other own d some ei may e = record {
+  may = may;
+  kept = inl (ap (λ (h : Held). h.register) ei);
+  word = e.0;
+  value = λ hart values f knows. e.1 hart values ∙ ap (λ n. (n + d) % 2 ^ 32) (ap (λ (h : Held). form_value hart values h.form) ei ∙ sym knows.0 ∙ ap (λ (h : Held). f h.register) (sym ei));
+  small = λ hart values f knows.
+      subst (λ n. n < 2 ^ 32) (ap (λ (h : Held). form_value hart values h.form) (sym (sym ei)) ∙ sym knows.0 ∙ ap (λ (h : Held). f h.register) (sym ei)) (form-small hart values item.form);
+}
+
+near-more : (scope : List Held) (other : Held) (own : Form) (r d : ℕ) → 1 ≤ length scope → IsNear (take (length scope - 1) (drop 1 scope)) own r d → IsNear scope own r d
+near-more scope other own r d some x = subst (λ s. IsNear s own r d) (sym (others-are scope other some)) (record {
+  may = x.may;
+  kept = inr x.kept;
+  word = x.word;
+  value = λ hart values f knows. x.value hart values f knows.1;
+  small = λ hart values f knows. x.small hart values f knows.1;
+})
+
+pub near-rest : (scope : List Held) (other : Held) (own : Form) (found : Option Near) → 1 ≤ length scope
+    → IfSome found (λ at. IsNear (take (length scope - 1) (drop 1 scope)) own at.register at.number) → IfSome found (λ at. IsNear scope own at.register at.number)
+near-rest scope other own None some x = x
+near-rest scope other own (Some at) some x = near-more scope other own at.register at.number some x
+
+-- ---- code
+
+pub makes-form : (scope : List Held) (n most r : ℕ) (c0 c1 : List ℕ) (says : (ℕ → ℕ) → ℕ) (of : ℕ → Values → ℕ) → n ≤ most → Makes c0 c1 n r says
+    → ((hart : ℕ) (values : Values) (f : ℕ → ℕ) → Knows hart scope values f → says f ≡ of hart values) → MakesForm c0 c1 most scope r of
+makes-form scope n most r c0 c1 says of fits x e = record {
+  insns = x.insns;
+  emits = x.emits;
+  short = let k = x.short in omega (arith, k, fits);
+  does = λ w m hart values f l holders free knows. puts-is w m l (e hart values f knows) (x.does w m f l (knows-zero hart scope values f knows));
+}
+
+-- of a register that holds a word
+pub makes-form-of : (scope : List Held) (n most r s : ℕ) (c0 c1 : List ℕ) (says : ℕ → ℕ) (of : ℕ → Values → ℕ) → n ≤ most → MakesOf c0 c1 n r s says
+    → ((hart : ℕ) (values : Values) (f : ℕ → ℕ) → Knows hart scope values f → (f s < 2 ^ 32) × (says (f s) ≡ of hart values)) → MakesForm c0 c1 most scope r of
+makes-form-of scope n most r s c0 c1 says of fits x e = record {
+  insns = x.insns;
+  emits = x.emits;
+  short = let k = x.short in omega (arith, k, fits);
+  does = λ w m hart values f l holders free knows.
+      let h = e hart values f knows in puts-is w m l h.1 (x.does w m f l (knows-zero hart scope values f knows) h.0);
+}
+
+pub form-is : (scope : List Held) (n most r : ℕ) (c0 c1 : List ℕ) (of other : ℕ → Values → ℕ) → n ≤ most → MakesForm c0 c1 n scope r of → ((hart : ℕ) (values : Values) → of hart values ≡ other hart values)
+    → MakesForm c0 c1 most scope r other
+form-is scope n most r c0 c1 of other fits x e = record {
+  insns = x.insns;
+  emits = x.emits;
+  short = let k = x.short in omega (arith, k, fits);
+  does = λ w m hart values f l holders free knows. puts-is w m l (e hart values) (x.does w m hart values f l holders free knows);
+}
+
+pub near-form : (scope : List Held) (own : Form) (s n r most : ℕ) (c0 c1 : List ℕ) → 3 ≤ most → IsNear scope own s n → MakesOf c0 c1 3 r s (λ v. (v + n) % 2 ^ 32)
+    → MakesForm c0 c1 most scope r (λ hart values. form_value hart values own)
+near-form scope own s n r most c0 c1 few near x =
+    makes-form-of scope 3 most r s c0 c1 (λ v. (v + n) % 2 ^ 32) (λ hart values. form_value hart values own) few x
+    (λ hart values f knows. (near.small hart values f knows, sym (near.value hart values f knows)))
+
+-- ---- sums, term by term
+
+pub sum-none : (scope : List Held) (form : Form) (terms : List Term) (r : ℕ) (c0 c1 : List ℕ) → length terms < 1 → Makes c0 c1 6 r (λ f. (form.sum.number + f 10 * form.per_hart) % 2 ^ 32)
+    → MakesForm c0 c1 (2 + 4 * (length terms + 1)) scope r (sum_value form terms)
+sum-none scope form [] r c0 c1 none x =
+    makes-form scope 6 6 r c0 c1 (λ f. (form.sum.number + f 10 * form.per_hart) % 2 ^ 32) (sum_value form []) (omega arith) x (λ hart values f knows.
+    let g : (form.sum.number + hart * form.per_hart) % 2 ^ 32 ≡ (form.sum.number + hart * form.per_hart + 0) % 2 ^ 32 = omega arith in
+    ap (λ h. (form.sum.number + h * form.per_hart) % 2 ^ 32) (knows-hart hart scope values f knows) ∙ g)
+sum-none scope form (first ∷ others) r c0 c1 none x = absurd (omega (arith, none))
+
+module _ (scope : List Held) (form : Form) (terms : List Term) (other : Term) (r : ℕ) (some : 1 ≤ length terms) where
+  abbrev first : Term
+  first = get_or terms 0 other
+
+  abbrev rest : List Term
+  rest = take (length terms - 1) (drop 1 terms)
+
+  parts : (values : Values) → sum_of values terms ≡ values first.counter * first.stride + sum_of values rest
+  parts values = ap (sum_of values) (others-are terms other some)
+
+  one-less : length terms ≡ suc (length rest)
+  one-less = ap length (others-are terms other some)
+
+  abbrev base : ℕ → ℕ
+  base hart = form.sum.number + hart * form.per_hart
+
+  -- a term that is 0
+  pub sum-skip : (c0 c1 : List ℕ) → first.stride ≡ 0 → MakesForm c0 c1 (2 + 4 * (length rest + 1)) scope r (sum_value form rest) → MakesForm c0 c1 (2 + 4 * (length terms + 1)) scope r (sum_value form terms)
+  sum-skip c0 c1 z x =
+      form-is scope (2 + 4 * (length rest + 1)) (2 + 4 * (length terms + 1)) r c0 c1 (sum_value form rest) (sum_value form terms) (let n = one-less in omega (arith, n)) x (λ hart values.
+      let g : sum_of values rest ≡ values first.counter * 0 + sum_of values rest = omega arith in
+      ap (λ k. (base hart + k) % 2 ^ 32) (g ∙ ap (λ s. values first.counter * s + sum_of values rest) (sym z) ∙ sym (parts values)))
+
+  product : (a v s : ℕ) → a ≡ v % 2 ^ 32 → (a * s) % 2 ^ 32 ≡ (v * s) % 2 ^ 32
+  product a v s e = ap (λ k. (k * s) % 2 ^ 32) e ∙ mul-mod_first v s (2 ^ 32)
+
+  with-product : (n a v s : ℕ) → a ≡ v % 2 ^ 32 → (n + a * s) % 2 ^ 32 ≡ (n + v * s) % 2 ^ 32
+  with-product n a v s e = sym (add-mod-mod n (a * s) (2 ^ 32)) ∙ ap (λ k. (n + k) % 2 ^ 32) (product a v s e) ∙ add-mod-mod n (v * s) (2 ^ 32)
+
+  -- a sum of one term
+  pub sum-first : (s : ℕ) (c0 c1 : List ℕ) → form.per_hart ≡ 0 → ((values : Values) → sum_of values rest ≡ 0) → HoldsVariable scope first.counter s
+      → MakesOf c0 c1 6 r s (λ v. (form.sum.number + v * first.stride) % 2 ^ 32) → MakesForm c0 c1 (2 + 4 * (length terms + 1)) scope r (sum_value form terms)
+  sum-first s c0 c1 z none holds x =
+      makes-form-of scope 6 (2 + 4 * (length terms + 1)) r s c0 c1 (λ v. (form.sum.number + v * first.stride) % 2 ^ 32) (sum_value form terms) (let n = one-less in omega (arith, n)) x (λ hart values f knows.
+      let v = values first.counter in
+      let n = form.sum.number in
+      let e = holds.value hart values f knows in
+      let g : (n + v * first.stride) % 2 ^ 32 ≡ (n + hart * 0 + (v * first.stride + 0)) % 2 ^ 32 = omega arith in
+      (let small : v % 2 ^ 32 < 2 ^ 32 = omega arith in subst (λ k. k < 2 ^ 32) (sym e) small,
+      with-product n (f s) v first.stride e ∙ g
+      ∙ ap (λ k. (n + hart * k + (v * first.stride + 0)) % 2 ^ 32) (sym z)
+      ∙ ap (λ k. (base hart + (v * first.stride + k)) % 2 ^ 32) (sym (none values)) ∙ ap (λ k. (base hart + k) % 2 ^ 32) (sym (parts values))))
+
+  -- one more term
+  pub sum-more : (s : ℕ) (c0 c1 c2 : List ℕ) → HoldsVariable scope first.counter s → MakesForm c0 c1 (2 + 4 * (length rest + 1)) scope r (sum_value form rest)
+      → Makes c1 c2 4 r (λ f. (f r + f s * first.stride) % 2 ^ 32) → MakesForm c0 c2 (2 + 4 * (length terms + 1)) scope r (sum_value form terms)
+  sum-more s c0 c1 c2 holds x y = record {
+    insns = x.insns ++ y.insns;
+    emits = emits_then x.emits y.emits;
+    short = let n = one-less in short-then x.insns y.insns (2 + 4 * (length rest + 1)) 4 (2 + 4 * (length terms + 1)) x.short y.short (omega (arith, n));
+    does = λ w m hart values f l holders free knows.
+        let a = x.does w m hart values f l holders free knows in
+        let k = knows-still hart scope values f a.after (λ q h. let t = kept-apart scope q holders h in a.others q (free q h) t.0 t.1) knows in
+        let b = y.does w m a.after l (knows-zero hart scope values a.after k) in
+        let v = values first.counter in
+        let sum = base hart + sum_of values rest in
+        let g : sum + v * first.stride ≡ base hart + (v * first.stride + sum_of values rest) = omega arith in
+        let val : (a.after r + a.after s * first.stride) % 2 ^ 32 ≡ sum_value form terms hart values =
+        ap (λ n. (n + a.after s * first.stride) % 2 ^ 32) a.value
+        ∙ with-product (sum % 2 ^ 32) (a.after s) v first.stride (holds.value hart values a.after k)
+        ∙ mod-add-mod sum (2 ^ 32) (v * first.stride)
+        ∙ ap (λ n. n % 2 ^ 32) g ∙ ap (λ n. (base hart + n) % 2 ^ 32) (sym (parts values)) in
+        puts-then w m l a (inr (inr refl)) (puts-is w m l val b);
+  }
+
+-- the sum of all terms
+pub sum-is : (form : Form) (terms : List Term) (hart : ℕ) (values : Values) → terms ≡ form.sum.terms → sum_value form terms hart values ≡ form_value hart values form
+unfolding form_value linear_value
+sum-is form terms hart values e =
+    let h = hart * form.per_hart in
+    let s = sum_of values form.sum.terms in
+    let n = form.sum.number in
+    let g : (n + h + s) % 2 ^ 32 ≡ ((n + s) % 2 ^ 32 + h) % 2 ^ 32 = omega arith in
+    ap (λ ts. (n + h + sum_of values ts) % 2 ^ 32) e ∙ g

@@ -1,0 +1,93 @@
+-- What appended code does, whatever its instructions are. This project's own.
+use Rattle.std.specs.Prelude.{◌≡◌, ◌≢◌, ◌⊎◌, ◌<◌, ◌≤◌, ℕ, ◌+◌, ◌-◌, ◌*◌, ◌%◌, ◌^◌, true, List, length}
+use Rattle.rv_insn.specs.declared.instructions.Insn.{Insn}
+use Rattle.loop_ir.specs.declared.expressions.Counter.{Counter}
+use Rattle.loop_ir.specs.declared.expressions.Term.{Term}
+use Rattle.loop_ir.specs.Counters.{Values}
+use Rattle.loop_ir.specs.Expressions.{sum_of}
+use Rattle.multi_hart_logic.specs.Alone.{World}
+use Rattle.multi_hart_logic.specs.Paths.{Line}
+use Rattle.task_code_scalar.specs.Words.{Emits}
+use Rattle.task_code_registers.specs.declared.scopes.Form.{Form}
+use Rattle.task_code_registers.specs.declared.scopes.Held.{Held}
+use Rattle.task_code_registers.specs.Registers.{zero_register, scratch, second_scratch, may_hold}
+use Rattle.task_code_registers.specs.Scopes.{Knows, AreHolders, IsFree, IsKept, form_value}
+
+-- a word that an immediate of 12 bits stands for
+abbrev pub Fits : ℕ → Type 0
+Fits n = (n < 2048) ⊎ (4294965248 ≤ n)
+
+-- straight code that leaves v in register r; beside it the scratch registers may change
+pub record Puts (world : World) (memory : List ℕ) (insns : List Insn) (f : ℕ → ℕ) (r v : ℕ) : Type 0 where
+  pub after : ℕ → ℕ
+  pub line : Line world insns f memory after memory
+  pub value : after r ≡ v
+  pub others : (q : ℕ) → q ≢ r → q ≢ scratch → q ≢ second_scratch → after q ≡ f q
+
+-- At most so many appended instructions leave in r what is made of the registers as they were.
+pub record Makes (old new : List ℕ) (most r : ℕ) (says : (ℕ → ℕ) → ℕ) : Type 0 where
+  pub insns : List Insn
+  pub emits : Emits old new insns
+  pub short : length insns ≤ most
+  pub does : (world : World) (memory : List ℕ) (f : ℕ → ℕ) → length memory ≡ world.size → f zero_register ≡ 0
+      → Puts world memory insns f r (says f)
+
+-- So it is of register s, which holds a word.
+pub record MakesOf (old new : List ℕ) (most r s : ℕ) (says : ℕ → ℕ) : Type 0 where
+  pub insns : List Insn
+  pub emits : Emits old new insns
+  pub short : length insns ≤ most
+  pub does : (world : World) (memory : List ℕ) (f : ℕ → ℕ) → length memory ≡ world.size → f zero_register ≡ 0 → f s < 2 ^ 32
+      → Puts world memory insns f r (says (f s))
+
+-- At most so many appended instructions leave in r what is made of the hart's number and the values of loop variables, wherever the
+-- scope's registers hold their forms and r is none of them.
+pub record MakesForm (old new : List ℕ) (most : ℕ) (scope : List Held) (r : ℕ) (says : ℕ → Values → ℕ) : Type 0 where
+  pub insns : List Insn
+  pub emits : Emits old new insns
+  pub short : length insns ≤ most
+  pub does : (world : World) (memory : List ℕ) (hart : ℕ) (values : Values) (f : ℕ → ℕ) → length memory ≡ world.size → AreHolders scope
+      → IsFree scope r → Knows hart scope values f → Puts world memory insns f r (says hart values)
+
+-- a form is so much more than what a register of the scope holds
+pub record IsNear (scope : List Held) (form : Form) (r d : ℕ) : Type 0 where
+  pub may : may_hold r ≡ true
+  pub kept : IsKept scope r
+  pub word : d < 2 ^ 32
+  pub value : (hart : ℕ) (values : Values) (f : ℕ → ℕ) → Knows hart scope values f → form_value hart values form ≡ (f r + d) % 2 ^ 32
+  pub small : (hart : ℕ) (values : Values) (f : ℕ → ℕ) → Knows hart scope values f → f r < 2 ^ 32
+
+-- straight code behind which a register and an offset make v; r and the scratch registers may change
+pub record Addresses (world : World) (memory : List ℕ) (insns : List Insn) (f : ℕ → ℕ) (r base offset v : ℕ) : Type 0 where
+  pub after : ℕ → ℕ
+  pub line : Line world insns f memory after memory
+  pub value : (after base + offset) % 2 ^ 32 ≡ v
+  pub others : (q : ℕ) → q ≢ r → q ≢ scratch → q ≢ second_scratch → after q ≡ f q
+
+-- At most so many appended instructions do so, where an instruction can hold the offset. The register is r, or one of the scope.
+pub record MakesAddress (old new : List ℕ) (most : ℕ) (scope : List Held) (r base offset : ℕ) (says : ℕ → Values → ℕ) : Type 0 where
+  pub insns : List Insn
+  pub emits : Emits old new insns
+  pub short : length insns ≤ most
+  pub low : base < 32
+  pub which : (base ≡ r) ⊎ IsKept scope base
+  pub fits : Fits offset
+  pub small : offset < 2 ^ 32
+  pub does : (world : World) (memory : List ℕ) (hart : ℕ) (values : Values) (f : ℕ → ℕ) → length memory ≡ world.size → AreHolders scope
+      → IsFree scope r → Knows hart scope values f → Addresses world memory insns f r base offset (says hart values)
+
+-- a register holds a loop variable, as far as words go
+pub record HoldsVariable (scope : List Held) (counter : Counter) (r : ℕ) : Type 0 where
+  pub may : may_hold r ≡ true
+  pub value : (hart : ℕ) (values : Values) (f : ℕ → ℕ) → Knows hart scope values f → f r ≡ values counter % 2 ^ 32
+
+-- a form's number, its part of the hart's number, and these terms
+abbrev pub sum_value : Form → List Term → ℕ → Values → ℕ
+sum_value form terms hart values = (form.sum.number + hart * form.per_hart + sum_of values terms) % 2 ^ 32
+
+-- a form is another one and an offset, which fits an immediate, and both have the same terms
+pub record IsRest (form rest : Form) (offset : ℕ) : Type 0 where
+  pub fits : Fits offset
+  pub small : offset < 2 ^ 32
+  pub terms : rest.sum.terms ≡ form.sum.terms
+  pub value : (hart : ℕ) (values : Values) → form_value hart values form ≡ (form_value hart values rest + offset) % 2 ^ 32

@@ -1,0 +1,3 @@
+pub mod Emitting
+pub mod Registers
+pub mod Scopes

@@ -1,0 +1,162 @@
+//! What registers hold while code runs, and which of them are left.
+
+ghost use Rattle.std.specs.Prelude.{◌≡◌, [], ◌++◌, ◌<◌, ◌≤◌, ◌∷◌, ℕ, None, IfOk, IfSome, OnOk, true};
+ghost use Rattle.task_code_registers.specs.Registers as registers;
+ghost use Rattle.task_code_registers.specs.Scopes as spec;
+ghost use Rattle.task_code_registers.specs.Scopes.{IsFree, left_below, left_count};
+
+use crate::registers::{FIRST_VALUE, may_hold};
+use loop_ir::expressions::Linear;
+use std::alloc::{AllocError, Global};
+
+/// A sum of loop variables, each times a stride, and so much times the hart's number, modulo 2^32.
+#[derive(Debug, Drop)]
+pub struct Form {
+    pub sum: Linear,
+    pub per_hart: u32,
+}
+
+impl Form {
+    /// The same once more.
+    ///
+    /// # Errors
+    ///
+    /// Memory ran out.
+    pub fn copy(&self, alloc: Global) -> Result<Form, AllocError>
+        ensures { IfOk result (λ made. made ≡ self.now) }
+    {
+        let sum = self.sum.copy(alloc)?;
+        Ok(Form {
+            sum,
+            per_hart: self.per_hart,
+        })
+    }
+}
+
+/// A register and the form whose value it holds. The number of lanes and their configuration count as registers 32 and 33.
+#[derive(Debug, Drop)]
+pub struct Held {
+    pub register: u8,
+    pub form: Form,
+}
+
+impl Held {
+    /// The same once more.
+    ///
+    /// # Errors
+    ///
+    /// Memory ran out.
+    pub fn copy(&self, alloc: Global) -> Result<Held, AllocError>
+        ensures { IfOk result (λ made. made ≡ self.now) }
+    {
+        let form = self.form.copy(alloc)?;
+        Ok(Held {
+            register: self.register,
+            form,
+        })
+    }
+}
+
+/// Appends copies.
+fn copy_all(alloc: Global, made: &mut Vec<Held>, scope: &[Held]) -> Result<(), AllocError>
+    ensures { OnOk result (made.new.items ≡ made.old.items ++ scope.now) }
+{
+    match scope {
+        [] => Ok(()),
+        [first, others @ ..] => {
+            let own = first.copy(alloc)?;
+            made.push(own)?;
+            copy_all(alloc, made, others)?;
+            Ok(())
+        }
+    }
+}
+
+/// The scope with one more form in front.
+///
+/// # Errors
+///
+/// Memory ran out.
+pub fn with_held(
+    alloc: Global,
+    scope: &[Held],
+    register: u8,
+    form: &Form,
+) -> Result<Vec<Held>, AllocError>
+    ensures { IfOk result (λ made. made.items ≡ record { register = register; form = form.now } ∷ scope.now) }
+{
+    let form = form.copy(alloc)?;
+    let mut made = Vec::new(alloc);
+    made.push(Held { register, form })?;
+    copy_all(alloc, &mut made, scope)?;
+    Ok(made)
+}
+
+/// Whether a register of the scope is this one.
+fn is_held(scope: &[Held], register: u8) -> bool
+    ensures { result ≡ spec.is_held scope.now register }
+{
+    match scope {
+        [] => false,
+        [own, others @ ..] => {
+            if own.register == register {
+                true
+            } else {
+                is_held(others, register)
+            }
+        }
+    }
+}
+
+/// Whether a register may still be given to a form.
+fn is_left(scope: &[Held], register: u8) -> bool
+    ensures { result ≡ spec.is_left scope.now register }
+{
+    may_hold(register) && !is_held(scope, register)
+}
+
+/// How many registers below this one may still be given to forms.
+#[tactic(auto, unfolding(crate::specs::Scopes::left_below))]
+fn count_left(scope: &[Held], end: u8) -> u8
+    ensures count { result ≡ left_below scope.now end }
+    ensures few { result ≤ end }
+{
+    if end == 0 {
+        return 0;
+    }
+    let others = count_left(scope, end - 1);
+    if is_left(scope, end - 1) {
+        others + 1
+    } else {
+        others
+    }
+}
+
+/// The last of them.
+#[tactic(auto, unfolding(crate::specs::Scopes::left_below))]
+fn last_left(scope: &[Held], end: u8) -> Option<u8>
+    ensures some { IfSome result (λ found. spec.is_left scope.now found ≡ true) }
+    ensures none { result ≡ None → left_below scope.now end ≡ 0 }
+{
+    if end == 0 {
+        return None;
+    }
+    if is_left(scope, end - 1) {
+        Some(end - 1)
+    } else {
+        last_left(scope, end - 1)
+    }
+}
+
+/// A register that holds nothing yet and may hold a form, where more than so many are left.
+pub fn free_register(scope: &[Held], reserved: usize) -> Option<u8>
+    ensures some { IfSome result (λ found. (registers.may_hold found ≡ true) × (IsFree scope.now found × (reserved < left_count scope.now))) }
+    ensures none { result ≡ None → left_count scope.now ≤ reserved }
+{
+    let found = last_left(scope, FIRST_VALUE)?;
+    if usize::from(count_left(scope, FIRST_VALUE)) > reserved {
+        Some(found)
+    } else {
+        None
+    }
+}

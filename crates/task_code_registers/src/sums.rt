@@ -1,0 +1,307 @@
+//! Forms and addresses, from what registers hold.
+
+ghost use Rattle.std.specs.Prelude.{◌≡◌, ◌≢◌, ℕ, ◌+◌, ◌*◌, ◌%◌, ◌^◌, ◌<◌, ◌≤◌, length, IfOk, IfSome, OnOk, true};
+ghost use Rattle.loop_ir.specs.Counters.{Values};
+ghost use Rattle.loop_ir.specs.Expressions.{sum_of};
+ghost use Rattle.task_code_registers.specs.Emitting.{HoldsVariable, IsNear, IsRest, Makes, MakesAddress, MakesForm, MakesOf, sum_value};
+ghost use Rattle.task_code_registers.specs.Registers.{hart_number, scratch, second_scratch};
+ghost use Rattle.task_code_registers.specs.Scopes as spec;
+ghost use Rattle.task_code_registers.specs.Scopes.{form_value, has_variable, have_registers};
+
+use crate::numbers::{emit_number, emit_plus, emit_times, fits};
+use crate::registers::{HART_NUMBER, SECOND_SCRATCH, may_hold};
+use crate::scopes::{Form, Held};
+use halide_pipeline::words;
+use loop_ir::expressions::{Counter, Term, same_counter};
+use rv_insn::AluOp;
+use std::alloc::{AllocError, Global};
+use task_code_scalar::instructions::alu;
+
+// ---- the nearest form
+
+/// Whether all strides are 0.
+fn all_zero(terms: &[Term]) -> bool
+    ensures { result ≡ true → (values : Values) → sum_of values terms.now ≡ 0 }
+{
+    match terms {
+        [] => true,
+        [first, others @ ..] => {
+            if first.stride == 0 {
+                all_zero(others)
+            } else {
+                false
+            }
+        }
+    }
+}
+
+/// By how much a form is more than another one, where that is the same number on all harts and in all iterations.
+pub fn distance(alloc: Global, form: &Form, base: &Form) -> Result<Option<u32>, AllocError>
+    ensures { IfOk result (λ found. IfSome found (λ d. (d < 2 ^ 32) × ((hart : ℕ) (values : Values) → form_value hart values form.now ≡ (form_value hart values base.now + d) % 2 ^ 32))) }
+{
+    if form.per_hart != base.per_hart {
+        return Ok(None);
+    }
+    let copied = form.sum.copy(alloc)?;
+    let made = copied.minus(&base.sum)?;
+    let number = words::add(made.number, 0);
+    if all_zero(made.terms.as_slice()) {
+        Ok(Some(number))
+    } else {
+        Ok(None)
+    }
+}
+
+/// A register, and by how much a form is more than what it holds.
+#[derive(Clone, Copy, Debug)]
+pub struct Near {
+    pub register: u8,
+    pub number: u32,
+}
+
+/// A register whose form differs from this one by a number: by one that fits an immediate, if only these are wanted.
+pub fn find(
+    alloc: Global,
+    scope: &[Held],
+    form: &Form,
+    is_small: bool,
+) -> Result<Option<Near>, AllocError>
+    ensures { IfOk result (λ found. IfSome found (λ near. IsNear scope.now form.now near.register near.number)) }
+{
+    match scope {
+        [] => Ok(None),
+        [first, others @ ..] => {
+            match distance(alloc, form, &first.form)? {
+                Some(number) => {
+                    if may_hold(first.register) && (!is_small || fits(number)) {
+                        return Ok(Some(Near {
+                            register: first.register,
+                            number,
+                        }));
+                    }
+                }
+                None => {}
+            }
+            let found = find(alloc, others, form, is_small)?;
+            Ok(found)
+        }
+    }
+}
+
+/// The nearest of them. For a number alone only a small difference counts, since a literal takes two instructions.
+pub fn nearest(alloc: Global, scope: &[Held], form: &Form) -> Result<Option<Near>, AllocError>
+    ensures { IfOk result (λ found. IfSome found (λ near. IsNear scope.now form.now near.register near.number)) }
+{
+    match find(alloc, scope, form, true)? {
+        Some(found) => Ok(Some(found)),
+        None => {
+            if form.per_hart == 0 && all_zero(form.sum.terms.as_slice()) {
+                return Ok(None);
+            }
+            let found = find(alloc, scope, form, false)?;
+            Ok(found)
+        }
+    }
+}
+
+// ---- registers of loop variables
+
+/// Whether a form is a loop variable alone.
+fn is_variable(counter: Counter, form: &Form) -> bool
+    ensures { result ≡ spec.is_variable counter form.now }
+{
+    form.sum.number == 0 && (form.per_hart == 0 && is_once(counter, form.sum.terms.as_slice()))
+}
+
+fn is_once(counter: Counter, terms: &[Term]) -> bool
+    ensures { result ≡ spec.is_once counter terms.now }
+{
+    match terms {
+        [own] => same_counter(own.counter, counter) && own.stride == 1,
+        _ => false,
+    }
+}
+
+/// The register that holds a loop variable alone.
+fn register_of(scope: &[Held], counter: Counter) -> u8
+    requires { has_variable scope.now counter ≡ true }
+    ensures { HoldsVariable scope.now counter result }
+{
+    match scope {
+        [] => unreachable!(),
+        [first, others @ ..] => {
+            if may_hold(first.register) && is_variable(counter, &first.form) {
+                first.register
+            } else {
+                register_of(others, counter)
+            }
+        }
+    }
+}
+
+// ---- sums, term by term
+
+/// Appends what adds the product of a register and a stride.
+fn emit_term(code: &mut Vec<u32>, r: u8, s: u8, stride: u32) -> Result<(), AllocError>
+    requires { ((1 ≤ r) × (r < 32)) × (((r ≢ scratch) × (r ≢ second_scratch)) × ((s < 32) × ((s ≢ scratch) × (s ≢ second_scratch)))) }
+    ensures { OnOk result (Makes code.old.items code.new.items 4 r (λ f. (f r + f s * stride) % 2 ^ 32)) }
+{
+    if stride == 1 {
+        alu(code, AluOp::Add, r, r, s)?;
+        return Ok(());
+    }
+    emit_times(code, SECOND_SCRATCH, s, stride)?;
+    alu(code, AluOp::Add, r, r, SECOND_SCRATCH)?;
+    Ok(())
+}
+
+/// Appends what leaves a number and the product of a register, which holds a word, and a stride.
+fn emit_product(
+    code: &mut Vec<u32>,
+    r: u8,
+    s: u8,
+    stride: u32,
+    number: u32,
+) -> Result<(), AllocError>
+    requires { ((1 ≤ r) × (r < 32)) × (((r ≢ scratch) × (r ≢ second_scratch)) × ((s < 32) × ((s ≢ scratch) × (s ≢ second_scratch)))) }
+    ensures { OnOk result (MakesOf code.old.items code.new.items 6 r s (λ v. (number + v * stride) % 2 ^ 32)) }
+{
+    if stride == 1 {
+        emit_plus(code, r, s, number)?;
+        return Ok(());
+    }
+    emit_times(code, r, s, stride)?;
+    emit_plus(code, r, r, number)?;
+    Ok(())
+}
+
+/// Appends what leaves a form's number and its part of the hart's number.
+fn emit_base(code: &mut Vec<u32>, form: &Form, r: u8) -> Result<(), AllocError>
+    requires { ((1 ≤ r) × (r < 32)) × ((r ≢ scratch) × (r ≢ second_scratch)) }
+    ensures { OnOk result (Makes code.old.items code.new.items 6 r (λ f. (form.now.sum.number + f hart_number * form.now.per_hart) % 2 ^ 32)) }
+{
+    if form.per_hart == 0 {
+        emit_number(code, r, form.sum.number)?;
+        return Ok(());
+    }
+    emit_times(code, r, HART_NUMBER, form.per_hart)?;
+    emit_plus(code, r, r, form.sum.number)?;
+    Ok(())
+}
+
+/// Appends what leaves a form's number, its part of the hart's number and these of its terms.
+fn emit_sum(
+    code: &mut Vec<u32>,
+    scope: &[Held],
+    form: &Form,
+    terms: &[Term],
+    r: u8,
+) -> Result<(), AllocError>
+    requires room { ((1 ≤ r) × (r < 32)) × ((r ≢ scratch) × (r ≢ second_scratch)) }
+    requires held { have_registers scope.now terms.now ≡ true }
+    ensures { OnOk result (MakesForm code.old.items code.new.items (2 + 4 * (length terms.now + 1)) scope.now r (sum_value form.now terms.now)) }
+{
+    match terms {
+        [] => {
+            emit_base(code, form, r)?;
+            Ok(())
+        }
+        [first, others @ ..] => {
+            if first.stride == 0 {
+                emit_sum(code, scope, form, others, r)?;
+                return Ok(());
+            }
+            let s = register_of(scope, first.counter);
+            if form.per_hart == 0 && all_zero(others) {
+                emit_product(code, r, s, first.stride, form.sum.number)?;
+                return Ok(());
+            }
+            emit_sum(code, scope, form, others, r)?;
+            emit_term(code, r, s, first.stride)?;
+            Ok(())
+        }
+    }
+}
+
+/// Appends what leaves a form's value in a register: from the nearest form that is held, or term by term.
+///
+/// # Errors
+///
+/// Memory ran out.
+pub fn emit_form(
+    alloc: Global,
+    code: &mut Vec<u32>,
+    scope: &[Held],
+    form: &Form,
+    r: u8,
+) -> Result<(), AllocError>
+    requires room { ((1 ≤ r) × (r < 32)) × ((r ≢ scratch) × (r ≢ second_scratch)) }
+    requires held { have_registers scope.now form.now.sum.terms ≡ true }
+    ensures { OnOk result (MakesForm code.old.items code.new.items (2 + 4 * (length form.now.sum.terms + 1)) scope.now r (λ hart values. form_value hart values form.now)) }
+{
+    match nearest(alloc, scope, form)? {
+        Some(found) => {
+            emit_plus(code, r, found.register, found.number)?;
+            Ok(())
+        }
+        None => {
+            emit_sum(code, scope, form, form.sum.terms.as_slice(), r)?;
+            Ok(())
+        }
+    }
+}
+
+// ---- addresses
+
+/// A register and an offset that fits an immediate, of which an address is the sum.
+#[derive(Clone, Copy, Debug)]
+pub struct At {
+    pub register: u8,
+    pub offset: u32,
+}
+
+/// The form without the part of its number that an instruction's offset can hold, and that part.
+fn without_offset(alloc: Global, form: &Form) -> Result<(Form, u32), AllocError>
+    ensures { IfOk result (λ made. IsRest form.now made.0 made.1) }
+{
+    let low = form.sum.number % 4096;
+    let offset = if low < 2048 { low } else { 0xffff_f000 + low };
+    let mut rest = form.copy(alloc)?;
+    rest.sum.number = words::subtract(form.sum.number, offset);
+    Ok((rest, offset))
+}
+
+/// Appends what makes an address, and where it then is. There is no code where a form that is near enough is held; else the register is r.
+///
+/// # Errors
+///
+/// Memory ran out.
+pub fn emit_address(
+    alloc: Global,
+    code: &mut Vec<u32>,
+    scope: &[Held],
+    form: &Form,
+    r: u8,
+) -> Result<At, AllocError>
+    requires room { ((1 ≤ r) × (r < 32)) × ((r ≢ scratch) × (r ≢ second_scratch)) }
+    requires held { have_registers scope.now form.now.sum.terms ≡ true }
+    ensures { IfOk result (λ at. MakesAddress code.old.items code.new.items (2 + 4 * (length form.now.sum.terms + 1)) scope.now r at.register at.offset (λ hart values. form_value hart values form.now)) }
+{
+    match find(alloc, scope, form, true)? {
+        Some(found) => {
+            if fits(found.number) {
+                return Ok(At {
+                    register: found.register,
+                    offset: found.number,
+                });
+            }
+        }
+        None => {}
+    }
+    let (rest, offset) = without_offset(alloc, form)?;
+    emit_form(alloc, code, scope, &rest, r)?;
+    Ok(At {
+        register: r,
+        offset,
+    })
+}
