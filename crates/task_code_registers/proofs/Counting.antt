@@ -20,11 +20,11 @@ unheld [] r may fresh q (inr (inr e)) g = fails-at r 11 may refl (sym g ∙ e)
 unheld (own ∷ others) r may fresh q (inl e) g =
     let t : (own.register == r) ≡ true = let h : own.register ≡ r = sym e ∙ g in grind (arith, nat_tests, h) in
     true≢false (sym (ap (λ b. if b then true else is_held others r) t) ∙ fresh)
-unheld (own ∷ others) r may fresh q (inr k) g = by-test (own.register == r) fresh
+unheld (own ∷ others) r may fresh q (inr k) g = by-test (own.register == r) fresh (λ h. unheld others r may h q k g)
   where
-    by-test : (t : Bool) → (if t then true else is_held others r) ≡ false → ⊥
-    by-test true h = true≢false h
-    by-test false h = unheld others r may h q k g
+    by-test : (t : Bool) → (if t then true else is_held others r) ≡ false → (is_held others r ≡ false → ⊥) → ⊥
+    by-test true h go = true≢false h
+    by-test false h go = go h
 
 pub left-may : (scope : List Held) (r : ℕ) → is_left scope r ≡ true → may_hold r ≡ true
 left-may scope r t = (and_parts (may_hold r) (not (is_held scope r)) t).0

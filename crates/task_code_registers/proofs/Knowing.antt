@@ -23,7 +23,7 @@ pub record MayHold (q : ℕ) : Type 0 where
   pub second : q ≢ 14
 
 pub fails-at : (q n : ℕ) → may_hold q ≡ true → may_hold n ≡ false → q ≢ n
-pub fails-at q n t f e = let g : may_hold q ≡ false = ap may_hold e ∙ f in cc (t, g)
+fails-at q n t f e = let g : may_hold q ≡ false = ap may_hold e ∙ f in cc (t, g)
 
 pub may-hold : (q : ℕ) → may_hold q ≡ true → MayHold q
 may-hold q t = record {

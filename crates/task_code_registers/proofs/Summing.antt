@@ -114,10 +114,11 @@ form-is scope n most r c0 c1 of other fits x e = record {
   does = λ w m hart values f l holders free knows. puts-is w m l (e hart values) (x.does w m hart values f l holders free knows);
 }
 
-pub near-form : (scope : List Held) (own : Form) (s n r most : ℕ) (c0 c1 : List ℕ) → 3 ≤ most → IsNear scope own s n → MakesOf c0 c1 3 r s (λ v. (v + n) % 2 ^ 32)
-    → MakesForm c0 c1 most scope r (λ hart values. form_value hart values own)
-near-form scope own s n r most c0 c1 few near x =
-    makes-form-of scope 3 most r s c0 c1 (λ v. (v + n) % 2 ^ 32) (λ hart values. form_value hart values own) few x
+pub near-form : (scope : List Held) (own : Form) (s n r : ℕ) (c0 c1 : List ℕ) → IsNear scope own s n → MakesOf c0 c1 3 r s (λ v. (v + n) % 2 ^ 32)
+    → MakesForm c0 c1 (2 + 4 * (length own.sum.terms + 1)) scope r (λ hart values. form_value hart values own)
+near-form scope own s n r c0 c1 near x =
+    let l = length own.sum.terms in
+    makes-form-of scope 3 (2 + 4 * (l + 1)) r s c0 c1 (λ v. (v + n) % 2 ^ 32) (λ hart values. form_value hart values own) (omega arith) x
     (λ hart values f knows. (near.small hart values f knows, sym (near.value hart values f knows)))
 
 -- ---- sums, term by term
@@ -204,3 +205,68 @@ sum-is form terms hart values e =
     let n = form.sum.number in
     let g : (n + h + s) % 2 ^ 32 ≡ ((n + s) % 2 ^ 32 + h) % 2 ^ 32 = omega arith in
     ap (λ ts. (n + h + sum_of values ts) % 2 ^ 32) e ∙ g
+
+pub whole-form : (scope : List Held) (form : Form) (terms : List Term) (r : ℕ) (c0 c1 : List ℕ) → terms ≡ form.sum.terms → MakesForm c0 c1 (2 + 4 * (length terms + 1)) scope r (sum_value form terms)
+    → MakesForm c0 c1 (2 + 4 * (length form.sum.terms + 1)) scope r (λ hart values. form_value hart values form)
+whole-form scope form terms r c0 c1 e x =
+    form-is scope (2 + 4 * (length terms + 1)) (2 + 4 * (length form.sum.terms + 1)) r c0 c1 (sum_value form terms) (λ hart values. form_value hart values form)
+    (let n : length terms ≡ length form.sum.terms = ap length e in omega (arith, n)) x (λ hart values. sum-is form terms hart values e)
+
+-- ---- addresses
+
+-- where a form is near enough
+pub address-near : (scope : List Held) (own : Form) (s n most r : ℕ) (c : List ℕ) → IsNear scope own s n → Fits n → MakesAddress c c most scope r s n (λ hart values. form_value hart values own)
+address-near scope own s n most r c near fit = record {
+  insns = [];
+  emits = emits-none c;
+  short = let z : 0 ≤ most = omega arith in z;
+  low = let m = may-hold s near.may in let h = m.high in omega (arith, h);
+  which = inr near.kept;
+  fits = fit;
+  small = near.word;
+  does = λ w m hart values f l holders free knows. record {
+    after = f;
+    line = λ at s. stay w at f m;
+    value = sym (near.value hart values f knows);
+    others = λ q x y z. refl;
+  };
+}
+
+-- and where the rest of the form is made
+pub address-made : (scope : List Held) (own rest : Form) (offset r : ℕ) (c0 c1 : List ℕ) → r < 32 → IsRest own rest offset
+    → MakesForm c0 c1 (2 + 4 * (length rest.sum.terms + 1)) scope r (λ hart values. form_value hart values rest)
+    → MakesAddress c0 c1 (2 + 4 * (length own.sum.terms + 1)) scope r r offset (λ hart values. form_value hart values own)
+address-made scope own rest offset r c0 c1 low is x = record {
+  insns = x.insns;
+  emits = x.emits;
+  short = let k = x.short in let n : length rest.sum.terms ≡ length own.sum.terms = ap length is.terms in omega (arith, k, n);
+  low = low;
+  which = inl refl;
+  fits = is.fits;
+  small = is.small;
+  does = λ w m hart values f l holders free knows.
+      let a = x.does w m hart values f l holders free knows in
+      record { after = a.after; line = a.line; value = ap (λ n. (n + offset) % 2 ^ 32) a.value ∙ sym (is.value hart values); others = a.others };
+}
+
+-- the part of a number that an immediate stands for
+rest-number : (n offset s h : ℕ) → offset < 2 ^ 32 → ((n + s) % 2 ^ 32 + h) % 2 ^ 32 ≡ ((((n + (2 ^ 32 - offset)) % 2 ^ 32 + s) % 2 ^ 32 + h) % 2 ^ 32 + offset) % 2 ^ 32
+rest-number n offset s h small = omega (arith, small)
+
+pub rest-is : (form rest : Form) (offset : ℕ) → Fits offset → offset < 2 ^ 32 → rest.sum.terms ≡ form.sum.terms → rest.per_hart ≡ form.per_hart
+    → rest.sum.number ≡ word.subtract form.sum.number offset → IsRest form rest offset
+unfolding form_value linear_value word.subtract
+rest-is form rest offset fit small terms part e = record {
+  fits = fit;
+  small = small;
+  terms = terms;
+  value = λ hart values.
+      let s = sum_of values form.sum.terms in
+      let h = hart * form.per_hart in
+      rest-number form.sum.number offset s h small
+      ∙ sym (
+        ap (λ n. (((n + sum_of values rest.sum.terms) % 2 ^ 32 + hart * rest.per_hart) % 2 ^ 32 + offset) % 2 ^ 32) e
+        ∙ ap (λ ts. ((((form.sum.number + (2 ^ 32 - offset)) % 2 ^ 32 + sum_of values ts) % 2 ^ 32 + hart * rest.per_hart) % 2 ^ 32 + offset) % 2 ^ 32) terms
+        ∙ ap (λ k. ((((form.sum.number + (2 ^ 32 - offset)) % 2 ^ 32 + s) % 2 ^ 32 + hart * k) % 2 ^ 32 + offset) % 2 ^ 32) part
+      );
+}

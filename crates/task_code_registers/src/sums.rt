@@ -3,7 +3,7 @@
 ghost use Rattle.std.specs.Prelude.{◌≡◌, ◌≢◌, ℕ, ◌+◌, ◌*◌, ◌%◌, ◌^◌, ◌<◌, ◌≤◌, length, IfOk, IfSome, OnOk, true};
 ghost use Rattle.loop_ir.specs.Counters.{Values};
 ghost use Rattle.loop_ir.specs.Expressions.{sum_of};
-ghost use Rattle.task_code_registers.specs.Emitting.{HoldsVariable, IsNear, IsRest, Makes, MakesAddress, MakesForm, MakesOf, sum_value};
+ghost use Rattle.task_code_registers.specs.Emitting.{Fits, HoldsVariable, IsNear, IsRest, Makes, MakesAddress, MakesForm, MakesOf, sum_value};
 ghost use Rattle.task_code_registers.specs.Registers.{hart_number, scratch, second_scratch};
 ghost use Rattle.task_code_registers.specs.Scopes as spec;
 ghost use Rattle.task_code_registers.specs.Scopes.{form_value, has_variable, have_registers};
@@ -66,7 +66,8 @@ pub fn find(
     form: &Form,
     is_small: bool,
 ) -> Result<Option<Near>, AllocError>
-    ensures { IfOk result (λ found. IfSome found (λ near. IsNear scope.now form.now near.register near.number)) }
+    ensures small { is_small ≡ true → IfOk result (λ found. IfSome found (λ near. Fits near.number)) }
+    ensures near { IfOk result (λ found. IfSome found (λ near. IsNear scope.now form.now near.register near.number)) }
 {
     match scope {
         [] => Ok(None),
@@ -175,17 +176,17 @@ fn emit_product(
     Ok(())
 }
 
-/// Appends what leaves a form's number and its part of the hart's number.
-fn emit_base(code: &mut Vec<u32>, form: &Form, r: u8) -> Result<(), AllocError>
+/// Appends what leaves a number and so much times the hart's number.
+fn emit_base(code: &mut Vec<u32>, number: u32, per_hart: u32, r: u8) -> Result<(), AllocError>
     requires { ((1 ≤ r) × (r < 32)) × ((r ≢ scratch) × (r ≢ second_scratch)) }
-    ensures { OnOk result (Makes code.old.items code.new.items 6 r (λ f. (form.now.sum.number + f hart_number * form.now.per_hart) % 2 ^ 32)) }
+    ensures { OnOk result (Makes code.old.items code.new.items 6 r (λ f. (number + f hart_number * per_hart) % 2 ^ 32)) }
 {
-    if form.per_hart == 0 {
-        emit_number(code, r, form.sum.number)?;
+    if per_hart == 0 {
+        emit_number(code, r, number)?;
         return Ok(());
     }
-    emit_times(code, r, HART_NUMBER, form.per_hart)?;
-    emit_plus(code, r, r, form.sum.number)?;
+    emit_times(code, r, HART_NUMBER, per_hart)?;
+    emit_plus(code, r, r, number)?;
     Ok(())
 }
 
@@ -203,7 +204,7 @@ fn emit_sum(
 {
     match terms {
         [] => {
-            emit_base(code, form, r)?;
+            emit_base(code, form.sum.number, form.per_hart, r)?;
             Ok(())
         }
         [first, others @ ..] => {
@@ -260,12 +261,19 @@ pub struct At {
     pub offset: u32,
 }
 
-/// The form without the part of its number that an instruction's offset can hold, and that part.
+/// The part of a number that an instruction's offset can hold.
+fn offset_of(number: u32) -> u32
+    ensures { Fits result }
+{
+    let low = number % 4096;
+    if low < 2048 { low } else { 0xffff_f000 + low }
+}
+
+/// The form without that part of its number, and the part.
 fn without_offset(alloc: Global, form: &Form) -> Result<(Form, u32), AllocError>
     ensures { IfOk result (λ made. IsRest form.now made.0 made.1) }
 {
-    let low = form.sum.number % 4096;
-    let offset = if low < 2048 { low } else { 0xffff_f000 + low };
+    let offset = offset_of(form.sum.number);
     let mut rest = form.copy(alloc)?;
     rest.sum.number = words::subtract(form.sum.number, offset);
     Ok((rest, offset))
@@ -289,12 +297,10 @@ pub fn emit_address(
 {
     match find(alloc, scope, form, true)? {
         Some(found) => {
-            if fits(found.number) {
-                return Ok(At {
-                    register: found.register,
-                    offset: found.number,
-                });
-            }
+            return Ok(At {
+                register: found.register,
+                offset: found.number,
+            });
         }
         None => {}
     }
