@@ -168,11 +168,12 @@ module _ (scope : List Held) (form : Form) (terms : List Term) (other : Term) (r
       let v = values first.counter in
       let n = form.sum.number in
       let e = holds.value hart values f knows in
-      let g : (n + v * first.stride) % 2 ^ 32 ≡ (n + hart * 0 + (v * first.stride + 0)) % 2 ^ 32 = omega arith in
-      (let small : v % 2 ^ 32 < 2 ^ 32 = omega arith in subst (λ k. k < 2 ^ 32) (sym e) small,
-      with-product n (f s) v first.stride e ∙ g
-      ∙ ap (λ k. (n + hart * k + (v * first.stride + 0)) % 2 ^ 32) (sym z)
-      ∙ ap (λ k. (base hart + (v * first.stride + k)) % 2 ^ 32) (sym (none values)) ∙ ap (λ k. (base hart + k) % 2 ^ 32) (sym (parts values))))
+      let g : (n + v * first.stride) % 2 ^ 32 ≡ (n + hart * 0 + (v * first.stride + 0)) % 2 ^ 32 = omega arith in (
+        let small : v % 2 ^ 32 < 2 ^ 32 = omega arith in subst (λ k. k < 2 ^ 32) (sym e) small,
+        with-product n (f s) v first.stride e ∙ g
+            ∙ ap (λ k. (n + hart * k + (v * first.stride + 0)) % 2 ^ 32) (sym z)
+            ∙ ap (λ k. (base hart + (v * first.stride + k)) % 2 ^ 32) (sym (none values)) ∙ ap (λ k. (base hart + k) % 2 ^ 32) (sym (parts values)),
+      ))
 
   -- one more term
   pub sum-more : (s : ℕ) (c0 c1 c2 : List ℕ) → HoldsVariable scope first.counter s → MakesForm c0 c1 (2 + 4 * (length rest + 1)) scope r (sum_value form rest)
@@ -265,8 +266,8 @@ rest-is form rest offset fit small terms part e = record {
       let h = hart * form.per_hart in
       rest-number form.sum.number offset s h small
       ∙ sym (
-        ap (λ n. (((n + sum_of values rest.sum.terms) % 2 ^ 32 + hart * rest.per_hart) % 2 ^ 32 + offset) % 2 ^ 32) e
-        ∙ ap (λ ts. ((((form.sum.number + (2 ^ 32 - offset)) % 2 ^ 32 + sum_of values ts) % 2 ^ 32 + hart * rest.per_hart) % 2 ^ 32 + offset) % 2 ^ 32) terms
-        ∙ ap (λ k. ((((form.sum.number + (2 ^ 32 - offset)) % 2 ^ 32 + s) % 2 ^ 32 + hart * k) % 2 ^ 32 + offset) % 2 ^ 32) part
+      ap (λ n. (((n + sum_of values rest.sum.terms) % 2 ^ 32 + hart * rest.per_hart) % 2 ^ 32 + offset) % 2 ^ 32) e
+      ∙ ap (λ ts. ((((form.sum.number + (2 ^ 32 - offset)) % 2 ^ 32 + sum_of values ts) % 2 ^ 32 + hart * rest.per_hart) % 2 ^ 32 + offset) % 2 ^ 32) terms
+      ∙ ap (λ k. ((((form.sum.number + (2 ^ 32 - offset)) % 2 ^ 32 + s) % 2 ^ 32 + hart * k) % 2 ^ 32 + offset) % 2 ^ 32) part
       );
 }

@@ -49,6 +49,21 @@ pub record MakesForm (old new : List ℕ) (most : ℕ) (scope : List Held) (r : 
   pub does : (world : World) (memory : List ℕ) (hart : ℕ) (values : Values) (f : ℕ → ℕ) → length memory ≡ world.size → AreHolders scope
       → IsFree scope r → Knows hart scope values f → Puts world memory insns f r (says hart values)
 
+-- how many instructions make a sum of these terms
+abbrev pub sum_words : List Term → ℕ
+sum_words terms = 2 + 4 * (length terms + 1)
+
+-- so it is of a form's value
+abbrev pub MakesValue : List ℕ → List ℕ → List Held → Form → ℕ → Type 0
+MakesValue old new scope form r = MakesForm old new (sum_words form.sum.terms) scope r (λ hart values. form_value hart values form)
+
+-- ---- what is near
+
+-- a form is so much more than another one, on all harts and in all iterations
+abbrev pub IsApart : Form → Form → ℕ → Type 0
+IsApart form base d =
+    (d < 2 ^ 32) × ((hart : ℕ) (values : Values) → form_value hart values form ≡ (form_value hart values base + d) % 2 ^ 32)
+
 -- a form is so much more than what a register of the scope holds
 pub record IsNear (scope : List Held) (form : Form) (r d : ℕ) : Type 0 where
   pub may : may_hold r ≡ true
@@ -56,6 +71,8 @@ pub record IsNear (scope : List Held) (form : Form) (r d : ℕ) : Type 0 where
   pub word : d < 2 ^ 32
   pub value : (hart : ℕ) (values : Values) (f : ℕ → ℕ) → Knows hart scope values f → form_value hart values form ≡ (f r + d) % 2 ^ 32
   pub small : (hart : ℕ) (values : Values) (f : ℕ → ℕ) → Knows hart scope values f → f r < 2 ^ 32
+
+-- ---- addresses
 
 -- straight code behind which a register and an offset make v; r and the scratch registers may change
 pub record Addresses (world : World) (memory : List ℕ) (insns : List Insn) (f : ℕ → ℕ) (r base offset v : ℕ) : Type 0 where
@@ -76,6 +93,20 @@ pub record MakesAddress (old new : List ℕ) (most : ℕ) (scope : List Held) (r
   pub does : (world : World) (memory : List ℕ) (hart : ℕ) (values : Values) (f : ℕ → ℕ) → length memory ≡ world.size → AreHolders scope
       → IsFree scope r → Knows hart scope values f → Addresses world memory insns f r base offset (says hart values)
 
+-- so it is of an address that is a form
+abbrev pub MakesFormAddress : List ℕ → List ℕ → List Held → Form → ℕ → ℕ → ℕ → Type 0
+MakesFormAddress old new scope form r base offset =
+    MakesAddress old new (sum_words form.sum.terms) scope r base offset (λ hart values. form_value hart values form)
+
+-- a form is another one and an offset, which fits an immediate, and both have the same terms
+pub record IsRest (form rest : Form) (offset : ℕ) : Type 0 where
+  pub fits : Fits offset
+  pub small : offset < 2 ^ 32
+  pub terms : rest.sum.terms ≡ form.sum.terms
+  pub value : (hart : ℕ) (values : Values) → form_value hart values form ≡ (form_value hart values rest + offset) % 2 ^ 32
+
+-- ---- sums, term by term
+
 -- a register holds a loop variable, as far as words go
 pub record HoldsVariable (scope : List Held) (counter : Counter) (r : ℕ) : Type 0 where
   pub may : may_hold r ≡ true
@@ -85,9 +116,6 @@ pub record HoldsVariable (scope : List Held) (counter : Counter) (r : ℕ) : Typ
 abbrev pub sum_value : Form → List Term → ℕ → Values → ℕ
 sum_value form terms hart values = (form.sum.number + hart * form.per_hart + sum_of values terms) % 2 ^ 32
 
--- a form is another one and an offset, which fits an immediate, and both have the same terms
-pub record IsRest (form rest : Form) (offset : ℕ) : Type 0 where
-  pub fits : Fits offset
-  pub small : offset < 2 ^ 32
-  pub terms : rest.sum.terms ≡ form.sum.terms
-  pub value : (hart : ℕ) (values : Values) → form_value hart values form ≡ (form_value hart values rest + offset) % 2 ^ 32
+-- they are made
+abbrev pub MakesSum : List ℕ → List ℕ → List Held → Form → List Term → ℕ → Type 0
+MakesSum old new scope form terms r = MakesForm old new (sum_words terms) scope r (sum_value form terms)

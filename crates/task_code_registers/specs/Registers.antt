@@ -1,5 +1,5 @@
 -- Which register is for what. This project's own.
-use Rattle.std.specs.Prelude.{ℕ, Bool, ◌==◌, ◌||◌, ◌&&◌, not, nat_lt}
+use Rattle.std.specs.Prelude.{◌≢◌, ◌<◌, ◌≤◌, ℕ, Bool, ◌==◌, ◌||◌, ◌&&◌, not, nat_lt}
 
 -- it is always 0
 abbrev pub zero_register : ℕ
@@ -34,3 +34,15 @@ is_reserved q =
 -- a register that may be given to a form for as long as a loop runs
 abbrev pub may_hold : ℕ → Bool
 may_hold q = nat_lt q first_value && not (is_reserved q)
+
+-- code may leave a number there
+abbrev pub IsTarget : ℕ → Type 0
+IsTarget r = (1 ≤ r) × (r < 32)
+
+-- what is there stays while the scratch registers are used
+abbrev pub IsSource : ℕ → Type 0
+IsSource s = (s < 32) × ((s ≢ scratch) × (s ≢ second_scratch))
+
+-- both
+abbrev pub IsPlace : ℕ → Type 0
+IsPlace r = IsTarget r × ((r ≢ scratch) × (r ≢ second_scratch))

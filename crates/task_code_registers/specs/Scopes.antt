@@ -1,5 +1,6 @@
 -- What registers hold while code runs: sums of loop variables. This project's own.
-use Rattle.std.specs.Prelude.{◌≡◌, ◌≢◌, ◌⊎◌, ℕ, zero, suc, ◌+◌, ◌*◌, ◌%◌, ◌^◌, Bool, true, false, ◌==◌, ◌||◌, ◌&&◌, not, if◌then◌else◌, List, [], ◌∷◌}
+use Rattle.std.specs.Prelude.{◌≡◌, ◌≢◌, ◌⊎◌, ℕ, zero, suc, ◌+◌, ◌*◌, ◌%◌, ◌^◌, Bool, true, false, List, [], ◌∷◌}
+use Rattle.std.specs.Prelude.{◌==◌, ◌||◌, ◌&&◌, not, if◌then◌else◌}
 use Rattle.loop_ir.specs.declared.expressions.Counter.{Counter}
 use Rattle.loop_ir.specs.declared.expressions.Term.{Term}
 use Rattle.loop_ir.specs.Counters.{Values, same_counter}
@@ -43,6 +44,9 @@ Knows hart [] values f = (f zero_register ≡ 0) × (f hart_number ≡ hart)
 Knows hart (own ∷ others) values f = (f own.register ≡ form_value hart values own.form) × Knows hart others values f
 
 -- ---- registers that may still be given to forms
+
+abbrev pub IsLeft : List Held → ℕ → Type 0
+IsLeft scope r = (may_hold r ≡ true) × IsFree scope r
 
 abbrev pub is_held : List Held → ℕ → Bool
 is_held [] q = false

@@ -1,12 +1,12 @@
 //! Numbers, and registers plus or times a number.
 
-ghost use Rattle.std.specs.Prelude.{◌≡◌, ◌≢◌, ◌⊎◌, ◌+◌, ◌*◌, ◌%◌, ◌^◌, ◌<◌, ◌≤◌, [], ◌∷◌, IfSome, OnOk, true};
+ghost use Rattle.std.specs.Prelude.{◌≡◌, ◌+◌, ◌*◌, ◌%◌, ◌^◌, ◌<◌, ◌≤◌, [], ◌∷◌, IfSome, OnOk, true};
 ghost use Rattle.rv_insn.specs.declared.instructions.Insn.TheVariants.{AluImm, Lui};
 ghost use Rattle.rv_insn.specs.declared.operations.AluImmOp.TheVariants.{Addi};
 ghost use Rattle.task_code_scalar.specs.Code.{lower, upper};
 ghost use Rattle.task_code_scalar.specs.Words.{Emits};
 ghost use Rattle.task_code_registers.specs.Emitting.{Fits, Makes, MakesOf};
-ghost use Rattle.task_code_registers.specs.Registers.{scratch, second_scratch};
+ghost use Rattle.task_code_registers.specs.Registers.{IsSource, IsTarget};
 
 use crate::registers::{SCRATCH, ZERO};
 use rv_insn::{AluImmOp, AluOp, Imm12, Imm20, Insn, ShiftOp};
@@ -75,7 +75,7 @@ fn load_upper(code: &mut Vec<u32>, r: u8, value: u32) -> Result<(), AllocError>
 ///
 /// Memory ran out.
 pub fn emit_number(code: &mut Vec<u32>, r: u8, number: u32) -> Result<(), AllocError>
-    requires { (1 ≤ r) × (r < 32) }
+    requires { IsTarget r }
     ensures { OnOk result (Makes code.old.items code.new.items 2 r (λ f. number)) }
 {
     if fits(number) {
@@ -96,7 +96,7 @@ pub fn emit_number(code: &mut Vec<u32>, r: u8, number: u32) -> Result<(), AllocE
 ///
 /// Memory ran out.
 pub fn emit_plus(code: &mut Vec<u32>, r: u8, s: u8, number: u32) -> Result<(), AllocError>
-    requires { ((1 ≤ r) × (r < 32)) × ((s < 32) × ((s ≢ scratch) × (s ≢ second_scratch))) }
+    requires { IsTarget r × IsSource s }
     ensures { OnOk result (MakesOf code.old.items code.new.items 3 r s (λ v. (v + number) % 2 ^ 32)) }
 {
     if number == 0 && r == s {
@@ -131,7 +131,7 @@ fn power_from(number: u32, power: u64, exponent: u8) -> Option<u8>
 ///
 /// Memory ran out.
 pub fn emit_times(code: &mut Vec<u32>, r: u8, s: u8, number: u32) -> Result<(), AllocError>
-    requires { ((1 ≤ r) × (r < 32)) × ((s < 32) × ((s ≢ scratch) × (s ≢ second_scratch))) }
+    requires { IsTarget r × IsSource s }
     ensures { OnOk result (Makes code.old.items code.new.items 3 r (λ f. (f s * number) % 2 ^ 32)) }
 {
     if number == 0 {

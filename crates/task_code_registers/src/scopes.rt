@@ -1,9 +1,8 @@
 //! What registers hold while code runs, and which of them are left.
 
 ghost use Rattle.std.specs.Prelude.{◌≡◌, [], ◌++◌, ◌<◌, ◌≤◌, ◌∷◌, ℕ, None, IfOk, IfSome, OnOk, true};
-ghost use Rattle.task_code_registers.specs.Registers as registers;
 ghost use Rattle.task_code_registers.specs.Scopes as spec;
-ghost use Rattle.task_code_registers.specs.Scopes.{IsFree, left_below, left_count};
+ghost use Rattle.task_code_registers.specs.Scopes.{IsLeft, left_below, left_count};
 
 use crate::registers::{FIRST_VALUE, may_hold};
 use loop_ir::expressions::Linear;
@@ -33,7 +32,8 @@ impl Form {
     }
 }
 
-/// A register and the form whose value it holds. The number of lanes and their configuration count as registers 32 and 33.
+/// A register and the form whose value it holds. The number of lanes and their configuration count as registers
+/// 32 and 33.
 #[derive(Debug, Drop)]
 pub struct Held {
     pub register: u8,
@@ -150,7 +150,7 @@ fn last_left(scope: &[Held], end: u8) -> Option<u8>
 
 /// A register that holds nothing yet and may hold a form, where more than so many are left.
 pub fn free_register(scope: &[Held], reserved: usize) -> Option<u8>
-    ensures some { IfSome result (λ found. (registers.may_hold found ≡ true) × (IsFree scope.now found × (reserved < left_count scope.now))) }
+    ensures some { IfSome result (λ found. IsLeft scope.now found × (reserved < left_count scope.now)) }
     ensures none { result ≡ None → left_count scope.now ≤ reserved }
 {
     let found = last_left(scope, FIRST_VALUE)?;

@@ -1,12 +1,13 @@
 //! Forms and addresses, from what registers hold.
 
-ghost use Rattle.std.specs.Prelude.{◌≡◌, ◌≢◌, ℕ, ◌+◌, ◌*◌, ◌%◌, ◌^◌, ◌<◌, ◌≤◌, length, IfOk, IfSome, OnOk, true};
+ghost use Rattle.std.specs.Prelude.{◌≡◌, ◌+◌, ◌*◌, ◌%◌, ◌^◌, IfOk, IfSome, OnOk, true};
 ghost use Rattle.loop_ir.specs.Counters.{Values};
 ghost use Rattle.loop_ir.specs.Expressions.{sum_of};
-ghost use Rattle.task_code_registers.specs.Emitting.{Fits, HoldsVariable, IsNear, IsRest, Makes, MakesAddress, MakesForm, MakesOf, sum_value};
-ghost use Rattle.task_code_registers.specs.Registers.{hart_number, scratch, second_scratch};
+ghost use Rattle.task_code_registers.specs.Emitting.{Fits, HoldsVariable, IsApart, IsNear, IsRest};
+ghost use Rattle.task_code_registers.specs.Emitting.{Makes, MakesFormAddress, MakesOf, MakesSum, MakesValue};
+ghost use Rattle.task_code_registers.specs.Registers.{hart_number, IsPlace, IsSource};
 ghost use Rattle.task_code_registers.specs.Scopes as spec;
-ghost use Rattle.task_code_registers.specs.Scopes.{form_value, has_variable, have_registers};
+ghost use Rattle.task_code_registers.specs.Scopes.{has_variable, have_registers};
 
 use crate::numbers::{emit_number, emit_plus, emit_times, fits};
 use crate::registers::{HART_NUMBER, SECOND_SCRATCH, may_hold};
@@ -37,7 +38,7 @@ fn all_zero(terms: &[Term]) -> bool
 
 /// By how much a form is more than another one, where that is the same number on all harts and in all iterations.
 pub fn distance(alloc: Global, form: &Form, base: &Form) -> Result<Option<u32>, AllocError>
-    ensures { IfOk result (λ found. IfSome found (λ d. (d < 2 ^ 32) × ((hart : ℕ) (values : Values) → form_value hart values form.now ≡ (form_value hart values base.now + d) % 2 ^ 32))) }
+    ensures { IfOk result (λ found. IfSome found (IsApart form.now base.now)) }
 {
     if form.per_hart != base.per_hart {
         return Ok(None);
@@ -144,7 +145,7 @@ fn register_of(scope: &[Held], counter: Counter) -> u8
 
 /// Appends what adds the product of a register and a stride.
 fn emit_term(code: &mut Vec<u32>, r: u8, s: u8, stride: u32) -> Result<(), AllocError>
-    requires { ((1 ≤ r) × (r < 32)) × (((r ≢ scratch) × (r ≢ second_scratch)) × ((s < 32) × ((s ≢ scratch) × (s ≢ second_scratch)))) }
+    requires { IsPlace r × IsSource s }
     ensures { OnOk result (Makes code.old.items code.new.items 4 r (λ f. (f r + f s * stride) % 2 ^ 32)) }
 {
     if stride == 1 {
@@ -164,7 +165,7 @@ fn emit_product(
     stride: u32,
     number: u32,
 ) -> Result<(), AllocError>
-    requires { ((1 ≤ r) × (r < 32)) × (((r ≢ scratch) × (r ≢ second_scratch)) × ((s < 32) × ((s ≢ scratch) × (s ≢ second_scratch)))) }
+    requires { IsPlace r × IsSource s }
     ensures { OnOk result (MakesOf code.old.items code.new.items 6 r s (λ v. (number + v * stride) % 2 ^ 32)) }
 {
     if stride == 1 {
@@ -178,7 +179,7 @@ fn emit_product(
 
 /// Appends what leaves a number and so much times the hart's number.
 fn emit_base(code: &mut Vec<u32>, number: u32, per_hart: u32, r: u8) -> Result<(), AllocError>
-    requires { ((1 ≤ r) × (r < 32)) × ((r ≢ scratch) × (r ≢ second_scratch)) }
+    requires { IsPlace r }
     ensures { OnOk result (Makes code.old.items code.new.items 6 r (λ f. (number + f hart_number * per_hart) % 2 ^ 32)) }
 {
     if per_hart == 0 {
@@ -198,9 +199,9 @@ fn emit_sum(
     terms: &[Term],
     r: u8,
 ) -> Result<(), AllocError>
-    requires room { ((1 ≤ r) × (r < 32)) × ((r ≢ scratch) × (r ≢ second_scratch)) }
+    requires place { IsPlace r }
     requires held { have_registers scope.now terms.now ≡ true }
-    ensures { OnOk result (MakesForm code.old.items code.new.items (2 + 4 * (length terms.now + 1)) scope.now r (sum_value form.now terms.now)) }
+    ensures { OnOk result (MakesSum code.old.items code.new.items scope.now form.now terms.now r) }
 {
     match terms {
         [] => {
@@ -236,9 +237,9 @@ pub fn emit_form(
     form: &Form,
     r: u8,
 ) -> Result<(), AllocError>
-    requires room { ((1 ≤ r) × (r < 32)) × ((r ≢ scratch) × (r ≢ second_scratch)) }
+    requires place { IsPlace r }
     requires held { have_registers scope.now form.now.sum.terms ≡ true }
-    ensures { OnOk result (MakesForm code.old.items code.new.items (2 + 4 * (length form.now.sum.terms + 1)) scope.now r (λ hart values. form_value hart values form.now)) }
+    ensures { OnOk result (MakesValue code.old.items code.new.items scope.now form.now r) }
 {
     match nearest(alloc, scope, form)? {
         Some(found) => {
@@ -279,7 +280,8 @@ fn without_offset(alloc: Global, form: &Form) -> Result<(Form, u32), AllocError>
     Ok((rest, offset))
 }
 
-/// Appends what makes an address, and where it then is. There is no code where a form that is near enough is held; else the register is r.
+/// Appends what makes an address, and where it then is. There is no code where a form that is near enough is held;
+/// else the register is r.
 ///
 /// # Errors
 ///
@@ -291,9 +293,9 @@ pub fn emit_address(
     form: &Form,
     r: u8,
 ) -> Result<At, AllocError>
-    requires room { ((1 ≤ r) × (r < 32)) × ((r ≢ scratch) × (r ≢ second_scratch)) }
+    requires place { IsPlace r }
     requires held { have_registers scope.now form.now.sum.terms ≡ true }
-    ensures { IfOk result (λ at. MakesAddress code.old.items code.new.items (2 + 4 * (length form.now.sum.terms + 1)) scope.now r at.register at.offset (λ hart values. form_value hart values form.now)) }
+    ensures { IfOk result (λ at. MakesFormAddress code.old.items code.new.items scope.now form.now r at.register at.offset) }
 {
     match find(alloc, scope, form, true)? {
         Some(found) => {

@@ -11,4 +11,5 @@ returns-in-Some c =
     (subst (λ o. IfSome o (λ at. Fits at.number)) c.in-Some.is (c.in_ok-found.ensures.small refl))
 
 pub returns : goal.returns
-returns c = address-made c.args.scope.now c.args.form.now c.in_ok-rest.rest c.in_ok-rest.offset c.args.r _ _ c.requires.room.0.1 c.in_ok-rest.ensures c.in_ok-emit_form.ensures
+returns c =
+    address-made c.args.scope.now c.args.form.now c.in_ok-rest.rest c.in_ok-rest.offset c.args.r _ _ c.requires.place.0.1 c.in_ok-rest.ensures c.in_ok-emit_form.ensures
