@@ -1,7 +1,7 @@
 -- Registers that may still be given to forms.
 use Rattle.std.proofs.Common.{◌≡◌, ℕ, zero, suc, ◌+◌, ◌-◌, ◌<◌, ◌≤◌, List, [], ◌∷◌, Bool, true, false, refl, ap, ◌∙◌, sym, subst, arith, inl, inr}
 use Rattle.std.specs.Prelude.{◌≢◌, ◌⊎◌, ◌==◌, ◌&&◌, if◌then◌else◌, not}
-use Rattle.std.proofs.lemmas.Bool.{and_parts, true≢false}
+use Rattle.std.proofs.lemmas.Bool.{and_parts, true≢false, eqb-true}
 use Rattle.std.proofs.lemmas.Bool.Decides.{nat_tests}
 use Rattle.task_code_registers.specs.declared.scopes.Held.{Held}
 use Rattle.task_code_registers.specs.Registers.{may_hold}
@@ -31,3 +31,45 @@ left-may scope r t = (and_parts (may_hold r) (not (is_held scope r)) t).0
 
 pub left-free : (scope : List Held) (r : ℕ) → is_left scope r ≡ true → IsFree scope r
 left-free scope r t = let each = and_parts (may_hold r) (not (is_held scope r)) t in unheld scope r each.0 (is-not (is_held scope r) each.1)
+
+-- ---- a register is given away
+
+-- below it, as many are left
+same-below : (scope : List Held) (own : Held) (n : ℕ) → n ≤ own.register → left_below (own ∷ scope) n ≡ left_below scope n
+unfolding left_below
+same-below scope own zero l = refl
+same-below scope own (suc q) l =
+    let t : (own.register == q) ≡ false = let o : own.register ≢ q = (λ e. omega (arith, l, e)) in grind (arith, nat_tests, o) in
+    let s = same-below scope own q (omega (arith, l)) in
+    ap (λ b. if may_hold q && not (if b then true else is_held scope q) then suc (left_below (own ∷ scope) q) else left_below (own ∷ scope) q) t
+    ∙ ap (λ k. if is_left scope q then suc k else k) s
+
+-- and in all, one less
+one-less : (scope : List Held) (own : Held) (n : ℕ) → left_below scope n ≤ suc (left_below (own ∷ scope) n)
+unfolding left_below
+one-less scope own zero = omega arith
+one-less scope own (suc q) = by-test (own.register == q) refl (one-less scope own q)
+  where
+    both : (t : Bool) (a b : ℕ) → a ≤ suc b → (if t then suc a else a) ≤ suc (if t then suc b else b)
+    both true a b l = omega (arith, l)
+    both false a b l = l
+
+    grows : (t : Bool) (a b : ℕ) → a ≡ b → (if t then suc a else a) ≤ suc b
+    grows true a b e = omega (arith, e)
+    grows false a b e = omega (arith, e)
+
+    none : (a : Bool) (k : ℕ) → (if a && false then suc k else k) ≡ k
+    none true k = refl
+    none false k = refl
+
+    by-test : (t : Bool) → (own.register == q) ≡ t → left_below scope q ≤ suc (left_below (own ∷ scope) q)
+        → (if is_left scope q then suc (left_below scope q) else left_below scope q)
+        ≤ suc (if may_hold q && not (if t then true else is_held scope q) then suc (left_below (own ∷ scope) q) else left_below (own ∷ scope) q)
+    by-test true e l =
+        let k = left_below (own ∷ scope) q in
+        let s : k ≡ left_below scope q = same-below scope own q (omega (arith, eqb-true own.register q e)) in
+        subst (λ n. (if is_left scope q then suc (left_below scope q) else left_below scope q) ≤ suc n) (sym (none (may_hold q) k)) (grows (is_left scope q) (left_below scope q) k (sym s))
+    by-test false e l = both (is_left scope q) (left_below scope q) (left_below (own ∷ scope) q) l
+
+pub still-left : (scope : List Held) (own : Held) (reserved : ℕ) → reserved < left_count scope → reserved ≤ left_count (own ∷ scope)
+still-left scope own reserved l = let m = one-less scope own 20 in omega (arith, l, m)

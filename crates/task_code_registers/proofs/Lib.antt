@@ -1,5 +1,10 @@
+pub mod Advancing
 pub mod Counting
+pub mod Entering
+pub mod Going
 pub mod Knowing
+pub mod Looping
 pub mod Making
+pub mod Striding
 pub mod Summing
 pub mod Variables

@@ -1,3 +1,7 @@
+pub mod Doing
 pub mod Emitting
+pub mod Holding
+pub mod Looping
 pub mod Registers
 pub mod Scopes
+pub mod Strides

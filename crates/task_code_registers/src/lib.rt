@@ -7,8 +7,13 @@
 //! - [`numbers`]: appends what leaves a number, or a register plus or times a number.
 //! - [`sums`]: appends what leaves a form's value or makes an address, from the nearest form that a register holds or term
 //!   by term.
+//! - [`holding`]: appends what holds a form in a register while a loop runs, and makes of the forms of an iteration those of
+//!   the next one (`specs/Holding.antt`).
+//! - [`laws`]: a loop that is tested at its bottom does its iterations (`specs/Looping.antt`).
 #![tactic(auto)]
 
+pub mod holding;
+pub mod laws;
 pub mod numbers;
 pub mod registers;
 pub mod scopes;

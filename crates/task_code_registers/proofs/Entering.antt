@@ -1,0 +1,82 @@
+-- Scopes that are made before a loop's first iteration.
+use Rattle.std.proofs.Common.{◌≡◌, ℕ, zero, suc, ◌+◌, ◌*◌, ◌<◌, ◌≤◌, List, [], ◌∷◌, ◌++◌, length, refl, ap, ◌∙◌, sym, subst, arith, inl, inr, true, append_assoc}
+use Rattle.std.specs.Prelude.{◌≢◌}
+use Rattle.loop_ir.specs.declared.expressions.Counter.{Counter}
+use Rattle.loop_ir.specs.Counters.{with}
+use Rattle.multi_hart_logic.proofs.Paths.{line-then}
+use Rattle.task_code_scalar.proofs.Spelling.{emits_then}
+use Rattle.task_code_registers.specs.declared.scopes.Form.{Form}
+use Rattle.task_code_registers.specs.declared.scopes.Held.{Held}
+use Rattle.task_code_registers.specs.Registers.{may_hold, IsPlace}
+use Rattle.task_code_registers.specs.Emitting.{MakesValue}
+use Rattle.task_code_registers.specs.Scopes.{IsKept, IsLeft, left_count, have_registers}
+use Rattle.task_code_registers.specs.Strides.{others_of}
+use Rattle.task_code_registers.specs.Holding.{IsAt, Stepped, Extends, Enters, Takes, ScopesNest}
+use Rattle.task_code_registers.proofs.Advancing.{kept-more}
+use Rattle.task_code_registers.proofs.Counting.{still-left}
+use Rattle.task_code_registers.proofs.Knowing.{may-hold, knows-still, kept-apart}
+use Rattle.task_code_registers.proofs.Making.{short-then}
+use Rattle.task_code_registers.proofs.Striding.{others-fewer}
+
+-- ---- one form
+
+pub hold-place : (r : ℕ) → may_hold r ≡ true → IsPlace r
+hold-place r may = let m = may-hold r may in let low = m.low in let high = m.high in ((low, omega (arith, high)), (m.first, m.second))
+
+pub start-have : (counter : Counter) (scope : List Held) (form start : Form) → IsAt counter 0 form start → have_registers scope (others_of counter form.sum.terms) ≡ true
+    → have_registers scope start.sum.terms ≡ true
+start-have counter scope form start at have = ap (have_registers scope) at.terms ∙ have
+
+enters-one : (counter : Counter) (scope : List Held) (form start : Form) (r : ℕ) (c0 c1 : List ℕ) → IsLeft scope r → IsAt counter 0 form start → MakesValue c0 c1 scope start r
+    → Enters c0 c1 (2 + 4 * (length form.sum.terms + 1)) counter scope (record { register = r; form = form } ∷ scope)
+enters-one counter scope form start r c0 c1 is at x = record {
+  insns = x.insns;
+  emits = x.emits;
+  short =
+      let k = x.short in
+      let n : length start.sum.terms ≤ length form.sum.terms = subst (λ ts. length ts ≤ length form.sum.terms) (sym at.terms) (others-fewer counter form.sum.terms) in
+      omega (arith, k, n);
+  extends = record { added = record { register = r; form = form } ∷ []; is = refl };
+  holders = λ holders. (inl is.0, (is.1, holders));
+  does = λ w m hart values f l holders knows.
+      let a = x.does w m hart (with counter 0 values) f l holders is.1 knows in
+      let same : (q : ℕ) → IsKept scope q → a.after q ≡ f q = (λ q h. let s = kept-apart scope q holders h in a.others q (is.1 q h) s.0 s.1) in
+      record {
+        after = a.after;
+        line = a.line;
+        keeps = same;
+        mark = (a.value ∙ at.value hart 0 values, knows-still hart scope (with counter 0 values) f a.after same knows);
+      };
+}
+
+pub takes-one : (counter : Counter) (scope made : List Held) (form start : Form) (reserved r : ℕ) (c0 c1 : List ℕ) → IsLeft scope r × (reserved < left_count scope) → IsAt counter 0 form start
+    → MakesValue c0 c1 scope start r → made ≡ record { register = r; form = form } ∷ scope → Takes c0 c1 counter scope form reserved r made
+takes-one counter scope made form start reserved r c0 c1 is at x e = record {
+  enters = subst (Enters c0 c1 (2 + 4 * (length form.sum.terms + 1)) counter scope) (sym e) (enters-one counter scope form start r c0 c1 is.0 at x);
+  is = e;
+  may = is.0.0;
+  left = subst (λ s. reserved ≤ left_count s) (sym e) (still-left scope (record { register = r; form = form }) reserved is.1);
+}
+
+-- ---- one scope behind another
+
+pub scopes-nest : ScopesNest
+scopes-nest c0 c1 c2 n k counter scope next inner x y =
+    let a = x.extends in
+    let b = y.extends in
+    record {
+      insns = x.insns ++ y.insns;
+      emits = emits_then x.emits y.emits;
+      short = short-then x.insns y.insns n k (n + k) x.short y.short (omega arith);
+      extends = record { added = b.added ++ a.added; is = b.is ∙ ap (λ s. b.added ++ s) a.is ∙ sym (append_assoc b.added a.added scope) };
+      holders = λ h. y.holders (x.holders h);
+      does = λ w m hart values f l holders knows.
+          let g = x.does w m hart values f l holders knows in
+          let h = y.does w m hart values g.after l (x.holders holders) g.mark in
+          record {
+            after = h.after;
+            line = line-then w x.insns y.insns f g.after h.after m m m g.line h.line;
+            keeps = λ q o. h.keeps q (subst (λ s. IsKept s q) (sym a.is) (kept-more a.added scope q o)) ∙ g.keeps q o;
+            mark = h.mark;
+          };
+    }

@@ -1,0 +1,97 @@
+-- Forms that registers hold while a loop runs, and that go along with its iterations. This project's own.
+use Rattle.std.specs.Prelude.{◌≡◌, ◌≢◌, ◌≤◌, ℕ, suc, ◌+◌, ◌||◌, ◌&&◌, not, Bool, true, false, if◌then◌else◌, List, [], ◌∷◌, ◌++◌, length}
+use Rattle.rv_insn.specs.declared.instructions.Insn.{Insn}
+use Rattle.loop_ir.specs.declared.expressions.Counter.{Counter}
+use Rattle.loop_ir.specs.Counters.{Values, with}
+use Rattle.multi_hart_logic.specs.Alone.{World}
+use Rattle.multi_hart_logic.specs.Paths.{Line}
+use Rattle.task_code_scalar.specs.Words.{Emits}
+use Rattle.task_code_registers.specs.declared.holding.Taken.{Taken}
+use Rattle.task_code_registers.specs.declared.scopes.Form.{Form}
+use Rattle.task_code_registers.specs.declared.scopes.Held.{Held}
+use Rattle.task_code_registers.specs.Registers.{scratch, second_scratch, may_hold}
+use Rattle.task_code_registers.specs.Emitting.{sum_words}
+use Rattle.task_code_registers.specs.Scopes.{Knows, AreHolders, IsKept, form_value, left_count}
+use Rattle.task_code_registers.specs.Strides.{has_counter, others_of}
+
+-- straight code that changes registers, and keeps these; behind it something is so
+pub record Stepped (world : World) (memory : List ℕ) (insns : List Insn) (f : ℕ → ℕ) (keeps_it : ℕ → Type 0) (mark_is : (ℕ → ℕ) → Type 0) : Type 0 where
+  pub after : ℕ → ℕ
+  pub line : Line world insns f memory after memory
+  pub keeps : (q : ℕ) → keeps_it q → after q ≡ f q
+  pub mark : mark_is after
+
+-- a form where a variable stands at a number
+pub record IsAt (counter : Counter) (n : ℕ) (form made : Form) : Type 0 where
+  pub terms : made.sum.terms ≡ others_of counter form.sum.terms
+  pub value : (hart v : ℕ) (values : Values) → form_value hart (with counter v values) made ≡ form_value hart (with counter n values) form
+
+-- ---- before the first iteration
+
+-- forms stand in front of those of another scope
+pub record Extends (scope inner : List Held) : Type 0 where
+  pub added : List Held
+  pub is : inner ≡ added ++ scope
+
+-- At most so many appended instructions make one scope of another before a loop's first iteration, in which its variable is 0.
+pub record Enters (old new : List ℕ) (most : ℕ) (counter : Counter) (scope inner : List Held) : Type 0 where
+  pub insns : List Insn
+  pub emits : Emits old new insns
+  pub short : length insns ≤ most
+  pub extends : Extends scope inner
+  pub holders : AreHolders scope → AreHolders inner
+  pub does : (world : World) (memory : List ℕ) (hart : ℕ) (values : Values) (f : ℕ → ℕ) → length memory ≡ world.size → AreHolders scope
+      → Knows hart scope (with counter 0 values) f → Stepped world memory insns f (IsKept scope) (Knows hart inner (with counter 0 values))
+
+-- a register is given to a form, and so many stay free
+pub record Takes (old new : List ℕ) (counter : Counter) (scope : List Held) (form : Form) (reserved r : ℕ) (inner : List Held) : Type 0 where
+  pub enters : Enters old new (sum_words form.sum.terms) counter scope inner
+  pub is : inner ≡ record { register = r; form = form } ∷ scope
+  pub may : may_hold r ≡ true
+  pub left : reserved ≤ left_count inner
+
+abbrev pub TakesOne : List ℕ → List ℕ → Counter → List Held → Form → ℕ → Taken → Type 0
+TakesOne old new counter scope form reserved taken = Takes old new counter scope form reserved taken.register taken.scope.items
+
+-- ---- from one iteration to the next
+
+-- whether a form has a term of the variable
+abbrev pub mentions : Counter → List Held → Bool
+mentions counter [] = false
+mentions counter (own ∷ others) = if has_counter counter own.form.sum.terms then true else mentions counter others
+
+-- how many have
+abbrev pub moving : Counter → List Held → ℕ
+moving counter [] = 0
+moving counter (own ∷ others) = if has_counter counter own.form.sum.terms then suc (moving counter others) else moving counter others
+
+-- each that has stands in a register, which code can add to
+abbrev pub can_advance : Counter → List Held → Bool
+can_advance counter [] = true
+can_advance counter (own ∷ others) = (not (has_counter counter own.form.sum.terms) || may_hold own.register) && can_advance counter others
+
+-- no scratch register, and none of those
+abbrev pub IsSteady : Counter → List Held → ℕ → Type 0
+IsSteady counter [] q = (q ≢ scratch) × (q ≢ second_scratch)
+IsSteady counter (own ∷ others) q = (has_counter counter own.form.sum.terms ≡ true → q ≢ own.register) × IsSteady counter others q
+
+-- At most so many appended instructions make of what registers hold in an iteration what they hold in the next one.
+pub record Advances (old new : List ℕ) (most : ℕ) (counter : Counter) (inner : List Held) : Type 0 where
+  pub insns : List Insn
+  pub emits : Emits old new insns
+  pub short : length insns ≤ most
+  pub does : (world : World) (memory : List ℕ) (hart : ℕ) (values : Values) (iteration : ℕ) (f : ℕ → ℕ) → length memory ≡ world.size → AreHolders inner
+      → Knows hart inner (with counter iteration values) f
+      → Stepped world memory insns f (IsSteady counter inner) (Knows hart inner (with counter (suc iteration) values))
+
+-- Registers of a scope with no term of a variable stay where an inner scope goes along with it.
+abbrev pub ScopesStay : Type 0
+ScopesStay =
+    (counter : Counter) (scope inner : List Held) → Extends scope inner → mentions counter scope ≡ false → AreHolders inner
+    → (q : ℕ) → IsKept scope q → IsKept inner q × IsSteady counter inner q
+
+-- One scope is entered behind another.
+abbrev pub ScopesNest : Type 0
+ScopesNest =
+    (old middle new : List ℕ) (n k : ℕ) (counter : Counter) (scope next inner : List Held) → Enters old middle n counter scope next
+    → Enters middle new k counter next inner → Enters old new (n + k) counter scope inner

@@ -1,0 +1,51 @@
+-- A loop that is tested at its bottom. This project's own.
+use Rattle.std.specs.Prelude.{◌≡◌, ◌⊎◌, ◌<◌, ◌≤◌, ℕ, zero, suc, ◌+◌, nat_lt, true, List, [], ◌∷◌, ◌++◌, length}
+use Rattle.rv_insn.specs.declared.instructions.Insn.{Insn}
+use Rattle.rv_insn.specs.declared.instructions.Insn.TheVariants.{Branch}
+use Rattle.rv_insn.specs.declared.operations.BranchOp.{BranchOp}
+use Rattle.hart_core.specs.Alu.{is_taken}
+use Rattle.halide_pipeline.specs.Pixel.{Planes}
+use Rattle.loop_ir.specs.declared.expressions.Counter.{Counter}
+use Rattle.loop_ir.specs.Buffers.{Points}
+use Rattle.loop_ir.specs.Counters.{Values, with}
+use Rattle.loop_ir.specs.Running.{turns}
+use Rattle.task_code_scalar.specs.Code.{back}
+use Rattle.task_code_scalar.specs.Doing.{Setting, HoldsFuncs}
+use Rattle.task_code_scalar.specs.Fitting.{total}
+use Rattle.task_code_registers.specs.declared.scopes.Held.{Held}
+use Rattle.task_code_registers.specs.Scopes.{Knows, IsKept}
+use Rattle.task_code_registers.specs.Holding.{Stepped}
+use Rattle.task_code_registers.specs.Doing.{Did}
+
+-- the body, what makes the next iteration's numbers of this one's, and a branch back while there is a next iteration
+abbrev pub looped : List Insn → List Insn → BranchOp → ℕ → ℕ → List Insn
+looped body advance op a b = (body ++ advance) ++ (Branch op a b (back (length (body ++ advance))) ∷ [])
+
+-- What is asked of its parts: a body that does an iteration and keeps the registers of the inner scope, straight code that makes of what
+-- they hold in an iteration what they hold in the next one, and a branch that is taken while there is one.
+pub record Iterates (own : Setting) (hart : ℕ) (scope inner : List Held) (counter : Counter) (values : Values) (n : ℕ) (body advance : List Insn) (op : BranchOp) (a b : ℕ)
+    (t : ℕ → ℕ) (one : ℕ → Planes → Planes) (body_stored : ℕ → Planes → Points) : Type 0 where
+  pub first : a < 32
+  pub second : b < 32
+  pub some : 1 ≤ length (body ++ advance)
+  pub kept : (q : ℕ) → IsKept scope q → IsKept inner q
+  pub does : (i : ℕ) (f : ℕ → ℕ) (memory : List ℕ) (funcs : Planes) → i < n → HoldsFuncs own memory funcs → Knows hart inner (with counter i values) f
+      → Did own body (t i) f memory (IsKept inner) (one i funcs) (body_stored i funcs)
+  pub moves : (i : ℕ) (f : ℕ → ℕ) (memory : List ℕ) → i < n → length memory ≡ own.world.size → Knows hart inner (with counter i values) f
+      → Stepped own.world memory advance f (IsKept scope) (Knows hart inner (with counter (suc i) values))
+  pub tested : (i : ℕ) (f : ℕ → ℕ) → i < n → Knows hart inner (with counter (suc i) values) f → is_taken op (f a) (f b) ≡ nat_lt (suc i) n
+
+-- what is stored in so many iterations, of what each of them stores
+pub record StoresOf (stored body_stored : ℕ → Planes → Points) (one : ℕ → Planes → Planes) : Type 0 where
+  pub none : (funcs : Planes) (func x y : ℕ) → stored zero funcs func x y ≡ true → ⊥
+  pub more : (i : ℕ) (funcs : Planes) (func x y : ℕ) → stored (suc i) funcs func x y ≡ true
+      → (stored i funcs func x y ≡ true) ⊎ (body_stored i (turns i one funcs) func x y ≡ true)
+
+-- A loop of one iteration or more does them one after the other.
+abbrev pub LoopsGoRound : Type 0
+LoopsGoRound =
+    (own : Setting) (hart : ℕ) (scope inner : List Held) (counter : Counter) (values : Values) (n : ℕ) (body advance : List Insn) (op : BranchOp) (a b : ℕ)
+    (t : ℕ → ℕ) (one : ℕ → Planes → Planes) (body_stored stored : ℕ → Planes → Points) → 1 ≤ n
+    → Iterates own hart scope inner counter values n body advance op a b t one body_stored → StoresOf stored body_stored one
+    → (f : ℕ → ℕ) (memory : List ℕ) (funcs : Planes) → HoldsFuncs own memory funcs → Knows hart inner (with counter 0 values) f
+    → Did own (looped body advance op a b) (total n (λ i. t i + length advance + 1)) f memory (IsKept scope) (turns n one funcs) (stored n funcs)

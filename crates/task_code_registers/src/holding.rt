@@ -1,0 +1,140 @@
+//! Forms that registers hold while a loop runs.
+
+ghost use Rattle.std.specs.Prelude.{◌≡◌, ◌≤◌, ◌*◌, ◌%◌, ◌^◌, ◌++◌, None, IfOk, IfSome, OnOk, true};
+ghost use Rattle.task_code_registers.specs.Holding.{Advances, IsAt, TakesOne, can_advance, moving};
+ghost use Rattle.task_code_registers.specs.Scopes.{have_registers, left_count};
+ghost use Rattle.task_code_registers.specs.Strides.{others_of, strides};
+
+use crate::numbers::emit_plus;
+use crate::scopes::{Form, Held, free_register, with_held};
+use crate::sums::emit_form;
+use halide_pipeline::words;
+use loop_ir::expressions::{Counter, Linear, Term, same_counter};
+use sqlite_items::Items;
+use std::alloc::{AllocError, Global};
+
+// ---- forms in an iteration
+
+/// The sum of a loop variable's strides.
+pub fn stride_of(terms: &[Term], counter: Counter) -> u32
+    ensures { result ≡ strides counter terms.now % 2 ^ 32 }
+{
+    match terms {
+        [] => 0,
+        [first, others @ ..] => {
+            if same_counter(first.counter, counter) {
+                words::add(first.stride, stride_of(others, counter))
+            } else {
+                stride_of(others, counter)
+            }
+        }
+    }
+}
+
+/// Appends the terms of other loop variables.
+fn other_terms(made: &mut Items<Term>, terms: &[Term], counter: Counter) -> Result<(), AllocError>
+    ensures { OnOk result (made.new ≡ made.old ++ others_of counter terms.now) }
+{
+    match terms {
+        [] => Ok(()),
+        [first, others @ ..] => {
+            if same_counter(first.counter, counter) {
+                other_terms(made, others, counter)?;
+                return Ok(());
+            }
+            made.push(*first)?;
+            other_terms(made, others, counter)?;
+            Ok(())
+        }
+    }
+}
+
+/// A form where a loop variable stands at a number.
+///
+/// # Errors
+///
+/// Memory ran out.
+pub fn at_value(
+    alloc: Global,
+    form: &Form,
+    counter: Counter,
+    value: u32,
+) -> Result<Form, AllocError>
+    ensures { IfOk result (λ made. IsAt counter value form.now made) }
+{
+    let mut terms = Items::new(alloc);
+    other_terms(&mut terms, form.sum.terms.as_slice(), counter)?;
+    let stride = stride_of(form.sum.terms.as_slice(), counter);
+    let far = words::multiply(stride, value);
+    let number = words::add(form.sum.number, far);
+    Ok(Form {
+        sum: Linear { number, terms },
+        per_hart: form.per_hart,
+    })
+}
+
+// ---- before the first iteration
+
+/// A scope with one form more, and the register that holds it.
+#[derive(Debug, Drop)]
+pub struct Taken {
+    pub scope: Vec<Held>,
+    pub register: u8,
+}
+
+/// Appends what leaves a form, as it is in a loop's first iteration, in a register that holds nothing yet, where more than so
+/// many are left. Else there is no code.
+///
+/// # Errors
+///
+/// Memory ran out.
+pub fn hold(
+    alloc: Global,
+    code: &mut Vec<u32>,
+    scope: &[Held],
+    counter: Counter,
+    form: &Form,
+    reserved: usize,
+) -> Result<Option<Taken>, AllocError>
+    requires { have_registers scope.now (others_of counter form.now.sum.terms) ≡ true }
+    ensures some { IfOk result (λ made. IfSome made (TakesOne code.old.items code.new.items counter scope.now form.now reserved)) }
+    ensures none { IfOk result (λ made. made ≡ None → (code.new.items ≡ code.old.items) × (left_count scope.now ≤ reserved)) }
+{
+    match free_register(scope, reserved) {
+        None => Ok(None),
+        Some(register) => {
+            let start = at_value(alloc, form, counter, 0)?;
+            emit_form(alloc, code, scope, &start, register)?;
+            let inner = with_held(alloc, scope, register, form)?;
+            Ok(Some(Taken {
+                scope: inner,
+                register,
+            }))
+        }
+    }
+}
+
+// ---- from one iteration to the next
+
+/// Appends what makes of the forms of an iteration those of the next one.
+///
+/// # Errors
+///
+/// Memory ran out.
+pub fn emit_advance(code: &mut Vec<u32>, inner: &[Held], counter: Counter) -> Result<(), AllocError>
+    requires { can_advance counter inner.now ≡ true }
+    ensures { OnOk result (Advances code.old.items code.new.items (3 * moving counter inner.now) counter inner.now) }
+{
+    match inner {
+        [] => Ok(()),
+        [first, others @ ..] => {
+            emit_advance(code, others, counter)?;
+            let stride = stride_of(first.form.sum.terms.as_slice(), counter);
+            if stride == 0 {
+                return Ok(());
+            }
+            emit_plus(code, first.register, first.register, stride)?;
+            Ok(())
+        }
+    }
+}
