@@ -48,7 +48,8 @@ unmentioned-steady counter (own ∷ others) q none a b =
 added-steady : (counter : Counter) (added scope : List Held) → mentions counter scope ≡ false → AreHolders (added ++ scope) → (q : ℕ) → IsKept scope q
     → IsSteady counter (added ++ scope) q
 added-steady counter [] scope none holders q h = let t = kept-apart scope q holders h in unmentioned-steady counter scope q none t.0 t.1
-added-steady counter (own ∷ others) scope none holders q h = ((λ has. holders.1.0 q (kept-more others scope q h)), added-steady counter others scope none holders.1.1 q h)
+added-steady counter (own ∷ others) scope none holders q h =
+    ((λ has. holders.1.0 q (kept-more others scope q h)), added-steady counter others scope none holders.1.1 q h)
 
 pub scopes-stay : ScopesStay
 scopes-stay counter scope inner extends none holders q h =
@@ -77,7 +78,8 @@ moving-more counter own others = by-test (has_counter counter own.form.sum.terms
     by-test false = omega arith
 
 -- the first form stays
-advances-still : (counter : Counter) (others : List Held) (own : Held) (stride : ℕ) (c0 c1 : List ℕ) → stride ≡ strides counter own.form.sum.terms % 2 ^ 32 → stride ≡ 0
+advances-still : (counter : Counter) (others : List Held) (own : Held) (stride : ℕ) (c0 c1 : List ℕ) → stride ≡ strides counter own.form.sum.terms % 2 ^ 32
+    → stride ≡ 0
     → Advances c0 c1 (3 * moving counter others) counter others → Advances c0 c1 (3 * moving counter (own ∷ others)) counter (own ∷ others)
 advances-still counter others own stride c0 c1 es z x = record {
   insns = x.insns;
@@ -100,7 +102,8 @@ advances-still counter others own stride c0 c1 es z x = record {
 }
 
 -- or goes on by its stride
-advances-more : (counter : Counter) (others : List Held) (own : Held) (stride : ℕ) (c0 c1 c2 : List ℕ) → has_counter counter own.form.sum.terms ≡ true → stride ≡ strides counter own.form.sum.terms % 2 ^ 32
+advances-more : (counter : Counter) (others : List Held) (own : Held) (stride : ℕ) (c0 c1 c2 : List ℕ) → has_counter counter own.form.sum.terms ≡ true
+    → stride ≡ strides counter own.form.sum.terms % 2 ^ 32
     → Advances c0 c1 (3 * moving counter others) counter others → MakesOf c1 c2 3 own.register own.register (λ v. (v + stride) % 2 ^ 32)
     → Advances c0 c2 (3 * moving counter (own ∷ others)) counter (own ∷ others)
 advances-more counter others own stride c0 c1 c2 has es x y = record {
@@ -115,7 +118,8 @@ advances-more counter others own stride c0 c1 c2 has es x y = record {
       let u = free-steady counter others own.register s.0 s.1 holders.1.0 in
       let e = a.keeps own.register u ∙ knows.0 in
       let v = form_value hart (with counter i values) own.form in
-      let b = y.does w m a.after l (knows-zero hart others (with counter (suc i) values) a.after a.mark) (subst (λ k. k < 2 ^ 32) (sym e) (form-small hart (with counter i values) own.form)) in
+      let b = y.does w m a.after l (knows-zero hart others (with counter (suc i) values) a.after a.mark)
+      (subst (λ k. k < 2 ^ 32) (sym e) (form-small hart (with counter i values) own.form)) in
       let n = ap (λ k. (k + stride) % 2 ^ 32) e ∙ form-next counter i stride hart values own.form es in
       record {
         after = b.after;
@@ -123,7 +127,8 @@ advances-more counter others own stride c0 c1 c2 has es x y = record {
         keeps = λ q k. let t = steady-apart counter others q k.1 in b.others q (k.0 has) t.0 t.1 ∙ a.keeps q k.1;
         mark = (
           b.value ∙ n,
-          knows-still hart others (with counter (suc i) values) a.after b.after (λ q h. let t = kept-apart others q holders.1.1 h in b.others q (holders.1.0 q h) t.0 t.1) a.mark,
+          knows-still hart others (with counter (suc i) values) a.after b.after (λ q h. let t = kept-apart others q holders.1.1 h in
+              b.others q (holders.1.0 q h) t.0 t.1) a.mark,
         );
       };
 }
@@ -134,7 +139,8 @@ or-second : (a b : Bool) → a ≡ true → (not a || b) ≡ true → b ≡ true
 or-second true b e h = h
 or-second false b e h = absurd (true≢false (sym e))
 
-module _ (counter : Counter) (inner : List Held) (item other : Held) (stride : ℕ) (terms : List Term) (some : 1 ≤ length inner) (is : item ≡ get_or inner 0 other)
+module _ (counter : Counter) (inner : List Held) (item other : Held) (stride : ℕ) (terms : List Term) (some : 1 ≤ length inner)
+    (is : item ≡ get_or inner 0 other)
     (es : stride ≡ strides counter terms % 2 ^ 32) (et : terms ≡ item.form.sum.terms) where
   abbrev rest : List Held
   rest = take (length inner - 1) (drop 1 inner)
@@ -153,8 +159,10 @@ module _ (counter : Counter) (inner : List Held) (item other : Held) (stride : �
       by-test true e = refl
       by-test false e = absurd (some_stride (stride-is ∙ ap (λ n. n % 2 ^ 32) (strides-none counter item.form.sum.terms e)))
 
-  parts : can_advance counter inner ≡ true → ((not (has_counter counter item.form.sum.terms) || may_hold item.register) ≡ true) × (can_advance counter rest ≡ true)
-  parts can = and_parts (not (has_counter counter item.form.sum.terms) || may_hold item.register) (can_advance counter rest) (sym (ap (can_advance counter) split) ∙ can)
+  parts : can_advance counter inner ≡ true
+      → ((not (has_counter counter item.form.sum.terms) || may_hold item.register) ≡ true) × (can_advance counter rest ≡ true)
+  parts can = and_parts (not (has_counter counter item.form.sum.terms) || may_hold item.register) (can_advance counter rest)
+      (sym (ap (can_advance counter) split) ∙ can)
 
   pub advance-may : stride ≢ 0 → can_advance counter inner ≡ true → IsTarget item.register × IsSource item.register
   advance-may some_stride can =
@@ -163,16 +171,22 @@ module _ (counter : Counter) (inner : List Held) (item other : Held) (stride : �
       let high = m.high in
       ((low, omega (arith, high)), (omega (arith, high), (m.first, m.second)))
 
-  pub advanced-still : (c0 c1 : List ℕ) → stride ≡ 0 → Advances c0 c1 (3 * moving counter rest) counter rest → Advances c0 c1 (3 * moving counter inner) counter inner
-  advanced-still c0 c1 z x = subst (λ s. Advances c0 c1 (3 * moving counter s) counter s) (sym split) (advances-still counter rest item stride c0 c1 stride-is z x)
+  pub advanced-still : (c0 c1 : List ℕ) → stride ≡ 0 → Advances c0 c1 (3 * moving counter rest) counter rest
+      → Advances c0 c1 (3 * moving counter inner) counter inner
+  advanced-still c0 c1 z x = subst (λ s. Advances c0 c1 (3 * moving counter s) counter s) (sym split)
+      (advances-still counter rest item stride c0 c1 stride-is z x)
 
-  pub advanced-more : (c0 c1 c2 : List ℕ) → stride ≢ 0 → Advances c0 c1 (3 * moving counter rest) counter rest → MakesOf c1 c2 3 item.register item.register (λ v. (v + stride) % 2 ^ 32)
+  pub advanced-more : (c0 c1 c2 : List ℕ) → stride ≢ 0 → Advances c0 c1 (3 * moving counter rest) counter rest
+      → MakesOf c1 c2 3 item.register item.register (λ v. (v + stride) % 2 ^ 32)
       → Advances c0 c2 (3 * moving counter inner) counter inner
   advanced-more c0 c1 c2 some_stride x y =
-      subst (λ s. Advances c0 c2 (3 * moving counter s) counter s) (sym split) (advances-more counter rest item stride c0 c1 c2 (has-term some_stride) stride-is x y)
+      subst (λ s. Advances c0 c2 (3 * moving counter s) counter s) (sym split)
+      (advances-more counter rest item stride c0 c1 c2 (has-term some_stride) stride-is x y)
 
-pub advance-rest : (counter : Counter) (inner : List Held) (other : Held) → 1 ≤ length inner → can_advance counter inner ≡ true → can_advance counter (take (length inner - 1) (drop 1 inner)) ≡ true
+pub advance-rest : (counter : Counter) (inner : List Held) (other : Held) → 1 ≤ length inner → can_advance counter inner ≡ true
+    → can_advance counter (take (length inner - 1) (drop 1 inner)) ≡ true
 advance-rest counter inner other some can =
     let rest = take (length inner - 1) (drop 1 inner) in
     let first = get_or inner 0 other in
-    (and_parts (not (has_counter counter first.form.sum.terms) || may_hold first.register) (can_advance counter rest) (sym (ap (can_advance counter) (others-are inner other some)) ∙ can)).1
+    (and_parts (not (has_counter counter first.form.sum.terms) || may_hold first.register) (can_advance counter rest)
+    (sym (ap (can_advance counter) (others-are inner other some)) ∙ can)).1

@@ -68,7 +68,8 @@ one-less scope own (suc q) = by-test (own.register == q) refl (one-less scope ow
     by-test true e l =
         let k = left_below (own ∷ scope) q in
         let s : k ≡ left_below scope q = same-below scope own q (omega (arith, eqb-true own.register q e)) in
-        subst (λ n. (if is_left scope q then suc (left_below scope q) else left_below scope q) ≤ suc n) (sym (none (may_hold q) k)) (grows (is_left scope q) (left_below scope q) k (sym s))
+        subst (λ n. (if is_left scope q then suc (left_below scope q) else left_below scope q) ≤ suc n) (sym (none (may_hold q) k))
+        (grows (is_left scope q) (left_below scope q) k (sym s))
     by-test false e l = both (is_left scope q) (left_below scope q) (left_below (own ∷ scope) q) l
 
 pub still-left : (scope : List Held) (own : Held) (reserved : ℕ) → reserved < left_count scope → reserved ≤ left_count (own ∷ scope)

@@ -1,5 +1,6 @@
 -- Scopes that are made before a loop's first iteration.
-use Rattle.std.proofs.Common.{◌≡◌, ℕ, zero, suc, ◌+◌, ◌*◌, ◌<◌, ◌≤◌, List, [], ◌∷◌, ◌++◌, length, refl, ap, ◌∙◌, sym, subst, arith, inl, inr, true, append_assoc}
+use Rattle.std.proofs.Common.{◌≡◌, ℕ, zero, suc, ◌+◌, ◌*◌, ◌<◌, ◌≤◌, List, [], ◌∷◌, ◌++◌, length, refl, ap, ◌∙◌, sym, subst, arith, inl}
+use Rattle.std.proofs.Common.{inr, true, append_assoc}
 use Rattle.std.specs.Prelude.{◌≢◌}
 use Rattle.loop_ir.specs.declared.expressions.Counter.{Counter}
 use Rattle.loop_ir.specs.Counters.{with}
@@ -23,18 +24,21 @@ use Rattle.task_code_registers.proofs.Striding.{others-fewer}
 pub hold-place : (r : ℕ) → may_hold r ≡ true → IsPlace r
 hold-place r may = let m = may-hold r may in let low = m.low in let high = m.high in ((low, omega (arith, high)), (m.first, m.second))
 
-pub start-have : (counter : Counter) (scope : List Held) (form start : Form) → IsAt counter 0 form start → have_registers scope (others_of counter form.sum.terms) ≡ true
+pub start-have : (counter : Counter) (scope : List Held) (form start : Form) → IsAt counter 0 form start
+    → have_registers scope (others_of counter form.sum.terms) ≡ true
     → have_registers scope start.sum.terms ≡ true
 start-have counter scope form start at have = ap (have_registers scope) at.terms ∙ have
 
-enters-one : (counter : Counter) (scope : List Held) (form start : Form) (r : ℕ) (c0 c1 : List ℕ) → IsLeft scope r → IsAt counter 0 form start → MakesValue c0 c1 scope start r
+enters-one : (counter : Counter) (scope : List Held) (form start : Form) (r : ℕ) (c0 c1 : List ℕ) → IsLeft scope r → IsAt counter 0 form start
+    → MakesValue c0 c1 scope start r
     → Enters c0 c1 (2 + 4 * (length form.sum.terms + 1)) counter scope (record { register = r; form = form } ∷ scope)
 enters-one counter scope form start r c0 c1 is at x = record {
   insns = x.insns;
   emits = x.emits;
   short =
       let k = x.short in
-      let n : length start.sum.terms ≤ length form.sum.terms = subst (λ ts. length ts ≤ length form.sum.terms) (sym at.terms) (others-fewer counter form.sum.terms) in
+      let n : length start.sum.terms ≤ length form.sum.terms =
+      subst (λ ts. length ts ≤ length form.sum.terms) (sym at.terms) (others-fewer counter form.sum.terms) in
       omega (arith, k, n);
   extends = record { added = record { register = r; form = form } ∷ []; is = refl };
   holders = λ holders. (inl is.0, (is.1, holders));
@@ -49,7 +53,8 @@ enters-one counter scope form start r c0 c1 is at x = record {
       };
 }
 
-pub takes-one : (counter : Counter) (scope made : List Held) (form start : Form) (reserved r : ℕ) (c0 c1 : List ℕ) → IsLeft scope r × (reserved < left_count scope) → IsAt counter 0 form start
+pub takes-one : (counter : Counter) (scope made : List Held) (form start : Form) (reserved r : ℕ) (c0 c1 : List ℕ)
+    → IsLeft scope r × (reserved < left_count scope) → IsAt counter 0 form start
     → MakesValue c0 c1 scope start r → made ≡ record { register = r; form = form } ∷ scope → Takes c0 c1 counter scope form reserved r made
 takes-one counter scope made form start reserved r c0 c1 is at x e = record {
   enters = subst (Enters c0 c1 (2 + 4 * (length form.sum.terms + 1)) counter scope) (sym e) (enters-one counter scope form start r c0 c1 is.0 at x);

@@ -22,7 +22,8 @@ either first second func x y = first func x y ⊎ second func x y
 module _ (own : Setting) where
   -- Where code stands, the hart goes from one of its addresses to another, and memory then holds these buffers. Some
   -- registers stay, and the points that are hit are written on the way.
-  pub record Went (whole : List Insn) (from to : ℕ → ℕ) (n : ℕ) (f : ℕ → ℕ) (memory : List ℕ) (keeps_it : ℕ → Type 0) (funcs : Planes) (hits : Hits) : Type 0 where
+  pub record Went (whole : List Insn) (from to : ℕ → ℕ) (n : ℕ) (f : ℕ → ℕ) (memory : List ℕ) (keeps_it : ℕ → Type 0) (funcs : Planes)
+      (hits : Hits) : Type 0 where
     pub after : ℕ → ℕ
     pub left : List ℕ
     pub path : (at : ℕ) → Stand own.world.text at whole → Path own.world (from at) (to at) n f memory after left
@@ -30,19 +31,22 @@ module _ (own : Setting) where
     pub holds : HoldsFuncs own left funcs
     pub elsewhere : (byte : ℕ) → IsElsewhere own.world own.places own.written byte → byte_at own.world.text left byte ≡ byte_at own.world.text memory byte
     pub are_bytes : AreBytes memory → AreBytes left
-    pub writes : (func x y byte at : ℕ) → hits func x y → IsOf own.world own.places func x y byte → Stand own.world.text at whole → Writes own.world (from at) n f memory byte
+    pub writes : (func x y byte at : ℕ) → hits func x y → IsOf own.world own.places func x y byte → Stand own.world.text at whole
+        → Writes own.world (from at) n f memory byte
 
   -- from the first instruction to behind the last
   abbrev pub Does : List Insn → ℕ → (ℕ → ℕ) → List ℕ → (ℕ → Type 0) → Planes → Hits → Type 0
   Does code n f memory keeps_it funcs hits = Went code (λ at. at) (λ at. end at code) n f memory keeps_it funcs hits
 
   -- and something is so of all that the hart holds then
-  pub record Marked (mark_is : (ℕ → ℕ) → Type 0) (whole : List Insn) (from to : ℕ → ℕ) (n : ℕ) (f : ℕ → ℕ) (memory : List ℕ) (keeps_it : ℕ → Type 0) (funcs : Planes) (hits : Hits) : Type 0 where
+  pub record Marked (mark_is : (ℕ → ℕ) → Type 0) (whole : List Insn) (from to : ℕ → ℕ) (n : ℕ) (f : ℕ → ℕ) (memory : List ℕ) (keeps_it : ℕ → Type 0)
+      (funcs : Planes) (hits : Hits) : Type 0 where
     pub went : Went whole from to n f memory keeps_it funcs hits
     pub mark : mark_is went.after
 
   module _ {whole : List Insn} {f : ℕ → ℕ} {memory : List ℕ} {keeps_it : ℕ → Type 0} where
-    abbrev pub went-then : {from mid to : ℕ → ℕ} {n k : ℕ} {middle funcs : Planes} {first second : Hits} → (a : Went whole from mid n f memory keeps_it middle first)
+    abbrev pub went-then : {from mid to : ℕ → ℕ} {n k : ℕ} {middle funcs : Planes} {first second : Hits}
+        → (a : Went whole from mid n f memory keeps_it middle first)
         → Went whole mid to k a.after a.left keeps_it funcs second → Went whole from to (n + k) f memory keeps_it funcs (either first second)
     went-then {from} {mid} {to} {n} {k} a b = record {
       after = b.after;
@@ -87,7 +91,8 @@ module _ (own : Setting) where
     }
 
     -- a part of the code that stands
-    abbrev pub within : {is : List Insn} {n : ℕ} {funcs : Planes} {hits : Hits} → (from to : ℕ → ℕ) → ((at : ℕ) → Stand own.world.text at whole → Stand own.world.text (from at) is)
+    abbrev pub within : {is : List Insn} {n : ℕ} {funcs : Planes} {hits : Hits} → (from to : ℕ → ℕ)
+        → ((at : ℕ) → Stand own.world.text at whole → Stand own.world.text (from at) is)
         → ((at : ℕ) → end (from at) is ≡ to at) → Does is n f memory keeps_it funcs hits → Went whole from to n f memory keeps_it funcs hits
     within {is} {n} {funcs} {hits} from to go ends a = record {
       after = a.after;
@@ -102,7 +107,8 @@ module _ (own : Setting) where
 
     -- registers alone change
     abbrev pub still : {funcs : Planes} (from to : ℕ → ℕ) (n : ℕ) (after : ℕ → ℕ) → HoldsFuncs own memory funcs → ((q : ℕ) → keeps_it q → after q ≡ f q)
-        → ((at : ℕ) → Stand own.world.text at whole → Path own.world (from at) (to at) n f memory after memory) → Went whole from to n f memory keeps_it funcs no_hits
+        → ((at : ℕ) → Stand own.world.text at whole → Path own.world (from at) (to at) n f memory after memory)
+        → Went whole from to n f memory keeps_it funcs no_hits
     still from to n after holds keeps path = record {
       after = after;
       left = memory;

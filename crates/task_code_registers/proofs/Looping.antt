@@ -1,6 +1,7 @@
 -- A loop that is tested at its bottom does its iterations: any body that keeps what is known in one, any code that makes of it what is known
 -- in the next one, and any branch that is taken while there is one.
-use Rattle.std.proofs.Common.{◌≡◌, ℕ, zero, suc, ◌+◌, ◌-◌, ◌*◌, ◌%◌, ◌^◌, ◌<◌, ◌≤◌, List, [], ◌∷◌, ◌++◌, length, true, false, refl, ap, ◌∙◌, sym, subst, arith, inl, inr}
+use Rattle.std.proofs.Common.{◌≡◌, ℕ, zero, suc, ◌+◌, ◌-◌, ◌*◌, ◌%◌, ◌^◌, ◌<◌, ◌≤◌, List, [], ◌∷◌, ◌++◌, length, true, false, refl, ap}
+use Rattle.std.proofs.Common.{◌∙◌, sym, subst, arith, inl, inr}
 use Rattle.std.specs.Prelude.{◌≢◌, ◌⊎◌, Bool, nat_lt}
 use Rattle.std.proofs.lemmas.Bool.Decides.{nat_tests}
 use Rattle.rv_insn.specs.declared.instructions.Insn.{Insn}
@@ -32,12 +33,14 @@ is-below a b l = grind (arith, nat_tests)
 is-above : (a b : ℕ) → b ≤ a → nat_lt a b ≡ false
 is-above a b l = grind (arith, nat_tests)
 
-module _ (own : Setting) (keeps_it : ℕ → Type 0) (inv : ℕ → (ℕ → ℕ) → Type 0) (n : ℕ) (body advance : List Insn) (op : BranchOp) (a b : ℕ) (la : a < 32) (lb : b < 32)
+module _ (own : Setting) (keeps_it : ℕ → Type 0) (inv : ℕ → (ℕ → ℕ) → Type 0) (n : ℕ) (body advance : List Insn) (op : BranchOp) (a b : ℕ) (la : a < 32)
+    (lb : b < 32)
     (some : 1 ≤ length (body ++ advance))
     (t : ℕ → ℕ) (one : ℕ → Planes → Planes) (body_hits : ℕ → Planes → Hits)
     (does : (i : ℕ) (f : ℕ → ℕ) (memory : List ℕ) (funcs : Planes) → i < n → HoldsFuncs own memory funcs → inv i f
     → Marked own (inv i) body (λ at. at) (λ at. end at body) (t i) f memory keeps_it (one i funcs) (body_hits i funcs))
-    (step : (i : ℕ) (f : ℕ → ℕ) (memory : List ℕ) → i < n → length memory ≡ own.world.size → inv i f → Stepped own.world memory advance f keeps_it (inv (suc i)))
+    (step : (i : ℕ) (f : ℕ → ℕ) (memory : List ℕ) → i < n → length memory ≡ own.world.size → inv i f
+    → Stepped own.world memory advance f keeps_it (inv (suc i)))
     (tested : (i : ℕ) (f : ℕ → ℕ) → i < n → inv (suc i) f → is_taken op (f a) (f b) ≡ nat_lt (suc i) n) where
   abbrev w : World
   w = own.world
@@ -74,7 +77,8 @@ module _ (own : Setting) (keeps_it : ℕ → Type 0) (inv : ℕ → (ℕ → ℕ
       (moved.line (end at body) (stand-back w.text at body advance (stand-front w.text at part branch s)))) in
       record { went = went-hits own (λ func x y hit. inl hit) (went-then own first second); mark = moved.mark }
 
-  again : (i : ℕ) (g : ℕ → ℕ) (memory : List ℕ) → suc i < n → inv (suc i) g → length memory ≡ w.size → (at : ℕ) → Stand w.text at whole → Path w (mid at) at 1 g memory g memory
+  again : (i : ℕ) (g : ℕ → ℕ) (memory : List ℕ) → suc i < n → inv (suc i) g → length memory ≡ w.size → (at : ℕ) → Stand w.text at whole
+      → Path w (mid at) at 1 g memory g memory
   again i g memory more is l at s =
       let o = spot w.text at whole s in
       let p = spot w.text (mid at) branch (stand-back w.text at part branch s) in
@@ -82,7 +86,8 @@ module _ (own : Setting) (keeps_it : ℕ → Type 0) (inv : ℕ → (ℕ → ℕ
       rules.taken w g memory l op (mid at) at a b (back (length part)) la lb (tested i g (omega (arith, more)) is ∙ is-below (suc i) n more)
       (stand-back w.text at part branch s).0 (back-to (mid at) (length part) at e some p.low) o.aligned
 
-  leaves : (i : ℕ) (g : ℕ → ℕ) (memory : List ℕ) → suc i ≡ n → inv (suc i) g → length memory ≡ w.size → (at : ℕ) → Stand w.text at whole → Path w (mid at) (out at) 1 g memory g memory
+  leaves : (i : ℕ) (g : ℕ → ℕ) (memory : List ℕ) → suc i ≡ n → inv (suc i) g → length memory ≡ w.size → (at : ℕ) → Stand w.text at whole
+      → Path w (mid at) (out at) 1 g memory g memory
   leaves i g memory last is l at s =
       let p = (stand-back w.text at part branch s).1 in
       rules.passed w g memory l op (mid at) a b (back (length part)) la lb (tested i g (omega (arith, last)) is ∙ is-above (suc i) n (omega (arith, last)))
@@ -102,18 +107,21 @@ module _ (own : Setting) (keeps_it : ℕ → Type 0) (inv : ℕ → (ℕ → ℕ
   -- ---- all iterations
 
   module _ (hits : ℕ → Planes → Hits) (none_hit : (funcs : Planes) (func x y : ℕ) → hits zero funcs func x y → ⊥)
-      (more_hit : (i : ℕ) (funcs : Planes) (func x y : ℕ) → hits (suc i) funcs func x y → hits i funcs func x y ⊎ body_hits i (turns i one funcs) func x y) where
+      (more_hit : (i : ℕ) (funcs : Planes) (func x y : ℕ) → hits (suc i) funcs func x y
+      → hits i funcs func x y ⊎ body_hits i (turns i one funcs) func x y) where
     iterations : (k : ℕ) → k < n → (f : ℕ → ℕ) (memory : List ℕ) (funcs : Planes) → HoldsFuncs own memory funcs → inv 0 f
         → Marked own (inv k) whole (λ at. at) (λ at. at) (total k cost) f memory keeps_it (turns k one funcs) (hits k funcs)
     unfolding turns total
     iterations zero few f memory funcs holds is = record {
-      went = went-hits own (λ func x y hit. none_hit funcs func x y hit) (still own (λ at. at) (λ at. at) 0 f holds (λ q kept. refl) (λ at s. stay w at f memory));
+      went = went-hits own (λ func x y hit. none_hit funcs func x y hit)
+          (still own (λ at. at) (λ at. at) 0 f holds (λ q kept. refl) (λ at s. stay w at f memory));
       mark = is;
     }
     iterations (suc k) few f memory funcs holds is =
         let so_far = iterations k (omega (arith, few)) f memory funcs holds is in
         let a = so_far.went in
-        let b = iteration (λ at. at) k a.after a.left (turns k one funcs) (omega (arith, few)) (λ g m known l at s. again k g m few known l at s) a.holds so_far.mark in
+        let b = iteration (λ at. at) k a.after a.left (turns k one funcs) (omega (arith, few))
+        (λ g m known l at s. again k g m few known l at s) a.holds so_far.mark in
         record { went = went-hits own (more_hit k funcs) (went-then own a b.went); mark = b.mark }
 
     loop-out : (k : ℕ) → suc k ≡ n → (f : ℕ → ℕ) (memory : List ℕ) (funcs : Planes) → HoldsFuncs own memory funcs → inv 0 f
@@ -122,7 +130,8 @@ module _ (own : Setting) (keeps_it : ℕ → Type 0) (inv : ℕ → (ℕ → ℕ
     loop-out k last f memory funcs holds is =
         let so_far = iterations k (omega (arith, last)) f memory funcs holds is in
         let a = so_far.went in
-        let b = iteration out k a.after a.left (turns k one funcs) (omega (arith, last)) (λ g m known l at s. leaves k g m last known l at s) a.holds so_far.mark in
+        let b = iteration out k a.after a.left (turns k one funcs) (omega (arith, last))
+        (λ g m known l at s. leaves k g m last known l at s) a.holds so_far.mark in
         record { went = went-hits own (more_hit k funcs) (went-then own a b.went); mark = b.mark }
 
     ended : (k : ℕ) (f : ℕ → ℕ) (memory : List ℕ) (funcs : Planes)
@@ -158,7 +167,8 @@ points_hit stored func x y = stored func x y ≡ true
 
 module _ {own : Setting} {code : List Insn} {n : ℕ} {f : ℕ → ℕ} {memory : List ℕ} {funcs : Planes} {stored : Points} where
   -- what was done, and what is so of registers that are kept
-  pub marked-did : (keeps_it fewer : ℕ → Type 0) (mark_is : (ℕ → ℕ) → Type 0) → ((q : ℕ) → fewer q → keeps_it q) → ((g : ℕ → ℕ) → ((q : ℕ) → keeps_it q → g q ≡ f q) → mark_is g)
+  pub marked-did : (keeps_it fewer : ℕ → Type 0) (mark_is : (ℕ → ℕ) → Type 0) → ((q : ℕ) → fewer q → keeps_it q)
+      → ((g : ℕ → ℕ) → ((q : ℕ) → keeps_it q → g q ≡ f q) → mark_is g)
       → Did own code n f memory keeps_it funcs stored → Marked own mark_is code (λ at. at) (λ at. end at code) n f memory fewer funcs (points_hit stored)
   marked-did keeps_it fewer mark_is less mark a = record {
     went = record {
@@ -174,7 +184,8 @@ module _ {own : Setting} {code : List Insn} {n : ℕ} {f : ℕ → ℕ} {memory 
     mark = mark a.after a.keeps;
   }
 
-  pub did-went : {keeps_it : ℕ → Type 0} → Went own code (λ at. at) (λ at. end at code) n f memory keeps_it funcs (points_hit stored) → Did own code n f memory keeps_it funcs stored
+  pub did-went : {keeps_it : ℕ → Type 0} → Went own code (λ at. at) (λ at. end at code) n f memory keeps_it funcs (points_hit stored)
+      → Did own code n f memory keeps_it funcs stored
   did-went a = record {
     after = a.after;
     left = a.left;
@@ -188,7 +199,8 @@ module _ {own : Setting} {code : List Insn} {n : ℕ} {f : ℕ → ℕ} {memory 
 
 pub loops-go-round : LoopsGoRound
 loops-go-round own hart scope inner counter values n body advance op a b t one body_stored stored any it all f memory funcs holds is =
-    did-went (loop-goes own (IsKept scope) (λ i g. Knows hart inner (with counter i values) g) n body advance op a b it.first it.second it.some t one (λ i p. points_hit (body_stored i p))
+    did-went (loop-goes own (IsKept scope) (λ i g. Knows hart inner (with counter i values) g) n body advance op a b it.first it.second it.some t one
+    (λ i p. points_hit (body_stored i p))
     (λ i g m p l o known. marked-did (IsKept inner) (IsKept scope) (Knows hart inner (with counter i values)) it.kept
     (λ after same. knows-still hart inner (with counter i values) g after same known) (it.does i g m p l o known))
     it.moves it.tested (λ k p. points_hit (stored k p)) all.none all.more any f memory funcs holds is).went

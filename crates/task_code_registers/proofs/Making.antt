@@ -1,5 +1,6 @@
 -- Numbers made in registers.
-use Rattle.std.proofs.Common.{◌≡◌, ℕ, suc, ◌+◌, ◌-◌, ◌*◌, ◌%◌, ◌^◌, ◌<◌, ◌≤◌, List, [], ◌∷◌, ◌++◌, length, true, false, refl, ap, ◌∙◌, sym, subst, arith, inl, inr, length-append}
+use Rattle.std.proofs.Common.{◌≡◌, ℕ, suc, ◌+◌, ◌-◌, ◌*◌, ◌%◌, ◌^◌, ◌<◌, ◌≤◌, List, [], ◌∷◌, ◌++◌, length, true, false, refl, ap, ◌∙◌, sym}
+use Rattle.std.proofs.Common.{subst, arith, inl, inr, length-append}
 use Rattle.std.specs.Prelude.{◌≢◌, ◌⊎◌, nat_lt, pos}
 use Rattle.std.proofs.lemmas.Bool.Decides.{nat_tests}
 use Rattle.std.proofs.Math.Nat.{mod-eq_of_lt, add-mod-mod}
@@ -64,7 +65,8 @@ short-then is js a b n x y s = let e : length (is ++ js) ≡ length is + length 
 
 -- ---- a number
 
-pub number-small : (r n : ℕ) (c0 c1 : List ℕ) → 1 ≤ r → r < 32 → Fits n → n < 2 ^ 32 → Emits c0 c1 (AluImm alu_imms.Addi r 0 (lower n) ∷ []) → Makes c0 c1 2 r (λ f. n)
+pub number-small : (r n : ℕ) (c0 c1 : List ℕ) → 1 ≤ r → r < 32 → Fits n → n < 2 ^ 32 → Emits c0 c1 (AluImm alu_imms.Addi r 0 (lower n) ∷ [])
+    → Makes c0 c1 2 r (λ f. n)
 number-small r n c0 c1 low high fit small x = record {
   insns = AluImm alu_imms.Addi r 0 (lower n) ∷ [];
   emits = x;
@@ -119,7 +121,8 @@ plus-small r s n c0 c1 low high ls fit small x = record {
 }
 
 -- a literal in the scratch register, and an operation on it
-pub plus-literal : (r s n : ℕ) (c0 c1 c2 : List ℕ) → 1 ≤ r → r < 32 → s < 32 → s ≢ 13 → s ≢ 14 → Makes c0 c1 2 13 (λ f. n) → Emits c1 c2 (Alu alus.Add r s 13 ∷ [])
+pub plus-literal : (r s n : ℕ) (c0 c1 c2 : List ℕ) → 1 ≤ r → r < 32 → s < 32 → s ≢ 13 → s ≢ 14 → Makes c0 c1 2 13 (λ f. n)
+    → Emits c1 c2 (Alu alus.Add r s 13 ∷ [])
     → MakesOf c0 c2 3 r s (λ v. (v + n) % 2 ^ 32)
 plus-literal r s n c0 c1 c2 low high ls s13 s14 x y = record {
   insns = x.insns ++ (Alu alus.Add r s 13 ∷ []);
@@ -127,7 +130,8 @@ plus-literal r s n c0 c1 c2 low high ls s13 s14 x y = record {
   short = short-then x.insns (Alu alus.Add r s 13 ∷ []) 2 1 3 x.short (omega arith) (omega arith);
   does = λ w m f l zero word.
       let a = x.does w m f l zero in
-      puts-then w m l a (inl refl) (puts-set w m l refl (alu-sets w m l alus.Add a.after r s 13 (f s) n low high ls (omega arith) (a.others s s13 s13 s14) a.value));
+      puts-then w m l a (inl refl) (puts-set w m l refl
+      (alu-sets w m l alus.Add a.after r s 13 (f s) n low high ls (omega arith) (a.others s s13 s13 s14) a.value));
 }
 
 -- ---- a register times a number
@@ -142,7 +146,8 @@ times-none r s n c0 c1 none x = record {
       puts-is w m l (g ∙ ap (λ k. (f s * k) % 2 ^ 32) (sym none)) (x.does w m f l zero);
 }
 
-pub times-literal : (r s n : ℕ) (c0 c1 c2 : List ℕ) → 1 ≤ r → r < 32 → s < 32 → s ≢ 13 → s ≢ 14 → Makes c0 c1 2 13 (λ f. n) → Emits c1 c2 (Alu alus.Mul r s 13 ∷ [])
+pub times-literal : (r s n : ℕ) (c0 c1 c2 : List ℕ) → 1 ≤ r → r < 32 → s < 32 → s ≢ 13 → s ≢ 14 → Makes c0 c1 2 13 (λ f. n)
+    → Emits c1 c2 (Alu alus.Mul r s 13 ∷ [])
     → Makes c0 c2 3 r (λ f. (f s * n) % 2 ^ 32)
 times-literal r s n c0 c1 c2 low high ls s13 s14 x y = record {
   insns = x.insns ++ (Alu alus.Mul r s 13 ∷ []);
@@ -150,7 +155,8 @@ times-literal r s n c0 c1 c2 low high ls s13 s14 x y = record {
   short = short-then x.insns (Alu alus.Mul r s 13 ∷ []) 2 1 3 x.short (omega arith) (omega arith);
   does = λ w m f l zero.
       let a = x.does w m f l zero in
-      puts-then w m l a (inl refl) (puts-set w m l refl (alu-sets w m l alus.Mul a.after r s 13 (f s) n low high ls (omega arith) (a.others s s13 s13 s14) a.value));
+      puts-then w m l a (inl refl) (puts-set w m l refl
+      (alu-sets w m l alus.Mul a.after r s 13 (f s) n low high ls (omega arith) (a.others s s13 s13 s14) a.value));
 }
 
 pub times-shift : (r s n k : ℕ) (c0 c1 : List ℕ) → 1 ≤ r → r < 32 → s < 32 → k < 32 → n ≡ 2 ^ k → Emits c0 c1 (Shift shifts.Slli r s k ∷ [])
@@ -161,12 +167,14 @@ times-shift r s n k c0 c1 low high ls few power x = record {
   short = omega arith;
   does = λ w m f l zero.
       let e : k % 32 ≡ k = mod-eq_of_lt few in
-      puts-set w m l (ap (λ j. (f s * 2 ^ j) % 2 ^ 32) e ∙ ap (λ p. (f s * p) % 2 ^ 32) (sym power)) (shift-sets w m l shifts.Slli f r s k (f s) low high ls refl);
+      puts-set w m l (ap (λ j. (f s * 2 ^ j) % 2 ^ 32) e ∙ ap (λ p. (f s * p) % 2 ^ 32) (sym power))
+      (shift-sets w m l shifts.Slli f r s k (f s) low high ls refl);
 }
 
 -- ---- a register plus the product of another one and a number
 
-pub term-one : (r s n : ℕ) (c0 c1 : List ℕ) → 1 ≤ r → r < 32 → s < 32 → n ≡ 1 → Emits c0 c1 (Alu alus.Add r r s ∷ []) → Makes c0 c1 4 r (λ f. (f r + f s * n) % 2 ^ 32)
+pub term-one : (r s n : ℕ) (c0 c1 : List ℕ) → 1 ≤ r → r < 32 → s < 32 → n ≡ 1 → Emits c0 c1 (Alu alus.Add r r s ∷ [])
+    → Makes c0 c1 4 r (λ f. (f r + f s * n) % 2 ^ 32)
 term-one r s n c0 c1 low high ls one x = record {
   insns = Alu alus.Add r r s ∷ [];
   emits = x;
@@ -176,7 +184,8 @@ term-one r s n c0 c1 low high ls one x = record {
       puts-set w m l (g ∙ ap (λ k. (f r + f s * k) % 2 ^ 32) (sym one)) (alu-sets w m l alus.Add f r r s (f r) (f s) low high high ls refl refl);
 }
 
-pub term-more : (r s n : ℕ) (c0 c1 c2 : List ℕ) → 1 ≤ r → r < 32 → r ≢ 13 → r ≢ 14 → Makes c0 c1 3 14 (λ f. (f s * n) % 2 ^ 32) → Emits c1 c2 (Alu alus.Add r r 14 ∷ [])
+pub term-more : (r s n : ℕ) (c0 c1 c2 : List ℕ) → 1 ≤ r → r < 32 → r ≢ 13 → r ≢ 14 → Makes c0 c1 3 14 (λ f. (f s * n) % 2 ^ 32)
+    → Emits c1 c2 (Alu alus.Add r r 14 ∷ [])
     → Makes c0 c2 4 r (λ f. (f r + f s * n) % 2 ^ 32)
 term-more r s n c0 c1 c2 low high r13 r14 x y = record {
   insns = x.insns ++ (Alu alus.Add r r 14 ∷ []);
@@ -185,7 +194,8 @@ term-more r s n c0 c1 c2 low high r13 r14 x y = record {
   does = λ w m f l zero.
       let a = x.does w m f l zero in
       puts-then w m l a (inr (inl refl))
-      (puts-set w m l (add-mod-mod (f r) (f s * n) (2 ^ 32)) (alu-sets w m l alus.Add a.after r r 14 (f r) ((f s * n) % 2 ^ 32) low high high (omega arith) (a.others r r14 r13 r14) a.value));
+      (puts-set w m l (add-mod-mod (f r) (f s * n) (2 ^ 32))
+      (alu-sets w m l alus.Add a.after r r 14 (f r) ((f s * n) % 2 ^ 32) low high high (omega arith) (a.others r r14 r13 r14) a.value));
 }
 
 -- ---- a number plus the product of a register and a number

@@ -1,5 +1,6 @@
 -- How forms go along with one of their loop variables.
-use Rattle.std.proofs.Common.{◌≡◌, ℕ, zero, suc, ◌+◌, ◌-◌, ◌*◌, ◌%◌, ◌^◌, ◌<◌, ◌≤◌, List, [], ◌∷◌, length, get_or, take, drop, Bool, true, false, refl, ap, ◌∙◌, sym, subst, arith, inl, inr}
+use Rattle.std.proofs.Common.{◌≡◌, ℕ, zero, suc, ◌+◌, ◌-◌, ◌*◌, ◌%◌, ◌^◌, ◌<◌, ◌≤◌, List, [], ◌∷◌, length, get_or, take, drop, Bool, true}
+use Rattle.std.proofs.Common.{false, refl, ap, ◌∙◌, sym, subst, arith, inl, inr}
 use Rattle.std.specs.Prelude.{◌≢◌, if◌then◌else◌}
 use Rattle.std.proofs.lemmas.Nat.{mul-mod_first, mul-mod_second}
 use Rattle.std.proofs.lemmas.Bool.{true≢false}
@@ -17,14 +18,17 @@ use Rattle.task_code_registers.specs.declared.scopes.Form.{Form}
 use Rattle.task_code_registers.proofs.Knowing.{others-are}
 
 -- a sum where the variable stands at a number
-pub sum-with : (counter : Counter) (v : ℕ) (values : Values) (terms : List Term) → sum_of (with counter v values) terms ≡ v * strides counter terms + sum_of values (others_of counter terms)
+pub sum-with : (counter : Counter) (v : ℕ) (values : Values) (terms : List Term)
+    → sum_of (with counter v values) terms ≡ v * strides counter terms + sum_of values (others_of counter terms)
 sum-with counter v values [] = let e : 0 ≡ v * 0 + 0 = omega arith in e
 sum-with counter v values (first ∷ others) = by-test (same_counter first.counter counter) (sum-with counter v values others)
   where
     by-test : (t : Bool) → sum_of (with counter v values) others ≡ v * strides counter others + sum_of values (others_of counter others)
         → (if t then v else values first.counter) * first.stride + sum_of (with counter v values) others
-        ≡ v * (if t then first.stride + strides counter others else strides counter others) + sum_of values (if t then others_of counter others else first ∷ others_of counter others)
-    by-test true e = let p : v * (first.stride + strides counter others) ≡ v * first.stride + v * strides counter others = mul-add v first.stride (strides counter others) in omega (arith, e, p)
+        ≡ v * (if t then first.stride + strides counter others else strides counter others) + sum_of values
+        (if t then others_of counter others else first ∷ others_of counter others)
+    by-test true e = let p : v * (first.stride + strides counter others) ≡ v * first.stride + v * strides counter others =
+        mul-add v first.stride (strides counter others) in omega (arith, e, p)
     by-test false e = omega (arith, e)
 
 -- what is left has no term of it
@@ -32,7 +36,8 @@ pub strides-others : (counter : Counter) (terms : List Term) → strides counter
 strides-others counter [] = refl
 strides-others counter (first ∷ others) = by-test (same_counter first.counter counter) refl (strides-others counter others)
   where
-    by-test : (t : Bool) → same_counter first.counter counter ≡ t → strides counter (others_of counter others) ≡ 0 → strides counter (if t then others_of counter others else first ∷ others_of counter others) ≡ 0
+    by-test : (t : Bool) → same_counter first.counter counter ≡ t → strides counter (others_of counter others) ≡ 0
+        → strides counter (if t then others_of counter others else first ∷ others_of counter others) ≡ 0
     by-test true s e = e
     by-test false s e = ap (λ b. if b then first.stride + strides counter (others_of counter others) else strides counter (others_of counter others)) s ∙ e
 
@@ -41,21 +46,27 @@ others-others counter [] = refl
 others-others counter (first ∷ others) = by-test (same_counter first.counter counter) refl (others-others counter others)
   where
     by-test : (t : Bool) → same_counter first.counter counter ≡ t → others_of counter (others_of counter others) ≡ others_of counter others
-        → others_of counter (if t then others_of counter others else first ∷ others_of counter others) ≡ (if t then others_of counter others else first ∷ others_of counter others)
+        → others_of counter (if t then others_of counter others else first ∷ others_of counter others) ≡
+        (if t then others_of counter others else first ∷ others_of counter others)
     by-test true s e = e
-    by-test false s e = ap (λ b. if b then others_of counter (others_of counter others) else first ∷ others_of counter (others_of counter others)) s ∙ ap (λ ts. first ∷ ts) e
+    by-test false s e = ap (λ b. if b then others_of counter (others_of counter others) else first ∷ others_of counter (others_of counter others)) s
+        ∙ ap (λ ts. first ∷ ts) e
 
 -- where there is no term of it, it doesn't count
-pub sum-steady : (counter : Counter) (v : ℕ) (values : Values) (terms : List Term) → has_counter counter terms ≡ false → sum_of (with counter v values) terms ≡ sum_of values terms
+pub sum-steady : (counter : Counter) (v : ℕ) (values : Values) (terms : List Term) → has_counter counter terms ≡ false
+    → sum_of (with counter v values) terms ≡ sum_of values terms
 sum-steady counter v values [] e = refl
 sum-steady counter v values (first ∷ others) e = by-test (same_counter first.counter counter) e (sum-steady counter v values others)
   where
-    by-test : (t : Bool) → (if t then true else has_counter counter others) ≡ false → (has_counter counter others ≡ false → sum_of (with counter v values) others ≡ sum_of values others)
-        → (if t then v else values first.counter) * first.stride + sum_of (with counter v values) others ≡ values first.counter * first.stride + sum_of values others
+    by-test : (t : Bool) → (if t then true else has_counter counter others) ≡ false
+        → (has_counter counter others ≡ false → sum_of (with counter v values) others ≡ sum_of values others)
+        → (if t then v else values first.counter) * first.stride + sum_of
+        (with counter v values) others ≡ values first.counter * first.stride + sum_of values others
     by-test true h g = absurd (true≢false h)
     by-test false h g = ap (λ s. values first.counter * first.stride + s) (g h)
 
-pub linear-steady : (counter : Counter) (v : ℕ) (values : Values) (own : Linear) → has_counter counter own.terms ≡ false → linear_value (with counter v values) own ≡ linear_value values own
+pub linear-steady : (counter : Counter) (v : ℕ) (values : Values) (own : Linear) → has_counter counter own.terms ≡ false
+    → linear_value (with counter v values) own ≡ linear_value values own
 unfolding linear_value
 linear-steady counter v values own e = ap (λ s. (own.number + s) % 2 ^ 32) (sum-steady counter v values own.terms e)
 
@@ -63,13 +74,15 @@ linear-steady counter v values own e = ap (λ s. (own.number + s) % 2 ^ 32) (sum
 regrouped : (number v s rest : ℕ) → (number + (v * s + rest)) % 2 ^ 32 ≡ ((number + rest) + v * (s % 2 ^ 32)) % 2 ^ 32
 regrouped number v s rest =
     let e : number + (v * s + rest) ≡ (number + rest) + v * s = omega arith in
-    ap (λ n. n % 2 ^ 32) e ∙ sym (add-mod-mod (number + rest) (v * s) (2 ^ 32)) ∙ ap (λ n. ((number + rest) + n) % 2 ^ 32) (sym (mul-mod_second v s (2 ^ 32))) ∙ add-mod-mod (number + rest) (v * (s % 2 ^ 32)) (2 ^ 32)
+    ap (λ n. n % 2 ^ 32) e ∙ sym (add-mod-mod (number + rest) (v * s) (2 ^ 32))
+    ∙ ap (λ n. ((number + rest) + n) % 2 ^ 32) (sym (mul-mod_second v s (2 ^ 32))) ∙ add-mod-mod (number + rest) (v * (s % 2 ^ 32)) (2 ^ 32)
 
 pub linear-with : (counter : Counter) (v stride : ℕ) (values : Values) (own : Linear) → stride ≡ strides counter own.terms % 2 ^ 32
     → linear_value (with counter v values) own ≡ ((own.number + sum_of values (others_of counter own.terms)) + v * stride) % 2 ^ 32
 unfolding linear_value
 linear-with counter v stride values own e =
-    ap (λ s. (own.number + s) % 2 ^ 32) (sum-with counter v values own.terms) ∙ regrouped own.number v (strides counter own.terms) (sum_of values (others_of counter own.terms))
+    ap (λ s. (own.number + s) % 2 ^ 32) (sum-with counter v values own.terms)
+    ∙ regrouped own.number v (strides counter own.terms) (sum_of values (others_of counter own.terms))
     ∙ ap (λ s. ((own.number + sum_of values (others_of counter own.terms)) + v * s) % 2 ^ 32) (sym e)
 
 -- one iteration further
@@ -78,10 +91,12 @@ pub linear-next : (counter : Counter) (i stride : ℕ) (values : Values) (own : 
 linear-next counter i stride values own e =
     let a = own.number + sum_of values (others_of counter own.terms) in
     let g : (a + i * stride) + stride ≡ a + suc i * stride = omega arith in
-    ap (λ n. (n + stride) % 2 ^ 32) (linear-with counter i stride values own e) ∙ mod-add-mod (a + i * stride) (2 ^ 32) stride ∙ ap (λ n. n % 2 ^ 32) g ∙ sym (linear-with counter (suc i) stride values own e)
+    ap (λ n. (n + stride) % 2 ^ 32) (linear-with counter i stride values own e) ∙ mod-add-mod (a + i * stride) (2 ^ 32) stride ∙ ap (λ n. n % 2 ^ 32) g
+    ∙ sym (linear-with counter (suc i) stride values own e)
 
 -- where the variable stands at a number, once and for all
-pub linear-at : (counter : Counter) (v value stride : ℕ) (values : Values) (own made : Linear) → stride ≡ strides counter own.terms % 2 ^ 32 → made.terms ≡ others_of counter own.terms
+pub linear-at : (counter : Counter) (v value stride : ℕ) (values : Values) (own made : Linear) → stride ≡ strides counter own.terms % 2 ^ 32
+    → made.terms ≡ others_of counter own.terms
     → made.number ≡ word.add own.number (word.multiply stride value) → linear_value (with counter v values) made ≡ linear_value (with counter value values) own
 unfolding linear_value word.add word.multiply
 linear-at counter v value stride values own made es et en =
@@ -100,7 +115,8 @@ linear-at counter v value stride values own made es et en =
 
 -- ---- forms
 
-pub form-steady : (counter : Counter) (v hart : ℕ) (values : Values) (own : Form) → has_counter counter own.sum.terms ≡ false → form_value hart (with counter v values) own ≡ form_value hart values own
+pub form-steady : (counter : Counter) (v hart : ℕ) (values : Values) (own : Form) → has_counter counter own.sum.terms ≡ false
+    → form_value hart (with counter v values) own ≡ form_value hart values own
 unfolding form_value
 form-steady counter v hart values own e = ap (λ n. (n + hart * own.per_hart) % 2 ^ 32) (linear-steady counter v values own.sum e)
 
@@ -113,7 +129,8 @@ form-next counter i stride hart values own e =
     let g : ((a + h) % 2 ^ 32 + stride) % 2 ^ 32 ≡ ((a + stride) % 2 ^ 32 + h) % 2 ^ 32 = omega arith in
     g ∙ ap (λ n. (n + h) % 2 ^ 32) (linear-next counter i stride values own.sum e)
 
-pub form-at : (counter : Counter) (value stride : ℕ) (own made : Form) → stride ≡ strides counter own.sum.terms % 2 ^ 32 → made.sum.terms ≡ others_of counter own.sum.terms
+pub form-at : (counter : Counter) (value stride : ℕ) (own made : Form) → stride ≡ strides counter own.sum.terms % 2 ^ 32
+    → made.sum.terms ≡ others_of counter own.sum.terms
     → made.sum.number ≡ word.add own.sum.number (word.multiply stride value) → made.per_hart ≡ own.per_hart → IsAt counter value own made
 unfolding form_value
 form-at counter value stride own made es et en eh = record {
@@ -127,7 +144,8 @@ pub others-fewer : (counter : Counter) (terms : List Term) → length (others_of
 others-fewer counter [] = let z : 0 ≤ 0 = omega arith in z
 others-fewer counter (first ∷ others) = by-test (same_counter first.counter counter) (others-fewer counter others)
   where
-    by-test : (t : Bool) → length (others_of counter others) ≤ length others → length (if t then others_of counter others else first ∷ others_of counter others) ≤ suc (length others)
+    by-test : (t : Bool) → length (others_of counter others) ≤ length others
+        → length (if t then others_of counter others else first ∷ others_of counter others) ≤ suc (length others)
     by-test true l = omega (arith, l)
     by-test false l = omega (arith, l)
 
@@ -143,8 +161,10 @@ strides-none counter (first ∷ others) e = by-test (same_counter first.counter 
 
 -- ---- lists from the front
 
-pub stride-more : (counter : Counter) (terms : List Term) (other : Term) (same_is : Bool) (rest sum : ℕ) → 1 ≤ length terms → same_is ≡ same_counter (get_or terms 0 other).counter counter → same_is ≡ true
-    → rest ≡ strides counter (take (length terms - 1) (drop 1 terms)) % 2 ^ 32 → sum ≡ word.add (get_or terms 0 other).stride rest → sum ≡ strides counter terms % 2 ^ 32
+pub stride-more : (counter : Counter) (terms : List Term) (other : Term) (same_is : Bool) (rest sum : ℕ) → 1 ≤ length terms
+    → same_is ≡ same_counter (get_or terms 0 other).counter counter → same_is ≡ true
+    → rest ≡ strides counter (take (length terms - 1) (drop 1 terms)) % 2 ^ 32 → sum ≡ word.add (get_or terms 0 other).stride rest
+    → sum ≡ strides counter terms % 2 ^ 32
 unfolding word.add
 stride-more counter terms other same_is rest sum some es et er e =
     let first = get_or terms 0 other in
@@ -153,7 +173,8 @@ stride-more counter terms other same_is rest sum some es et er e =
     ap (strides counter) (others-are terms other some) ∙ ap (λ t. if t then first.stride + strides counter others else strides counter others) (sym es ∙ et) in
     e ∙ ap (λ k. (first.stride + k) % 2 ^ 32) er ∙ add-mod-mod first.stride (strides counter others) (2 ^ 32) ∙ ap (λ k. k % 2 ^ 32) (sym whole)
 
-pub stride-other : (counter : Counter) (terms : List Term) (other : Term) (same_is : Bool) (rest : ℕ) → 1 ≤ length terms → same_is ≡ same_counter (get_or terms 0 other).counter counter → same_is ≡ false
+pub stride-other : (counter : Counter) (terms : List Term) (other : Term) (same_is : Bool) (rest : ℕ) → 1 ≤ length terms
+    → same_is ≡ same_counter (get_or terms 0 other).counter counter → same_is ≡ false
     → rest ≡ strides counter (take (length terms - 1) (drop 1 terms)) % 2 ^ 32 → rest ≡ strides counter terms % 2 ^ 32
 stride-other counter terms other same_is rest some es et er =
     let first = get_or terms 0 other in

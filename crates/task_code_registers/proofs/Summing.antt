@@ -1,5 +1,6 @@
 -- Forms made in registers.
-use Rattle.std.proofs.Common.{◌≡◌, ℕ, suc, ◌+◌, ◌-◌, ◌*◌, ◌%◌, ◌^◌, ◌<◌, ◌≤◌, List, [], ◌∷◌, ◌++◌, length, get_or, take, drop, Bool, true, false, refl, ap, ◌∙◌, sym, subst, arith, inl, inr}
+use Rattle.std.proofs.Common.{◌≡◌, ℕ, suc, ◌+◌, ◌-◌, ◌*◌, ◌%◌, ◌^◌, ◌<◌, ◌≤◌, List, [], ◌∷◌, ◌++◌, length, get_or, take, drop, Bool, true}
+use Rattle.std.proofs.Common.{false, refl, ap, ◌∙◌, sym, subst, arith, inl, inr}
 use Rattle.std.specs.Prelude.{◌≢◌, ◌⊎◌, ◌==◌, ◌&&◌, ◌||◌, if◌then◌else◌, nat_lt, pos, Option, Some, None, IfSome}
 use Rattle.std.proofs.Math.Nat.{mod-add-mod, add-mod-mod, mod-eq_of_lt}
 use Rattle.std.proofs.lemmas.Nat.{mul-mod_first}
@@ -25,15 +26,18 @@ use Rattle.task_code_registers.proofs.Making.{puts-then, puts-is, short-then}
 
 -- ---- distances
 
-pub zero-more : (values : Values) (terms rest : List Term) (first : Term) → terms ≡ first ∷ rest → first.stride ≡ 0 → sum_of values rest ≡ 0 → sum_of values terms ≡ 0
+pub zero-more : (values : Values) (terms rest : List Term) (first : Term) → terms ≡ first ∷ rest → first.stride ≡ 0 → sum_of values rest ≡ 0
+    → sum_of values terms ≡ 0
 zero-more values terms rest first e z r =
-    ap (sum_of values) e ∙ (let g : values first.counter * 0 + 0 ≡ 0 = omega arith in ap (λ s. values first.counter * s + sum_of values rest) z ∙ ap (λ s. values first.counter * 0 + s) r ∙ g)
+    ap (sum_of values) e ∙ (let g : values first.counter * 0 + 0 ≡ 0 = omega arith in
+    ap (λ s. values first.counter * s + sum_of values rest) z ∙ ap (λ s. values first.counter * 0 + s) r ∙ g)
 
 apart-by : (a b d : ℕ) → a < 2 ^ 32 → b < 2 ^ 32 → d ≡ (a + (2 ^ 32 - b)) % 2 ^ 32 → a ≡ (b + d) % 2 ^ 32
 apart-by a b d la lb e = omega (arith, la, lb, e)
 
 linear-apart : (values : Values) (own base made : Linear) (d : ℕ) → d ≡ word.add made.number 0 → sum_of values made.terms ≡ 0
-    → linear_value values made ≡ word.subtract (linear_value values own) (linear_value values base) → linear_value values own ≡ (linear_value values base + d) % 2 ^ 32
+    → linear_value values made ≡ word.subtract (linear_value values own) (linear_value values base)
+    → linear_value values own ≡ (linear_value values base + d) % 2 ^ 32
 unfolding linear_value word.subtract word.add
 linear-apart values own base made d ed none e =
     apart-by (linear_value values own) (linear_value values base) d (linear-small values own) (linear-small values base)
@@ -43,13 +47,15 @@ moved : (a b h d : ℕ) → a ≡ (b + d) % 2 ^ 32 → (a + h) % 2 ^ 32 ≡ ((b 
 moved a b h d e = omega (arith, e)
 
 -- two forms with the same part of the hart's number
-pub form-apart : (own base : Form) (made : Linear) (d : ℕ) → own.per_hart ≡ base.per_hart → d ≡ word.add made.number 0 → ((values : Values) → sum_of values made.terms ≡ 0)
+pub form-apart : (own base : Form) (made : Linear) (d : ℕ) → own.per_hart ≡ base.per_hart → d ≡ word.add made.number 0
+    → ((values : Values) → sum_of values made.terms ≡ 0)
     → ((values : Values) → linear_value values made ≡ word.subtract (linear_value values own.sum) (linear_value values base.sum))
     → (hart : ℕ) (values : Values) → form_value hart values own ≡ (form_value hart values base + d) % 2 ^ 32
 unfolding form_value
 form-apart own base made d same ed none e hart values =
     ap (λ k. (linear_value values own.sum + hart * k) % 2 ^ 32) same
-    ∙ moved (linear_value values own.sum) (linear_value values base.sum) (hart * base.per_hart) d (linear-apart values own.sum base.sum made d ed (none values) (e values))
+    ∙ moved (linear_value values own.sum) (linear_value values base.sum) (hart * base.per_hart) d
+    (linear-apart values own.sum base.sum made d ed (none values) (e values))
 
 pub distance-word : (d n : ℕ) → d ≡ word.add n 0 → d < 2 ^ 32
 unfolding word.add
@@ -58,18 +64,22 @@ distance-word d n e = omega (arith, e)
 -- ---- what is near
 
 pub near-first : (scope : List Held) (item other : Held) (own : Form) (d : ℕ) → 1 ≤ length scope → item ≡ get_or scope 0 other → may_hold item.register ≡ true
-    → (d < 2 ^ 32) × ((hart : ℕ) (values : Values) → form_value hart values own ≡ (form_value hart values item.form + d) % 2 ^ 32) → IsNear scope own item.register d
+    → (d < 2 ^ 32) × ((hart : ℕ) (values : Values) → form_value hart values own ≡ (form_value hart values item.form + d) % 2 ^ 32)
+    → IsNear scope own item.register d
 near-first [] item other own d some ei may e = absurd (omega (arith, some))
 near-first (first ∷ others) item other own d some ei may e = record {
   may = may;
   kept = inl (ap (λ (h : Held). h.register) ei);
   word = e.0;
-  value = λ hart values f knows. e.1 hart values ∙ ap (λ n. (n + d) % 2 ^ 32) (ap (λ (h : Held). form_value hart values h.form) ei ∙ sym knows.0 ∙ ap (λ (h : Held). f h.register) (sym ei));
+  value = λ hart values f knows. e.1 hart values
+      ∙ ap (λ n. (n + d) % 2 ^ 32) (ap (λ (h : Held). form_value hart values h.form) ei ∙ sym knows.0 ∙ ap (λ (h : Held). f h.register) (sym ei));
   small = λ hart values f knows.
-      subst (λ n. n < 2 ^ 32) (ap (λ (h : Held). form_value hart values h.form) (sym (sym ei)) ∙ sym knows.0 ∙ ap (λ (h : Held). f h.register) (sym ei)) (form-small hart values item.form);
+      subst (λ n. n < 2 ^ 32) (ap (λ (h : Held). form_value hart values h.form) (sym (sym ei)) ∙ sym knows.0 ∙ ap (λ (h : Held). f h.register) (sym ei))
+      (form-small hart values item.form);
 }
 
-near-more : (scope : List Held) (other : Held) (own : Form) (r d : ℕ) → 1 ≤ length scope → IsNear (take (length scope - 1) (drop 1 scope)) own r d → IsNear scope own r d
+near-more : (scope : List Held) (other : Held) (own : Form) (r d : ℕ) → 1 ≤ length scope → IsNear (take (length scope - 1) (drop 1 scope)) own r d
+    → IsNear scope own r d
 near-more scope other own r d some x = subst (λ s. IsNear s own r d) (sym (others-are scope other some)) (record {
   may = x.may;
   kept = inr x.kept;
@@ -79,7 +89,8 @@ near-more scope other own r d some x = subst (λ s. IsNear s own r d) (sym (othe
 })
 
 pub near-rest : (scope : List Held) (other : Held) (own : Form) (found : Option Near) → 1 ≤ length scope
-    → IfSome found (λ at. IsNear (take (length scope - 1) (drop 1 scope)) own at.register at.number) → IfSome found (λ at. IsNear scope own at.register at.number)
+    → IfSome found (λ at. IsNear (take (length scope - 1) (drop 1 scope)) own at.register at.number)
+    → IfSome found (λ at. IsNear scope own at.register at.number)
 near-rest scope other own None some x = x
 near-rest scope other own (Some at) some x = near-more scope other own at.register at.number some x
 
@@ -105,7 +116,8 @@ makes-form-of scope n most r s c0 c1 says of fits x e = record {
       let h = e hart values f knows in puts-is w m l h.1 (x.does w m f l (knows-zero hart scope values f knows) h.0);
 }
 
-pub form-is : (scope : List Held) (n most r : ℕ) (c0 c1 : List ℕ) (of other : ℕ → Values → ℕ) → n ≤ most → MakesForm c0 c1 n scope r of → ((hart : ℕ) (values : Values) → of hart values ≡ other hart values)
+pub form-is : (scope : List Held) (n most r : ℕ) (c0 c1 : List ℕ) (of other : ℕ → Values → ℕ) → n ≤ most → MakesForm c0 c1 n scope r of
+    → ((hart : ℕ) (values : Values) → of hart values ≡ other hart values)
     → MakesForm c0 c1 most scope r other
 form-is scope n most r c0 c1 of other fits x e = record {
   insns = x.insns;
@@ -123,7 +135,8 @@ near-form scope own s n r c0 c1 near x =
 
 -- ---- sums, term by term
 
-pub sum-none : (scope : List Held) (form : Form) (terms : List Term) (r : ℕ) (c0 c1 : List ℕ) → length terms < 1 → Makes c0 c1 6 r (λ f. (form.sum.number + f 10 * form.per_hart) % 2 ^ 32)
+pub sum-none : (scope : List Held) (form : Form) (terms : List Term) (r : ℕ) (c0 c1 : List ℕ) → length terms < 1
+    → Makes c0 c1 6 r (λ f. (form.sum.number + f 10 * form.per_hart) % 2 ^ 32)
     → MakesForm c0 c1 (2 + 4 * (length terms + 1)) scope r (sum_value form terms)
 sum-none scope form [] r c0 c1 none x =
     makes-form scope 6 6 r c0 c1 (λ f. (form.sum.number + f 10 * form.per_hart) % 2 ^ 32) (sum_value form []) (omega arith) x (λ hart values f knows.
@@ -148,9 +161,11 @@ module _ (scope : List Held) (form : Form) (terms : List Term) (other : Term) (r
   base hart = form.sum.number + hart * form.per_hart
 
   -- a term that is 0
-  pub sum-skip : (c0 c1 : List ℕ) → first.stride ≡ 0 → MakesForm c0 c1 (2 + 4 * (length rest + 1)) scope r (sum_value form rest) → MakesForm c0 c1 (2 + 4 * (length terms + 1)) scope r (sum_value form terms)
+  pub sum-skip : (c0 c1 : List ℕ) → first.stride ≡ 0 → MakesForm c0 c1 (2 + 4 * (length rest + 1)) scope r (sum_value form rest)
+      → MakesForm c0 c1 (2 + 4 * (length terms + 1)) scope r (sum_value form terms)
   sum-skip c0 c1 z x =
-      form-is scope (2 + 4 * (length rest + 1)) (2 + 4 * (length terms + 1)) r c0 c1 (sum_value form rest) (sum_value form terms) (let n = one-less in omega (arith, n)) x (λ hart values.
+      form-is scope (2 + 4 * (length rest + 1)) (2 + 4 * (length terms + 1)) r c0 c1 (sum_value form rest) (sum_value form terms) (let n = one-less in
+      omega (arith, n)) x (λ hart values.
       let g : sum_of values rest ≡ values first.counter * 0 + sum_of values rest = omega arith in
       ap (λ k. (base hart + k) % 2 ^ 32) (g ∙ ap (λ s. values first.counter * s + sum_of values rest) (sym z) ∙ sym (parts values)))
 
@@ -164,7 +179,8 @@ module _ (scope : List Held) (form : Form) (terms : List Term) (other : Term) (r
   pub sum-first : (s : ℕ) (c0 c1 : List ℕ) → form.per_hart ≡ 0 → ((values : Values) → sum_of values rest ≡ 0) → HoldsVariable scope first.counter s
       → MakesOf c0 c1 6 r s (λ v. (form.sum.number + v * first.stride) % 2 ^ 32) → MakesForm c0 c1 (2 + 4 * (length terms + 1)) scope r (sum_value form terms)
   sum-first s c0 c1 z none holds x =
-      makes-form-of scope 6 (2 + 4 * (length terms + 1)) r s c0 c1 (λ v. (form.sum.number + v * first.stride) % 2 ^ 32) (sum_value form terms) (let n = one-less in omega (arith, n)) x (λ hart values f knows.
+      makes-form-of scope 6 (2 + 4 * (length terms + 1)) r s c0 c1 (λ v. (form.sum.number + v * first.stride) % 2 ^ 32) (sum_value form terms) (let n =
+      one-less in omega (arith, n)) x (λ hart values f knows.
       let v = values first.counter in
       let n = form.sum.number in
       let e = holds.value hart values f knows in
@@ -198,7 +214,8 @@ module _ (scope : List Held) (form : Form) (terms : List Term) (other : Term) (r
   }
 
 -- the sum of all terms
-pub sum-is : (form : Form) (terms : List Term) (hart : ℕ) (values : Values) → terms ≡ form.sum.terms → sum_value form terms hart values ≡ form_value hart values form
+pub sum-is : (form : Form) (terms : List Term) (hart : ℕ) (values : Values) → terms ≡ form.sum.terms
+    → sum_value form terms hart values ≡ form_value hart values form
 unfolding form_value linear_value
 sum-is form terms hart values e =
     let h = hart * form.per_hart in
@@ -207,7 +224,8 @@ sum-is form terms hart values e =
     let g : (n + h + s) % 2 ^ 32 ≡ ((n + s) % 2 ^ 32 + h) % 2 ^ 32 = omega arith in
     ap (λ ts. (n + h + sum_of values ts) % 2 ^ 32) e ∙ g
 
-pub whole-form : (scope : List Held) (form : Form) (terms : List Term) (r : ℕ) (c0 c1 : List ℕ) → terms ≡ form.sum.terms → MakesForm c0 c1 (2 + 4 * (length terms + 1)) scope r (sum_value form terms)
+pub whole-form : (scope : List Held) (form : Form) (terms : List Term) (r : ℕ) (c0 c1 : List ℕ) → terms ≡ form.sum.terms
+    → MakesForm c0 c1 (2 + 4 * (length terms + 1)) scope r (sum_value form terms)
     → MakesForm c0 c1 (2 + 4 * (length form.sum.terms + 1)) scope r (λ hart values. form_value hart values form)
 whole-form scope form terms r c0 c1 e x =
     form-is scope (2 + 4 * (length terms + 1)) (2 + 4 * (length form.sum.terms + 1)) r c0 c1 (sum_value form terms) (λ hart values. form_value hart values form)
@@ -216,7 +234,8 @@ whole-form scope form terms r c0 c1 e x =
 -- ---- addresses
 
 -- where a form is near enough
-pub address-near : (scope : List Held) (own : Form) (s n most r : ℕ) (c : List ℕ) → IsNear scope own s n → Fits n → MakesAddress c c most scope r s n (λ hart values. form_value hart values own)
+pub address-near : (scope : List Held) (own : Form) (s n most r : ℕ) (c : List ℕ) → IsNear scope own s n → Fits n
+    → MakesAddress c c most scope r s n (λ hart values. form_value hart values own)
 address-near scope own s n most r c near fit = record {
   insns = [];
   emits = emits-none c;
@@ -251,7 +270,8 @@ address-made scope own rest offset r c0 c1 low is x = record {
 }
 
 -- the part of a number that an immediate stands for
-rest-number : (n offset s h : ℕ) → offset < 2 ^ 32 → ((n + s) % 2 ^ 32 + h) % 2 ^ 32 ≡ ((((n + (2 ^ 32 - offset)) % 2 ^ 32 + s) % 2 ^ 32 + h) % 2 ^ 32 + offset) % 2 ^ 32
+rest-number : (n offset s h : ℕ) → offset < 2 ^ 32
+    → ((n + s) % 2 ^ 32 + h) % 2 ^ 32 ≡ ((((n + (2 ^ 32 - offset)) % 2 ^ 32 + s) % 2 ^ 32 + h) % 2 ^ 32 + offset) % 2 ^ 32
 rest-number n offset s h small = omega (arith, small)
 
 pub rest-is : (form rest : Form) (offset : ℕ) → Fits offset → offset < 2 ^ 32 → rest.sum.terms ≡ form.sum.terms → rest.per_hart ≡ form.per_hart

@@ -1,5 +1,6 @@
 -- Registers of loop variables.
-use Rattle.std.proofs.Common.{◌≡◌, ℕ, suc, ◌+◌, ◌-◌, ◌*◌, ◌%◌, ◌^◌, ◌<◌, ◌≤◌, List, [], ◌∷◌, length, get_or, take, drop, Bool, true, false, refl, ap, ◌∙◌, sym, subst, arith}
+use Rattle.std.proofs.Common.{◌≡◌, ℕ, suc, ◌+◌, ◌-◌, ◌*◌, ◌%◌, ◌^◌, ◌<◌, ◌≤◌, List, [], ◌∷◌, length, get_or, take, drop, Bool, true, false}
+use Rattle.std.proofs.Common.{refl, ap, ◌∙◌, sym, subst, arith}
 use Rattle.std.specs.Prelude.{◌==◌, ◌&&◌, ◌||◌, if◌then◌else◌}
 use Rattle.std.proofs.lemmas.Bool.{and_parts, eqb-true, true≢false}
 use Rattle.halide_pipeline.specs.declared.expressions.Variable.{Variable}
@@ -53,7 +54,8 @@ once-value counter (own ∷ []) values t =
     ap (λ c. values c * own.stride + 0) (same_counter-true own.counter counter each.0) ∙ ap (λ s. values counter * s + 0) stride ∙ g
 once-value counter (own ∷ (next ∷ others)) values t = absurd (true≢false (sym t))
 
-variable-value : (counter : Counter) (form : Form) (hart : ℕ) (values : Values) → is_variable counter form ≡ true → form_value hart values form ≡ values counter % 2 ^ 32
+variable-value : (counter : Counter) (form : Form) (hart : ℕ) (values : Values) → is_variable counter form ≡ true
+    → form_value hart values form ≡ values counter % 2 ^ 32
 unfolding form_value linear_value
 variable-value counter form hart values t =
     let each = and_parts (form.sum.number == 0) (form.per_hart == 0 && is_once counter form.sum.terms) t in
@@ -68,16 +70,19 @@ variable-value counter form hart values t =
 
 -- ---- registers that hold them
 
-pub variable-first : (scope : List Held) (item other : Held) (counter : Counter) → 1 ≤ length scope → item ≡ get_or scope 0 other → may_hold item.register ≡ true
+pub variable-first : (scope : List Held) (item other : Held) (counter : Counter) → 1 ≤ length scope → item ≡ get_or scope 0 other
+    → may_hold item.register ≡ true
     → is_variable counter item.form ≡ true → HoldsVariable scope counter item.register
 variable-first [] item other counter some ei may is = absurd (omega (arith, some))
 variable-first (first ∷ others) item other counter some ei may is = record {
   may = may;
   value = λ hart values f knows.
-      ap (λ (h : Held). f h.register) ei ∙ knows.0 ∙ ap (λ (h : Held). form_value hart values h.form) (sym ei) ∙ variable-value counter item.form hart values is;
+      ap (λ (h : Held). f h.register) ei ∙ knows.0 ∙ ap (λ (h : Held). form_value hart values h.form) (sym ei)
+      ∙ variable-value counter item.form hart values is;
 }
 
-pub variable-rest : (scope : List Held) (other : Held) (counter : Counter) (r : ℕ) → 1 ≤ length scope → HoldsVariable (take (length scope - 1) (drop 1 scope)) counter r
+pub variable-rest : (scope : List Held) (other : Held) (counter : Counter) (r : ℕ) → 1 ≤ length scope
+    → HoldsVariable (take (length scope - 1) (drop 1 scope)) counter r
     → HoldsVariable scope counter r
 variable-rest scope other counter r some x = subst (λ s. HoldsVariable s counter r) (sym (others-are scope other some)) (record {
   may = x.may;
@@ -85,7 +90,8 @@ variable-rest scope other counter r some x = subst (λ s. HoldsVariable s counte
 })
 
 -- the first register doesn't, so that another one does
-pub has-rest : (scope : List Held) (item other : Held) (counter : Counter) → 1 ≤ length scope → item ≡ get_or scope 0 other → may_hold item.register && is_variable counter item.form ≡ false
+pub has-rest : (scope : List Held) (item other : Held) (counter : Counter) → 1 ≤ length scope → item ≡ get_or scope 0 other
+    → may_hold item.register && is_variable counter item.form ≡ false
     → has_variable scope counter ≡ true → has_variable (take (length scope - 1) (drop 1 scope)) counter ≡ true
 has-rest scope item other counter some ei fails has =
     let rest = take (length scope - 1) (drop 1 scope) in
@@ -103,7 +109,8 @@ module _ (scope : List Held) (terms : List Term) (other : Term) (some : 1 ≤ le
   rest = take (length terms - 1) (drop 1 terms)
 
   both : (((first.stride == 0) || has_variable scope first.counter) ≡ true) × (have_registers scope rest ≡ true)
-  both = and_parts (first.stride == 0 || has_variable scope first.counter) (have_registers scope rest) (sym (ap (have_registers scope) (others-are terms other some)) ∙ have)
+  both = and_parts (first.stride == 0 || has_variable scope first.counter) (have_registers scope rest)
+      (sym (ap (have_registers scope) (others-are terms other some)) ∙ have)
 
   pub have-rest : have_registers scope rest ≡ true
   have-rest = both.1

@@ -10,7 +10,8 @@ use Rattle.task_code_scalar.specs.Doing.{Setting, HoldsFuncs}
 
 -- Code comes to its end in so many turns. Memory then holds these buffers, some registers stay, and each point of `stored` was written on
 -- the way.
-pub record Did (own : Setting) (code : List Insn) (n : ℕ) (f : ℕ → ℕ) (memory : List ℕ) (keeps_it : ℕ → Type 0) (funcs : Planes) (stored : Points) : Type 0 where
+pub record Did (own : Setting) (code : List Insn) (n : ℕ) (f : ℕ → ℕ) (memory : List ℕ) (keeps_it : ℕ → Type 0) (funcs : Planes)
+    (stored : Points) : Type 0 where
   pub after : ℕ → ℕ
   pub left : List ℕ
   pub block : Block own.world code n f memory after left

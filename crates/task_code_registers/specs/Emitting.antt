@@ -10,7 +10,8 @@ use Rattle.multi_hart_logic.specs.Paths.{Line}
 use Rattle.task_code_scalar.specs.Words.{Emits}
 use Rattle.task_code_registers.specs.declared.scopes.Form.{Form}
 use Rattle.task_code_registers.specs.declared.scopes.Held.{Held}
-use Rattle.task_code_registers.specs.Registers.{zero_register, scratch, second_scratch, may_hold}
+use Rattle.task_code_registers.specs.declared.sums.At.{At}
+use Rattle.task_code_registers.specs.Registers.{zero_register, hart_number, scratch, second_scratch, may_hold}
 use Rattle.task_code_registers.specs.Scopes.{Knows, AreHolders, IsFree, IsKept, form_value}
 
 -- a word that an immediate of 12 bits stands for
@@ -94,9 +95,9 @@ pub record MakesAddress (old new : List ℕ) (most : ℕ) (scope : List Held) (r
       → IsFree scope r → Knows hart scope values f → Addresses world memory insns f r base offset (says hart values)
 
 -- so it is of an address that is a form
-abbrev pub MakesFormAddress : List ℕ → List ℕ → List Held → Form → ℕ → ℕ → ℕ → Type 0
-MakesFormAddress old new scope form r base offset =
-    MakesAddress old new (sum_words form.sum.terms) scope r base offset (λ hart values. form_value hart values form)
+abbrev pub MakesFormAddress : List ℕ → List ℕ → List Held → Form → ℕ → At → Type 0
+MakesFormAddress old new scope form r at =
+    MakesAddress old new (sum_words form.sum.terms) scope r at.register at.offset (λ hart values. form_value hart values form)
 
 -- a form is another one and an offset, which fits an immediate, and both have the same terms
 pub record IsRest (form rest : Form) (offset : ℕ) : Type 0 where
@@ -111,6 +112,10 @@ pub record IsRest (form rest : Form) (offset : ℕ) : Type 0 where
 pub record HoldsVariable (scope : List Held) (counter : Counter) (r : ℕ) : Type 0 where
   pub may : may_hold r ≡ true
   pub value : (hart : ℕ) (values : Values) (f : ℕ → ℕ) → Knows hart scope values f → f r ≡ values counter % 2 ^ 32
+
+-- a number and so much times the hart's number is made
+abbrev pub MakesBase : List ℕ → List ℕ → ℕ → ℕ → ℕ → Type 0
+MakesBase old new r number per_hart = Makes old new 6 r (λ f. (number + f hart_number * per_hart) % 2 ^ 32)
 
 -- a form's number, its part of the hart's number, and these terms
 abbrev pub sum_value : Form → List Term → ℕ → Values → ℕ

@@ -1,5 +1,6 @@
 -- Forms that registers hold while a loop runs, and that go along with its iterations. This project's own.
-use Rattle.std.specs.Prelude.{◌≡◌, ◌≢◌, ◌≤◌, ℕ, suc, ◌+◌, ◌||◌, ◌&&◌, not, Bool, true, false, if◌then◌else◌, List, [], ◌∷◌, ◌++◌, length}
+use Rattle.std.specs.Prelude.{◌≡◌, ◌≢◌, ◌≤◌, ℕ, suc, ◌+◌, ◌||◌, ◌&&◌, not, Bool, true, false, if◌then◌else◌}
+use Rattle.std.specs.Prelude.{List, [], ◌∷◌, ◌++◌, length, Option, Some, None, IfSome}
 use Rattle.rv_insn.specs.declared.instructions.Insn.{Insn}
 use Rattle.loop_ir.specs.declared.expressions.Counter.{Counter}
 use Rattle.loop_ir.specs.Counters.{Values, with}
@@ -50,8 +51,13 @@ pub record Takes (old new : List ℕ) (counter : Counter) (scope : List Held) (f
   pub may : may_hold r ≡ true
   pub left : reserved ≤ left_count inner
 
-abbrev pub TakesOne : List ℕ → List ℕ → Counter → List Held → Form → ℕ → Taken → Type 0
-TakesOne old new counter scope form reserved taken = Takes old new counter scope form reserved taken.register taken.scope.items
+-- a register is taken
+abbrev pub TakesIf : List ℕ → List ℕ → Counter → List Held → Form → ℕ → Option Taken → Type 0
+TakesIf old new counter scope form reserved made = IfSome made (λ own. Takes old new counter scope form reserved own.register own.scope.items)
+
+-- or there are no more than so many, and there is no code
+abbrev pub IsFullIf : List ℕ → List ℕ → List Held → ℕ → Option Taken → Type 0
+IsFullIf old new scope reserved made = made ≡ None → (new ≡ old) × (left_count scope ≤ reserved)
 
 -- ---- from one iteration to the next
 

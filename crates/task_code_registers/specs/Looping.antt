@@ -23,7 +23,8 @@ looped body advance op a b = (body ++ advance) ++ (Branch op a b (back (length (
 
 -- What is asked of its parts: a body that does an iteration and keeps the registers of the inner scope, straight code that makes of what
 -- they hold in an iteration what they hold in the next one, and a branch that is taken while there is one.
-pub record Iterates (own : Setting) (hart : ℕ) (scope inner : List Held) (counter : Counter) (values : Values) (n : ℕ) (body advance : List Insn) (op : BranchOp) (a b : ℕ)
+pub record Iterates (own : Setting) (hart : ℕ) (scope inner : List Held) (counter : Counter) (values : Values) (n : ℕ) (body advance : List Insn)
+    (op : BranchOp) (a b : ℕ)
     (t : ℕ → ℕ) (one : ℕ → Planes → Planes) (body_stored : ℕ → Planes → Points) : Type 0 where
   pub first : a < 32
   pub second : b < 32

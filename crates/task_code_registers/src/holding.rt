@@ -1,8 +1,8 @@
 //! Forms that registers hold while a loop runs.
 
-ghost use Rattle.std.specs.Prelude.{◌≡◌, ◌≤◌, ◌*◌, ◌%◌, ◌^◌, ◌++◌, None, IfOk, IfSome, OnOk, true};
-ghost use Rattle.task_code_registers.specs.Holding.{Advances, IsAt, TakesOne, can_advance, moving};
-ghost use Rattle.task_code_registers.specs.Scopes.{have_registers, left_count};
+ghost use Rattle.std.specs.Prelude.{◌≡◌, ◌*◌, ◌%◌, ◌^◌, ◌++◌, IfOk, OnOk, true};
+ghost use Rattle.task_code_registers.specs.Holding.{Advances, IsAt, IsFullIf, TakesIf, can_advance, moving};
+ghost use Rattle.task_code_registers.specs.Scopes.{have_registers};
 ghost use Rattle.task_code_registers.specs.Strides.{others_of, strides};
 
 use crate::numbers::emit_plus;
@@ -82,8 +82,8 @@ pub struct Taken {
     pub register: u8,
 }
 
-/// Appends what leaves a form, as it is in a loop's first iteration, in a register that holds nothing yet, where more than so
-/// many are left. Else there is no code.
+/// Appends what leaves a form, as it is in a loop's first iteration, in a register that holds nothing yet, where more
+/// than so many are left. Else there is no code.
 ///
 /// # Errors
 ///
@@ -97,8 +97,8 @@ pub fn hold(
     reserved: usize,
 ) -> Result<Option<Taken>, AllocError>
     requires { have_registers scope.now (others_of counter form.now.sum.terms) ≡ true }
-    ensures some { IfOk result (λ made. IfSome made (TakesOne code.old.items code.new.items counter scope.now form.now reserved)) }
-    ensures none { IfOk result (λ made. made ≡ None → (code.new.items ≡ code.old.items) × (left_count scope.now ≤ reserved)) }
+    ensures some { IfOk result (TakesIf code.old.items code.new.items counter scope.now form.now reserved) }
+    ensures none { IfOk result (IsFullIf code.old.items code.new.items scope.now reserved) }
 {
     match free_register(scope, reserved) {
         None => Ok(None),

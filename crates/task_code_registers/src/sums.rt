@@ -4,10 +4,9 @@ ghost use Rattle.std.specs.Prelude.{◌≡◌, ◌+◌, ◌*◌, ◌%◌, ◌^�
 ghost use Rattle.loop_ir.specs.Counters.{Values};
 ghost use Rattle.loop_ir.specs.Expressions.{sum_of};
 ghost use Rattle.task_code_registers.specs.Emitting.{Fits, HoldsVariable, IsApart, IsNear, IsRest};
-ghost use Rattle.task_code_registers.specs.Emitting.{Makes, MakesFormAddress, MakesOf, MakesSum, MakesValue};
-ghost use Rattle.task_code_registers.specs.Registers.{hart_number, IsPlace, IsSource};
+ghost use Rattle.task_code_registers.specs.Emitting.{Makes, MakesBase, MakesFormAddress, MakesOf, MakesSum, MakesValue};
+ghost use Rattle.task_code_registers.specs.Registers.{IsPlace, IsSource};
 ghost use Rattle.task_code_registers.specs.Scopes as spec;
-ghost use Rattle.task_code_registers.specs.Scopes.{has_variable, have_registers};
 
 use crate::numbers::{emit_number, emit_plus, emit_times, fits};
 use crate::registers::{HART_NUMBER, SECOND_SCRATCH, may_hold};
@@ -124,9 +123,38 @@ fn is_once(counter: Counter, terms: &[Term]) -> bool
     }
 }
 
+/// Whether some register holds a loop variable alone.
+fn has_variable(scope: &[Held], counter: Counter) -> bool
+    ensures { result ≡ spec.has_variable scope.now counter }
+{
+    match scope {
+        [] => false,
+        [first, others @ ..] => {
+            if may_hold(first.register) && is_variable(counter, &first.form) {
+                true
+            } else {
+                has_variable(others, counter)
+            }
+        }
+    }
+}
+
+/// Whether each loop variable of these terms has a register, but for those that count nothing.
+pub fn have_registers(scope: &[Held], terms: &[Term]) -> bool
+    ensures { result ≡ spec.have_registers scope.now terms.now }
+{
+    match terms {
+        [] => true,
+        [first, others @ ..] => {
+            (first.stride == 0 || has_variable(scope, first.counter))
+                && have_registers(scope, others)
+        }
+    }
+}
+
 /// The register that holds a loop variable alone.
 fn register_of(scope: &[Held], counter: Counter) -> u8
-    requires { has_variable scope.now counter ≡ true }
+    requires { spec.has_variable scope.now counter ≡ true }
     ensures { HoldsVariable scope.now counter result }
 {
     match scope {
@@ -180,7 +208,7 @@ fn emit_product(
 /// Appends what leaves a number and so much times the hart's number.
 fn emit_base(code: &mut Vec<u32>, number: u32, per_hart: u32, r: u8) -> Result<(), AllocError>
     requires { IsPlace r }
-    ensures { OnOk result (Makes code.old.items code.new.items 6 r (λ f. (number + f hart_number * per_hart) % 2 ^ 32)) }
+    ensures { OnOk result (MakesBase code.old.items code.new.items r number per_hart) }
 {
     if per_hart == 0 {
         emit_number(code, r, number)?;
@@ -200,7 +228,7 @@ fn emit_sum(
     r: u8,
 ) -> Result<(), AllocError>
     requires place { IsPlace r }
-    requires held { have_registers scope.now terms.now ≡ true }
+    requires held { spec.have_registers scope.now terms.now ≡ true }
     ensures { OnOk result (MakesSum code.old.items code.new.items scope.now form.now terms.now r) }
 {
     match terms {
@@ -238,7 +266,7 @@ pub fn emit_form(
     r: u8,
 ) -> Result<(), AllocError>
     requires place { IsPlace r }
-    requires held { have_registers scope.now form.now.sum.terms ≡ true }
+    requires held { spec.have_registers scope.now form.now.sum.terms ≡ true }
     ensures { OnOk result (MakesValue code.old.items code.new.items scope.now form.now r) }
 {
     match nearest(alloc, scope, form)? {
@@ -294,8 +322,8 @@ pub fn emit_address(
     r: u8,
 ) -> Result<At, AllocError>
     requires place { IsPlace r }
-    requires held { have_registers scope.now form.now.sum.terms ≡ true }
-    ensures { IfOk result (λ at. MakesFormAddress code.old.items code.new.items scope.now form.now r at.register at.offset) }
+    requires held { spec.have_registers scope.now form.now.sum.terms ≡ true }
+    ensures { IfOk result (MakesFormAddress code.old.items code.new.items scope.now form.now r) }
 {
     match find(alloc, scope, form, true)? {
         Some(found) => {

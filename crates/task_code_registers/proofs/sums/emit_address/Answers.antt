@@ -12,4 +12,5 @@ returns-in-Some c =
 
 pub returns : goal.returns
 returns c =
-    address-made c.args.scope.now c.args.form.now c.in_ok-rest.rest c.in_ok-rest.offset c.args.r _ _ c.requires.place.0.1 c.in_ok-rest.ensures c.in_ok-emit_form.ensures
+    address-made c.args.scope.now c.args.form.now c.in_ok-rest.rest c.in_ok-rest.offset c.args.r _ _ c.requires.place.0.1 c.in_ok-rest.ensures
+    c.in_ok-emit_form.ensures
