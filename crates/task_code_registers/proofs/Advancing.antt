@@ -10,7 +10,7 @@ use Rattle.multi_hart_logic.proofs.Paths.{line-then, stay}
 use Rattle.task_code_scalar.proofs.Spelling.{emits_then, emits-none}
 use Rattle.task_code_registers.specs.declared.scopes.Form.{Form}
 use Rattle.task_code_registers.specs.declared.scopes.Held.{Held}
-use Rattle.task_code_registers.specs.Registers.{may_hold, IsTarget, IsSource}
+use Rattle.task_code_registers.specs.Registers.{scratch, second_scratch, may_hold, IsTarget, IsSource}
 use Rattle.task_code_registers.specs.Emitting.{MakesOf}
 use Rattle.task_code_registers.specs.Scopes.{Knows, IsFree, IsKept, IsHolder, AreHolders, form_value}
 use Rattle.task_code_registers.specs.Strides.{strides, has_counter}
@@ -25,11 +25,11 @@ if-parts false b e = (refl, e)
 
 -- ---- registers that stay
 
-steady-apart : (counter : Counter) (inner : List Held) (q : ℕ) → IsSteady counter inner q → (q ≢ 13) × (q ≢ 14)
+steady-apart : (counter : Counter) (inner : List Held) (q : ℕ) → IsSteady counter inner q → (q ≢ scratch) × (q ≢ second_scratch)
 steady-apart counter [] q s = s
 steady-apart counter (own ∷ others) q s = steady-apart counter others q s.1
 
-free-steady : (counter : Counter) (inner : List Held) (r : ℕ) → r ≢ 13 → r ≢ 14 → IsFree inner r → IsSteady counter inner r
+free-steady : (counter : Counter) (inner : List Held) (r : ℕ) → r ≢ scratch → r ≢ second_scratch → IsFree inner r → IsSteady counter inner r
 free-steady counter [] r a b free = (a, b)
 free-steady counter (own ∷ others) r a b free = ((λ has e. free own.register (inl refl) (sym e)), free-steady counter others r a b (λ q h. free q (inr h)))
 
@@ -38,7 +38,8 @@ pub kept-more : (added scope : List Held) (q : ℕ) → IsKept scope q → IsKep
 kept-more [] scope q h = h
 kept-more (own ∷ others) scope q h = inr (kept-more others scope q h)
 
-unmentioned-steady : (counter : Counter) (scope : List Held) (q : ℕ) → mentions counter scope ≡ false → q ≢ 13 → q ≢ 14 → IsSteady counter scope q
+unmentioned-steady : (counter : Counter) (scope : List Held) (q : ℕ) → mentions counter scope ≡ false → q ≢ scratch → q ≢ second_scratch
+    → IsSteady counter scope q
 unmentioned-steady counter [] q none a b = (a, b)
 unmentioned-steady counter (own ∷ others) q none a b =
     let t = has_counter counter own.form.sum.terms in

@@ -4,7 +4,7 @@ use Rattle.std.specs.Prelude.{◌≢◌, ◌⊎◌, ◌==◌, ◌&&◌, if◌the
 use Rattle.std.proofs.lemmas.Bool.{and_parts, true≢false, eqb-true}
 use Rattle.std.proofs.lemmas.Bool.Decides.{nat_tests}
 use Rattle.task_code_registers.specs.declared.scopes.Held.{Held}
-use Rattle.task_code_registers.specs.Registers.{may_hold}
+use Rattle.task_code_registers.specs.Registers.{zero_register, hart_number, hart_count, first_value, may_hold}
 use Rattle.task_code_registers.specs.Scopes.{IsFree, IsKept, is_held, is_left, left_below, left_count}
 use Rattle.task_code_registers.proofs.Knowing.{fails-at}
 
@@ -14,9 +14,9 @@ is-not false e = refl
 
 -- a register that may hold a form and doesn't is free
 unheld : (scope : List Held) (r : ℕ) → may_hold r ≡ true → is_held scope r ≡ false → IsFree scope r
-unheld [] r may fresh q (inl e) g = fails-at r 0 may refl (sym g ∙ e)
-unheld [] r may fresh q (inr (inl e)) g = fails-at r 10 may refl (sym g ∙ e)
-unheld [] r may fresh q (inr (inr e)) g = fails-at r 11 may refl (sym g ∙ e)
+unheld [] r may fresh q (inl e) g = fails-at r zero_register may refl (sym g ∙ e)
+unheld [] r may fresh q (inr (inl e)) g = fails-at r hart_number may refl (sym g ∙ e)
+unheld [] r may fresh q (inr (inr e)) g = fails-at r hart_count may refl (sym g ∙ e)
 unheld (own ∷ others) r may fresh q (inl e) g =
     let t : (own.register == r) ≡ true = let h : own.register ≡ r = sym e ∙ g in grind (arith, nat_tests, h) in
     true≢false (sym (ap (λ b. if b then true else is_held others r) t) ∙ fresh)
@@ -73,4 +73,4 @@ one-less scope own (suc q) = by-test (own.register == q) refl (one-less scope ow
     by-test false e l = both (is_left scope q) (left_below scope q) (left_below (own ∷ scope) q) l
 
 pub still-left : (scope : List Held) (own : Held) (reserved : ℕ) → reserved < left_count scope → reserved ≤ left_count (own ∷ scope)
-still-left scope own reserved l = let m = one-less scope own 20 in omega (arith, l, m)
+still-left scope own reserved l = let m = one-less scope own first_value in omega (arith, l, m)

@@ -12,50 +12,53 @@ use Rattle.loop_ir.specs.Counters.{Values, same_counter}
 use Rattle.loop_ir.specs.Expressions.{linear_value, sum_of}
 use Rattle.task_code_registers.specs.declared.scopes.Form.{Form}
 use Rattle.task_code_registers.specs.declared.scopes.Held.{Held}
-use Rattle.task_code_registers.specs.Registers.{may_hold, is_reserved}
-use Rattle.task_code_registers.specs.Scopes.{Knows, AreHolders, IsHolder, IsFree, IsKept, form_value}
+use Rattle.task_code_registers.specs.Registers.{zero_register, hart_number, scratch, second_scratch, address_register, first_value, may_hold, is_reserved}
+use Rattle.task_code_registers.specs.Registers.{IsWorking}
+use Rattle.task_code_registers.specs.Scopes.{Knows, AreHolders, IsHolder, IsFree, IsKept, form_value, WorkingRegistersAreFree}
 
 -- ---- registers that may hold forms
 
 pub record MayHold (q : ℕ) : Type 0 where
   pub low : 1 ≤ q
-  pub high : q < 20
-  pub first : q ≢ 13
-  pub second : q ≢ 14
+  pub high : q < first_value
+  pub first : q ≢ scratch
+  pub second : q ≢ second_scratch
+  pub third : q ≢ address_register
 
 pub fails-at : (q n : ℕ) → may_hold q ≡ true → may_hold n ≡ false → q ≢ n
 fails-at q n t f e = let g : may_hold q ≡ false = ap may_hold e ∙ f in cc (t, g)
 
 pub may-hold : (q : ℕ) → may_hold q ≡ true → MayHold q
 may-hold q t = record {
-  low = let n = fails-at q 0 t refl in omega (arith, n);
-  high = ltb-true q 20 (and_parts (nat_lt q 20) (not (is_reserved q)) t).0;
-  first = fails-at q 13 t refl;
-  second = fails-at q 14 t refl;
+  low = let n = fails-at q zero_register t refl in omega (arith, n);
+  high = ltb-true q first_value (and_parts (nat_lt q first_value) (not (is_reserved q)) t).0;
+  first = fails-at q scratch t refl;
+  second = fails-at q second_scratch t refl;
+  third = fails-at q address_register t refl;
 }
 
 -- ---- scopes
 
-pub knows-zero : (hart : ℕ) (scope : List Held) (values : Values) (f : ℕ → ℕ) → Knows hart scope values f → f 0 ≡ 0
+pub knows-zero : (hart : ℕ) (scope : List Held) (values : Values) (f : ℕ → ℕ) → Knows hart scope values f → f zero_register ≡ 0
 knows-zero hart [] values f k = k.0
 knows-zero hart (own ∷ others) values f k = knows-zero hart others values f k.1
 
-pub knows-hart : (hart : ℕ) (scope : List Held) (values : Values) (f : ℕ → ℕ) → Knows hart scope values f → f 10 ≡ hart
+pub knows-hart : (hart : ℕ) (scope : List Held) (values : Values) (f : ℕ → ℕ) → Knows hart scope values f → f hart_number ≡ hart
 knows-hart hart [] values f k = k.1
 knows-hart hart (own ∷ others) values f k = knows-hart hart others values f k.1
 
 -- what is kept is known still
 pub knows-still : (hart : ℕ) (scope : List Held) (values : Values) (f g : ℕ → ℕ) → ((q : ℕ) → IsKept scope q → g q ≡ f q) → Knows hart scope values f
     → Knows hart scope values g
-knows-still hart [] values f g same k = (same 0 (inl refl) ∙ k.0, same 10 (inr (inl refl)) ∙ k.1)
+knows-still hart [] values f g same k = (same zero_register (inl refl) ∙ k.0, same hart_number (inr (inl refl)) ∙ k.1)
 knows-still hart (own ∷ others) values f g same k = (same own.register (inl refl) ∙ k.0, knows-still hart others values f g (λ q h. same q (inr h)) k.1)
 
 -- and no register that holds a form is scratch
-pub holder-apart : (q : ℕ) → IsHolder q → (q ≢ 13) × (q ≢ 14)
+pub holder-apart : (q : ℕ) → IsHolder q → (q ≢ scratch) × (q ≢ second_scratch)
 holder-apart q (inl t) = let m = may-hold q t in (m.first, m.second)
 holder-apart q (inr o) = ((λ e. omega (arith, o, e)), (λ e. omega (arith, o, e)))
 
-pub kept-apart : (scope : List Held) (q : ℕ) → AreHolders scope → IsKept scope q → (q ≢ 13) × (q ≢ 14)
+pub kept-apart : (scope : List Held) (q : ℕ) → AreHolders scope → IsKept scope q → (q ≢ scratch) × (q ≢ second_scratch)
 kept-apart [] q holders o = ((λ e. omega (arith, o, e)), (λ e. omega (arith, o, e)))
 kept-apart (own ∷ others) q holders (inl e) =
     let a = holder-apart own.register holders.0 in
@@ -63,6 +66,22 @@ kept-apart (own ∷ others) q holders (inl e) =
     let two = a.1 in
     ((λ x. one (sym e ∙ x)), (λ x. two (sym e ∙ x)))
 kept-apart (own ∷ others) q holders (inr h) = kept-apart others q holders.1.1 h
+
+-- nor one in which values are made
+holder-rests : (q r : ℕ) → IsHolder q → IsWorking r → q ≢ r
+holder-rests q r (inl t) work e =
+    let m = may-hold q t in
+    let high = m.high in
+    let a = m.first in
+    let b = m.second in
+    let c = m.third in
+    omega (arith, work, e, high, a, b, c)
+holder-rests q r (inr o) work e = omega (arith, o, work, e)
+
+pub working-free : WorkingRegistersAreFree
+working-free [] r holders work q h e = omega (arith, h, work, e)
+working-free (own ∷ others) r holders work q (inl is) e = holder-rests own.register r holders.0 work (sym is ∙ e)
+working-free (own ∷ others) r holders work q (inr h) e = working-free others r holders.1.1 work q h e
 
 -- the first of a list, and those behind it
 pub others-are : {A : Type 0} (xs : List A) (other : A) → 1 ≤ length xs → xs ≡ get_or xs 0 other ∷ take (length xs - 1) (drop 1 xs)

@@ -1,5 +1,6 @@
 pub mod Advancing
 pub mod Counting
+pub mod Ending
 pub mod Entering
 pub mod Going
 pub mod Knowing

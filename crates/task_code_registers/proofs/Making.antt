@@ -19,6 +19,7 @@ use Rattle.task_code_scalar.specs.Code.{upper, lower, literal}
 use Rattle.task_code_scalar.specs.Words.{Emits}
 use Rattle.task_code_scalar.proofs.Spelling.{emits_then, emits-none}
 use Rattle.task_code_scalar.proofs.Values.{Sets, alu-sets, imm-sets, shift-sets, literal-sets}
+use Rattle.task_code_registers.specs.Registers.{zero_register, scratch, second_scratch}
 use Rattle.task_code_registers.specs.Emitting.{Fits, Puts, Makes, MakesOf}
 
 -- ---- immediates
@@ -41,7 +42,8 @@ module _ (w : World) (m : List ℕ) (l : length m ≡ w.size) where
   puts-set e a = record { after = a.after; line = a.line; value = a.value ∙ e; others = λ q n x y. a.others q n }
 
   -- a scratch register or r itself is set first
-  pub puts-then : {is js : List Insn} {f : ℕ → ℕ} {c r u v : ℕ} → (a : Puts w m is f c u) → (c ≡ 13) ⊎ ((c ≡ 14) ⊎ (c ≡ r)) → Puts w m js a.after r v
+  pub puts-then : {is js : List Insn} {f : ℕ → ℕ} {c r u v : ℕ} → (a : Puts w m is f c u) → (c ≡ scratch) ⊎ ((c ≡ second_scratch) ⊎ (c ≡ r))
+      → Puts w m js a.after r v
       → Puts w m (is ++ js) f r v
   puts-then {is} {js} {f} {c} {r} {u} {v} a o b = record {
     after = b.after;
@@ -50,7 +52,7 @@ module _ (w : World) (m : List ℕ) (l : length m ≡ w.size) where
     others = λ q n x y. b.others q n x y ∙ a.others q (λ e. apart q o n x y e) x y;
   }
     where
-      apart : (q : ℕ) → (c ≡ 13) ⊎ ((c ≡ 14) ⊎ (c ≡ r)) → q ≢ r → q ≢ 13 → q ≢ 14 → q ≢ c
+      apart : (q : ℕ) → (c ≡ scratch) ⊎ ((c ≡ second_scratch) ⊎ (c ≡ r)) → q ≢ r → q ≢ scratch → q ≢ second_scratch → q ≢ c
       apart q o n x y e = omega (arith, o, n, x, y, e)
 
   -- no instruction at all
@@ -65,10 +67,10 @@ short-then is js a b n x y s = let e : length (is ++ js) ≡ length is + length 
 
 -- ---- a number
 
-pub number-small : (r n : ℕ) (c0 c1 : List ℕ) → 1 ≤ r → r < 32 → Fits n → n < 2 ^ 32 → Emits c0 c1 (AluImm alu_imms.Addi r 0 (lower n) ∷ [])
+pub number-small : (r n : ℕ) (c0 c1 : List ℕ) → 1 ≤ r → r < 32 → Fits n → n < 2 ^ 32 → Emits c0 c1 (AluImm alu_imms.Addi r zero_register (lower n) ∷ [])
     → Makes c0 c1 2 r (λ f. n)
 number-small r n c0 c1 low high fit small x = record {
-  insns = AluImm alu_imms.Addi r 0 (lower n) ∷ [];
+  insns = AluImm alu_imms.Addi r zero_register (lower n) ∷ [];
   emits = x;
   short = omega arith;
   does = λ w m f l zero.
@@ -121,17 +123,17 @@ plus-small r s n c0 c1 low high ls fit small x = record {
 }
 
 -- a literal in the scratch register, and an operation on it
-pub plus-literal : (r s n : ℕ) (c0 c1 c2 : List ℕ) → 1 ≤ r → r < 32 → s < 32 → s ≢ 13 → s ≢ 14 → Makes c0 c1 2 13 (λ f. n)
-    → Emits c1 c2 (Alu alus.Add r s 13 ∷ [])
+pub plus-literal : (r s n : ℕ) (c0 c1 c2 : List ℕ) → 1 ≤ r → r < 32 → s < 32 → s ≢ scratch → s ≢ second_scratch → Makes c0 c1 2 scratch (λ f. n)
+    → Emits c1 c2 (Alu alus.Add r s scratch ∷ [])
     → MakesOf c0 c2 3 r s (λ v. (v + n) % 2 ^ 32)
 plus-literal r s n c0 c1 c2 low high ls s13 s14 x y = record {
-  insns = x.insns ++ (Alu alus.Add r s 13 ∷ []);
+  insns = x.insns ++ (Alu alus.Add r s scratch ∷ []);
   emits = emits_then x.emits y;
-  short = short-then x.insns (Alu alus.Add r s 13 ∷ []) 2 1 3 x.short (omega arith) (omega arith);
+  short = short-then x.insns (Alu alus.Add r s scratch ∷ []) 2 1 3 x.short (omega arith) (omega arith);
   does = λ w m f l zero word.
       let a = x.does w m f l zero in
       puts-then w m l a (inl refl) (puts-set w m l refl
-      (alu-sets w m l alus.Add a.after r s 13 (f s) n low high ls (omega arith) (a.others s s13 s13 s14) a.value));
+      (alu-sets w m l alus.Add a.after r s scratch (f s) n low high ls (omega arith) (a.others s s13 s13 s14) a.value));
 }
 
 -- ---- a register times a number
@@ -146,17 +148,17 @@ times-none r s n c0 c1 none x = record {
       puts-is w m l (g ∙ ap (λ k. (f s * k) % 2 ^ 32) (sym none)) (x.does w m f l zero);
 }
 
-pub times-literal : (r s n : ℕ) (c0 c1 c2 : List ℕ) → 1 ≤ r → r < 32 → s < 32 → s ≢ 13 → s ≢ 14 → Makes c0 c1 2 13 (λ f. n)
-    → Emits c1 c2 (Alu alus.Mul r s 13 ∷ [])
+pub times-literal : (r s n : ℕ) (c0 c1 c2 : List ℕ) → 1 ≤ r → r < 32 → s < 32 → s ≢ scratch → s ≢ second_scratch → Makes c0 c1 2 scratch (λ f. n)
+    → Emits c1 c2 (Alu alus.Mul r s scratch ∷ [])
     → Makes c0 c2 3 r (λ f. (f s * n) % 2 ^ 32)
 times-literal r s n c0 c1 c2 low high ls s13 s14 x y = record {
-  insns = x.insns ++ (Alu alus.Mul r s 13 ∷ []);
+  insns = x.insns ++ (Alu alus.Mul r s scratch ∷ []);
   emits = emits_then x.emits y;
-  short = short-then x.insns (Alu alus.Mul r s 13 ∷ []) 2 1 3 x.short (omega arith) (omega arith);
+  short = short-then x.insns (Alu alus.Mul r s scratch ∷ []) 2 1 3 x.short (omega arith) (omega arith);
   does = λ w m f l zero.
       let a = x.does w m f l zero in
       puts-then w m l a (inl refl) (puts-set w m l refl
-      (alu-sets w m l alus.Mul a.after r s 13 (f s) n low high ls (omega arith) (a.others s s13 s13 s14) a.value));
+      (alu-sets w m l alus.Mul a.after r s scratch (f s) n low high ls (omega arith) (a.others s s13 s13 s14) a.value));
 }
 
 pub times-shift : (r s n k : ℕ) (c0 c1 : List ℕ) → 1 ≤ r → r < 32 → s < 32 → k < 32 → n ≡ 2 ^ k → Emits c0 c1 (Shift shifts.Slli r s k ∷ [])
@@ -184,18 +186,18 @@ term-one r s n c0 c1 low high ls one x = record {
       puts-set w m l (g ∙ ap (λ k. (f r + f s * k) % 2 ^ 32) (sym one)) (alu-sets w m l alus.Add f r r s (f r) (f s) low high high ls refl refl);
 }
 
-pub term-more : (r s n : ℕ) (c0 c1 c2 : List ℕ) → 1 ≤ r → r < 32 → r ≢ 13 → r ≢ 14 → Makes c0 c1 3 14 (λ f. (f s * n) % 2 ^ 32)
-    → Emits c1 c2 (Alu alus.Add r r 14 ∷ [])
+pub term-more : (r s n : ℕ) (c0 c1 c2 : List ℕ) → 1 ≤ r → r < 32 → r ≢ scratch → r ≢ second_scratch → Makes c0 c1 3 second_scratch (λ f. (f s * n) % 2 ^ 32)
+    → Emits c1 c2 (Alu alus.Add r r second_scratch ∷ [])
     → Makes c0 c2 4 r (λ f. (f r + f s * n) % 2 ^ 32)
 term-more r s n c0 c1 c2 low high r13 r14 x y = record {
-  insns = x.insns ++ (Alu alus.Add r r 14 ∷ []);
+  insns = x.insns ++ (Alu alus.Add r r second_scratch ∷ []);
   emits = emits_then x.emits y;
-  short = short-then x.insns (Alu alus.Add r r 14 ∷ []) 3 1 4 x.short (omega arith) (omega arith);
+  short = short-then x.insns (Alu alus.Add r r second_scratch ∷ []) 3 1 4 x.short (omega arith) (omega arith);
   does = λ w m f l zero.
       let a = x.does w m f l zero in
       puts-then w m l a (inr (inl refl))
       (puts-set w m l (add-mod-mod (f r) (f s * n) (2 ^ 32))
-      (alu-sets w m l alus.Add a.after r r 14 (f r) ((f s * n) % 2 ^ 32) low high high (omega arith) (a.others r r14 r13 r14) a.value));
+      (alu-sets w m l alus.Add a.after r r second_scratch (f r) ((f s * n) % 2 ^ 32) low high high (omega arith) (a.others r r14 r13 r14) a.value));
 }
 
 -- ---- a number plus the product of a register and a number
@@ -222,7 +224,7 @@ module _ (r s n k : ℕ) (c0 c1 c2 : List ℕ) (apart : 1 ≤ r) where
         let p = f s * n in
         let v = a.value in
         let word : a.after r < 2 ^ 32 = let e : p % 2 ^ 32 < 2 ^ 32 = omega arith in subst (λ i. i < 2 ^ 32) (sym v) e in
-        let b = y.does w m a.after l (a.others 0 (λ e. omega (arith, e, apart)) (λ e. omega (arith, e)) (λ e. omega (arith, e)) ∙ zero) word in
+        let b = y.does w m a.after l (a.others zero_register (λ e. omega (arith, e, apart)) (λ e. omega (arith, e)) (λ e. omega (arith, e)) ∙ zero) word in
         let g : (p % 2 ^ 32 + k) % 2 ^ 32 ≡ (k + p) % 2 ^ 32 = omega arith in
         puts-then w m l a (inr (inr refl)) (puts-is w m l (ap (λ i. (i + k) % 2 ^ 32) v ∙ g) b);
   }

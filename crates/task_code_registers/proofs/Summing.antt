@@ -19,7 +19,7 @@ use Rattle.task_code_registers.specs.declared.scopes.Form.{Form}
 use Rattle.task_code_registers.specs.declared.scopes.Held.{Held}
 use Rattle.task_code_registers.specs.declared.sums.Near.{Near}
 use Rattle.task_code_registers.specs.Emitting.{Fits, Puts, Makes, MakesOf, MakesForm, MakesAddress, IsNear, IsRest, HoldsVariable, sum_value}
-use Rattle.task_code_registers.specs.Registers.{may_hold}
+use Rattle.task_code_registers.specs.Registers.{hart_number, may_hold}
 use Rattle.task_code_registers.specs.Scopes.{Knows, AreHolders, IsFree, IsKept, form_value, is_variable, is_once, has_variable, have_registers}
 use Rattle.task_code_registers.proofs.Knowing.{MayHold, may-hold, knows-zero, knows-hart, knows-still, kept-apart, others-are, linear-small, form-small}
 use Rattle.task_code_registers.proofs.Making.{puts-then, puts-is, short-then}
@@ -136,10 +136,10 @@ near-form scope own s n r c0 c1 near x =
 -- ---- sums, term by term
 
 pub sum-none : (scope : List Held) (form : Form) (terms : List Term) (r : ℕ) (c0 c1 : List ℕ) → length terms < 1
-    → Makes c0 c1 6 r (λ f. (form.sum.number + f 10 * form.per_hart) % 2 ^ 32)
+    → Makes c0 c1 6 r (λ f. (form.sum.number + f hart_number * form.per_hart) % 2 ^ 32)
     → MakesForm c0 c1 (2 + 4 * (length terms + 1)) scope r (sum_value form terms)
 sum-none scope form [] r c0 c1 none x =
-    makes-form scope 6 6 r c0 c1 (λ f. (form.sum.number + f 10 * form.per_hart) % 2 ^ 32) (sum_value form []) (omega arith) x (λ hart values f knows.
+    makes-form scope 6 6 r c0 c1 (λ f. (form.sum.number + f hart_number * form.per_hart) % 2 ^ 32) (sum_value form []) (omega arith) x (λ hart values f knows.
     let g : (form.sum.number + hart * form.per_hart) % 2 ^ 32 ≡ (form.sum.number + hart * form.per_hart + 0) % 2 ^ 32 = omega arith in
     ap (λ h. (form.sum.number + h * form.per_hart) % 2 ^ 32) (knows-hart hart scope values f knows) ∙ g)
 sum-none scope form (first ∷ others) r c0 c1 none x = absurd (omega (arith, none))

@@ -1,8 +1,9 @@
 -- A loop that is tested at its bottom. This project's own.
-use Rattle.std.specs.Prelude.{◌≡◌, ◌⊎◌, ◌<◌, ◌≤◌, ℕ, zero, suc, ◌+◌, nat_lt, true, List, [], ◌∷◌, ◌++◌, length}
+use Rattle.std.specs.Prelude.{◌≡◌, ◌⊎◌, ◌<◌, ◌≤◌, ℕ, zero, suc, ◌+◌, ◌*◌, ◌%◌, ◌^◌, ◌&&◌, nat_lt, Bool, true, List, [], ◌∷◌, ◌++◌, length}
 use Rattle.rv_insn.specs.declared.instructions.Insn.{Insn}
 use Rattle.rv_insn.specs.declared.instructions.Insn.TheVariants.{Branch}
 use Rattle.rv_insn.specs.declared.operations.BranchOp.{BranchOp}
+use Rattle.rv_insn.specs.declared.operations.BranchOp.TheVariants as branches
 use Rattle.hart_core.specs.Alu.{is_taken}
 use Rattle.halide_pipeline.specs.Pixel.{Planes}
 use Rattle.loop_ir.specs.declared.expressions.Counter.{Counter}
@@ -12,10 +13,28 @@ use Rattle.loop_ir.specs.Running.{turns}
 use Rattle.task_code_scalar.specs.Code.{back}
 use Rattle.task_code_scalar.specs.Doing.{Setting, HoldsFuncs}
 use Rattle.task_code_scalar.specs.Fitting.{total}
+use Rattle.task_code_registers.specs.declared.scopes.Form.{Form}
 use Rattle.task_code_registers.specs.declared.scopes.Held.{Held}
-use Rattle.task_code_registers.specs.Scopes.{Knows, IsKept}
-use Rattle.task_code_registers.specs.Holding.{Stepped}
+use Rattle.task_code_registers.specs.Scopes.{Knows, IsKept, form_value}
+use Rattle.task_code_registers.specs.Strides.{strides}
+use Rattle.task_code_registers.specs.Holding.{IsAt, Stepped}
 use Rattle.task_code_registers.specs.Doing.{Did}
+
+-- ---- when a loop ends
+
+-- by so many iterations a form goes on, and by less than a turn of 2^32 in all
+abbrev pub is_test : Counter → ℕ → Form → Bool
+is_test counter n form =
+    nat_lt 0 (strides counter form.sum.terms % 2 ^ 32) && nat_lt (n * (strides counter form.sum.terms % 2 ^ 32)) (2 ^ 32)
+
+-- Behind an iteration such a form differs from what it is behind the last one just if there is a next one.
+abbrev pub LimitsTell : Type 0
+LimitsTell =
+    (counter : Counter) (n i hart : ℕ) (values : Values) (form limit : Form) → IsAt counter n form limit → is_test counter n form ≡ true → i < n
+    → is_taken branches.Bne (form_value hart (with counter (suc i) values) form) (form_value hart (with counter (suc i) values) limit)
+    ≡ nat_lt (suc i) n
+
+-- ---- iterations one behind the other
 
 -- the body, what makes the next iteration's numbers of this one's, and a branch back while there is a next iteration
 abbrev pub looped : List Insn → List Insn → BranchOp → ℕ → ℕ → List Insn

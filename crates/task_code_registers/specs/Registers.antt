@@ -1,5 +1,5 @@
 -- Which register is for what. This project's own.
-use Rattle.std.specs.Prelude.{◌≢◌, ◌<◌, ◌≤◌, ℕ, Bool, ◌==◌, ◌||◌, ◌&&◌, not, nat_lt}
+use Rattle.std.specs.Prelude.{◌≢◌, ◌⊎◌, ◌<◌, ◌≤◌, ℕ, Bool, ◌==◌, ◌||◌, ◌&&◌, not, nat_lt}
 
 -- it is always 0
 abbrev pub zero_register : ℕ
@@ -34,6 +34,10 @@ is_reserved q =
 -- a register that may be given to a form for as long as a loop runs
 abbrev pub may_hold : ℕ → Bool
 may_hold q = nat_lt q first_value && not (is_reserved q)
+
+-- code of one statement may use it: it never holds a form
+abbrev pub IsWorking : ℕ → Type 0
+IsWorking r = ((scratch ≤ r) × (r ≤ address_register)) ⊎ ((first_value ≤ r) × (r < 32))
 
 -- code may leave a number there
 abbrev pub IsTarget : ℕ → Type 0

@@ -8,7 +8,7 @@ use Rattle.loop_ir.specs.Expressions.{linear_value}
 use Rattle.multi_hart_logic.specs.Paths.{vl_number, vtype_number}
 use Rattle.task_code_registers.specs.declared.scopes.Form.{Form}
 use Rattle.task_code_registers.specs.declared.scopes.Held.{Held}
-use Rattle.task_code_registers.specs.Registers.{zero_register, hart_number, hart_count, first_value, may_hold}
+use Rattle.task_code_registers.specs.Registers.{zero_register, hart_number, hart_count, first_value, may_hold, IsWorking}
 
 -- ---- forms
 
@@ -84,3 +84,8 @@ has_variable (own ∷ others) counter = if may_hold own.register && is_variable 
 abbrev pub have_registers : List Held → List Term → Bool
 have_registers scope [] = true
 have_registers scope (first ∷ others) = (first.stride == 0 || has_variable scope first.counter) && have_registers scope others
+
+-- ---- a law
+
+abbrev pub WorkingRegistersAreFree : Type 0
+WorkingRegistersAreFree = (scope : List Held) (r : ℕ) → AreHolders scope → IsWorking r → IsFree scope r

@@ -2,6 +2,7 @@
 
 ghost use Rattle.std.specs.Prelude.{◌≡◌, ◌*◌, ◌%◌, ◌^◌, ◌++◌, IfOk, OnOk, true};
 ghost use Rattle.task_code_registers.specs.Holding.{Advances, IsAt, IsFullIf, TakesIf, can_advance, moving};
+ghost use Rattle.task_code_registers.specs.Looping as spec;
 ghost use Rattle.task_code_registers.specs.Scopes.{have_registers};
 ghost use Rattle.task_code_registers.specs.Strides.{others_of, strides};
 
@@ -71,6 +72,14 @@ pub fn at_value(
         sum: Linear { number, terms },
         per_hart: form.per_hart,
     })
+}
+
+/// Whether a form goes on by so many iterations, and by less than a turn of 2^32 in all. Then it tells when they end.
+pub fn is_test(form: &Form, counter: Counter, count: u32) -> bool
+    ensures { result ≡ spec.is_test counter count form.now }
+{
+    let stride = stride_of(form.sum.terms.as_slice(), counter);
+    0 < stride && u64::from(count) * u64::from(stride) < 1 << 32
 }
 
 // ---- before the first iteration

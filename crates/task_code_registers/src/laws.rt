@@ -1,7 +1,13 @@
 //! Laws of scopes and of loops.
 
 ghost use Rattle.task_code_registers.specs.Holding.{ScopesNest, ScopesStay};
-ghost use Rattle.task_code_registers.specs.Looping.{LoopsGoRound};
+ghost use Rattle.task_code_registers.specs.Looping.{LimitsTell, LoopsGoRound};
+ghost use Rattle.task_code_registers.specs.Scopes.{WorkingRegistersAreFree};
+
+/// The registers in which values and addresses are made hold no form of any scope.
+pub fn working_registers_are_free()
+    ensures { WorkingRegistersAreFree }
+{}
 
 /// Scopes may be entered one behind the other.
 pub fn scopes_nest()
@@ -11,6 +17,11 @@ pub fn scopes_nest()
 /// What a loop's forms move are no registers of the scope around it.
 pub fn scopes_stay()
     ensures { ScopesStay }
+{}
+
+/// A form and its limit tell whether there is a next iteration.
+pub fn limits_tell()
+    ensures { LimitsTell }
 {}
 
 /// A loop that is tested at its bottom does its iterations.

@@ -15,7 +15,8 @@ use task_code_scalar::instructions::{alu, emit_literal, put, register, shift};
 
 /// Whether an immediate of 12 bits stands for a word.
 pub fn fits(number: u32) -> bool
-    ensures { result ≡ true → Fits number }
+    ensures yes { result ≡ true → Fits number }
+    ensures otherwise { Fits number → result ≡ true }
 {
     number < 2048 || number >= 0xffff_f800
 }

@@ -6,7 +6,7 @@ returns-then-r-s c = plus-none c.args.r c.args.s c.args.number _ c.if-number-eq0
 
 pub returns-then-fits : goal.returns-then-fits
 returns-then-fits c = plus-small c.args.r c.args.s c.args.number _ _ c.requires.0.0 c.requires.0.1 c.requires.1.0
-    (c.fits.ensures c.if-fits.true) c.ranges.number.fits c.in_ok-add_small.ensures
+    (c.fits.ensures.yes c.if-fits.true) c.ranges.number.fits c.in_ok-add_small.ensures
 
 pub returns : goal.returns
 returns c = plus-literal c.args.r c.args.s c.args.number _ _ _ c.requires.0.0 c.requires.0.1 c.requires.1.0 c.requires.1.1.0 c.requires.1.1.1

@@ -1,8 +1,10 @@
+use Rattle.task_code_registers.specs.Registers.{hart_number}
 use Rattle.task_code_registers.proofs.Making.{base-none, product-then}
 use Rattle.task_code_registers.proofs.sums.emit_base.Goals as goal
 
 pub returns-then-per_hart-eq0 : goal.returns-then-per_hart-eq0
-returns-then-per_hart-eq0 c = base-none c.args.r 10 c.args.per_hart c.args.number _ _ c.if-per_hart-eq0.true c.ranges.number.fits c.in_ok-emit_number.ensures
+returns-then-per_hart-eq0 c = base-none c.args.r hart_number c.args.per_hart c.args.number _ _ c.if-per_hart-eq0.true c.ranges.number.fits
+    c.in_ok-emit_number.ensures
 
 pub returns : goal.returns
-returns c = product-then c.args.r 10 c.args.per_hart c.args.number _ _ _ c.requires.0.0 c.in_ok-emit_times.ensures c.in_ok-emit_plus.ensures
+returns c = product-then c.args.r hart_number c.args.per_hart c.args.number _ _ _ c.requires.0.0 c.in_ok-emit_times.ensures c.in_ok-emit_plus.ensures
