@@ -1,23 +1,22 @@
 -- Forms that go along with a loop's iterations.
-use Rattle.std.proofs.Common.{◌≡◌, ℕ, zero, suc, ◌+◌, ◌-◌, ◌*◌, ◌%◌, ◌^◌, ◌<◌, ◌≤◌, List, [], ◌∷◌, ◌++◌, length, get_or, take, drop, Bool, true, false}
+use Rattle.std.proofs.Common.{◌≡◌, ℕ, suc, ◌+◌, ◌-◌, ◌*◌, ◌%◌, ◌^◌, ◌<◌, ◌≤◌, List, [], ◌∷◌, ◌++◌, length, get_or, take, drop, Bool, true, false}
 use Rattle.std.proofs.Common.{refl, ap, ◌∙◌, sym, subst, arith, inl, inr}
-use Rattle.std.specs.Prelude.{◌≢◌, ◌⊎◌, ◌&&◌, ◌||◌, not, if◌then◌else◌}
+use Rattle.std.specs.Prelude.{◌≢◌, ◌||◌, not, if◌then◌else◌}
 use Rattle.std.proofs.lemmas.Bool.{and_parts, true≢false}
 use Rattle.loop_ir.specs.declared.expressions.Counter.{Counter}
 use Rattle.loop_ir.specs.declared.expressions.Term.{Term}
-use Rattle.loop_ir.specs.Counters.{Values, with}
+use Rattle.loop_ir.specs.Counters.{with}
 use Rattle.multi_hart_logic.proofs.Paths.{line-then, stay}
 use Rattle.task_code_scalar.proofs.Spelling.{emits_then, emits-none}
-use Rattle.task_code_registers.specs.declared.scopes.Form.{Form}
 use Rattle.task_code_registers.specs.declared.scopes.Held.{Held}
 use Rattle.task_code_registers.specs.Registers.{scratch, second_scratch, may_hold, IsTarget, IsSource}
 use Rattle.task_code_registers.specs.Emitting.{MakesOf}
-use Rattle.task_code_registers.specs.Scopes.{Knows, IsFree, IsKept, IsHolder, AreHolders, form_value}
+use Rattle.task_code_registers.specs.Scopes.{IsFree, IsKept, AreHolders, form_value}
 use Rattle.task_code_registers.specs.Strides.{strides, has_counter}
-use Rattle.task_code_registers.specs.Holding.{Stepped, Advances, IsSteady, Extends, mentions, moving, can_advance, ScopesStay}
+use Rattle.task_code_registers.specs.Holding.{Advances, IsSteady, mentions, moving, can_advance, ScopesStay}
 use Rattle.task_code_registers.proofs.Knowing.{may-hold, knows-zero, knows-still, kept-apart, holder-apart, form-small, others-are}
 use Rattle.task_code_registers.proofs.Making.{short-then}
-use Rattle.task_code_registers.proofs.Striding.{form-steady, form-next, strides-none}
+use Rattle.task_code_registers.proofs.Striding.{form-next, strides-none}
 
 if-parts : (a b : Bool) → (if a then true else b) ≡ false → (a ≡ false) × (b ≡ false)
 if-parts true b e = absurd (true≢false e)

@@ -1,11 +1,11 @@
 -- Registers that may still be given to forms.
-use Rattle.std.proofs.Common.{◌≡◌, ℕ, zero, suc, ◌+◌, ◌-◌, ◌<◌, ◌≤◌, List, [], ◌∷◌, Bool, true, false, refl, ap, ◌∙◌, sym, subst, arith, inl, inr}
-use Rattle.std.specs.Prelude.{◌≢◌, ◌⊎◌, ◌==◌, ◌&&◌, if◌then◌else◌, not}
+use Rattle.std.proofs.Common.{◌≡◌, ℕ, zero, suc, ◌<◌, ◌≤◌, List, [], ◌∷◌, Bool, true, false, refl, ap, ◌∙◌, sym, subst, arith, inl, inr}
+use Rattle.std.specs.Prelude.{◌≢◌, ◌==◌, ◌&&◌, if◌then◌else◌, not}
 use Rattle.std.proofs.lemmas.Bool.{and_parts, true≢false, eqb-true}
 use Rattle.std.proofs.lemmas.Bool.Decides.{nat_tests}
 use Rattle.task_code_registers.specs.declared.scopes.Held.{Held}
 use Rattle.task_code_registers.specs.Registers.{zero_register, hart_number, hart_count, first_value, may_hold}
-use Rattle.task_code_registers.specs.Scopes.{IsFree, IsKept, is_held, is_left, left_below, left_count}
+use Rattle.task_code_registers.specs.Scopes.{IsFree, is_held, is_left, left_below, left_count}
 use Rattle.task_code_registers.proofs.Knowing.{fails-at}
 
 is-not : (b : Bool) → not b ≡ true → b ≡ false

@@ -1,7 +1,6 @@
 -- Scopes that are made before a loop's first iteration.
-use Rattle.std.proofs.Common.{◌≡◌, ℕ, zero, suc, ◌+◌, ◌*◌, ◌<◌, ◌≤◌, List, [], ◌∷◌, ◌++◌, length, refl, ap, ◌∙◌, sym, subst, arith, inl}
-use Rattle.std.proofs.Common.{inr, true, append_assoc}
-use Rattle.std.specs.Prelude.{◌≢◌}
+use Rattle.std.proofs.Common.{◌≡◌, ℕ, ◌+◌, ◌*◌, ◌<◌, ◌≤◌, List, [], ◌∷◌, ◌++◌, length, refl, ap, ◌∙◌, sym, subst, arith, inl}
+use Rattle.std.proofs.Common.{true, append_assoc}
 use Rattle.loop_ir.specs.declared.expressions.Counter.{Counter}
 use Rattle.loop_ir.specs.Counters.{with}
 use Rattle.multi_hart_logic.proofs.Paths.{line-then}
@@ -12,7 +11,7 @@ use Rattle.task_code_registers.specs.Registers.{may_hold, IsPlace}
 use Rattle.task_code_registers.specs.Emitting.{MakesValue}
 use Rattle.task_code_registers.specs.Scopes.{IsKept, IsLeft, left_count, have_registers}
 use Rattle.task_code_registers.specs.Strides.{others_of}
-use Rattle.task_code_registers.specs.Holding.{IsAt, Stepped, Extends, Enters, Takes, ScopesNest}
+use Rattle.task_code_registers.specs.Holding.{IsAt, Enters, Takes, ScopesNest}
 use Rattle.task_code_registers.proofs.Advancing.{kept-more}
 use Rattle.task_code_registers.proofs.Counting.{still-left}
 use Rattle.task_code_registers.proofs.Knowing.{may-hold, knows-still, kept-apart}

@@ -1,20 +1,17 @@
 -- What scopes know.
-use Rattle.std.proofs.Common.{◌≡◌, ℕ, suc, ◌+◌, ◌-◌, ◌*◌, ◌%◌, ◌^◌, ◌<◌, ◌≤◌, List, [], ◌∷◌, length, get_or, take, drop, Bool, true, false}
-use Rattle.std.proofs.Common.{refl, ap, ◌∙◌, sym, subst, arith, inl, inr}
-use Rattle.std.specs.Prelude.{◌≢◌, ◌⊎◌, ◌==◌, ◌&&◌, ◌||◌, if◌then◌else◌, not, nat_lt, nat_eq}
+use Rattle.std.proofs.Common.{◌≡◌, ℕ, suc, ◌-◌, ◌^◌, ◌<◌, ◌≤◌, List, [], ◌∷◌, length, get_or, take, drop, true, false}
+use Rattle.std.proofs.Common.{refl, ap, ◌∙◌, sym, arith, inl, inr}
+use Rattle.std.specs.Prelude.{◌≢◌, not, nat_lt}
 use Rattle.std.proofs.Math.Seq.{take-length}
 use Rattle.std.proofs.lemmas.Bool.{and_parts, ltb-true}
-use Rattle.std.proofs.lemmas.Bool.Decides.{nat_tests}
-use Rattle.loop_ir.specs.declared.expressions.Counter.{Counter}
 use Rattle.loop_ir.specs.declared.expressions.Linear.{Linear}
-use Rattle.loop_ir.specs.declared.expressions.Term.{Term}
-use Rattle.loop_ir.specs.Counters.{Values, same_counter}
-use Rattle.loop_ir.specs.Expressions.{linear_value, sum_of}
+use Rattle.loop_ir.specs.Counters.{Values}
+use Rattle.loop_ir.specs.Expressions.{linear_value}
 use Rattle.task_code_registers.specs.declared.scopes.Form.{Form}
 use Rattle.task_code_registers.specs.declared.scopes.Held.{Held}
 use Rattle.task_code_registers.specs.Registers.{zero_register, hart_number, scratch, second_scratch, address_register, first_value, may_hold, is_reserved}
 use Rattle.task_code_registers.specs.Registers.{IsWorking}
-use Rattle.task_code_registers.specs.Scopes.{Knows, AreHolders, IsHolder, IsFree, IsKept, form_value, WorkingRegistersAreFree}
+use Rattle.task_code_registers.specs.Scopes.{Knows, AreHolders, IsHolder, IsKept, form_value, WorkingRegistersAreFree}
 
 -- ---- registers that may hold forms
 

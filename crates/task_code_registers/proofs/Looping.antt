@@ -1,8 +1,8 @@
 -- A loop that is tested at its bottom does its iterations: any body that keeps what is known in one, any code that makes of it what is known
 -- in the next one, and any branch that is taken while there is one.
-use Rattle.std.proofs.Common.{◌≡◌, ℕ, zero, suc, ◌+◌, ◌-◌, ◌*◌, ◌%◌, ◌^◌, ◌<◌, ◌≤◌, List, [], ◌∷◌, ◌++◌, length, true, false, refl, ap}
-use Rattle.std.proofs.Common.{◌∙◌, sym, subst, arith, inl, inr}
-use Rattle.std.specs.Prelude.{◌≢◌, ◌⊎◌, Bool, nat_lt}
+use Rattle.std.proofs.Common.{◌≡◌, ℕ, zero, suc, ◌+◌, ◌-◌, ◌*◌, ◌<◌, ◌≤◌, List, [], ◌∷◌, ◌++◌, length, true, false, refl}
+use Rattle.std.proofs.Common.{◌∙◌, sym, subst, arith, inl}
+use Rattle.std.specs.Prelude.{◌⊎◌, nat_lt}
 use Rattle.std.proofs.lemmas.Bool.Decides.{nat_tests}
 use Rattle.rv_insn.specs.declared.instructions.Insn.{Insn}
 use Rattle.rv_insn.specs.declared.instructions.Insn.TheVariants.{Branch}
@@ -11,21 +11,21 @@ use Rattle.hart_core.specs.Alu.{is_taken}
 use Rattle.halide_pipeline.specs.Pixel.{Planes}
 use Rattle.loop_ir.specs.Running.{turns}
 use Rattle.multi_hart_logic.specs.Alone.{World}
-use Rattle.multi_hart_logic.specs.Paths.{Spot, Stand, end, Path, Line}
+use Rattle.multi_hart_logic.specs.Paths.{Stand, end, Path}
 use Rattle.multi_hart_logic.proofs.Jumps as rules
 use Rattle.multi_hart_logic.proofs.Paths.{spot, stay, stand-front, stand-back, end-append}
 use Rattle.task_code_scalar.specs.Code.{back}
 use Rattle.task_code_scalar.specs.Fitting.{total}
 use Rattle.task_code_scalar.specs.Doing.{Setting, HoldsFuncs}
 use Rattle.task_code_scalar.proofs.Looping.{end-length, back-to}
-use Rattle.task_code_registers.specs.Looping.{looped, Iterates, StoresOf, LoopsGoRound}
+use Rattle.task_code_registers.specs.Looping.{looped, LoopsGoRound}
 use Rattle.loop_ir.specs.Buffers.{Points}
 use Rattle.loop_ir.specs.Counters.{with}
 use Rattle.task_code_registers.specs.Scopes.{Knows, IsKept}
 use Rattle.task_code_registers.specs.Holding.{Stepped}
 use Rattle.task_code_registers.specs.Doing.{Did}
 use Rattle.task_code_registers.proofs.Knowing.{knows-still}
-use Rattle.task_code_registers.proofs.Going.{Hits, no_hits, Went, Marked, went-then, went-hits, went-is, within, still}
+use Rattle.task_code_registers.proofs.Going.{Hits, no_hits, Went, Marked, went-then, went-hits, within, still}
 
 is-below : (a b : ℕ) → a < b → nat_lt a b ≡ true
 is-below a b l = grind (arith, nat_tests)

@@ -1,7 +1,7 @@
 -- Numbers made in registers.
-use Rattle.std.proofs.Common.{◌≡◌, ℕ, suc, ◌+◌, ◌-◌, ◌*◌, ◌%◌, ◌^◌, ◌<◌, ◌≤◌, List, [], ◌∷◌, ◌++◌, length, true, false, refl, ap, ◌∙◌, sym}
+use Rattle.std.proofs.Common.{◌≡◌, ℕ, ◌+◌, ◌*◌, ◌%◌, ◌^◌, ◌<◌, ◌≤◌, List, [], ◌∷◌, ◌++◌, length, true, false, refl, ap, ◌∙◌, sym}
 use Rattle.std.proofs.Common.{subst, arith, inl, inr, length-append}
-use Rattle.std.specs.Prelude.{◌≢◌, ◌⊎◌, nat_lt, pos}
+use Rattle.std.specs.Prelude.{◌≢◌, ◌⊎◌, nat_lt}
 use Rattle.std.proofs.lemmas.Bool.Decides.{nat_tests}
 use Rattle.std.proofs.Math.Nat.{mod-eq_of_lt, add-mod-mod}
 use Rattle.rv_insn.specs.declared.instructions.Insn.{Insn}
@@ -12,7 +12,7 @@ use Rattle.rv_insn.specs.declared.operations.AluOp.TheVariants as alus
 use Rattle.hart_core.specs.Alu.{extended}
 use Rattle.lanes.specs.Words as lanes
 use Rattle.multi_hart_logic.specs.Alone.{World}
-use Rattle.multi_hart_logic.specs.Paths.{update, Line}
+use Rattle.multi_hart_logic.specs.Paths.{update}
 use Rattle.multi_hart_logic.proofs.Paths.{update-same, update-other, line-then, stay}
 use Rattle.multi_hart_logic.proofs.Rows as rows
 use Rattle.task_code_scalar.specs.Code.{upper, lower, literal}

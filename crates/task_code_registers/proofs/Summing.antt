@@ -1,27 +1,23 @@
 -- Forms made in registers.
-use Rattle.std.proofs.Common.{◌≡◌, ℕ, suc, ◌+◌, ◌-◌, ◌*◌, ◌%◌, ◌^◌, ◌<◌, ◌≤◌, List, [], ◌∷◌, ◌++◌, length, get_or, take, drop, Bool, true}
-use Rattle.std.proofs.Common.{false, refl, ap, ◌∙◌, sym, subst, arith, inl, inr}
-use Rattle.std.specs.Prelude.{◌≢◌, ◌⊎◌, ◌==◌, ◌&&◌, ◌||◌, if◌then◌else◌, nat_lt, pos, Option, Some, None, IfSome}
-use Rattle.std.proofs.Math.Nat.{mod-add-mod, add-mod-mod, mod-eq_of_lt}
+use Rattle.std.proofs.Common.{◌≡◌, ℕ, suc, ◌+◌, ◌-◌, ◌*◌, ◌%◌, ◌^◌, ◌<◌, ◌≤◌, List, [], ◌∷◌, ◌++◌, length, get_or, take, drop, true}
+use Rattle.std.proofs.Common.{refl, ap, ◌∙◌, sym, subst, arith, inl, inr}
+use Rattle.std.specs.Prelude.{Option, Some, None, IfSome}
+use Rattle.std.proofs.Math.Nat.{mod-add-mod, add-mod-mod}
 use Rattle.std.proofs.lemmas.Nat.{mul-mod_first}
-use Rattle.std.proofs.lemmas.Bool.{and_parts}
 use Rattle.halide_pipeline.specs.Words as word
-use Rattle.loop_ir.specs.declared.expressions.Counter.{Counter}
 use Rattle.loop_ir.specs.declared.expressions.Linear.{Linear}
 use Rattle.loop_ir.specs.declared.expressions.Term.{Term}
-use Rattle.loop_ir.specs.Counters.{Values, same_counter}
+use Rattle.loop_ir.specs.Counters.{Values}
 use Rattle.loop_ir.specs.Expressions.{linear_value, sum_of}
-use Rattle.multi_hart_logic.specs.Alone.{World}
-use Rattle.multi_hart_logic.proofs.Paths.{line-then, stay}
-use Rattle.task_code_scalar.specs.Words.{Emits}
+use Rattle.multi_hart_logic.proofs.Paths.{stay}
 use Rattle.task_code_scalar.proofs.Spelling.{emits_then, emits-none}
 use Rattle.task_code_registers.specs.declared.scopes.Form.{Form}
 use Rattle.task_code_registers.specs.declared.scopes.Held.{Held}
 use Rattle.task_code_registers.specs.declared.sums.Near.{Near}
-use Rattle.task_code_registers.specs.Emitting.{Fits, Puts, Makes, MakesOf, MakesForm, MakesAddress, IsNear, IsRest, HoldsVariable, sum_value}
+use Rattle.task_code_registers.specs.Emitting.{Fits, Makes, MakesOf, MakesForm, MakesAddress, IsNear, IsRest, HoldsVariable, sum_value}
 use Rattle.task_code_registers.specs.Registers.{hart_number, may_hold}
-use Rattle.task_code_registers.specs.Scopes.{Knows, AreHolders, IsFree, IsKept, form_value, is_variable, is_once, has_variable, have_registers}
-use Rattle.task_code_registers.proofs.Knowing.{MayHold, may-hold, knows-zero, knows-hart, knows-still, kept-apart, others-are, linear-small, form-small}
+use Rattle.task_code_registers.specs.Scopes.{Knows, form_value}
+use Rattle.task_code_registers.proofs.Knowing.{may-hold, knows-zero, knows-hart, knows-still, kept-apart, others-are, linear-small, form-small}
 use Rattle.task_code_registers.proofs.Making.{puts-then, puts-is, short-then}
 
 -- ---- distances

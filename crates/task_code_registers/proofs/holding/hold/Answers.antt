@@ -1,4 +1,4 @@
-use Rattle.task_code_registers.proofs.Entering.{hold-place, start-have, takes-one}
+use Rattle.task_code_registers.proofs.Entering.{takes-one}
 use Rattle.task_code_registers.proofs.holding.hold.Goals as goal
 
 pub returns-in_ok-inner-in-Some-clause-some : goal.returns-in_ok-inner-in-Some-clause-some

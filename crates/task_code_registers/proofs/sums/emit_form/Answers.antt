@@ -1,4 +1,4 @@
-use Rattle.std.proofs.Common.{subst, ◌≡◌, ◌+◌, ◌*◌, ◌≤◌, length}
+use Rattle.std.proofs.Common.{subst}
 use Rattle.std.specs.Prelude.{IfSome}
 use Rattle.task_code_registers.specs.Emitting.{IsNear}
 use Rattle.task_code_registers.proofs.Summing.{near-form, whole-form}

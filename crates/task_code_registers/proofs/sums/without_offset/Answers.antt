@@ -1,4 +1,4 @@
-use Rattle.std.proofs.Common.{ap, refl}
+use Rattle.std.proofs.Common.{ap}
 use Rattle.task_code_registers.specs.declared.scopes.Form.{Form}
 use Rattle.task_code_registers.proofs.Summing.{rest-is}
 use Rattle.task_code_registers.proofs.sums.without_offset.Goals as goal
