@@ -6,6 +6,7 @@ pub mod Going
 pub mod Knowing
 pub mod Looping
 pub mod Making
+pub mod Pointing
 pub mod Striding
 pub mod Summing
 pub mod Variables

@@ -2,6 +2,7 @@ pub mod Doing
 pub mod Emitting
 pub mod Holding
 pub mod Looping
+pub mod Points
 pub mod Registers
 pub mod Scopes
 pub mod Strides

@@ -7,6 +7,8 @@
 //! - [`numbers`]: appends what leaves a number, or a register plus or times a number.
 //! - [`sums`]: appends what leaves a form's value or makes an address, from the nearest form that a register holds
 //!   or term by term.
+//! - [`points`]: the address of a point, whose column and row are sums of loop variables, as a form
+//!   (`specs/Points.antt`).
 //! - [`holding`]: appends what holds a form in a register while a loop runs, and what makes of the forms of an
 //!   iteration those of the next one (`specs/Holding.antt`).
 //! - [`laws`]: scopes may be entered one behind the other; a loop that is tested at its bottom does its iterations
@@ -16,6 +18,7 @@
 pub mod holding;
 pub mod laws;
 pub mod numbers;
+pub mod points;
 pub mod registers;
 pub mod scopes;
 pub mod sums;

@@ -1,0 +1,62 @@
+//! Addresses of points as forms.
+
+ghost use Rattle.std.specs.Prelude.{◌≡◌, ◌++◌, IfOk, OnOk};
+ghost use Rattle.task_code_scalar.specs.Code.{pixel_bytes};
+ghost use Rattle.task_code_registers.specs.Points.{IsPoint, times};
+
+use crate::scopes::Form;
+use halide_pipeline::words;
+use loop_ir::expressions::{Linear, Term};
+use sqlite_items::Items;
+use std::alloc::{AllocError, Global};
+use task_code_scalar::places::{Pixels, Place};
+
+/// Appends terms times a number.
+fn add_times(made: &mut Items<Term>, terms: &[Term], factor: u32) -> Result<(), AllocError>
+    ensures { OnOk result (made.new ≡ made.old ++ times factor terms.now) }
+{
+    match terms {
+        [] => Ok(()),
+        [first, others @ ..] => {
+            let stride = words::multiply(first.stride, factor);
+            made.push(Term {
+                counter: first.counter,
+                stride,
+            })?;
+            add_times(made, others, factor)?;
+            Ok(())
+        }
+    }
+}
+
+fn bytes_of(pixels: Pixels) -> u32
+    ensures { result ≡ pixel_bytes pixels }
+{
+    match pixels {
+        Pixels::Words => 4,
+        Pixels::Bytes => 1,
+    }
+}
+
+/// The address of the point at a column and a row: of the hart's own copy, where each hart has one.
+///
+/// # Errors
+///
+/// Memory ran out.
+pub fn point_form(alloc: Global, place: &Place, x: &Linear, y: &Linear) -> Result<Form, AllocError>
+    ensures { IfOk result (IsPoint place.now x.now y.now) }
+{
+    let bytes = bytes_of(place.pixels);
+    let row = words::multiply(bytes, place.width);
+    let mut terms = Items::new(alloc);
+    add_times(&mut terms, y.terms.as_slice(), row)?;
+    add_times(&mut terms, x.terms.as_slice(), bytes)?;
+    let rows = words::multiply(y.number, row);
+    let columns = words::multiply(x.number, bytes);
+    let far = words::add(rows, columns);
+    let number = words::add(place.start, far);
+    Ok(Form {
+        sum: Linear { number, terms },
+        per_hart: place.distance,
+    })
+}
