@@ -1,37 +1,46 @@
 //! The files that are written, as devices.
 //!
-//! What a file takes is outside of what a proof can know, so the facts of bytes of this device hold of any bytes. That each failure is
-//! counted is proved.
+//! What a file takes is outside of what a proof can know, so the facts of bytes of this device hold of any bytes. That
+//! each failure is counted is proved.
 
-ghost use Rattle.std.specs.Prelude.{◌≡◌, ◌≤◌, length, IfOk, None};
+ghost use Rattle.std.specs.Prelude.{◌≡◌, ◌+◌, ◌<◌, ◌≤◌, ◌^◌, length, IfOk, None};
 
 use hrv_engines::Sink;
-use std::fs::{OpenFile, OpenOptions};
-use std::io;
+use std::alloc::{AllocError, Global};
+use std::fs::{OpenFile, OpenOptions, Permissions};
 use std::io::Write;
 use std::rt::Files;
+use std::{fs, io};
 
-/// A file to be written. It is made at its first write, so that where nothing is written no file is made or touched. What it held
-/// before stays until bytes stand in its place, so that a first write that fails leaves it as it was.
+/// A file to be written. It is made at its first write, so that where nothing is written no file is made or touched.
+///
+/// The bytes go into a new file in the folder of the path, which takes the place of what stands there once all of them
+/// are written: a write that fails leaves everything as it was. What is no regular file, as a terminal, a pipe or a
+/// symbolic link, is written where it stands, and so is a file where memory for the path of a new one is wanting.
 #[derive(Drop)]
 pub struct FileSink<'a, R: Files> {
     rt: &'a R,
+    alloc: Global,
     path: &'a str,
     file: Option<R::File>,
+    // The path of the new file, until it stands at the path that was asked for.
+    draft: Option<String>,
     failures: u64,
 }
 
 impl<'a, R: Files> FileSink<'a, R> {
     /// The file at a path, not yet made.
-    pub fn new(rt: &'a R, path: &'a str) -> FileSink<'a, R>
+    pub fn new(rt: &'a R, alloc: Global, path: &'a str) -> FileSink<'a, R>
         ensures path { result.path.now ≡ path.entry.now }
         ensures failures { result.failures ≡ 0 }
         ensures unmade { result.file ≡ None }
     {
         FileSink {
             rt,
+            alloc,
             path,
             file: None,
+            draft: None,
             failures: 0,
         }
     }
@@ -45,17 +54,98 @@ impl<'a, R: Files> FileSink<'a, R> {
         if let Some(file) = &mut self.file {
             return file.write(bytes);
         }
-        let mut file = OpenOptions::new()
-            .write(true)
-            .create(true)
-            .open(self.rt, self.path)?;
-        let count = file.write(bytes)?;
-        if count > 0 {
-            cut(&file, count as u64)?;
+        self.begin(bytes)
+    }
+
+    /// Makes the file, and says how many of the first bytes it took.
+    fn begin(&mut self, bytes: &[u8]) -> io::Result<usize>
+        ensures count { IfOk result (λ n. n ≤ length bytes.now) }
+        ensures path { self.new.path.now ≡ self.old.path.now }
+        ensures failures { self.new.failures ≡ self.old.failures }
+    {
+        let standing = what_stands(self.rt, self.path)?;
+        let beside = match standing {
+            Standing::Other => None,
+            _ => new_beside(self.rt, self.alloc, self.path)?,
+        };
+        let Some((mut file, draft)) = beside else {
+            let (file, count) = begin_in_place(self.rt, self.path, bytes)?;
+            self.file = Some(file);
+            return Ok(count);
+        };
+        self.draft = Some(draft);
+        if let Standing::File(permissions) = standing {
+            file.set_permissions(permissions)?;
         }
+        let count = file.write(bytes)?;
         self.file = Some(file);
         Ok(count)
     }
+
+    /// Puts the new file in the place of what stands at the path, if there is a new file.
+    fn try_finish(&mut self) -> io::Result<()>
+        ensures path { self.new.path.now ≡ self.old.path.now }
+        ensures failures { self.new.failures ≡ self.old.failures }
+    {
+        if let Some(draft) = &self.draft {
+            fs::rename(self.rt, draft.as_str(), self.path)?;
+        }
+        self.draft = None;
+        Ok(())
+    }
+
+    /// Counts a failure, and removes the new file.
+    fn fail(&mut self)
+        requires { self.old.failures + 1 < 2 ^ 64 }
+        ensures path { self.new.path.now ≡ self.old.path.now }
+        ensures failures { self.new.failures ≡ self.old.failures + 1 }
+    {
+        self.failures += 1;
+        if let Some(draft) = &self.draft {
+            // Where even this fails, the file stays, under a name that no command reads.
+            let _ = fs::remove_file(self.rt, draft.as_str());
+        }
+        self.draft = None;
+        self.file = None;
+    }
+}
+
+/// What stands at a path.
+#[derive(Drop)]
+enum Standing {
+    /// Nothing.
+    Nothing,
+    /// A regular file that may be written, with its permissions.
+    File(Permissions),
+    /// Something else.
+    Other,
+}
+
+/// What stands at a path. A regular file that may not be written is an error.
+fn what_stands<R: Files>(rt: &R, path: &str) -> io::Result<Standing> {
+    let metadata = match fs::symlink_metadata(rt, path) {
+        Ok(metadata) => metadata,
+        Err(error) if error.kind() == io::ErrorKind::NotFound => return Ok(Standing::Nothing),
+        Err(error) => return Err(error),
+    };
+    if !metadata.is_file() {
+        return Ok(Standing::Other);
+    }
+    let _opened = OpenOptions::new().write(true).open(rt, path)?;
+    Ok(Standing::File(metadata.permissions()))
+}
+
+/// Opens what stands at a path and writes some bytes, and says how many. What it held before stays until bytes stand in
+/// its place, so that a first write that fails leaves it as it was.
+fn begin_in_place<R: Files>(rt: &R, path: &str, bytes: &[u8]) -> io::Result<(R::File, usize)>
+    ensures { IfOk result (λ begun. begun.1 ≤ length bytes.now) }
+{
+    let mut file = OpenOptions::new().write(true).create(true).open(rt, path)?;
+    let count = file.write(bytes)?;
+    if count > 0 {
+        cut(&file, count as u64)?;
+    }
+    Ok((file, count))
 }
 
 /// Cuts off what a file holds behind so many bytes. What is no regular file, as a terminal or a pipe, has no length.
@@ -64,6 +154,41 @@ fn cut<F: OpenFile>(file: &F, length: u64) -> io::Result<()> {
         file.set_len(length)?;
     }
     Ok(())
+}
+
+/// How many names of new files are tried in a folder.
+const NAMES: u32 = 1_000;
+
+/// A new file in the folder of a path, with its own path: the first of its names that is free. None where memory for
+/// one is wanting.
+fn new_beside<R: Files>(
+    rt: &R,
+    alloc: Global,
+    path: &str,
+) -> io::Result<Option<(R::File, String)>> {
+    for number in 0..NAMES {
+        let Ok(draft) = draft_path(alloc, path, number) else {
+            return Ok(None);
+        };
+        let opened = OpenOptions::new()
+            .write(true)
+            .create_new(true)
+            .open(rt, draft.as_str());
+        match opened {
+            Ok(file) => return Ok(Some((file, draft))),
+            Err(error) if error.kind() == io::ErrorKind::AlreadyExists => {}
+            Err(error) => return Err(error),
+        }
+    }
+    Err(io::Error::from(io::ErrorKind::AlreadyExists))
+}
+
+/// The path of a new file in the folder of a path, by its number.
+fn draft_path(alloc: Global, path: &str, number: u32) -> Result<String, AllocError> {
+    match path.rsplit_once('/') {
+        Some((folder, _)) => format!(in alloc; "{folder}/.hrv-{number}"),
+        None => format!(in alloc; ".hrv-{number}"),
+    }
 }
 
 impl<'a, R: Files> Sink for FileSink<'a, R> {
@@ -88,10 +213,18 @@ impl<'a, R: Files> Sink for FileSink<'a, R> {
     fn write(&mut self, bytes: &[u8]) -> io::Result<usize> {
         let count = self.try_write(bytes);
         match count {
-            Ok(0) if !bytes.is_empty() => self.failures += 1,
+            Ok(0) if !bytes.is_empty() => self.fail(),
             Ok(_) => {}
-            Err(_) => self.failures += 1,
+            Err(_) => self.fail(),
         }
         count
+    }
+
+    fn finish(&mut self) -> io::Result<()> {
+        let finished = self.try_finish();
+        if finished.is_err() {
+            self.fail();
+        }
+        finished
     }
 }

@@ -8,6 +8,7 @@ ghost use Rattle.std.specs.Prelude.{◌≡◌, ◌≤◌, length, codes, IfOk};
 use crate::dispatch::Devices;
 use crate::file_sinks::FileSink;
 use hrv_engines::{Sink, Source};
+use std::alloc::Global;
 use std::io::{Read, Write};
 use std::rt::Files;
 use std::{fs, io};
@@ -16,12 +17,13 @@ use std::{fs, io};
 #[derive(Drop)]
 pub struct System<'a, R: Files> {
     rt: &'a R,
+    alloc: Global,
 }
 
 impl<'a, R: Files> System<'a, R> {
     /// The system that a program runs in.
-    pub fn new(rt: &'a R) -> System<'a, R> {
-        System { rt }
+    pub fn new(rt: &'a R, alloc: Global) -> System<'a, R> {
+        System { rt, alloc }
     }
 }
 
@@ -39,7 +41,7 @@ impl<'a, R: Files + Input + Print> Devices<'a> for System<'a, R> {
     }
 
     fn written(&self, path: &'a str) -> FileSink<'a, R> {
-        FileSink::new(self.rt, path)
+        FileSink::new(self.rt, self.alloc, path)
     }
 
     fn typed(&self) -> StandardInput<R> {
@@ -51,13 +53,14 @@ impl<'a, R: Files + Input + Print> Devices<'a> for System<'a, R> {
     }
 }
 
-/// A file to be read. It is opened at its first read, so that files are refused in the order in which
-/// they are read.
+/// A file to be read. It is opened at its first read, so that files are refused in the order in which they are read,
+/// and closed at its end, so that no more than one is open where many are read one after the other.
 #[derive(Drop)]
 pub struct FileSource<'a, R: Files> {
     rt: &'a R,
     path: &'a str,
     file: Option<R::File>,
+    has_ended: bool,
     failures: u64,
 }
 
@@ -71,23 +74,31 @@ impl<'a, R: Files> FileSource<'a, R> {
             rt,
             path,
             file: None,
+            has_ended: false,
             failures: 0,
         }
     }
 
-    /// How many bytes the file gave; it is opened first where it isn't open.
+    /// How many bytes the file gave; it is opened first where it isn't open, and closed where it gave none.
     fn try_read(&mut self, buffer: &mut [u8]) -> io::Result<usize>
         ensures count { IfOk result (λ n. n ≤ length buffer.old) }
         ensures path { self.new.path.now ≡ self.old.path.now }
         ensures failures { self.new.failures ≡ self.old.failures }
     {
-        if self.file.is_none() {
-            self.file = Some(fs::open(self.rt, self.path)?);
+        if self.has_ended {
+            return Ok(0);
         }
-        match &mut self.file {
-            Some(file) => file.read(buffer),
-            None => Ok(0),
+        let mut file = match self.file.take() {
+            Some(file) => file,
+            None => fs::open(self.rt, self.path)?,
+        };
+        let count = file.read(buffer)?;
+        if count == 0 && !buffer.is_empty() {
+            self.has_ended = true;
+        } else {
+            self.file = Some(file);
         }
+        Ok(count)
     }
 }
 
@@ -213,5 +224,10 @@ impl<'a, P: Print> Sink for StandardOutput<'a, P> {
             Err(_) => self.failures += 1,
         }
         count
+    }
+
+    /// What standard output took stands where it is.
+    fn finish(&mut self) -> io::Result<()> {
+        Ok(())
     }
 }

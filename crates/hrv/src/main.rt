@@ -4,6 +4,7 @@
 //!
 //! - [`dispatch`]: the engine of a command over the devices that the words name; [`dispatch::obey`], over `specs/Dispatch.antt`.
 //! - [`files`], [`file_sinks`]: the system's files and standard input and output, as devices.
+//! - [`streams`]: what stands where a standard stream is closed.
 //! - [`failures`]: why the program gives no answer, and its exit status.
 #![tactic(auto)]
 
@@ -11,10 +12,12 @@ mod dispatch;
 mod failures;
 mod file_sinks;
 mod files;
+mod streams;
 
 use crate::dispatch::obey;
 use crate::failures::Failure;
 use crate::files::System;
+use crate::streams::open_closed_streams;
 use hrv_command_line::{CommandLineFault, command};
 use std::process::ExitCode;
 use std::rt::{Env, Files};
@@ -23,7 +26,15 @@ use std::thread::Threads;
 use std::{env, io};
 
 fn main(rt: HostRuntime) -> ExitCode {
-    match run(&rt) {
+    let answered = match open_closed_streams(&rt, rt.alloc()) {
+        Ok(streams) => {
+            let answered = run(&rt);
+            drop(streams);
+            answered
+        }
+        Err(fault) => Err(Failure::Engine(fault)),
+    };
+    match answered {
         Ok(()) => ExitCode::SUCCESS,
         Err(failure) => {
             // Where standard error is closed, the status still tells.
@@ -41,7 +52,7 @@ fn run<R: Files + Env + Input + Print + AllocGlobal + Threads + Wait + Sync>(
     let arguments: Vec<String> = env::args(rt).map_err(word_fault)?.skip(1).collect(alloc)?;
     let words: Vec<&str> = arguments.iter().map(|word| word.as_str()).collect(alloc)?;
     let invocation = command(alloc, &words)?;
-    obey(rt, alloc, &System::new(rt), invocation)?;
+    obey(rt, alloc, &System::new(rt, alloc), invocation)?;
     Ok(())
 }
 

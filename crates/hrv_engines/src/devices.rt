@@ -68,7 +68,7 @@ pub trait Sink {
     fn path(&self) -> &str
         ensures { result.now ≡ place self.now };
 
-    /// How many writes have failed. A write that took no byte of some counts.
+    /// How many writes have failed, and how often it couldn't finish. A write that took no byte of some counts.
     fn failures(&self) -> u64
         ensures { result ≡ failed self.now };
 
@@ -80,6 +80,15 @@ pub trait Sink {
         ensures nothing { OnErr result (took self.old [] self.new) }
         ensures well { IfOk result (λ n. 0 < n → failed self.new ≡ failed self.old) }
         ensures stuck { IfOk result (λ n. n ≡ 0 → 0 < length bytes.now → failed self.old < failed self.new) }
+        ensures grew { OnErr result (failed self.old < failed self.new) }
+        ensures path { place self.new ≡ place self.old };
+
+    /// Makes whole what was written so far, so that it stands at the path. Where that fails, it counts as a write that
+    /// failed.
+    fn finish(&mut self) -> io::Result<()>
+        requires { failed self.old + 1 < 2 ^ 64 }
+        ensures nothing { took self.old [] self.new }
+        ensures well { OnOk result (failed self.new ≡ failed self.old) }
         ensures grew { OnErr result (failed self.old < failed self.new) }
         ensures path { place self.new ≡ place self.old };
 
@@ -126,7 +135,7 @@ pub fn read_text<S: Source>(alloc: Global, source: &mut S) -> Result<String, Fau
 /// How many bytes are read at a time.
 pub const CHUNK: usize = 65_536;
 
-/// Writes all the bytes.
+/// Writes all the bytes, and makes them whole.
 pub fn write_all<S: Sink>(alloc: Global, sink: &mut S, bytes: &[u8]) -> Result<(), Fault>
     requires { S.failed sink.old + 1 < 2 ^ 64 }
     ensures writes { Writes (sink_of S.place S.failed S.took sink.old sink.new) bytes.now result }
@@ -140,7 +149,8 @@ pub fn write_all<S: Sink>(alloc: Global, sink: &mut S, bytes: &[u8]) -> Result<(
     Ok(())
 }
 
-/// Writes the bytes up to a write that fails: whether all are written. It takes no memory.
+/// Writes the bytes up to a write that fails, and makes them whole: whether all are written and whole. It takes no
+/// memory but what the sink takes.
 pub fn write_each<S: Sink>(sink: &mut S, bytes: &[u8]) -> bool
     requires { S.failed sink.old + 1 < 2 ^ 64 }
     ensures writes { WritesEach (sink_of S.place S.failed S.took sink.old sink.new) (S.place sink.old) bytes.now result }
@@ -154,5 +164,8 @@ pub fn write_each<S: Sink>(sink: &mut S, bytes: &[u8]) -> bool
             _ => return false,
         }
     }
+    let Ok(()) = sink.finish() else {
+        return false;
+    };
     true
 }

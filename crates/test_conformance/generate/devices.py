@@ -108,9 +108,12 @@ class Command:
             self.case(file, f"read {calls} of {name} fails", [f"{name} 7 {calls}"], [f"refused file {name}"])
 
     def failing_writes(self, file, step):
-        for calls in range(-(-len(self.output) // step)):
+        """Each write, and behind the last one that the page can't be made whole."""
+        count = -(-len(self.output) // step)
+        for calls in range(count + 1):
             answer = written(self.output[:calls * step]) + ["refused file page"]
-            self.case(file, f"write {calls} fails", [f"page {step} {calls}"], answer)
+            name = f"write {calls} fails" if calls < count else "all is written and isn't made whole"
+            self.case(file, name, [f"page {step} {calls}"], answer)
 
     def failing(self, file):
         self.whole(file)
@@ -197,9 +200,11 @@ def runs(file, _):
     resumed.failing_reads(file, "image")
     resumed.failing_reads(file, "log")
     for command in begun, resumed:
-        for calls in range(-(-len(RUN_LOG) // 9)):
+        count = -(-len(RUN_LOG) // 9)
+        for calls in range(count + 1):
             answer = digits(RUN_LOG[:calls * 9]) + ["refused file page"]
-            command.case(file, f"write {calls} of the log fails", [f"new 9 {calls}", "page 9 0"], answer)
+            name = f"write {calls} of the log fails" if calls < count else "the log is written and isn't made whole"
+            command.case(file, name, [f"new 9 {calls}", "page 9 0"], answer)
         for calls in range(-(-len(RUN_DUMP) // 9)):
             answer = log + written(RUN_DUMP[:calls * 9]) + ["refused file page"]
             command.case(file, f"write {calls} of the dump fails", ["new 9", f"page 9 {calls}"], answer)

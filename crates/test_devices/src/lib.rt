@@ -62,7 +62,7 @@ impl Source for Tape<'_> {
 }
 
 /// Bytes that are written a few at a time. The write of a number fails, where there is one, or takes
-/// nothing.
+/// nothing. Finishing fails where the next write would.
 #[derive(Drop)]
 pub struct Page {
     /// What was taken so far.
@@ -111,6 +111,14 @@ impl Sink for Page {
             return Err(io::Error::from(io::ErrorKind::Other));
         }
         Ok(count)
+    }
+
+    fn finish(&mut self) -> io::Result<()> {
+        if self.writes_left == Some(0) {
+            self.failures += 1;
+            return Err(io::Error::from(io::ErrorKind::Other));
+        }
+        Ok(())
     }
 }
 

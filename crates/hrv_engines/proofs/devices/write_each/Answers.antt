@@ -1,4 +1,4 @@
-use Rattle.std.proofs.Common.{◌≡◌, refl, [], ◌<◌, take, drop, length, subst, ap, ◌∙◌, sym, arith}
+use Rattle.std.proofs.Common.{◌≡◌, refl, [], ◌<◌, take, take_all, drop, length, subst, ap, ◌∙◌, sym, arith}
 use Rattle.std.proofs.lemmas.List.{append-nil}
 use Rattle.std.proofs.Math.Seq.{take-add}
 use Rattle.hrv_engines.proofs.devices.write_each.Goals as goal
@@ -33,4 +33,22 @@ returns-in_default-2-clause-writes g c =
     let more = g.met.S.Sink.took_more c.args.sink.now c.loop-written.sink c.write.new.self (take c.loop-written.written c.args.bytes.now) [] c.loop-written.invariant.taken c.in_default.ensures.nothing in (
       (refl, omega (arith, grew, c.loop-written.invariant.well)),
       (c.loop-written.written, subst (λ bytes. g.S.Sink.took c.args.sink.now bytes c.write.new.self) (append-nil (take c.loop-written.written c.args.bytes.now)) more),
+    )
+
+-- what was written couldn't be made whole
+pub returns-in_default-finish-clause-writes : goal.returns-in_default-finish-clause-writes
+returns-in_default-finish-clause-writes g c =
+    let grew = c.in_default-finish.ensures.grew in
+    let more = g.met.S.Sink.took_more c.args.sink.now c.loop-written.sink c.finish.new.self (take c.loop-written.written c.args.bytes.now) [] c.loop-written.invariant.taken c.finish.ensures.nothing in (
+      (refl, omega (arith, grew, c.loop-written.invariant.well)),
+      (c.loop-written.written, subst (λ bytes. g.S.Sink.took c.args.sink.now bytes c.finish.new.self) (append-nil (take c.loop-written.written c.args.bytes.now)) more),
+    )
+
+-- all is written and whole
+pub returns-clause-writes : goal.returns-clause-writes
+returns-clause-writes g c =
+    let more = g.met.S.Sink.took_more c.args.sink.now c.loop-written.sink c.finish.new.self (take c.loop-written.written c.args.bytes.now) [] c.loop-written.invariant.taken c.finish.ensures.nothing in
+    let all : take c.loop-written.written c.args.bytes.now ≡ c.args.bytes.now = take_all c.loop-written.written c.args.bytes.now (omega (arith, c.loop-written-test.false)) in (
+      subst (λ bytes. g.S.Sink.took c.args.sink.now bytes c.finish.new.self) (append-nil (take c.loop-written.written c.args.bytes.now) ∙ all) more,
+      c.in-Ok-finish.ensures.well ∙ c.loop-written.invariant.well,
     )
