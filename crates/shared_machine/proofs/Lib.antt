@@ -6,3 +6,4 @@ pub mod Stopping
 pub mod Batches
 pub mod RunningOut
 pub mod MadeAgain
+pub mod Halves

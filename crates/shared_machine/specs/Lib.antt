@@ -5,3 +5,4 @@ pub mod Seats
 pub mod Endings
 pub mod Driving
 pub mod Running
+pub mod inner

@@ -1,24 +1,25 @@
 //! Turns made by threads.
 
-ghost use Rattle.std.specs.Prelude.{◌≡◌, ◌+◌, ◌<◌, ◌≤◌, true, All, length, OnOk, OnErr};
+ghost use Rattle.std.specs.Prelude.{◌≡◌, ◌+◌, ◌<◌, ◌≤◌, true, All, length, IfErr, OnOk, OnErr};
 ghost use Rattle.turn_log.specs.TurnLog.{most_turns};
 ghost use Rattle.board.specs.Tokens.{name_of, has_asked};
 ghost use Rattle.shared_machine.specs.Driving.{IsDriven, AreDriven, IsStopped, AreStopped, EndedSo};
 ghost use Rattle.shared_machine.specs.Log.{most_batch};
 ghost use Rattle.shared_machine.specs.Seats.{IsSeatOf, hart, number};
+ghost use Rattle.shared_machine.specs.declared.refusals.DriveFault.TheVariants.{NoThread};
 ghost use Rattle.shared_machine.specs.declared.refusals.Refusal.TheVariants.{StopAsked};
 ghost use Rattle.shared_machine.specs.declared.seats.Ended.TheVariants.{Refused};
 
 use crate::gates::Gate;
 use crate::ledgers::Ledgers;
+use crate::meetings::{Work, for_each_met};
 use crate::origins::Origin;
 use crate::refusals::DriveFault;
 use crate::seats::{Ended, Seat};
 use crate::shared::Shared;
 use rv_insn::Outcome;
-use std::alloc::Global;
 use std::sync::Wait;
-use std::thread::{Threads, for_each_mut, spawn};
+use std::thread::Threads;
 
 /// Makes turns of each seat in a thread of its own, turn by turn, as [`drive_batched`] does.
 pub fn drive<
@@ -28,7 +29,6 @@ pub fn drive<
     R: Threads + Wait + Sync,
 >(
     rt: &R,
-    alloc: Global,
     shared: &Shared<O, F>,
     seats: &mut [Seat<O, F>],
     limit: u64,
@@ -39,17 +39,17 @@ pub fn drive<
     ensures driven { OnOk result (AreDriven (name_of shared.now.board) G.OPEN limit seats.old seats.new) }
     ensures stopped { OnErr result (AreStopped (name_of shared.now.board) seats.old seats.new) }
     ensures some { OnErr result (1 ≤ length seats.old) }
+    ensures fault { IfErr result (λ fault. fault ≡ NoThread) }
 {
-    drive_batched(rt, alloc, shared, seats, limit, 1, gate)
+    drive_batched(rt, shared, seats, limit, 1, gate)
 }
 
 /// Makes turns of each seat in a thread of its own, up to `most` of them under one lock. A thread ends after a turn that didn't
 /// step (a hart that has stopped makes one that is idle), after `limit` turns, where the gate doesn't let it go on, or where a
 /// turn is refused; [`Seat::ended`] says which. The gate is asked about the first turn under a lock, and told of the last.
 ///
-/// Threads are tried first, one for each seat. Where they can't be had, each seat asks for a stop and no turn is made, nor later by a
-/// seat that asked.
-/// Where a thread doesn't start later, the seats that are left are driven one after the other.
+/// The threads meet before the first turn. Where one of them can't be had, or doesn't come for more than a second, each seat asks for a stop and
+/// no turn is made, nor later by a seat that asked.
 pub fn drive_batched<
     O: Origin + Send + Sync,
     F: Ledgers + Send + Sync,
@@ -57,7 +57,6 @@ pub fn drive_batched<
     R: Threads + Wait + Sync,
 >(
     rt: &R,
-    alloc: Global,
     shared: &Shared<O, F>,
     seats: &mut [Seat<O, F>],
     limit: u64,
@@ -71,47 +70,48 @@ pub fn drive_batched<
     ensures driven { OnOk result (AreDriven (name_of shared.now.board) G.OPEN limit seats.old seats.new) }
     ensures stopped { OnErr result (AreStopped (name_of shared.now.board) seats.old seats.new) }
     ensures some { OnErr result (1 ≤ length seats.old) }
+    ensures fault { IfErr result (λ fault. fault ≡ NoThread) }
 {
-    match start_threads(rt, alloc, seats.len()) {
-        Ok(()) => {
-            drive_seats(rt, shared, seats, limit, most, gate);
-            Ok(())
-        }
-        Err(fault) => {
-            ask_stop(rt, shared, seats);
-            Err(fault)
-        }
+    let turns = Turns {
+        rt,
+        shared,
+        gate,
+        limit,
+        most,
+    };
+    if for_each_met(rt, seats, &turns) {
+        Ok(())
+    } else {
+        Err(DriveFault::NoThread)
     }
 }
 
-/// Starts so many threads, which end at once.
-fn start_threads<R: Threads>(rt: &R, alloc: Global, count: usize) -> Result<(), DriveFault>
-    ensures { OnErr result (1 ≤ count) }
-{
-    let mut started = Vec::new(alloc);
-    for _thread in 0..count {
-        let Ok(thread) = spawn(rt, || {}) else {
-            return Err(DriveFault::NoThread);
-        };
-        started.push(thread)?;
-    }
-    for thread in started {
-        thread.join(rt);
-    }
-    Ok(())
+/// Turns that are to be made of each seat.
+#[derive(Drop)]
+struct Turns<'s, O: Origin, F: Ledgers, G: Gate, R: Wait> {
+    rt: &'s R,
+    shared: &'s Shared<O, F>,
+    gate: &'s G,
+    limit: u64,
+    most: u64,
+    ghost some: { 1 ≤ most },
+    ghost few: { most ≤ most_batch },
 }
 
-/// Asks for a stop by each seat.
-fn ask_stop<O: Origin + Send + Sync, F: Ledgers + Send + Sync, R: Threads + Sync>(
-    rt: &R,
-    shared: &Shared<O, F>,
-    seats: &mut [Seat<O, F>],
-)
-    requires { All (IsSeatOf (name_of shared.now.board)) seats.old }
-    ensures of { All (IsSeatOf (name_of shared.now.board)) seats.new }
-    ensures stopped { AreStopped (name_of shared.now.board) seats.old seats.new }
-{
-    for_each_mut(rt, seats, 1, &|_, seat| { ask_stop_by(shared, seat) });
+impl<'s, O: Origin, F: Ledgers, G: Gate, R: Wait> Work<Seat<O, F>> for Turns<'s, O, F, G, R> {
+    ghost fits = { λ turns seat. IsSeatOf (name_of turns.shared.now.board) seat };
+
+    ghost done = { λ turns old new. IsDriven (name_of turns.shared.now.board) G.OPEN turns.limit old new };
+
+    ghost left = { λ turns old new. IsStopped (name_of turns.shared.now.board) old new };
+
+    fn work(&self, it: &mut Seat<O, F>) {
+        drive_seat(self.rt, self.shared, self.limit, self.most, self.gate, it);
+    }
+
+    fn leave(&self, it: &mut Seat<O, F>) {
+        ask_stop_by(self.shared, it);
+    }
 }
 
 /// Asks for a stop by a seat.
@@ -120,28 +120,6 @@ fn ask_stop_by<O: Origin, F: Ledgers>(shared: &Shared<O, F>, seat: &mut Seat<O, 
     ensures { IsStopped (name_of shared.now.board) seat.old seat.new }
 {
     shared.board().ask_stop(&mut seat.glance);
-}
-
-/// Makes turns of each seat.
-fn drive_seats<
-    O: Origin + Send + Sync,
-    F: Ledgers + Send + Sync,
-    G: Gate + Sync,
-    R: Threads + Wait + Sync,
->(rt: &R, shared: &Shared<O, F>, seats: &mut [Seat<O, F>], limit: u64, most: u64, gate: &G)
-    requires of { All (IsSeatOf (name_of shared.now.board)) seats.old }
-    requires some { 1 ≤ most }
-    requires few { most ≤ most_batch }
-    ensures of { All (IsSeatOf (name_of shared.now.board)) seats.new }
-    ensures driven { AreDriven (name_of shared.now.board) G.OPEN limit seats.old seats.new }
-{
-    let threads = seats.len().max(1);
-    for_each_mut(
-        rt,
-        seats,
-        threads,
-        &|_, seat| { drive_seat(rt, shared, limit, most, gate, seat) },
-    );
 }
 
 /// Makes turns of one seat.

@@ -17,6 +17,7 @@ pub mod gates;
 mod guarded;
 pub mod ledgers;
 pub mod locked;
+mod meetings;
 mod opening;
 pub mod origins;
 pub mod refusals;

@@ -62,13 +62,12 @@ fn run_named<O: Origin + Send + Sync, F: Ledgers + Send + Sync, R: Threads + Wai
     ensures log { IfOk result (λ ran. IsRunOf O.image O.harts O.resumed limit ran.1) }
 {
     let (shared, seats) = Shared::<O, F>::resume(alloc, image, log, blanks)?;
-    run_out(rt, alloc, shared, seats, limit)
+    run_out(rt, shared, seats, limit)
 }
 
 /// Drives all seats of a machine, each for so many turns, and closes the machine.
 fn run_out<O: Origin + Send + Sync, F: Ledgers + Send + Sync, R: Threads + Wait + Sync>(
     rt: &R,
-    alloc: Global,
     shared: Shared<O, F>,
     mut seats: Vec<Seat<O, F>>,
     limit: u64,
@@ -79,7 +78,7 @@ fn run_out<O: Origin + Send + Sync, F: Ledgers + Send + Sync, R: Threads + Wait 
     ensures machine { IfOk result (λ ran. ran.0 ≡ state_after O.image O.harts ran.1.turns) }
     ensures log { IfOk result (λ ran. IsRunOf O.image O.harts O.resumed limit ran.1) }
 {
-    drive_all(rt, alloc, &shared, &mut seats, limit)?;
+    drive_all(rt, &shared, &mut seats, limit)?;
     check_ended(&seats)?;
     let Ok((machine, log, _)) = shared.close(seats) else {
         unreachable!()
@@ -90,7 +89,6 @@ fn run_out<O: Origin + Send + Sync, F: Ledgers + Send + Sync, R: Threads + Wait 
 /// Drives all seats.
 fn drive_all<O: Origin + Send + Sync, F: Ledgers + Send + Sync, R: Threads + Wait + Sync>(
     rt: &R,
-    alloc: Global,
     shared: &Shared<O, F>,
     seats: &mut Vec<Seat<O, F>>,
     limit: u64,
@@ -100,15 +98,7 @@ fn drive_all<O: Origin + Send + Sync, F: Ledgers + Send + Sync, R: Threads + Wai
     ensures of { All (IsSeatOf (name_of shared.now.board)) seats.new.items }
     ensures driven { OnOk result (AreDriven (name_of shared.now.board) true limit seats.old.items seats.new.items) }
 {
-    drive_batched(
-        rt,
-        alloc,
-        shared,
-        seats.as_mut_slice(),
-        limit,
-        BATCH,
-        &AlwaysOpen,
-    )
+    drive_batched(rt, shared, seats.as_mut_slice(), limit, BATCH, &AlwaysOpen)
 }
 
 /// Why a thread ended that should have gone on: a turn was refused memory, or a stop was asked, which is asked where threads can't

@@ -76,7 +76,7 @@ fn drive_all<
     O: Origin + Send + Sync,
     F: Ledgers + Send + Sync,
     G: Gate + Sync,
-    R: Threads + Wait + AllocGlobal + Sync,
+    R: Threads + Wait + Sync,
 >(
     rt: &R,
     shared: &Shared<O, F>,
@@ -87,11 +87,10 @@ fn drive_all<
     requires { All (IsSeatOf (name_of shared.now.board)) seats.old.items }
     ensures { All (IsSeatOf (name_of shared.now.board)) seats.new.items }
 {
-    let alloc = rt.alloc();
     if batched {
-        drive_batched(rt, alloc, shared, seats.as_mut_slice(), 100, 64, gate)
+        drive_batched(rt, shared, seats.as_mut_slice(), 100, 64, gate)
     } else {
-        drive(rt, alloc, shared, seats.as_mut_slice(), 100, gate)
+        drive(rt, shared, seats.as_mut_slice(), 100, gate)
     }
 }
 
