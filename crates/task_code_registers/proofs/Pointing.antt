@@ -49,7 +49,8 @@ sum-times values factor (first ∷ others) =
     let one : (v * ((s * factor) % 2 ^ 32)) % 2 ^ 32 ≡ ((v * s) * factor) % 2 ^ 32 =
     mul-mod_second v (s * factor) (2 ^ 32) ∙ ap (λ n. n % 2 ^ 32) (sym (mul_assoc v s factor)) in
     let d : (v * s) * factor + r * factor ≡ (v * s + r) * factor =
-    ap (λ n. n + r * factor) (mul_comm (v * s) factor) ∙ ap (λ n. factor * (v * s) + n) (mul_comm r factor) ∙ sym (mul-add factor (v * s) r) ∙ mul_comm factor (v * s + r) in
+    ap (λ n. n + r * factor) (mul_comm (v * s) factor) ∙ ap (λ n. factor * (v * s) + n) (mul_comm r factor) ∙ sym (mul-add factor (v * s) r)
+    ∙ mul_comm factor (v * s + r) in
     both-sums (v * ((s * factor) % 2 ^ 32)) ((v * s) * factor) (sum_of values (times factor others)) (r * factor) one (sum-times values factor others)
     ∙ ap (λ n. n % 2 ^ 32) d
 
@@ -79,7 +80,8 @@ have-times scope factor (first ∷ others) x =
     or-true true b e = refl
     or-true false b e = e
 
-    by-test : (t : Bool) → (first.stride == 0) ≡ t → (t || has_variable scope first.counter) ≡ true → (((first.stride * factor) % 2 ^ 32 == 0) || has_variable scope first.counter) ≡ true
+    by-test : (t : Bool) → (first.stride == 0) ≡ t → (t || has_variable scope first.counter) ≡ true
+        → (((first.stride * factor) % 2 ^ 32 == 0) || has_variable scope first.counter) ≡ true
     by-test true e h = ap (λ a. a || has_variable scope first.counter) (product (eqb-true first.stride 0 e))
     by-test false e h = or-true ((first.stride * factor) % 2 ^ 32 == 0) (has_variable scope first.counter) h
 
@@ -98,7 +100,8 @@ regrouped start a b sa sb = omega arith
 over : (a c k : ℕ) → a * k + c * k ≡ (a + c) * k
 over a c k = sym (mul_comm (a + c) k ∙ mul-add k a c ∙ ap (λ n. n + k * c) (mul_comm k a) ∙ ap (λ n. a * k + n) (mul_comm k c))
 
-module _ (start w bytes xn yn sx sy row rows columns far number sum : ℕ) (er : row ≡ word.multiply bytes w) (e1 : rows ≡ word.multiply yn row) (e2 : columns ≡ word.multiply xn bytes)
+module _ (start w bytes xn yn sx sy row rows columns far number sum : ℕ) (er : row ≡ word.multiply bytes w) (e1 : rows ≡ word.multiply yn row)
+    (e2 : columns ≡ word.multiply xn bytes)
     (e3 : far ≡ word.add rows columns) (e4 : number ≡ word.add start far) (es : sum % 2 ^ 32 ≡ (sy * row + sx * bytes) % 2 ^ 32) where
   abbrev xx : ℕ
   xx = xn + sx
@@ -133,7 +136,8 @@ module _ (start w bytes xn yn sx sy row rows columns far number sum : ℕ) (er :
       let in-column : (xx * bytes) % 2 ^ 32 ≡ (xv * bytes) % 2 ^ 32 = both-products xx xv bytes bytes (sym (twice xx)) refl in
       both-sums number (start + (yn * row + xn * bytes)) sum (sy * row + sx * bytes) numbers es
       ∙ ap (λ k. k % 2 ^ 32) together
-      ∙ both-sums start start (yy * row + xx * bytes) (yv * (bytes * w) + xv * bytes) refl (both-sums (yy * row) (yv * (bytes * w)) (xx * bytes) (xv * bytes) in-row in-column)
+      ∙ both-sums start start (yy * row + xx * bytes) (yv * (bytes * w) + xv * bytes) refl
+      (both-sums (yy * row) (yv * (bytes * w)) (xx * bytes) (xv * bytes) in-row in-column)
       ∙ ap (λ k. (start + k) % 2 ^ 32) (spread-out bytes w xv yv)
 
 -- with the distance of the hart's copy
@@ -143,8 +147,10 @@ moved a s b d h e =
     let g : (s + b) + d * h ≡ s + d * h + b = omega arith in
     mod-add-mod a (2 ^ 32) (h * d) ∙ ap (λ k. (a + k) % 2 ^ 32) p ∙ both-sums a (s + b) (d * h) (d * h) e refl ∙ ap (λ k. k % 2 ^ 32) g
 
-pub point-is : (place : Place) (x y : Linear) (made : Form) (bytes row rows columns far : ℕ) → bytes ≡ pixel_bytes place.pixels → row ≡ word.multiply bytes place.width
-    → made.sum.terms ≡ times row y.terms ++ times bytes x.terms → rows ≡ word.multiply y.number row → columns ≡ word.multiply x.number bytes → far ≡ word.add rows columns
+pub point-is : (place : Place) (x y : Linear) (made : Form) (bytes row rows columns far : ℕ) → bytes ≡ pixel_bytes place.pixels
+    → row ≡ word.multiply bytes place.width
+    → made.sum.terms ≡ times row y.terms ++ times bytes x.terms → rows ≡ word.multiply y.number row → columns ≡ word.multiply x.number bytes
+    → far ≡ word.add rows columns
     → made.sum.number ≡ word.add place.start far → made.per_hart ≡ place.distance → IsPoint place x y made
 unfolding form_value linear_value
 point-is place x y made bytes row rows columns far eb er et e1 e2 e3 e4 eh = record {
@@ -156,7 +162,8 @@ point-is place x y made bytes row rows columns far eb er et e1 e2 e3 e4 eh = rec
       let sum = sum_of values made.sum.terms in
       let es : sum % 2 ^ 32 ≡ (sy * row + sx * bytes) % 2 ^ 32 =
       ap (λ ts. sum_of values ts % 2 ^ 32) et ∙ ap (λ n. n % 2 ^ 32) (sum-append values (times row y.terms) (times bytes x.terms))
-      ∙ both-sums (sum_of values (times row y.terms)) (sy * row) (sum_of values (times bytes x.terms)) (sx * bytes) (sum-times values row y.terms) (sum-times values bytes x.terms) in
+      ∙ both-sums (sum_of values (times row y.terms)) (sy * row) (sum_of values (times bytes x.terms)) (sx * bytes) (sum-times values row y.terms)
+      (sum-times values bytes x.terms) in
       ap (λ d. ((made.sum.number + sum) % 2 ^ 32 + hart * d) % 2 ^ 32) eh
       ∙ moved (made.sum.number + sum) place.start (bytes * (yv * place.width + xv)) place.distance hart
       (spread place.start place.width bytes x.number y.number sx sy row rows columns far made.sum.number sum er e1 e2 e3 e4 es)
@@ -167,5 +174,6 @@ point-is place x y made bytes row rows columns far eb er et e1 e2 e3 e4 eh = rec
       let b = length-times bytes x.terms in
       omega (arith, n, a, b);
   have = λ scope hx hy.
-      ap (have_registers scope) et ∙ have-append scope (times row y.terms) (times bytes x.terms) (have-times scope row y.terms hy) (have-times scope bytes x.terms hx);
+      ap (have_registers scope) et ∙ have-append scope (times row y.terms) (times bytes x.terms) (have-times scope row y.terms hy)
+      (have-times scope bytes x.terms hx);
 }

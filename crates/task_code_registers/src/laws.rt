@@ -14,7 +14,7 @@ pub fn scopes_nest()
     ensures { ScopesNest }
 {}
 
-/// What a loop's forms move are no registers of the scope around it.
+/// A loop that goes along with its forms changes no register of the scope around it.
 pub fn scopes_stay()
     ensures { ScopesStay }
 {}
