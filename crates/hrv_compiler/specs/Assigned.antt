@@ -1,7 +1,7 @@
 -- Every assignment of the iterations of all phases to harts is reached by some list of turns.
 --
 -- A phase computes a stage; the stages, their iterations and the points that these write are the schedule's
--- (`phase_sharing/specs/Stages.antt`), and a point's bytes lie where the layout has its Func.
+-- (`vector_codegen_laws/specs/Stages.antt`), and a point's bytes lie where the layout has its Func.
 -- This project's own.
 use Rattle.std.specs.Prelude.{◌≡◌, ◌<◌, ◌≤◌, ℕ, suc, ◌+◌, true, List, ◌∷◌, ◌++◌, length, slice_get, Some, None}
 use Rattle.memory.specs.Access.{word_at}

@@ -180,6 +180,3 @@ impl LoopSizes {
         }
     }
 }
-
-#[cfg(test)]
-mod tests;

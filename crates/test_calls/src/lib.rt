@@ -4,7 +4,9 @@
 //! - [`texts`]: a small text that is assembled, stored and listed.
 //! - [`algorithms`]: a small algorithm and its picture.
 //! - [`schedules`]: a small schedule, and its stages.
+//! - [`sizes`]: the sizes of loops.
 //! - [`weighing`]: what small schedules weigh and need.
+//! - [`sharing`]: a program by which harts share the work, on several harts and in several orders.
 //! - [`faults`]: the lines of the commands' faults.
 //! - [`runs`]: images that are run by threads.
 #![tactic(auto)]
@@ -17,6 +19,10 @@ mod faults;
 mod runs;
 #[cfg(test)]
 mod schedules;
+#[cfg(test)]
+mod sharing;
+#[cfg(test)]
+mod sizes;
 #[cfg(test)]
 mod texts;
 #[cfg(test)]

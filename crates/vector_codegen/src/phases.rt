@@ -146,7 +146,7 @@ fn emit_tasks(code: &mut Vec<u32>, words: &[u32]) -> Result<(), CodeFault>
     Ok(())
 }
 
-/// Appends the code of a phase around the words of its tasks' code, which `specs/Code.antt` has.
+/// Appends the code of a phase around the words of its tasks' code, which `specs/PhaseCode.antt` has.
 ///
 /// # Errors
 ///

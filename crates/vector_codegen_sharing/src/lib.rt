@@ -12,7 +12,6 @@
 #![tactic(auto)]
 
 pub mod example;
-mod example_runs;
 pub mod laws;
 
 pub use crate::example::{example_machine, example_words, two_phases};

@@ -1,7 +1,8 @@
-use super::{LoopSize, LoopSizes};
-use crate::extents::Extents;
+//! The sizes of loops behind two splits, and how far they take a variable.
+
 use halide_pipeline::Variable;
 use schedule_lines::{Loop, LoopId, Split, Tail};
+use schedule_loops::{Extents, LoopSize, LoopSizes};
 use sqlite_items::Items;
 use std::alloc::Global;
 use std::test::Fail;

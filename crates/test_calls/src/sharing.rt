@@ -1,8 +1,8 @@
 //! A program of two phases, by which harts share the work, on several harts and in several orders.
 
-use crate::example::example_machine;
 use multi_hart::Machine;
 use std::test::Fail;
+use vector_codegen_sharing::example_machine;
 
 /// So many rounds of the turns, one after the other.
 fn rounds(machine: &mut Machine, turns: &[u8], count: u32) {
