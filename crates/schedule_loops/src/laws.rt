@@ -1,11 +1,15 @@
 //! Laws of the definitions, each the contract of a function that does nothing.
 
-ghost use Rattle.std.specs.Prelude.{◌≡◌, ◌∷◌, []};
+ghost use Rattle.std.specs.Prelude.{◌≡◌, ◌∷◌, [], true, false};
 ghost use Rattle.schedule_loops.specs.Laws as law;
+ghost use Rattle.schedule_loops.specs.Counts.{shifts_fit};
+ghost use Rattle.schedule_loops.specs.Reach.{reach, has_uneven};
 ghost use Rattle.schedule_loops.specs.Rows as row;
+ghost use Rattle.schedule_loops.specs.Sizes.{size};
 ghost use Rattle.schedule_loops.specs.Visits.{visits};
 
-use schedule_lines::Tail;
+use halide_pipeline::Variable;
+use schedule_lines::{LoopId, Tail};
 
 /// An accepted schedule gives what the laws ask of stages.
 pub fn accepted_stages()
@@ -87,4 +91,16 @@ pub fn worked_rows()
     ensures shifted { row.first_values 8 3 Tail.Shift ≡ 0 ∷ 1 ∷ 2 ∷ 3 ∷ 4 ∷ 5 ∷ 5 ∷ 6 ∷ 7 ∷ [] }
     ensures turned { visits row.turned_extents row.turned
         ≡ row.visit 0 0 ∷ row.visit 1 0 ∷ row.visit 0 1 ∷ row.visit 1 1 ∷ row.visit 0 2 ∷ row.visit 1 2 ∷ [] }
+{}
+
+/// Worked rows: 10 values split by 4 under guard, and the outer loop of that by 2 under shift.
+pub fn worked_sizes()
+    ensures first_inner { size row.split_twice (LoopId.Inner 0) ≡ row.sized 4 1 false }
+    ensures second_inner { size row.split_twice (LoopId.Inner 1) ≡ row.sized 2 4 false }
+    ensures outer { size row.split_twice (LoopId.Outer 1) ≡ row.sized 2 8 true }
+    ensures whole { size row.split_twice (LoopId.Whole Variable.SecondArgument) ≡ row.sized 3 1 false }
+    ensures fit { shifts_fit row.split_twice.extents row.split_twice.splits ≡ true }
+    ensures reach { reach row.split_twice.extents row.split_twice.splits Variable.FirstArgument row.all_loops ≡ 15 }
+    ensures uneven { has_uneven row.split_twice.splits Variable.FirstArgument row.all_loops ≡ true }
+    ensures even { has_uneven row.split_twice.splits Variable.FirstArgument row.inner_loops ≡ false }
 {}

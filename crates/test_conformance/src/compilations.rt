@@ -12,7 +12,7 @@ use test_cases::Part;
 use test_devices::{Page, empty_page, tape_of};
 
 /// What compiling the texts of a case stores, and how it ended.
-fn compiled(alloc: Global, parts: &[Part]) -> Result<(Page, Result<(), Fault>), Failure> {
+pub fn compiled(alloc: Global, parts: &[Part]) -> Result<(Page, Result<(), Fault>), Failure> {
     let (parts, devices) = devices_of(parts);
     let [algorithm, schedule, inputs @ ..] = parts else {
         return Err(Failure::Malformed("not two parts"));

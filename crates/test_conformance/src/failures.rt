@@ -1,6 +1,7 @@
 //! Why a case has no answer but a refusal.
 
 use assembler::AsmFault;
+use bounds_weights::WeightError;
 use halide_parser_syntax::ParseFault;
 use hrv_engines::Fault;
 use line_text::{LocatedError, ReadError};
@@ -146,6 +147,12 @@ impl From<ReadError<PictureFault>> for Failure {
 impl From<LoadFault> for Failure {
     fn from(fault: LoadFault) -> Failure {
         Failure::numbered("load", fault.number())
+    }
+}
+
+impl From<WeightError> for Failure {
+    fn from(error: WeightError) -> Failure {
+        Failure::numbered("lower", error.number())
     }
 }
 

@@ -22,6 +22,12 @@
 //! | `resume` | `image`, `log`; `turns` | the same, from where a log of one hart ends |
 //! | `compile` | `algorithm`, `schedule`, any number of `picture` | the image without its words, and the picture that one hart leaves |
 //! | `accesses` | `algorithm`, `schedule`, any number of `picture` | how many lines of the image's listing are vector loads and stores, by mnemonic, and how lanes are configured once one hart has finished |
+//! | `threads` | `image`, `harts`, `turns` | the lines of the harts and of the picture of a run by threads, which its log replays to |
+//! | `share` | `harts`, `turns`, `algorithm`, `schedule`, any number of `picture` | the same of the compiled image |
+//! | `rejoin` | `image`, `log` | the same of a run from where a log of several harts ends |
+//! | `weigh` | `algorithm`, `schedule` | what the stages weigh |
+//! | `need` | `algorithm`, `schedule` | how many registers the stages need |
+//! | `memory` | none | what a command says that was refused memory |
 //! | `words` | `words`: a word of a command line each line | the command and its files, or the refusal's first line |
 //!
 //! Images and logs always stand in hexadecimal. The cases of `draw` and of those from `asm` to `compile` go through the engines; a last part
@@ -31,8 +37,8 @@
 //! A refusal stands in place of an answer, or behind what was written before, as `hrv` prints it; a backslash ends a text without a
 //! last line feed there. A case that isn't one of these is answered `malformed: ` and why.
 //!
-//! - [`algorithms`], [`schedules`], [`assemblies`], [`turns`], [`commands`], [`runs`], [`compilations`], [`invocations`]: the answers, a module each for
-//!   one family.
+//! - [`algorithms`], [`schedules`], [`weights`], [`assemblies`], [`turns`], [`commands`], [`runs`], [`threads`],
+//!   [`compilations`], [`invocations`]: the answers, a module each for one family.
 //! - [`devices`]: files in memory.
 //! - [`harts`]: what a hart holds, as lines.
 //! - [`failures`]: what stands in place of an answer.
@@ -48,7 +54,9 @@ mod harts;
 mod invocations;
 mod runs;
 mod schedules;
+mod threads;
 mod turns;
+mod weights;
 
 use crate::algorithms::{push_reading, push_verdict};
 use crate::assemblies::{push_listing, push_object};
@@ -58,7 +66,10 @@ use crate::failures::Failure;
 use crate::invocations::push_invocation;
 use crate::runs::{push_resumption, push_run};
 use crate::schedules::push_schedule;
+use crate::threads::{push_rejoined, push_shared, push_threads};
 use crate::turns::push_changes;
+use crate::weights::{push_needs, push_weight};
+use hrv_engines::Fault;
 use std::alloc::{AllocError, Global};
 use std::rt::{Env, Files};
 use std::sync::Wait;
@@ -139,6 +150,12 @@ fn push_answer(
         "resume" => push_resumption(rt, alloc, parts, out),
         "compile" => push_compilation(alloc, parts, out),
         "accesses" => push_accesses(alloc, parts, out),
+        "threads" => push_threads(rt, alloc, parts, out),
+        "share" => push_shared(rt, alloc, parts, out),
+        "rejoin" => push_rejoined(rt, alloc, parts, out),
+        "weigh" => push_weight(alloc, parts, out),
+        "need" => push_needs(alloc, parts, out),
+        "memory" => Err(Failure::Command(Fault::Memory)),
         "words" => push_invocation(alloc, parts, out),
         _ => Err(Failure::Malformed("an unknown kind of case")),
     }

@@ -66,7 +66,7 @@ pub fn push_resumption(
 }
 
 /// How many turns a hart makes at most.
-fn limit_of(lines: &str) -> Result<u64, Failure> {
+pub fn limit_of(lines: &str) -> Result<u64, Failure> {
     match lines.trim().parse::<u64>() {
         Ok(limit) => Ok(limit),
         Err(_) => Err(Failure::Malformed("turns without a number")),
