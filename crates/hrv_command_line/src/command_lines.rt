@@ -5,7 +5,7 @@ ghost use Rattle.clap.specs.Lexer.{usize_max};
 ghost use Rattle.clap.specs.Words.{all_of, found_of, rows_of, rule_of, one_of};
 ghost use Rattle.clap.specs.Walk.{texts};
 ghost use Rattle.hrv_command_line.specs.CommandLine.{Asked, Assembles, Compiles, Debugs, Draws, IsPlainWord, IsRefusal, IsSpelled, IsWithinLimits, Lists, Makes, Renews, Replays, Resumes, Runs};
-ghost use Rattle.hrv_command_line.specs.CommandLine.{algorithm_app, asked_by, asked_of, asm_app, asm_of, compile_app, compile_of, compile_texts_app, debug_app, debug_of, dis_app, dis_of, hrv_app, log_app, most_harts, most_turns, named, number_or, number_rule, picture_app, picture_of, renew_app, renew_of, replay_app, replay_of, rest_rule, run_app, run_files_app, run_numbers_app, run_of, text_app, word_rule};
+ghost use Rattle.hrv_command_line.specs.CommandLine.{algorithm_app, asked_by, asked_of, asm_app, asm_of, compile_app, compile_of, compile_texts_app, debug_app, debug_of, dis_app, dis_of, hrv_app, log_app, most_harts, most_turns, named, number_or, number_rule, picture_app, picture_of, renew_app, renew_of, replay_app, replay_of, required_rule, rest_rule, run_app, run_files_app, run_numbers_app, run_of, text_app, word_rule};
 
 use crate::faults::CommandLineFault;
 use clap::{Arg, ArgMatches, Command};
@@ -344,8 +344,8 @@ fn replay_command<'a>(alloc: Global) -> Result<Command<'a>, AllocError>
 {
     Command::new(alloc, "replay")
         .about("Runs an image once more, turn by turn as the log says")
-        .arg(Arg::new(alloc, "IMAGE").required(true))?
-        .arg(Arg::new(alloc, "LOG").required(true))
+        .arg(file_arg(alloc, "IMAGE", "The image that is run"))?
+        .arg(file_arg(alloc, "LOG", "The log of the turns that harts make"))
 }
 
 // `debug IMAGE LOG`
@@ -354,8 +354,8 @@ fn debug_command<'a>(alloc: Global) -> Result<Command<'a>, AllocError>
 {
     Command::new(alloc, "debug")
         .about("Answers questions about an image and a log, asked on standard input")
-        .arg(Arg::new(alloc, "IMAGE").required(true))?
-        .arg(Arg::new(alloc, "LOG").required(true))
+        .arg(file_arg(alloc, "IMAGE", "The image that is asked about"))?
+        .arg(file_arg(alloc, "LOG", "The log of its turns"))
 }
 
 // `asm SOURCE IMAGE`
@@ -364,8 +364,8 @@ fn asm_command<'a>(alloc: Global) -> Result<Command<'a>, AllocError>
 {
     Command::new(alloc, "asm")
         .about("Assembles a text and stores the image")
-        .arg(Arg::new(alloc, "SOURCE").required(true))?
-        .arg(Arg::new(alloc, "IMAGE").required(true))
+        .arg(file_arg(alloc, "SOURCE", "The assembly text"))?
+        .arg(file_arg(alloc, "IMAGE", "The file that the image is stored in"))
 }
 
 // `dis IMAGE`
@@ -374,7 +374,7 @@ fn dis_command<'a>(alloc: Global) -> Result<Command<'a>, AllocError>
 {
     Command::new(alloc, "dis")
         .about("Prints a line for each word of an image's text")
-        .arg(Arg::new(alloc, "IMAGE").required(true))
+        .arg(file_arg(alloc, "IMAGE", "The image whose text is listed"))
 }
 
 // `renew OLD NEW`
@@ -383,8 +383,8 @@ fn renew_command<'a>(alloc: Global) -> Result<Command<'a>, AllocError>
 {
     Command::new(alloc, "renew")
         .about("Stores an image in the newest format")
-        .arg(Arg::new(alloc, "OLD").required(true))?
-        .arg(Arg::new(alloc, "NEW").required(true))
+        .arg(file_arg(alloc, "OLD", "An image of either format"))?
+        .arg(file_arg(alloc, "NEW", "The file that it is stored in; it may be OLD"))
 }
 
 // `picture ALGORITHM [INPUT..]`
@@ -393,7 +393,7 @@ fn picture_command<'a>(alloc: Global) -> Result<Command<'a>, AllocError>
 {
     Command::new(alloc, "picture")
         .about("Draws the picture that an algorithm defines")
-        .arg(Arg::new(alloc, "ALGORITHM").required(true))?
+        .arg(file_arg(alloc, "ALGORITHM", "The algorithm's text"))?
         .arg(rest_arg(alloc, "INPUT"))
 }
 
@@ -402,7 +402,7 @@ fn compile_command<'a>(alloc: Global) -> Result<Command<'a>, AllocError>
     ensures { IfOk result (Makes compile_app) }
 {
     compile_texts_command(alloc)?
-        .arg(Arg::new(alloc, "IMAGE").required(true))?
+        .arg(file_arg(alloc, "IMAGE", "The file that the image is stored in"))?
         .arg(rest_arg(alloc, "INPUT"))
 }
 
@@ -412,8 +412,12 @@ fn compile_texts_command<'a>(alloc: Global) -> Result<Command<'a>, AllocError>
 {
     Command::new(alloc, "compile")
         .about("Compiles an algorithm under a schedule and stores the image")
-        .arg(Arg::new(alloc, "ALGORITHM").required(true))?
-        .arg(Arg::new(alloc, "SCHEDULE").required(true))
+        .arg(file_arg(alloc, "ALGORITHM", "The algorithm's text"))?
+        .arg(file_arg(
+            alloc,
+            "SCHEDULE",
+            "The schedule's text, which changes speed and never pixels",
+        ))
 }
 
 // `run IMAGE LOG --harts N --turns L --from OLD`
@@ -438,8 +442,12 @@ fn run_files_command<'a>(alloc: Global) -> Result<Command<'a>, AllocError>
 {
     Command::new(alloc, "run")
         .about("Runs an image by threads, a thread a hart, and stores the log of their turns")
-        .arg(Arg::new(alloc, "IMAGE").required(true))?
-        .arg(Arg::new(alloc, "LOG").required(true))
+        .arg(file_arg(alloc, "IMAGE", "The image that is run"))?
+        .arg(file_arg(
+            alloc,
+            "LOG",
+            "The file that the log of all turns is stored in",
+        ))
 }
 
 // How many harts there are.
@@ -478,10 +486,20 @@ fn from_arg<'a>(alloc: Global) -> Arg<'a>
     )
 }
 
+// A file that has to be named.
+fn file_arg<'a>(alloc: Global, id: &'a str, help: &'a str) -> Arg<'a>
+    ensures rule { rule_of result ≡ required_rule id.now }
+    ensures local { result.global ≡ false }
+{
+    Arg::new(alloc, id).required(true).help(help)
+}
+
 // An argument that takes the words left over.
 fn rest_arg<'a>(alloc: Global, id: &'a str) -> Arg<'a>
     ensures rule { rule_of result ≡ rest_rule id.now }
     ensures local { result.global ≡ false }
 {
-    Arg::new(alloc, id).num_args(..)
+    Arg::new(alloc, id).num_args(..).help(
+        "The inputs' pictures, in the order of the algorithm's lines",
+    )
 }

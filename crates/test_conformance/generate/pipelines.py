@@ -85,6 +85,16 @@ class Reader:
         sign = -1 if self.take("-") else 1
         return sign * self.next()
 
+    def left_side(self, item):
+        """A name, and what stands in the brackets before `=`."""
+        name = self.next()
+        self.take("(")
+        items = [item()]
+        while self.take(","):
+            items.append(item())
+        assert self.take(")") and self.take("=")
+        return name, items
+
 
 class Pipeline:
     def __init__(self, text):
@@ -99,22 +109,12 @@ class Pipeline:
         self.inputs[name] = (width, r.next() if isinstance(r.peek(), int) else None)
 
     def read_func(self, r):
-        name = r.next()
-        r.take("(")
-        arguments = [r.next()]
-        while r.take(","):
-            arguments.append(r.next())
-        assert r.take(")") and r.take("=")
+        name, arguments = r.left_side(r.next)
         self.funcs[name] = {"arguments": arguments, "pure": r.expr(), "updates": []}
         self.order.append(name)
 
     def read_update(self, r):
-        name = r.next()
-        r.take("(")
-        left = [r.expr()]
-        while r.take(","):
-            left.append(r.expr())
-        assert r.take(")") and r.take("=")
+        name, left = r.left_side(r.expr)
         right = r.expr()
         assert r.take("over")
         box = []
