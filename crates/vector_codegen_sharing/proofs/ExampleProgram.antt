@@ -12,7 +12,9 @@ use Rattle.vector_codegen_sharing.specs.Solo.{TaskDone, TaskWrites}
 use Rattle.vector_codegen_sharing.specs.Programs.{ticket_word, FoundBy, Follows, Program, Opens}
 use Rattle.std.specs.Prelude.{negsuc, ◌/◌}
 use Rattle.vector_codegen_sharing.specs.Programs.{IsControlByte, OfNoTask}
-use Rattle.vector_codegen_sharing.specs.Example.{example_text, example_data, first_uses, second_uses, first_result, second_result, use_by, byte_by, first_phase, second_phase, example, ExampleIsProgram, ExampleResult}
+use Rattle.vector_codegen_sharing.specs.Example.{example_text, example_data, first_uses, second_uses, first_result, second_result, use_by, byte_by, first_phase, second_phase, example, ExampleIsProgram, ExampleResult, example_rounds, ExampleEnds}
+use Rattle.vector_codegen_sharing.specs.Fairness.{enough_rounds}
+use Rattle.vector_codegen_sharing.proofs.Fair.{fair-ends}
 use Rattle.vector_codegen_sharing.proofs.Results.{one-result}
 use Rattle.vector_codegen_sharing.proofs.ExampleText.{line-4, line-5, line-15, line-16, line-17, line-20, line-21, line-29}
 use Rattle.vector_codegen_sharing.proofs.ExampleCode.{first-all, second-all, first-way, second-way}
@@ -202,3 +204,11 @@ example-result n turns some few e =
       word-by second_result end.text end.memory 6 (λ b l h. r b 0 (omega arith) (use-in second_uses 6 b l h)) (omega arith),
       word-by second_result end.text end.memory 7 (λ b l h. r b 1 (omega arith) (use-in second_uses 7 b l h)) (omega arith),
     )
+
+example-count : (n : ℕ) → enough_rounds (example n) 1 ≡ example_rounds n
+example-count n = omega arith
+
+pub example-ends : ExampleEnds
+example-ends n turns rounds some few =
+    let count = example-count n in
+    (count, λ fair long. fair-ends (example n) 1 65536 example_data (program n some few) (opens n some few) turns rounds fair (omega (arith, count, long)))

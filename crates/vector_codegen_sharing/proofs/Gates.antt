@@ -226,11 +226,11 @@ module _ (ph : ℕ → Phase) (last : ℕ) (g : Program ph last) where
             ap (λ ps. is_word_in (gate_word i.at) (or_known (k == x) ps known)) (add-writes (prior ph i.at) (ph i.at) (g.code i.at i.within) i.phase.roles i.phase.top s k h.0 v h.1 e)
             ∙ subst (λ w. is_word_in w (or_known (k == x) (touched (one_access Word (ph i.at).gate)) known) ≡ true) t (own-word (k == x) (ph i.at).gate known own)
 
-    after-turn : (rs : List Role) → RolesAfter (ph i.at) i.phase.top s k i.phase.roles rs → Seen last x i.at rs counts1 known1
-    after-turn rs (inl e) =
+    after-turn : (rs : List Role) (next : ℕ) → RolesAfter (ph i.at) i.phase.top s k i.phase.roles rs next → Seen last x i.at rs counts1 known1
+    after-turn rs next (inl e) =
         let none : written_next s k ≡ [] = ap (written_by_one s) e.0 in
         unmarked rs (λ c l. no-mark x c s k (ap (is_word_in (gate_word c)) none)) (ap (λ ps. or_known (k == x) ps known) none) (λ q eq. subst (λ l. slice_get l x ≡ Some q) e.1 eq)
-    after-turn rs (inr e) = elim (cases_eq k x) [
+    after-turn rs next (inr e) = elim (cases_eq k x) [
       | inl y ↦ subst (λ l. Seen last x i.at l counts1 known1) (sym e.4) (own-turn e.0 e.1 e.2 y e.3 e.5)
       | inr n ↦
           let f1 : (k == x) ≡ false = eq-false k x n in
@@ -240,9 +240,9 @@ module _ (ph : ℕ → Phase) (last : ℕ) (g : Program ph last) where
 
     settled : (w : Went ph last s k i) → Seen last x w.to.at w.to.phase.roles counts1 known1
     settled w = elim w.settled [
-      | inl e ↦ subst (λ a. Seen last x a w.to.phase.roles counts1 known1) (sym e.0) (subst (λ l. Seen last x i.at l counts1 known1) (sym e.1) (after-turn w.rs w.after))
+      | inl e ↦ subst (λ a. Seen last x a w.to.phase.roles counts1 known1) (sym e.0) (subst (λ l. Seen last x i.at l counts1 known1) (sym e.1) (after-turn w.rs w.next w.after))
       | inr e ↦
-          let o = after-turn w.rs w.after in
+          let o = after-turn w.rs w.next w.after in
           let in1 : suc i.at ≤ last = let a = e.0 in let b = w.to.within in omega (arith, a, b) in
           let none : (q : Role) → slice_get w.to.phase.roles x ≡ Some q → has_added q ≡ 0 = λ q eq. come-added w.rs x q (subst (λ l. slice_get l x ≡ Some q) e.1 eq) in
           record {

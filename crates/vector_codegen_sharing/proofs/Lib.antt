@@ -21,3 +21,6 @@ pub mod ExampleCode
 pub mod ExampleProgram
 pub mod Undisturbed
 pub mod Bridges
+pub mod Measure
+pub mod Fair
+pub mod Stuck

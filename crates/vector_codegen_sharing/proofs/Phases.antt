@@ -35,11 +35,16 @@ come-role [] k q e = absurd (cc e)
 come-role (r ∷ rs) zero q e = (r, refl, cc e)
 come-role (r ∷ rs) (suc k) q e = come-role rs k q e
 
+pub come-either : (r : Role) → (come r ≡ Before) ⊎ ((g : ℕ) × (come r ≡ Asked g))
+unfolding come
+come-either (Looked g) = inr (g, refl)
+come-either _ = inl refl
+
 pub come-looking : come Looking ≡ Before
 unfolding come
 come-looking = refl
 
-length-come : (rs : List Role) → length (map come rs) ≡ length rs
+pub length-come : (rs : List Role) → length (map come rs) ≡ length rs
 length-come [] = refl
 length-come (r ∷ rs) = ap suc (length-come rs)
 
@@ -146,28 +151,31 @@ module _ (z q p : Phase) (s : State) (roles : List Role) (top : ℕ) (v : Inv z 
 
 -- ---- a turn of a program
 
--- the roles after a turn of the hart k: none is there, or it has a new role
-abbrev pub RolesAfter : Phase → ℕ → State → ℕ → List Role → List Role → Type 0
-RolesAfter p top s k roles rs =
-    ((slice_get s.harts k ≡ None) × (rs ≡ roles))
-    ⊎ ((r : Role) × (r1 : Role) × (top1 : ℕ) × (slice_get roles k ≡ Some r) × (rs ≡ set roles k r1) × Becomes p top (total has_added roles) r r1 top1)
+-- the roles and the next number to draw after a turn of the hart k: none is there, or it has a new role
+abbrev pub RolesAfter : Phase → ℕ → State → ℕ → List Role → List Role → ℕ → Type 0
+RolesAfter p top s k roles rs next =
+    ((slice_get s.harts k ≡ None) × (rs ≡ roles) × (next ≡ top))
+    ⊎ ((r : Role) × (r1 : Role) × (top1 : ℕ) × (slice_get roles k ≡ Some r) × (rs ≡ set roles k r1) × Becomes p top (total has_added roles) r r1 top1 × (next ≡ top1))
 
 -- the phase stays, or its gate is full and the next one begins
-abbrev pub Settled : ℕ → List Role → ℕ → List Role → Type 0
-Settled c rs at roles = ((at ≡ c) × (roles ≡ rs)) ⊎ ((at ≡ suc c) × (roles ≡ map come rs))
+abbrev pub Settled : ℕ → List Role → ℕ → ℕ → List Role → ℕ → Type 0
+Settled c rs next at roles top =
+    ((at ≡ c) × (roles ≡ rs) × (top ≡ next))
+    ⊎ ((at ≡ suc c) × (roles ≡ map come rs) × (top ≡ 0) × (length rs ≤ total has_added rs))
 
 pub record Went (ph : ℕ → Phase) (last : ℕ) (s : State) (k : ℕ) (i : InProgram ph last s) : Type 0 where
   pub to : InProgram ph last (turn s k)
   pub rs : List Role
-  pub after : RolesAfter (ph i.at) i.phase.top s k i.phase.roles rs
-  pub settled : Settled i.at rs to.at to.phase.roles
+  pub next : ℕ
+  pub after : RolesAfter (ph i.at) i.phase.top s k i.phase.roles rs next
+  pub settled : Settled i.at rs next to.at to.phase.roles to.phase.top
 
-pub one-turn : (z p : Phase) (c : Code p) (behind : HasGate p ⊎ HasEnd p) (td : TaskDone p) (s : State) (k : ℕ) → (i : InPhase z p s) → (total has_added i.roles < p.harts) ⊎ HasEnd p → (o : Option HartState) → slice_get s.harts k ≡ o → (j : InPhase z p (turn s k)) × RolesAfter p i.top s k i.roles j.roles
-one-turn z p c behind td s k i so None e = (record { roles = i.roles; top = i.top; inv = subst (Inv z p i.roles i.top) (sym (ap (turned s k) e)) i.inv }, inl (e, refl))
+pub one-turn : (z p : Phase) (c : Code p) (behind : HasGate p ⊎ HasEnd p) (td : TaskDone p) (s : State) (k : ℕ) → (i : InPhase z p s) → (total has_added i.roles < p.harts) ⊎ HasEnd p → (o : Option HartState) → slice_get s.harts k ≡ o → (j : InPhase z p (turn s k)) × RolesAfter p i.top s k i.roles j.roles j.top
+one-turn z p c behind td s k i so None e = (record { roles = i.roles; top = i.top; inv = subst (Inv z p i.roles i.top) (sym (ap (turned s k) e)) i.inv }, inl (e, refl, refl))
 one-turn z p c behind td s k i so (Some h) e =
     let f = found i.roles s.harts k h i.inv.same e in
     let y = hart-turn z p c behind td i.roles i.top s k h i.inv e so f.0 f.1 in
-    (record { roles = set i.roles k y.role; top = y.top; inv = y.inv }, inr (f.0, y.role, y.top, f.1, refl, y.becomes))
+    (record { roles = set i.roles k y.role; top = y.top; inv = y.inv }, inr (f.0, y.role, y.top, f.1, refl, y.becomes, refl))
 
 module _ (ph : ℕ → Phase) (last : ℕ) (g : Program ph last) where
   -- a gate behind each phase but the last
@@ -177,18 +185,19 @@ module _ (ph : ℕ → Phase) (last : ℕ) (g : Program ph last) where
     | inr ne ↦ inl (g.follows c (omega (arith, le, ne))).link.waits
   ]
 
-  pub settle : (s : State) (c : ℕ) → c ≤ last → (i : InPhase (prior ph c) (ph c) s) → (j : InProgram ph last s) × Settled c i.roles j.at j.phase.roles
+  pub settle : (s : State) (c : ℕ) → c ≤ last → (i : InPhase (prior ph c) (ph c) s) → (j : InProgram ph last s) × Settled c i.roles i.top j.at j.phase.roles j.phase.top
   settle s c le i = elim (cases_eq c last) [
-    | inl e ↦ (record { at = c; within = le; phase = i; still_open = inl e }, inl (refl, refl))
+    | inl e ↦ (record { at = c; within = le; phase = i; still_open = inl e }, inl (refl, refl, refl))
     | inr ne ↦ elim (cases_lt (total has_added i.roles) (ph c).harts) [
-      | inl lt ↦ (record { at = c; within = le; phase = i; still_open = inr lt }, inl (refl, refl))
+      | inl lt ↦ (record { at = c; within = le; phase = i; still_open = inr lt }, inl (refl, refl, refl))
       | inr full ↦
           let below : c < last = omega (arith, le, ne) in
           let to : InPhase (ph c) (ph (suc c)) s = record { roles = map come i.roles; top = 0; inv = passed (prior ph c) (ph c) (ph (suc c)) s i.roles i.top i.inv full (g.some c le) (g.follows c below) } in
           let none = total-come i.roles in
           let some = g.some (suc c) (omega (arith, below)) in
           let st : total has_added to.roles < (ph (suc c)).harts = omega (arith, none, some) in
-          (record { at = suc c; within = omega (arith, below); phase = to; still_open = inr st }, inr (refl, refl))
+          let all_added : length i.roles ≤ total has_added i.roles = let a = i.inv.same in let b = i.inv.many in omega (arith, a, b, full) in
+          (record { at = suc c; within = omega (arith, below); phase = to; still_open = inr st }, inr (refl, refl, refl, all_added))
     ]
   ]
 
@@ -199,7 +208,7 @@ module _ (ph : ℕ → Phase) (last : ℕ) (g : Program ph last) where
       elim i.still_open [ inl e ↦ inr (subst (λ c. HasEnd (ph c)) (sym e) g.leave) | inr lt ↦ inl lt ] in
       let j = one-turn (prior ph i.at) p (g.code i.at i.within) (behind i.at i.within) (g.tasks i.at i.within) s k i.phase so (slice_get s.harts k) refl in
       let y = settle (turn s k) i.at i.within j.0 in
-      record { to = y.0; rs = j.0.roles; after = j.1; settled = y.1 }
+      record { to = y.0; rs = j.0.roles; next = j.0.top; after = j.1; settled = y.1 }
 
   unfoldable pub all : (s : State) (ks : List ℕ) → InProgram ph last s → InProgram ph last (run s ks)
   all s [] i = i

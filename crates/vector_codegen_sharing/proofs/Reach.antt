@@ -1,10 +1,9 @@
--- From every place some list ends.
+-- Where a hart comes that is given turns alone.
 use Rattle.multi_hart_logic.specs.Alone.{is_in}
-use Rattle.std.proofs.Common.{◌≡◌, ℕ, zero, suc, ◌+◌, ◌<◌, ◌≤◌, List, [], ◌∷◌, ◌++◌, length, set, Option, Some, None, Bool, true, false, refl, ap, ◌∙◌, sym, subst, arith, inl, inr}
-use Rattle.std.specs.Prelude.{◌⊎◌, ◌==◌, ◌||◌, if◌then◌else◌, map, slice_get}
+use Rattle.std.proofs.Common.{◌≡◌, ℕ, zero, suc, ◌+◌, ◌<◌, ◌≤◌, List, [], ◌∷◌, ◌++◌, length, set, Some, Bool, true, false, refl, ap, ◌∙◌, sym, subst, arith, inl, inr}
+use Rattle.std.specs.Prelude.{◌⊎◌, ◌==◌, ◌||◌, if◌then◌else◌, slice_get}
 use Rattle.std.proofs.lemmas.Bool.{cases_eq}
 use Rattle.std.proofs.lemmas.Bool.Decides.{nat_tests}
-use Rattle.std.proofs.lemmas.Option.{slice_get_within}
 use Rattle.memory.specs.Access.{Word, touched}
 use Rattle.hart_core.specs.Scalar.{one_access}
 use Rattle.multi_hart.specs.Run.{State, turn, run}
@@ -12,19 +11,14 @@ use Rattle.multi_hart.specs.Frame.{Within}
 use Rattle.multi_hart_logic.specs.Uses.{Job, Task, Setup}
 use Rattle.vector_codegen_sharing.specs.Phases.{Phase, Code, HasGate, HasEnd}
 use Rattle.vector_codegen_sharing.specs.Solo.{TaskDone}
-use Rattle.vector_codegen_sharing.specs.Programs.{Program, start}
+use Rattle.vector_codegen_sharing.specs.Programs.{Program}
 use Rattle.multi_hart.proofs.Resting.{run-append}
 use Rattle.hart_core.specs.HartState.{HartState}
 use Rattle.vector_codegen_sharing.specs.Writers.{or_known, last_written, is_word_in, written_next}
-use Rattle.vector_codegen_sharing.proofs.Roles.{Role, Before, Asked, Drawing, Drew, Inside, Adding, Looking, Looked, Leaving, Over, has_added, total, Holds, Inv, InPhase, Turned, prior}
-use Rattle.vector_codegen_sharing.specs.Promises.{OnlyBy, Name, CanFinish}
-use Rattle.multi_hart.specs.Finished.{all_finished}
-use Rattle.vector_codegen_sharing.proofs.Keeping.{found, slice_get-set_same, at-set}
+use Rattle.vector_codegen_sharing.proofs.Roles.{Role, Before, Asked, Drawing, Drew, Inside, Adding, Looking, Looked, Leaving, Over, has_added, total, Holds, Inv, Turned}
+use Rattle.vector_codegen_sharing.specs.Promises.{OnlyBy, Name}
+use Rattle.vector_codegen_sharing.proofs.Keeping.{found, slice_get-set_same}
 use Rattle.vector_codegen_sharing.proofs.Control.{hart-turn, gate-or-end, add-writes, added-most, total-most}
-use Rattle.vector_codegen_sharing.proofs.Phases.{passed, come, behind}
-use Rattle.vector_codegen_sharing.proofs.Ends.{AllOver}
-use Rattle.vector_codegen_sharing.proofs.Start.{always}
-use Rattle.vector_codegen_sharing.proofs.Results.{list-over}
 
 pub last-written-append : (x : ℕ) (known : List ℕ) (s : State) (xs ys : List ℕ) → last_written x known s (xs ++ ys) ≡ last_written x (last_written x known s xs) (run s xs) ys
 last-written-append x known s [] ys = refl
@@ -295,55 +289,6 @@ module _ (z p : Phase) (c : Code p) (td : TaskDone p) (behind-it : HasGate p ⊎
           | inr a ↦ let q = a.0 in absurd (omega (arith, q, l))
         ]
 
--- every hart in turn
-record Swept (z p : Phase) (P : Role → Type 0) (n : ℕ) (s : State) : Type 0 where
-  roles : List Role
-  top : ℕ
-  turns : List ℕ
-  named : Name p.harts turns
-  inv : Inv z p roles top (run s turns)
-  all : (k : ℕ) (r : Role) → k < n → slice_get roles k ≡ Some r → P r
-
-module _ (z p : Phase) (P : Role → Type 0) where
-  abbrev Sweep : Type 0
-  Sweep = (k : ℕ) (roles : List Role) (r : Role) (top : ℕ) (s : State) → slice_get roles k ≡ Some r → Inv z p roles top s → (r1 : Role) × (top1 : ℕ) × Got z p roles k r1 top1 s × P r1
-
-  some-or-none : {X : Type 0} (o : Option X) → ((x : X) × (o ≡ Some x)) ⊎ (o ≡ None)
-  some-or-none None = inr refl
-  some-or-none (Some x) = inl (x, refl)
-
-  sweep : Sweep → (n : ℕ) (roles : List Role) (top : ℕ) (s : State) → Inv z p roles top s → Swept z p P n s
-  sweep f zero roles top s i = record { roles = roles; top = top; turns = []; named = tt; inv = i; all = λ k r l e. absurd (omega (arith, l)) }
-  sweep f (suc n) roles top s i =
-      let v = sweep f n roles top s i in
-      elim (some-or-none (slice_get v.roles n)) [
-        | inl x ↦
-            let y = f n v.roles x.0 v.top (run s v.turns) x.1 v.inv in
-            let there : n < p.harts = let a = slice_get_within v.roles n x.0 x.1 in let b = v.inv.same in let d = v.inv.many in omega (arith, a, b, d) in
-            record {
-              roles = set v.roles n y.0;
-              top = y.1;
-              turns = v.turns ++ y.2.turns;
-              named = within-append (λ t. t < p.harts) v.turns y.2.turns v.named (only-names p.harts n y.2.turns there y.2.only);
-              inv = subst (Inv z p (set v.roles n y.0) y.1) (sym (run-append s v.turns y.2.turns)) y.2.inv;
-              all = λ k r l e. elim (at-set v.roles n k x.0 y.0 r x.1 e) [
-                | inl a ↦ subst P (sym a.1) y.3
-                | inr a ↦ v.all k r (let d = a.0 in omega (arith, l, d)) a.1
-              ];
-            }
-        | inr gone ↦ record {
-          roles = v.roles;
-          top = v.top;
-          turns = v.turns;
-          named = v.named;
-          inv = v.inv;
-          all = λ k r l e. elim (cases_eq n k) [
-            | inl a ↦ let q : Some r ≡ None = sym e ∙ ap (slice_get v.roles) (sym a) ∙ gone in absurd (cc q)
-            | inr a ↦ v.all k r (omega (arith, l, a)) e
-          ];
-        }
-      ]
-
 pub added-either : (r : Role) → (has_added r ≡ 0) ⊎ (has_added r ≡ 1)
 added-either r = let a = added-most r in elim (cases_eq (has_added r) 0) [ inl e ↦ inl e | inr e ↦ inr (omega (arith, a, e)) ]
 
@@ -355,90 +300,12 @@ module _ (z p : Phase) (c : Code p) (td : TaskDone p) (behind-it : HasGate p ⊎
   pub as-set : (roles : List Role) (k : ℕ) (r : Role) (top : ℕ) (s : State) → slice_get roles k ≡ Some r → Inv z p roles top s → Inv z p (set roles k r) top s
   as-set roles k r top s e i = subst (λ l. Inv z p l top s) (sym (set-get roles k r e)) i
 
-  gate-sweep : HasGate p → Sweep z p (λ r. has_added r ≡ 1)
-  gate-sweep hg k roles r top s e i =
-      elim (added-either r) [
-        | inl a ↦ let y = to-gate z p c td behind-it k roles r e r top s hg a (as-set roles k r top s e i) in (Looking, y.0, y.1, refl)
-        | inr a ↦ (r, top, record { turns = []; only = tt; inv = as-set roles k r top s e i }, a)
-      ]
-
-  end-sweep : HasEnd p → Sweep z p (λ r. r ≡ Over)
-  end-sweep he k roles r top s e i =
-      let y = to-end z p c td behind-it k roles r e he r top s (as-set roles k r top s e i) in
-      (Over, y.0, y.1, refl)
-
-  -- a state in which all have added
-  record Gated (s : State) : Type 0 where
-    roles : List Role
-    top : ℕ
-    turns : List ℕ
-    named : Name p.harts turns
-    inv : Inv z p roles top (run s turns)
-    full : total has_added roles ≡ length roles
-
-  gated : HasGate p → (s : State) → InPhase z p s → Gated s
-  gated hg s i =
-      let w = sweep z p (λ r. has_added r ≡ 1) (gate-sweep hg) p.harts i.roles i.top s i.inv in
-      record {
-        roles = w.roles;
-        top = w.top;
-        turns = w.turns;
-        named = w.named;
-        inv = w.inv;
-        full = ones-total w.roles (λ k r e. w.all k r (let a = slice_get_within w.roles k r e in let b = w.inv.same in let d = w.inv.many in omega (arith, a, b, d)) e);
-      }
-
-  ended : HasEnd p → (s : State) → InPhase z p s → (ks : List ℕ) × Name p.harts ks × AllOver (run s ks)
-  ended he s i =
-      let w = sweep z p (λ r. r ≡ Over) (end-sweep he) p.harts i.roles i.top s i.inv in (
-        w.turns,
-        w.named,
-        λ k h e.
-            let f = found w.roles (run s w.turns).harts k h w.inv.same e in
-            let o = w.all k f.0 (let a = slice_get_within w.roles k f.0 f.1 in let b = w.inv.same in let d = w.inv.many in omega (arith, a, b, d)) f.1 in
-            (subst (Holds z p w.top (total has_added w.roles) (run s w.turns).memory k h) o (w.inv.holds k f.0 h f.1 e)).0,
-      )
-
 module _ (ph : ℕ → Phase) (last : ℕ) (g : Program ph last) where
   pub same-harts : (c : ℕ) → c ≤ last → (ph c).harts ≡ (ph 0).harts
   same-harts zero l = refl
   same-harts (suc c) l = sym (g.follows c (omega (arith, l))).link.harts ∙ same-harts c (omega (arith, l))
 
-  abbrev Names : List ℕ → Type 0
-  Names ks = Name (ph 0).harts ks
-
-  from : (d at : ℕ) (s : State) → at + d ≡ last → InPhase (prior ph at) (ph at) s → (ks : List ℕ) × Names ks × AllOver (run s ks)
-  from zero at s e i =
-      let q : last ≡ at = omega (arith, e) in
-      let le : at ≤ last = omega (arith, e) in
-      let w = ended (prior ph at) (ph at) (g.code at le) (g.tasks at le) (behind ph last g at le) (subst (λ c. HasEnd (ph c)) q g.leave) s i in
-      (w.0, subst (λ n. Name n w.0) (same-harts at le) w.1, w.2)
-  from (suc d) at s e i =
-      let p = ph at in
-      let le : at ≤ last = omega (arith, e) in
-      let follows = g.follows at (omega (arith, e)) in
-      let w = gated (prior ph at) p (g.code at le) (g.tasks at le) (behind ph last g at le) follows.link.waits s i in
-      let full : p.harts ≤ total has_added w.roles = let a = w.full in let b = w.inv.same in let c = w.inv.many in omega (arith, a, b, c) in
-      let j : InPhase p (ph (suc at)) (run s w.turns) = record {
-        roles = map come w.roles;
-        top = 0;
-        inv = passed (prior ph at) p (ph (suc at)) (run s w.turns) w.roles w.top w.inv full (g.some at le) follows;
-      } in
-      let r = from d (suc at) (run s w.turns) (omega (arith, e)) j in (
-        w.turns ++ r.0,
-        within-append (λ t. t < (ph 0).harts) w.turns r.0 (subst (λ n. Name n w.turns) (same-harts at le) w.named) r.1,
-        subst AllOver (sym (run-append s w.turns r.0)) r.2,
-      )
-
 pub below : (a b : ℕ) → a ≤ b → (d : ℕ) × (a + d ≡ b)
 below zero b l = (b, omega arith)
 below (suc a) zero l = absurd (omega (arith, l))
 below (suc a) (suc b) l = let r = below a b (omega (arith, l)) in let q = r.1 in (r.0, omega (arith, q))
-
-pub can-finish : CanFinish
-can-finish ph last entry memory turns g o =
-    let s = start (ph 0) entry memory in
-    let j = always ph last entry memory turns g o in
-    let d = below j.at last j.within in
-    let r = from ph last g d.0 j.at (run s turns) d.1 j.phase in
-    (r.0, r.1, ap all_finished (run-append s turns r.0) ∙ list-over (run (run s turns) r.0).harts r.2)

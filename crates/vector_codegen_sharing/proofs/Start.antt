@@ -88,6 +88,13 @@ pub opening-none : (ph : ℕ → Phase) (last entry : ℕ) (memory : List ℕ) (
 unfolding opening
 opening-none ph last entry memory g o k r e = let s = start (ph 0) entry memory in sym (ap has_added (each-setting (ph 0) s.memory s.harts k r e))
 
+-- where a run begins: each hart on its way to the first draw
+pub opening-first : (ph : ℕ → Phase) (last entry : ℕ) (memory : List ℕ) (g : Program ph last) (o : Opens (ph 0) entry memory)
+    → ((opening ph last entry memory g o).at ≡ 0) × ((opening ph last entry memory g o).phase.top ≡ 0)
+    × ((k : ℕ) (r : Role) → slice_get (opening ph last entry memory g o).phase.roles k ≡ Some r → r ≡ Inside Setup ((ph 0).turns Setup) memory)
+unfolding opening
+opening-first ph last entry memory g o = (refl, refl, λ k r e. sym (each-setting (ph 0) memory (start (ph 0) entry memory).harts k r e))
+
 -- the roles with which a run begins
 pub opening-starts : (ph : ℕ → Phase) (last entry : ℕ) (memory : List ℕ) (g : Program ph last) (o : Opens (ph 0) entry memory) → (roles : List Role) × Inv nowhere (ph 0) roles 0 (start (ph 0) entry memory) × ((k : ℕ) (r : Role) → slice_get roles k ≡ Some r → Early r)
 unfolding opening

@@ -4,8 +4,9 @@
 -- Task t of the first phase stores its number into its hart's own word, loads it back, adds 5 and leaves that in word 4 + t of the
 -- data. Task t of the second phase loads what the *other* task of the first phase left, adds 10 and leaves that in word 6 + t. So the
 -- words 6 and 7 are 16 and 15 wherever all harts have finished. Each task writes all bytes that it owns, a word at a time.
-use Rattle.std.specs.Prelude.{◌≡◌, ◌≤◌, ℕ, zero, suc, ◌+◌, ◌-◌, ◌/◌, ◌%◌, nat_lt, ◌==◌, if◌then◌else◌, List, [], ◌∷◌, length, slice_index, replicate, Bool, true}
+use Rattle.std.specs.Prelude.{◌≡◌, ◌≤◌, ℕ, zero, suc, ◌+◌, ◌-◌, ◌/◌, ◌%◌, ◌*◌, nat_lt, ◌==◌, if◌then◌else◌, List, [], ◌∷◌, ◌++◌, length, slice_index, replicate, Bool, true}
 use Rattle.std.specs.Int.{w32, to_le_bytes}
+use Rattle.std.specs.List.{concat}
 use Rattle.memory.specs.Addresses.{data_start}
 use Rattle.memory.specs.Access.{word_at}
 use Rattle.multi_hart.specs.Finished.{all_finished}
@@ -14,6 +15,7 @@ use Rattle.multi_hart_logic.specs.Uses.{Use, Control, Fixed, Owned, Private, Job
 use Rattle.vector_codegen_sharing.specs.Phases.{Phase}
 use Rattle.vector_codegen_sharing.specs.Solo.{TaskWrites}
 use Rattle.vector_codegen_sharing.specs.Programs.{Program, Opens}
+use Rattle.vector_codegen_sharing.specs.Fairness.{are_rounds, enough_rounds}
 
 -- from 0x00010000 on:
 --
@@ -176,3 +178,15 @@ ExampleResult =
     (harts : ℕ) (turns : List ℕ) → 1 ≤ harts → harts ≤ 8
     → let end = run (opened 0x00010000 example_text example_data harts) turns in all_finished end ≡ true
     → (word_at end.text end.memory 0x00200018 ≡ 16) × (word_at end.text end.memory 0x0020001C ≡ 15)
+
+-- How many rounds are enough for it. The tasks of the first phase take 11 turns each, with their draws, and those of the second 9; each
+-- hart's ways and waits take 10 and 8.
+abbrev pub example_rounds : ℕ → ℕ
+example_rounds harts = 2 * 11 + 2 * 9 + 18 * harts
+
+abbrev pub ExampleEnds : Type 0
+ExampleEnds =
+    (harts : ℕ) (turns : List ℕ) (rounds : List (List ℕ)) → 1 ≤ harts → harts ≤ 8
+    → (enough_rounds (example harts) 1 ≡ example_rounds harts)
+    × (are_rounds harts rounds ≡ true → example_rounds harts ≤ length rounds
+    → all_finished (run (opened 0x00010000 example_text example_data harts) (turns ++ concat rounds)) ≡ true)

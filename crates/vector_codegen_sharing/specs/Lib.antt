@@ -4,5 +4,7 @@ pub mod Solo
 pub mod Undisturbed
 pub mod Programs
 pub mod Promises
+pub mod Fairness
+pub mod Stuck
 pub mod Example
 pub mod Bridges

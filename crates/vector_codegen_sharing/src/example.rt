@@ -2,16 +2,23 @@
 
 ghost use Rattle.std.specs.Prelude.{◌≡◌, ◌≤◌, length, IfOk};
 ghost use Rattle.multi_hart.specs.Run.{opened};
-ghost use Rattle.vector_codegen_sharing.specs.Example.{example_text, example_data, ExampleIsProgram, ExampleResult};
+ghost use Rattle.vector_codegen_sharing.specs.Example.{example_text, example_data, ExampleIsProgram, ExampleResult, ExampleEnds};
+ghost use Rattle.vector_codegen_sharing.specs.Stuck.{NoCount};
 
 use multi_hart::Machine;
 use std::alloc::{AllocError, Global};
 
-/// The program of `specs/Example.antt` shares its work as the laws ask, with 1 to 8 harts, and leaves 16
-/// and 15 wherever all harts have finished.
+/// The program of `specs/Example.antt` shares its work as the laws ask, with 1 to 8 harts, leaves 16 and 15
+/// wherever all harts have finished, and ends on every fair list, within a count of rounds that is written there.
 pub fn two_phases()
     ensures program { ExampleIsProgram }
     ensures result { ExampleResult }
+    ensures ends { ExampleEnds }
+{}
+
+/// The program of `specs/Stuck.antt`, whose two harts wait at a gate for a third, ends within no count of rounds.
+pub fn waits_for_ever()
+    ensures { NoCount }
 {}
 
 /// The words of the program's text, the first at 0x0001_0000.

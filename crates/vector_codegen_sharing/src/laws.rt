@@ -2,6 +2,7 @@
 
 ghost use Rattle.vector_codegen_sharing.specs.Undisturbed.{DoneAmongOthers};
 ghost use Rattle.vector_codegen_sharing.specs.Bridges.{StandsThere, ThereStands, PathDoes};
+ghost use Rattle.vector_codegen_sharing.specs.Fairness.{FairEnds, FinishedStays, GatesGrow};
 ghost use Rattle.vector_codegen_sharing.specs.Promises.{NeverTraps, OneResult, NeverRaces, CanFinish, GateOnce, AloneStops, EveryAssignment, RulesKept};
 
 /// On every list of turns in which no other hart writes a byte that a job's run alone touches, the job is done
@@ -30,6 +31,18 @@ pub fn never_races()
 /// From every place of every list of turns some further turns of harts that are there make all harts finish.
 pub fn can_finish()
     ensures { CanFinish }
+{}
+
+/// Every fair list ends: after any list of turns, as many rounds as the phases say, in each of which every hart
+/// has at least one turn, make all harts finish.
+pub fn fair_ends()
+    ensures { FairEnds }
+{}
+
+/// Whatever turns follow, a hart that has finished is left as it is, and no gate word falls.
+pub fn what_is_done_stays()
+    ensures finished { FinishedStays }
+    ensures gates { GatesGrow }
 {}
 
 /// Each hart writes each gate word at most once, on every list of turns.

@@ -4,18 +4,19 @@
 //! of tasks from a ticket word by `amoadd.w`, do them, and before the next phase wait for one another at a gate word
 //! (`specs/Phases.antt` has this code and the registers that it uses). A task's code is known by its run
 //! alone (`specs/Solo.antt`) over bytes of which each is for one purpose (`multi_hart_logic`'s `specs/Uses.antt`); nothing of
-//! other harts enters there. What then holds on every list of turns is stated in `specs/Promises.antt`.
+//! other harts enters there. What then holds on every list of turns is stated in `specs/Promises.antt`, and that every fair
+//! list ends in `specs/Fairness.antt`.
 //!
-//! - [`laws`]: no hart traps, no race, one result, the end stays within reach, waiting at gates
-//!   alone, every assignment of tasks to harts, each turn by its phase's rule.
-//! - [`example`]: a program of two phases that meets every premise.
+//! - [`laws`]: no hart traps, no race, one result, the end stays within reach and comes on every fair list, waiting at
+//!   gates alone, every assignment of tasks to harts, each turn by its phase's rule.
+//! - [`example`]: a program of two phases that meets every premise, and one that waits at a gate for ever.
 #![tactic(auto)]
 
 pub mod example;
 pub mod laws;
 
-pub use crate::example::{example_machine, example_words, two_phases};
+pub use crate::example::{example_machine, example_words, two_phases, waits_for_ever};
 pub use crate::laws::{
-    alone_stops, can_finish, done_among_others, every_assignment, gate_once, never_races,
-    never_traps, one_result, paths_do_jobs, rules_kept,
+    alone_stops, can_finish, done_among_others, every_assignment, fair_ends, gate_once,
+    never_races, never_traps, one_result, paths_do_jobs, rules_kept, what_is_done_stays,
 };
