@@ -22,12 +22,13 @@ use Rattle.picture.specs.Evaluated.{judged}
 use Rattle.task_code_scalar.specs.declared.places.Places.{Places}
 use Rattle.vector_codegen_sharing.specs.Phases.{Phase as SharedPhase}
 use Rattle.vector_codegen_sharing.specs.Programs.{Program, Opens}
+use Rattle.vector_codegen_sharing.specs.Fairness.{enough_rounds}
 use Rattle.vector_codegen_sharing.specs.Promises.{OnlyBy, Waits, WrittenAs as SharedWrittenAs}
 use Rattle.vector_codegen_sharing.specs.Solo.{TaskWrites}
 use Rattle.vector_codegen_sharing.proofs.Assignments.{every-assignment}
 use Rattle.vector_codegen_sharing.proofs.Gates.{gate-once}
 use Rattle.vector_codegen_sharing.proofs.Races.{never-races}
-use Rattle.vector_codegen_sharing.proofs.Reach.{can-finish}
+use Rattle.vector_codegen_sharing.proofs.Fair.{can-finish, fair-ends}
 use Rattle.vector_codegen_sharing.proofs.Results.{never-traps, one-result}
 use Rattle.vector_codegen_sharing.proofs.Single.{alone-stops}
 use Rattle.vector_codegen.specs.PhaseCode.{program}
@@ -188,6 +189,7 @@ module _ (own : CompiledContents) (rules : IsCompiled own) (pictures : List Pict
         never_races = none-races;
         leaves_pixels = shows;
         can_finish = λ turns. can-finish steps last text_start bytes turns goes begins;
+        fair_ends = (enough_rounds steps last, λ turns rounds fair long. fair-ends steps last text_start bytes goes begins turns rounds fair long);
         gates_once = λ turns number hart l. let all = counted in gate-once steps last text_start bytes turns goes begins number hart (let one = count in omega (arith, l, all, one));
         stops_alone = λ turns hart l.
             subst (λ (n : ℕ). (more : List ℕ) × OnlyBy hart more

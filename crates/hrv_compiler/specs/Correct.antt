@@ -4,7 +4,7 @@
 -- Only the algorithm's pixels, the image, and the run of the machine from it are named here; nothing of loops, boxes or code.
 -- This project's own.
 use Rattle.std.specs.Prelude.{◌≡◌, ◌≢◌, ◌<◌, ◌≤◌, ◌⊎◌, ℕ, ◌+◌, ◌-◌, ◌*◌, ◌&&◌, nat_le, nat_lt, Bool, true, false, List, ◌++◌, length, slice_get, Option, Some, None}
-use Rattle.std.specs.List.{list_any}
+use Rattle.std.specs.List.{concat, list_any}
 use Rattle.memory.specs.Access.{word_at}
 use Rattle.hart_core.specs.declared.harts.Status.TheVariants.{Finished}
 use Rattle.hart_core.specs.HartState.{HartState}
@@ -15,6 +15,7 @@ use Rattle.multi_hart.specs.Run.{State, opened, run}
 use Rattle.multi_hart_logic.specs.Alone.{is_in}
 use Rattle.vector_codegen_sharing.specs.Programs.{gate_word}
 use Rattle.vector_codegen_sharing.specs.Promises.{NoTrap, Name, OnlyBy, Waits}
+use Rattle.vector_codegen_sharing.specs.Fairness.{are_rounds}
 use Rattle.vector_codegen_sharing.specs.Writers.{times_written}
 use Rattle.halide_pipeline.specs.Pipelines.{Pipeline}
 use Rattle.halide_pipeline.specs.Picture.{PictureContents}
@@ -76,6 +77,11 @@ pub record IsCorrect (pipeline : Pipeline) (pictures : List PictureContents) (ph
   pub leaves_pixels : (turns : List ℕ) → all_finished (run (opening image harts) turns) ≡ true → ShowsOutput pipeline pictures (run (opening image harts) turns) image.output
   -- from everywhere, further turns of these harts make all finish
   pub can_finish : (turns : List ℕ) → (more : List ℕ) × Name harts more × (all_finished (run (opening image harts) (turns ++ more)) ≡ true)
+  -- and after any turns so many rounds, in each of which every hart has at least one turn, make all finish; the count hangs on the image and on
+  -- the number of harts, and not on the turns
+  pub fair_ends : (count : ℕ)
+      × ((turns : List ℕ) (rounds : List (List ℕ)) → are_rounds harts rounds ≡ true → count ≤ length rounds
+      → all_finished (run (opening image harts) (turns ++ concat rounds)) ≡ true)
   -- each hart writes each gate word at most once
   pub gates_once : (turns : List ℕ) (phase hart : ℕ) → phase < phases → times_written hart (gate_word phase) (opening image harts) turns ≤ 1
   -- from everywhere a hart that is given turns alone finishes, or waits at the gate of a phase that isn't the last
