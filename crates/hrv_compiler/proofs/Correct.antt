@@ -23,7 +23,8 @@ use Rattle.task_code_scalar.specs.declared.places.Places.{Places}
 use Rattle.vector_codegen_sharing.specs.Phases.{Phase as SharedPhase}
 use Rattle.vector_codegen_sharing.specs.Programs.{Program, Opens}
 use Rattle.vector_codegen_sharing.specs.Fairness.{enough_rounds}
-use Rattle.vector_codegen_sharing.specs.Promises.{OnlyBy, Waits, WrittenAs as SharedWrittenAs}
+use Rattle.vector_codegen_sharing.specs.Promises.{WrittenAs as SharedWrittenAs}
+use Rattle.vector_codegen_sharing.specs.Turns.{OnlyBy, Waits, Race, control_words}
 use Rattle.vector_codegen_sharing.specs.Solo.{TaskWrites}
 use Rattle.vector_codegen_sharing.proofs.Assignments.{every-assignment}
 use Rattle.vector_codegen_sharing.proofs.Gates.{gate-once}
@@ -43,12 +44,10 @@ use Rattle.vector_codegen_laws.proofs.Sharing.{phases-are-shared}
 use Rattle.vector_codegen_laws.specs.Stages.{StagePlace, stages}
 use Rattle.hrv_compiler.specs.Assigned.{byte_of_point, WrittenAs, IsReached, IsAssigned}
 use Rattle.hrv_compiler.specs.Compiled.{CompiledContents, IsCompiled}
-use Rattle.hrv_compiler.specs.Correct.{opening, Race, ShowsOutput, IsCorrect, Correct}
+use Rattle.hrv_compiler.specs.Correct.{opening, ShowsOutput, IsCorrect, Correct}
 use Rattle.hrv_compiler.specs.Data.{image_data}
-use Rattle.hrv_compiler.specs.ControlWords.{control_words}
 use Rattle.hrv_compiler.specs.Images.{ArePictures, image_of}
 use Rattle.hrv_compiler.proofs.Asked.{answer-words}
-use Rattle.hrv_compiler.proofs.Control.{control-byte}
 use Rattle.hrv_compiler.proofs.Low.{layout_is}
 use Rattle.hrv_compiler.proofs.Nonempty.{some_phases}
 use Rattle.hrv_compiler.proofs.Counted.{phases-counted}
@@ -138,22 +137,8 @@ module _ (own : CompiledContents) (rules : IsCompiled own) (pictures : List Pict
 
       none-races : (turns : List ℕ) → Race (control_words own.boxes.layout.phases) (run (opening image harts) turns) → ⊥
       none-races turns race =
-          never-races steps last text_start bytes turns goes begins (record {
-            first = race.first;
-            second = race.second;
-            apart = race.apart;
-            one = race.one;
-            other = race.other;
-            is_first = race.is_first;
-            is_second = race.is_second;
-            place = race.place;
-            no_control = λ within.
-                let l = within.1 in
-                let all = counted in
-                true≢false (sym (control-byte own.boxes.layout.phases race.place within.0 (let one = count in omega (arith, l, all, one))) ∙ race.no_control);
-            written = race.written;
-            touched = race.touched;
-          })
+          never-races steps last text_start bytes turns goes begins
+          (subst (λ (n : ℕ). Race (control_words n) (run (opening image harts) turns)) (let all = counted in let one = count in omega (arith, all, one)) race)
 
       module _ (turns : List ℕ) (finished : all_finished (run (opening image harts) turns) ≡ true) where
         abbrev end : State

@@ -6,7 +6,6 @@ pub mod OutputBox
 pub mod Outputs
 pub mod Rooms
 pub mod Asked
-pub mod Control
 pub mod Opening
 pub mod Shown
 pub mod Correct

@@ -10,7 +10,7 @@ use Rattle.bounds.specs.Boxes.{extent}
 use Rattle.bounds.specs.Views.{extents_of}
 use Rattle.picture.specs.Evaluated.{judged}
 use Rattle.vector_codegen_sharing.specs.Promises.{RuleKept}
-use Rattle.vector_codegen_sharing.specs.Writers.{written_next}
+use Rattle.vector_codegen_sharing.specs.Turns.{written_next}
 use Rattle.vector_codegen_sharing.proofs.Races.{rules-kept}
 use Rattle.vector_codegen_laws.specs.Points.{RootPoint}
 use Rattle.vector_codegen_laws.specs.Runs.{IsOneRun}

@@ -14,9 +14,7 @@ use Rattle.halide_pipeline.specs.Pixel.{input_planes}
 use Rattle.schedule.specs.declared.schedules.Schedule.{Schedule}
 use Rattle.bounds.specs.declared.verdict.Boxes.{Boxes}
 use Rattle.loader.specs.Image.{ImageContents}
-use Rattle.vector_codegen_sharing.specs.Programs.{gate_word}
-use Rattle.vector_codegen_sharing.specs.Promises.{Name}
-use Rattle.vector_codegen_sharing.specs.Writers.{last_writer}
+use Rattle.vector_codegen_sharing.specs.Turns.{gate_word, Name, last_writer}
 use Rattle.vector_codegen_laws.specs.Points.{address_at}
 use Rattle.vector_codegen_laws.specs.Stages.{StagePlace, stages, iterations, writes}
 use Rattle.hrv_compiler.specs.Correct.{opening}

@@ -3,26 +3,19 @@
 --
 -- Only the algorithm's pixels, the image, and the run of the machine from it are named here; nothing of loops, boxes or code.
 -- This project's own.
-use Rattle.std.specs.Prelude.{◌≡◌, ◌≢◌, ◌<◌, ◌≤◌, ◌⊎◌, ℕ, ◌+◌, ◌-◌, ◌*◌, ◌&&◌, nat_le, nat_lt, Bool, true, false, List, ◌++◌, length, slice_get, Option, Some, None}
-use Rattle.std.specs.List.{concat, list_any}
+use Rattle.std.specs.Prelude.{◌≡◌, ◌<◌, ◌≤◌, ◌⊎◌, ℕ, ◌+◌, ◌-◌, ◌*◌, true, List, ◌++◌, length, slice_get, Option, Some, None}
+use Rattle.std.specs.List.{concat}
 use Rattle.memory.specs.Access.{word_at}
 use Rattle.hart_core.specs.declared.harts.Status.TheVariants.{Finished}
 use Rattle.hart_core.specs.HartState.{HartState}
-use Rattle.hart_core.specs.Turn.{next_of}
 use Rattle.multi_hart.specs.Finished.{all_finished}
-use Rattle.multi_hart.specs.Frame.{reads, writes}
 use Rattle.multi_hart.specs.Run.{State, opened, run}
-use Rattle.multi_hart_logic.specs.Alone.{is_in}
-use Rattle.vector_codegen_sharing.specs.Programs.{gate_word}
-use Rattle.vector_codegen_sharing.specs.Promises.{NoTrap, Name, OnlyBy, Waits}
-use Rattle.vector_codegen_sharing.specs.Fairness.{are_rounds}
-use Rattle.vector_codegen_sharing.specs.Writers.{times_written}
+use Rattle.vector_codegen_sharing.specs.Turns.{gate_word, NoTrap, Name, OnlyBy, Waits, are_rounds, times_written, control_words, Race}
 use Rattle.halide_pipeline.specs.Pipelines.{Pipeline}
 use Rattle.halide_pipeline.specs.Picture.{PictureContents}
 use Rattle.halide_pipeline.specs.Pixel.{output_pixel}
 use Rattle.loader.specs.Image.{ImageContents}
 use Rattle.loader.specs.declared.outputs.Output.{Output}
-use Rattle.hrv_compiler.specs.ControlWords.{control_words}
 
 -- ---- pixels
 
@@ -39,27 +32,6 @@ pub record ShowsPixels (pipeline : Pipeline) (pictures : List PictureContents) (
 abbrev pub ShowsOutput : Pipeline → List PictureContents → State → Option Output → Type 0
 ShowsOutput pipeline pictures state None = ⊥
 ShowsOutput pipeline pictures state (Some output) = ShowsPixels pipeline pictures state output
-
--- ---- races
-
--- the byte is one of these words
-abbrev pub is_byte_of : List ℕ → ℕ → Bool
-is_byte_of words place = list_any (λ word. nat_le word place && nat_lt place (word + 4)) words
-
--- Two harts' next turns both touch a byte that is in none of these words, and the first writes it. (A hart that doesn't run touches nothing,
--- and only bytes of data are written.)
-pub record Race (control : List ℕ) (state : State) : Type 0 where
-  pub first : ℕ
-  pub second : ℕ
-  pub apart : first ≢ second
-  pub one : HartState
-  pub other : HartState
-  pub is_first : slice_get state.harts first ≡ Some one
-  pub is_second : slice_get state.harts second ≡ Some other
-  pub place : ℕ
-  pub no_control : is_byte_of control place ≡ false
-  pub written : is_in place (writes (next_of state.text (length state.memory) one) one) ≡ true
-  pub touched : (is_in place (reads (next_of state.text (length state.memory) other) other) ≡ true) ⊎ (is_in place (writes (next_of state.text (length state.memory) other) other) ≡ true)
 
 -- ---- all of it
 

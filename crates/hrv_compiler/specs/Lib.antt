@@ -1,7 +1,6 @@
 pub mod Addresses
 pub mod Assigned
 pub mod Compiled
-pub mod ControlWords
 pub mod Correct
 pub mod Data
 pub mod Faults

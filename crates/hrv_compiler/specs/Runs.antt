@@ -16,7 +16,7 @@ use Rattle.lowering.specs.PurePhases.{IsAtRoot}
 use Rattle.lowering.specs.Runs.{is_vectorized_first}
 use Rattle.multi_hart.specs.Run.{run}
 use Rattle.vector_codegen_laws.specs.Runs.{IsOneRun}
-use Rattle.vector_codegen_sharing.specs.Writers.{written_next}
+use Rattle.vector_codegen_sharing.specs.Turns.{written_next}
 use Rattle.hrv_compiler.specs.Assigned.{byte_of_point}
 use Rattle.hrv_compiler.specs.Compiled.{CompiledContents}
 use Rattle.hrv_compiler.specs.Correct.{opening}

@@ -12,7 +12,7 @@ ghost use Rattle.schedule.specs.Accepted.{IsAccepted};
 ghost use Rattle.hrv_compiler.specs.Assigned.{IsAssigned};
 ghost use Rattle.hrv_compiler.specs.Compiled.{output_in, output_of};
 ghost use Rattle.hrv_compiler.specs.Correct.{Correct};
-ghost use Rattle.hrv_compiler.specs.ControlWords.{control_words};
+ghost use Rattle.vector_codegen_sharing.specs.Turns.{control_words};
 ghost use Rattle.hrv_compiler.specs.Images.{ArePictures, IsRefusedInput, image_of};
 ghost use Rattle.hrv_compiler.specs.Outputs.{Holds};
 ghost use Rattle.hrv_compiler.specs.Runs.{WritesWholeRuns};

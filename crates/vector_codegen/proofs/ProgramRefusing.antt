@@ -4,7 +4,7 @@ use Rattle.std.specs.Prelude.{◌==◌}
 use Rattle.std.specs.List.{AllByRecursion}
 use Rattle.loop_ir.specs.declared.statements.Phase.{Phase}
 use Rattle.memory.specs.Addresses.{most_words}
-use Rattle.vector_codegen_sharing.specs.Programs.{ticket_word}
+use Rattle.vector_codegen_sharing.specs.Turns.{ticket_word}
 use Rattle.task_code_scalar.specs.declared.places.Places.{Places}
 use Rattle.task_code.specs.Code.{stmt_code, task_code, task_scope, restored}
 use Rattle.task_code_scalar.specs.Words.{Emits}

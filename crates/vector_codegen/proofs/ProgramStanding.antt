@@ -5,7 +5,7 @@ use Rattle.std.proofs.Math.Seq.{take-length}
 use Rattle.std.proofs.lemmas.Bool.Decides.{nat_tests}
 use Rattle.std.proofs.lemmas.List.{append-nil}
 use Rattle.loop_ir.specs.declared.statements.Phase.{Phase}
-use Rattle.vector_codegen_sharing.specs.Programs.{ticket_word}
+use Rattle.vector_codegen_sharing.specs.Turns.{ticket_word}
 use Rattle.task_code_scalar.specs.declared.places.Places.{Places}
 use Rattle.task_code_scalar.specs.Words.{Emits}
 use Rattle.task_code.proofs.Finishing.{appended-stand}

@@ -17,7 +17,8 @@ use Rattle.multi_hart_logic.proofs.Jumps.{jump}
 use Rattle.vector_codegen_sharing.specs.Phases.{Phase, Stands, IsControl, Code, HasGate, HasEnd}
 use Rattle.vector_codegen_sharing.specs.Solo.{world, SoonDone, TaskDone, TaskWrites}
 use Rattle.vector_codegen_sharing.specs.Bridges.{numbers_of, Keep}
-use Rattle.vector_codegen_sharing.specs.Programs.{ticket_word, gate_word, IsControlByte, OfNoTask, Fresh, Link, Follows, Program, Opens}
+use Rattle.vector_codegen_sharing.specs.Programs.{IsControlByte, OfNoTask, Fresh, Link, Follows, Program, Opens}
+use Rattle.vector_codegen_sharing.specs.Turns.{ticket_word, gate_word}
 use Rattle.vector_codegen_sharing.proofs.Bridges.{at-numbers, stands-there, path-does}
 use Rattle.vector_codegen_sharing.proofs.Phases.{each-of}
 use Rattle.vector_codegen_sharing.proofs.ExampleWords.{zeros}

@@ -8,7 +8,7 @@ use Rattle.loop_ir.specs.declared.statements.Phase.{Phase}
 use Rattle.loop_ir.specs.Depths.{task_depth}
 use Rattle.loop_ir.specs.Needs.{greatest_need}
 use Rattle.loop_ir.specs.Sizes.{whole_size}
-use Rattle.vector_codegen_sharing.specs.Programs.{ticket_word}
+use Rattle.vector_codegen_sharing.specs.Turns.{ticket_word}
 use Rattle.task_code_scalar.specs.declared.CodeFault.{CodeFault}
 use Rattle.task_code_scalar.specs.declared.places.Places.{Places}
 use Rattle.task_code.specs.Code.{task_code}

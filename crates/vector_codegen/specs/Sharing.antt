@@ -8,7 +8,8 @@ use Rattle.multi_hart_logic.specs.Paths.{Stand, Block, Writes}
 use Rattle.vector_codegen_sharing.specs.Phases.{Phase}
 use Rattle.vector_codegen_sharing.specs.Solo.{world, Leaves, Begins, TaskWrites}
 use Rattle.vector_codegen_sharing.specs.Bridges.{numbers_of, Keep}
-use Rattle.vector_codegen_sharing.specs.Programs.{ticket_word, gate_word, IsControlByte, FoundBy, Program, Opens}
+use Rattle.vector_codegen_sharing.specs.Programs.{IsControlByte, FoundBy, Program, Opens}
+use Rattle.vector_codegen_sharing.specs.Turns.{ticket_word, gate_word}
 use Rattle.vector_codegen.specs.PhaseCode.{Part, program, begin, door_at, draw_at}
 
 -- what a phase is about, beside its code

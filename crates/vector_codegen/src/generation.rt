@@ -4,7 +4,7 @@ ghost use Rattle.std.specs.Prelude.{◌≡◌, ◌+◌, ◌<◌, ◌≤◌, ◌=
 ghost use Rattle.std.specs.List.{AllByRecursion};
 ghost use Rattle.task_code_scalar.specs.Words.{Emits};
 ghost use Rattle.vector_codegen.specs.PhaseCode.{phase_code, program};
-ghost use Rattle.vector_codegen_sharing.specs.Programs.{ticket_word};
+ghost use Rattle.vector_codegen_sharing.specs.Turns.{ticket_word};
 ghost use Rattle.vector_codegen.specs.Programs as spec;
 
 use crate::emit_phase;

@@ -8,7 +8,7 @@ use Rattle.schedule.specs.declared.schedules.Schedule.{Schedule}
 use Rattle.bounds.specs.declared.verdict.Boxes.{Boxes}
 use Rattle.bounds.specs.Views.{extents_of}
 use Rattle.bounds.specs.Parts.{Part, Control, Input as InputPart, Root, Copies, Frame, Outside}
-use Rattle.vector_codegen_sharing.specs.Programs.{ticket_word}
+use Rattle.vector_codegen_sharing.specs.Turns.{ticket_word}
 use Rattle.task_code.specs.Fitting.{task_turns}
 use Rattle.vector_codegen.specs.Sharing.{Matter}
 use Rattle.lowering.specs.Planes.{held}

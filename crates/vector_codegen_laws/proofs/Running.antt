@@ -21,7 +21,7 @@ use Rattle.bounds.specs.Verdict.{inferred}
 use Rattle.bounds.specs.Views.{extents_of}
 use Rattle.bounds_laws.specs.Closure.{is_within}
 use Rattle.multi_hart_logic.specs.Uses.{Owned, Given}
-use Rattle.vector_codegen_sharing.specs.Programs.{ticket_word}
+use Rattle.vector_codegen_sharing.specs.Turns.{ticket_word}
 use Rattle.loop_ir.specs.Buffers.{Points}
 use Rattle.loop_ir.specs.Running.{run_task, task_values}
 use Rattle.loop_ir.specs.Runs.{stores_in_runs}

@@ -36,7 +36,8 @@ use Rattle.multi_hart_logic.specs.Paths.{Stand, Block, Writes}
 use Rattle.vector_codegen_sharing.specs.Phases.{Phase as SharedPhase}
 use Rattle.vector_codegen_sharing.specs.Solo.{world, Begins}
 use Rattle.vector_codegen_sharing.specs.Bridges.{numbers_of}
-use Rattle.vector_codegen_sharing.specs.Programs.{ticket_word, IsControlByte, FoundBy}
+use Rattle.vector_codegen_sharing.specs.Programs.{IsControlByte, FoundBy}
+use Rattle.vector_codegen_sharing.specs.Turns.{ticket_word}
 use Rattle.vector_codegen_sharing.proofs.Bridges.{stands-there}
 use Rattle.task_code_scalar.specs.declared.places.Places.{Places}
 use Rattle.task_code.specs.Tasks.{HasDrawn, TaskEnds}

@@ -10,8 +10,7 @@ use Rattle.multi_hart_logic.specs.Uses.{Owned}
 use Rattle.vector_codegen_sharing.specs.Phases.{Phase, Code, HasGate, HasEnd}
 use Rattle.vector_codegen_sharing.specs.Solo.{TaskDone, TaskWrites}
 use Rattle.vector_codegen_sharing.proofs.Roles.{Role, Drawing, Looking, Over, Inv}
-use Rattle.vector_codegen_sharing.specs.Writers.{last_writer}
-use Rattle.vector_codegen_sharing.specs.Promises.{Name, OnlyBy}
+use Rattle.vector_codegen_sharing.specs.Turns.{last_writer, Name, OnlyBy}
 use Rattle.multi_hart.proofs.Resting.{run-append}
 use Rattle.vector_codegen_sharing.proofs.Keeping.{at-set}
 use Rattle.vector_codegen_sharing.proofs.Start.{Early}

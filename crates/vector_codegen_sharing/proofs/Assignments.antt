@@ -7,11 +7,11 @@ use Rattle.multi_hart.specs.Run.{State, run}
 use Rattle.multi_hart_logic.specs.Uses.{Owned}
 use Rattle.vector_codegen_sharing.specs.Phases.{Phase, HasEnd}
 use Rattle.vector_codegen_sharing.specs.Solo.{TaskWrites}
-use Rattle.vector_codegen_sharing.specs.Programs.{gate_word, Program, start}
+use Rattle.vector_codegen_sharing.specs.Programs.{Program, start}
+use Rattle.vector_codegen_sharing.specs.Turns.{gate_word, last_writer, Name}
 use Rattle.vector_codegen_sharing.proofs.Roles.{Role, Looking, has_added, total, Holds, Inv, prior}
 use Rattle.std.proofs.lemmas.List.{append_assoc}
-use Rattle.vector_codegen_sharing.specs.Writers.{last_writer}
-use Rattle.vector_codegen_sharing.specs.Promises.{Name, EveryAssignment}
+use Rattle.vector_codegen_sharing.specs.Promises.{EveryAssignment}
 use Rattle.multi_hart.proofs.Resting.{run-append}
 use Rattle.multi_hart.proofs.TurnByTurn.{shape-run}
 use Rattle.vector_codegen_sharing.proofs.Keeping.{found}

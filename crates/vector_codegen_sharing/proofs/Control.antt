@@ -31,7 +31,7 @@ use Rattle.multi_hart_logic.specs.Uses.{Use, Control, Fixed, Owned, Private, Tas
 use Rattle.vector_codegen_sharing.specs.Phases.{Phase, Kept, Stands, IsControl, Code, HasGate, HasEnd}
 use Rattle.vector_codegen_sharing.specs.Solo.{Begins, TaskDone, TaskWrites}
 use Rattle.vector_codegen_sharing.specs.Programs.{Link}
-use Rattle.vector_codegen_sharing.specs.Writers.{written_next, written_by_one}
+use Rattle.vector_codegen_sharing.specs.Turns.{written_next, written_by_one}
 use Rattle.vector_codegen_sharing.proofs.Roles.{Role, Before, Asked, Drawing, Drew, Inside, Adding, Looking, Looked, Leaving, Over, Has, is_past, has_added, total, Holds, Inv, Becomes, Turned}
 use Rattle.vector_codegen_sharing.proofs.Keeping.{Move, next, slice_get-set_same, total-set}
 use Rattle.vector_codegen_sharing.proofs.Turning.{effect-does, next-by, next-does, turn-is, total-same, inside-turn}

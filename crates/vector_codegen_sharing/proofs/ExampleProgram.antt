@@ -9,7 +9,8 @@ use Rattle.multi_hart.specs.Run.{run, opened}
 use Rattle.multi_hart_logic.specs.Uses.{Use, Control, Fixed, Private, Given, Shared}
 use Rattle.vector_codegen_sharing.specs.Phases.{Code, HasGate, HasEnd}
 use Rattle.vector_codegen_sharing.specs.Solo.{TaskDone, TaskWrites}
-use Rattle.vector_codegen_sharing.specs.Programs.{ticket_word, FoundBy, Follows, Program, Opens}
+use Rattle.vector_codegen_sharing.specs.Programs.{FoundBy, Follows, Program, Opens}
+use Rattle.vector_codegen_sharing.specs.Turns.{ticket_word}
 use Rattle.std.specs.Prelude.{negsuc, ◌/◌}
 use Rattle.vector_codegen_sharing.specs.Programs.{IsControlByte, OfNoTask}
 use Rattle.vector_codegen_sharing.specs.Example.{example_text, example_data, first_uses, second_uses, first_result, second_result, use_by, byte_by, first_phase, second_phase, example, ExampleIsProgram, ExampleResult, example_rounds, ExampleEnds}

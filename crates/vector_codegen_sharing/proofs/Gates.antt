@@ -11,10 +11,10 @@ use Rattle.multi_hart.specs.Frame.{Within}
 use Rattle.multi_hart.proofs.Framing.{slice_get-set_other}
 use Rattle.multi_hart_logic.specs.Uses.{Use, Control, Fixed, Owned, Private, Job, Task, Setup, MayWrite}
 use Rattle.vector_codegen_sharing.specs.Phases.{Phase}
-use Rattle.vector_codegen_sharing.specs.Programs.{gate_word, Program, start, Opens}
+use Rattle.vector_codegen_sharing.specs.Programs.{Program, start, Opens}
+use Rattle.vector_codegen_sharing.specs.Turns.{gate_word, is_word_in, or_known, last_written, times_written, written_next, written_by_one}
 use Rattle.vector_codegen_sharing.proofs.Roles.{Role, Before, Asked, Drawing, Drew, Inside, Adding, Looking, Looked, Leaving, Over, has_added, total, Becomes, prior, InProgram}
 use Rattle.vector_codegen_sharing.specs.Programs.{OfNoTask}
-use Rattle.vector_codegen_sharing.specs.Writers.{is_word_in, or_known, last_written, times_written, written_next, written_by_one}
 use Rattle.vector_codegen_sharing.specs.Promises.{GateOnce}
 use Rattle.vector_codegen_sharing.proofs.Keeping.{found, slice_get-set_same, Touch}
 use Rattle.vector_codegen_sharing.proofs.Control.{add-writes}

@@ -12,7 +12,8 @@ use Rattle.multi_hart.specs.Run.{State, turn, turned, run}
 use Rattle.multi_hart.specs.Frame.{Within}
 use Rattle.multi_hart.proofs.Framing.{places-are}
 use Rattle.vector_codegen_sharing.specs.Phases.{Phase}
-use Rattle.vector_codegen_sharing.specs.Programs.{gate_word, Link, Program}
+use Rattle.vector_codegen_sharing.specs.Programs.{Link, Program}
+use Rattle.vector_codegen_sharing.specs.Turns.{gate_word}
 use Rattle.vector_codegen_sharing.proofs.Roles.{Role, has_added, total, Becomes, prior, InProgram}
 use Rattle.multi_hart.proofs.Framing.{turn-is}
 use Rattle.vector_codegen_sharing.proofs.Keeping.{found, not-in, Touch, total-set}

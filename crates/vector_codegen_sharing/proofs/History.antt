@@ -12,12 +12,11 @@ use Rattle.multi_hart_logic.specs.Uses.{Control, Owned, Task, Setup}
 use Rattle.vector_codegen_sharing.specs.Phases.{Phase, Code, HasGate, HasEnd}
 use Rattle.vector_codegen_sharing.specs.Solo.{TaskDone, TaskWrites}
 use Rattle.vector_codegen_sharing.proofs.Roles.{Role, Before, Asked, Drawing, Drew, Inside, Adding, Looking, Looked, Leaving, Over, Has, has_added, Inv}
-use Rattle.vector_codegen_sharing.specs.Writers.{last_writer, written_next, written_by_one}
+use Rattle.vector_codegen_sharing.specs.Turns.{last_writer, written_next, written_by_one, OnlyBy}
 use Rattle.vector_codegen_sharing.proofs.Keeping.{found, Touch, InWord, owner}
 use Rattle.vector_codegen_sharing.proofs.Races.{writes-by, in-within}
 use Rattle.vector_codegen_sharing.proofs.Turning.{went-on, hart-there}
 use Rattle.vector_codegen_sharing.proofs.Control.{entered, gate-or-end}
-use Rattle.vector_codegen_sharing.specs.Promises.{OnlyBy}
 use Rattle.vector_codegen_sharing.proofs.Start.{Early}
 use Rattle.vector_codegen_sharing.proofs.Reach.{set-set, with-at, one, out, again, drawn, not-all}
 

@@ -2,6 +2,7 @@ pub mod Roles
 pub mod Keeping
 pub mod Turning
 pub mod Control
+pub mod ControlBytes
 pub mod Phases
 pub mod Ends
 pub mod Start

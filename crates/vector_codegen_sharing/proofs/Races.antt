@@ -1,6 +1,6 @@
 -- No race outside the control words.
 use Rattle.multi_hart_logic.specs.Alone.{Says, is_in}
-use Rattle.std.proofs.Common.{◌≡◌, ℕ, ◌+◌, ◌<◌, ◌≤◌, List, [], ◌∷◌, length, Option, Some, None, true, false, refl, ap, ◌∙◌, sym, subst, arith, inl, inr}
+use Rattle.std.proofs.Common.{◌≡◌, ℕ, suc, ◌+◌, ◌<◌, ◌≤◌, List, [], ◌∷◌, length, Option, Some, None, true, false, refl, ap, ◌∙◌, sym, subst, arith, inl, inr, true≢false}
 use Rattle.std.specs.Prelude.{◌≢◌, ◌==◌, slice_get, cond, pos}
 use Rattle.std.proofs.lemmas.Bool.{cases_eq}
 use Rattle.std.proofs.lemmas.Bool.Decides.{nat_tests}
@@ -21,11 +21,12 @@ use Rattle.multi_hart.specs.Frame.{reads, writes, Within}
 use Rattle.multi_hart_logic.specs.Uses.{Use, Control, Fixed, Owned, Private, Job, Task, Setup, MayRead, MayWrite}
 use Rattle.vector_codegen_sharing.specs.Phases.{Phase, IsControl, Code}
 use Rattle.vector_codegen_sharing.specs.Programs.{Link, Program, start}
-use Rattle.vector_codegen_sharing.specs.Writers.{written_by_one}
+use Rattle.vector_codegen_sharing.specs.Turns.{written_by_one, control_words, Race}
 use Rattle.vector_codegen_sharing.proofs.Roles.{Role, Before, Asked, Drawing, Drew, Inside, Adding, Looking, Looked, Leaving, Over, Has, has_added, total, Holds, Inv, InPhase, prior, InProgram}
-use Rattle.vector_codegen_sharing.specs.Promises.{Race, NeverRaces, RuleKept, RulesKept}
+use Rattle.vector_codegen_sharing.specs.Promises.{NeverRaces, RuleKept, RulesKept}
 use Rattle.vector_codegen_sharing.proofs.Keeping.{found, Touch, InWord, clash, inside-has, no-control-write, not-fixed}
 use Rattle.vector_codegen_sharing.proofs.Control.{gate-plus}
+use Rattle.vector_codegen_sharing.proofs.ControlBytes.{control-byte}
 use Rattle.vector_codegen_sharing.proofs.Start.{always}
 
 -- what a role's turn may read
@@ -162,8 +163,8 @@ writes-by z p c s roles top k h r v er eh =
     let x = (touches z p c top (total has_added roles) s.memory k h r (v.holds k r h er eh)).1 in
     subst (λ t. Within (Touch p k r) (writes (next_of t (length s.memory) h) h)) (sym v.text) (subst (λ n. Within (Touch p k r) (writes (next_of p.text n h) h)) (sym v.size) x)
 
-no-race : (z p : Phase) (c : Code p) (last : ℕ) (s : State) → InPhase z p s → (x : Race last s) → IsWord p x.place
-no-race z p c last s i x =
+no-race : (z p : Phase) (c : Code p) (control : List ℕ) (s : State) → InPhase z p s → (x : Race control s) → IsWord p x.place
+no-race z p c control s i x =
     let v = i.inv in
     let fr = found i.roles s.harts x.first x.one v.same x.is_first in
     let fq = found i.roles s.harts x.second x.other v.same x.is_second in
@@ -177,10 +178,10 @@ no-race z p c last s i x =
 pub never-races : NeverRaces
 never-races ph last entry memory turns g o x =
     let i = always ph last entry memory turns g o in
-    let w = no-race (prior ph i.at) (ph i.at) (g.code i.at i.within) last (run (start (ph 0) entry memory) turns) i.phase x in
+    let w = no-race (prior ph i.at) (ph i.at) (g.code i.at i.within) (control_words (suc last)) (run (start (ph 0) entry memory) turns) i.phase x in
     let t = g.tickets i.at i.within in
     let a = w.0 in let b = w.1 in let l = i.within in
-    x.no_control (omega (arith, t, a, l), omega (arith, t, b, l))
+    true≢false (sym (control-byte (suc last) x.place (omega (arith, t, a, l)) (omega (arith, t, b, l))) ∙ x.no_control)
 
 -- ---- each turn keeps the rule of a phase
 

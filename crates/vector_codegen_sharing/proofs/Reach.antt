@@ -14,9 +14,8 @@ use Rattle.vector_codegen_sharing.specs.Solo.{TaskDone}
 use Rattle.vector_codegen_sharing.specs.Programs.{Program}
 use Rattle.multi_hart.proofs.Resting.{run-append}
 use Rattle.hart_core.specs.HartState.{HartState}
-use Rattle.vector_codegen_sharing.specs.Writers.{or_known, last_written, is_word_in, written_next}
+use Rattle.vector_codegen_sharing.specs.Turns.{or_known, last_written, is_word_in, written_next, OnlyBy, Name}
 use Rattle.vector_codegen_sharing.proofs.Roles.{Role, Before, Asked, Drawing, Drew, Inside, Adding, Looking, Looked, Leaving, Over, has_added, total, Holds, Inv, Turned}
-use Rattle.vector_codegen_sharing.specs.Promises.{OnlyBy, Name}
 use Rattle.vector_codegen_sharing.proofs.Keeping.{found, slice_get-set_same}
 use Rattle.vector_codegen_sharing.proofs.Control.{hart-turn, gate-or-end, add-writes, added-most, total-most}
 

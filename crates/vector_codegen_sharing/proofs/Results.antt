@@ -10,7 +10,8 @@ use Rattle.vector_codegen_sharing.specs.Programs.{start}
 use Rattle.vector_codegen_sharing.proofs.Roles.{prior}
 use Rattle.std.specs.List.{list_all}
 use Rattle.hart_core.specs.HartState.{has_finished}
-use Rattle.vector_codegen_sharing.specs.Promises.{NoTrap, NeverTraps, OneResult}
+use Rattle.vector_codegen_sharing.specs.Promises.{NeverTraps, OneResult}
+use Rattle.vector_codegen_sharing.specs.Turns.{NoTrap}
 use Rattle.vector_codegen_sharing.proofs.Ends.{Sound, sound, at-end}
 use Rattle.vector_codegen_sharing.proofs.Start.{always}
 

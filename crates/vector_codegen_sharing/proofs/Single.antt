@@ -7,9 +7,9 @@ use Rattle.hart_core.specs.declared.harts.Status.TheVariants.{Finished as Done}
 use Rattle.hart_core.specs.HartState.{HartState}
 use Rattle.multi_hart.specs.Run.{State, run}
 use Rattle.vector_codegen_sharing.specs.Phases.{Phase, HasGate, HasEnd}
-use Rattle.vector_codegen_sharing.specs.Programs.{gate_word, Program, start}
-use Rattle.vector_codegen_sharing.specs.Writers.{is_word_in, last_written}
-use Rattle.vector_codegen_sharing.specs.Promises.{OnlyBy, AloneStops}
+use Rattle.vector_codegen_sharing.specs.Programs.{Program, start}
+use Rattle.vector_codegen_sharing.specs.Turns.{gate_word, is_word_in, last_written, OnlyBy}
+use Rattle.vector_codegen_sharing.specs.Promises.{AloneStops}
 use Rattle.multi_hart.proofs.Resting.{run-append}
 use Rattle.multi_hart.proofs.TurnByTurn.{shape-run}
 use Rattle.vector_codegen_sharing.proofs.Keeping.{slice_get-set_same}

@@ -12,7 +12,7 @@ use Rattle.hart_core.specs.HartState.{HartState}
 use Rattle.multi_hart.specs.Finished.{all_finished}
 use Rattle.multi_hart.specs.Run.{State, run}
 use Rattle.multi_hart.proofs.Resting.{run-append}
-use Rattle.vector_codegen_sharing.specs.Fairness.{are_rounds}
+use Rattle.vector_codegen_sharing.specs.Turns.{are_rounds}
 use Rattle.vector_codegen_sharing.specs.Stuck.{stuck, NoCount}
 
 -- both harts have counted themselves, and look at the gate

@@ -15,7 +15,7 @@ use Rattle.vector_codegen_sharing.specs.Phases.{Phase, Stands}
 use Rattle.multi_hart_logic.specs.Alone.{is_in, touches}
 use Rattle.vector_codegen_sharing.specs.Solo.{Leaves, SoonDone}
 use Rattle.multi_hart.proofs.Framing.{others-stay}
-use Rattle.vector_codegen_sharing.specs.Writers.{written_by_one}
+use Rattle.vector_codegen_sharing.specs.Turns.{written_by_one}
 use Rattle.vector_codegen_sharing.specs.Undisturbed.{turns_of, Undisturbed, LeavesAmong, DoneAmongOthers}
 use Rattle.multi_hart.proofs.TurnByTurn.{shape-turn}
 use Rattle.vector_codegen_sharing.proofs.Keeping.{slice_get-set_same, not-in, moved}

@@ -15,7 +15,8 @@ use Rattle.multi_hart_logic.specs.Uses.{Use, Control, Fixed, Owned, Private, Job
 use Rattle.vector_codegen_sharing.specs.Phases.{Phase}
 use Rattle.vector_codegen_sharing.specs.Solo.{TaskWrites}
 use Rattle.vector_codegen_sharing.specs.Programs.{Program, Opens}
-use Rattle.vector_codegen_sharing.specs.Fairness.{are_rounds, enough_rounds}
+use Rattle.vector_codegen_sharing.specs.Fairness.{enough_rounds}
+use Rattle.vector_codegen_sharing.specs.Turns.{are_rounds}
 
 -- from 0x00010000 on:
 --

@@ -1,27 +1,17 @@
 -- Every fair list ends. A list of turns is fair as long as every hart goes on having turns, and how far it has come is told by rounds: in a
 -- round every hart has at least one turn. So many rounds are enough for all harts to finish, whatever turns came before, whichever
 -- turns each round has, and in whatever order. The count hangs on the phases alone, and not on the list. This project's own.
-use Rattle.std.specs.Prelude.{◌≡◌, ◌≤◌, ℕ, zero, suc, ◌+◌, ◌*◌, ◌&&◌, Bool, true, List, ◌++◌, length, slice_get, Some}
-use Rattle.std.specs.List.{concat, list_all}
+use Rattle.std.specs.Prelude.{◌≡◌, ◌≤◌, ℕ, zero, suc, ◌+◌, ◌*◌, true, List, ◌++◌, length, slice_get, Some}
+use Rattle.std.specs.List.{concat}
 use Rattle.memory.specs.Access.{word_at}
 use Rattle.hart_core.specs.declared.harts.Status.TheVariants.{Finished}
 use Rattle.hart_core.specs.HartState.{HartState}
 use Rattle.multi_hart.specs.Finished.{all_finished}
 use Rattle.multi_hart.specs.Run.{State, run}
 use Rattle.multi_hart_logic.specs.Uses.{Task, Setup}
-use Rattle.multi_hart_logic.specs.Alone.{is_in}
 use Rattle.vector_codegen_sharing.specs.Phases.{Phase}
-use Rattle.vector_codegen_sharing.specs.Programs.{Program, Opens, start, gate_word}
-
--- ---- rounds
-
--- each hart below `harts` has a turn among these; it may have more, and turns of harts that aren't there do nothing
-abbrev pub is_round : ℕ → List ℕ → Bool
-is_round zero turns = true
-is_round (suc hart) turns = is_in hart turns && is_round hart turns
-
-abbrev pub are_rounds : ℕ → List (List ℕ) → Bool
-are_rounds harts rounds = list_all (is_round harts) rounds
+use Rattle.vector_codegen_sharing.specs.Programs.{Program, Opens, start}
+use Rattle.vector_codegen_sharing.specs.Turns.{gate_word, are_rounds}
 
 -- ---- how many are enough
 

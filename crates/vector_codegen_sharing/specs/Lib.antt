@@ -1,5 +1,5 @@
 pub mod Phases
-pub mod Writers
+pub mod Turns
 pub mod Solo
 pub mod Undisturbed
 pub mod Programs

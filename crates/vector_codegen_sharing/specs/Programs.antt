@@ -10,12 +10,7 @@ use Rattle.multi_hart.specs.Run.{State, opened}
 use Rattle.multi_hart_logic.specs.Uses.{Use, Control, Fixed, Owned, Private, Shared, Setup}
 use Rattle.vector_codegen_sharing.specs.Phases.{Phase, Stands, IsControl, Code, HasGate, HasEnd}
 use Rattle.vector_codegen_sharing.specs.Solo.{SoonDone, TaskDone}
-
-abbrev pub ticket_word : ℕ → ℕ
-ticket_word phase = data_start + 8 * phase
-
-abbrev pub gate_word : ℕ → ℕ
-gate_word phase = data_start + 8 * phase + 4
+use Rattle.vector_codegen_sharing.specs.Turns.{ticket_word}
 
 -- a byte of a ticket word or of a gate word of the phases 0 to `last`
 abbrev pub IsControlByte : ℕ → ℕ → Type 0

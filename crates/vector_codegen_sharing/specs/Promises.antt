@@ -1,25 +1,19 @@
 -- What holds on every list of turns of a program that shares its work, for every number of harts. This project's own.
-use Rattle.std.specs.Prelude.{◌≡◌, ◌≢◌, ◌<◌, ◌≤◌, ◌⊎◌, ℕ, true, List, [], ◌∷◌, ◌++◌, length, slice_get, Some, None}
-use Rattle.rv_insn.specs.declared.outcomes.Trap.{Trap}
+use Rattle.std.specs.Prelude.{◌≡◌, ◌≢◌, ◌<◌, ◌≤◌, ◌⊎◌, ℕ, suc, true, List, ◌∷◌, ◌++◌, length, slice_get, Some, None}
 use Rattle.memory.specs.Addresses.{byte_at}
 use Rattle.memory.specs.Access.{word_at}
-use Rattle.hart_core.specs.declared.harts.Status.TheVariants.{Finished, Trapped as HasTrapped}
+use Rattle.hart_core.specs.declared.harts.Status.TheVariants.{Finished}
 use Rattle.hart_core.specs.HartState.{HartState}
-use Rattle.hart_core.specs.Turn.{next_of}
 use Rattle.multi_hart.specs.Finished.{all_finished}
-use Rattle.multi_hart.specs.Frame.{reads, writes, Within}
 use Rattle.multi_hart.specs.Run.{State, run}
 use Rattle.multi_hart_logic.specs.Uses.{Fixed, Owned}
 use Rattle.multi_hart_logic.specs.Alone.{is_in}
 use Rattle.vector_codegen_sharing.specs.Phases.{Phase}
 use Rattle.vector_codegen_sharing.specs.Solo.{TaskWrites}
-use Rattle.vector_codegen_sharing.specs.Programs.{IsControlByte, Program, Opens, start, gate_word}
-use Rattle.vector_codegen_sharing.specs.Writers.{last_writer, last_written, is_word_in, times_written, written_next}
+use Rattle.vector_codegen_sharing.specs.Programs.{Program, Opens, start}
+use Rattle.vector_codegen_sharing.specs.Turns.{gate_word, last_writer, times_written, written_next, control_words, NoTrap, Race, Name, OnlyBy, Waits}
 
 -- ---- no hart traps at any place of any list
-
-abbrev pub NoTrap : State → Type 0
-NoTrap state = (number : ℕ) (hart : HartState) (trap : Trap) → slice_get state.harts number ≡ Some hart → hart.status ≢ HasTrapped trap
 
 abbrev pub NeverTraps : Type 0
 NeverTraps =
@@ -35,33 +29,14 @@ OneResult =
     → ((address task : ℕ) → task < (phases last).tasks → (phases last).uses address ≡ Owned task → byte_at end.text end.memory address ≡ (phases last).result address)
     × ((address : ℕ) → (phases last).uses address ≡ Fixed → byte_at end.text end.memory address ≡ (phases last).start address)
 
--- ---- no race
-
--- Two harts' next turns both touch a byte, the first writes it, and it is no control byte. (A hart that doesn't run
--- touches nothing, and only bytes of data are written.)
-pub record Race (last : ℕ) (state : State) : Type 0 where
-  pub first : ℕ
-  pub second : ℕ
-  pub apart : first ≢ second
-  pub one : HartState
-  pub other : HartState
-  pub is_first : slice_get state.harts first ≡ Some one
-  pub is_second : slice_get state.harts second ≡ Some other
-  pub place : ℕ
-  pub no_control : IsControlByte last place → ⊥
-  pub written : is_in place (writes (next_of state.text (length state.memory) one) one) ≡ true
-  pub touched : (is_in place (reads (next_of state.text (length state.memory) other) other) ≡ true) ⊎ (is_in place (writes (next_of state.text (length state.memory) other) other) ≡ true)
+-- ---- no race: what two harts touch at once, one of them writing, is a byte of a control word
 
 abbrev pub NeverRaces : Type 0
 NeverRaces =
     (phases : ℕ → Phase) (last entry : ℕ) (memory turns : List ℕ) → Program phases last → Opens (phases 0) entry memory
-    → Race last (run (start (phases 0) entry memory) turns) → ⊥
+    → Race (control_words (suc last)) (run (start (phases 0) entry memory) turns) → ⊥
 
 -- ---- from every place of every list some further list makes all harts finish
-
--- the turns are of harts that are there
-abbrev pub Name : ℕ → List ℕ → Type 0
-Name harts turns = Within (λ turning. turning < harts) turns
 
 abbrev pub CanFinish : Type 0
 CanFinish =
@@ -75,18 +50,6 @@ abbrev pub GateOnce : Type 0
 GateOnce =
     (phases : ℕ → Phase) (last entry : ℕ) (memory turns : List ℕ) → Program phases last → Opens (phases 0) entry memory
     → (k hart : ℕ) → k ≤ last → times_written hart (gate_word k) (start (phases 0) entry memory) turns ≤ 1
-
--- turns of one hart alone
-abbrev pub OnlyBy : ℕ → List ℕ → Type 0
-OnlyBy hart [] = Unit {0}
-OnlyBy hart (turning ∷ turns) = (turning ≡ hart) × OnlyBy hart turns
-
--- the hart's last writing turn wrote the gate word of a phase that isn't the last, which is below the number of harts
-pub record Waits (last hart : ℕ) (begin : State) (turns : List ℕ) : Type 0 where
-  pub k : ℕ
-  pub within : k < last
-  pub wrote : is_word_in (gate_word k) (last_written hart [] begin turns) ≡ true
-  pub below : word_at (run begin turns).text (run begin turns).memory (gate_word k) < length begin.harts
 
 -- from every place each hart, given turns alone, finishes or comes to a place where it waits at a gate that isn't full
 abbrev pub AloneStops : Type 0

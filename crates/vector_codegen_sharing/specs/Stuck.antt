@@ -6,7 +6,7 @@ use Rattle.hart_core.specs.declared.harts.Status.TheVariants.{Running}
 use Rattle.hart_core.specs.HartState.{HartState}
 use Rattle.multi_hart.specs.Finished.{all_finished}
 use Rattle.multi_hart.specs.Run.{State, opened, run}
-use Rattle.vector_codegen_sharing.specs.Fairness.{are_rounds}
+use Rattle.vector_codegen_sharing.specs.Turns.{are_rounds}
 
 -- from 0x00010000 on:
 --

@@ -9,7 +9,7 @@ use Rattle.multi_hart_logic.specs.Uses.{Owned, Job, Task, Setup}
 use Rattle.multi_hart_logic.specs.Alone.{touches}
 use Rattle.vector_codegen_sharing.specs.Phases.{Phase, Stands}
 use Rattle.vector_codegen_sharing.specs.Solo.{SoonDone}
-use Rattle.vector_codegen_sharing.specs.Writers.{written_next}
+use Rattle.vector_codegen_sharing.specs.Turns.{written_next}
 
 -- how many of the turns are the hart's
 abbrev pub turns_of : ℕ → List ℕ → ℕ

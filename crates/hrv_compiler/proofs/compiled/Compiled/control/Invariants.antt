@@ -1,5 +1,5 @@
 use Rattle.std.proofs.Common.{◌≡◌}
-use Rattle.hrv_compiler.specs.ControlWords.{control_words}
+use Rattle.vector_codegen_sharing.specs.Turns.{control_words}
 use Rattle.hrv_compiler.proofs.compiled.Compiled.control.Given as goal
 
 abbrev pub invariant-loop-phase : goal.invariant-loop-phase

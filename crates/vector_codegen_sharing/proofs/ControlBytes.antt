@@ -4,9 +4,7 @@ use Rattle.std.specs.Prelude.{◌&&◌, ◌||◌, nat_le, nat_lt}
 use Rattle.std.proofs.lemmas.Bool.{cases_lt, le-leb, lt-ltb, and_from}
 use Rattle.std.proofs.lemmas.List.Folds.{list_any-append}
 use Rattle.memory.specs.Addresses.{data_start}
-use Rattle.vector_codegen_sharing.specs.Programs.{ticket_word, gate_word}
-use Rattle.hrv_compiler.specs.Correct.{is_byte_of}
-use Rattle.hrv_compiler.specs.ControlWords.{control_words}
+use Rattle.vector_codegen_sharing.specs.Turns.{ticket_word, gate_word, is_byte_of, control_words}
 
 left-true : (a b : Bool) → a ≡ true → (a || b) ≡ true
 left-true true b e = refl
