@@ -63,11 +63,13 @@ pub gates-grow : GatesGrow
 gates-grow ph last entry memory turns more g o k l =
     let s0 = start (ph 0) entry memory in
     let s = run s0 turns in
-    subst (λ t. arrived s k ≤ arrived t k) (sym (run-append s0 turns more)) (grows-run ph last g more s (all ph last g s0 turns (opening ph last entry memory g o)) k l)
+    let i = all ph last g s0 turns (opening ph last entry memory g o) in
+    subst (λ t. arrived s k ≤ arrived t k) (sym (run-append s0 turns more)) (grows-run ph last g more s i k l)
 
 -- ---- somebody moves, or all have finished
 
-none-or-some : (f : Role → ℕ) (rs : List Role) → ((k : ℕ) (r : Role) → slice_get rs k ≡ Some r → f r ≡ 0) ⊎ ((k : ℕ) × (r : Role) × (slice_get rs k ≡ Some r) × (0 < f r))
+none-or-some : (f : Role → ℕ) (rs : List Role)
+    → ((k : ℕ) (r : Role) → slice_get rs k ≡ Some r → f r ≡ 0) ⊎ ((k : ℕ) × (r : Role) × (slice_get rs k ≡ Some r) × (0 < f r))
 none-or-some f [] = inl (λ k r e. absurd (cc e))
 none-or-some f (x ∷ rs) = elim (cases_eq (f x) 0) [
   | inr n ↦ inr (0, x, refl, omega (arith, n))
@@ -137,7 +139,8 @@ module _ (ph : ℕ → Phase) (last : ℕ) (g : Program ph last) where
   other-in : (k x : ℕ) (ks : List ℕ) → x ≢ k → is_in k (x ∷ ks) ≡ true → is_in k ks ≡ true
   other-in k x ks n e = let f : (k == x) ≡ false = grind (arith, nat_tests) in ap (λ b. cond b true (is_in k ks)) (sym f) ∙ e
 
-  passes : (ks : List ℕ) (s : State) (i : InProgram ph last s) (k : ℕ) (r : Role) → slice_get i.phase.roles k ≡ Some r → 0 < weight (ph i.at) r → is_in k ks ≡ true
+  passes : (ks : List ℕ) (s : State) (i : InProgram ph last s) (k : ℕ) (r : Role)
+      → slice_get i.phase.roles k ≡ Some r → 0 < weight (ph i.at) r → is_in k ks ≡ true
       → left_at ph last g (run s ks) (all ph last g s ks i) < left_at ph last g s i
   unfolding all
   passes [] s i k r e l is = absurd (cc is)
@@ -162,7 +165,8 @@ module _ (ph : ℕ → Phase) (last : ℕ) (g : Program ph last) where
         | inr d ↦ in-round n ks k (omega (arith, l, d)) a.1
       ]
 
-  rounds-end : (rounds : List (List ℕ)) (s : State) (i : InProgram ph last s) → left_at ph last g s i ≤ length rounds → are_rounds (ph i.at).harts rounds ≡ true → AllOver (run s (concat rounds))
+  rounds-end : (rounds : List (List ℕ)) (s : State) (i : InProgram ph last s)
+      → left_at ph last g s i ≤ length rounds → are_rounds (ph i.at).harts rounds ≡ true → AllOver (run s (concat rounds))
   rounds-end [] s i l e = elim (moves s i) [
     | inl a ↦ a
     | inr y ↦ let w = left-some ph last i.at i.phase.roles i.phase.top y.0 y.1 y.2 in let q = y.3 in absurd (omega (arith, w, q, l))
@@ -172,7 +176,8 @@ module _ (ph : ℕ → Phase) (last : ℕ) (g : Program ph last) where
     | inr y ↦
         let n = (ph i.at).harts in
         let parts = and_parts (is_round n ks) (are_rounds n rounds) e in
-        let there : y.0 < n = let a = slice_get_within i.phase.roles y.0 y.1 y.2 in let b = i.phase.inv.same in let c = i.phase.inv.many in omega (arith, a, b, c) in
+        let there : y.0 < n =
+        let a = slice_get_within i.phase.roles y.0 y.1 y.2 in let b = i.phase.inv.same in let c = i.phase.inv.many in omega (arith, a, b, c) in
         let d = passes ks s i y.0 y.1 y.2 y.3 (in-round n ks y.0 there parts.0) in
         let j = all ph last g s ks i in
         let same : (ph j.at).harts ≡ n = sym j.phase.inv.many ∙ (shape-run s ks).harts ∙ i.phase.inv.many in
@@ -180,13 +185,16 @@ module _ (ph : ℕ → Phase) (last : ℕ) (g : Program ph last) where
         subst AllOver (sym (run-append s ks (concat rounds))) r
   ]
 
-opening-left : (ph : ℕ → Phase) (last entry : ℕ) (memory : List ℕ) (g : Program ph last) (o : Opens (ph 0) entry memory) → left_at ph last g (start (ph 0) entry memory) (opening ph last entry memory g o) ≤ enough_rounds ph last
+opening-left : (ph : ℕ → Phase) (last entry : ℕ) (memory : List ℕ) (g : Program ph last) (o : Opens (ph 0) entry memory)
+    → left_at ph last g (start (ph 0) entry memory) (opening ph last entry memory g o) ≤ enough_rounds ph last
 opening-left ph last entry memory g o =
     let i = opening ph last entry memory g o in
     let f = opening-first ph last entry memory g o in
-    let e : left ph last i.at i.phase.roles i.phase.top ≡ left ph last 0 i.phase.roles 0 = ap (λ c. left ph last c i.phase.roles i.phase.top) f.0 ∙ ap (left ph last 0 i.phase.roles) f.1 in
+    let e : left ph last i.at i.phase.roles i.phase.top ≡ left ph last 0 i.phase.roles 0 =
+    ap (λ c. left ph last c i.phase.roles i.phase.top) f.0 ∙ ap (left ph last 0 i.phase.roles) f.1 in
     let many : length i.phase.roles ≡ (ph 0).harts = i.phase.inv.same ∙ i.phase.inv.many ∙ ap (λ c. (ph c).harts) f.0 in
-    let most = left-first ph last i.phase.roles many (λ k r er. let q : weight (ph 0) r ≡ (ph 0).turns Setup + 4 = ap (weight (ph 0)) (f.2 k r er) in omega (arith, q)) in
+    let most =
+    left-first ph last i.phase.roles many (λ k r er. let q : weight (ph 0) r ≡ (ph 0).turns Setup + 4 = ap (weight (ph 0)) (f.2 k r er) in omega (arith, q)) in
     omega (arith, e, most)
 
 pub fair-ends : FairEnds
@@ -238,7 +246,10 @@ repeated : (n count : ℕ) → (are_rounds n (replicate count (everyone n)) ≡ 
 repeated n zero = (refl, tt)
 repeated n (suc count) =
     let r = repeated n count in
-    (ap (λ b. b && are_rounds n (replicate count (everyone n))) (everyone-round n) ∙ r.0, within-append (λ t. t < n) (everyone n) (concat (replicate count (everyone n))) (everyone-named n n (omega arith)) r.1)
+    let rounds = replicate count (everyone n) in (
+      ap (λ b. b && are_rounds n rounds) (everyone-round n) ∙ r.0,
+      within-append (λ t. t < n) (everyone n) (concat rounds) (everyone-named n n (omega arith)) r.1,
+    )
 
 pub can-finish : CanFinish
 can-finish ph last entry memory turns g o =

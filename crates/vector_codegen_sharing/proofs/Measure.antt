@@ -109,7 +109,8 @@ undrawn-more : (p : Phase) (top : ℕ) → top < p.tasks → undrawn p top ≡ p
 unfolding undrawn
 undrawn-more p top l =
     let a = sum-from-more (task_turns p) top (p.tasks - top) (p.tasks - suc top) (omega (arith, l)) in
-    let e : sum_from (task_turns p) (suc top) (p.tasks - suc top) ≡ sum_from (task_turns p) (top + 1) (p.tasks - (top + 1)) = ap (λ m. sum_from (task_turns p) m (p.tasks - m)) (omega arith) in
+    let e : sum_from (task_turns p) (suc top) (p.tasks - suc top) ≡ sum_from (task_turns p) (top + 1) (p.tasks - (top + 1)) =
+    ap (λ m. sum_from (task_turns p) m (p.tasks - m)) (omega arith) in
     omega (arith, a, e)
 
 undrawn-none : (p : Phase) (top : ℕ) → p.tasks ≤ top → undrawn p top ≡ 0
@@ -136,7 +137,9 @@ less : (p : Phase) (r r1 : Role) (top top1 : ℕ) → top1 ≡ top → weight p 
 less p r r1 top top1 e l = inl (let a : undrawn p top1 ≡ undrawn p top = ap (undrawn p) e in omega (arith, a, l))
 
 brings : (p : Phase) (top shut : ℕ) (r r1 : Role) (top1 : ℕ) → Becomes p top shut r r1 top1 → Brings p r top r1 top1
-brings p top shut Before r1 top1 b = less p Before r1 top top1 b.0 (let a : weight p r1 ≡ asked_weight p p.harts = ap (weight p) b.1 in let d = asked-in p p.harts refl in omega (arith, a, d))
+brings p top shut Before r1 top1 b =
+    less p Before r1 top top1 b.0
+    (let a : weight p r1 ≡ asked_weight p p.harts = ap (weight p) b.1 in let d = asked-in p p.harts refl in omega (arith, a, d))
 brings p top shut (Asked g) r1 top1 b = less p (Asked g) r1 top top1 b.0 (elim b.1 [
   | inl x ↦ let a : weight p r1 ≡ p.turns Setup + 4 = ap (weight p) x.1.1 in let d = asked-in p g x.0 in omega (arith, a, d)
   | inr x ↦ let a : weight p r1 ≡ p.turns Setup + 6 = ap (weight p) x.1 in let d = asked-out p g x.0 in omega (arith, a, d)
@@ -156,7 +159,8 @@ brings p top shut (Drew v) r1 top1 b = less p (Drew v) r1 top top1 b.0 (elim b.1
   ]
 ])
 brings p top shut (Inside x zero m) r1 top1 b = less p (Inside x zero m) r1 top top1 b.0 (let a : weight p r1 ≡ 3 = ap (weight p) b.1 in omega (arith, a))
-brings p top shut (Inside x (suc j) m) r1 top1 b = less p (Inside x (suc j) m) r1 top top1 b.0 (let a : weight p r1 ≡ j + 4 = ap (weight p) b.1.1 in omega (arith, a))
+brings p top shut (Inside x (suc j) m) r1 top1 b =
+    less p (Inside x (suc j) m) r1 top top1 b.0 (let a : weight p r1 ≡ j + 4 = ap (weight p) b.1.1 in omega (arith, a))
 brings p top shut Adding r1 top1 b = less p Adding r1 top top1 b.0 (let a : weight p r1 ≡ 0 = ap (weight p) b.1 in omega (arith, a))
 brings p top shut Looking r1 top1 b = inr (refl, ap (weight p) b.1, ap has_added b.1, b.0)
 brings p top shut (Looked g) r1 top1 b = inr (refl, ap (weight p) b.1, ap has_added b.1, b.0)
@@ -176,10 +180,13 @@ come-most p r = elim (come-either r) [
 ]
 
 pub come-total : (p : Phase) (rs : List Role) → total (weight p) (map come rs) ≤ length (map come rs) * (p.turns Setup + 7)
-come-total p rs = total-within (weight p) (p.turns Setup + 7) (map come rs) (λ k q e. let x = come-role rs k q e in subst (λ y. weight p y ≤ p.turns Setup + 7) x.2 (come-most p x.0))
+come-total p rs =
+    total-within (weight p) (p.turns Setup + 7) (map come rs)
+    (λ k q e. let x = come-role rs k q e in subst (λ y. weight p y ≤ p.turns Setup + 7) x.2 (come-most p x.0))
 
 -- what is left of a phase that begins
-pub begins-with : (p : Phase) (rs : List Role) → length rs ≡ p.harts → total (weight p) rs ≤ length rs * (p.turns Setup + 7) → total (weight p) rs + undrawn p 0 ≤ turns_of_phase p
+pub begins-with : (p : Phase) (rs : List Role) → length rs ≡ p.harts → total (weight p) rs ≤ length rs * (p.turns Setup + 7)
+    → total (weight p) rs + undrawn p 0 ≤ turns_of_phase p
 begins-with p rs e l =
     let a = undrawn-all p in
     let b : length rs * (p.turns Setup + 7) ≡ p.harts * (p.turns Setup + 7) = ap (λ n. n * (p.turns Setup + 7)) e in
@@ -219,7 +226,8 @@ later-all ph last =
 pub left : (ℕ → Phase) → ℕ → ℕ → List Role → ℕ → ℕ
 left ph last at roles top = total (weight (ph at)) roles + undrawn (ph at) top + later ph last at
 
-pub left-some : (ph : ℕ → Phase) (last at : ℕ) (roles : List Role) (top k : ℕ) (r : Role) → slice_get roles k ≡ Some r → weight (ph at) r ≤ left ph last at roles top
+pub left-some : (ph : ℕ → Phase) (last at : ℕ) (roles : List Role) (top k : ℕ) (r : Role)
+    → slice_get roles k ≡ Some r → weight (ph at) r ≤ left ph last at roles top
 unfolding left
 left-some ph last at roles top k r e = let a = total-some (weight (ph at)) roles k r e in omega (arith, a)
   where
@@ -229,7 +237,8 @@ left-some ph last at roles top k r e = let a = total-some (weight (ph at)) roles
     total-some f (x ∷ rs) (suc k) r e = let a = total-some f rs k r e in omega (arith, a)
 
 -- at the start of the first phase
-pub left-first : (ph : ℕ → Phase) (last : ℕ) (roles : List Role) → length roles ≡ (ph 0).harts → ((k : ℕ) (r : Role) → slice_get roles k ≡ Some r → weight (ph 0) r ≤ (ph 0).turns Setup + 7)
+pub left-first : (ph : ℕ → Phase) (last : ℕ) (roles : List Role) → length roles ≡ (ph 0).harts
+    → ((k : ℕ) (r : Role) → slice_get roles k ≡ Some r → weight (ph 0) r ≤ (ph 0).turns Setup + 7)
     → left ph last 0 roles 0 ≤ sum_below (suc last) (λ c. turns_of_phase (ph c))
 unfolding left
 left-first ph last roles e l =
@@ -247,11 +256,13 @@ left-next ph last at rs old l e some =
     omega (arith, a, b, some)
 
 module _ (ph : ℕ → Phase) (last : ℕ) (g : Program ph last) where
-  lowers : (s : State) (k : ℕ) (i : InProgram ph last s) (rs : List Role) (next : ℕ) → RolesAfter (ph i.at) i.phase.top s k i.phase.roles rs next → Lowers (ph i.at) k i.phase.roles i.phase.top rs next
+  lowers : (s : State) (k : ℕ) (i : InProgram ph last s) (rs : List Role) (next : ℕ)
+      → RolesAfter (ph i.at) i.phase.top s k i.phase.roles rs next → Lowers (ph i.at) k i.phase.roles i.phase.top rs next
   lowers s k i rs next (inl x) =
       let p = ph i.at in
       inr (
-        let a : total (weight p) rs ≡ total (weight p) i.phase.roles = ap (total (weight p)) x.1 in let b : undrawn p next ≡ undrawn p i.phase.top = ap (undrawn p) x.2 in omega (arith, a, b),
+        let a : total (weight p) rs ≡ total (weight p) i.phase.roles = ap (total (weight p)) x.1 in
+            let b : undrawn p next ≡ undrawn p i.phase.top = ap (undrawn p) x.2 in omega (arith, a, b),
         record {
           added = ap (total has_added) x.1;
           waits = λ r er. let h = found s.harts i.phase.roles k r (sym i.phase.inv.same) er in let q : Some h.0 ≡ None = sym h.1 ∙ x.0 in absurd (cc q);
@@ -282,7 +293,8 @@ module _ (ph : ℕ → Phase) (last : ℕ) (g : Program ph last) where
   abbrev pub After : (s : State) (k : ℕ) (i : InProgram ph last s) → InProgram ph last (turn s k) → Type 0
   After s k i j = (left_at (turn s k) j < left_at s i) ⊎ ((left_at (turn s k) j ≡ left_at s i) × (j.at ≡ i.at) × Idles (ph i.at) k i.phase.roles j.phase.roles)
 
-  in-phase : (s : State) (k : ℕ) (i : InProgram ph last s) (w : Went ph last s k i) → (w.to.at ≡ i.at) × (w.to.phase.roles ≡ w.rs) × (w.to.phase.top ≡ w.next) → After s k i w.to
+  in-phase : (s : State) (k : ℕ) (i : InProgram ph last s) (w : Went ph last s k i)
+      → (w.to.at ≡ i.at) × (w.to.phase.roles ≡ w.rs) × (w.to.phase.top ≡ w.next) → After s k i w.to
   unfolding left
   in-phase s k i w x =
       let e : left_at (turn s k) w.to ≡ left ph last i.at w.rs w.next =
@@ -292,19 +304,26 @@ module _ (ph : ℕ → Phase) (last : ℕ) (g : Program ph last) where
         | inr y ↦ inr (let q = y.0 in omega (arith, e, q), x.0, subst (Idles (ph i.at) k i.phase.roles) (sym x.1) y.1)
       ]
 
-  to-next : (s : State) (k : ℕ) (i : InProgram ph last s) (w : Went ph last s k i) → (w.to.at ≡ suc i.at) × (w.to.phase.roles ≡ map come w.rs) × (w.to.phase.top ≡ 0) × (length w.rs ≤ total has_added w.rs) → After s k i w.to
+  to-next : (s : State) (k : ℕ) (i : InProgram ph last s) (w : Went ph last s k i)
+      → (w.to.at ≡ suc i.at) × (w.to.phase.roles ≡ map come w.rs) × (w.to.phase.top ≡ 0) × (length w.rs ≤ total has_added w.rs) → After s k i w.to
   unfolding left
   to-next s k i w x =
       let p = ph i.at in
       let e : left_at (turn s k) w.to ≡ left ph last (suc i.at) (map come w.rs) 0 =
-      ap (λ c. left ph last c w.to.phase.roles w.to.phase.top) x.0 ∙ ap (λ l. left ph last (suc i.at) l w.to.phase.top) x.1 ∙ ap (left ph last (suc i.at) (map come w.rs)) x.2 in
+      ap (λ c. left ph last c w.to.phase.roles w.to.phase.top) x.0 ∙ ap (λ l. left ph last (suc i.at) l w.to.phase.top) x.1
+      ∙ ap (left ph last (suc i.at) (map come w.rs)) x.2 in
       let below : i.at < last = let a = x.0 in let b = w.to.within in omega (arith, a, b) in
-      let many : length (map come w.rs) ≡ (ph (suc i.at)).harts = ap length (sym x.1) ∙ w.to.phase.inv.same ∙ w.to.phase.inv.many ∙ ap (λ c. (ph c).harts) x.0 in
+      let many : length (map come w.rs) ≡ (ph (suc i.at)).harts =
+      ap length (sym x.1) ∙ w.to.phase.inv.same ∙ w.to.phase.inv.many ∙ ap (λ c. (ph c).harts) x.0 in
       elim (lowers s k i w.rs w.next w.after) [
-        | inl l ↦ inl (let n = left-next ph last i.at w.rs (total (weight p) i.phase.roles + undrawn p i.phase.top) below many (omega (arith, l)) in omega (arith, e, n))
+        | inl l ↦ inl (
+            let n = left-next ph last i.at w.rs (total (weight p) i.phase.roles + undrawn p i.phase.top) below many (omega (arith, l)) in
+            omega (arith, e, n))
         | inr y ↦ absurd (elim i.still_open [
           | inl z ↦ omega (arith, z, below)
-          | inr z ↦ let a = y.1.added in let b = x.3 in let c = length-come w.rs in let d = (g.follows i.at below).link.harts in omega (arith, z, a, b, c, d, many)
+          | inr z ↦
+              let a = y.1.added in let b = x.3 in let c = length-come w.rs in let d = (g.follows i.at below).link.harts in
+              omega (arith, z, a, b, c, d, many)
         ])
       ]
 
