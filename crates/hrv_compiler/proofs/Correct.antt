@@ -137,8 +137,11 @@ module _ (own : CompiledContents) (rules : IsCompiled own) (pictures : List Pict
 
       none-races : (turns : List ℕ) → Race (control_words own.boxes.layout.phases) (run (opening image harts) turns) → ⊥
       none-races turns race =
+          let all = counted in
+          let one = count in
+          let same : own.boxes.layout.phases ≡ suc last = omega (arith, all, one) in
           never-races steps last text_start bytes turns goes begins
-          (subst (λ (n : ℕ). Race (control_words n) (run (opening image harts) turns)) (let all = counted in let one = count in omega (arith, all, one)) race)
+          (subst (λ (n : ℕ). Race (control_words n) (run (opening image harts) turns)) same race)
 
       module _ (turns : List ℕ) (finished : all_finished (run (opening image harts) turns) ≡ true) where
         abbrev end : State
