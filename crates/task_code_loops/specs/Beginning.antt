@@ -1,0 +1,90 @@
+-- What stands in front of a loop: forms that registers hold, and what tells behind each iteration whether there is a next one.
+-- This project's own.
+use Rattle.std.specs.Prelude.{◌≡◌, ◌<◌, ◌≤◌, ℕ, suc, ◌+◌, ◌*◌, ◌^◌, nat_lt, Bool, true, List, [], ◌∷◌}
+use Rattle.rv_insn.specs.declared.operations.BranchOp.TheVariants as branches
+use Rattle.hart_core.specs.Alu.{is_taken}
+use Rattle.loop_ir.specs.declared.expressions.Counter.{Counter}
+use Rattle.loop_ir.specs.Counters.{Values, with}
+use Rattle.task_code_registers.specs.declared.scopes.Form.{Form}
+use Rattle.task_code_registers.specs.declared.scopes.Held.{Held}
+use Rattle.task_code_registers.specs.Emitting.{sum_words}
+use Rattle.task_code_registers.specs.Holding.{Enters, can_advance}
+use Rattle.task_code_registers.specs.Registers.{may_hold}
+use Rattle.task_code_registers.specs.Scopes.{Knows, left_count}
+use Rattle.task_code_loops.specs.declared.beginning.Begun.{Begun}
+use Rattle.task_code_loops.specs.declared.tests.Limit.{Limit}
+use Rattle.task_code_loops.specs.declared.tests.Limit.TheVariants.{Register, Number}
+use Rattle.task_code_loops.specs.declared.tests.Tested.{Tested}
+
+-- a loop variable as a form
+abbrev pub variable : Counter → Form
+variable counter = record {
+  sum = record { number = 0; terms = record { counter = counter; stride = 1 } ∷ [] };
+  per_hart = 0;
+}
+
+-- a number as a form
+abbrev pub number : ℕ → Form
+number n = record { sum = record { number = n; terms = [] }; per_hart = 0 }
+
+-- how many instructions at most make each of these forms
+abbrev pub forms_words : List Form → ℕ
+forms_words [] = 0
+forms_words (form ∷ others) = sum_words form.sum.terms + forms_words others
+
+-- ---- when a loop ends
+
+-- the number that a register is compared with
+abbrev pub limit_of : (ℕ → ℕ) → Limit → ℕ
+limit_of f (Register r) = f r
+limit_of f (Number n) = n
+
+abbrev pub may_be_limit : Limit → Bool
+may_be_limit (Register r) = may_hold r
+may_be_limit (Number n) = nat_lt n (2 ^ 32)
+
+-- Where registers hold what they hold in the next iteration, a register differs from its limit just if there is one.
+pub record IsTest (counter : Counter) (count : ℕ) (inner : List Held) (register : ℕ) (limit : Limit) : Type 0 where
+  pub may : may_hold register ≡ true
+  pub limit_may : may_be_limit limit ≡ true
+  pub differs : (hart i : ℕ) (values : Values) (f : ℕ → ℕ) → i < count → Knows hart inner (with counter (suc i) values) f
+      → is_taken branches.Bne (f register) (limit_of f limit) ≡ nat_lt (suc i) count
+
+-- ---- before a loop
+
+-- One scope is made of another, and in that one code can go along with the loop, and as many registers are left.
+pub record Gains (old new : List ℕ) (most : ℕ) (counter : Counter) (reserved : ℕ) (scope inner : List Held) : Type 0 where
+  pub enters : Enters old new most counter scope inner
+  pub can : can_advance counter scope ≡ true → can_advance counter inner ≡ true
+  pub left : reserved ≤ left_count scope → reserved ≤ left_count inner
+
+-- a scope in which there is a test
+pub record Tests (old new : List ℕ) (most : ℕ) (counter : Counter) (count : ℕ) (scope : List Held) (reserved : ℕ) (tested : Tested) : Type 0 where
+  pub enters : Enters old new most counter scope tested.scope.items
+  pub can : can_advance counter scope ≡ true → can_advance counter tested.scope.items ≡ true
+  pub left : reserved ≤ left_count tested.scope.items
+  pub test : IsTest counter count tested.scope.items tested.register tested.limit
+
+-- Another scope, in which there is a test wherever there is one in this scope.
+pub record Betters (old new : List ℕ) (most : ℕ) (counter : Counter) (reserved : ℕ) (tested made : Tested) : Type 0 where
+  pub gains : Gains old new most counter reserved tested.scope.items made.scope.items
+  pub test : (count : ℕ) → IsTest counter count tested.scope.items tested.register tested.limit
+      → IsTest counter count made.scope.items made.register made.limit
+
+-- how many instructions at most stand in front of a loop for which these forms are wanted
+abbrev pub begin_words : List Form → ℕ
+begin_words wanted = 16 + 3 * forms_words wanted
+
+-- a loop's iterations can go along with what registers hold, and they end
+pub record CanEnd (begun : Begun) : Type 0 where
+  pub can : can_advance begun.counter begun.inner.items ≡ true
+  pub test : IsTest begun.counter begun.count begun.inner.items begun.register begun.limit
+  pub some : 1 ≤ begun.count
+
+-- A loop of so many iterations is entered, and so many registers are left.
+pub record IsBegun (old new : List ℕ) (most : ℕ) (counter : Counter) (count : ℕ) (scope : List Held) (reserved : ℕ) (begun : Begun) : Type 0 where
+  pub enters : Enters old new most counter scope begun.inner.items
+  pub ends : CanEnd begun
+  pub counter_is : begun.counter ≡ counter
+  pub count_is : begun.count ≡ count
+  pub left : reserved ≤ left_count begun.inner.items

@@ -1,0 +1,105 @@
+-- What stands behind a loop's body, and what the whole loop does. This project's own.
+use Rattle.std.specs.Prelude.{◌≡◌, ◌≢◌, ◌<◌, ◌≤◌, ℕ, ◌+◌, ◌*◌, ◌-◌, false, true, List, ◌++◌, length}
+use Rattle.rv_insn.specs.declared.instructions.Insn.{Insn}
+use Rattle.rv_insn.specs.declared.operations.BranchOp.TheVariants as branches
+use Rattle.hart_core.specs.Alu.{is_taken}
+use Rattle.halide_pipeline.specs.Pixel.{Planes}
+use Rattle.loop_ir.specs.declared.expressions.Counter.{Counter}
+use Rattle.loop_ir.specs.Buffers.{Points}
+use Rattle.loop_ir.specs.Counters.{Values, with}
+use Rattle.loop_ir.specs.Running.{turns}
+use Rattle.multi_hart_logic.specs.Alone.{World}
+use Rattle.multi_hart_logic.specs.Paths.{Spot, Stand, end, Path, Line}
+use Rattle.task_code_scalar.specs.Doing.{Setting, HoldsFuncs}
+use Rattle.task_code_scalar.specs.Fitting.{total}
+use Rattle.task_code_scalar.specs.Words.{Emits}
+use Rattle.task_code_registers.specs.declared.scopes.Held.{Held}
+use Rattle.task_code_registers.specs.Doing.{Did}
+use Rattle.task_code_registers.specs.Holding.{IsSteady, mentions, moving}
+use Rattle.task_code_registers.specs.Looping.{StoresOf}
+use Rattle.task_code_registers.specs.Registers.{zero_register, scratch, second_scratch}
+use Rattle.task_code_registers.specs.Scopes.{Knows, AreHolders, IsKept}
+use Rattle.task_code_loops.specs.declared.beginning.Begun.{Begun}
+use Rattle.task_code_loops.specs.declared.tests.Limit.{Limit}
+use Rattle.task_code_loops.specs.Beginning.{limit_of, IsBegun}
+
+-- ---- behind the body
+
+-- straight code that leaves a limit in a register; the scratch registers may change
+pub record LeavesLimit (world : World) (memory : List ℕ) (insns : List Insn) (f : ℕ → ℕ) (limit : Limit) (r : ℕ) : Type 0 where
+  pub after : ℕ → ℕ
+  pub line : Line world insns f memory after memory
+  pub value : after r ≡ limit_of f limit
+  pub others : (q : ℕ) → q ≢ scratch → q ≢ second_scratch → after q ≡ f q
+
+-- at most two appended instructions do so
+pub record MakesLimit (old new : List ℕ) (limit : Limit) (r : ℕ) : Type 0 where
+  pub insns : List Insn
+  pub emits : Emits old new insns
+  pub short : length insns ≤ 2
+  pub low : r < 32
+  pub does : (world : World) (memory : List ℕ) (f : ℕ → ℕ) → length memory ≡ world.size → f zero_register ≡ 0 → LeavesLimit world memory insns f limit r
+
+-- At most two appended instructions go back over so many words where two registers differ, and else go on.
+pub record GoesBack (old new : List ℕ) (a b words : ℕ) : Type 0 where
+  pub insns : List Insn
+  pub emits : Emits old new insns
+  pub short : length insns ≤ 2
+  pub back_cost : ℕ
+  pub out_cost : ℕ
+  pub again : (world : World) (memory : List ℕ) (f : ℕ → ℕ) (at to : ℕ) → length memory ≡ world.size → is_taken branches.Bne (f a) (f b) ≡ true
+      → Stand world.text at insns → to + 4 * words ≡ at → Spot to → Path world at to back_cost f memory f memory
+  pub leaves : (world : World) (memory : List ℕ) (f : ℕ → ℕ) (at : ℕ) → length memory ≡ world.size → is_taken branches.Bne (f a) (f b) ≡ false
+      → Stand world.text at insns → Path world at (end at insns) out_cost f memory f memory
+
+-- ---- iterations
+
+-- A body does each of so many iterations where registers hold a scope's forms, and keeps these registers.
+pub record DoesEach (own : Setting) (hart : ℕ) (inner : List Held) (counter : Counter) (values : Values) (n : ℕ) (body : List Insn)
+    (t : ℕ → ℕ) (one : ℕ → Planes → Planes) (body_stored : ℕ → Planes → Points) : Type 0 where
+  pub does : (i : ℕ) (f : ℕ → ℕ) (memory : List ℕ) (funcs : Planes) → i < n → HoldsFuncs own memory funcs → Knows hart inner (with counter i values) f
+      → Did own body (t i) f memory (IsKept inner) (one i funcs) (body_stored i funcs)
+
+-- registers of a scope that don't go along with a variable
+abbrev pub StaysIn : Counter → List Held → ℕ → Type 0
+StaysIn counter inner q = IsKept inner q × IsSteady counter inner q
+
+-- how many instructions at most stand behind a body
+abbrev pub end_words : Begun → ℕ
+end_words begun = 3 * moving begun.counter begun.inner.items + 4
+
+-- What is appended behind a body of so many words makes a loop of it.
+pub record EndsLoop (old new : List ℕ) (begun : Begun) (words : ℕ) : Type 0 where
+  pub insns : List Insn
+  pub emits : Emits old new insns
+  pub short : length insns ≤ end_words begun
+  pub cost : ℕ → ℕ
+  pub does : (own : Setting) (hart : ℕ) (values : Values) (body : List Insn) (t : ℕ → ℕ) (one : ℕ → Planes → Planes) (body_stored stored : ℕ → Planes → Points)
+      → length body ≡ words → AreHolders begun.inner.items
+      → DoesEach own hart begun.inner.items begun.counter values begun.count body t one body_stored → StoresOf stored body_stored one
+      → (f : ℕ → ℕ) (memory : List ℕ) (funcs : Planes) → HoldsFuncs own memory funcs → Knows hart begun.inner.items (with begun.counter 0 values) f
+      → Did own (body ++ insns) (total begun.count (λ i. t i + cost i)) f memory (StaysIn begun.counter begun.inner.items) (turns begun.count one funcs)
+      (stored begun.count funcs)
+
+-- ---- a whole loop
+
+-- Appended code does the iterations of a loop one after the other, where its body does each of them. It takes so many turns before the first one,
+-- and so many behind each.
+pub record MakesLoop (old new : List ℕ) (most : ℕ) (scope inner : List Held) (counter : Counter) (count : ℕ) (body : List Insn) : Type 0 where
+  pub insns : List Insn
+  pub emits : Emits old new insns
+  pub short : length insns ≤ most + length body
+  pub before : ℕ
+  pub cost : ℕ → ℕ
+  pub holders : AreHolders scope → AreHolders inner
+  pub does : (own : Setting) (hart : ℕ) (values : Values) (t : ℕ → ℕ) (one : ℕ → Planes → Planes) (body_stored stored : ℕ → Planes → Points)
+      → AreHolders scope → DoesEach own hart inner counter values count body t one body_stored → StoresOf stored body_stored one
+      → (f : ℕ → ℕ) (memory : List ℕ) (funcs : Planes) → HoldsFuncs own memory funcs → Knows hart scope values f
+      → Did own insns (before + total count (λ i. t i + cost i)) f memory (IsKept scope) (turns count one funcs) (stored count funcs)
+
+-- A loop is begun, its body is appended, and it is ended.
+abbrev pub LoopsAreMade : Type 0
+LoopsAreMade =
+    (c0 c1 c2 c3 : List ℕ) (most : ℕ) (counter : Counter) (count reserved : ℕ) (scope : List Held) (begun : Begun) (body : List Insn)
+    → mentions counter scope ≡ false → IsBegun c0 c1 most counter count scope reserved begun → Emits c1 c2 body
+    → EndsLoop c2 c3 begun (length c2 - length c1) → MakesLoop c0 c3 (most + end_words begun) scope begun.inner.items counter count body

@@ -1,0 +1,69 @@
+//! What stands in front of a loop.
+
+ghost use Rattle.std.specs.Prelude.{◌≡◌, [], ◌<◌, ◌≤◌, ◌^◌, IfErr, IfOk, false, true};
+ghost use Rattle.task_code_scalar.specs.Faults.{IsFault};
+ghost use Rattle.task_code_registers.specs.Holding.{mentions};
+ghost use Rattle.task_code_registers.specs.Scopes.{has_variable, left_count};
+ghost use Rattle.task_code_loops.specs.Beginning.{IsBegun, begin_words};
+
+use crate::holding::hold_all;
+use crate::tests::{Limit, Tested, begin_test, hold_limit};
+use loop_ir::expressions::Counter;
+use std::alloc::Global;
+use task_code_registers::scopes::{Form, Held};
+use task_code_scalar::CodeFault;
+
+/// A loop whose body may be appended: what registers hold in its iterations, the one of them that tells whether there
+/// is a next one, and what it is compared with.
+#[derive(Debug, Drop)]
+pub struct Begun {
+    pub counter: Counter,
+    pub count: u32,
+    pub inner: Vec<Held>,
+    pub register: u8,
+    pub limit: Limit,
+}
+
+/// Appends what stands in front of a loop of so many iterations: what holds these forms, as far as registers go with so
+/// many left for what is inside, and what tells when the loop ends, the first of these forms that does, or else
+/// the loop variable. With no forms wanted the loop variable is held.
+///
+/// # Errors
+///
+/// Memory ran out, or no more than so many registers are left.
+pub fn begin_loop(
+    alloc: Global,
+    code: &mut Vec<u32>,
+    scope: &[Held],
+    counter: Counter,
+    count: u32,
+    wanted: &[Form],
+    reserved: usize,
+) -> Result<Begun, CodeFault>
+    requires steady { mentions counter scope.now ≡ false }
+    requires some { 1 ≤ count }
+    requires few { reserved < 2 ^ 32 }
+    ensures ok { IfOk result (IsBegun code.old.items code.new.items (begin_words wanted.now) counter count scope.now reserved) }
+    ensures variable { wanted.now ≡ [] → IfOk result (λ begun. has_variable begun.inner.items counter ≡ true) }
+    ensures err { IfErr result (IsFault ⊥ (left_count scope.now ≤ reserved)) }
+{
+    let Tested {
+        scope: first,
+        register,
+        limit,
+    } = begin_test(alloc, code, scope, counter, count, wanted, reserved)?;
+    let inner = hold_all(alloc, code, first, counter, wanted, reserved)?;
+    let tested = Tested {
+        scope: inner,
+        register,
+        limit,
+    };
+    let last = hold_limit(alloc, code, tested, counter, reserved)?;
+    Ok(Begun {
+        counter,
+        count,
+        inner: last.scope,
+        register: last.register,
+        limit: last.limit,
+    })
+}

@@ -1,0 +1,124 @@
+//! Forms that registers hold in a loop, where there is room.
+
+ghost use Rattle.std.specs.Prelude.{◌≡◌, ◌<◌, ◌≤◌, ◌^◌, None, IfOk, false, true};
+ghost use Rattle.task_code_registers.specs.Emitting.{MakesValue, sum_words};
+ghost use Rattle.task_code_registers.specs.Holding.{TakesIf};
+ghost use Rattle.task_code_registers.specs.Registers.{IsPlace};
+ghost use Rattle.task_code_registers.specs.Scopes as scopes;
+ghost use Rattle.task_code_loops.specs.Beginning.{Gains, forms_words};
+
+use loop_ir::expressions::Counter;
+use std::alloc::{AllocError, Global};
+use task_code_registers::holding::{Taken, at_value};
+use task_code_registers::numbers::emit_plus;
+use task_code_registers::scopes::{Form, Held, free_register, with_held};
+use task_code_registers::sums::{emit_form, find, have_registers, nearest};
+
+/// Appends what leaves a form's value in a register, where its loop variables have registers or a form near it is held.
+/// Else there is no code. It returns whether there is.
+///
+/// # Errors
+///
+/// Memory ran out.
+pub fn emit_known(
+    alloc: Global,
+    code: &mut Vec<u32>,
+    scope: &[Held],
+    form: &Form,
+    register: u8,
+) -> Result<bool, AllocError>
+    requires { IsPlace register }
+    ensures yes { IfOk result (λ made. made ≡ true → MakesValue code.old.items code.new.items scope.now form.now register) }
+    ensures no { IfOk result (λ made. made ≡ false → (code.new.items ≡ code.old.items) × (scopes.have_registers scope.now form.now.sum.terms ≡ false)) }
+{
+    if have_registers(scope, form.sum.terms.as_slice()) {
+        emit_form(alloc, code, scope, form, register)?;
+        return Ok(true);
+    }
+    match nearest(alloc, scope, form)? {
+        Some(found) => {
+            emit_plus(code, register, found.register, found.number)?;
+            Ok(true)
+        }
+        None => Ok(false),
+    }
+}
+
+/// Appends what leaves a form, as it is in a loop's first iteration, in a register that holds nothing yet, where more
+/// than so many are left and its value can be made. Else there is no code.
+///
+/// # Errors
+///
+/// Memory ran out.
+pub fn hold_known(
+    alloc: Global,
+    code: &mut Vec<u32>,
+    scope: &[Held],
+    counter: Counter,
+    form: &Form,
+    reserved: usize,
+) -> Result<Option<Taken>, AllocError>
+    ensures some { IfOk result (TakesIf code.old.items code.new.items counter scope.now form.now reserved) }
+    ensures none { IfOk result (λ made. made ≡ None → code.new.items ≡ code.old.items) }
+{
+    match free_register(scope, reserved) {
+        None => Ok(None),
+        Some(register) => {
+            let start = at_value(alloc, form, counter, 0)?;
+            let made = emit_known(alloc, code, scope, &start, register)?;
+            if made {
+                let inner = with_held(alloc, scope, register, form)?;
+                return Ok(Some(Taken {
+                    scope: inner,
+                    register,
+                }));
+            }
+            Ok(None)
+        }
+    }
+}
+
+/// Appends what holds a form, where there is room and none near it is held.
+fn hold_wanted(
+    alloc: Global,
+    code: &mut Vec<u32>,
+    scope: Vec<Held>,
+    counter: Counter,
+    form: &Form,
+    reserved: usize,
+) -> Result<Vec<Held>, AllocError>
+    ensures { IfOk result (λ inner. Gains code.old.items code.new.items (sum_words form.now.sum.terms) counter reserved scope.items inner.items) }
+{
+    if find(alloc, scope.as_slice(), form, true)?.is_some() {
+        return Ok(scope);
+    }
+    match hold_known(alloc, code, scope.as_slice(), counter, form, reserved)? {
+        Some(taken) => Ok(taken.scope),
+        None => Ok(scope),
+    }
+}
+
+/// Appends what holds these forms, the first ones first, where there is room.
+///
+/// # Errors
+///
+/// Memory ran out.
+pub fn hold_all(
+    alloc: Global,
+    code: &mut Vec<u32>,
+    scope: Vec<Held>,
+    counter: Counter,
+    wanted: &[Form],
+    reserved: usize,
+) -> Result<Vec<Held>, AllocError>
+    ensures { IfOk result (λ inner. Gains code.old.items code.new.items (forms_words wanted.now) counter reserved scope.items inner.items) }
+{
+    match wanted {
+        [] => Ok(scope),
+        [first, others @ ..] => {
+            let next = hold_wanted(alloc, code, scope, counter, first, reserved)?;
+            let inner = hold_all(alloc, code, next, counter, others, reserved)?;
+            Ok(inner)
+        }
+    }
+}

@@ -1,0 +1,197 @@
+//! Which register tells when a loop ends, and what it is compared with.
+
+ghost use Rattle.std.specs.Prelude.{◌≡◌, [], ◌+◌, ◌*◌, ◌<◌, ◌≤◌, ◌^◌, IfErr, IfOk, IfSome, None, true};
+ghost use Rattle.task_code_scalar.specs.Faults.{IsFault};
+ghost use Rattle.task_code_registers.specs.Emitting.{sum_words};
+ghost use Rattle.task_code_registers.specs.Looping as looping;
+ghost use Rattle.task_code_registers.specs.Scopes.{has_variable, left_count};
+ghost use Rattle.task_code_loops.specs.Beginning as spec;
+ghost use Rattle.task_code_loops.specs.Beginning.{Betters, Tests, forms_words};
+
+use crate::holding::hold_known;
+use loop_ir::expressions::{Counter, Linear, Term};
+use sqlite_items::Items;
+use std::alloc::{AllocError, Global};
+use task_code_registers::holding::{at_value, hold, is_test};
+use task_code_registers::scopes::{Form, Held};
+use task_code_scalar::CodeFault;
+
+/// What a loop's register is compared with behind each iteration.
+#[derive(Clone, Copy, Debug)]
+pub enum Limit {
+    Register(u8),
+    /// A number that is made there.
+    Number(u32),
+}
+
+/// What registers hold in a loop, the one that tells whether there is a next iteration, and what it is compared with.
+#[derive(Debug, Drop)]
+pub struct Tested {
+    pub scope: Vec<Held>,
+    pub register: u8,
+    pub limit: Limit,
+}
+
+/// A loop variable as a form.
+///
+/// # Errors
+///
+/// Memory ran out.
+pub fn variable(alloc: Global, counter: Counter) -> Result<Form, AllocError>
+    ensures { IfOk result (λ made. made ≡ spec.variable counter) }
+{
+    let mut terms = Items::new(alloc);
+    terms.push(Term { counter, stride: 1 })?;
+    Ok(Form {
+        sum: Linear { number: 0, terms },
+        per_hart: 0,
+    })
+}
+
+/// A number as a form.
+fn number(alloc: Global, number: u32) -> Form
+    ensures { result ≡ spec.number number }
+{
+    Form {
+        sum: Linear {
+            number,
+            terms: Items::new(alloc),
+        },
+        per_hart: 0,
+    }
+}
+
+/// Appends what holds the loop variable itself, which is compared with the count.
+fn by_variable(
+    alloc: Global,
+    code: &mut Vec<u32>,
+    scope: &[Held],
+    counter: Counter,
+    count: u32,
+    reserved: usize,
+) -> Result<Tested, CodeFault>
+    ensures ok { IfOk result (λ tested. Tests code.old.items code.new.items 10 counter count scope.now reserved tested) }
+    ensures variable { IfOk result (λ tested. has_variable tested.scope.items counter ≡ true) }
+    ensures err { IfErr result (IsFault ⊥ (left_count scope.now ≤ reserved)) }
+{
+    let form = variable(alloc, counter)?;
+    match hold(alloc, code, scope, counter, &form, reserved)? {
+        Some(taken) => Ok(Tested {
+            scope: taken.scope,
+            register: taken.register,
+            limit: Limit::Number(count),
+        }),
+        None => Err(CodeFault::TooDeep),
+    }
+}
+
+/// Appends what holds a form and the number that it is behind the last iteration, where both have registers; else the
+/// loop variable.
+fn by_form(
+    alloc: Global,
+    code: &mut Vec<u32>,
+    scope: &[Held],
+    counter: Counter,
+    count: u32,
+    form: &Form,
+    reserved: usize,
+) -> Result<Tested, CodeFault>
+    requires test { looping.is_test counter count form.now ≡ true }
+    requires few { reserved < 2 ^ 32 }
+    ensures ok { IfOk result (Tests code.old.items code.new.items (10 + 2 * sum_words form.now.sum.terms) counter count scope.now reserved) }
+    ensures err { IfErr result (IsFault ⊥ (left_count scope.now ≤ reserved)) }
+{
+    let limit = at_value(alloc, form, counter, count)?;
+    match hold_known(alloc, code, scope, counter, form, reserved + 1)? {
+        None => {
+            let tested = by_variable(alloc, code, scope, counter, count, reserved)?;
+            Ok(tested)
+        }
+        Some(own) => {
+            let first = own.scope.as_slice();
+            match hold_known(alloc, code, first, counter, &limit, reserved)? {
+                None => {
+                    let tested = by_variable(alloc, code, first, counter, count, reserved)?;
+                    Ok(tested)
+                }
+                Some(last) => Ok(Tested {
+                    scope: last.scope,
+                    register: own.register,
+                    limit: Limit::Register(last.register),
+                }),
+            }
+        }
+    }
+}
+
+/// Appends what holds the first of these forms that tells when the loop ends, or else the loop variable.
+///
+/// # Errors
+///
+/// Memory ran out, or no more than so many registers are left.
+pub fn begin_test(
+    alloc: Global,
+    code: &mut Vec<u32>,
+    scope: &[Held],
+    counter: Counter,
+    count: u32,
+    wanted: &[Form],
+    reserved: usize,
+) -> Result<Tested, CodeFault>
+    requires { reserved < 2 ^ 32 }
+    ensures ok { IfOk result (Tests code.old.items code.new.items (10 + 2 * forms_words wanted.now) counter count scope.now reserved) }
+    ensures variable { wanted.now ≡ [] → IfOk result (λ tested. has_variable tested.scope.items counter ≡ true) }
+    ensures err { IfErr result (IsFault ⊥ (left_count scope.now ≤ reserved)) }
+{
+    match wanted {
+        [] => {
+            let tested = by_variable(alloc, code, scope, counter, count, reserved)?;
+            Ok(tested)
+        }
+        [first, others @ ..] => {
+            if is_test(first, counter, count) {
+                let tested = by_form(alloc, code, scope, counter, count, first, reserved)?;
+                return Ok(tested);
+            }
+            let tested = begin_test(alloc, code, scope, counter, count, others, reserved)?;
+            Ok(tested)
+        }
+    }
+}
+
+/// Appends what holds a limit that is a number, where there is room.
+///
+/// # Errors
+///
+/// Memory ran out.
+pub fn hold_limit(
+    alloc: Global,
+    code: &mut Vec<u32>,
+    tested: Tested,
+    counter: Counter,
+    reserved: usize,
+) -> Result<Tested, AllocError>
+    ensures { IfOk result (Betters code.old.items code.new.items 6 counter reserved tested) }
+{
+    match tested.limit {
+        Limit::Register(_) => Ok(tested),
+        Limit::Number(end) => {
+            let form = number(alloc, end);
+            match hold(
+                alloc,
+                code,
+                tested.scope.as_slice(),
+                counter,
+                &form,
+                reserved,
+            )? {
+                None => Ok(tested),
+                Some(taken) => Ok(Tested {
+                    scope: taken.scope,
+                    register: tested.register,
+                    limit: Limit::Register(taken.register),
+                }),
+            }
+        }
+    }
+}
