@@ -1,6 +1,9 @@
 pub mod Entered
+pub mod Following
 pub mod Knowledge
 pub mod Looped
 pub mod Repeating
 pub mod Returning
+pub mod Rewriting
 pub mod Telling
+pub mod Testing

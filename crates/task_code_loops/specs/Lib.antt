@@ -1,2 +1,4 @@
 pub mod Beginning
 pub mod Ending
+pub mod Guarding
+pub mod Known

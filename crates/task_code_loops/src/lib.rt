@@ -5,11 +5,17 @@
 //! - [`tests`]: which register tells when a loop ends, and what it is compared with.
 //! - [`beginning`]: appends what stands in front of a loop (`specs/Beginning.antt`).
 //! - [`ending`]: appends what stands behind its body, and goes back (`specs/Ending.antt`).
-//! - [`laws`]: what these make of a body is a loop.
+//! - [`guards`]: appends a test over a body (`specs/Guarding.antt`).
+//! - [`known`]: loop variables that are sums of others, or numbers, and forms without them (`specs/Known.antt`).
+//! - [`wanted`]: which forms a body wants in registers, a guess.
+//! - [`laws`]: what is begun and ended is a loop; code behind other code, and iterations that are laid out.
 #![tactic(auto)]
 
 pub mod beginning;
 pub mod ending;
+pub mod guards;
 pub mod holding;
+pub mod known;
 pub mod laws;
 pub mod tests;
+pub mod wanted;

@@ -49,7 +49,7 @@ pub fn variable(alloc: Global, counter: Counter) -> Result<Form, AllocError>
 }
 
 /// A number as a form.
-fn number(alloc: Global, number: u32) -> Form
+pub fn number(alloc: Global, number: u32) -> Form
     ensures { result ≡ spec.number number }
 {
     Form {

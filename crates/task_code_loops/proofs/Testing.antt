@@ -1,0 +1,166 @@
+-- A test over a body.
+use Rattle.std.proofs.Common.{◌≡◌, ℕ, suc, ◌+◌, ◌*◌, ◌<◌, ◌≤◌, List, [], ◌∷◌, ◌++◌, length, Bool, true, false, refl, ap, ◌∙◌, sym, subst, arith, inl, inr}
+use Rattle.std.proofs.Common.{length-append}
+use Rattle.std.specs.Prelude.{◌≢◌, if◌then◌else◌, nat_lt, pos}
+use Rattle.std.proofs.lemmas.Bool.{true≢false, ltb-true, cases_lt}
+use Rattle.std.proofs.lemmas.Bool.Decides.{nat_tests}
+use Rattle.rv_insn.specs.declared.instructions.Insn.{Insn}
+use Rattle.rv_insn.specs.declared.instructions.Insn.TheVariants.{Branch, Jal}
+use Rattle.rv_insn.specs.declared.operations.BranchOp.TheVariants as branches
+use Rattle.halide_pipeline.specs.Pixel.{Planes}
+use Rattle.loop_ir.specs.Buffers.{Points}
+use Rattle.loop_ir.specs.Counters.{Values}
+use Rattle.multi_hart_logic.specs.Alone.{World}
+use Rattle.multi_hart_logic.specs.Paths.{Spot, Stand, end, Path, Line}
+use Rattle.multi_hart_logic.proofs.Jumps as rules
+use Rattle.multi_hart_logic.proofs.Paths.{spot, path-then, line-then, stand-front, stand-back, end-append}
+use Rattle.task_code_scalar.specs.Code.{forth}
+use Rattle.task_code_scalar.specs.Doing.{Setting, HoldsFuncs}
+use Rattle.task_code_scalar.specs.Words.{Emits}
+use Rattle.task_code_scalar.proofs.Looping.{end-length, forth-to}
+use Rattle.task_code_scalar.proofs.Spelling.{emits_then, emits-apart}
+use Rattle.task_code_registers.specs.declared.scopes.Form.{Form}
+use Rattle.task_code_registers.specs.declared.scopes.Held.{Held}
+use Rattle.task_code_registers.specs.Registers.{zero_register, address_register, scratch, second_scratch}
+use Rattle.task_code_registers.specs.Doing.{Did}
+use Rattle.task_code_registers.specs.Emitting.{Makes, MakesValue, Puts, sum_words}
+use Rattle.task_code_registers.specs.Scopes.{Knows, AreHolders, IsFree, IsKept, form_value}
+use Rattle.task_code_registers.proofs.Going.{Went, no_hits, went-hits, went-then, within, still}
+use Rattle.task_code_registers.proofs.Knowing.{knows-zero, knows-still, kept-apart, working-free}
+use Rattle.task_code_registers.proofs.Looping.{marked-did, did-went, points_hit}
+use Rattle.task_code_loops.specs.Guarding.{Guards, stored_if}
+
+lt-is : (a c : ℕ) → a < c → nat_lt a c ≡ true
+lt-is a c l = grind (arith, nat_tests)
+
+lt-not : (a c : ℕ) → c ≤ a → nat_lt a c ≡ false
+lt-not a c l = grind (arith, nat_tests)
+
+not-below : (a c : ℕ) → nat_lt a c ≡ false → c ≤ a
+not-below a c e = elim (cases_lt a c) [ inl l ↦ absurd (true≢false (sym (lt-is a c l) ∙ e)) | inr h ↦ h ]
+
+-- what stands somewhere ends where a word may begin
+behind : (text : List ℕ) (at : ℕ) (is : List Insn) → Stand text at is → Spot (end at is)
+behind text at [] s = s
+behind text at (i ∷ is) s = behind text (at + 4) is s.1
+
+module _ (scope : List Held) (form : Form) (extent : ℕ) (body : List Insn) (c0 c1 c2 c3 c4 c5 words : List ℕ)
+    (x : MakesValue c0 c1 scope form address_register) (y : Makes c1 c2 2 scratch (λ f. extent))
+    (z : Emits c2 c3 (Branch branches.Bltu address_register scratch (pos 4) ∷ [])) (j : Emits c3 c4 (Jal zero_register (forth (length body + 1)) ∷ []))
+    (b : Emits [] words body) (e : c5 ≡ c4 ++ words) where
+  abbrev front : List Insn
+  front = x.insns ++ y.insns
+
+  abbrev over : List Insn
+  over = Branch branches.Bltu address_register scratch (pos 4) ∷ Jal zero_register (forth (length body + 1)) ∷ body
+
+  abbrev whole : List Insn
+  whole = front ++ over
+
+  -- the form and the extent are made
+  record Made (w : World) (hart : ℕ) (values : Values) (memory : List ℕ) (f : ℕ → ℕ) : Type 0 where
+    after : ℕ → ℕ
+    line : Line w front f memory after memory
+    value : after address_register ≡ form_value hart values form
+    limit : after scratch ≡ extent
+    keeps : (q : ℕ) → IsKept scope q → after q ≡ f q
+
+  made : (w : World) (hart : ℕ) (values : Values) (memory : List ℕ) (f : ℕ → ℕ) → length memory ≡ w.size → AreHolders scope → Knows hart scope values f
+      → Made w hart values memory f
+  made w hart values memory f l holders knows =
+      let free = working-free scope address_register holders (inl (omega arith, omega arith)) in
+      let a = x.does w memory hart values f l holders free knows in
+      let first : (q : ℕ) → IsKept scope q → a.after q ≡ f q = (λ q h. let s = kept-apart scope q holders h in a.others q (free q h) s.0 s.1) in
+      let known = knows-still hart scope values f a.after first knows in
+      let g = y.does w memory a.after l (knows-zero hart scope values a.after known) in
+      let n1 : address_register ≢ scratch = (λ i. omega (arith, i)) in
+      let n2 : address_register ≢ second_scratch = (λ i. omega (arith, i)) in
+      record {
+        after = g.after;
+        line = line-then w x.insns y.insns f a.after g.after memory memory memory a.line g.line;
+        value = g.others address_register n1 n1 n2 ∙ a.value;
+        limit = g.value;
+        keeps = λ q h. let s = kept-apart scope q holders h in g.others q s.0 s.0 s.1 ∙ first q h;
+      }
+
+  module _ (own : Setting) (hart : ℕ) (values : Values) (t : ℕ) (left : Planes) (stored : Points) (f : ℕ → ℕ) (memory : List ℕ) (funcs : Planes)
+      (holders : AreHolders scope) (holds : HoldsFuncs own memory funcs) (knows : Knows hart scope values f) where
+    abbrev w : World
+    w = own.world
+
+    abbrev v : ℕ
+    v = form_value hart values form
+
+    abbrev m : Made own.world hart values memory f
+    m = made own.world hart values memory f holds.size holders knows
+
+    tests : (at : ℕ) → Stand w.text at whole → Stand w.text (end at front) over
+    tests at s = stand-back w.text at front over s
+
+    abbrev first : Went own whole (λ at. at) (λ at. end at front) (length front) f memory (IsKept scope) funcs no_hits
+    first = still own (λ at. at) (λ at. end at front) (length front) m.after holds m.keeps (λ at s. m.line at (stand-front w.text at front over s))
+
+    -- the body is due
+    done : v < extent → Did own body t m.after memory (IsKept scope) left stored
+        → Did own whole (length front + (1 + t)) f memory (IsKept scope) left stored
+    done less d =
+        let test : nat_lt (m.after address_register) (m.after scratch) ≡ true =
+        ap (λ n. nat_lt n (m.after scratch)) m.value ∙ ap (nat_lt v) m.limit ∙ lt-is v extent less in
+        let second : Went own whole (λ at. end at front) (λ at. end at front + 4 + 4) 1 m.after memory (IsKept scope) funcs no_hits =
+        still own (λ at. end at front) (λ at. end at front + 4 + 4) 1 m.after holds (λ q h. refl)
+        (λ at s.
+        let from = end at front in
+        let o = spot w.text (from + 4 + 4) body (tests at s).1.1 in
+        let g : from + 4 * 2 ≡ from + 4 + 4 = omega arith in
+        rules.taken w m.after memory holds.size branches.Bltu from (from + 4 + 4) address_register scratch (pos 4) (omega arith) (omega arith) test
+        (tests at s).0 (forth-to from 2 (from + 4 + 4) g o.low) o.aligned) in
+        let marked = marked-did (IsKept scope) (IsKept scope) (λ g. Unit {0}) (λ q h. h) (λ g same. tt) d in
+        let third : Went own whole (λ at. end at front + 4 + 4) (λ at. end at whole) t m.after memory (IsKept scope) left (points_hit stored) =
+        within own (λ at. end at front + 4 + 4) (λ at. end at whole) (λ at s. (tests at s).1.1) (λ at. sym (end-append at front over)) marked.went in
+        did-went (went-hits own (λ func i k hit. inr (inr hit)) (went-then own first (went-then own second third)))
+
+    -- or it is passed by
+    passed : extent ≤ v → Did own whole (length front + 2) f memory (IsKept scope) funcs (stored_if false stored)
+    passed more =
+        let test : nat_lt (m.after address_register) (m.after scratch) ≡ false =
+        ap (λ n. nat_lt n (m.after scratch)) m.value ∙ ap (nat_lt v) m.limit ∙ lt-not v extent more in
+        let second : Went own whole (λ at. end at front) (λ at. end at whole) 2 m.after memory (IsKept scope) funcs no_hits =
+        still own (λ at. end at front) (λ at. end at whole) 2 m.after holds (λ q h. refl)
+        (λ at s.
+        let from = end at front in
+        let to = end (from + 4 + 4) body in
+        let p = spot w.text (from + 4) (Jal zero_register (forth (length body + 1)) ∷ body) (tests at s).1 in
+        let o = behind w.text (from + 4 + 4) body (tests at s).1.1 in
+        let g : from + 4 + 4 * (length body + 1) ≡ to = let k = end-length (from + 4 + 4) body in omega (arith, k) in
+        subst (λ a. Path w from a 2 m.after memory m.after memory) (sym (end-append at front over))
+        (path-then w from (from + 4) to 1 1 m.after m.after m.after memory memory memory
+        (rules.passed w m.after memory holds.size branches.Bltu from address_register scratch (pos 4) (omega arith) (omega arith) test (tests at s).0 p.low)
+        (rules.jump w m.after memory holds.size (from + 4) to (forth (length body + 1)) (tests at s).1.0
+        (forth-to (from + 4) (length body + 1) to g o.low) o.aligned))) in
+        did-went (went-hits own (λ func i k hit. absurd (true≢false (sym hit))) (went-then own first second))
+
+    by-cases : (v < extent → (g : ℕ → ℕ) → Knows hart scope values g → Did own body t g memory (IsKept scope) left stored) → (test : Bool)
+        → nat_lt v extent ≡ test → Did own whole (if test then length front + 1 + t else length front + 2) f memory (IsKept scope)
+        (if test then left else funcs) (stored_if test stored)
+    by-cases go true is =
+        let less = ltb-true v extent is in
+        let n : length front + (1 + t) ≡ length front + 1 + t = omega arith in
+        subst (λ k. Did own whole k f memory (IsKept scope) left stored) n
+        (done less (go less m.after (knows-still hart scope values f m.after m.keeps knows)))
+    by-cases go false is = passed (not-below v extent is)
+
+  pub guards : Guards c0 c5 (sum_words form.sum.terms + 4) scope form extent body
+  guards = record {
+    insns = whole;
+    emits = emits_then (emits_then x.emits y.emits) (emits_then z (emits_then j (emits-apart c4 c5 words body b e)));
+    short =
+        let n1 : length whole ≡ length front + length over = length-append front over in
+        let n2 : length front ≡ length x.insns + length y.insns = length-append x.insns y.insns in
+        let s1 = x.short in
+        let s2 = y.short in
+        omega (arith, n1, n2, s1, s2);
+    before = length front + 1;
+    past = length front + 2;
+    does = λ own hart values t left stored f memory funcs holders holds knows go.
+        by-cases own hart values t left stored f memory funcs holders holds knows go (nat_lt (form_value hart values form) extent) refl;
+  }

@@ -1,0 +1,76 @@
+-- A test over a body, and code behind other code. This project's own.
+use Rattle.std.specs.Prelude.{◌≡◌, ◌⊎◌, ◌<◌, ◌≤◌, ℕ, zero, suc, ◌+◌, nat_lt, Bool, true, false, if◌then◌else◌, List, [], ◌++◌, length}
+use Rattle.rv_insn.specs.declared.instructions.Insn.{Insn}
+use Rattle.halide_pipeline.specs.Pixel.{Planes}
+use Rattle.loop_ir.specs.declared.expressions.Counter.{Counter}
+use Rattle.loop_ir.specs.Buffers.{Points}
+use Rattle.loop_ir.specs.Counters.{Values, with}
+use Rattle.loop_ir.specs.Running.{turns}
+use Rattle.task_code_scalar.specs.Doing.{Setting, HoldsFuncs}
+use Rattle.task_code_scalar.specs.Words.{Emits}
+use Rattle.task_code_registers.specs.declared.scopes.Form.{Form}
+use Rattle.task_code_registers.specs.declared.scopes.Held.{Held}
+use Rattle.task_code_registers.specs.Doing.{Did}
+use Rattle.task_code_registers.specs.Holding.{mentions}
+use Rattle.task_code_registers.specs.Looping.{StoresOf}
+use Rattle.task_code_registers.specs.Scopes.{Knows, AreHolders, IsKept, form_value}
+
+-- ---- tests
+
+-- of points that are stored under a test
+abbrev pub stored_if : Bool → Points → Points
+stored_if test stored func x y = if test then stored func x y else false
+
+-- Appended code does what a body does where a form is below an extent, and else nothing. Its turns hang on that alone.
+pub record Guards (old new : List ℕ) (most : ℕ) (scope : List Held) (form : Form) (extent : ℕ) (body : List Insn) : Type 0 where
+  pub insns : List Insn
+  pub emits : Emits old new insns
+  pub short : length insns ≤ most + length body
+  pub before : ℕ
+  pub past : ℕ
+  pub does : (own : Setting) (hart : ℕ) (values : Values) (t : ℕ) (left : Planes) (stored : Points) (f : ℕ → ℕ) (memory : List ℕ) (funcs : Planes)
+      → AreHolders scope → HoldsFuncs own memory funcs → Knows hart scope values f
+      → (form_value hart values form < extent → (g : ℕ → ℕ) → Knows hart scope values g → Did own body t g memory (IsKept scope) left stored)
+      → Did own insns (if nat_lt (form_value hart values form) extent then before + t else past) f memory (IsKept scope)
+      (if nat_lt (form_value hart values form) extent then left else funcs) (stored_if (nat_lt (form_value hart values form) extent) stored)
+
+-- ---- code behind other code
+
+-- Code does what it does where a scope's registers hold their forms, and keeps them.
+abbrev pub CodeFollows : Type 0
+CodeFollows =
+    (own : Setting) (hart : ℕ) (scope : List Held) (values : Values) (first second : List Insn) (n k : ℕ) (f : ℕ → ℕ) (memory : List ℕ)
+    (middle funcs : Planes) (stored one_stored other_stored : Points) → Knows hart scope values f → Did own first n f memory (IsKept scope) middle one_stored
+    → ((g : ℕ → ℕ) (left : List ℕ) → HoldsFuncs own left middle → Knows hart scope values g
+    → Did own second k g left (IsKept scope) funcs other_stored)
+    → ((func x y : ℕ) → stored func x y ≡ true → (one_stored func x y ≡ true) ⊎ (other_stored func x y ≡ true))
+    → Did own (first ++ second) (n + k) f memory (IsKept scope) funcs stored
+
+-- ---- iterations that are laid out, each with code of its own
+
+-- Code does the first so many iterations, in which a scope's registers hold the same forms.
+pub record DoesFirst (own : Setting) (hart : ℕ) (scope : List Held) (values : Values) (k : ℕ) (code : List Insn) (n : ℕ)
+    (one : ℕ → Planes → Planes) (stored : ℕ → Planes → Points) : Type 0 where
+  pub does : (f : ℕ → ℕ) (memory : List ℕ) (funcs : Planes) → HoldsFuncs own memory funcs → Knows hart scope values f
+      → Did own code n f memory (IsKept scope) (turns k one funcs) (stored k funcs)
+
+-- no code does none, and code of one iteration behind that of the ones before does one more
+abbrev pub NoneAreLaidOut : Type 0
+NoneAreLaidOut =
+    (own : Setting) (hart : ℕ) (scope : List Held) (values : Values) (one : ℕ → Planes → Planes) (body_stored stored : ℕ → Planes → Points)
+    → StoresOf stored body_stored one → DoesFirst own hart scope values 0 [] 0 one stored
+
+abbrev pub OneMoreIsLaidOut : Type 0
+OneMoreIsLaidOut =
+    (own : Setting) (hart : ℕ) (scope : List Held) (counter : Counter) (values : Values) (k n t : ℕ) (code body : List Insn)
+    (one : ℕ → Planes → Planes) (body_stored stored : ℕ → Planes → Points) → mentions counter scope ≡ false → StoresOf stored body_stored one
+    → DoesFirst own hart scope values k code n one stored
+    → ((f : ℕ → ℕ) (memory : List ℕ) (funcs : Planes) → HoldsFuncs own memory funcs → Knows hart scope (with counter k values) f
+    → Did own body t f memory (IsKept scope) (one k funcs) (body_stored k funcs))
+    → DoesFirst own hart scope values (suc k) (code ++ body) (n + t) one stored
+
+-- a scope with no term of a variable knows the same wherever it stands
+abbrev pub ScopesForget : Type 0
+ScopesForget =
+    (counter : Counter) (v hart : ℕ) (scope : List Held) (values : Values) (f : ℕ → ℕ) → mentions counter scope ≡ false
+    → (Knows hart scope values f → Knows hart scope (with counter v values) f) × (Knows hart scope (with counter v values) f → Knows hart scope values f)

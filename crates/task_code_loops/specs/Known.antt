@@ -1,0 +1,35 @@
+-- Loop variables that are sums of others. This project's own.
+use Rattle.std.specs.Prelude.{◌≡◌, ℕ, ◌%◌, ◌^◌, ◌||◌, not, ◌&&◌, Bool, true, false, List, [], ◌∷◌}
+use Rattle.loop_ir.specs.declared.expressions.Counter.{Counter}
+use Rattle.loop_ir.specs.declared.expressions.Linear.{Linear}
+use Rattle.loop_ir.specs.Counters.{Values, same_counter, with}
+use Rattle.loop_ir.specs.Expressions.{linear_value}
+use Rattle.task_code_registers.specs.declared.scopes.Form.{Form}
+use Rattle.task_code_registers.specs.Scopes.{form_value}
+use Rattle.task_code_registers.specs.Strides.{has_counter}
+use Rattle.task_code_loops.specs.declared.known.Known.{Known}
+
+-- each variable has its sum's value
+abbrev pub AreKnown : List Known → Values → Type 0
+AreKnown [] values = Unit {0}
+AreKnown (own ∷ others) values = (values own.counter % 2 ^ 32 ≡ linear_value values own.sum) × AreKnown others values
+
+-- a form is another one wherever these are known
+abbrev pub IsRewritten : List Known → Form → Form → Type 0
+IsRewritten known form made = (hart : ℕ) (values : Values) → AreKnown known values → form_value hart values made ≡ form_value hart values form
+
+-- none of these is that variable, or a sum of it
+abbrev pub is_fresh : Counter → List Known → Bool
+is_fresh counter [] = true
+is_fresh counter (own ∷ others) = not (same_counter own.counter counter || has_counter counter own.sum.terms) && is_fresh counter others
+
+-- What is known stays so wherever such a variable stands.
+abbrev pub KnownStays : Type 0
+KnownStays = (counter : Counter) (v : ℕ) (known : List Known) (values : Values) → is_fresh counter known ≡ true → AreKnown known values
+    → AreKnown known (with counter v values)
+
+-- A variable that stands at the value of a sum without it is known beside the others.
+abbrev pub OneMoreIsKnown : Type 0
+OneMoreIsKnown = (counter : Counter) (v : ℕ) (sum : Linear) (known : List Known) (values : Values) → is_fresh counter known ≡ true
+    → has_counter counter sum.terms ≡ false → v % 2 ^ 32 ≡ linear_value values sum → AreKnown known values
+    → AreKnown (record { counter = counter; sum = sum } ∷ known) (with counter v values)

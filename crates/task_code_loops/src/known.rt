@@ -1,0 +1,105 @@
+//! Loop variables that are sums of others, or numbers, while code runs: those of loops that run once, of unrolled ones,
+//! and of split ones.
+
+ghost use Rattle.std.specs.Prelude.{◌≡◌, ◌++◌, ◌+◌, ◌*◌, ◌%◌, ◌^◌, IfOk, IfSome, OnOk};
+ghost use Rattle.loop_ir.specs.Counters.{Values};
+ghost use Rattle.loop_ir.specs.Expressions.{linear_value, sum_of};
+ghost use Rattle.task_code_registers.specs.Points.{times};
+ghost use Rattle.task_code_loops.specs.Known.{AreKnown, IsRewritten};
+
+use halide_pipeline::words;
+use loop_ir::expressions::{Counter, Linear, Term, same_counter};
+use sqlite_items::Items;
+use std::alloc::{AllocError, Global};
+use task_code_registers::scopes::Form;
+
+/// A loop variable, and the sum that it is.
+#[derive(Debug, Drop)]
+pub struct Known {
+    pub counter: Counter,
+    pub sum: Linear,
+}
+
+/// The sum that a loop variable is, if that is known.
+fn known_sum<'a>(known: &'a [Known], counter: Counter) -> Option<&'a Linear>
+    ensures { IfSome result (λ sum. (values : Values) → AreKnown known.now values → values counter % 2 ^ 32 ≡ linear_value values sum.now) }
+{
+    match known {
+        [] => None,
+        [first, others @ ..] => {
+            if same_counter(first.counter, counter) {
+                return Some(&first.sum);
+            }
+            known_sum(others, counter)
+        }
+    }
+}
+
+/// Appends terms times a number.
+fn add_scaled(made: &mut Items<Term>, terms: &[Term], factor: u32) -> Result<(), AllocError>
+    ensures { OnOk result (made.new ≡ made.old ++ times factor terms.now) }
+{
+    match terms {
+        [] => Ok(()),
+        [first, others @ ..] => {
+            let stride = words::multiply(first.stride, factor);
+            made.push(Term {
+                counter: first.counter,
+                stride,
+            })?;
+            add_scaled(made, others, factor)?;
+            Ok(())
+        }
+    }
+}
+
+/// Adds terms to a sum, those of known loop variables by the sums that these are.
+fn add_known(made: &mut Linear, terms: &[Term], known: &[Known]) -> Result<(), AllocError>
+    ensures { OnOk result ((values : Values) → AreKnown known.now values → linear_value values made.new ≡ (linear_value values made.old + sum_of values terms.now) % 2 ^ 32) }
+{
+    match terms {
+        [] => Ok(()),
+        [first, others @ ..] => {
+            add_one(made, first, known)?;
+            add_known(made, others, known)?;
+            Ok(())
+        }
+    }
+}
+
+/// One term.
+fn add_one(made: &mut Linear, term: &Term, known: &[Known]) -> Result<(), AllocError>
+    ensures { OnOk result ((values : Values) → AreKnown known.now values → linear_value values made.new ≡ (linear_value values made.old + values term.now.counter * term.now.stride) % 2 ^ 32) }
+{
+    match known_sum(known, term.counter) {
+        Some(sum) => {
+            add_scaled(&mut made.terms, sum.terms.as_slice(), term.stride)?;
+            let more = words::multiply(term.stride, sum.number);
+            made.number = words::add(made.number, more);
+            Ok(())
+        }
+        None => {
+            made.terms.push(*term)?;
+            Ok(())
+        }
+    }
+}
+
+/// A form by the loop variables that aren't known.
+///
+/// # Errors
+///
+/// Memory ran out.
+pub fn by_others(alloc: Global, form: &Form, known: &[Known]) -> Result<Form, AllocError>
+    ensures { IfOk result (IsRewritten known.now form.now) }
+{
+    let mut sum = Linear {
+        number: form.sum.number,
+        terms: Items::new(alloc),
+    };
+    add_known(&mut sum, form.sum.terms.as_slice(), known)?;
+    Ok(Form {
+        sum,
+        per_hart: form.per_hart,
+    })
+}

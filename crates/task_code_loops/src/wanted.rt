@@ -1,0 +1,274 @@
+//! Which forms a loop's body wants in registers: addresses, and numbers that take two instructions, those that are used
+//! most first. A guess, of which nothing is promised.
+
+use crate::known::{Known, by_others};
+use crate::tests::number;
+use halide_pipeline::Source;
+use loop_ir::expressions::{Counter, Expr, Linear, Term};
+use loop_ir::statements::{Stmt, Store, Whole};
+use sqlite_items::Items;
+use std::alloc::{AllocError, Global};
+use task_code_registers::holding::at_value;
+use task_code_registers::numbers::fits;
+use task_code_registers::points::point_form;
+use task_code_registers::scopes::Form;
+use task_code_registers::sums::distance;
+use task_code_scalar::expressions::place_of;
+use task_code_scalar::places::Places;
+
+/// A form, and how often one near it is used.
+#[derive(Debug, Drop)]
+struct Use {
+    form: Form,
+    times: u32,
+}
+
+/// Whether a form is so near another one that an immediate tells them apart.
+fn is_near(alloc: Global, form: &Form, base: &Form) -> Result<bool, AllocError> {
+    match distance(alloc, form, base)? {
+        Some(number) => Ok(fits(number)),
+        None => Ok(false),
+    }
+}
+
+/// Where a form stands that is near this one.
+fn place_near(alloc: Global, found: &[Use], form: &Form) -> Result<Option<usize>, AllocError> {
+    for (place, own) in found.iter().enumerate() {
+        if is_near(alloc, form, &own.form)? {
+            return Ok(Some(place));
+        }
+    }
+    Ok(None)
+}
+
+/// Counts so many uses of a form.
+fn count(alloc: Global, found: &mut Vec<Use>, form: Form, times: u32) -> Result<(), AllocError> {
+    match place_near(alloc, found.as_slice(), &form)? {
+        Some(place) => {
+            if place < found.len() {
+                found[place].times = found[place].times.saturating_add(times);
+            }
+            Ok(())
+        }
+        None => {
+            found.push(Use { form, times })?;
+            Ok(())
+        }
+    }
+}
+
+/// An index as a sum, if it is one.
+fn sum_of(alloc: Global, e: &Expr) -> Result<Option<Linear>, AllocError> {
+    match e {
+        Expr::Linear(own) => {
+            let sum = own.copy(alloc)?;
+            Ok(Some(sum))
+        }
+        Expr::Number(n) => Ok(Some(Linear::of_number(alloc, *n))),
+        _ => Ok(None),
+    }
+}
+
+/// Counts the address of a point whose indexes are sums.
+fn count_point(
+    alloc: Global,
+    places: &Places,
+    source: Source,
+    x: &Expr,
+    y: &Expr,
+    found: &mut Vec<Use>,
+) -> Result<(), AllocError> {
+    match sum_of(alloc, x)? {
+        None => Ok(()),
+        Some(column) => match sum_of(alloc, y)? {
+            None => Ok(()),
+            Some(row) => {
+                let place = place_of(places, source);
+                let form = point_form(alloc, &place, &column, &row)?;
+                count(alloc, found, form, 1)?;
+                Ok(())
+            }
+        },
+    }
+}
+
+/// Counts a number that doesn't fit an immediate.
+fn count_number(alloc: Global, own: u32, found: &mut Vec<Use>) -> Result<(), AllocError> {
+    if fits(own) {
+        return Ok(());
+    }
+    count(alloc, found, number(alloc, own), 1)?;
+    Ok(())
+}
+
+fn gather_expr(
+    alloc: Global,
+    places: &Places,
+    e: &Expr,
+    found: &mut Vec<Use>,
+) -> Result<(), AllocError> {
+    match e {
+        Expr::Number(n) => {
+            count_number(alloc, *n, found)?;
+            Ok(())
+        }
+        Expr::Linear(_) => Ok(()),
+        Expr::Binary(_, a, b) => {
+            gather_expr(alloc, places, a.get(), found)?;
+            gather_expr(alloc, places, b.get(), found)?;
+            Ok(())
+        }
+        Expr::Divide(a, divisor) => {
+            gather_expr(alloc, places, a.get(), found)?;
+            count(alloc, found, number(alloc, *divisor), 1)?;
+            Ok(())
+        }
+        Expr::Remainder(a, divisor) => {
+            gather_expr(alloc, places, a.get(), found)?;
+            count(alloc, found, number(alloc, *divisor), 1)?;
+            Ok(())
+        }
+        Expr::Select(c, a, b) => {
+            gather_expr(alloc, places, c.get(), found)?;
+            gather_expr(alloc, places, a.get(), found)?;
+            gather_expr(alloc, places, b.get(), found)?;
+            Ok(())
+        }
+        Expr::Load(source, x, y) => {
+            gather_expr(alloc, places, x.get(), found)?;
+            gather_expr(alloc, places, y.get(), found)?;
+            count_point(alloc, places, *source, x.get(), y.get(), found)?;
+            Ok(())
+        }
+    }
+}
+
+fn gather_store(
+    alloc: Global,
+    places: &Places,
+    store: &Store,
+    found: &mut Vec<Use>,
+) -> Result<(), AllocError> {
+    gather_expr(alloc, places, &store.value, found)?;
+    let source = Source::Func(store.func);
+    count_point(alloc, places, source, &store.x, &store.y, found)?;
+    Ok(())
+}
+
+/// Counts forms as they are in a loop's first iteration.
+fn count_at_zero(
+    alloc: Global,
+    inner: &[Use],
+    counter: Counter,
+    found: &mut Vec<Use>,
+) -> Result<(), AllocError> {
+    for own in inner {
+        let form = at_value(alloc, &own.form, counter, 0)?;
+        count(alloc, found, form, own.times)?;
+    }
+    Ok(())
+}
+
+/// The value of a split loop, where it is a sum of those of its two loops.
+fn split_sum(alloc: Global, counter: Counter, whole: &Whole) -> Result<Vec<Known>, AllocError> {
+    let mut known = Vec::new(alloc);
+    if whole.last.is_some() {
+        return Ok(known);
+    }
+    let mut terms = Items::new(alloc);
+    terms.push(Term {
+        counter: whole.outer,
+        stride: whole.factor,
+    })?;
+    terms.push(Term {
+        counter: whole.inner,
+        stride: 1,
+    })?;
+    known.push(Known {
+        counter,
+        sum: Linear { number: 0, terms },
+    })?;
+    Ok(known)
+}
+
+/// Counts forms by other loop variables.
+fn count_by_others(
+    alloc: Global,
+    inner: &[Use],
+    known: &[Known],
+    found: &mut Vec<Use>,
+) -> Result<(), AllocError> {
+    for own in inner {
+        let form = by_others(alloc, &own.form, known)?;
+        count(alloc, found, form, own.times)?;
+    }
+    Ok(())
+}
+
+fn gather(
+    alloc: Global,
+    places: &Places,
+    statement: &Stmt,
+    found: &mut Vec<Use>,
+) -> Result<(), AllocError> {
+    match statement {
+        Stmt::Store(store) => {
+            gather_store(alloc, places, store, found)?;
+            Ok(())
+        }
+        Stmt::Sequence(first, second) => {
+            gather(alloc, places, first.get(), found)?;
+            gather(alloc, places, second.get(), found)?;
+            Ok(())
+        }
+        Stmt::For(counter, _, _, body) => {
+            let mut inner = Vec::new(alloc);
+            gather(alloc, places, body.get(), &mut inner)?;
+            count_at_zero(alloc, inner.as_slice(), *counter, found)?;
+            Ok(())
+        }
+        Stmt::Bind(counter, whole, _, body) => {
+            let mut inner = Vec::new(alloc);
+            gather(alloc, places, body.get(), &mut inner)?;
+            let known = split_sum(alloc, *counter, whole)?;
+            count_by_others(alloc, inner.as_slice(), known.as_slice(), found)?;
+            Ok(())
+        }
+    }
+}
+
+/// Where the form stands that is used most; none where there is none.
+fn most_used(found: &[Use]) -> Option<usize> {
+    let mut best = None;
+    let mut most = 0;
+    for (place, own) in found.iter().enumerate() {
+        if own.times > most {
+            best = Some(place);
+            most = own.times;
+        }
+    }
+    best
+}
+
+/// The forms that a loop's body wants in registers, most used first.
+///
+/// # Errors
+///
+/// Memory ran out.
+pub fn wanted_forms(alloc: Global, places: &Places, body: &Stmt) -> Result<Vec<Form>, AllocError> {
+    let mut found = Vec::new(alloc);
+    gather(alloc, places, body, &mut found)?;
+    let mut wanted = Vec::new(alloc);
+    for _ in 0..found.len() {
+        match most_used(found.as_slice()) {
+            Some(place) => {
+                if place < found.len() {
+                    let own = found.swap_remove(place);
+                    wanted.push(own.form)?;
+                }
+            }
+            None => {}
+        }
+    }
+    Ok(wanted)
+}
