@@ -1,5 +1,5 @@
 -- Forms that are held before a loop, one behind the other.
-use Rattle.std.proofs.Common.{◌≡◌, ℕ, ◌+◌, ◌*◌, ◌-◌, ◌<◌, ◌≤◌, List, [], ◌∷◌, length, get_or, take, drop, true, refl, ap, ◌∙◌, sym, subst, arith}
+use Rattle.std.proofs.Common.{◌≡◌, ℕ, ◌+◌, ◌-◌, ◌≤◌, List, [], ◌∷◌, length, get_or, take, drop, true, refl, ap, ◌∙◌, sym, subst, arith}
 use Rattle.loop_ir.specs.declared.expressions.Counter.{Counter}
 use Rattle.multi_hart_logic.proofs.Paths.{stay}
 use Rattle.task_code_scalar.proofs.Spelling.{emits-none}
@@ -7,7 +7,6 @@ use Rattle.task_code_registers.specs.declared.scopes.Form.{Form}
 use Rattle.task_code_registers.specs.declared.scopes.Held.{Held}
 use Rattle.task_code_registers.specs.Emitting.{sum_words}
 use Rattle.task_code_registers.specs.Holding.{Enters, Takes, can_advance}
-use Rattle.task_code_registers.specs.Scopes.{left_count}
 use Rattle.task_code_registers.proofs.Entering.{scopes-nest}
 use Rattle.task_code_registers.proofs.Knowing.{others-are}
 use Rattle.task_code_loops.specs.Beginning.{Gains, forms_words}

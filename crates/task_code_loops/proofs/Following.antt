@@ -1,15 +1,8 @@
 -- Code behind other code, and iterations that are laid out.
-use Rattle.std.proofs.Common.{◌≡◌, ℕ, zero, suc, ◌+◌, List, [], ◌++◌, true, refl, ◌∙◌, sym, inl, inr}
-use Rattle.std.specs.Prelude.{◌⊎◌}
-use Rattle.rv_insn.specs.declared.instructions.Insn.{Insn}
-use Rattle.halide_pipeline.specs.Pixel.{Planes}
-use Rattle.loop_ir.specs.Buffers.{Points}
+use Rattle.std.proofs.Common.{suc, ◌++◌, refl, sym}
 use Rattle.loop_ir.specs.Running.{turns}
 use Rattle.multi_hart_logic.specs.Paths.{end}
 use Rattle.multi_hart_logic.proofs.Paths.{stay, stand-front, stand-back, end-append}
-use Rattle.task_code_scalar.specs.Doing.{Setting, HoldsFuncs}
-use Rattle.task_code_registers.specs.declared.scopes.Held.{Held}
-use Rattle.task_code_registers.specs.Doing.{Did}
 use Rattle.task_code_registers.specs.Scopes.{Knows, IsKept}
 use Rattle.task_code_registers.proofs.Going.{Went, went-hits, went-then, within, still}
 use Rattle.task_code_registers.proofs.Knowing.{knows-still}

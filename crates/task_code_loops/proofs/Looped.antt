@@ -1,28 +1,22 @@
 -- What is appended behind a body makes a loop of it, and with what is appended in front of it a whole one.
-use Rattle.std.proofs.Common.{◌≡◌, ℕ, suc, ◌+◌, ◌-◌, ◌*◌, ◌<◌, ◌≤◌, List, ◌++◌, length, true, false, refl, ap, ◌∙◌, sym, subst, arith, inl, inr}
+use Rattle.std.proofs.Common.{◌≡◌, ℕ, suc, ◌+◌, ◌-◌, ◌*◌, ◌<◌, ◌≤◌, List, ◌++◌, length, true, false, ap, ◌∙◌, sym, subst, arith, inr}
 use Rattle.std.proofs.Common.{length-append}
-use Rattle.std.specs.Prelude.{◌≢◌, if◌then◌else◌, nat_lt}
+use Rattle.std.specs.Prelude.{if◌then◌else◌, nat_lt}
 use Rattle.std.proofs.lemmas.Bool.Decides.{nat_tests}
 use Rattle.rv_insn.specs.declared.instructions.Insn.{Insn}
 use Rattle.rv_insn.specs.declared.operations.BranchOp.TheVariants as branches
 use Rattle.hart_core.specs.Alu.{is_taken}
-use Rattle.halide_pipeline.specs.Pixel.{Planes}
 use Rattle.loop_ir.specs.declared.expressions.Counter.{Counter}
-use Rattle.loop_ir.specs.Buffers.{Points}
 use Rattle.loop_ir.specs.Counters.{Values, with}
 use Rattle.loop_ir.specs.Running.{turns}
 use Rattle.multi_hart_logic.specs.Alone.{World}
 use Rattle.multi_hart_logic.specs.Paths.{Stand, end, Path, Line}
 use Rattle.multi_hart_logic.proofs.Paths.{spot, path-then, line-then, stand-front, stand-back, end-append}
-use Rattle.task_code_scalar.specs.Doing.{Setting, HoldsFuncs}
 use Rattle.task_code_scalar.specs.Fitting.{total}
-use Rattle.task_code_scalar.specs.Words.{Emits}
 use Rattle.task_code_scalar.proofs.Looping.{end-length}
 use Rattle.task_code_scalar.proofs.Spelling.{emits_then}
 use Rattle.task_code_registers.specs.declared.scopes.Held.{Held}
-use Rattle.task_code_registers.specs.Doing.{Did}
 use Rattle.task_code_registers.specs.Holding.{Advances, Enters, mentions, moving}
-use Rattle.task_code_registers.specs.Looping.{StoresOf}
 use Rattle.task_code_registers.specs.Scopes.{Knows, AreHolders, IsKept}
 use Rattle.task_code_registers.proofs.Advancing.{scopes-stay}
 use Rattle.task_code_registers.proofs.Going.{Went, no_hits, went-hits, went-then, within, still}
@@ -30,8 +24,8 @@ use Rattle.task_code_registers.proofs.Knowing.{may-hold, knows-zero, knows-still
 use Rattle.task_code_registers.proofs.Looping.{marked-did, did-went, points_hit}
 use Rattle.task_code_registers.proofs.Making.{short-then}
 use Rattle.task_code_loops.specs.declared.beginning.Begun.{Begun}
-use Rattle.task_code_loops.specs.Beginning.{limit_of, CanEnd, IsBegun}
-use Rattle.task_code_loops.specs.Ending.{MakesLimit, GoesBack, DoesEach, StaysIn, end_words, EndsLoop, MakesLoop, LoopsAreMade}
+use Rattle.task_code_loops.specs.Beginning.{CanEnd}
+use Rattle.task_code_loops.specs.Ending.{MakesLimit, GoesBack, StaysIn, end_words, EndsLoop, MakesLoop, LoopsAreMade}
 use Rattle.task_code_loops.proofs.Knowledge.{knows-with}
 use Rattle.task_code_loops.proofs.Repeating.{Turned, loop-goes}
 use Rattle.task_code_loops.proofs.Returning.{emits-longer}

@@ -1,6 +1,6 @@
 -- A body and what stands behind it do iterations: any body that keeps what is known in one, and behind it any code that makes of it what is known
 -- in the next one and goes back while there is one.
-use Rattle.std.proofs.Common.{◌≡◌, ℕ, zero, suc, ◌+◌, ◌-◌, ◌*◌, ◌<◌, ◌≤◌, List, [], ◌∷◌, ◌++◌, length, true, refl}
+use Rattle.std.proofs.Common.{◌≡◌, ℕ, zero, suc, ◌+◌, ◌-◌, ◌<◌, ◌≤◌, List, ◌++◌, length, refl}
 use Rattle.std.proofs.Common.{subst, arith, inl}
 use Rattle.std.specs.Prelude.{◌⊎◌}
 use Rattle.rv_insn.specs.declared.instructions.Insn.{Insn}

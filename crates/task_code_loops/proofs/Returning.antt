@@ -1,34 +1,24 @@
 -- What stands behind a body: limits, ways back, and all of it.
-use Rattle.std.proofs.Common.{◌≡◌, ℕ, suc, ◌+◌, ◌-◌, ◌*◌, ◌%◌, ◌^◌, ◌<◌, ◌≤◌, List, [], ◌∷◌, ◌++◌, length, Bool, true, false}
-use Rattle.std.proofs.Common.{refl, ap, ◌∙◌, sym, subst, arith, inl, inr, length-append}
-use Rattle.std.specs.Prelude.{◌≢◌, ◌==◌, not, if◌then◌else◌, nat_lt, pos}
-use Rattle.std.proofs.lemmas.Bool.{true≢false, ltb-true}
-use Rattle.std.proofs.lemmas.Bool.Decides.{nat_tests}
+use Rattle.std.proofs.Common.{◌≡◌, ℕ, ◌+◌, ◌*◌, ◌<◌, ◌≤◌, List, [], ◌∷◌, length, Bool, true, false}
+use Rattle.std.proofs.Common.{refl, ap, ◌∙◌, sym, subst, arith, length-append}
+use Rattle.std.specs.Prelude.{◌==◌, not, pos}
+use Rattle.std.proofs.lemmas.Bool.{true≢false}
 use Rattle.rv_insn.specs.declared.instructions.Insn.{Insn}
 use Rattle.rv_insn.specs.declared.instructions.Insn.TheVariants.{Branch, Jal}
 use Rattle.rv_insn.specs.declared.operations.BranchOp.TheVariants as branches
-use Rattle.hart_core.specs.Alu.{is_taken}
-use Rattle.loop_ir.specs.Counters.{Values, with}
-use Rattle.multi_hart_logic.specs.Alone.{World}
-use Rattle.multi_hart_logic.specs.Paths.{Spot, Stand, end, Path}
 use Rattle.multi_hart_logic.proofs.Jumps as rules
-use Rattle.multi_hart_logic.proofs.Paths.{spot, stay, path-then, line-then, stand-front, stand-back, end-append}
+use Rattle.multi_hart_logic.proofs.Paths.{spot, stay, path-then}
 use Rattle.task_code_scalar.specs.Code.{back}
 use Rattle.task_code_scalar.specs.Words.{Emits}
-use Rattle.task_code_scalar.proofs.Looping.{end-length, back-to, forth-to}
+use Rattle.task_code_scalar.proofs.Looping.{back-to, forth-to}
 use Rattle.task_code_scalar.proofs.Spelling.{emits_then, emits-none, spell-length}
-use Rattle.task_code_registers.specs.declared.scopes.Held.{Held}
-use Rattle.task_code_registers.specs.Registers.{zero_register, scratch, second_scratch, may_hold}
+use Rattle.task_code_registers.specs.Registers.{zero_register, scratch, may_hold}
 use Rattle.task_code_registers.specs.Emitting.{Makes}
-use Rattle.task_code_registers.specs.Holding.{Advances, IsSteady, moving}
-use Rattle.task_code_registers.specs.Scopes.{Knows, AreHolders, IsKept}
-use Rattle.task_code_registers.proofs.Knowing.{may-hold, knows-zero, knows-still, kept-apart}
-use Rattle.task_code_loops.specs.declared.beginning.Begun.{Begun}
+use Rattle.task_code_registers.proofs.Knowing.{may-hold}
 use Rattle.task_code_loops.specs.declared.tests.Limit.{Limit}
 use Rattle.task_code_loops.specs.declared.tests.Limit.TheVariants.{Register, Number}
-use Rattle.task_code_loops.specs.Beginning.{limit_of, may_be_limit, IsTest, CanEnd}
-use Rattle.task_code_loops.specs.Ending.{LeavesLimit, MakesLimit, GoesBack, StaysIn, end_words}
-use Rattle.task_code_loops.proofs.Repeating.{Turned}
+use Rattle.task_code_loops.specs.Beginning.{may_be_limit}
+use Rattle.task_code_loops.specs.Ending.{MakesLimit, GoesBack}
 
 -- ---- limits
 

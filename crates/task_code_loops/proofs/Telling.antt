@@ -1,5 +1,5 @@
 -- What tells when a loop ends.
-use Rattle.std.proofs.Common.{◌≡◌, ℕ, suc, ◌+◌, ◌-◌, ◌*◌, ◌%◌, ◌^◌, ◌<◌, ◌≤◌, List, [], ◌∷◌, length, get_or, take, drop, Bool, true, false}
+use Rattle.std.proofs.Common.{◌≡◌, ℕ, suc, ◌+◌, ◌-◌, ◌*◌, ◌^◌, ◌<◌, ◌≤◌, List, [], ◌∷◌, length, get_or, take, drop, true, false}
 use Rattle.std.proofs.Common.{refl, ap, ◌∙◌, sym, subst, arith, inl, inr}
 use Rattle.std.specs.Prelude.{◌==◌, ◌⊎◌, not, nat_lt}
 use Rattle.std.proofs.lemmas.Bool.{cases_lt, ltb-true}
@@ -7,7 +7,7 @@ use Rattle.std.proofs.lemmas.Bool.Decides.{nat_tests}
 use Rattle.rv_insn.specs.declared.operations.BranchOp.TheVariants as branches
 use Rattle.hart_core.specs.Alu.{is_taken}
 use Rattle.loop_ir.specs.declared.expressions.Counter.{Counter}
-use Rattle.loop_ir.specs.Counters.{Values, with}
+use Rattle.loop_ir.specs.Counters.{with}
 use Rattle.task_code_registers.specs.declared.scopes.Form.{Form}
 use Rattle.task_code_registers.specs.declared.scopes.Held.{Held}
 use Rattle.task_code_registers.specs.Emitting.{sum_words}
@@ -15,7 +15,6 @@ use Rattle.task_code_registers.specs.Holding.{Enters, Extends, Takes, IsAt, can_
 use Rattle.task_code_registers.specs.Looping as looping
 use Rattle.task_code_registers.specs.Registers.{may_hold}
 use Rattle.task_code_registers.specs.Scopes.{Knows, form_value, has_variable, left_count}
-use Rattle.task_code_registers.specs.Strides.{others_of}
 use Rattle.task_code_registers.proofs.Ending.{limits-tell}
 use Rattle.task_code_registers.proofs.Knowing.{others-are}
 use Rattle.task_code_registers.proofs.Striding.{others-fewer}
@@ -23,7 +22,7 @@ use Rattle.task_code_loops.specs.declared.beginning.Begun.{Begun}
 use Rattle.task_code_loops.specs.declared.tests.Limit.{Limit}
 use Rattle.task_code_loops.specs.declared.tests.Limit.TheVariants.{Register, Number}
 use Rattle.task_code_loops.specs.declared.tests.Tested.{Tested}
-use Rattle.task_code_loops.specs.Beginning.{variable, number, forms_words, limit_of, may_be_limit, IsTest, Gains, Tests, Betters, CanEnd, begin_words, IsBegun}
+use Rattle.task_code_loops.specs.Beginning.{variable, number, forms_words, may_be_limit, IsTest, Gains, Tests, Betters, begin_words, IsBegun}
 use Rattle.task_code_loops.proofs.Entered.{enters-none, enters-more, enters-then, can-taken}
 use Rattle.task_code_loops.proofs.Knowledge.{can-unmentioned, knows-more, number-value, variable-more, variable-there, variable-value}
 

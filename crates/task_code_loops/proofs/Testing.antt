@@ -1,5 +1,5 @@
 -- A test over a body.
-use Rattle.std.proofs.Common.{◌≡◌, ℕ, suc, ◌+◌, ◌*◌, ◌<◌, ◌≤◌, List, [], ◌∷◌, ◌++◌, length, Bool, true, false, refl, ap, ◌∙◌, sym, subst, arith, inl, inr}
+use Rattle.std.proofs.Common.{◌≡◌, ℕ, ◌+◌, ◌*◌, ◌<◌, ◌≤◌, List, [], ◌∷◌, ◌++◌, length, Bool, true, false, refl, ap, ◌∙◌, sym, subst, arith, inl, inr}
 use Rattle.std.proofs.Common.{length-append}
 use Rattle.std.specs.Prelude.{◌≢◌, if◌then◌else◌, nat_lt, pos}
 use Rattle.std.proofs.lemmas.Bool.{true≢false, ltb-true, cases_lt}
@@ -23,8 +23,8 @@ use Rattle.task_code_registers.specs.declared.scopes.Form.{Form}
 use Rattle.task_code_registers.specs.declared.scopes.Held.{Held}
 use Rattle.task_code_registers.specs.Registers.{zero_register, address_register, scratch, second_scratch}
 use Rattle.task_code_registers.specs.Doing.{Did}
-use Rattle.task_code_registers.specs.Emitting.{Makes, MakesValue, Puts, sum_words}
-use Rattle.task_code_registers.specs.Scopes.{Knows, AreHolders, IsFree, IsKept, form_value}
+use Rattle.task_code_registers.specs.Emitting.{Makes, MakesValue, sum_words}
+use Rattle.task_code_registers.specs.Scopes.{Knows, AreHolders, IsKept, form_value}
 use Rattle.task_code_registers.proofs.Going.{Went, no_hits, went-hits, went-then, within, still}
 use Rattle.task_code_registers.proofs.Knowing.{knows-zero, knows-still, kept-apart, working-free}
 use Rattle.task_code_registers.proofs.Looping.{marked-did, did-went, points_hit}

@@ -1,16 +1,16 @@
 -- What stands in front of a loop: forms that registers hold, and what tells behind each iteration whether there is a next one.
 -- This project's own.
-use Rattle.std.specs.Prelude.{◌≡◌, ◌<◌, ◌≤◌, ℕ, suc, ◌+◌, ◌*◌, ◌^◌, nat_lt, Bool, true, List, [], ◌∷◌}
+use Rattle.std.specs.Prelude.{◌≡◌, ◌<◌, ◌≤◌, ℕ, suc, ◌+◌, ◌*◌, ◌^◌, nat_lt, Bool, true, false, List, [], ◌∷◌}
 use Rattle.rv_insn.specs.declared.operations.BranchOp.TheVariants as branches
 use Rattle.hart_core.specs.Alu.{is_taken}
 use Rattle.loop_ir.specs.declared.expressions.Counter.{Counter}
 use Rattle.loop_ir.specs.Counters.{Values, with}
 use Rattle.task_code_registers.specs.declared.scopes.Form.{Form}
 use Rattle.task_code_registers.specs.declared.scopes.Held.{Held}
-use Rattle.task_code_registers.specs.Emitting.{sum_words}
+use Rattle.task_code_registers.specs.Emitting.{MakesValue, sum_words}
 use Rattle.task_code_registers.specs.Holding.{Enters, can_advance}
 use Rattle.task_code_registers.specs.Registers.{may_hold}
-use Rattle.task_code_registers.specs.Scopes.{Knows, left_count}
+use Rattle.task_code_registers.specs.Scopes.{Knows, have_registers, left_count}
 use Rattle.task_code_loops.specs.declared.beginning.Begun.{Begun}
 use Rattle.task_code_loops.specs.declared.tests.Limit.{Limit}
 use Rattle.task_code_loops.specs.declared.tests.Limit.TheVariants.{Register, Number}
@@ -31,6 +31,18 @@ number n = record { sum = record { number = n; terms = [] }; per_hart = 0 }
 abbrev pub forms_words : List Form → ℕ
 forms_words [] = 0
 forms_words (form ∷ others) = sum_words form.sum.terms + forms_words others
+
+-- a form's value is made in a register, if it says so
+abbrev pub MakesIf : List ℕ → List ℕ → List Held → Form → ℕ → Bool → Type 0
+MakesIf old new scope form r made = made ≡ true → MakesValue old new scope form r
+
+-- a loop variable of the form has no register
+abbrev pub HasNoRegister : List Held → Form → Type 0
+HasNoRegister scope form = have_registers scope form.sum.terms ≡ false
+
+-- or there is no code
+abbrev pub IsUnknownIf : List ℕ → List ℕ → List Held → Form → Bool → Type 0
+IsUnknownIf old new scope form made = made ≡ false → (new ≡ old) × HasNoRegister scope form
 
 -- ---- when a loop ends
 
@@ -58,12 +70,26 @@ pub record Gains (old new : List ℕ) (most : ℕ) (counter : Counter) (reserved
   pub can : can_advance counter scope ≡ true → can_advance counter inner ≡ true
   pub left : reserved ≤ left_count scope → reserved ≤ left_count inner
 
+-- so it is for one form, and for several
+abbrev pub GainsForm : List ℕ → List ℕ → Counter → Form → ℕ → List Held → List Held → Type 0
+GainsForm old new counter form reserved scope inner = Gains old new (sum_words form.sum.terms) counter reserved scope inner
+
+abbrev pub GainsForms : List ℕ → List ℕ → Counter → List Form → ℕ → List Held → List Held → Type 0
+GainsForms old new counter wanted reserved scope inner = Gains old new (forms_words wanted) counter reserved scope inner
+
 -- a scope in which there is a test
 pub record Tests (old new : List ℕ) (most : ℕ) (counter : Counter) (count : ℕ) (scope : List Held) (reserved : ℕ) (tested : Tested) : Type 0 where
   pub enters : Enters old new most counter scope tested.scope.items
   pub can : can_advance counter scope ≡ true → can_advance counter tested.scope.items ≡ true
   pub left : reserved ≤ left_count tested.scope.items
   pub test : IsTest counter count tested.scope.items tested.register tested.limit
+
+-- by a form, or by one of several
+abbrev pub TestsForm : List ℕ → List ℕ → Form → Counter → ℕ → List Held → ℕ → Tested → Type 0
+TestsForm old new form counter count scope reserved tested = Tests old new (10 + 2 * sum_words form.sum.terms) counter count scope reserved tested
+
+abbrev pub TestsForms : List ℕ → List ℕ → List Form → Counter → ℕ → List Held → ℕ → Tested → Type 0
+TestsForms old new wanted counter count scope reserved tested = Tests old new (10 + 2 * forms_words wanted) counter count scope reserved tested
 
 -- Another scope, in which there is a test wherever there is one in this scope.
 pub record Betters (old new : List ℕ) (most : ℕ) (counter : Counter) (reserved : ℕ) (tested made : Tested) : Type 0 where
@@ -88,3 +114,7 @@ pub record IsBegun (old new : List ℕ) (most : ℕ) (counter : Counter) (count 
   pub counter_is : begun.counter ≡ counter
   pub count_is : begun.count ≡ count
   pub left : reserved ≤ left_count begun.inner.items
+
+-- of these forms as far as there is room
+abbrev pub Begins : List ℕ → List ℕ → List Form → Counter → ℕ → List Held → ℕ → Begun → Type 0
+Begins old new wanted counter count scope reserved begun = IsBegun old new (begin_words wanted) counter count scope reserved begun

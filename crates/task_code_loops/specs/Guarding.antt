@@ -1,5 +1,5 @@
 -- A test over a body, and code behind other code. This project's own.
-use Rattle.std.specs.Prelude.{◌≡◌, ◌⊎◌, ◌<◌, ◌≤◌, ℕ, zero, suc, ◌+◌, nat_lt, Bool, true, false, if◌then◌else◌, List, [], ◌++◌, length}
+use Rattle.std.specs.Prelude.{◌≡◌, ◌⊎◌, ◌<◌, ◌≤◌, ℕ, suc, ◌+◌, nat_lt, Bool, true, false, if◌then◌else◌, List, [], ◌++◌, length}
 use Rattle.rv_insn.specs.declared.instructions.Insn.{Insn}
 use Rattle.halide_pipeline.specs.Pixel.{Planes}
 use Rattle.loop_ir.specs.declared.expressions.Counter.{Counter}
@@ -11,6 +11,7 @@ use Rattle.task_code_scalar.specs.Words.{Emits}
 use Rattle.task_code_registers.specs.declared.scopes.Form.{Form}
 use Rattle.task_code_registers.specs.declared.scopes.Held.{Held}
 use Rattle.task_code_registers.specs.Doing.{Did}
+use Rattle.task_code_registers.specs.Emitting.{sum_words}
 use Rattle.task_code_registers.specs.Holding.{mentions}
 use Rattle.task_code_registers.specs.Looping.{StoresOf}
 use Rattle.task_code_registers.specs.Scopes.{Knows, AreHolders, IsKept, form_value}
@@ -33,6 +34,11 @@ pub record Guards (old new : List ℕ) (most : ℕ) (scope : List Held) (form : 
       → (form_value hart values form < extent → (g : ℕ → ℕ) → Knows hart scope values g → Did own body t g memory (IsKept scope) left stored)
       → Did own insns (if nat_lt (form_value hart values form) extent then before + t else past) f memory (IsKept scope)
       (if nat_lt (form_value hart values form) extent then left else funcs) (stored_if (nat_lt (form_value hart values form) extent) stored)
+
+-- so it is of a body whose words were made apart
+abbrev pub GuardsWords : List ℕ → List ℕ → List Held → Form → ℕ → List ℕ → Type 0
+GuardsWords old new scope form extent words =
+    (insns : List Insn) → Emits [] words insns → Guards old new (sum_words form.sum.terms + 4) scope form extent insns
 
 -- ---- code behind other code
 

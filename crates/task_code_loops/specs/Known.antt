@@ -1,9 +1,10 @@
 -- Loop variables that are sums of others. This project's own.
-use Rattle.std.specs.Prelude.{◌≡◌, ℕ, ◌%◌, ◌^◌, ◌||◌, not, ◌&&◌, Bool, true, false, List, [], ◌∷◌}
+use Rattle.std.specs.Prelude.{◌≡◌, ℕ, ◌+◌, ◌*◌, ◌%◌, ◌^◌, ◌||◌, not, ◌&&◌, Bool, true, false, List, [], ◌∷◌}
 use Rattle.loop_ir.specs.declared.expressions.Counter.{Counter}
 use Rattle.loop_ir.specs.declared.expressions.Linear.{Linear}
 use Rattle.loop_ir.specs.Counters.{Values, same_counter, with}
-use Rattle.loop_ir.specs.Expressions.{linear_value}
+use Rattle.loop_ir.specs.declared.expressions.Term.{Term}
+use Rattle.loop_ir.specs.Expressions.{linear_value, sum_of}
 use Rattle.task_code_registers.specs.declared.scopes.Form.{Form}
 use Rattle.task_code_registers.specs.Scopes.{form_value}
 use Rattle.task_code_registers.specs.Strides.{has_counter}
@@ -13,6 +14,19 @@ use Rattle.task_code_loops.specs.declared.known.Known.{Known}
 abbrev pub AreKnown : List Known → Values → Type 0
 AreKnown [] values = Unit {0}
 AreKnown (own ∷ others) values = (values own.counter % 2 ^ 32 ≡ linear_value values own.sum) × AreKnown others values
+
+-- a variable is a sum wherever these are known
+abbrev pub IsKnownSum : List Known → Counter → Linear → Type 0
+IsKnownSum known counter sum = (values : Values) → AreKnown known values → values counter % 2 ^ 32 ≡ linear_value values sum
+
+-- a sum is another one and a term, or several
+abbrev pub AddsTerm : List Known → Linear → Linear → Term → Type 0
+AddsTerm known old new term =
+    (values : Values) → AreKnown known values → linear_value values new ≡ (linear_value values old + values term.counter * term.stride) % 2 ^ 32
+
+abbrev pub AddsTerms : List Known → Linear → Linear → List Term → Type 0
+AddsTerms known old new terms =
+    (values : Values) → AreKnown known values → linear_value values new ≡ (linear_value values old + sum_of values terms) % 2 ^ 32
 
 -- a form is another one wherever these are known
 abbrev pub IsRewritten : List Known → Form → Form → Type 0

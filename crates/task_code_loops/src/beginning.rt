@@ -4,7 +4,7 @@ ghost use Rattle.std.specs.Prelude.{◌≡◌, [], ◌<◌, ◌≤◌, ◌^◌, 
 ghost use Rattle.task_code_scalar.specs.Faults.{IsFault};
 ghost use Rattle.task_code_registers.specs.Holding.{mentions};
 ghost use Rattle.task_code_registers.specs.Scopes.{has_variable, left_count};
-ghost use Rattle.task_code_loops.specs.Beginning.{IsBegun, begin_words};
+ghost use Rattle.task_code_loops.specs.Beginning.{Begins};
 
 use crate::holding::hold_all;
 use crate::tests::{Limit, Tested, begin_test, hold_limit};
@@ -43,7 +43,7 @@ pub fn begin_loop(
     requires steady { mentions counter scope.now ≡ false }
     requires some { 1 ≤ count }
     requires few { reserved < 2 ^ 32 }
-    ensures ok { IfOk result (IsBegun code.old.items code.new.items (begin_words wanted.now) counter count scope.now reserved) }
+    ensures ok { IfOk result (Begins code.old.items code.new.items wanted.now counter count scope.now reserved) }
     ensures variable { wanted.now ≡ [] → IfOk result (λ begun. has_variable begun.inner.items counter ≡ true) }
     ensures err { IfErr result (IsFault ⊥ (left_count scope.now ≤ reserved)) }
 {

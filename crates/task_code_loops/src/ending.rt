@@ -1,6 +1,7 @@
 //! What stands behind a loop's body.
 
-ghost use Rattle.std.specs.Prelude.{◌≡◌, [], ◌∷◌, ◌+◌, ◌*◌, ◌-◌, ◌^◌, ◌<◌, ◌≤◌, IfErr, IfOk, OnOk, length, pos, true};
+ghost use Rattle.std.specs.Prelude.{◌≡◌, ◌+◌, ◌*◌, ◌-◌, ◌^◌, ◌<◌, ◌≤◌, [], ◌∷◌, length};
+ghost use Rattle.std.specs.Prelude.{IfErr, IfOk, OnOk, pos, true};
 ghost use Rattle.rv_insn.specs.declared.instructions.Insn.TheVariants.{Branch};
 ghost use Rattle.rv_insn.specs.declared.operations.BranchOp.TheVariants.{Beq, Bne};
 ghost use Rattle.task_code_scalar.specs.Code.{back};

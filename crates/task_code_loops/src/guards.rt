@@ -1,12 +1,9 @@
 //! A test over a body.
 
-ghost use Rattle.std.specs.Prelude.{◌≡◌, ℕ, List, [], ◌∷◌, ◌+◌, ◌*◌, ◌^◌, ◌<◌, ◌≤◌, IfErr, IfOk, OnOk, false, length};
-ghost use Rattle.rv_insn.specs.declared.instructions.Insn.{Insn as Instruction};
+ghost use Rattle.std.specs.Prelude.{◌+◌, ◌^◌, ◌≤◌, IfErr, OnOk, length};
 ghost use Rattle.task_code_scalar.specs.Faults.{IsFault};
-ghost use Rattle.task_code_scalar.specs.Words.{Emits};
-ghost use Rattle.task_code_registers.specs.Emitting.{sum_words};
-ghost use Rattle.task_code_registers.specs.Scopes.{have_registers};
-ghost use Rattle.task_code_loops.specs.Guarding.{Guards};
+ghost use Rattle.task_code_loops.specs.Beginning.{HasNoRegister};
+ghost use Rattle.task_code_loops.specs.Guarding.{GuardsWords};
 
 use crate::holding::emit_known;
 use std::alloc::Global;
@@ -20,7 +17,8 @@ use task_code_scalar::{CodeFault, append};
 ///
 /// # Errors
 ///
-/// Memory ran out, the body has nearly as many words as a text may have, or a loop variable of the form has no register.
+/// Memory ran out, the body has nearly as many words as a text may have, or a loop variable of the form has no
+/// register.
 pub fn emit_guarded(
     alloc: Global,
     code: &mut Vec<u32>,
@@ -29,8 +27,8 @@ pub fn emit_guarded(
     extent: u32,
     body: &[u32],
 ) -> Result<(), CodeFault>
-    ensures ok { OnOk result ((insns : List Instruction) → Emits [] body.now insns → Guards code.old.items code.new.items (sum_words form.now.sum.terms + 4) scope.now form.now extent insns) }
-    ensures err { IfErr result (IsFault (2 ^ 18 ≤ length body.now + 1) (have_registers scope.now form.now.sum.terms ≡ false)) }
+    ensures ok { OnOk result (GuardsWords code.old.items code.new.items scope.now form.now extent body.now) }
+    ensures err { IfErr result (IsFault (2 ^ 18 ≤ length body.now + 1) (HasNoRegister scope.now form.now)) }
 {
     let words = body.len();
     if words >= 1 << 18 {

@@ -1,11 +1,9 @@
 //! Forms that registers hold in a loop, where there is room.
 
-ghost use Rattle.std.specs.Prelude.{◌≡◌, ◌<◌, ◌≤◌, ◌^◌, None, IfOk, false, true};
-ghost use Rattle.task_code_registers.specs.Emitting.{MakesValue, sum_words};
+ghost use Rattle.std.specs.Prelude.{◌≡◌, None, IfOk};
 ghost use Rattle.task_code_registers.specs.Holding.{TakesIf};
 ghost use Rattle.task_code_registers.specs.Registers.{IsPlace};
-ghost use Rattle.task_code_registers.specs.Scopes as scopes;
-ghost use Rattle.task_code_loops.specs.Beginning.{Gains, forms_words};
+ghost use Rattle.task_code_loops.specs.Beginning.{GainsForm, GainsForms, IsUnknownIf, MakesIf};
 
 use loop_ir::expressions::Counter;
 use std::alloc::{AllocError, Global};
@@ -28,8 +26,8 @@ pub fn emit_known(
     register: u8,
 ) -> Result<bool, AllocError>
     requires { IsPlace register }
-    ensures yes { IfOk result (λ made. made ≡ true → MakesValue code.old.items code.new.items scope.now form.now register) }
-    ensures no { IfOk result (λ made. made ≡ false → (code.new.items ≡ code.old.items) × (scopes.have_registers scope.now form.now.sum.terms ≡ false)) }
+    ensures yes { IfOk result (MakesIf code.old.items code.new.items scope.now form.now register) }
+    ensures no { IfOk result (IsUnknownIf code.old.items code.new.items scope.now form.now) }
 {
     if have_registers(scope, form.sum.terms.as_slice()) {
         emit_form(alloc, code, scope, form, register)?;
@@ -87,7 +85,7 @@ fn hold_wanted(
     form: &Form,
     reserved: usize,
 ) -> Result<Vec<Held>, AllocError>
-    ensures { IfOk result (λ inner. Gains code.old.items code.new.items (sum_words form.now.sum.terms) counter reserved scope.items inner.items) }
+    ensures { IfOk result (λ s. GainsForm code.old.items code.new.items counter form.now reserved scope.items s.items) }
 {
     if find(alloc, scope.as_slice(), form, true)?.is_some() {
         return Ok(scope);
@@ -111,7 +109,7 @@ pub fn hold_all(
     wanted: &[Form],
     reserved: usize,
 ) -> Result<Vec<Held>, AllocError>
-    ensures { IfOk result (λ inner. Gains code.old.items code.new.items (forms_words wanted.now) counter reserved scope.items inner.items) }
+    ensures { IfOk result (λ s. GainsForms code.old.items code.new.items counter wanted.now reserved scope.items s.items) }
 {
     match wanted {
         [] => Ok(scope),

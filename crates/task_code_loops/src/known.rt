@@ -2,10 +2,8 @@
 //! and of split ones.
 
 ghost use Rattle.std.specs.Prelude.{◌≡◌, ◌++◌, ◌+◌, ◌*◌, ◌%◌, ◌^◌, IfOk, IfSome, OnOk};
-ghost use Rattle.loop_ir.specs.Counters.{Values};
-ghost use Rattle.loop_ir.specs.Expressions.{linear_value, sum_of};
 ghost use Rattle.task_code_registers.specs.Points.{times};
-ghost use Rattle.task_code_loops.specs.Known.{AreKnown, IsRewritten};
+ghost use Rattle.task_code_loops.specs.Known.{AddsTerm, AddsTerms, IsKnownSum, IsRewritten};
 
 use halide_pipeline::words;
 use loop_ir::expressions::{Counter, Linear, Term, same_counter};
@@ -22,7 +20,7 @@ pub struct Known {
 
 /// The sum that a loop variable is, if that is known.
 fn known_sum<'a>(known: &'a [Known], counter: Counter) -> Option<&'a Linear>
-    ensures { IfSome result (λ sum. (values : Values) → AreKnown known.now values → values counter % 2 ^ 32 ≡ linear_value values sum.now) }
+    ensures { IfSome result (λ sum. IsKnownSum known.now counter sum.now) }
 {
     match known {
         [] => None,
@@ -55,7 +53,7 @@ fn add_scaled(made: &mut Items<Term>, terms: &[Term], factor: u32) -> Result<(),
 
 /// Adds terms to a sum, those of known loop variables by the sums that these are.
 fn add_known(made: &mut Linear, terms: &[Term], known: &[Known]) -> Result<(), AllocError>
-    ensures { OnOk result ((values : Values) → AreKnown known.now values → linear_value values made.new ≡ (linear_value values made.old + sum_of values terms.now) % 2 ^ 32) }
+    ensures { OnOk result (AddsTerms known.now made.old made.new terms.now) }
 {
     match terms {
         [] => Ok(()),
@@ -69,7 +67,7 @@ fn add_known(made: &mut Linear, terms: &[Term], known: &[Known]) -> Result<(), A
 
 /// One term.
 fn add_one(made: &mut Linear, term: &Term, known: &[Known]) -> Result<(), AllocError>
-    ensures { OnOk result ((values : Values) → AreKnown known.now values → linear_value values made.new ≡ (linear_value values made.old + values term.now.counter * term.now.stride) % 2 ^ 32) }
+    ensures { OnOk result (AddsTerm known.now made.old made.new term.now) }
 {
     match known_sum(known, term.counter) {
         Some(sum) => {

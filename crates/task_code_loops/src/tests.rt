@@ -1,12 +1,11 @@
 //! Which register tells when a loop ends, and what it is compared with.
 
-ghost use Rattle.std.specs.Prelude.{◌≡◌, [], ◌+◌, ◌*◌, ◌<◌, ◌≤◌, ◌^◌, IfErr, IfOk, IfSome, None, true};
+ghost use Rattle.std.specs.Prelude.{◌≡◌, [], ◌<◌, ◌≤◌, ◌^◌, IfErr, IfOk, true};
 ghost use Rattle.task_code_scalar.specs.Faults.{IsFault};
-ghost use Rattle.task_code_registers.specs.Emitting.{sum_words};
 ghost use Rattle.task_code_registers.specs.Looping as looping;
 ghost use Rattle.task_code_registers.specs.Scopes.{has_variable, left_count};
 ghost use Rattle.task_code_loops.specs.Beginning as spec;
-ghost use Rattle.task_code_loops.specs.Beginning.{Betters, Tests, forms_words};
+ghost use Rattle.task_code_loops.specs.Beginning.{Betters, Tests, TestsForm, TestsForms};
 
 use crate::holding::hold_known;
 use loop_ir::expressions::{Counter, Linear, Term};
@@ -70,7 +69,7 @@ fn by_variable(
     count: u32,
     reserved: usize,
 ) -> Result<Tested, CodeFault>
-    ensures ok { IfOk result (λ tested. Tests code.old.items code.new.items 10 counter count scope.now reserved tested) }
+    ensures ok { IfOk result (Tests code.old.items code.new.items 10 counter count scope.now reserved) }
     ensures variable { IfOk result (λ tested. has_variable tested.scope.items counter ≡ true) }
     ensures err { IfErr result (IsFault ⊥ (left_count scope.now ≤ reserved)) }
 {
@@ -98,7 +97,7 @@ fn by_form(
 ) -> Result<Tested, CodeFault>
     requires test { looping.is_test counter count form.now ≡ true }
     requires few { reserved < 2 ^ 32 }
-    ensures ok { IfOk result (Tests code.old.items code.new.items (10 + 2 * sum_words form.now.sum.terms) counter count scope.now reserved) }
+    ensures ok { IfOk result (TestsForm code.old.items code.new.items form.now counter count scope.now reserved) }
     ensures err { IfErr result (IsFault ⊥ (left_count scope.now ≤ reserved)) }
 {
     let limit = at_value(alloc, form, counter, count)?;
@@ -139,7 +138,7 @@ pub fn begin_test(
     reserved: usize,
 ) -> Result<Tested, CodeFault>
     requires { reserved < 2 ^ 32 }
-    ensures ok { IfOk result (Tests code.old.items code.new.items (10 + 2 * forms_words wanted.now) counter count scope.now reserved) }
+    ensures ok { IfOk result (TestsForms code.old.items code.new.items wanted.now counter count scope.now reserved) }
     ensures variable { wanted.now ≡ [] → IfOk result (λ tested. has_variable tested.scope.items counter ≡ true) }
     ensures err { IfErr result (IsFault ⊥ (left_count scope.now ≤ reserved)) }
 {

@@ -1,4 +1,4 @@
-use Rattle.std.proofs.Common.{◌-◌, ◌*◌, ap, subst, ◌∙◌, ◌+◌, ◌≤◌, arith}
+use Rattle.std.proofs.Common.{◌-◌, ◌*◌, ap, subst, ◌∙◌, arith}
 use Rattle.task_code_scalar.proofs.Refusing.{passed}
 use Rattle.task_code_registers.specs.Holding.{Advances, moving}
 use Rattle.task_code_loops.proofs.Looped.{ends-loop, starts-before, too-long}

@@ -1,8 +1,7 @@
 use Rattle.std.proofs.Common.{◌+◌, ◌*◌, ◌≤◌, refl, subst, arith}
 use Rattle.task_code_registers.specs.Emitting.{sum_words}
 use Rattle.task_code_registers.specs.Holding.{TakesIf}
-use Rattle.task_code_registers.specs.Scopes.{left_count}
-use Rattle.task_code_loops.proofs.Telling.{tests-form, tests-fewer, tests-later, room-left}
+use Rattle.task_code_loops.proofs.Telling.{tests-form, tests-fewer, tests-later}
 use Rattle.task_code_loops.proofs.tests.by_form.Goals as goal
 
 pub returns-in-None-2-clause-ok : goal.returns-in-None-2-clause-ok

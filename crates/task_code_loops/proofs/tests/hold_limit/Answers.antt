@@ -1,5 +1,5 @@
 use Rattle.std.proofs.Common.{refl, subst}
-use Rattle.task_code_registers.specs.Holding.{IsFullIf, TakesIf}
+use Rattle.task_code_registers.specs.Holding.{TakesIf}
 use Rattle.task_code_loops.proofs.Telling.{betters-none, betters-held}
 use Rattle.task_code_loops.proofs.tests.hold_limit.Goals as goal
 
