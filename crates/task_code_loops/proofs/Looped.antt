@@ -99,14 +99,16 @@ module _ (begun : Begun) (c0 c1 c2 c3 : List ℕ) (limit start words : ℕ) (end
           keeps = λ q stays. kept q stays.0 ∙ a.keeps q stays.1;
           mark = knows-still hart inner next a.after b.after kept a.mark;
           again = λ more at s.
-              let e : length moves + z.back_cost ≡ cost i = ap (λ t. length moves + (if t then z.back_cost else z.out_cost)) (sym (is-below (suc i) count more)) in
+              let e : length moves + z.back_cost ≡ cost i =
+              ap (λ t. length moves + (if t then z.back_cost else z.out_cost)) (sym (is-below (suc i) count more)) in
               subst (λ k. Path w (end at body) at k f memory b.after memory) e
               (path-then w (end at body) (end (end at body) moves) at (length moves) z.back_cost f b.after b.after memory memory memory
               (line (end at body) (front at s))
               (z.again w memory b.after (end (end at body) moves) at size (told ∙ is-below (suc i) count more) (last at s) (reaches at)
               (spot w.text at (body ++ tail) s)));
           leaves = λ none at s.
-              let e : length moves + z.out_cost ≡ cost i = ap (λ t. length moves + (if t then z.back_cost else z.out_cost)) (sym (is-above (suc i) count none)) in
+              let e : length moves + z.out_cost ≡ cost i =
+              ap (λ t. length moves + (if t then z.back_cost else z.out_cost)) (sym (is-above (suc i) count none)) in
               let g : end (end (end at body) moves) z.insns ≡ end at (body ++ tail) =
               sym (end-append (end at body) moves z.insns) ∙ sym (end-append at body tail) in
               subst (λ k. Path w (end at body) (end at (body ++ tail)) k f memory b.after memory) e
@@ -122,7 +124,8 @@ module _ (begun : Begun) (c0 c1 c2 c3 : List ℕ) (limit start words : ℕ) (end
     emits = emits_then (emits_then x.emits y.emits) z.emits;
     short =
         let k = moving counter inner in
-        short-then moves z.insns (3 * k + 2) 2 (end_words begun) (short-then x.insns y.insns (3 * k) 2 (3 * k + 2) x.short y.short (omega arith)) z.short (omega arith);
+        let s = short-then x.insns y.insns (3 * k) 2 (3 * k + 2) x.short y.short (omega arith) in
+        short-then moves z.insns (3 * k + 2) 2 (end_words begun) s z.short (omega arith);
     cost = cost;
     does = λ own hart values body t one body_stored stored long holders each all f memory funcs holds knows.
         did-went (loop-goes own (StaysIn counter inner) (λ i g. Knows hart inner (with counter i values) g) count body tail t cost one

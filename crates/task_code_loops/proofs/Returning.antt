@@ -57,7 +57,8 @@ is-so true e = refl
 is-so false e = absurd (true≢false e)
 
 -- a branch
-pub back-near : (a b words : ℕ) (c0 c1 : List ℕ) → a < 32 → b < 32 → 1 ≤ words → Emits c0 c1 (Branch branches.Bne a b (back words) ∷ []) → GoesBack c0 c1 a b words
+pub back-near : (a b words : ℕ) (c0 c1 : List ℕ) → a < 32 → b < 32 → 1 ≤ words → Emits c0 c1 (Branch branches.Bne a b (back words) ∷ [])
+    → GoesBack c0 c1 a b words
 back-near a b words c0 c1 la lb some x = record {
   insns = Branch branches.Bne a b (back words) ∷ [];
   emits = x;

@@ -54,7 +54,8 @@ sum-times values factor (first ∷ others) =
     mul-mod_second v (s * factor) (2 ^ 32) ∙ ap (λ n. n % 2 ^ 32) (sym (mul_assoc v s factor)) in
     let e = sum-times values factor others in
     let d : (v * s + r) * factor ≡ (v * s) * factor + r * factor =
-    mul_comm (v * s + r) factor ∙ mul-add factor (v * s) r ∙ ap (λ n. n + factor * r) (mul_comm factor (v * s)) ∙ ap (λ n. (v * s) * factor + n) (mul_comm factor r) in
+    mul_comm (v * s + r) factor ∙ mul-add factor (v * s) r ∙ ap (λ n. n + factor * r) (mul_comm factor (v * s))
+    ∙ ap (λ n. (v * s) * factor + n) (mul_comm factor r) in
     sum-mod (v * ((s * factor) % 2 ^ 32)) ((v * s) * factor) t (r * factor) one e ∙ ap (λ n. n % 2 ^ 32) (sym d)
   where
     sum-mod : (a a' c c' : ℕ) → a % 2 ^ 32 ≡ a' % 2 ^ 32 → c % 2 ^ 32 ≡ c' % 2 ^ 32 → (a + c) % 2 ^ 32 ≡ (a' + c') % 2 ^ 32
@@ -100,7 +101,8 @@ other-term values old new term et en =
 
 -- ---- all of them
 
-pub no-terms : (values : Values) (made : Linear) (terms : List Term) → length terms < 1 → linear_value values made ≡ (linear_value values made + sum_of values terms) % 2 ^ 32
+pub no-terms : (values : Values) (made : Linear) (terms : List Term) → length terms < 1
+    → linear_value values made ≡ (linear_value values made + sum_of values terms) % 2 ^ 32
 unfolding linear_value
 no-terms values made [] none = let n = made.number + sum_of values made.terms in let g : n % 2 ^ 32 ≡ (n % 2 ^ 32 + 0) % 2 ^ 32 = omega arith in g
 no-terms values made (first ∷ others) none = absurd (omega (arith, none))
@@ -118,7 +120,8 @@ more-terms values old middle new terms first other some is x y =
     y ∙ ap (λ n. (n + r) % 2 ^ 32) x ∙ g
     ∙ ap (λ ts. (a + sum_of values ts) % 2 ^ 32) (ap (λ t. t ∷ rest) is ∙ sym (others-are terms other some))
 
-pub form-rewritten : (known : List Known) (form made : Form) (start : Linear) → start.number ≡ form.sum.number → start.terms ≡ [] → made.per_hart ≡ form.per_hart
+pub form-rewritten : (known : List Known) (form made : Form) (start : Linear) → start.number ≡ form.sum.number → start.terms ≡ []
+    → made.per_hart ≡ form.per_hart
     → ((values : Values) → AreKnown known values → linear_value values made.sum ≡ (linear_value values start + sum_of values form.sum.terms) % 2 ^ 32)
     → IsRewritten known form made
 unfolding form_value linear_value

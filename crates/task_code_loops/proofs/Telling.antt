@@ -174,14 +174,16 @@ first-fewer wanted first other some is =
     let rest = take (length wanted - 1) (drop 1 wanted) in
     ap forms_words (others-are wanted other some) ∙ ap (λ (f : Form). sum_words f.sum.terms + forms_words rest) (sym is)
 
-pub tests-first : (counter : Counter) (count : ℕ) (scope : List Held) (reserved : ℕ) (wanted : List Form) (first other : Form) (c0 c1 : List ℕ) (tested : Tested)
+pub tests-first : (counter : Counter) (count : ℕ) (scope : List Held) (reserved : ℕ) (wanted : List Form) (first other : Form) (c0 c1 : List ℕ)
+    (tested : Tested)
     → 1 ≤ length wanted → first ≡ get_or wanted 0 other → Tests c0 c1 (10 + 2 * sum_words first.sum.terms) counter count scope reserved tested
     → Tests c0 c1 (10 + 2 * forms_words wanted) counter count scope reserved tested
 tests-first counter count scope reserved wanted first other c0 c1 tested some is x =
     let e = first-fewer wanted first other some is in
     tests-fewer counter count scope reserved (10 + 2 * sum_words first.sum.terms) (10 + 2 * forms_words wanted) c0 c1 c0 tested (omega (arith, e)) refl x
 
-pub tests-others : (counter : Counter) (count : ℕ) (scope : List Held) (reserved : ℕ) (wanted : List Form) (first other : Form) (c0 c1 : List ℕ) (tested : Tested)
+pub tests-others : (counter : Counter) (count : ℕ) (scope : List Held) (reserved : ℕ) (wanted : List Form) (first other : Form) (c0 c1 : List ℕ)
+    (tested : Tested)
     → 1 ≤ length wanted → first ≡ get_or wanted 0 other
     → Tests c0 c1 (10 + 2 * forms_words (take (length wanted - 1) (drop 1 wanted))) counter count scope reserved tested
     → Tests c0 c1 (10 + 2 * forms_words wanted) counter count scope reserved tested
@@ -230,7 +232,8 @@ betters-held counter reserved n b tested made form scope' inner c0 c1 en ef es x
 
 -- ---- a loop is begun
 
-pub begun-is : (counter : Counter) (count reserved : ℕ) (scope : List Held) (wanted : List Form) (first middle last : Tested) (begun : Begun) (c0 c1 c2 c3 : List ℕ)
+pub begun-is : (counter : Counter) (count reserved : ℕ) (scope : List Held) (wanted : List Form) (first middle last : Tested) (begun : Begun)
+    (c0 c1 c2 c3 : List ℕ)
     → mentions counter scope ≡ false → 1 ≤ count → Tests c0 c1 (10 + 2 * forms_words wanted) counter count scope reserved first
     → Gains c1 c2 (forms_words wanted) counter reserved first.scope.items middle.scope.items → middle.register ≡ first.register → middle.limit ≡ first.limit
     → Betters c2 c3 6 counter reserved middle last

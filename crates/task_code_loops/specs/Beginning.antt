@@ -74,8 +74,8 @@ pub record Gains (old new : List ℕ) (most : ℕ) (counter : Counter) (reserved
 abbrev pub GainsForm : List ℕ → List ℕ → Counter → Form → ℕ → List Held → List Held → Type 0
 GainsForm old new counter form reserved scope inner = Gains old new (sum_words form.sum.terms) counter reserved scope inner
 
-abbrev pub GainsForms : List ℕ → List ℕ → Counter → List Form → ℕ → List Held → List Held → Type 0
-GainsForms old new counter wanted reserved scope inner = Gains old new (forms_words wanted) counter reserved scope inner
+abbrev pub GainsOf : List ℕ → List ℕ → Counter → List Form → ℕ → List Held → List Held → Type 0
+GainsOf old new counter forms reserved scope inner = Gains old new (forms_words forms) counter reserved scope inner
 
 -- a scope in which there is a test
 pub record Tests (old new : List ℕ) (most : ℕ) (counter : Counter) (count : ℕ) (scope : List Held) (reserved : ℕ) (tested : Tested) : Type 0 where

@@ -3,7 +3,7 @@
 ghost use Rattle.std.specs.Prelude.{◌≡◌, None, IfOk};
 ghost use Rattle.task_code_registers.specs.Holding.{TakesIf};
 ghost use Rattle.task_code_registers.specs.Registers.{IsPlace};
-ghost use Rattle.task_code_loops.specs.Beginning.{GainsForm, GainsForms, IsUnknownIf, MakesIf};
+ghost use Rattle.task_code_loops.specs.Beginning.{GainsForm, GainsOf, IsUnknownIf, MakesIf};
 
 use loop_ir::expressions::Counter;
 use std::alloc::{AllocError, Global};
@@ -106,12 +106,12 @@ pub fn hold_all(
     code: &mut Vec<u32>,
     scope: Vec<Held>,
     counter: Counter,
-    wanted: &[Form],
+    forms: &[Form],
     reserved: usize,
 ) -> Result<Vec<Held>, AllocError>
-    ensures { IfOk result (λ s. GainsForms code.old.items code.new.items counter wanted.now reserved scope.items s.items) }
+    ensures { IfOk result (λ s. GainsOf code.old.items code.new.items counter forms.now reserved scope.items s.items) }
 {
-    match wanted {
+    match forms {
         [] => Ok(scope),
         [first, others @ ..] => {
             let next = hold_wanted(alloc, code, scope, counter, first, reserved)?;
