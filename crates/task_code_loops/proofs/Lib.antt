@@ -5,5 +5,6 @@ pub mod Looped
 pub mod Repeating
 pub mod Returning
 pub mod Rewriting
+pub mod Staying
 pub mod Telling
 pub mod Testing

@@ -1,4 +1,5 @@
 pub mod Beginning
+pub mod Bounds
 pub mod Ending
 pub mod Guarding
 pub mod Known

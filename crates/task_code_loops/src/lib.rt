@@ -6,12 +6,14 @@
 //! - [`beginning`]: appends what stands in front of a loop (`specs/Beginning.antt`).
 //! - [`ending`]: appends what stands behind its body, and goes back (`specs/Ending.antt`).
 //! - [`guards`]: appends a test over a body (`specs/Guarding.antt`).
+//! - [`bounds`]: whether a form stays below an extent, so that it needs no test (`specs/Bounds.antt`).
 //! - [`known`]: loop variables that are sums of others, or numbers, and forms without them (`specs/Known.antt`).
 //! - [`wanted`]: which forms a body wants in registers, a guess.
 //! - [`laws`]: what is begun and ended is a loop; code behind other code, and iterations that are laid out.
 #![tactic(auto)]
 
 pub mod beginning;
+pub mod bounds;
 pub mod ending;
 pub mod guards;
 pub mod holding;
