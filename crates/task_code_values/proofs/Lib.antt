@@ -1,0 +1,12 @@
+pub mod Choosing
+pub mod Counting
+pub mod Deepening
+pub mod Dividing
+pub mod Evaluating
+pub mod Operating
+pub mod Parts
+pub mod Pointing
+pub mod Rooms
+pub mod Saving
+pub mod Standing
+pub mod Waiting

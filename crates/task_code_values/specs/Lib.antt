@@ -1,0 +1,6 @@
+pub mod Making
+pub mod Operands
+pub mod Points
+pub mod Sizes
+pub mod Spilling
+pub mod Storing

@@ -1,0 +1,75 @@
+-- What appended code does that may keep values in the hart's frame, and that stores points, whatever its instructions are. This project's own.
+use Rattle.std.specs.Prelude.{◌≡◌, ◌⊎◌, ◌<◌, ◌≤◌, ℕ, ◌+◌, ◌*◌, ◌^◌, true, List, length}
+use Rattle.std.specs.List.{list_all}
+use Rattle.rv_insn.specs.declared.instructions.Insn.{Insn}
+use Rattle.memory.specs.Addresses.{byte_at, AreBytes}
+use Rattle.halide_pipeline.specs.Pixel.{Planes, reads_of}
+use Rattle.loop_ir.specs.declared.expressions.Expr.{Expr}
+use Rattle.loop_ir.specs.declared.statements.Store.{Store}
+use Rattle.loop_ir.specs.declared.statements.Stmt.TheVariants as statements
+use Rattle.loop_ir.specs.Counters.{Values}
+use Rattle.loop_ir.specs.Expressions.{value, loads}
+use Rattle.loop_ir.specs.Needs.{need_of}
+use Rattle.loop_ir.specs.Running.{run}
+use Rattle.multi_hart_logic.specs.Paths.{Line}
+use Rattle.task_code_scalar.specs.declared.places.Places.{Places}
+use Rattle.task_code_scalar.specs.Doing.{Setting, IsSetting, SoundIn, RunsIn, HoldsFuncs, stored_points}
+use Rattle.task_code_scalar.specs.Faults.{FitsFrame}
+use Rattle.task_code_scalar.specs.Layout.{IsBefore}
+use Rattle.task_code_scalar.specs.Words.{Emits}
+use Rattle.task_code_registers.specs.declared.scopes.Held.{Held}
+use Rattle.task_code_registers.specs.Registers.{address_register, first_value, IsSource}
+use Rattle.task_code_registers.specs.Scopes.{Knows, AreHolders, IsKept}
+use Rattle.task_code_registers.specs.Doing.{Did}
+use Rattle.task_code_values.specs.Making.{IsBelow}
+use Rattle.task_code_values.specs.Sizes.{value_words, are_held}
+
+-- Straight code leaves a word in register s. It keeps the registers below r, what the Funcs hold, and of memory all but the words of the
+-- hart's frame from a word on.
+pub record LeavesDeep (own : Setting) (funcs : Planes) (insns : List Insn) (first : ℕ) (f : ℕ → ℕ) (memory : List ℕ) (r s v : ℕ) : Type 0 where
+  pub after : ℕ → ℕ
+  pub left : List ℕ
+  pub line : Line own.world insns f memory after left
+  pub value : after s ≡ v
+  pub small : v < 2 ^ 32
+  pub keeps : (q : ℕ) → IsBelow r q → after q ≡ f q
+  pub holds : HoldsFuncs own left funcs
+  pub before : (byte : ℕ) → IsBefore own.world own.places first byte → byte_at own.world.text left byte ≡ byte_at own.world.text memory byte
+  pub are_bytes : AreBytes memory → AreBytes left
+
+-- Appended code leaves an expression's value in a register, which is the stack's first or one of the scope, with the frame free from a word on.
+pub record MakesValue (old new : List ℕ) (places : Places) (scope : List Held) (first s : ℕ) (e : Expr) : Type 0 where
+  pub insns : List Insn
+  pub emits : Emits old new insns
+  pub short : length insns ≤ value_words e
+  pub source : IsSource s
+  pub which : (s ≡ first_value) ⊎ IsKept scope s
+  pub does : (own : Setting) → IsSetting own → own.places ≡ places → (values : Values) → AreHolders scope → (f : ℕ → ℕ) (memory : List ℕ) (funcs : Planes)
+      → HoldsFuncs own memory funcs → Knows own.world.hart scope values f → list_all own.loaded (loads (reads_of own.inputs funcs) values e) ≡ true
+      → LeavesDeep own funcs insns first f memory first_value s (value (reads_of own.inputs funcs) values e)
+
+-- ---- stores
+
+-- what the value takes, and where both indexes are sums their terms with an access
+abbrev pub store_words : Store → ℕ
+store_words store = value_words store.x + value_words store.y + value_words store.value + 14
+
+-- its indexes are sums, its loop variables have registers, and the stack or the frame has room for its value
+pub record FitsStore (places : Places) (scope : List Held) (store : Store) : Type 0 where
+  pub column : (need_of store.x).is_leaf ≡ true
+  pub row : (need_of store.y).is_leaf ≡ true
+  pub column_held : are_held scope store.x ≡ true
+  pub row_held : are_held scope store.y ≡ true
+  pub value_held : are_held scope store.value ≡ true
+  pub room : FitsFrame places.frames store.value 0
+
+-- Appended code does a store, where the registers hold the scope's forms, and keeps these registers.
+pub record MakesStore (old new : List ℕ) (places : Places) (scope : List Held) (store : Store) : Type 0 where
+  pub insns : List Insn
+  pub emits : Emits old new insns
+  pub short : length insns ≤ store_words store
+  pub does : (own : Setting) → IsSetting own → own.places ≡ places → (values : Values) → SoundIn own (statements.Store store) values
+      → RunsIn own (statements.Store store) values → AreHolders scope → (f : ℕ → ℕ) (memory : List ℕ) (funcs : Planes) → HoldsFuncs own memory funcs
+      → Knows own.world.hart scope values f
+      → Did own insns (length insns) f memory (IsKept scope) (run own.points own.inputs (statements.Store store) values funcs)
+      (stored_points own (statements.Store store) values funcs)

@@ -1,0 +1,24 @@
+//! Values of expressions in scalar registers, and stores of them. Contracts say what the appended code does, and not
+//! which instructions it has.
+//!
+//! - [`operations`]: appends what an operation, a quotient, a remainder or a choice makes of registers.
+//! - [`accesses`]: appends single loads and stores.
+//! - [`operands`]: appends what leaves a number or a sum of loop variables in a register, or names the register that
+//!   holds it already.
+//! - [`points`]: appends loads of points, whose indexes are sums or stand in registers.
+//! - [`frames`]: appends what keeps a register in a word of the hart's frame, and loads it again.
+//! - [`expressions`]: appends what leaves an expression's value in a register (`specs/Operands.antt`).
+//! - [`spilling`]: the same where the registers do not suffice and values wait in the hart's frame.
+//! - [`needs`]: how many registers that takes.
+//! - [`stores`]: appends stores (`specs/Storing.antt`).
+#![tactic(auto)]
+
+pub mod accesses;
+pub mod expressions;
+pub mod frames;
+pub mod needs;
+pub mod operands;
+pub mod operations;
+pub mod points;
+pub mod spilling;
+pub mod stores;

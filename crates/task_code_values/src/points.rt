@@ -1,0 +1,215 @@
+//! Loads of points.
+
+ghost use Rattle.std.specs.Prelude.{◌≡◌, ◌<◌, ◌+◌, ◌*◌, ◌%◌, ◌^◌};
+ghost use Rattle.std.specs.Prelude.{◌≤◌, IfErr, OnOk, length, true};
+ghost use Rattle.loop_ir.specs.declared.expressions.Linear.{Linear as Sums};
+ghost use Rattle.task_code_scalar.specs.Code.{pixel_bytes};
+ghost use Rattle.task_code_scalar.specs.Faults.{IsFault};
+ghost use Rattle.task_code_registers.specs.Emitting.{Makes};
+ghost use Rattle.task_code_registers.specs.Registers.{IsPlace, IsSource};
+ghost use Rattle.task_code_registers.specs.Scopes.{have_registers};
+ghost use Rattle.task_code_values.specs.declared.points.Index.TheVariants as indexes;
+ghost use Rattle.task_code_values.specs.Making.{IsStack};
+ghost use Rattle.task_code_values.specs.Operands.{MakesPixel, StandsIn};
+ghost use Rattle.task_code_values.specs.Points.{HaveIndex, LoadsBehind, LoadsPoint};
+
+use crate::accesses::{bytes_of, emit_fetch};
+use crate::operands::emit_reached_address;
+use halide_pipeline::words;
+use loop_ir::expressions::Linear;
+use rv_insn::{AluImmOp, AluOp, ShiftOp};
+use std::alloc::{AllocError, Global};
+use task_code_registers::numbers::emit_times;
+use task_code_registers::points::point_form;
+use task_code_registers::registers::ADDRESS;
+use task_code_registers::scopes::Held;
+use task_code_scalar::CodeFault;
+use task_code_scalar::instructions::{alu, alu_small, shift};
+use task_code_scalar::places::{Pixels, Place};
+
+/// An index of a point.
+#[derive(Debug, Drop)]
+pub enum Index {
+    /// A sum of loop variables, of which an address can be made.
+    Sum(Linear),
+    /// The register that holds it.
+    Register(u8),
+}
+
+/// 2 to this is the number of bytes of a word.
+const WORD_SHIFT: u8 = 2;
+
+/// Appends what leaves so many pixels' bytes.
+fn emit_scaled(code: &mut Vec<u32>, pixels: Pixels, r: u8, s: u8) -> Result<(), AllocError>
+    requires { IsPlace r × IsSource s }
+    ensures { OnOk result (Makes code.old.items code.new.items 1 r (λ f. (f s * pixel_bytes pixels) % 2 ^ 32)) }
+{
+    match pixels {
+        Pixels::Words => {
+            shift(code, ShiftOp::Slli, r, s, WORD_SHIFT)?;
+            Ok(())
+        }
+        Pixels::Bytes => {
+            alu_small(code, AluImmOp::Addi, r, s, 0)?;
+            Ok(())
+        }
+    }
+}
+
+/// Appends a load of the point at two sums.
+fn emit_point(
+    alloc: Global,
+    code: &mut Vec<u32>,
+    scope: &[Held],
+    place: &Place,
+    x: &Linear,
+    y: &Linear,
+    r: u8,
+) -> Result<(), CodeFault>
+    requires { IsStack r }
+    ensures ok { OnOk result (LoadsPoint code.old.items code.new.items scope.now place.now x.now y.now r) }
+    ensures err { IfErr result (IsFault ⊥ (have_registers scope.now x.now.terms ≡ true
+        → have_registers scope.now y.now.terms ≡ true → ⊥)) }
+{
+    let form = point_form(alloc, place, x, y)?;
+    let at = emit_reached_address(alloc, code, scope, &form, r)?;
+    emit_fetch(code, place.pixels, r, at.register, at.offset)?;
+    Ok(())
+}
+
+/// Appends a load of what lies so many bytes behind such a point as a register says.
+fn emit_behind(
+    alloc: Global,
+    code: &mut Vec<u32>,
+    scope: &[Held],
+    place: &Place,
+    x: &Linear,
+    y: &Linear,
+    r: u8,
+) -> Result<(), CodeFault>
+    requires { IsStack r }
+    ensures ok { OnOk result (LoadsBehind code.old.items code.new.items scope.now place.now x.now y.now r) }
+    ensures err { IfErr result (IsFault ⊥ (have_registers scope.now x.now.terms ≡ true
+        → have_registers scope.now y.now.terms ≡ true → ⊥)) }
+{
+    let form = point_form(alloc, place, x, y)?;
+    let at = emit_reached_address(alloc, code, scope, &form, ADDRESS)?;
+    alu(code, AluOp::Add, r, r, at.register)?;
+    emit_fetch(code, place.pixels, r, r, at.offset)?;
+    Ok(())
+}
+
+/// Appends what leaves the bytes of so many whole rows.
+fn emit_rows(code: &mut Vec<u32>, place: &Place, r: u8, s: u8) -> Result<(), AllocError>
+    requires { IsPlace r × IsSource s }
+    ensures { OnOk result (Makes code.old.items code.new.items 3 r
+        (λ f. (f s * ((pixel_bytes place.now.pixels * place.now.width) % 2 ^ 32)) % 2 ^ 32)) }
+{
+    let row = words::multiply(bytes_of(place.pixels), place.width);
+    emit_times(code, r, s, row)?;
+    Ok(())
+}
+
+/// Appends a load of the point at a sum and an index, which stands above r where it is a register.
+fn emit_at_column(
+    alloc: Global,
+    code: &mut Vec<u32>,
+    scope: &[Held],
+    place: &Place,
+    x: &Linear,
+    row: &Index,
+    r: u8,
+) -> Result<(), CodeFault>
+    requires place { IsStack r }
+    requires stands { StandsIn scope.now (r + 1) row.now }
+    ensures ok { OnOk result (MakesPixel code.old.items code.new.items scope.now place.now
+        (indexes.Sum x.now) row.now r) }
+    ensures err { IfErr result (IsFault ⊥ (have_registers scope.now x.now.terms ≡ true
+        → HaveIndex scope.now row.now → ⊥)) }
+{
+    match row {
+        Index::Sum(y) => emit_point(alloc, code, scope, place, x, y, r),
+        Index::Register(t) => {
+            let zero = Linear::of_number(alloc, 0);
+            emit_rows(code, place, r, *t)?;
+            emit_behind(alloc, code, scope, place, x, &zero, r)
+        }
+    }
+}
+
+/// Appends a load of the point at two registers.
+fn emit_at_registers(
+    alloc: Global,
+    code: &mut Vec<u32>,
+    scope: &[Held],
+    place: &Place,
+    s: u8,
+    t: u8,
+    r: u8,
+) -> Result<(), CodeFault>
+    requires place { IsStack r }
+    requires column { IsSource s }
+    requires stands { StandsIn scope.now (r + 1) (indexes.Register t) }
+    ensures ok { OnOk result (MakesPixel code.old.items code.new.items scope.now place.now
+        (indexes.Register s) (indexes.Register t) r) }
+    ensures err { IfErr result (IsFault ⊥ ⊥) }
+{
+    let zero = Linear::of_number(alloc, 0);
+    emit_scaled(code, place.pixels, r, s)?;
+    emit_rows(code, place, r + 1, t)?;
+    alu(code, AluOp::Add, r, r, r + 1)?;
+    emit_behind(alloc, code, scope, place, &zero, &zero, r)
+}
+
+/// Appends a load of the point at a register and an index, which stands above r where it is a register too.
+fn emit_from_column(
+    alloc: Global,
+    code: &mut Vec<u32>,
+    scope: &[Held],
+    place: &Place,
+    s: u8,
+    row: &Index,
+    r: u8,
+) -> Result<(), CodeFault>
+    requires place { IsStack r }
+    requires column { IsSource s }
+    requires stands { StandsIn scope.now (r + 1) row.now }
+    ensures ok { OnOk result (MakesPixel code.old.items code.new.items scope.now place.now
+        (indexes.Register s) row.now r) }
+    ensures err { IfErr result (IsFault ⊥ (HaveIndex scope.now row.now → ⊥)) }
+{
+    match row {
+        Index::Sum(y) => {
+            let zero = Linear::of_number(alloc, 0);
+            emit_scaled(code, place.pixels, r, s)?;
+            emit_behind(alloc, code, scope, place, &zero, y, r)
+        }
+        Index::Register(t) => emit_at_registers(alloc, code, scope, place, s, *t, r),
+    }
+}
+
+/// Appends a load of the point at two indexes. Where both are registers the second stands above r.
+///
+/// # Errors
+///
+/// Memory ran out, or a loop variable has no register and no form is near.
+pub fn emit_pixel(
+    alloc: Global,
+    code: &mut Vec<u32>,
+    scope: &[Held],
+    place: &Place,
+    column: &Index,
+    row: &Index,
+    r: u8,
+) -> Result<(), CodeFault>
+    requires place { IsStack r }
+    requires first { StandsIn scope.now r column.now }
+    requires second { StandsIn scope.now (r + 1) row.now }
+    ensures ok { OnOk result (MakesPixel code.old.items code.new.items scope.now place.now column.now row.now r) }
+    ensures err { IfErr result (IsFault ⊥ (HaveIndex scope.now column.now → HaveIndex scope.now row.now → ⊥)) }
+{
+    match column {
+        Index::Sum(x) => emit_at_column(alloc, code, scope, place, x, row, r),
+        Index::Register(s) => emit_from_column(alloc, code, scope, place, *s, row, r),
+    }
+}

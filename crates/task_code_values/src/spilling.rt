@@ -1,0 +1,213 @@
+//! Values of expressions that may need more registers than the stack has: some wait in the hart's frame.
+
+ghost use Rattle.std.specs.Prelude.{◌≡◌, IfErr, IfOk, OnOk, true};
+ghost use Rattle.task_code_scalar.specs.Faults.{FitsFrame, IsFault};
+ghost use Rattle.task_code_registers.specs.Registers.{first_value};
+ghost use Rattle.task_code_values.specs.Sizes.{are_held};
+ghost use Rattle.task_code_values.specs.Spilling.{FitsPair, FitsSecond, IsDeep, IsFirst, MakesBoth, MakesRow, Pairs};
+ghost use Rattle.task_code_values.specs.Storing.{MakesValue};
+
+use crate::expressions::{emit_operand, sum_of};
+use crate::frames::{emit_spill, emit_unspill};
+use crate::needs::{is_leaf, need};
+use crate::operations::{emit_operation, emit_quotient, emit_remainder, emit_selection};
+use crate::points::{Index, emit_pixel};
+use loop_ir::expressions::Expr;
+use rv_insn::AluImmOp;
+use std::alloc::Global;
+use task_code_registers::registers::{ADDRESS, FIRST_VALUE};
+use task_code_registers::scopes::Held;
+use task_code_scalar::CodeFault;
+use task_code_scalar::expressions::place_of;
+use task_code_scalar::instructions::alu_small;
+use task_code_scalar::places::Places;
+
+/// How many registers the stack has.
+pub const STACK: u32 = 12;
+/// Where a second value stands.
+const SECOND_VALUE: u8 = 21;
+/// Where a third value stands.
+const THIRD_VALUE: u8 = 22;
+
+/// The registers of two operands.
+#[derive(Clone, Copy, Debug)]
+pub struct Both {
+    pub first: u8,
+    pub second: u8,
+}
+
+/// The indexes of a point.
+#[derive(Debug, Drop)]
+pub struct PointIndexes {
+    pub column: Index,
+    pub row: Index,
+}
+
+/// Appends what leaves an expression's value in the stack's first register, where none of the scope holds it, with the
+/// frame free from a word on. It returns the register.
+#[cycle(deeply)]
+pub fn emit_deep(
+    alloc: Global,
+    code: &mut Vec<u32>,
+    places: &Places,
+    scope: &[Held],
+    e: &Expr,
+    word: u32,
+) -> Result<u8, CodeFault>
+    requires { FitsFrame places.now.frames e.now word }
+    ensures ok { IfOk result (λ s. MakesValue code.old.items code.new.items places.now scope.now word s e.now) }
+    ensures err { IfErr result (IsFault ⊥ (are_held scope.now e.now ≡ true → ⊥)) }
+{
+    if need(e) > STACK {
+        emit_spilling(alloc, code, places, scope, e, word)?;
+        return Ok(FIRST_VALUE);
+    }
+    let s = emit_operand(alloc, code, places, scope, e, FIRST_VALUE, FIRST_VALUE)?;
+    Ok(s)
+}
+
+/// Appends what leaves the value of an expression in the stack's first register for which the stack has no room.
+#[cycle(deeply)]
+fn emit_spilling(
+    alloc: Global,
+    code: &mut Vec<u32>,
+    places: &Places,
+    scope: &[Held],
+    e: &Expr,
+    word: u32,
+) -> Result<(), CodeFault>
+    requires { IsDeep places.now.frames e.now word }
+    ensures ok { OnOk result (MakesValue code.old.items code.new.items places.now scope.now word first_value e.now) }
+    ensures err { IfErr result (IsFault ⊥ (are_held scope.now e.now ≡ true → ⊥)) }
+{
+    match e {
+        Expr::Number(_) => Err(CodeFault::TooDeep),
+        Expr::Linear(_) => Err(CodeFault::TooDeep),
+        Expr::Binary(operation, a, b) => {
+            let first = emit_deep(alloc, code, places, scope, a.get(), word)?;
+            let both = emit_beside(alloc, code, places, scope, b.get(), word, first)?;
+            emit_operation(code, *operation, FIRST_VALUE, both.first, both.second)?;
+            Ok(())
+        }
+        Expr::Divide(a, divisor) => {
+            let first = emit_deep(alloc, code, places, scope, a.get(), word)?;
+            emit_quotient(alloc, code, scope, *divisor, first, FIRST_VALUE)?;
+            Ok(())
+        }
+        Expr::Remainder(a, divisor) => {
+            let first = emit_deep(alloc, code, places, scope, a.get(), word)?;
+            emit_remainder(alloc, code, scope, *divisor, first, FIRST_VALUE)?;
+            Ok(())
+        }
+        Expr::Select(c, a, b) => {
+            let condition = emit_deep(alloc, code, places, scope, c.get(), word)?;
+            emit_spill(alloc, code, places, scope, condition, word)?;
+            let first = emit_deep(alloc, code, places, scope, a.get(), word + 1)?;
+            emit_pair(alloc, code, places, scope, b.get(), word + 1, first)?;
+            emit_unspill(alloc, code, places, scope, word, THIRD_VALUE)?;
+            emit_selection(code, FIRST_VALUE, THIRD_VALUE, FIRST_VALUE, SECOND_VALUE)?;
+            Ok(())
+        }
+        Expr::Load(source, x, y) => {
+            let place = place_of(places, *source);
+            let column = emit_deep(alloc, code, places, scope, x.get(), word)?;
+            let point = emit_row(alloc, code, places, scope, y.get(), word, column)?;
+            emit_pixel(
+                alloc,
+                code,
+                scope,
+                &place,
+                &point.column,
+                &point.row,
+                FIRST_VALUE,
+            )?;
+            Ok(())
+        }
+    }
+}
+
+/// Appends what leaves a second operand beside a first one: a leaf in a register of its own. For another one the first
+/// waits in the frame.
+#[cycle(deeply)]
+fn emit_beside(
+    alloc: Global,
+    code: &mut Vec<u32>,
+    places: &Places,
+    scope: &[Held],
+    e: &Expr,
+    word: u32,
+    first: u8,
+) -> Result<Both, CodeFault>
+    requires fits { FitsSecond places.now.frames e.now word }
+    requires first { IsFirst scope.now first }
+    ensures ok { IfOk result (λ both. MakesBoth code.old.items code.new.items places.now scope.now word
+        first both e.now) }
+    ensures err { IfErr result (IsFault ⊥ (are_held scope.now e.now ≡ true → ⊥)) }
+{
+    if is_leaf(e) {
+        let second = emit_operand(alloc, code, places, scope, e, SECOND_VALUE, ADDRESS)?;
+        return Ok(Both { first, second });
+    }
+    emit_pair(alloc, code, places, scope, e, word, first)?;
+    Ok(Both {
+        first: FIRST_VALUE,
+        second: SECOND_VALUE,
+    })
+}
+
+/// Appends what finds a row beside a column that stands in a register, which waits in the frame where the row is no
+/// sum.
+#[cycle(deeply)]
+fn emit_row(
+    alloc: Global,
+    code: &mut Vec<u32>,
+    places: &Places,
+    scope: &[Held],
+    e: &Expr,
+    word: u32,
+    first: u8,
+) -> Result<PointIndexes, CodeFault>
+    requires fits { FitsSecond places.now.frames e.now word }
+    requires first { IsFirst scope.now first }
+    ensures ok { IfOk result (λ point. MakesRow code.old.items code.new.items places.now scope.now word
+        first point e.now) }
+    ensures err { IfErr result (IsFault ⊥ (are_held scope.now e.now ≡ true → ⊥)) }
+{
+    match sum_of(alloc, e)? {
+        Some(own) => Ok(PointIndexes {
+            column: Index::Register(first),
+            row: Index::Sum(own),
+        }),
+        None => {
+            emit_pair(alloc, code, places, scope, e, word, first)?;
+            Ok(PointIndexes {
+                column: Index::Register(FIRST_VALUE),
+                row: Index::Register(SECOND_VALUE),
+            })
+        }
+    }
+}
+
+/// Appends what leaves a register's number and an expression's value in the first registers of the stack: the first
+/// waits in a word of the frame while the second is made.
+#[cycle(deeply)]
+fn emit_pair(
+    alloc: Global,
+    code: &mut Vec<u32>,
+    places: &Places,
+    scope: &[Held],
+    e: &Expr,
+    word: u32,
+    first: u8,
+) -> Result<(), CodeFault>
+    requires fits { FitsPair places.now.frames e.now word }
+    requires first { IsFirst scope.now first }
+    ensures ok { OnOk result (Pairs code.old.items code.new.items places.now scope.now word first e.now) }
+    ensures err { IfErr result (IsFault ⊥ (are_held scope.now e.now ≡ true → ⊥)) }
+{
+    emit_spill(alloc, code, places, scope, first, word)?;
+    let second = emit_deep(alloc, code, places, scope, e, word + 1)?;
+    alu_small(code, AluImmOp::Addi, SECOND_VALUE, second, 0)?;
+    emit_unspill(alloc, code, places, scope, word, FIRST_VALUE)?;
+    Ok(())
+}

@@ -1,0 +1,102 @@
+//! Values of expressions whatever they need, and stores of them.
+
+ghost use Rattle.std.specs.Prelude.{◌≡◌, IfErr, IfOk, OnOk, true};
+ghost use Rattle.task_code_scalar.specs.Faults.{FitsFrame, IsFault};
+ghost use Rattle.loop_ir.specs.Needs.{need_of};
+ghost use Rattle.task_code_values.specs.Operands.{IsSum};
+ghost use Rattle.task_code_values.specs.Sizes.{are_held};
+ghost use Rattle.task_code_values.specs.Spilling as spec;
+ghost use Rattle.task_code_values.specs.Storing.{FitsStore, MakesStore, MakesValue};
+
+use crate::accesses::emit_save;
+use crate::expressions::sum_of;
+use crate::needs::need;
+use crate::operands::emit_reached_address;
+use crate::spilling::{STACK, emit_deep};
+use halide_pipeline::Source;
+use loop_ir::expressions::{Expr, Linear};
+use loop_ir::statements::Store;
+use std::alloc::Global;
+use task_code_registers::points::point_form;
+use task_code_registers::registers::ADDRESS;
+use task_code_registers::scopes::Held;
+use task_code_scalar::CodeFault;
+use task_code_scalar::expressions::place_of;
+use task_code_scalar::places::Places;
+
+/// How many words a frame has.
+const FRAME_WORDS: u32 = 1024;
+/// Where frames may begin, so that those of all harts lie below 2^32.
+const LAST_START: u32 = 0xffff_0000;
+
+/// How much an expression may need: the registers of the stack, or the words of a frame.
+fn room_limit(frames: Option<u32>) -> u32
+    ensures { result ≡ spec.room_limit frames }
+{
+    match frames {
+        None => STACK,
+        Some(start) => { if start <= LAST_START { FRAME_WORDS } else { 0 } }
+    }
+}
+
+/// Appends what leaves an expression's value in the stack's first register, where none of the scope holds it. It
+/// returns the register.
+///
+/// # Errors
+///
+/// Memory ran out, the expression needs more registers than there are and more words than a hart's frame has, or a
+/// loop variable has no register and no form is near.
+pub fn emit_value(
+    alloc: Global,
+    code: &mut Vec<u32>,
+    places: &Places,
+    scope: &[Held],
+    e: &Expr,
+) -> Result<u8, CodeFault>
+    ensures ok { IfOk result (λ s. MakesValue code.old.items code.new.items places.now scope.now 0 s e.now) }
+    ensures err { IfErr result
+        (IsFault ⊥ (are_held scope.now e.now ≡ true → FitsFrame places.now.frames e.now 0 → ⊥)) }
+{
+    if need(e) > room_limit(places.frames) {
+        return Err(CodeFault::TooDeep);
+    }
+    let s = emit_deep(alloc, code, places, scope, e, 0)?;
+    Ok(s)
+}
+
+/// The sum that an expression is.
+fn needed_sum(alloc: Global, e: &Expr) -> Result<Linear, CodeFault>
+    ensures ok { IfOk result (IsSum e.now) }
+    ensures err { IfErr result (IsFault ⊥ ((need_of e.now).is_leaf ≡ true → ⊥)) }
+{
+    match sum_of(alloc, e)? {
+        Some(own) => Ok(own),
+        None => Err(CodeFault::TooDeep),
+    }
+}
+
+/// Appends a store, whose indexes are sums.
+///
+/// # Errors
+///
+/// Memory ran out, an index is no sum, the value needs more registers than there are, or a loop variable has no
+/// register and no form is near.
+pub fn emit_store(
+    alloc: Global,
+    code: &mut Vec<u32>,
+    places: &Places,
+    scope: &[Held],
+    store: &Store,
+) -> Result<(), CodeFault>
+    ensures ok { OnOk result (MakesStore code.old.items code.new.items places.now scope.now store.now) }
+    ensures err { IfErr result (IsFault ⊥ (FitsStore places.now scope.now store.now → ⊥)) }
+{
+    let column = needed_sum(alloc, &store.x)?;
+    let row = needed_sum(alloc, &store.y)?;
+    let place = place_of(places, Source::Func(store.func));
+    let s = emit_value(alloc, code, places, scope, &store.value)?;
+    let form = point_form(alloc, &place, &column, &row)?;
+    let at = emit_reached_address(alloc, code, scope, &form, ADDRESS)?;
+    emit_save(code, at.register, s, at.offset)?;
+    Ok(())
+}
