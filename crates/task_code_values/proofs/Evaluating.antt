@@ -1,5 +1,6 @@
 -- The code of an expression leaves its value.
 use Rattle.std.proofs.Common.{◌≡◌, ℕ, ◌+◌, ◌*◌, ◌^◌, ◌<◌, ◌≤◌, List, [], ◌∷◌, ◌++◌, length, Bool, true, false, refl, ap, ◌∙◌, sym, subst, arith, inl, inr}
+use Rattle.std.proofs.lemmas.List.{append-nil}
 use Rattle.std.specs.Prelude.{◌≢◌, ◌⊎◌, ◌==◌, if◌then◌else◌}
 use Rattle.std.specs.List.{AllByRecursion}
 use Rattle.rv_insn.specs.declared.instructions.Insn.{Insn}
@@ -28,18 +29,21 @@ use Rattle.task_code_scalar.specs.Words.{Emits}
 use Rattle.task_code_scalar.proofs.Evaluation.{applied-below, chosen-below}
 use Rattle.task_code_scalar.proofs.Spelling.{emits_then, emits-none}
 use Rattle.task_code_registers.specs.declared.scopes.Held.{Held}
-use Rattle.task_code_registers.specs.Emitting.{sum_words}
+use Rattle.task_code_registers.specs.Emitting.{MakesOf, sum_words}
 use Rattle.task_code_registers.specs.Registers.{zero_register, scratch, second_scratch, address_register, first_value, IsSource}
 use Rattle.task_code_registers.specs.Scopes.{Knows, AreHolders, IsKept, IsFree}
 use Rattle.task_code_registers.proofs.Knowing.{knows-zero, knows-still, working-free, linear-small}
 use Rattle.task_code_registers.proofs.Making.{short-then}
 use Rattle.task_code_values.specs.declared.points.Index.{Index}
 use Rattle.task_code_values.specs.declared.points.Index.TheVariants as indexes
+use Rattle.task_code_values.specs.declared.immediates.Immediate.{Immediate}
+use Rattle.task_code_values.specs.Immediates.{immediate_value, IsImmediateNumber, IsImmediate}
 use Rattle.task_code_values.specs.Making.{IsStack, IsBelow, Leaves, MakesOfTwo, MakesFrom, MakesHeld, Selects}
 use Rattle.task_code_values.specs.Operands.{IsOperand, IsLeafPlace, MakesOperand, IsSum, IsIndex, Finds, StandsIn, MakesIndex, MakesPixel}
 use Rattle.task_code_values.specs.Points.{HaveIndex}
 use Rattle.task_code_values.specs.Sizes.{words_of, value_words, are_held}
 use Rattle.task_code_values.proofs.Standing.{kept-below, below-apart, below-more}
+use Rattle.task_code_values.proofs.Literals.{of-operand}
 use Rattle.task_code_values.proofs.Parts.{words_number, words_linear, words_binary, words_divide, words_remainder, words_select, words_load}
 
 -- ---- what an expression is worth, and what it loads
@@ -78,6 +82,10 @@ module _ (reads : Reads) (values : Values) where
 
   abbrev seen-points : Expr → List Point
   seen-points own = loads reads values own
+
+  loads_number : (n : ℕ) → seen-points (e.Number n) ≡ []
+  unfolding seen
+  loads_number n = ap (λ (s : Seen). s.points) (at_number Seen (seen_at reads values) n)
 
   pub loads_binary : (o : Operation) (a b : Expr) → seen-points (e.Binary o a b) ≡ seen-points a ++ seen-points b
   unfolding seen
@@ -239,6 +247,18 @@ module _ (places : Places) (scope : List Held) where
           };
     }
 
+    -- of one operand and a literal
+    immediate-operand : (o : Operation) (a : Expr) (n s : ℕ) (i : Immediate) (c0 c1 c2 : List ℕ) → n < 2 ^ 32 → IsImmediateNumber o n i
+        → Operand c0 c1 r r s a → MakesOf c1 c2 3 r s (immediate_value i) → Operand c0 c2 r r r (e.Binary o a (e.Number n))
+    immediate-operand o a n s i c0 c1 c2 small makes x z =
+        let w = ap (λ (k : Size). k.words) (words_binary o a (e.Number n)) in
+        let m = ap (λ (k : Size). k.words) (words_number n) in
+        from-operand (e.Binary o a (e.Number n)) a s 3 (λ v. word.applied o v n) c0 c1 c2 (omega (arith, w, m))
+        (λ reads values. loads_binary reads values o a (e.Number n) ∙ ap (λ xs. loads reads values a ++ xs) (loads_number reads values n)
+        ∙ append-nil (loads reads values a))
+        (λ reads values. value_binary reads values o a (e.Number n) ∙ ap (word.applied o (value reads values a)) (value_number reads values n)) x
+        (of-operand scope 3 r s (immediate_value i) (λ v. word.applied o v n) c1 c2 low high makes (λ v l. applied-below o v n l small) z)
+
     pub divide-operand : (a : Expr) (c s : ℕ) (c0 c1 c2 : List ℕ) → Operand c0 c1 r r s a → MakesFrom c1 c2 6 scope r s (λ v. word.divide v c)
         → Operand c0 c2 r r r (e.Divide a c)
     divide-operand a c s c0 c1 c2 x z =
@@ -367,6 +387,15 @@ module _ (places : Places) (scope : List Held) where
     binary-arm o a b x y s t c0 c1 c2 c3 high eo ex ey u v z =
         operand-as own (e.Binary o a b) r leaf r c0 c3 eo (operand-own (e.Binary o a b) r leaf c0 c3
         (binary-operand r low high o a b s t c0 c1 c2 c3 (subst (Part c0 c1 r r s) ex u) (subst (Part c1 c2 (r + 1) address_register t) ey v) z))
+
+    pub immediate-arm : (o : Operation) (a b x y : Expr) (s : ℕ) (i : Immediate) (c0 c1 c2 : List ℕ) → r < 32 → own ≡ e.Binary o a b → x ≡ a → y ≡ b
+        → Part c0 c1 r r s x
+        → IsImmediate o y i → MakesOf c1 c2 3 r s (immediate_value i) → Operand c0 c2 r leaf r own
+    immediate-arm o a b x y s i c0 c1 c2 high eo ex ey u is z =
+        let en : b ≡ e.Number is.number = sym ey ∙ is.is in
+        operand-as own (e.Binary o a (e.Number is.number)) r leaf r c0 c2 (eo ∙ ap (λ k. e.Binary o a k) en)
+        (operand-own (e.Binary o a (e.Number is.number)) r leaf c0 c2
+        (immediate-operand r low high o a is.number s i c0 c1 c2 is.small is.makes (subst (Part c0 c1 r r s) ex u) z))
 
     pub divide-arm : (a x : Expr) (c s : ℕ) (c0 c1 c2 : List ℕ) → r < 32 → own ≡ e.Divide a c → x ≡ a → Part c0 c1 r r s x
         → MakesFrom c1 c2 6 scope r s (λ v. word.divide v c) → Operand c0 c2 r leaf r own

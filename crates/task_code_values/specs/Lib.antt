@@ -1,3 +1,4 @@
+pub mod Immediates
 pub mod Making
 pub mod Operands
 pub mod Points

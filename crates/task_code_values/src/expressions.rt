@@ -8,6 +8,7 @@ ghost use Rattle.task_code_registers.specs.Registers.{first_value};
 ghost use Rattle.task_code_values.specs.Operands.{FitsOperand, IsLeafPlace, IsSum, MakesIndex, MakesOperand};
 ghost use Rattle.task_code_values.specs.Sizes.{are_held};
 
+use crate::immediates::{emit_immediate, immediate_of};
 use crate::operands::{emit_number_operand, emit_sum_operand};
 use crate::operations::{emit_operation, emit_quotient, emit_remainder, emit_selection};
 use crate::points::{Index, emit_pixel};
@@ -71,7 +72,12 @@ pub fn emit_operand(
         }
         Expr::Binary(operation, a, b) => {
             let first = emit_operand(alloc, code, places, scope, a.get(), r, r)?;
-            let second = emit_operand(alloc, code, places, scope, b.get(), r + 1, ADDRESS)?;
+            let other = b.get();
+            if let Some(own) = immediate_of(*operation, other) {
+                emit_immediate(code, own, first, r)?;
+                return Ok(r);
+            }
+            let second = emit_operand(alloc, code, places, scope, other, r + 1, ADDRESS)?;
             emit_operation(code, *operation, r, first, second)?;
             Ok(r)
         }

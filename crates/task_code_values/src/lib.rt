@@ -2,6 +2,7 @@
 //! which instructions it has.
 //!
 //! - [`operations`]: appends what an operation, a quotient, a remainder or a choice makes of registers.
+//! - [`immediates`]: appends what an operation with a literal makes, which an instruction holds.
 //! - [`accesses`]: appends single loads and stores.
 //! - [`operands`]: appends what leaves a number or a sum of loop variables in a register, or names the register that
 //!   holds it already.
@@ -16,6 +17,7 @@
 pub mod accesses;
 pub mod expressions;
 pub mod frames;
+pub mod immediates;
 pub mod needs;
 pub mod operands;
 pub mod operations;

@@ -3,7 +3,8 @@ use Rattle.std.specs.Prelude.{IfSome}
 use Rattle.loop_ir.specs.declared.expressions.Expr.{size-Expr}
 use Rattle.task_code_scalar.proofs.Refusing.{passed}
 use Rattle.task_code_values.specs.Operands.{IsSum}
-use Rattle.task_code_values.proofs.Evaluating.{number-operand, linear-operand, binary-arm, divide-arm, remainder-arm, select-arm, load-arm, index-sum}
+use Rattle.task_code_values.proofs.Evaluating.{number-operand, linear-operand, binary-arm, immediate-arm, divide-arm, remainder-arm, select-arm, load-arm}
+use Rattle.task_code_values.proofs.Evaluating.{index-sum}
 use Rattle.task_code_values.proofs.Evaluating.{index-register, one-of}
 use Rattle.task_code_values.proofs.Parts.{binary-fits, load-fits, divide-fits, remainder-fits, select-fits, fits-as, roomy, passed-part, held-as}
 use Rattle.task_code_values.proofs.Parts.{held-linear, held-binary, held-divide, held-remainder, held-select, held-load}
@@ -33,7 +34,21 @@ emit_operand-returns-in_ok-emit_operation-in-Binary-clause-ok t c =
     binary-arm c.args.places.now c.args.scope.now c.args.r c.requires.place.0 c.args.e.now c.args.leaf c.in-Binary.operation c.in-Binary.a
     c.in-Binary.b _ _ c.in_ok-first-in-Binary.first c.in_ok-second-in-Binary.second
     _ _ _ _ (binary-fits c.args.e.now c.in-Binary.operation c.in-Binary.a c.in-Binary.b c.args.r c.in-Binary.is c.requires.fits).room c.in-Binary.is
-    c.get.ensures c.get-in-Binary.ensures c.in_ok-first-in-Binary.ensures.ok c.in_ok-second-in-Binary.ensures.ok c.in_ok-emit_operation-in-Binary.ensures
+    c.get.ensures c.get-other.ensures c.in_ok-first-in-Binary.ensures.ok c.in_ok-second-in-Binary.ensures.ok c.in_ok-emit_operation-in-Binary.ensures
+
+pub emit_operand-returns-in-Some-clause-ok : goal.emit_operand-returns-in-Some-clause-ok
+emit_operand-returns-in-Some-clause-ok t c =
+    immediate-arm c.args.places.now c.args.scope.now c.args.r c.requires.place.0 c.args.e.now c.args.leaf c.in-Binary.operation c.in-Binary.a
+    c.in-Binary.b _ _ c.in_ok-first-in-Binary.first c.in-Some.own
+    _ _ _ (binary-fits c.args.e.now c.in-Binary.operation c.in-Binary.a c.in-Binary.b c.args.r c.in-Binary.is c.requires.fits).room c.in-Binary.is
+    c.get.ensures c.get-other.ensures c.in_ok-first-in-Binary.ensures.ok c.in-Some.ensures
+    c.in_ok-emit_immediate-in-Binary.ensures
+
+pub emit_operand-emit_immediate-requires : goal.emit_operand-emit_immediate-requires
+emit_operand-emit_immediate-requires t c =
+    let low = c.requires.place.0 in
+    let room = (binary-fits c.args.e.now c.in-Binary.operation c.in-Binary.a c.in-Binary.b c.args.r c.in-Binary.is c.requires.fits).room in
+    ((omega (arith, low), room), c.in_ok-first-in-Binary.ensures.ok.source)
 
 pub emit_operand-returns-in_err-first-in-Binary-clause-err : goal.emit_operand-returns-in_err-first-in-Binary-clause-err
 emit_operand-returns-in_err-first-in-Binary-clause-err t c =
@@ -43,9 +58,9 @@ emit_operand-returns-in_err-first-in-Binary-clause-err t c =
 
 pub emit_operand-returns-in_err-second-in-Binary-clause-err : goal.emit_operand-returns-in_err-second-in-Binary-clause-err
 emit_operand-returns-in_err-second-in-Binary-clause-err t c =
-    passed-part c.args.scope.now c.from_residual-in_err-second-in-Binary.result c.in_err-second-in-Binary.field-0.0 c.get-in-Binary.result.now c.args.e.now
-    c.from_residual-in_err-second-in-Binary.ensures.1 (λ held. held-as c.args.scope.now c.get-in-Binary.result.now c.in-Binary.b
-    c.get-in-Binary.ensures ((held-binary c.args.scope.now c.args.e.now c.in-Binary.operation c.in-Binary.a c.in-Binary.b c.in-Binary.is held).1))
+    passed-part c.args.scope.now c.from_residual-in_err-second-in-Binary.result c.in_err-second-in-Binary.field-0.0 c.get-other.result.now c.args.e.now
+    c.from_residual-in_err-second-in-Binary.ensures.1 (λ held. held-as c.args.scope.now c.get-other.result.now c.in-Binary.b
+    c.get-other.ensures ((held-binary c.args.scope.now c.args.e.now c.in-Binary.operation c.in-Binary.a c.in-Binary.b c.in-Binary.is held).1))
     c.in_err-second-in-Binary.ensures.err
 
 pub emit_operand-returns-in_ok-emit_quotient-in-Divide-clause-ok : goal.emit_operand-returns-in_ok-emit_quotient-in-Divide-clause-ok
@@ -203,14 +218,14 @@ emit_operand-emit_operand-requires t c = (
 
 pub emit_operand-emit_operand-requires-in-Binary : goal.emit_operand-emit_operand-requires-in-Binary
 emit_operand-emit_operand-requires-in-Binary t c = (
-  part-measure (size-Expr c.get-in-Binary.result.now) (size-Expr c.args.e.now) t c.decreases (binary-second c.args.e.now c.in-Binary.operation
-      c.in-Binary.a c.in-Binary.b c.get-in-Binary.result.now c.in-Binary.is c.get-in-Binary.ensures),
+  part-measure (size-Expr c.get-other.result.now) (size-Expr c.args.e.now) t c.decreases (binary-second c.args.e.now c.in-Binary.operation
+      c.in-Binary.a c.in-Binary.b c.get-other.result.now c.in-Binary.is c.get-other.ensures),
   (
     let low = c.requires.place.0 in let room = (binary-fits c.args.e.now c.in-Binary.operation c.in-Binary.a c.in-Binary.b c.args.r c.in-Binary.is
         c.requires.fits).room in (omega (arith, low), omega (arith, room)),
     (
       inl refl,
-      fits-as c.get-in-Binary.result.now c.in-Binary.b (c.args.r + 1) c.get-in-Binary.ensures (binary-fits c.args.e.now c.in-Binary.operation
+      fits-as c.get-other.result.now c.in-Binary.b (c.args.r + 1) c.get-other.ensures (binary-fits c.args.e.now c.in-Binary.operation
           c.in-Binary.a c.in-Binary.b c.args.r c.in-Binary.is c.requires.fits).second,
     ),
   ),
