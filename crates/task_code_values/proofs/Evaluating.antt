@@ -1,9 +1,8 @@
 -- The code of an expression leaves its value.
-use Rattle.std.proofs.Common.{◌≡◌, ℕ, ◌+◌, ◌*◌, ◌^◌, ◌<◌, ◌≤◌, List, [], ◌∷◌, ◌++◌, length, Bool, true, false, refl, ap, ◌∙◌, sym, subst, arith, inl, inr}
+use Rattle.std.proofs.Common.{◌≡◌, ℕ, ◌+◌, ◌^◌, ◌<◌, ◌≤◌, List, [], ◌∷◌, ◌++◌, length, true, refl, ap, ◌∙◌, sym, subst, arith, inl, inr}
 use Rattle.std.proofs.lemmas.List.{append-nil}
-use Rattle.std.specs.Prelude.{◌≢◌, ◌⊎◌, ◌==◌, if◌then◌else◌}
+use Rattle.std.specs.Prelude.{◌⊎◌, ◌==◌, if◌then◌else◌}
 use Rattle.std.specs.List.{AllByRecursion}
-use Rattle.rv_insn.specs.declared.instructions.Insn.{Insn}
 use Rattle.halide_pipeline.specs.declared.expressions.Operation.{Operation}
 use Rattle.halide_pipeline.specs.declared.expressions.Source.{Source}
 use Rattle.halide_pipeline.specs.Words as word
@@ -15,22 +14,20 @@ use Rattle.loop_ir.specs.declared.expressions.Expr.TheVariants as e
 use Rattle.loop_ir.specs.declared.expressions.Linear.{Linear}
 use Rattle.loop_ir.specs.Counters.{Values}
 use Rattle.loop_ir.specs.Expressions.{value, value_at, seen, seen_at, loads, linear_value}
-use Rattle.loop_ir.specs.Sizes.{Size, kept}
+use Rattle.loop_ir.specs.Sizes.{Size}
 use Rattle.loop_ir.proofs.Folds.{at_number, at_linear, at_binary, at_divide, at_remainder, at_select, at_load}
 use Rattle.loop_ir.proofs.Loads.{values_are_seen}
 use Rattle.multi_hart_logic.specs.Alone.{World}
-use Rattle.multi_hart_logic.specs.Paths.{Line}
 use Rattle.multi_hart_logic.proofs.Paths.{line-then, stay}
 use Rattle.task_code_scalar.specs.declared.places.Place.{Place}
 use Rattle.task_code_scalar.specs.declared.places.Places.{Places}
 use Rattle.task_code_scalar.specs.Code.{place_of}
 use Rattle.task_code_scalar.specs.Evaluation.{Loads, LoadsAt}
-use Rattle.task_code_scalar.specs.Words.{Emits}
 use Rattle.task_code_scalar.proofs.Evaluation.{applied-below, chosen-below}
 use Rattle.task_code_scalar.proofs.Spelling.{emits_then, emits-none}
 use Rattle.task_code_registers.specs.declared.scopes.Held.{Held}
 use Rattle.task_code_registers.specs.Emitting.{MakesOf, sum_words}
-use Rattle.task_code_registers.specs.Registers.{zero_register, scratch, second_scratch, address_register, first_value, IsSource}
+use Rattle.task_code_registers.specs.Registers.{address_register}
 use Rattle.task_code_registers.specs.Scopes.{Knows, AreHolders, IsKept, IsFree}
 use Rattle.task_code_registers.proofs.Knowing.{knows-zero, knows-still, working-free, linear-small}
 use Rattle.task_code_registers.proofs.Making.{short-then}
@@ -38,10 +35,10 @@ use Rattle.task_code_values.specs.declared.points.Index.{Index}
 use Rattle.task_code_values.specs.declared.points.Index.TheVariants as indexes
 use Rattle.task_code_values.specs.declared.immediates.Immediate.{Immediate}
 use Rattle.task_code_values.specs.Immediates.{immediate_value, IsImmediateNumber, IsImmediate}
-use Rattle.task_code_values.specs.Making.{IsStack, IsBelow, Leaves, MakesOfTwo, MakesFrom, MakesHeld, Selects}
-use Rattle.task_code_values.specs.Operands.{IsOperand, IsLeafPlace, MakesOperand, IsSum, IsIndex, Finds, StandsIn, MakesIndex, MakesPixel}
+use Rattle.task_code_values.specs.Making.{IsStack, IsBelow, MakesOfTwo, MakesFrom, MakesHeld, Selects}
+use Rattle.task_code_values.specs.Operands.{IsOperand, IsLeafPlace, MakesOperand, IsSum, IsIndex, StandsIn, MakesIndex, MakesPixel}
 use Rattle.task_code_values.specs.Points.{HaveIndex}
-use Rattle.task_code_values.specs.Sizes.{words_of, value_words, are_held}
+use Rattle.task_code_values.specs.Sizes.{value_words, are_held}
 use Rattle.task_code_values.proofs.Standing.{kept-below, below-apart, below-more}
 use Rattle.task_code_values.proofs.Literals.{of-operand}
 use Rattle.task_code_values.proofs.Parts.{words_number, words_linear, words_binary, words_divide, words_remainder, words_select, words_load}

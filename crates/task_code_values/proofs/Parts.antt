@@ -1,6 +1,6 @@
 -- What has room, registers and words in a whole expression has them in its parts.
-use Rattle.std.proofs.Common.{◌≡◌, ℕ, suc, ◌+◌, ◌*◌, ◌^◌, ◌<◌, ◌≤◌, Bool, true, false, List, [], ◌∷◌, length, refl, ap, ◌∙◌, sym, subst, arith, inl, inr}
-use Rattle.std.specs.Prelude.{◌⊎◌, ◌==◌, ◌&&◌, max, if◌then◌else◌, Result, IfErr, IsErrAnd}
+use Rattle.std.proofs.Common.{◌≡◌, ℕ, suc, ◌+◌, ◌*◌, ◌^◌, ◌<◌, ◌≤◌, Bool, true, false, List, [], ◌∷◌, length, refl, ap, ◌∙◌, sym, subst, arith}
+use Rattle.std.specs.Prelude.{◌==◌, ◌&&◌, max, if◌then◌else◌, Result, IfErr, IsErrAnd}
 use Rattle.std.proofs.lemmas.Bool.{and_parts}
 use Rattle.std.proofs.lemmas.Bool.Decides.{nat_tests}
 use Rattle.halide_pipeline.specs.declared.expressions.Operation.{Operation}
@@ -17,15 +17,13 @@ use Rattle.loop_ir.specs.Expressions.{value, value_at, linear_value}
 use Rattle.loop_ir.specs.Needs.{Need, beside_first, divisor_need, need_at, need_of, need}
 use Rattle.loop_ir.specs.Sizes.{Size, kept, of_parts}
 use Rattle.loop_ir.proofs.Folds.{Both, left_of, right_of, folds_related, at_number, at_linear, at_binary, at_divide, at_remainder, at_select, at_load}
-use Rattle.loop_ir.proofs.Needs.{need_number, need_linear, need_binary, need_divide, need_remainder, need_select, need_load}
+use Rattle.loop_ir.proofs.Needs.{need_binary, need_divide, need_remainder, need_select, need_load}
 use Rattle.task_code_scalar.specs.declared.CodeFault.{CodeFault}
-use Rattle.task_code_scalar.specs.Faults.{IsFault, FitsStack}
+use Rattle.task_code_scalar.specs.Faults.{IsFault}
 use Rattle.task_code_scalar.proofs.Refusing.{passed}
 use Rattle.task_code_registers.specs.declared.scopes.Held.{Held}
 use Rattle.task_code_registers.specs.Emitting.{sum_words}
-use Rattle.task_code_registers.specs.Registers.{first_value}
 use Rattle.task_code_registers.specs.Scopes.{have_registers}
-use Rattle.task_code_values.specs.Making.{IsStack}
 use Rattle.task_code_values.specs.Operands.{FitsOperand, IsSum}
 use Rattle.task_code_values.specs.Sizes.{leaf, words_at, words_of, value_words, are_held_at, are_held}
 

@@ -1,6 +1,5 @@
 -- Loads of points.
 use Rattle.std.proofs.Common.{◌≡◌, ℕ, ◌+◌, ◌*◌, ◌%◌, ◌^◌, ◌<◌, ◌≤◌, List, [], ◌∷◌, ◌++◌, length, true, false, refl, ap, ◌∙◌, sym, subst, arith, inl, inr}
-use Rattle.std.proofs.Common.{length-append}
 use Rattle.std.specs.Prelude.{◌≢◌, ◌⊎◌, nat_lt, pos}
 use Rattle.std.proofs.Math.Nat.{mul-add, mul_comm, mul_assoc}
 use Rattle.std.proofs.lemmas.Nat.{mul-mod_second}
@@ -31,16 +30,16 @@ use Rattle.task_code_scalar.proofs.Spelling.{emits_then}
 use Rattle.task_code_scalar.proofs.Values.{alu-sets, imm-sets, shift-sets}
 use Rattle.task_code_registers.specs.declared.scopes.Form.{Form}
 use Rattle.task_code_registers.specs.declared.scopes.Held.{Held}
-use Rattle.task_code_registers.specs.Emitting.{Fits, Puts, Makes, MakesFormAddress}
+use Rattle.task_code_registers.specs.Emitting.{Fits, Makes, MakesFormAddress}
 use Rattle.task_code_registers.specs.Points.{IsPoint}
-use Rattle.task_code_registers.specs.Registers.{zero_register, scratch, second_scratch, address_register, IsPlace, IsSource}
-use Rattle.task_code_registers.specs.Scopes.{Knows, AreHolders, IsKept, form_value, have_registers}
+use Rattle.task_code_registers.specs.Registers.{scratch, second_scratch, address_register, IsPlace, IsSource}
+use Rattle.task_code_registers.specs.Scopes.{Knows, AreHolders, have_registers}
 use Rattle.task_code_registers.proofs.Knowing.{knows-zero, knows-still, working-free}
-use Rattle.task_code_registers.proofs.Making.{puts-set, puts-then, puts-is, short-then}
+use Rattle.task_code_registers.proofs.Making.{puts-set, short-then}
 use Rattle.task_code_values.specs.declared.points.Index.{Index}
 use Rattle.task_code_values.specs.declared.points.Index.TheVariants as indexes
 use Rattle.task_code_values.specs.Making.{IsStack, IsBelow, Leaves}
-use Rattle.task_code_values.specs.Operands.{IsOperand, IsIndex, StandsIn, MakesPixel}
+use Rattle.task_code_values.specs.Operands.{IsOperand, StandsIn, MakesPixel}
 use Rattle.task_code_values.specs.Points.{HaveIndex, HasPixel, LoadsPoint, LoadsBehind}
 use Rattle.task_code_values.proofs.Standing.{kept-below, below-apart, below-more}
 

@@ -1,5 +1,5 @@
 -- The code of a store does the store.
-use Rattle.std.proofs.Common.{◌≡◌, ℕ, ◌+◌, ◌*◌, ◌%◌, ◌^◌, ◌<◌, ◌≤◌, List, [], ◌∷◌, ◌++◌, length, Bool, true, false, refl, ap, ◌∙◌, sym, subst, arith}
+use Rattle.std.proofs.Common.{◌≡◌, ℕ, ◌+◌, ◌*◌, ◌^◌, ◌<◌, List, [], ◌∷◌, ◌++◌, length, Bool, true, false, refl, ap, ◌∙◌, sym, subst, arith}
 use Rattle.std.proofs.Common.{inl, inr, length-append}
 use Rattle.std.specs.Prelude.{◌≢◌, ◌⊎◌, ◌==◌, ◌&&◌, ℤ}
 use Rattle.std.specs.List.{AllByRecursion, list_all}
@@ -19,14 +19,14 @@ use Rattle.loop_ir.specs.declared.statements.Store.{Store}
 use Rattle.loop_ir.specs.declared.statements.Stmt.TheVariants as s
 use Rattle.loop_ir.specs.Counters.{Values}
 use Rattle.loop_ir.specs.Expressions.{value, loads, linear_value}
-use Rattle.loop_ir.specs.Running.{run, stored}
+use Rattle.loop_ir.specs.Running.{stored}
 use Rattle.loop_ir.specs.Runs.{Runs}
 use Rattle.loop_ir.specs.Soundness.{store_loads}
 use Rattle.loop_ir.proofs.Runs.{runs_store}
 use Rattle.loop_ir.proofs.Sound.{sound_store}
 use Rattle.loop_ir.proofs.Trees.{run_store}
 use Rattle.multi_hart_logic.specs.Alone.{World}
-use Rattle.multi_hart_logic.specs.Paths.{Path, Stand, Writable, end}
+use Rattle.multi_hart_logic.specs.Paths.{Path, Writable, end}
 use Rattle.multi_hart_logic.proofs.Jumps as rules
 use Rattle.multi_hart_logic.proofs.Paths.{stand-front, stand-back, end-append}
 use Rattle.task_code_scalar.specs.declared.places.Place.{Place}
@@ -34,7 +34,7 @@ use Rattle.task_code_scalar.specs.declared.places.Places.{Places}
 use Rattle.task_code_scalar.specs.Code.{place_of, address, lower}
 use Rattle.task_code_scalar.specs.Evaluation.{Loads}
 use Rattle.task_code_scalar.specs.Layout.{func_point, address_of, AreWords}
-use Rattle.task_code_scalar.specs.Doing.{Setting, IsSetting, RunsIn, HoldsFuncs, stored_points}
+use Rattle.task_code_scalar.specs.Doing.{Setting, IsSetting, RunsIn, HoldsFuncs}
 use Rattle.task_code_scalar.specs.Words.{Emits}
 use Rattle.task_code_scalar.proofs.Spelling.{emits_then}
 use Rattle.task_code_scalar.proofs.Spilling.{all-loaded}
@@ -46,12 +46,11 @@ use Rattle.task_code_registers.specs.declared.sums.At.{At}
 use Rattle.task_code_registers.specs.Doing.{Did}
 use Rattle.task_code_registers.specs.Emitting.{MakesFormAddress}
 use Rattle.task_code_registers.specs.Points.{IsPoint}
-use Rattle.task_code_registers.specs.Registers.{scratch, second_scratch, address_register, first_value}
-use Rattle.task_code_registers.specs.Scopes.{Knows, AreHolders, IsKept, form_value, have_registers}
+use Rattle.task_code_registers.specs.Registers.{address_register, first_value}
+use Rattle.task_code_registers.specs.Scopes.{AreHolders, IsKept, have_registers}
 use Rattle.task_code_registers.proofs.Going.{Hits, no_hits, Went, Does, went-then, went-hits, went-is, within, still}
 use Rattle.task_code_registers.proofs.Knowing.{knows-still, kept-apart, working-free}
 use Rattle.task_code_registers.proofs.Making.{short-then}
-use Rattle.task_code_values.specs.Making.{IsBelow}
 use Rattle.task_code_values.specs.Operands.{IsSum, MakesOperand}
 use Rattle.task_code_values.specs.Sizes.{value_words}
 use Rattle.task_code_values.specs.Storing.{LeavesDeep, MakesValue, FitsStore, MakesStore, store_words}

@@ -1,5 +1,5 @@
 -- Operands: numbers and sums of loop variables, and the registers that stay while values are made.
-use Rattle.std.proofs.Common.{◌≡◌, ℕ, ◌+◌, ◌*◌, ◌%◌, ◌^◌, ◌<◌, ◌≤◌, List, [], ◌∷◌, length, true, false, refl, ap, ◌∙◌, sym, subst, arith, inl, inr}
+use Rattle.std.proofs.Common.{◌≡◌, ℕ, ◌+◌, ◌*◌, ◌%◌, ◌^◌, ◌<◌, ◌≤◌, List, [], ◌∷◌, length, refl, ap, ◌∙◌, sym, subst, arith, inl, inr}
 use Rattle.std.specs.Prelude.{◌≢◌, ◌⊎◌}
 use Rattle.loop_ir.specs.declared.expressions.Linear.{Linear}
 use Rattle.loop_ir.specs.Counters.{Values}
@@ -8,11 +8,11 @@ use Rattle.multi_hart_logic.proofs.Paths.{stay}
 use Rattle.task_code_scalar.proofs.Spelling.{emits-none}
 use Rattle.task_code_registers.specs.declared.scopes.Form.{Form}
 use Rattle.task_code_registers.specs.declared.scopes.Held.{Held}
-use Rattle.task_code_registers.specs.Emitting.{Fits, Makes, MakesForm, IsNear, MakesAddress, MakesFormAddress, MakesValue, MakesOf, sum_words}
-use Rattle.task_code_registers.specs.Registers.{zero_register, scratch, second_scratch, address_register, first_value, may_hold, IsPlace, IsSource}
-use Rattle.task_code_registers.specs.Scopes.{Knows, AreHolders, IsHolder, IsKept, IsFree, form_value}
-use Rattle.task_code_registers.proofs.Knowing.{may-hold, knows-zero, knows-still, linear-small}
-use Rattle.task_code_values.specs.Making.{IsStack, IsBelow, MakesHeld}
+use Rattle.task_code_registers.specs.Emitting.{Makes, MakesForm, IsNear, MakesValue, sum_words}
+use Rattle.task_code_registers.specs.Registers.{zero_register, scratch, second_scratch, address_register, IsPlace}
+use Rattle.task_code_registers.specs.Scopes.{AreHolders, IsHolder, IsKept, form_value}
+use Rattle.task_code_registers.proofs.Knowing.{may-hold, knows-zero, linear-small}
+use Rattle.task_code_values.specs.Making.{IsBelow, MakesHeld}
 
 -- ---- registers that stay
 

@@ -1,8 +1,7 @@
 -- Values that wait in the hart's frame.
-use Rattle.std.proofs.Common.{◌≡◌, ℕ, suc, ◌+◌, ◌*◌, ◌%◌, ◌^◌, ◌<◌, ◌≤◌, List, [], ◌∷◌, ◌++◌, length, Option, Some, None, true, false, refl, ap, ◌∙◌}
+use Rattle.std.proofs.Common.{◌≡◌, ℕ, ◌+◌, ◌*◌, ◌%◌, ◌^◌, ◌<◌, ◌≤◌, List, [], ◌∷◌, ◌++◌, length, Option, Some, None, refl, ap, ◌∙◌}
 use Rattle.std.proofs.Common.{sym, subst, arith, inl, inr}
 use Rattle.std.specs.Prelude.{◌≢◌, ◌⊎◌, ℤ, pos}
-use Rattle.std.specs.List.{list_all}
 use Rattle.rv_insn.specs.declared.instructions.Insn.{Insn}
 use Rattle.rv_insn.specs.declared.instructions.Insn.TheVariants.{AluImm, Load as Fetch, Store as Save}
 use Rattle.rv_insn.specs.declared.operations.AluImmOp.TheVariants as alu_imms
@@ -13,11 +12,10 @@ use Rattle.memory.specs.Access.{Word, word_at, put_number}
 use Rattle.memory.proofs.Words.{word-put, word-same}
 use Rattle.hart_core.specs.Alu.{plus}
 use Rattle.halide_pipeline.specs.Pixel.{Planes, reads_of}
-use Rattle.halide_pipeline.specs.Points.{Point}
 use Rattle.loop_ir.specs.declared.expressions.Expr.{Expr}
 use Rattle.loop_ir.specs.declared.expressions.Linear.{Linear}
 use Rattle.loop_ir.specs.Counters.{Values}
-use Rattle.loop_ir.specs.Expressions.{value, loads, linear_value}
+use Rattle.loop_ir.specs.Expressions.{value, linear_value}
 use Rattle.multi_hart_logic.specs.Alone.{World}
 use Rattle.multi_hart_logic.specs.Paths.{update, Line}
 use Rattle.multi_hart_logic.proofs.Paths.{update-same, update-other, line-then}
@@ -37,14 +35,14 @@ use Rattle.task_code_registers.specs.declared.sums.At.{At}
 use Rattle.task_code_registers.specs.Emitting.{MakesFormAddress}
 use Rattle.task_code_registers.specs.Registers.{scratch, second_scratch, address_register, first_value, IsPlace, IsSource}
 use Rattle.task_code_registers.specs.Scopes.{Knows, AreHolders, IsKept, form_value}
-use Rattle.task_code_registers.proofs.Knowing.{knows-still, kept-apart, working-free}
+use Rattle.task_code_registers.proofs.Knowing.{knows-still, working-free}
 use Rattle.task_code_registers.proofs.Making.{short-then}
 use Rattle.task_code_values.specs.Making.{IsBelow}
 use Rattle.task_code_values.specs.Sizes.{value_words}
-use Rattle.task_code_values.specs.Spilling.{HasSlot, IsSlot, MakesSlot, second_value, Kept, Spills, Unspills, Pairs, IsFirst}
-use Rattle.task_code_values.specs.Storing.{LeavesDeep, MakesValue}
+use Rattle.task_code_values.specs.Spilling.{HasSlot, IsSlot, MakesSlot, second_value, Spills, Unspills, Pairs, IsFirst}
+use Rattle.task_code_values.specs.Storing.{MakesValue}
 use Rattle.task_code_values.proofs.Standing.{kept-below, below-apart, below-more}
-use Rattle.task_code_values.proofs.Pointing.{at-offset, own-word}
+use Rattle.task_code_values.proofs.Pointing.{at-offset}
 
 -- ---- forms of words of the frame
 

@@ -10,7 +10,7 @@ use Rattle.multi_hart_logic.specs.Alone.{World}
 use Rattle.multi_hart_logic.specs.Paths.{Readable}
 use Rattle.task_code_scalar.specs.declared.places.Place.{Place}
 use Rattle.task_code_scalar.specs.Code.{address}
-use Rattle.task_code_scalar.specs.Evaluation.{LoadsAt, load_op}
+use Rattle.task_code_scalar.specs.Evaluation.{load_op}
 use Rattle.task_code_scalar.specs.Words.{Emits}
 use Rattle.task_code_registers.specs.declared.scopes.Held.{Held}
 use Rattle.task_code_registers.specs.Scopes.{Knows, AreHolders, have_registers}

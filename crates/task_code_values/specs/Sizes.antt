@@ -1,5 +1,5 @@
 -- How many words the code of an expression's value has at most, and which loop variables it asks for. This project's own.
-use Rattle.std.specs.Prelude.{ℕ, ◌+◌, Bool, true, false, ◌&&◌, List}
+use Rattle.std.specs.Prelude.{ℕ, ◌+◌, Bool, true, ◌&&◌, List}
 use Rattle.loop_ir.specs.declared.expressions.Expr.{Expr, fold-Expr}
 use Rattle.loop_ir.specs.declared.expressions.Expr.TheOpen.{Expr-F}
 use Rattle.loop_ir.specs.declared.expressions.Expr.TheOpen as layer

@@ -1,5 +1,5 @@
 -- What appended code does that may keep values in the hart's frame, and that stores points, whatever its instructions are. This project's own.
-use Rattle.std.specs.Prelude.{◌≡◌, ◌⊎◌, ◌<◌, ◌≤◌, ℕ, ◌+◌, ◌*◌, ◌^◌, true, List, length}
+use Rattle.std.specs.Prelude.{◌≡◌, ◌⊎◌, ◌<◌, ◌≤◌, ℕ, ◌+◌, ◌^◌, true, List, length}
 use Rattle.std.specs.List.{list_all}
 use Rattle.rv_insn.specs.declared.instructions.Insn.{Insn}
 use Rattle.memory.specs.Addresses.{byte_at, AreBytes}
@@ -18,7 +18,7 @@ use Rattle.task_code_scalar.specs.Faults.{FitsFrame}
 use Rattle.task_code_scalar.specs.Layout.{IsBefore}
 use Rattle.task_code_scalar.specs.Words.{Emits}
 use Rattle.task_code_registers.specs.declared.scopes.Held.{Held}
-use Rattle.task_code_registers.specs.Registers.{address_register, first_value, IsSource}
+use Rattle.task_code_registers.specs.Registers.{first_value, IsSource}
 use Rattle.task_code_registers.specs.Scopes.{Knows, AreHolders, IsKept}
 use Rattle.task_code_registers.specs.Doing.{Did}
 use Rattle.task_code_values.specs.Making.{IsBelow}

@@ -1,5 +1,3 @@
-use Rattle.std.proofs.Common.{sym, subst}
-use Rattle.task_code_values.specs.Operands.{StandsIn, MakesPixel}
 use Rattle.task_code_values.proofs.Operating.{ok-map, err-map}
 use Rattle.task_code_values.proofs.Pointing.{column-as, have-sum, stands-register}
 use Rattle.task_code_values.proofs.points.emit_pixel.Goals as goal
