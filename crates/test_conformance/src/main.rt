@@ -1,8 +1,8 @@
 //! `test_conformance`: what the libraries and the engines answer to cases that lie in files.
 //!
-//! The program reads the files that its arguments name (`test_cases`), and prints each case's kind and name and below it the answer.
-//! `stdout` holds what the rules say of the cases in `data/`; none of it was copied from this program. What algorithms under schedules come
-//! to stands beside it (`test_trials`).
+//! The program reads the files that its arguments name (`test_cases`), and prints each case's kind and name and below
+//! it the answer. `stdout` holds what the rules say of the cases in `data/`; none of it was copied from this program.
+//! What algorithms under schedules come to stands beside it (`test_trials`).
 //!
 //! | Kind | Parts | Answer |
 //! |---|---|---|
@@ -10,32 +10,35 @@
 //! | `draw` | `algorithm`, any number of `picture` | the picture that is drawn |
 //! | `read` | `picture` | the picture's text |
 //! | `schedule` | `algorithm`, `schedule` | each Func's standing, loops and splits |
+//! | `weigh` | `algorithm`, `schedule` | what the stages weigh |
+//! | `need` | `algorithm`, `schedule` | how many registers the stages need |
 //! | `assemble` | `text` | the object |
 //! | `list` | `words`: a word in hexadecimal each line | the line of each |
-//! | `turn` | `before`: an assembly text; `instructions`: one each line | each line, and what it changes behind the text before |
+//! | `turn` | `before`: an assembly text; `instructions`: one each line | each line, and what it changes behind it |
 //! | `asm` | `source` | the image's bytes, in hexadecimal |
 //! | `dis` | `image` | the listing |
 //! | `renew` | `image` | the renewed image's bytes, in hexadecimal |
 //! | `replay` | `image`, `log`: lines in hexadecimal | the dump |
 //! | `debug` | `image`, `log`: lines in hexadecimal; `lines` | the talk |
-//! | `run` | `image`; `turns`: how many a hart makes at most | the bytes of the log of one hart, in hexadecimal, and the dump |
+//! | `run` | `image`; `turns`: how many a hart makes at most | the log of one hart, in hexadecimal, and the dump |
 //! | `resume` | `image`, `log`; `turns` | the same, from where a log of one hart ends |
-//! | `compile` | `algorithm`, `schedule`, any number of `picture` | the image without its words, and the picture that one hart leaves |
-//! | `accesses` | `algorithm`, `schedule`, any number of `picture` | how many lines of the image's listing are vector loads and stores, by mnemonic, and how lanes are configured once one hart has finished |
-//! | `threads` | `image`, `harts`, `turns` | the lines of the harts and of the picture of a run by threads, which its log replays to |
-//! | `share` | `harts`, `turns`, `algorithm`, `schedule`, any number of `picture` | the same of the compiled image |
+//! | `compile` | `algorithm`, `schedule`, any number of `picture` | the image but for its words, one hart's picture |
+//! | `accesses` | as `compile` | how many vector loads and stores are listed, and one hart's lanes at its end |
+//! | `threads` | `image`, `harts`, `turns` | of a run by threads the lines of the harts and of the picture |
+//! | `share` | `harts`, `turns`, and those of `compile` | the same of the compiled image |
 //! | `rejoin` | `image`, `log` | the same of a run from where a log of several harts ends |
-//! | `weigh` | `algorithm`, `schedule` | what the stages weigh |
-//! | `need` | `algorithm`, `schedule` | how many registers the stages need |
 //! | `memory` | none | what a command says that was refused memory |
-//! | `words` | `words`: a word of a command line each line | the command and its files, or the refusal's first line |
+//! | `words` | `words`: a word of a command line each line | the command and its files, or why it is refused |
 //!
-//! Images and logs always stand in hexadecimal. The cases of `draw` and of those from `asm` to `compile` go through the engines; a last part
-//! `devices` says how their files give and take bytes: a line `NAME STEP` for at most so many bytes a call, `NAME STEP CALLS` where the
-//! call behind so many fails. What is written is `page`; the log that a run writes has the lines of `new`.
+//! Images and logs always stand in hexadecimal. Of a run by threads the log has to replay to what the run said.
 //!
-//! A refusal stands in place of an answer, or behind what was written before, as `hrv` prints it; a backslash ends a text without a
-//! last line feed there. A case that isn't one of these is answered `malformed: ` and why.
+//! The cases of `draw`, of `asm` to `accesses` and of `threads` to `rejoin` go through the engines. But for `threads`
+//! and `rejoin` a last part `devices` says how their files give and take bytes: a line `NAME STEP` for at most so many
+//! bytes a call, `NAME STEP CALLS` where the call behind so many fails. A file has the name of its part; what is
+//! written is `page`; the log that a run writes has the lines of `new`.
+//!
+//! A refusal stands in place of an answer, or behind what was written before, as `hrv` prints it; a backslash ends a
+//! text without a last line feed there. A case that isn't one of these is answered `malformed: ` and why.
 //!
 //! - [`algorithms`], [`schedules`], [`weights`], [`assemblies`], [`turns`], [`commands`], [`runs`], [`threads`],
 //!   [`compilations`], [`invocations`]: the answers, a module each for one family.

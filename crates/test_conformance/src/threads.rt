@@ -112,8 +112,8 @@ fn push_replayed(
     }
 }
 
-/// Of a dump the lines of the harts and of the picture. How many turns a hart made hangs on the run where it has stopped, and
-/// where it has finished, on the code that was made.
+/// Of a dump the lines of the harts and of the picture. How many turns a hart made hangs on the run where it has
+/// stopped, and where it has finished, on the code that was made.
 fn push_ends(dump: &str, out: &mut String) -> Result<(), AllocError> {
     for line in dump.lines() {
         if !line.starts_with("  ") {

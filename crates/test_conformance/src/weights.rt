@@ -21,8 +21,8 @@ pub fn push_weight(alloc: Global, parts: &[Part], out: &mut String) -> Result<()
     Ok(())
 }
 
-/// How many registers an expression needs at once, of all stages and of those by 16 lanes; whether that takes frames, or
-/// is too much.
+/// How many registers an expression needs at once, of all stages and of those by 16 lanes; whether that takes frames,
+/// or is too much.
 pub fn push_needs(alloc: Global, parts: &[Part], out: &mut String) -> Result<(), Failure> {
     let [algorithm, schedule] = parts else {
         return Err(Failure::Malformed("not two parts"));
