@@ -19,8 +19,8 @@ use Rattle.multi_hart_logic.specs.Alone.{is_in}
 use Rattle.vector_codegen_sharing.specs.Phases.{Phase, HasGate, HasEnd}
 use Rattle.vector_codegen_sharing.specs.Programs.{Program, start, Opens}
 use Rattle.vector_codegen_sharing.specs.Promises.{CanFinish}
-use Rattle.vector_codegen_sharing.specs.Turns.{Name, is_round, are_rounds}
-use Rattle.vector_codegen_sharing.specs.Fairness.{enough_rounds, FairEnds, FinishedStays, arrived, GatesGrow}
+use Rattle.vector_codegen_sharing.specs.Turns.{arrived, Name, is_round, are_rounds}
+use Rattle.vector_codegen_sharing.specs.Fairness.{enough_rounds, FairEnds, FinishedStays, GatesGrow}
 use Rattle.vector_codegen_sharing.proofs.Roles.{Role, Looking, Looked, Over, has_added, total, Holds, prior, InProgram}
 use Rattle.vector_codegen_sharing.proofs.Keeping.{found}
 use Rattle.vector_codegen_sharing.proofs.Control.{gate-or-end}

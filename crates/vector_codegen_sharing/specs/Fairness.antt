@@ -3,7 +3,6 @@
 -- turns each round has, and in whatever order. The count hangs on the phases alone, and not on the list. This project's own.
 use Rattle.std.specs.Prelude.{◌≡◌, ◌≤◌, ℕ, zero, suc, ◌+◌, ◌*◌, true, List, ◌++◌, length, slice_get, Some}
 use Rattle.std.specs.List.{concat}
-use Rattle.memory.specs.Access.{word_at}
 use Rattle.hart_core.specs.declared.harts.Status.TheVariants.{Finished}
 use Rattle.hart_core.specs.HartState.{HartState}
 use Rattle.multi_hart.specs.Finished.{all_finished}
@@ -11,7 +10,7 @@ use Rattle.multi_hart.specs.Run.{State, run}
 use Rattle.multi_hart_logic.specs.Uses.{Task, Setup}
 use Rattle.vector_codegen_sharing.specs.Phases.{Phase}
 use Rattle.vector_codegen_sharing.specs.Programs.{Program, Opens, start}
-use Rattle.vector_codegen_sharing.specs.Turns.{gate_word, are_rounds}
+use Rattle.vector_codegen_sharing.specs.Turns.{arrived, are_rounds}
 
 -- ---- how many are enough
 
@@ -20,9 +19,9 @@ abbrev pub sum_below : ℕ → (ℕ → ℕ) → ℕ
 sum_below zero number_of = 0
 sum_below (suc count) number_of = sum_below count number_of + number_of count
 
--- The turns that bring a phase on, all harts together. Each task: the draw, the branch behind it, and its own. Each hart: up to three out of
--- the gate before (a branch back, a load, a branch on), the way to the draw, and then a draw that finds no task, the branch behind it and
--- the door. Whoever looks at a gate that isn't full brings nothing on, and isn't counted.
+-- At most so many turns bring a phase on, all harts together. Each task: the draw, the branch behind it, and its own. Each hart: at most three
+-- out of the gate before (a branch back, a load, a branch on), which the first phase hasn't; the way to the draw; and then a draw that finds no
+-- task, the branch behind it and the door. Whoever looks at a gate that isn't full brings nothing on, and isn't counted.
 abbrev pub turns_of_phase : Phase → ℕ
 turns_of_phase phase = sum_below phase.tasks (λ task. phase.turns (Task task) + 3) + phase.harts * (phase.turns Setup + 7)
 
@@ -44,10 +43,6 @@ abbrev pub FinishedStays : Type 0
 FinishedStays =
     (state : State) (turns : List ℕ) (number : ℕ) (hart : HartState) → slice_get state.harts number ≡ Some hart → hart.status ≡ Finished
     → slice_get (run state turns).harts number ≡ Some hart
-
--- the number of harts that have come to the gate of phase k
-abbrev pub arrived : State → ℕ → ℕ
-arrived state k = word_at state.text state.memory (gate_word k)
 
 -- a hart that waits at a gate is counted there from then on: no gate word falls
 abbrev pub GatesGrow : Type 0

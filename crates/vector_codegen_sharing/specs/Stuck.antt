@@ -1,5 +1,6 @@
--- Not every program ends on fair lists: two harts that wait at a gate for a third run on for ever, on a list by which they take turns. So no
--- count of rounds is enough for it. It is no `Program`: its gate waits for another number than that of the harts. This project's own.
+-- Not every program ends on fair lists: two harts that wait at a gate for a third still run after any number of rounds, on some list of them. So
+-- no count of rounds is enough for it. What the gate of a `Program` waits for is the number of its harts; this one's waits for one more, by
+-- the text below. This project's own.
 use Rattle.std.specs.Prelude.{◌≡◌, ◌≤◌, ℕ, List, [], ◌∷◌, length, slice_get, replicate, true, false, Some}
 use Rattle.std.specs.List.{concat}
 use Rattle.hart_core.specs.declared.harts.Status.TheVariants.{Running}

@@ -1,6 +1,6 @@
--- Words for lists of turns of harts that share their work by words of control: who wrote what, traps, races, waiting, rounds. They name no
--- phase and no code. This project's own. Data begins with two words for each phase: at 0x00200000 + 8 * k the ticket word of phase k, and
--- four bytes on its gate word.
+-- Words for lists of turns of harts that share their work by words of control: who wrote what, traps, races, waiting, rounds. Phases are
+-- numbers here, by which the words of control are counted; what a phase does, and its code, is named nowhere. This project's own. Data begins
+-- with two words for each phase: at 0x00200000 + 8 * k the ticket word of phase k, and four bytes on its gate word.
 use Rattle.std.specs.Prelude.{◌≡◌, ◌≢◌, ◌<◌, ◌⊎◌, ℕ, zero, suc, ◌+◌, ◌*◌, ◌==◌, ◌||◌, ◌&&◌, nat_le, nat_lt, Bool, true, false, if◌then◌else◌, List, [], ◌∷◌, ◌++◌, length, slice_get, Option, Some, None}
 use Rattle.std.specs.List.{list_all, list_any}
 use Rattle.rv_insn.specs.declared.outcomes.Trap.{Trap}
@@ -109,9 +109,13 @@ are_rounds harts rounds = list_all (is_round harts) rounds
 
 -- ---- waiting
 
+-- the number of harts that have come to the gate of a phase
+abbrev pub arrived : State → ℕ → ℕ
+arrived state phase = word_at state.text state.memory (gate_word phase)
+
 -- the hart's last writing turn wrote the gate word of a phase that isn't the last, which is below the number of harts
 pub record Waits (last hart : ℕ) (begin : State) (turns : List ℕ) : Type 0 where
   pub k : ℕ
   pub within : k < last
   pub wrote : is_word_in (gate_word k) (last_written hart [] begin turns) ≡ true
-  pub below : word_at (run begin turns).text (run begin turns).memory (gate_word k) < length begin.harts
+  pub below : arrived (run begin turns) k < length begin.harts
