@@ -10,12 +10,14 @@ use Rattle.multi_hart_logic.specs.Alone.{World}
 use Rattle.multi_hart_logic.specs.Paths.{Stand, Line}
 use Rattle.multi_hart_logic.proofs.Paths.{block-then, line-then, stand-front, writes-first}
 use Rattle.task_code_scalar.specs.Code.{literal}
-use Rattle.task_code.specs.Code.{restored, stmt_code, task_scope}
+use Rattle.task_code.specs.Restored.{restored}
+use Rattle.task_code.specs.inner.Code.{stmt_code, task_scope}
 use Rattle.task_code_scalar.specs.Evaluation.{Knows}
 use Rattle.task_code_scalar.specs.Fitting.{is_word}
-use Rattle.task_code.specs.Code.{stmt_turns}
-use Rattle.task_code.specs.Fitting.{fits}
-use Rattle.task_code.specs.Tasks.{TasksAreDone, AppendedWordsStand}
+use Rattle.task_code.specs.inner.Code.{stmt_turns}
+use Rattle.task_code.specs.inner.Fitting.{fits}
+use Rattle.task_code.specs.Tasks.{AppendedWordsStand}
+use Rattle.task_code.specs.inner.Doing.{TasksAreDone}
 use Rattle.task_code_scalar.proofs.Values.{literal-sets}
 use Rattle.task_code_scalar.proofs.Spelling.{stand-spelled, spell-length}
 use Rattle.task_code_scalar.proofs.Looping.{end-length}

@@ -27,14 +27,15 @@ use Rattle.loop_ir.specs.Soundness.{every, is_sound}
 use Rattle.loop_ir.proofs.Trees.{run_store, run_sequence, run_for, run_bind}
 use Rattle.loop_ir.proofs.Sound.{sound_store, sound_sequence, sound_for, sound_bind}
 use Rattle.task_code_scalar.specs.Code.{seat, laid_out_code, loop_code, turns_code, whole_code}
-use Rattle.task_code.specs.Code.{stmt_code, turns_of}
+use Rattle.task_code.specs.inner.Code.{stmt_code, turns_of}
 use Rattle.task_code_scalar.specs.Evaluation.{Knows}
 use Rattle.task_code_scalar.specs.Fitting.{is_word, has_seat, fits_whole, total}
-use Rattle.task_code.specs.Code.{stmt_turns}
-use Rattle.task_code.specs.Fitting.{fits}
+use Rattle.task_code.specs.inner.Code.{stmt_turns}
+use Rattle.task_code.specs.inner.Fitting.{fits}
 use Rattle.task_code_scalar.specs.Layout.{AreWords}
 use Rattle.task_code_scalar.specs.Doing.{Setting, IsSetting, SoundIn, RunsIn, HoldsFuncs, stored_points}
-use Rattle.task_code.specs.Doing.{AtOnceIn, StatementsAreDone}
+use Rattle.task_code.specs.Tasks.{AtOnceIn}
+use Rattle.task_code.specs.inner.Doing.{StatementsAreDone}
 use Rattle.task_code_scalar.proofs.Keeping.{knows-still}
 use Rattle.task_code_scalar.proofs.Going.{Hits, hits_if, Does, went-hits, went-is, does-then}
 use Rattle.task_code_scalar.proofs.Tracing.{hit, made, hit_before, hit-store, hit-sequence, hit-for, hit-first, hit-later, hit-bind}
@@ -46,7 +47,7 @@ use Rattle.task_code_vector.specs.Rounds.{rounds_code, rounds_turns, rounds_fit}
 use Rattle.task_code_vector.proofs.Looping.{loop-does as rounds-done}
 use Rattle.task_code_vector.proofs.CollectedLooping.{loop-does as collected-done}
 use Rattle.task_code_lanes.specs.declared.groups.Group.{Group}
-use Rattle.task_code.specs.Code.{code_taken, turns_taken, group_taken, group_collected, code_otherwise, turns_otherwise}
+use Rattle.task_code.specs.inner.Code.{code_taken, turns_taken, group_taken, group_collected, code_otherwise, turns_otherwise}
 use Rattle.task_code.proofs.Taking.{IsTaken, is-taken}
 use Rattle.task_code.proofs.Unrolled.{in_turn, turns_in_turn, code-store, code-sequence, code-for, code-bind, fits-store, fits-sequence, fits-for, fits-bind, turns-store, turns-sequence, turns-for, turns-bind}
 use Rattle.task_code.proofs.Collecting.{is-collected, none-left, loop-fits}

@@ -15,6 +15,7 @@ use Rattle.loop_ir.specs.declared.expressions.Expr.TheOpen as layer
 use Rattle.loop_ir.specs.declared.expressions.Term.{Term}
 use Rattle.loop_ir.specs.declared.statements.LoopKind.{LoopKind}
 use Rattle.loop_ir.specs.declared.statements.LoopKind.TheVariants as kinds
+use Rattle.loop_ir.specs.declared.statements.Phase.{Phase}
 use Rattle.loop_ir.specs.declared.statements.Store.{Store}
 use Rattle.loop_ir.specs.declared.statements.Whole.{Whole}
 use Rattle.loop_ir.specs.declared.statements.Stmt.{Stmt, ind-Stmt, roll-Stmt, map-Stmt}
@@ -30,9 +31,10 @@ use Rattle.task_code_scalar.specs.declared.places.Pixels.TheVariants as pixels
 use Rattle.task_code_scalar.specs.declared.places.Place.{Place}
 use Rattle.task_code_scalar.specs.declared.places.Places.{Places}
 use Rattle.task_code_scalar.specs.Code.{Made, Deep, pair, divided, triple, beside, operation, quotient, remainder, selection, literal, move, scaled, raised, copied, addressed, fetch, loading, place_of, terms_code, seat, seat_in, made_at, spill, unspill, frames_of, on_stack, deep_or, deep_leaf, deep_at, deep, second_code, value_code, store_code, test, bounded, whole_code, bind_code}
-use Rattle.task_code.specs.Code.{stmt_code, task_scope, restored}
-use Rattle.task_code.specs.Lengths.{StatementsAreShort, TasksAreShort}
-use Rattle.task_code.specs.Code.{code_taken, group_of_loop, group_taken}
+use Rattle.task_code.specs.Restored.{restored}
+use Rattle.task_code.specs.Tasks.{task_size}
+use Rattle.task_code.specs.inner.Code.{stmt_code, task_code, task_scope}
+use Rattle.task_code.specs.inner.Code.{code_taken, group_of_loop, group_taken}
 use Rattle.task_code.proofs.StmtRefusing.{turns-length}
 use Rattle.task_code.proofs.Taking.{all-short}
 use Rattle.task_code.proofs.Unrolled.{in_turn, code-store, code-sequence, code-for, code-bind}
@@ -321,11 +323,9 @@ module _ (places : Places) where
   short : (statement : Stmt) → IsShort statement
   short = ind-Stmt IsShort (λ l t is. subst (λ (k : Stmt-F Stmt). IsShort (roll-Stmt k)) is (by-layer _ (λ e. e.0) (λ e. e.1) t))
 
-pub statements-are-short : StatementsAreShort
-statements-are-short places statement = short places statement
-
-pub tasks-are-short : TasksAreShort
-tasks-are-short phase places ticket =
+-- beside its statement a task sets four registers anew
+pub task-short : (phase : Phase) (places : Places) (ticket : ℕ) → length (task_code phase places ticket) ≤ task_size phase
+task-short phase places ticket =
     let l = short places phase.body (task_scope phase.counter) in
     let i = length-append (stmt_code places phase.body (task_scope phase.counter)) (restored ticket phase.tasks) in
     omega (arith, l, i)

@@ -6,7 +6,7 @@ pub mod Finishing
 pub mod Following
 pub mod Lengths
 pub mod Nests
-pub mod Seating
+pub mod Promising
 pub mod StmtRefusing
 pub mod Taking
 pub mod Unrolled

@@ -1,5 +1,5 @@
 -- Words of parts of a statement, put together, and room for all.
-use Rattle.std.proofs.Common.{◌≡◌, ℕ, ◌^◌, ◌<◌, List, [], ◌∷◌, ◌++◌, length, Bool, true, ◌∙◌, sym, subst, arith}
+use Rattle.std.proofs.Common.{◌≡◌, ℕ, ◌^◌, ◌<◌, List, [], ◌∷◌, length, Bool, true, ◌∙◌, sym, subst, arith}
 use Rattle.std.specs.Prelude.{nat_lt}
 use Rattle.std.proofs.lemmas.Bool.{and_from}
 use Rattle.std.proofs.lemmas.Bool.Decides.{nat_tests}
@@ -14,14 +14,15 @@ use Rattle.loop_ir.specs.declared.statements.Whole.{Whole}
 use Rattle.loop_ir.specs.Sizes.{is_laid_out}
 use Rattle.task_code_scalar.specs.declared.places.Places.{Places}
 use Rattle.task_code_scalar.specs.Code.{seat, store_code, turns_code, bind_code}
-use Rattle.task_code.specs.Code.{stmt_code, task_scope, restored}
-use Rattle.task_code_scalar.specs.Fitting.{is_word, has_room, has_seat, fits_store, fits_whole}
-use Rattle.task_code.specs.Fitting.{fits}
-use Rattle.task_code.specs.Tasks.{EmitsStmt, EmitsTask}
+use Rattle.task_code.specs.Restored.{restored}
+use Rattle.task_code.specs.inner.Code.{stmt_code, task_scope}
+use Rattle.task_code_scalar.specs.Fitting.{is_word, has_seat, fits_store, fits_whole}
+use Rattle.task_code.specs.inner.Fitting.{fits}
+use Rattle.task_code.specs.inner.Emitting.{EmitsStmt, EmitsCode}
 use Rattle.task_code_scalar.specs.Words.{Emits}
 use Rattle.task_code_scalar.proofs.WordTests.{word-test}
-use Rattle.task_code_scalar.proofs.Spelling.{emits_then, emits-is, emits-apart}
-use Rattle.task_code.specs.Code.{code_taken, group_taken}
+use Rattle.task_code_scalar.proofs.Spelling.{emits_then, emits-is}
+use Rattle.task_code.specs.inner.Code.{code_taken, group_taken}
 use Rattle.task_code.proofs.Unrolled.{in_turn, code-store, code-sequence, code-for, code-bind, fits-store, fits-sequence, fits-for, fits-bind}
 
 seat-test : (n : ℕ) → n < 14 → nat_lt n 14 ≡ true
@@ -92,13 +93,10 @@ bind-emitted places scope own body counter whole extent r inner c0 c1 e er few p
 -- ---- tasks
 
 pub task-emitted : (phase : Phase) (places : Places) (ticket : ℕ) (scope items : List Counter) (c0 c1 c2 : List ℕ) → scope ≡ items → items ≡ task_scope phase.counter
-    → EmitsStmt c0 c1 places phase.body scope → Emits c1 c2 (restored ticket phase.tasks) × (phase.tasks < 2 ^ 32) → EmitsTask c0 c2 phase places ticket
+    → EmitsStmt c0 c1 places phase.body scope → Emits c1 c2 (restored ticket phase.tasks) × (phase.tasks < 2 ^ 32) → EmitsCode c0 c2 phase places ticket
 task-emitted phase places ticket scope items c0 c1 c2 e f a b =
     let own = subst (λ z. EmitsStmt c0 c1 places phase.body z) (e ∙ f) a in
     record {
       emits = emits_then own.emits b.0;
       has_room = and_from (fits places phase.body (task_scope phase.counter)) (is_word phase.tasks) own.has_room (word-test phase.tasks b.1);
     }
-
-pub task-apart : (phase : Phase) (places : Places) (ticket : ℕ) (old new inner : List ℕ) → EmitsTask [] inner phase places ticket → new ≡ old ++ inner → EmitsTask old new phase places ticket
-task-apart phase places ticket old new inner x e = record { emits = emits-apart old new inner _ x.emits e; has_room = x.has_room }

@@ -21,16 +21,17 @@ use Rattle.loop_ir.proofs.Needs.{greatest_store, greatest_sequence, greatest_for
 use Rattle.task_code_scalar.specs.declared.CodeFault.{CodeFault}
 use Rattle.task_code_scalar.specs.declared.places.Places.{Places}
 use Rattle.task_code_scalar.specs.Code.{seat, copies_code, laid_out_code, loop_code, turns_code, loop_tail}
-use Rattle.task_code.specs.Code.{stmt_code, task_scope, restored}
+use Rattle.task_code.specs.Restored.{restored}
+use Rattle.task_code.specs.inner.Code.{stmt_code, task_scope}
 use Rattle.task_code_scalar.specs.Faults.{IsLong, HasRoom, FitsStore}
 use Rattle.task_code_scalar.specs.Words.{Emits}
-use Rattle.task_code.specs.Faults.{IsStmtFault, IsTaskFault, FitsStmt}
-use Rattle.task_code.specs.Tasks.{EmitsStmt}
+use Rattle.task_code.specs.inner.Faults.{IsStmtFault, IsCodeFault, FitsStmt}
+use Rattle.task_code.specs.inner.Emitting.{EmitsStmt}
 use Rattle.task_code_scalar.proofs.Refusing.{passed}
 use Rattle.task_code_scalar.proofs.Spelling.{emits-length}
 use Rattle.task_code_vector.proofs.CollectedEmission.{bind-length, less-room}
-use Rattle.task_code.specs.Code.{group_of_loop}
-use Rattle.task_code.specs.Taking.{IsTakenFault}
+use Rattle.task_code.specs.inner.Code.{group_of_loop}
+use Rattle.task_code.specs.inner.Taking.{IsTakenFault}
 use Rattle.task_code.proofs.Nests.{turns-made}
 use Rattle.task_code.proofs.Taking.{long-stays, others-long}
 use Rattle.task_code.proofs.Unrolled.{in_turn, code-sequence, code-for, code-bind}
@@ -210,7 +211,7 @@ module _ (places : Places) where
   -- ---- a task
 
   pub task-passed : {T : Type 0} (r : Result T CodeFault) (fault : CodeFault) (phase : Phase) (ticket : ℕ) (scope items : List Counter) → IsErrAnd r (λ error. error ≡ fault)
-      → scope ≡ items → items ≡ task_scope phase.counter → IsStmtFault places phase.body scope fault → IfErr r (IsTaskFault phase places ticket)
+      → scope ≡ items → items ≡ task_scope phase.counter → IsStmtFault places phase.body scope fault → IfErr r (IsCodeFault phase places ticket)
   task-passed r fault phase ticket scope items from e f is =
       let own = subst (λ (z : List Counter). IsStmtFault places phase.body z fault) (e ∙ f) is in
       let code = stmt_code places phase.body (task_scope phase.counter) in

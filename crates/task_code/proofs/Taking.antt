@@ -18,8 +18,8 @@ use Rattle.task_code_vector.specs.Rounds.{rounds_code, rounds_fit}
 use Rattle.task_code_vector.specs.Collected.{collected_code}
 use Rattle.task_code_vector.specs.Faults.{EmitsCollected}
 use Rattle.loop_ir.specs.Sizes.{whole_size}
-use Rattle.task_code.specs.Code.{stmt_code, fitting, group_of_loop, is_short, if_short, group_taken, group_collected, code_otherwise, code_taken}
-use Rattle.task_code.specs.Taking.{EmitsAtOnce, EmitsOtherwise, otherwise}
+use Rattle.task_code.specs.inner.Code.{stmt_code, fitting, group_of_loop, is_short, if_short, group_taken, group_collected, code_otherwise, code_taken}
+use Rattle.task_code.specs.inner.Taking.{EmitsAtOnce, EmitsOtherwise, otherwise}
 use Rattle.task_code.proofs.Collecting.{is-collected, collected-length}
 
 none-some : {own : Group} → None ≡ Some own → ⊥

@@ -16,9 +16,9 @@ use Rattle.loop_ir.specs.Running.{whole_value}
 use Rattle.loop_ir.specs.Sizes.{is_laid_out}
 use Rattle.task_code_scalar.specs.declared.places.Places.{Places}
 use Rattle.task_code_scalar.specs.Code.{seat, store_code, turns_code, whole_code, bind_code}
-use Rattle.task_code.specs.Code.{Coded, coded, coded_at, stmt_code, stmt_turns, code_taken, turns_taken, turns_of, group_taken}
+use Rattle.task_code.specs.inner.Code.{Coded, coded, coded_at, stmt_code, stmt_turns, code_taken, turns_taken, turns_of, group_taken}
 use Rattle.task_code_scalar.specs.Fitting.{is_word, has_seat, fits_store, fits_whole}
-use Rattle.task_code.specs.Fitting.{fits_at, fits}
+use Rattle.task_code.specs.inner.Fitting.{fits_at, fits}
 
 module _ (places : Places) where
   abbrev Tested : Type 0

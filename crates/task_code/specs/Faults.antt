@@ -1,26 +1,17 @@
--- Why no code of a statement or a task is given: for each fault what stands then. This project's own.
-use Rattle.std.specs.Prelude.{◌≤◌, ℕ, ◌+◌, List, length}
-use Rattle.loop_ir.specs.declared.expressions.Counter.{Counter}
+-- Why no code of a task is given: for each fault what stands then, by counts on the phase alone. This project's own.
+use Rattle.std.specs.Prelude.{◌≤◌, ◌^◌}
 use Rattle.loop_ir.specs.declared.statements.Phase.{Phase}
-use Rattle.loop_ir.specs.declared.statements.Stmt.{Stmt}
-use Rattle.loop_ir.specs.Depths.{depth, task_depth}
+use Rattle.loop_ir.specs.Depths.{task_depth}
 use Rattle.loop_ir.specs.Needs.{greatest_need}
 use Rattle.task_code_scalar.specs.declared.CodeFault.{CodeFault}
 use Rattle.task_code_scalar.specs.declared.places.Places.{Places}
-use Rattle.task_code.specs.Code.{stmt_code, task_code}
-use Rattle.task_code_scalar.specs.Faults.{IsFault, IsLong, LieLow, HasRoom}
+use Rattle.task_code_scalar.specs.Faults.{IsFault, LieLow, HasRoom}
+use Rattle.task_code.specs.Tasks.{task_size}
 
--- of a statement among so many counters, of which 14 have registers
-abbrev pub FitsStmt : Places → Stmt → ℕ → Type 0
-FitsStmt places statement count = LieLow places.frames × (HasRoom places.frames (greatest_need statement) 0 × (count + depth statement ≤ 14))
-
+-- the expressions have room on the stack or in a frame, and all loop variables around a store, of which 14 have registers
 abbrev pub FitsTask : Phase → Places → Type 0
 FitsTask phase places = LieLow places.frames × (HasRoom places.frames (greatest_need phase.body) 0 × (task_depth phase ≤ 14))
 
--- of a statement among these counters
-abbrev pub IsStmtFault : Places → Stmt → List Counter → CodeFault → Type 0
-IsStmtFault places statement scope = IsFault (IsLong (stmt_code places statement scope)) (FitsStmt places statement (length scope) → ⊥)
-
--- of a task
-abbrev pub IsTaskFault : Phase → Places → ℕ → CodeFault → Type 0
-IsTaskFault phase places ticket = IsFault (IsLong (task_code phase places ticket)) (FitsTask phase places → ⊥)
+-- it asks for as many words as a text may have, or it doesn't fit
+abbrev pub IsTaskFault : Phase → Places → CodeFault → Type 0
+IsTaskFault phase places = IsFault (2 ^ 18 ≤ task_size phase) (FitsTask phase places → ⊥)

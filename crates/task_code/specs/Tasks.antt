@@ -1,22 +1,27 @@
--- What the code of one task of a phase leaves: what the phase's statement does for that task, and the numbers that the draw and the gate look
--- for. This project's own.
+-- What instructions do that do each task of a phase, wherever they stand: what the phase's statement does for that task; and they leave the numbers
+-- that the draw and the gate look for. Which instructions they are isn't said. This project's own.
 use Rattle.std.specs.Prelude.{◌≡◌, ◌<◌, ◌≤◌, ℕ, ◌+◌, ◌*◌, ◌^◌, true, List, ◌++◌, length}
 use Rattle.rv_insn.specs.declared.instructions.Insn.{Insn}
 use Rattle.memory.specs.Addresses.{byte_at, AreBytes, text_start, most_words}
-use Rattle.halide_pipeline.specs.Pixel.{Planes}
-use Rattle.loop_ir.specs.declared.expressions.Counter.{Counter}
+use Rattle.halide_pipeline.specs.Pixel.{Planes, reads_of}
 use Rattle.loop_ir.specs.declared.statements.Phase.{Phase}
 use Rattle.loop_ir.specs.declared.statements.Stmt.{Stmt}
+use Rattle.loop_ir.specs.Counters.{Values}
+use Rattle.loop_ir.specs.Rounds.{may_be_at_once}
 use Rattle.loop_ir.specs.Running.{run_task, task_values}
+use Rattle.loop_ir.specs.Sizes.{whole_size}
 use Rattle.loop_ir.specs.Stores.{is_stored_by_task}
 use Rattle.multi_hart_logic.specs.Paths.{Stand, end, Block, Writes}
 use Rattle.task_code_scalar.specs.declared.places.Places.{Places}
-use Rattle.task_code.specs.Code.{stmt_code, task_code}
-use Rattle.task_code.specs.Fitting.{fits, fits_task, task_turns}
-use Rattle.task_code_scalar.specs.Layout.{IsOf, IsElsewhere}
-use Rattle.task_code.specs.Doing.{AtOnceIn}
+use Rattle.task_code_scalar.specs.Layout.{AreWords, IsOf, IsElsewhere}
 use Rattle.task_code_scalar.specs.Doing.{Setting, IsSetting, SoundIn, RunsIn, HoldsFuncs}
 use Rattle.task_code_scalar.specs.Words.{Emits}
+
+-- ---- a task
+
+-- the iterations of its vectorized loops may be done at once, whatever words buffers hold
+abbrev pub AtOnceIn : Setting → Stmt → Values → Type 0
+AtOnceIn own statement values = (funcs : Planes) → AreWords funcs → may_be_at_once (reads_of own.inputs funcs) statement values ≡ true
 
 -- where a task begins: its number was drawn
 pub record HasDrawn (own : Setting) (task : ℕ) (f : ℕ → ℕ) : Type 0 where
@@ -25,11 +30,11 @@ pub record HasDrawn (own : Setting) (task : ℕ) (f : ℕ → ℕ) : Type 0 wher
   pub all : f 11 ≡ own.harts
   pub drawn : f 12 ≡ task
 
--- the code comes to its end, and memory holds what the task leaves
-pub record TaskEnds (own : Setting) (phase : Phase) (ticket task : ℕ) (f : ℕ → ℕ) (memory : List ℕ) (funcs : Planes) : Type 0 where
+-- the instructions come to their end in so many turns, and memory holds what the task leaves
+pub record TaskEnds (own : Setting) (phase : Phase) (insns : List Insn) (turns ticket task : ℕ) (f : ℕ → ℕ) (memory : List ℕ) (funcs : Planes) : Type 0 where
   pub after : ℕ → ℕ
   pub left : List ℕ
-  pub block : Block own.world (task_code phase own.places ticket) (task_turns phase own.places ticket task) f memory after left
+  pub block : Block own.world insns turns f memory after left
   pub number : after 10 ≡ own.world.hart
   pub all : after 11 ≡ own.harts
   pub ticket_is : after 13 ≡ ticket
@@ -41,25 +46,36 @@ pub record TaskEnds (own : Setting) (phase : Phase) (ticket task : ℕ) (f : ℕ
   pub are_bytes : AreBytes memory → AreBytes left
   -- every byte of a point at which the task stores is written
   pub writes : (func x y byte at : ℕ) → is_stored_by_task own.points own.inputs phase task func x y funcs ≡ true → IsOf own.world own.places func x y byte
-      → Stand own.world.text at (task_code phase own.places ticket) → Writes own.world at (task_turns phase own.places ticket task) f memory byte
+      → Stand own.world.text at insns → Writes own.world at turns f memory byte
 
-abbrev pub TasksAreDone : Type 0
-TasksAreDone =
-    (own : Setting) → IsSetting own → (phase : Phase) (ticket task : ℕ) → fits_task phase own.places ≡ true → ticket + 4 < 2 ^ 32 → task < 2 ^ 32
+-- ---- every task
+
+-- Each task ends so, in as many turns as are given for it, from wherever its hart has drawn its number and memory holds the buffers.
+abbrev pub EachTaskEnds : Places → Phase → ℕ → List Insn → (ℕ → ℕ) → Type 0
+EachTaskEnds places phase ticket insns turns =
+    (own : Setting) → IsSetting own → own.places ≡ places → (task : ℕ) → task < 2 ^ 32
     → SoundIn own phase.body (task_values phase.counter task) → AtOnceIn own phase.body (task_values phase.counter task)
     → RunsIn own phase.body (task_values phase.counter task)
     → (f : ℕ → ℕ) (memory : List ℕ) (funcs : Planes) → HoldsFuncs own memory funcs → HasDrawn own task f
-    → TaskEnds own phase ticket task f memory funcs
+    → TaskEnds own phase insns (turns task) ticket task f memory funcs
 
--- words of a statement's code among these counters, which the registers suffice for
-pub record EmitsStmt (old new : List ℕ) (places : Places) (statement : Stmt) (scope : List Counter) : Type 0 where
-  pub emits : Emits old new (stmt_code places statement scope)
-  pub has_room : fits places statement scope ≡ true
+-- These instructions do each task of the phase, wherever they stand, in turns that hang on the task alone.
+pub record DoesTask (places : Places) (phase : Phase) (ticket : ℕ) (insns : List Insn) : Type 0 where
+  pub turns : ℕ → ℕ
+  pub does : EachTaskEnds places phase ticket insns turns
 
--- words of a task's code, which fits
+-- so many words a task asks for: those of its statement, and those that leave what the draw and the gate look for
+abbrev pub task_size : Phase → ℕ
+task_size phase = whole_size phase.body + 8
+
+-- words are appended of instructions that do each task, no more than it asks for
 pub record EmitsTask (old new : List ℕ) (phase : Phase) (places : Places) (ticket : ℕ) : Type 0 where
-  pub emits : Emits old new (task_code phase places ticket)
-  pub has_room : fits_task phase places ≡ true
+  pub insns : List Insn
+  pub emits : Emits old new insns
+  pub does : DoesTask places phase ticket insns
+  pub short : length insns ≤ task_size phase
+
+-- ---- words in the text
 
 -- words that were appended stand in each text that goes on from there
 pub record StandThere (old new text : List ℕ) (insns : List Insn) : Type 0 where

@@ -1,8 +1,10 @@
 //! The machine code of one task of a phase.
 //!
-//! - [`emit`]: appends the words of one task, which spell its code (`specs/Code.antt`).
-//! - [`laws`]: what the code of statements and tasks does, wherever it stands (`specs/Doing.antt`, `specs/Tasks.antt`), where buffers lie
-//!   so and the registers suffice (`specs/Fitting.antt`), and how long code is (`specs/Lengths.antt`).
+//! - [`emit`]: appends words that do each task of a phase, wherever they stand (`specs/Tasks.antt`), or says why there are none
+//!   (`specs/Faults.antt`). Which instructions they are is its own matter: the code function by which that is proved stands below
+//!   `specs/inner/`.
+//! - [`laws`]: appended words stand in the text that goes on from there, and an instance of all that is promised of tasks
+//!   (`specs/Example.antt`).
 #![tactic(auto)]
 
 pub mod laws;

@@ -2,12 +2,15 @@
 
 ghost use Rattle.std.specs.Prelude.{◌≡◌, ◌+◌, ◌^◌, ◌<◌, ◌&&◌, nat_le, nat_lt, OnErr, OnOk, IfErr, IfOk, true};
 ghost use Rattle.task_code_scalar.specs.Code.{store_code};
-ghost use Rattle.task_code.specs.Code as spec;
+ghost use Rattle.task_code.specs.Restored.{restored};
+ghost use Rattle.task_code.specs.inner.Code as spec;
 ghost use Rattle.task_code_scalar.specs.Faults.{FitsStore, IsFault};
-ghost use Rattle.task_code.specs.Faults.{IsStmtFault, IsTaskFault};
+ghost use Rattle.task_code.specs.Faults.{IsTaskFault};
+ghost use Rattle.task_code.specs.inner.Emitting.{EmitsCode, EmitsStmt};
+ghost use Rattle.task_code.specs.inner.Faults.{IsCodeFault, IsStmtFault};
 ghost use Rattle.task_code_scalar.specs.Fitting.{fits_store};
-ghost use Rattle.task_code.specs.Taking.{EmitsAtOnce, EmitsOtherwise, EmitsTaken, IsOtherwiseFault, IsTakenFault};
-ghost use Rattle.task_code.specs.Tasks.{EmitsStmt, EmitsTask};
+ghost use Rattle.task_code.specs.inner.Taking.{EmitsAtOnce, EmitsOtherwise, EmitsTaken, IsOtherwiseFault, IsTakenFault};
+ghost use Rattle.task_code.specs.Tasks.{EmitsTask};
 ghost use Rattle.task_code_scalar.specs.Words.{Emits};
 
 use crate::sizes::{at_once_size, is_laid_out};
@@ -227,7 +230,7 @@ fn task_scope(alloc: Global, counter: Option<Counter>) -> Result<Vec<Counter>, A
 /// Appends what leaves the numbers that the draw and the gate look for.
 pub fn emit_restored(code: &mut Vec<u32>, ticket: u32, tasks: u32) -> Result<(), AllocError>
     requires { ticket + 4 < 2 ^ 32 }
-    ensures { OnOk result (Emits code.old.items code.new.items (spec.restored ticket tasks) × (tasks < 2 ^ 32)) }
+    ensures { OnOk result (Emits code.old.items code.new.items (restored ticket tasks) × (tasks < 2 ^ 32)) }
 {
     emit_literal(code, 13, ticket)?;
     emit_literal(code, 14, ticket + 4)?;
@@ -244,8 +247,8 @@ fn emit_task(
     code: &mut Vec<u32>,
 ) -> Result<(), CodeFault>
     requires { ticket + 4 < 2 ^ 32 }
-    ensures ok { OnOk result (EmitsTask code.old.items code.new.items phase.now places.now ticket) }
-    ensures err { IfErr result (IsTaskFault phase.now places.now ticket) }
+    ensures ok { OnOk result (EmitsCode code.old.items code.new.items phase.now places.now ticket) }
+    ensures err { IfErr result (IsCodeFault phase.now places.now ticket) }
 {
     let scope = task_scope(alloc, phase.counter)?;
     emit_stmt(alloc, code, places, scope.as_slice(), &phase.body)?;
@@ -256,13 +259,13 @@ fn emit_task(
 /// Appends the code of one task of a phase.
 ///
 /// It finds the task's number in x12 and the hart's in x10, and ends behind its last word, with the addresses of the ticket word and of
-/// the gate word behind it in x13 and x14, 1 in x15 and the number of tasks in x16. Its words spell `task_code` of
-/// `specs/Code.antt`, whose numbers are words and which the registers suffice for: so it does the task wherever it stands
-/// ([`crate::laws::tasks_are_done`]).
+/// the gate word behind it in x13 and x14, 1 in x15 and the number of tasks in x16. Wherever it stands it does each task of the phase to
+/// the buffers in memory, in turns that hang on the task alone (`DoesTask` of `specs/Tasks.antt`), and it has no more words than the
+/// phase asks for.
 ///
 /// # Errors
 ///
-/// Where memory runs out, the code has 2^18 words or more, or an expression or a nest of loops has no registers left: what stands
+/// Where memory runs out, the phase asks for 2^18 words or more, or an expression or a nest of loops has no registers left: what stands
 /// then is in `specs/Faults.antt`, and nothing was appended.
 pub fn emit(
     alloc: Global,
@@ -274,7 +277,7 @@ pub fn emit(
     requires { ticket + 4 < 2 ^ 32 }
     ensures ok { OnOk result (EmitsTask code.old.items code.new.items phase.now places.now ticket) }
     ensures err { OnErr result (code.new.items ≡ code.old.items) }
-    ensures fault { IfErr result (IsTaskFault phase.now places.now ticket) }
+    ensures fault { IfErr result (IsTaskFault phase.now places.now) }
 {
     let mut words = Vec::new(alloc);
     emit_task(alloc, phase, places, ticket, &mut words)?;

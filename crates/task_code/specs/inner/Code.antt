@@ -17,12 +17,13 @@ use Rattle.loop_ir.specs.Counters.{Values, with}
 use Rattle.loop_ir.specs.Running.{whole_value}
 use Rattle.loop_ir.specs.Sizes.{are_copies, is_laid_out, whole_size}
 use Rattle.task_code_scalar.specs.declared.places.Places.{Places}
-use Rattle.task_code_scalar.specs.Code.{seat, literal, store_code, turns_code, whole_code, bind_code}
+use Rattle.task_code_scalar.specs.Code.{seat, store_code, turns_code, whole_code, bind_code}
 use Rattle.task_code_scalar.specs.Fitting.{total}
 use Rattle.task_code_lanes.specs.declared.groups.Group.{Group}
 use Rattle.task_code_lanes.specs.Groups.{group_of_rounds}
 use Rattle.task_code_vector.specs.Rounds.{rounds_code, rounds_turns, rounds_fit}
 use Rattle.task_code_vector.specs.Collected.{is_one_store, collected_code, collected_turns}
+use Rattle.task_code.specs.Restored.{restored}
 
 -- ---- loops whose rounds are done at once
 
@@ -134,10 +135,6 @@ stmt_turns places statement scope values = (coded places statement).turns scope 
 abbrev pub task_scope : Option Counter → List Counter
 task_scope None = []
 task_scope (Some counter) = counter ∷ []
-
--- what the draw and the gate look for
-abbrev pub restored : ℕ → ℕ → List Insn
-restored ticket tasks = literal 13 ticket ++ (literal 14 (ticket + 4) ++ (literal 15 1 ++ literal 16 tasks))
 
 abbrev pub task_code : Phase → Places → ℕ → List Insn
 task_code phase places ticket = stmt_code places phase.body (task_scope phase.counter) ++ restored ticket phase.tasks

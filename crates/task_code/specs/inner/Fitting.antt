@@ -1,15 +1,15 @@
 -- Which statements the registers suffice for, and how many turns their code takes. Neither hangs on what buffers hold.
 -- This project's own.
-use Rattle.std.specs.Prelude.{◌≡◌, ◌≤◌, ℕ, ◌+◌, Bool, true, ◌&&◌, List, ◌∷◌, length}
+use Rattle.std.specs.Prelude.{ℕ, ◌+◌, Bool, ◌&&◌, List, ◌∷◌, length}
 use Rattle.loop_ir.specs.declared.expressions.Counter.{Counter}
 use Rattle.loop_ir.specs.declared.statements.Phase.{Phase}
 use Rattle.loop_ir.specs.declared.statements.Stmt.{Stmt, fold-Stmt}
 use Rattle.loop_ir.specs.declared.statements.Stmt.TheOpen.{Stmt-F}
 use Rattle.loop_ir.specs.declared.statements.Stmt.TheOpen as parts
-use Rattle.loop_ir.specs.Depths.{task_depth}
 use Rattle.loop_ir.specs.Running.{task_values}
 use Rattle.task_code_scalar.specs.declared.places.Places.{Places}
-use Rattle.task_code.specs.Code.{stmt_turns, restored, task_scope}
+use Rattle.task_code.specs.Restored.{restored}
+use Rattle.task_code.specs.inner.Code.{stmt_turns, task_scope}
 use Rattle.task_code_scalar.specs.Fitting.{is_word, fits_store, has_seat, fits_whole}
 
 -- ---- registers suffice, and numbers are words
@@ -25,23 +25,6 @@ fits places statement = fold-Stmt (List Counter → Bool) (fits_at places) state
 
 abbrev pub fits_task : Phase → Places → Bool
 fits_task phase places = fits places phase.body (task_scope phase.counter) && is_word phase.tasks
-
--- ---- what has registers
-
--- stores have room and numbers are words, whatever registers counters have
-abbrev pub parts_fit_at : Places → Stmt-F (List Counter → Bool) → List Counter → Bool
-parts_fit_at places (parts.Store store) scope = fits_store places scope store
-parts_fit_at places (parts.Sequence first second) scope = first scope && second scope
-parts_fit_at places (parts.For counter count kind body) scope = is_word count && body (counter ∷ scope)
-parts_fit_at places (parts.Bind counter whole extent body) scope = fits_whole whole && (is_word extent && body (counter ∷ scope))
-
-unfoldable pub parts_fit : Places → Stmt → List Counter → Bool
-parts_fit places statement = fold-Stmt (List Counter → Bool) (parts_fit_at places) statement
-
--- Counters of a task have registers where no more than 14 stand around a store.
-abbrev pub CountersHaveSeats : Type 0
-CountersHaveSeats = (phase : Phase) (places : Places) → task_depth phase ≤ 14
-    → (parts_fit places phase.body (task_scope phase.counter) && is_word phase.tasks) ≡ true → fits_task phase places ≡ true
 
 -- ---- turns
 

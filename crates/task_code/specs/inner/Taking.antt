@@ -11,7 +11,7 @@ use Rattle.task_code_scalar.specs.Words.{Emits}
 use Rattle.task_code_lanes.specs.declared.groups.Group.{Group}
 use Rattle.task_code_vector.specs.Rounds.{rounds_code}
 use Rattle.task_code_vector.specs.Faults.{FitsRound}
-use Rattle.task_code.specs.Code.{code_otherwise, code_taken, group_collected, group_taken}
+use Rattle.task_code.specs.inner.Code.{code_otherwise, code_taken, group_collected, group_taken}
 
 -- Words of the code are appended where there are groups in which they can be; of words where there are none nothing is said.
 abbrev pub EmitsAtOnce : List ℕ → List ℕ → Places → List Counter → Counter → ℕ → Stmt → Bool → Option Group → Type 0

@@ -2,7 +2,7 @@ use Rattle.std.proofs.Common.{◌≡◌, ◌^◌, length, ◌++◌, ap, sym, ◌
 use Rattle.std.specs.Prelude.{◌&&◌, ◌+◌, min, nat_le, nat_lt}
 use Rattle.loop_ir.specs.Sizes.{whole_size}
 use Rattle.task_code_scalar.proofs.Refusing.{passed}
-use Rattle.task_code.specs.Code.{group_of_loop}
+use Rattle.task_code.specs.inner.Code.{group_of_loop}
 use Rattle.task_code.proofs.Taking.{rounds-taken, others-taken, others-long-too}
 use Rattle.task_code.proofs.statements.emit_taken.Goals as goal
 

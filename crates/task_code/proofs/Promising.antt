@@ -1,0 +1,40 @@
+-- The code of a task does each task, and has no more words than the task asks for.
+use Rattle.std.proofs.Common.{◌≡◌, ℕ, ◌+◌, ◌^◌, ◌<◌, ◌≤◌, List, [], ◌++◌, true, sym, subst, ◌∙◌, ap, arith}
+use Rattle.loop_ir.specs.declared.statements.Phase.{Phase}
+use Rattle.task_code_scalar.specs.declared.places.Places.{Places}
+use Rattle.task_code_scalar.specs.Faults.{IsLong}
+use Rattle.task_code_scalar.specs.Words.{Emits}
+use Rattle.task_code_scalar.proofs.Spelling.{emits-apart}
+use Rattle.task_code.specs.Tasks.{DoesTask, EmitsTask, TaskEnds, task_size}
+use Rattle.task_code.specs.inner.Code.{task_code}
+use Rattle.task_code.specs.inner.Emitting.{EmitsCode}
+use Rattle.task_code.specs.inner.Fitting.{fits_task, task_turns}
+use Rattle.task_code.proofs.Finishing.{tasks-done}
+use Rattle.task_code.proofs.Lengths.{task-short}
+
+-- wherever buffers lie as they did when it was made
+does-task : (phase : Phase) (places : Places) (ticket : ℕ) → ticket + 4 < 2 ^ 32 → fits_task phase places ≡ true
+    → DoesTask places phase ticket (task_code phase places ticket)
+does-task phase places ticket low fits = record {
+  turns = task_turns phase places ticket;
+  does = λ own good same task small sound once runs f memory funcs holds drawn.
+      subst (λ (p : Places). TaskEnds own phase (task_code phase p ticket) (task_turns phase p ticket task) ticket task f memory funcs) same
+      (tasks-done own good phase ticket task (subst (λ (p : Places). fits_task phase p ≡ true) (sym same) fits) low small sound once runs f memory funcs holds drawn);
+}
+
+-- what was made apart is appended
+pub task-promised : (phase : Phase) (places : Places) (ticket : ℕ) (start made slice old new : List ℕ) → ticket + 4 < 2 ^ 32 → start ≡ [] → slice ≡ made
+    → EmitsCode start made phase places ticket → new ≡ old ++ slice → EmitsTask old new phase places ticket
+task-promised phase places ticket start made slice old new low e0 es x e =
+    let code = task_code phase places ticket in
+    let apart = subst (λ (z : List ℕ). Emits z made code) e0 x.emits in
+    record {
+      insns = code;
+      emits = emits-apart old new made code apart (e ∙ ap (λ (z : List ℕ). old ++ z) es);
+      does = does-task phase places ticket low x.has_room;
+      short = task-short phase places ticket;
+    }
+
+-- code that is too long asks for too much
+pub task-long : (phase : Phase) (places : Places) (ticket : ℕ) → IsLong (task_code phase places ticket) → 2 ^ 18 ≤ task_size phase
+task-long phase places ticket long = let l = task-short phase places ticket in omega (arith, l, long)
