@@ -1,45 +1,102 @@
 -- The words of a program have it.
-use Rattle.std.proofs.Common.{◌≡◌, ◌≤◌, ℕ, suc, ◌+◌, ◌-◌, Bool, true, false, List, [], ◌∷◌, ◌++◌, get_or, take, drop, length, refl, sym, ap, subst, ◌∙◌, arith}
+use Rattle.std.proofs.Common.{◌≡◌, ◌≤◌, ◌<◌, ℕ, suc, ◌+◌, ◌-◌, Bool, true, false, List, [], ◌∷◌, ◌++◌, get_or, take, drop, length, refl, sym, ap, subst, ◌∙◌, arith}
 use Rattle.std.specs.Prelude.{◌==◌}
+use Rattle.std.specs.List.{AllByRecursion}
 use Rattle.std.proofs.Math.Seq.{take-length}
 use Rattle.std.proofs.lemmas.Bool.Decides.{nat_tests}
 use Rattle.std.proofs.lemmas.List.{append-nil}
+use Rattle.rv_insn.specs.declared.instructions.Insn.{Insn}
+use Rattle.memory.specs.Addresses.{most_words}
 use Rattle.loop_ir.specs.declared.statements.Phase.{Phase}
 use Rattle.vector_codegen_sharing.specs.Turns.{ticket_word}
 use Rattle.task_code_scalar.specs.declared.places.Places.{Places}
 use Rattle.task_code_scalar.specs.Words.{Emits}
+use Rattle.task_code.specs.Tasks.{EmitsTask}
 use Rattle.task_code.proofs.Finishing.{appended-stand}
 use Rattle.task_code_scalar.proofs.Spelling.{emits_then}
 use Rattle.vector_codegen.specs.PhaseCode.{Part, phase_code, program}
-use Rattle.vector_codegen.specs.Programs.{part_of, parts_from, ProgramsStand}
+use Rattle.vector_codegen.specs.Programs.{ArePartsOf, HasFewTasks, IsProgram, ProgramsStand}
+use Rattle.vector_codegen.specs.inner.Emitting.{EmitsPhase, EmitsPhases}
+
+-- ---- one phase
+
+-- a task's words, made apart
+pub task-apart : (places : Places) (ticket number : ℕ) (phase : Phase) (start made slice : List ℕ) → ticket ≡ ticket_word number → start ≡ []
+    → slice ≡ made → EmitsTask start made phase places ticket
+    → EmitsTask [] slice phase places (ticket_word number)
+task-apart places ticket number phase start made slice et e0 es x =
+    subst (λ (n : ℕ). EmitsTask [] slice phase places n) et
+    (subst (λ (z : List ℕ). EmitsTask [] z phase places ticket) (sym es) (subst (λ (z : List ℕ). EmitsTask z made phase places ticket) e0 x))
+
+-- and those around them
+pub phase-emitted : (places : Places) (ticket number : ℕ) (is_last : Bool) (phase : Phase) (slice old new : List ℕ) → ticket ≡ ticket_word number
+    → EmitsTask [] slice phase places (ticket_word number)
+    → ((insns : List Insn) → Emits [] slice insns → Emits old new (phase_code is_last ticket (record { tasks = phase.tasks; insns = insns })))
+    → EmitsPhase old new places number is_last phase
+phase-emitted places ticket number is_last phase slice old new et x around = record {
+  part = record { tasks = phase.tasks; insns = x.insns };
+  is_part = record { tasks_are = refl; does = x.does; short = x.short };
+  emits = subst (λ (n : ℕ). Emits old new (phase_code is_last n (record { tasks = phase.tasks; insns = x.insns }))) et (around x.insns x.emits);
+}
 
 -- ---- one phase in front of others
 
+pub in-front : (number : ℕ) (part : Part) (parts : List Part) → program number (part ∷ parts) ≡ phase_code (length parts == 0)
+    (ticket_word number) part ++ program (suc number) parts
+in-front number part [] = sym (append-nil (phase_code true (ticket_word number) part))
+in-front number part (other ∷ parts) = let e : (length (other ∷ parts) == 0) ≡ false = grind (arith, nat_tests) in rw e refl
+
 module _ (places : Places) where
-  pub in-front : (number : ℕ) (part : Part) (others : List Phase)
-      → program number (part ∷ parts_from places (suc number) others) ≡ phase_code (length others == 0) (ticket_word number) part ++ program (suc number) (parts_from places (suc number) others)
-  in-front number part [] = sym (append-nil (phase_code true (ticket_word number) part))
-  in-front number part (other ∷ others) = let e : (length (other ∷ others) == 0) ≡ false = grind (arith, nat_tests) in rw e refl
+  -- as many parts as phases
+  pub parts-length : (number : ℕ) (phases : List Phase) (parts : List Part) → ArePartsOf places number phases parts → length parts ≡ length phases
+  parts-length number [] [] are = refl
+  parts-length number [] (part ∷ parts) are = absurd are
+  parts-length number (phase ∷ phases) [] are = absurd are
+  parts-length number (phase ∷ phases) (part ∷ parts) are = ap suc (parts-length (suc number) phases parts are.1)
+
+  put-front : {old mid new : List ℕ} (number : ℕ) (phase : Phase) (others : List Phase) → EmitsPhase old mid places number (length others == 0) phase
+      → EmitsPhases mid new places (suc number) others
+      → EmitsPhases old new places number (phase ∷ others)
+  put-front {old} {mid} {new} number phase others first rest =
+      let same = parts-length (suc number) others rest.parts rest.are_parts in
+      let front = subst (λ (n : ℕ). Emits old mid (phase_code (n == 0) (ticket_word number) first.part)) (sym same) first.emits in
+      record {
+        parts = first.part ∷ rest.parts;
+        are_parts = (first.is_part, rest.are_parts);
+        emits = rw (in-front number first.part rest.parts) (emits_then front rest.emits);
+      }
 
   pub rest-of : (first : Phase) (others : List Phase) → take (length (first ∷ others) - 1) (drop 1 (first ∷ others)) ≡ others
   rest-of first others = let e : length (first ∷ others) - 1 ≡ length others = omega arith in rw e (take-length others)
 
-  pub emits-phases : {old mid new : List ℕ} → (number : ℕ) (phases : List Phase) (phase : Phase) (last : Bool) → 1 ≤ length phases → phase ≡ get_or phases 0 phase
-      → last ≡ (length (take (length phases - 1) (drop 1 phases)) == 0) → Emits old mid (phase_code last (ticket_word number) (part_of places number phase))
-      → Emits mid new (program (number + 1) (parts_from places (number + 1) (take (length phases - 1) (drop 1 phases)))) → Emits old new (program number (parts_from places number phases))
+  pub emits-phases : {old mid new : List ℕ} → (number : ℕ) (phases : List Phase) (phase : Phase) (last : Bool) → 1 ≤ length phases
+      → phase ≡ get_or phases 0 phase
+      → last ≡ (length (take (length phases - 1) (drop 1 phases)) == 0) → EmitsPhase old mid places number last phase
+      → EmitsPhases mid new places (number + 1) (take (length phases - 1) (drop 1 phases)) → EmitsPhases old new places number phases
   emits-phases number [] phase last some is empty first rest = absurd (omega (arith, some))
   emits-phases {old} {mid} {new} number (own ∷ others) phase last some is empty first rest =
       let e = rest-of own others in
       let one : number + 1 ≡ suc number = omega arith in
       let same : last ≡ (length others == 0) = empty ∙ ap (λ (l : List Phase). length l == 0) e in
-      let begun = subst (λ (p : Phase). Emits old mid (phase_code last (ticket_word number) (part_of places number p))) is first in
-      let front = subst (λ (b : Bool). Emits old mid (phase_code b (ticket_word number) (part_of places number own))) same begun in
-      let behind = subst (λ (l : List Phase). Emits mid new (program (number + 1) (parts_from places (number + 1) l))) e rest in
-      let next = subst (λ (k : ℕ). Emits mid new (program k (parts_from places k others))) one behind in
-      rw (in-front number (part_of places number own) others) (emits_then front next)
+      let begun = subst (λ (p : Phase). EmitsPhase old mid places number last p) is first in
+      let front = subst (λ (b : Bool). EmitsPhase old mid places number b own) same begun in
+      let behind = subst (λ (l : List Phase). EmitsPhases mid new places (number + 1) l) e rest in
+      let next = subst (λ (k : ℕ). EmitsPhases mid new places k others) one behind in
+      put-front number own others front next
+
+  -- no phases have no words
+  pub emits-none : (number : ℕ) (phases : List Phase) (words : List ℕ) → length phases < 1 → EmitsPhases words words places number phases
+  emits-none number [] words none = record { parts = []; are_parts = tt; emits = record { words = []; appended = sym (append-nil words); spelled = tt } }
+  emits-none number (phase ∷ phases) words none = absurd (omega (arith, none))
 
 -- ---- the whole
 
+pub program-made : (places : Places) (phases : List Phase) (start words : List ℕ) → start ≡ [] → EmitsPhases start words places 0 phases
+    → AllByRecursion HasFewTasks phases → length words ≤ most_words
+    → IsProgram places phases words
+program-made places phases start words e0 x few l =
+    let made = subst (λ (z : List ℕ). EmitsPhases z words places 0 phases) e0 x in
+    record { parts = made.parts; are_parts = made.are_parts; emits = made.emits; few_tasks = few; few = l }
+
 pub programs-stand : ProgramsStand
-programs-stand places phases words is =
-    (appended-stand [] words [] words (program 0 (parts_from places 0 phases)) is.emits (sym (append-nil words)) is.few).stand
+programs-stand places phases words is = (appended-stand [] words [] words (program 0 is.parts) is.emits (sym (append-nil words)) is.few).stand

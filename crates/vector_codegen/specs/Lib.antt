@@ -1,3 +1,4 @@
 pub mod PhaseCode
 pub mod Sharing
 pub mod Programs
+pub mod inner

@@ -1,6 +1,6 @@
--- The words of a program: its phases one behind the other, each around the code of its tasks.
--- This project's own.
-use Rattle.std.specs.Prelude.{◌≡◌, ◌<◌, ◌≤◌, ◌^◌, ◌+◌, ℕ, suc, Bool, true, List, [], ◌∷◌, length}
+-- The words of a program: its phases one behind the other, each around instructions that do each of its tasks. Which instructions those are isn't
+-- said. This project's own.
+use Rattle.std.specs.Prelude.{◌≡◌, ◌<◌, ◌≤◌, ◌^◌, ◌+◌, ℕ, suc, List, [], ◌∷◌, length}
 use Rattle.std.specs.List.{AllByRecursion}
 use Rattle.memory.specs.Addresses.{most_words, text_start}
 use Rattle.multi_hart_logic.specs.Paths.{Stand}
@@ -11,41 +11,52 @@ use Rattle.loop_ir.specs.Sizes.{whole_size}
 use Rattle.vector_codegen_sharing.specs.Turns.{ticket_word}
 use Rattle.task_code_scalar.specs.declared.CodeFault.{CodeFault}
 use Rattle.task_code_scalar.specs.declared.places.Places.{Places}
-use Rattle.task_code.specs.Code.{task_code}
 use Rattle.task_code_scalar.specs.Faults.{IsFault, LieLow, HasRoom}
-use Rattle.task_code.specs.Fitting.{fits_task}
 use Rattle.task_code_scalar.specs.Words.{Emits}
-use Rattle.vector_codegen.specs.PhaseCode.{Part, phase_code, program}
+use Rattle.task_code.specs.Tasks.{DoesTask, task_size}
+use Rattle.vector_codegen.specs.PhaseCode.{Part, program}
 
--- the phase with this number, where buffers lie so
-abbrev pub part_of : Places → ℕ → Phase → Part
-part_of places number phase = record { tasks = phase.tasks; insns = task_code phase places (ticket_word number) }
+-- It has the phase's tasks, and its instructions do each of them, where buffers lie so, with the ticket of the phase's number; they are no more than
+-- a task asks for.
+pub record IsPartOf (places : Places) (number : ℕ) (phase : Phase) (part : Part) : Type 0 where
+  pub tasks_are : part.tasks ≡ phase.tasks
+  pub does : DoesTask places phase (ticket_word number) part.insns
+  pub short : length part.insns ≤ task_size phase
 
--- phases, the first of which has this number
-abbrev pub parts_from : Places → ℕ → List Phase → List Part
-parts_from places number [] = []
-parts_from places number (phase ∷ phases) = part_of places number phase ∷ parts_from places (suc number) phases
-
--- the registers suffice for each task
-abbrev pub Fits : Places → Phase → Type 0
-Fits places phase = fits_task phase places ≡ true
+-- one for each of these phases, the first of which has this number
+abbrev pub ArePartsOf : Places → ℕ → List Phase → List Part → Type 0
+ArePartsOf places number [] [] = Unit {0}
+ArePartsOf places number [] (part ∷ parts) = ⊥
+ArePartsOf places number (phase ∷ phases) [] = ⊥
+ArePartsOf places number (phase ∷ phases) (part ∷ parts) = IsPartOf places number phase part × ArePartsOf places (suc number) phases parts
 
 -- as many tasks as harts can count in a word, with those that they draw in vain
 abbrev pub HasFewTasks : Phase → Type 0
 HasFewTasks phase = phase.tasks ≤ 2 ^ 31
 
--- words of the program that these phases make, no more than a text may have
+-- words of a program of parts that do these phases' tasks, no more than a text may have
 pub record IsProgram (places : Places) (phases : List Phase) (words : List ℕ) : Type 0 where
-  pub emits : Emits [] words (program 0 (parts_from places 0 phases))
-  pub fit : AllByRecursion (Fits places) phases
+  pub parts : List Part
+  pub are_parts : ArePartsOf places 0 phases parts
+  pub emits : Emits [] words (program 0 parts)
   pub few_tasks : AllByRecursion HasFewTasks phases
   pub few : length words ≤ most_words
 
+-- ---- how long it is
+
+-- the words that a phase asks for: its task's, and those around them
+abbrev pub phase_size : Phase → ℕ
+phase_size phase = whole_size phase.body + 24
+
+abbrev pub words_asked : List Phase → ℕ
+words_asked [] = 0
+words_asked (phase ∷ phases) = phase_size phase + words_asked phases
+
 -- ---- why there is no program
 
--- it has more words than a text may have, or a phase has too many tasks
-abbrev pub IsTooLong : Places → ℕ → List Phase → Type 0
-IsTooLong places number phases = AllByRecursion HasFewTasks phases → most_words < length (program number (parts_from places number phases))
+-- phases ask for more words than a text may have, or one has too many tasks
+abbrev pub IsTooLong : List Phase → Type 0
+IsTooLong phases = AllByRecursion HasFewTasks phases → most_words < words_asked phases
 
 -- the expressions of a phase have room on the stack or in a frame, and all counters around a store have registers
 abbrev pub HasRegisters : Places → Phase → Type 0
@@ -55,29 +66,15 @@ HasRegisters places phase = HasRoom places.frames (greatest_need phase.body) 0 �
 abbrev pub IsTooDeep : Places → List Phase → Type 0
 IsTooDeep places phases = LieLow places.frames → AllByRecursion (HasRegisters places) phases → ⊥
 
--- of phases, the first of which has this number
-abbrev pub ArePhasesAtFault : Places → ℕ → List Phase → CodeFault → Type 0
-ArePhasesAtFault places number phases = IsFault (IsTooLong places number phases) (IsTooDeep places phases)
-
--- of one phase
-abbrev pub IsPhaseAtFault : Places → ℕ → Bool → Phase → CodeFault → Type 0
-IsPhaseAtFault places number is_last phase =
-    IsFault (HasFewTasks phase → most_words < length (phase_code is_last (ticket_word number) (part_of places number phase))) (LieLow places.frames → HasRegisters places phase → ⊥)
-
--- ---- how long it is
-
--- the words that tasks of phases ask for, with those around them
-abbrev pub words_asked : List Phase → ℕ
-words_asked [] = 0
-words_asked (phase ∷ phases) = whole_size phase.body + 24 + words_asked phases
+abbrev pub ArePhasesAtFault : Places → List Phase → CodeFault → Type 0
+ArePhasesAtFault places phases = IsFault (IsTooLong phases) (IsTooDeep places phases)
 
 -- ---- laws
 
 -- A program has no more words than its phases ask for, wherever buffers lie.
 abbrev pub ProgramsAreShort : Type 0
-ProgramsAreShort = (places : Places) (number : ℕ) (phases : List Phase) → length (program number (parts_from places number phases)) ≤ words_asked phases
+ProgramsAreShort = (places : Places) (phases : List Phase) (words : List ℕ) → IsProgram places phases words → length words ≤ words_asked phases
 
 -- Such words have the program at the beginning of the text.
 abbrev pub ProgramsStand : Type 0
-ProgramsStand =
-    (places : Places) (phases : List Phase) (words : List ℕ) → IsProgram places phases words → Stand words text_start (program 0 (parts_from places 0 phases))
+ProgramsStand = (places : Places) (phases : List Phase) (words : List ℕ) → (is : IsProgram places phases words) → Stand words text_start (program 0 is.parts)

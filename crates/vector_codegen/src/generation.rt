@@ -1,11 +1,10 @@
 //! The words of phases, one behind the other.
 
-ghost use Rattle.std.specs.Prelude.{◌≡◌, ◌+◌, ◌<◌, ◌≤◌, ◌==◌, OnOk, IfErr, IfOk, length};
+ghost use Rattle.std.specs.Prelude.{◌≡◌, ◌+◌, ◌<◌, ◌≤◌, OnOk, IfErr, IfOk, length};
 ghost use Rattle.std.specs.List.{AllByRecursion};
-ghost use Rattle.task_code_scalar.specs.Words.{Emits};
-ghost use Rattle.vector_codegen.specs.PhaseCode.{phase_code, program};
 ghost use Rattle.vector_codegen_sharing.specs.Turns.{ticket_word};
 ghost use Rattle.vector_codegen.specs.Programs as spec;
+ghost use Rattle.vector_codegen.specs.inner.Emitting.{EmitsPhase, EmitsPhases, IsPhaseAtFault};
 
 use crate::emit_phase;
 use loop_ir::statements::Phase;
@@ -40,10 +39,9 @@ fn push_phase(
     is_last: bool,
 ) -> Result<(), CodeFault>
     requires { number < 16384 }
-    ensures emits { OnOk result (Emits code.old.items code.new.items (phase_code is_last (ticket_word number) (spec.part_of places.now number phase.now))) }
-    ensures fits { OnOk result (spec.Fits places.now phase.now) }
+    ensures emits { OnOk result (EmitsPhase code.old.items code.new.items places.now number is_last phase.now) }
     ensures few { OnOk result (spec.HasFewTasks phase.now) }
-    ensures err { IfErr result (spec.IsPhaseAtFault places.now number is_last phase.now) }
+    ensures err { IfErr result (IsPhaseAtFault places.now phase.now) }
 {
     if phase.tasks > MOST_TASKS {
         return Err(CodeFault::TooLong);
@@ -64,10 +62,9 @@ fn push_phases(
     phases: &[Phase],
 ) -> Result<(), CodeFault>
     requires { number + length phases.now ≤ 16384 }
-    ensures emits { OnOk result (Emits code.old.items code.new.items (program number (spec.parts_from places.now number phases.now))) }
-    ensures fit { OnOk result (AllByRecursion (spec.Fits places.now) phases.now) }
+    ensures emits { OnOk result (EmitsPhases code.old.items code.new.items places.now number phases.now) }
     ensures few { OnOk result (AllByRecursion spec.HasFewTasks phases.now) }
-    ensures err { IfErr result (spec.ArePhasesAtFault places.now number phases.now) }
+    ensures err { IfErr result (spec.ArePhasesAtFault places.now phases.now) }
 {
     let [phase, others @ ..] = phases else {
         return Ok(());
@@ -77,15 +74,16 @@ fn push_phases(
     Ok(())
 }
 
-/// The words of the program that phases make, where buffers lie so.
+/// The words of the program that phases make, where buffers lie so: whichever instructions stand for a task, they do it
+/// (`specs/Programs.antt`).
 ///
 /// # Errors
 ///
-/// Memory ran out; the program is longer than a text may be, or a phase has more than 2^31 tasks; or an expression or a nest of
-/// loops has no registers left.
+/// Memory ran out; the phases ask for more words than a text may have, or one has more than 2^31 tasks; or an expression or a nest
+/// of loops has no registers left.
 pub fn generate(alloc: Global, phases: &[Phase], places: &Places) -> Result<Vec<u32>, CodeFault>
     ensures ok { IfOk result (λ words. spec.IsProgram places.now phases.now words.items) }
-    ensures err { IfErr result (spec.ArePhasesAtFault places.now 0 phases.now) }
+    ensures err { IfErr result (spec.ArePhasesAtFault places.now phases.now) }
 {
     if phases.len() > MOST_PHASES {
         return Err(CodeFault::TooLong);

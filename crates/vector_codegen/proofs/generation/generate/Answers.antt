@@ -1,15 +1,19 @@
-use Rattle.std.proofs.Common.{◌<◌, ◌∙◌, subst}
-use Rattle.vector_codegen.specs.PhaseCode.{program}
-use Rattle.task_code_scalar.specs.Words.{Emits}
-use Rattle.vector_codegen.specs.Programs.{parts_from}
+use Rattle.std.proofs.Common.{◌<◌, ◌≤◌, ◌∙◌, subst}
 use Rattle.vector_codegen.proofs.ProgramRefusing.{many-phases, many-words}
+use Rattle.vector_codegen.proofs.ProgramStanding.{program-made}
 use Rattle.vector_codegen.proofs.generation.generate.Goals as goal
 
 pub returns-then-phases-gt-MOST_PHASES-clause-err : goal.returns-then-phases-gt-MOST_PHASES-clause-err
-returns-then-phases-gt-MOST_PHASES-clause-err c = many-phases c.args.places.now 0 c.args.phases.now c.if-phases-gt-MOST_PHASES.true
+returns-then-phases-gt-MOST_PHASES-clause-err c = many-phases c.args.phases.now c.if-phases-gt-MOST_PHASES.true
 
 pub returns-then-len-gt-MOST_WORDS-clause-err : goal.returns-then-len-gt-MOST_WORDS-clause-err
 returns-then-len-gt-MOST_WORDS-clause-err c =
-    many-words c.args.places.now c.args.phases.now c.push_phases.new.code.items
-    (subst (λ old. Emits old c.push_phases.new.code.items (program 0 (parts_from c.args.places.now 0 c.args.phases.now))) c.new-code.ensures.items c.in_ok-push_phases.ensures.emits)
+    many-words c.args.places.now c.args.phases.now c.new-code.result.items c.push_phases.new.code.items c.new-code.ensures.items
+    c.in_ok-push_phases.ensures.emits
     (subst (λ n. 262144 < n) (c.len.ensures ∙ c.push_phases.new.code.ok.0) c.if-len-gt-MOST_WORDS.true)
+
+pub returns-clause-ok : goal.returns-clause-ok
+returns-clause-ok c =
+    program-made c.args.places.now c.args.phases.now c.new-code.result.items c.push_phases.new.code.items c.new-code.ensures.items
+    c.in_ok-push_phases.ensures.emits c.in_ok-push_phases.ensures.few
+    (subst (λ n. n ≤ 262144) (c.len.ensures ∙ c.push_phases.new.code.ok.0) c.if-len-gt-MOST_WORDS.false)
