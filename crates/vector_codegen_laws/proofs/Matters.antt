@@ -8,8 +8,6 @@ use Rattle.schedule.specs.declared.schedules.Schedule.{Schedule}
 use Rattle.bounds.specs.declared.verdict.Boxes.{Boxes}
 use Rattle.bounds.specs.Views.{extents_of}
 use Rattle.bounds.specs.Parts.{Part, Control, Input as InputPart, Root, Copies, Frame, Outside}
-use Rattle.vector_codegen_sharing.specs.Turns.{ticket_word}
-use Rattle.task_code.specs.Fitting.{task_turns}
 use Rattle.vector_codegen.specs.Sharing.{Matter}
 use Rattle.lowering.specs.Planes.{held}
 use Rattle.lowering.specs.Runs.{runs, is_in_run}
@@ -17,7 +15,7 @@ use Rattle.lowering.specs.Stages.{after_stages}
 use Rattle.vector_codegen_laws.specs.Uses.{Owners, greatest, width_of, byte_of, byte_in}
 use Rattle.vector_codegen_laws.specs.Points.{RootPoint, part}
 use Rattle.vector_codegen_laws.specs.RunBytes.{rule_of}
-use Rattle.vector_codegen_laws.specs.Settings.{places, uses}
+use Rattle.vector_codegen_laws.specs.Settings.{uses}
 use Rattle.vector_codegen_laws.proofs.Holding.{root-byte-point}
 use Rattle.vector_codegen_laws.specs.Runs.{writes_runs}
 use Rattle.vector_codegen_laws.specs.Stages.{writes}
@@ -76,12 +74,13 @@ module _ (pipeline : Pipeline) (schedule : Schedule) (boxes : Boxes) where
       cond (func == work.place) (writes pipeline schedule boxes inputs (stage_of work) task (offset / 4 % width_of boxes.funcs func) (offset / 4 / width_of boxes.funcs func)) false
   is_written inputs work task _ = false
 
-  abbrev pub matter_of : Planes → (ℕ → Work) → ℕ → Matter
-  matter_of inputs works k = record {
+  -- where the tasks of each phase take so many turns
+  abbrev pub matter_of : Planes → (ℕ → Work) → (ℕ → ℕ → ℕ) → ℕ → Matter
+  matter_of inputs works turns k = record {
     uses = uses pipeline schedule boxes.funcs k (owners_of (works k));
     writes = λ task address. is_written inputs (works k) task (part pipeline schedule boxes.funcs address);
     rule = λ task places. rule_of pipeline schedule boxes.funcs (owners_of (works k)) places;
-    turns = λ task. task_turns (works k).phase (places pipeline schedule boxes.funcs) (ticket_word k) task;
+    turns = turns k;
     start = λ address. byte_in pipeline.inputs boxes.funcs inputs (start_of inputs (works k)) (part pipeline schedule boxes.funcs address);
     result = λ address. byte_in pipeline.inputs boxes.funcs inputs (result_of inputs (works k)) (part pipeline schedule boxes.funcs address);
   }

@@ -1,9 +1,9 @@
 -- Points that are one run may be written in one turn, and what a phase's rule says of the places that one turn writes.
-use Rattle.std.proofs.Common.{◌≡◌, ℕ, zero, suc, ◌+◌, ◌-◌, ◌*◌, ◌<◌, ◌≤◌, List, [], ◌∷◌, ◌++◌, length, map, true, false, Bool, cond, refl, ap, ◌∙◌, sym, subst, arith, inl, inr, true≢false}
+use Rattle.std.proofs.Common.{◌≡◌, ℕ, zero, suc, ◌+◌, ◌-◌, ◌*◌, ◌<◌, List, [], ◌∷◌, length, map, true, false, Bool, cond, refl, ap, ◌∙◌, sym, subst, arith, inl, inr, true≢false}
 use Rattle.std.specs.Prelude.{◌⊎◌, ◌==◌, ◌&&◌, ◌||◌, nat_le, nat_lt, slice_index_or, if◌then◌else◌, Option}
 use Rattle.std.specs.List.{Contains, list_all, list_any}
 use Rattle.std.proofs.lemmas.Bool.{and_parts, and_from, cases_eq, eq-eqb, ne_eqb, eqb-true, leb-true, ltb-true, le-leb, lt-ltb}
-use Rattle.memory.specs.Access.{Access, Word, access_at, touched}
+use Rattle.memory.specs.Access.{Word, access_at, touched}
 use Rattle.halide_pipeline.specs.declared.expressions.Source.TheVariants as sources
 use Rattle.halide_pipeline.specs.Pipelines.{Pipeline}
 use Rattle.halide_pipeline.specs.Pixel.{Planes}
@@ -12,17 +12,16 @@ use Rattle.schedule.specs.declared.schedules.Schedule.{Schedule}
 use Rattle.schedule_loops.specs.Visits.{Visit, is_slice}
 use Rattle.bounds.specs.declared.boxes.SourceBox.{SourceBox}
 use Rattle.loop_ir.specs.Buffers.{Points}
-use Rattle.multi_hart_logic.specs.Uses.{Use, Owned, Private}
+use Rattle.multi_hart_logic.specs.Uses.{Owned, Private}
 use Rattle.multi_hart_logic.specs.Alone.{is_in, Keeps}
 use Rattle.multi_hart_logic.specs.LaneMemory.{firsts, accesses_to}
 use Rattle.task_code_scalar.specs.declared.places.Place.{Place}
 use Rattle.task_code_scalar.specs.Code.{place_of, pixel_bytes, address}
-use Rattle.task_code_scalar.specs.Doing.{IsAmong, AreRun}
-use Rattle.task_code_scalar.specs.Layout.{func_point, address_of}
+use Rattle.task_code_scalar.specs.Doing.{AreRun}
 use Rattle.task_code_vector.proofs.Rows.{in-places}
-use Rattle.vector_codegen_laws.specs.Points.{RootPoint, PrivatePoint, address_at}
-use Rattle.vector_codegen_laws.specs.RunBytes.{has_word, is_byte_of, is_run, rule_of, IsByteOf, AreBytesOf, RulesSayRuns, IsNamed, RunsAreNamed}
-use Rattle.vector_codegen_laws.specs.Settings.{places, size, uses, task_world, IsWritten}
+use Rattle.vector_codegen_laws.specs.Points.{RootPoint, address_at}
+use Rattle.vector_codegen_laws.specs.RunBytes.{has_word, is_byte_of, is_run, rule_of, IsByteOf, RulesSayRuns, IsNamed, RunsAreNamed}
+use Rattle.vector_codegen_laws.specs.Settings.{places, uses, task_world, IsWritten}
 use Rattle.vector_codegen_laws.specs.Held.{setting, IsTask, TasksMayWriteRuns}
 use Rattle.vector_codegen_laws.specs.Uses.{Owners}
 use Rattle.vector_codegen_laws.proofs.Laying.{copy-byte}

@@ -1,8 +1,9 @@
 -- The code of a task does the task: it leaves the result's bytes at the points that the task owns.
-use Rattle.std.proofs.Common.{◌≡◌, ℕ, ◌+◌, ◌^◌, ◌<◌, ◌≤◌, Bool, true, false, cond, List, length, Option, Some, None, refl, sym, ap, subst, ◌∙◌, arith, inl, inr, true≢false}
+use Rattle.std.proofs.Common.{◌≡◌, ℕ, ◌^◌, ◌<◌, ◌≤◌, Bool, true, false, cond, List, length, Option, Some, None, refl, sym, ap, subst, ◌∙◌, arith, inl, inr, true≢false}
 use Rattle.std.specs.List.{list_any}
 use Rattle.std.specs.Prelude.{◌⊎◌, ◌==◌, ◌&&◌, ◌||◌, slice_get, nat_lt, Ok}
 use Rattle.std.proofs.lemmas.Bool.{and_parts, cases_eq, ne_eqb, eq-eqb, eqb-true, ltb-true}
+use Rattle.rv_insn.specs.declared.instructions.Insn.{Insn}
 use Rattle.memory.specs.Addresses.{byte_at, AreBytes}
 use Rattle.halide_pipeline.specs.declared.definitions.Input.{Input}
 use Rattle.halide_pipeline.specs.declared.expressions.Source.{Source}
@@ -34,11 +35,8 @@ use Rattle.lowering.specs.Stages.{is_private}
 use Rattle.lowering.specs.Touching.{is_listed, is_root_at, may_write, may_load_at, may_load}
 use Rattle.lowering.proofs.RunLists.{runs_are_listed}
 use Rattle.task_code_scalar.specs.Doing.{Setting, IsSetting, SoundIn, RunsIn, HoldsFuncs}
-use Rattle.task_code.specs.Doing.{AtOnceIn}
-use Rattle.task_code.specs.Fitting.{fits_task}
 use Rattle.task_code_scalar.specs.Layout.{AreWords, func_point}
-use Rattle.task_code.specs.Tasks.{HasDrawn, TaskEnds}
-use Rattle.task_code.proofs.Finishing.{tasks-done}
+use Rattle.task_code.specs.Tasks.{AtOnceIn, EachTaskEnds, HasDrawn, TaskEnds}
 use Rattle.vector_codegen_laws.specs.Held.{funcs_in, HasInputs, setting, IsTask}
 use Rattle.vector_codegen_laws.specs.Points.{RootPoint}
 use Rattle.vector_codegen_laws.specs.RunBytes.{RunsAreNamed}
@@ -251,9 +249,11 @@ module _ (pipeline : Pipeline) (schedule : Schedule) (boxes : Boxes) (rules : Is
           tasks-find-theirs pipeline schedule boxes.funcs k (owners_of work) text found task hart inputs start task_is given func x y (shared_point pipeline schedule boxes accepted is func x y shared there) own_there
           (start_word func x y)
 
-      module _ (f : ℕ → ℕ) (fits : fits_task work.phase (places pipeline schedule boxes.funcs) ≡ true) (low : ticket_word k + 4 < 2 ^ 32) (few : work.phase.tasks < 2 ^ 32) (drawn : HasDrawn own task f) where
-        pub ends : TaskEnds own work.phase (ticket_word k) task f found funcs_found
-        ends = tasks-done own is_setting work.phase (ticket_word k) task fits low (omega (arith, below, few)) sound at_once in_runs f found funcs_found holds_found drawn
+      module _ (f : ℕ → ℕ) (insns : List Insn) (turns : ℕ → ℕ)
+          (each_ends : EachTaskEnds (places pipeline schedule boxes.funcs) work.phase (ticket_word k) insns turns) (few : work.phase.tasks < 2 ^ 32)
+          (drawn : HasDrawn own task f) where
+        pub ends : TaskEnds own work.phase insns (turns task) (ticket_word k) task f found funcs_found
+        ends = each_ends own is_setting refl task (omega (arith, below, few)) sound at_once in_runs f found funcs_found holds_found drawn
 
         pub leaves : (address : ℕ) → uses pipeline schedule boxes.funcs k (owners_of work) address ≡ Owned task → byte_at text ends.left address ≡ byte_of_planes pipeline schedule boxes inputs result address
         leaves address o =

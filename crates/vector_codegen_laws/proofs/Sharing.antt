@@ -32,7 +32,7 @@ use Rattle.lowering.specs.Planes.{corner_of, held, box_points}
 use Rattle.lowering.specs.PurePhases.{IsAtRoot}
 use Rattle.lowering.proofs.RunLists.{runs_are_listed}
 use Rattle.multi_hart_logic.specs.Uses.{Control as ForControl, Fixed, Owned, Shared, Task}
-use Rattle.multi_hart_logic.specs.Paths.{Stand, Block, Writes}
+use Rattle.multi_hart_logic.specs.Paths.{Stand, Writes}
 use Rattle.vector_codegen_sharing.specs.Phases.{Phase as SharedPhase}
 use Rattle.vector_codegen_sharing.specs.Solo.{world, Begins}
 use Rattle.vector_codegen_sharing.specs.Bridges.{numbers_of}
@@ -40,10 +40,11 @@ use Rattle.vector_codegen_sharing.specs.Programs.{IsControlByte, FoundBy}
 use Rattle.vector_codegen_sharing.specs.Turns.{ticket_word}
 use Rattle.vector_codegen_sharing.proofs.Bridges.{stands-there}
 use Rattle.task_code_scalar.specs.declared.places.Places.{Places}
-use Rattle.task_code.specs.Tasks.{HasDrawn, TaskEnds}
+use Rattle.task_code.specs.Tasks.{EachTaskEnds, HasDrawn, TaskEnds}
 use Rattle.vector_codegen.specs.PhaseCode.{Part as CodePart, program}
 use Rattle.vector_codegen.specs.Sharing.{Matter, no_part, part_at, phase, Runs, IsShared}
-use Rattle.vector_codegen.specs.Programs.{part_of as code_of, parts_from}
+use Rattle.vector_codegen.specs.Programs.{ArePartsOf, HasFewTasks}
+use Rattle.vector_codegen.proofs.ProgramStanding.{parts-length}
 use Rattle.vector_codegen_laws.specs.Uses.{use_of, width_in, width_of, byte_of, byte_in}
 use Rattle.vector_codegen_laws.specs.Held.{funcs_in}
 use Rattle.vector_codegen_laws.specs.Points.{RootPoint, part, address_at}
@@ -55,7 +56,7 @@ use Rattle.vector_codegen_laws.proofs.Numbers.{bytes-word}
 use Rattle.vector_codegen_laws.proofs.RunBytes.{rules-say-runs}
 use Rattle.vector_codegen_laws.proofs.There.{roots-are-there}
 use Rattle.vector_codegen_laws.specs.Runs.{writes_runs, IsOneRun}
-use Rattle.vector_codegen_laws.specs.Sharing.{HasCode, parts, OpensWith, IsOwnedIn, PhasesAreShared}
+use Rattle.vector_codegen_laws.specs.Sharing.{OpensWith, IsOwnedIn, PhasesAreShared}
 use Rattle.vector_codegen_laws.specs.Stages.{StagePlace, stages, iterations, writes}
 use Rattle.vector_codegen_laws.proofs.Between.{Stays, HasOwner, root_use}
 use Rattle.vector_codegen_laws.proofs.Chain.{left_by, Told, funcs_told, some_work}
@@ -68,19 +69,33 @@ use Rattle.vector_codegen_laws.proofs.Words.{pixels_answer, held_word}
 
 -- ---- lists
 
-length_parts : (all : Places) (at : ℕ) (list : List Phase) → length (parts_from all at list) ≡ length list
-length_parts all at [] = refl
-length_parts all at (first ∷ others) = ap suc (length_parts all (suc at) others)
+-- how many turns a task of each phase takes
+abbrev turns_in : (all : Places) (at : ℕ) (list : List Phase) (parts : List CodePart) → ArePartsOf all at list parts → ℕ → ℕ → ℕ
+turns_in all at [] [] are k task = 0
+turns_in all at [] (part ∷ parts) are k task = 0
+turns_in all at (first ∷ others) [] are k task = 0
+turns_in all at (first ∷ others) (part ∷ parts) are zero task = are.0.does.turns task
+turns_in all at (first ∷ others) (part ∷ parts) are (suc k) task = turns_in all (suc at) others parts are.1 k task
 
-part_so : (all : Places) (at : ℕ) (list : List Phase) (k : ℕ) (own : Phase) → slice_get list k ≡ Some own → slice_index_or (parts_from all at list) k no_part ≡ code_of all (at + k) own
-part_so all at [] k own e = absurd cc
-part_so all at (first ∷ others) zero own e =
+-- the part does the tasks of the phase with this number in so many turns
+record IsPart (all : Places) (at : ℕ) (own : Phase) (part : CodePart) (turns : ℕ → ℕ) : Type 0 where
+  tasks : part.tasks ≡ own.tasks
+  ends : EachTaskEnds all own (ticket_word at) part.insns turns
+
+part_so : (all : Places) (at : ℕ) (list : List Phase) (parts : List CodePart) (are : ArePartsOf all at list parts) (k : ℕ) (own : Phase)
+    → slice_get list k ≡ Some own
+    → IsPart all (at + k) own (slice_index_or parts k no_part) (turns_in all at list parts are k)
+part_so all at [] parts are k own e = absurd cc
+part_so all at (first ∷ others) [] are k own e = absurd are
+part_so all at (first ∷ others) (part ∷ parts) are zero own e =
     let same : first ≡ own = cc in
     let here : at ≡ at + 0 = omega arith in
-    ap (code_of all at) same ∙ ap (λ (n : ℕ). code_of all n own) here
-part_so all at (first ∷ others) (suc k) own e =
+    subst (λ (p : Phase). IsPart all (at + 0) p part are.0.does.turns) same
+    (subst (λ (n : ℕ). IsPart all n first part are.0.does.turns) here (record { tasks = are.0.tasks_are; ends = are.0.does.does }))
+part_so all at (first ∷ others) (part ∷ parts) are (suc k) own e =
     let next : suc at + k ≡ at + suc k = omega arith in
-    part_so all (suc at) others k own e ∙ ap (λ (n : ℕ). code_of all n own) next
+    subst (λ (n : ℕ). IsPart all n own (slice_index_or parts k no_part) (turns_in all (suc at) others parts are.1 k)) next
+    (part_so all (suc at) others parts are.1 k own e)
 
 all_at : {A : Type 0} (P : A → Type 0) (list : List A) → AllByRecursion P list → (k : ℕ) (own : A) → slice_get list k ≡ Some own → P own
 all_at P [] all k own e = absurd cc
@@ -108,22 +123,24 @@ phases_fit pipeline schedule boxes = omega arith
 
 module _ (pipeline : Pipeline) (schedule : Schedule) (boxes : Boxes) (rules : IsWellFormed pipeline) (accepted : IsAccepted pipeline schedule) (is : inferred pipeline schedule ≡ Ok boxes)
     (inputs : Planes) (begun : AnswerWords pipeline.inputs (reads_of inputs (pixels pipeline.funcs inputs 0))) (list : List Phase) (planes : Planes)
-    (told : Told pipeline schedule boxes inputs list (stages pipeline schedule boxes) planes) (harts : ℕ) (few_harts : harts ≤ 8) (coded : AllByRecursion (HasCode (places pipeline schedule boxes.funcs) harts) list)
-    (last : ℕ) (count : length list ≡ suc last) (counted : length list ≤ phases schedule.standings pipeline.funcs boxes.funcs) (text : List ℕ) where
+    (told : Told pipeline schedule boxes inputs list (stages pipeline schedule boxes) planes) (harts : ℕ) (few_harts : harts ≤ 8)
+    (all_parts : List CodePart) (coded : ArePartsOf (places pipeline schedule boxes.funcs) 0 list all_parts)
+    (countable : AllByRecursion HasFewTasks list) (last : ℕ) (count : length list ≡ suc last)
+    (counted : length list ≤ phases schedule.standings pipeline.funcs boxes.funcs) (text : List ℕ) where
   abbrev all_places : Places
   all_places = places pipeline schedule boxes.funcs
 
   abbrev bytes : ℕ
   bytes = size pipeline schedule boxes.funcs
 
-  abbrev all_parts : List CodePart
-  all_parts = parts pipeline schedule boxes list
+  abbrev turns : ℕ → ℕ → ℕ
+  turns = turns_in all_places 0 list all_parts coded
 
   abbrev work : ℕ → Work
   work k = told.works k
 
   abbrev matter : ℕ → Matter
-  matter k = matter_of pipeline schedule boxes inputs told.works k
+  matter k = matter_of pipeline schedule boxes inputs told.works turns k
 
   abbrev P : ℕ → SharedPhase
   P k = phase text bytes harts all_parts matter k
@@ -145,18 +162,19 @@ module _ (pipeline : Pipeline) (schedule : Schedule) (boxes : Boxes) (rules : Is
   known : (k : ℕ) → k ≤ last → IsKnown pipeline schedule boxes (work k)
   known k l = told.known k (omega (arith, l, count))
 
-  code_at : (k : ℕ) → k ≤ last → HasCode all_places harts (work k).phase
-  code_at k l = all_at (HasCode all_places harts) list coded k (work k).phase (told.phase_is k (omega (arith, l, count)))
+  few_at : (k : ℕ) → k ≤ last → HasFewTasks (work k).phase
+  few_at k l = all_at HasFewTasks list countable k (work k).phase (told.phase_is k (omega (arith, l, count)))
 
-  is_part : (k : ℕ) → k ≤ last → part_here k ≡ code_of all_places k (work k).phase
+  is_part : (k : ℕ) → k ≤ last → IsPart all_places k (work k).phase (part_here k) (turns k)
   is_part k l = let here : 0 + k ≡ k = omega arith in
-      part_so all_places 0 list k (work k).phase (told.phase_is k (omega (arith, l, count))) ∙ ap (λ (n : ℕ). code_of all_places n (work k).phase) here
+      subst (λ (n : ℕ). IsPart all_places n (work k).phase (part_here k) (turns k)) here
+      (part_so all_places 0 list all_parts coded k (work k).phase (told.phase_is k (omega (arith, l, count))))
 
   tasks_are : (k : ℕ) → k ≤ last → (part_here k).tasks ≡ (work k).phase.tasks
-  tasks_are k l = ap (λ (p : CodePart). p.tasks) (is_part k l)
+  tasks_are k l = (is_part k l).tasks
 
   few : (k : ℕ) → k ≤ last → (part_here k).tasks + harts + 1 < 2 ^ 32
-  few k l = let e = tasks_are k l in let f = (code_at k l).few in omega (arith, e, f)
+  few k l = let e = tasks_are k l in let f = few_at k l in omega (arith, e, f, few_harts)
 
   fits : bytes ≤ 33554432
   fits = size_fits pipeline schedule boxes is
@@ -193,11 +211,8 @@ module _ (pipeline : Pipeline) (schedule : Schedule) (boxes : Boxes) (rules : Is
     below : task < (work k).phase.tasks
     below = subst (λ (n : ℕ). task < n) (tasks_are k l) b.task_is
 
-    low_ticket : ticket_word k + 4 < 2 ^ 32
-    low_ticket = omega (arith, l, room, fits)
-
     few_tasks : (work k).phase.tasks < 2 ^ 32
-    few_tasks = let f = (code_at k l).few in omega (arith, f)
+    few_tasks = let f = few_at k l in omega (arith, f)
 
     drawn : HasDrawn (running.own pipeline schedule boxes rules accepted is inputs begun (work k) (known k l) k text harts task number below b.number_is few_harts) task (numbers_of hart)
     drawn =
@@ -209,17 +224,21 @@ module _ (pipeline : Pipeline) (schedule : Schedule) (boxes : Boxes) (rules : Is
           drawn = sym (here.same 12 (omega arith)) ∙ b.drawn;
         }
 
-    ends : TaskEnds (running.own pipeline schedule boxes rules accepted is inputs begun (work k) (known k l) k text harts task number below b.number_is few_harts) (work k).phase (ticket_word k) task (numbers_of hart) found
+    ends : TaskEnds
+        (running.own pipeline schedule boxes rules accepted is inputs begun (work k) (known k l) k text harts task number below b.number_is few_harts)
+        (work k).phase (part_here k).insns (turns k task) (ticket_word k) task (numbers_of hart) found
         (funcs_in pipeline schedule boxes.funcs text found number)
     ends =
-        running.ends pipeline schedule boxes rules accepted is inputs begun (work k) (known k l) k text harts task number below b.number_is few_harts found b.size b.bytes b.given (numbers_of hart) (code_at k l).fits low_ticket
-        few_tasks drawn
+        running.ends pipeline schedule boxes rules accepted is inputs begun (work k) (known k l) k text harts task number below b.number_is few_harts found
+        b.size b.bytes b.given (numbers_of hart) (part_here k).insns (turns k)
+        (is_part k l).ends few_tasks drawn
 
     leaves : (address : ℕ) → (matter k).uses address ≡ Owned task → byte_at text ends.left address ≡ (matter k).result address
     unfolding ends
     leaves =
-        running.leaves pipeline schedule boxes rules accepted is inputs begun (work k) (known k l) k text harts task number below b.number_is few_harts found b.size b.bytes b.given (numbers_of hart) (code_at k l).fits low_ticket
-        few_tasks drawn
+        running.leaves pipeline schedule boxes rules accepted is inputs begun (work k) (known k l) k text harts task number below b.number_is few_harts
+        found b.size b.bytes b.given (numbers_of hart) (part_here k).insns (turns k)
+        (is_part k l).ends few_tasks drawn
 
     -- ---- what is written
 
@@ -250,14 +269,14 @@ module _ (pipeline : Pipeline) (schedule : Schedule) (boxes : Boxes) (rules : Is
       covered : (at : ℕ) → Stand text at (part_here k).insns → Writes (world (P k) (Task task) number) at ((matter k).turns task) (numbers_of hart) found address
       covered at stands =
           let lies = own-byte-lies pipeline schedule boxes.funcs k (owners_of (work k)) task number address own_here (root-byte-point pipeline schedule boxes.funcs address own_func own_here.offset own_here.part_is) in
-          ends.writes own_func (x_of own_here.offset) (y_of own_here.offset) address at (stores (x_of own_here.offset) (y_of own_here.offset) writes_here) (record { above = lies.0; below = lies.1 })
-          (subst (λ (p : CodePart). Stand text at p.insns) (is_part k l) stands)
+          ends.writes own_func (x_of own_here.offset) (y_of own_here.offset) address at (stores (x_of own_here.offset) (y_of own_here.offset) writes_here)
+          (record { above = lies.0; below = lies.1 }) stands
 
     runs : Runs text bytes harts all_parts matter k task number hart found
     runs = record {
       after = ends.after;
       left = ends.left;
-      block = subst (λ (p : CodePart). Block (world (P k) (Task task) number) p.insns ((matter k).turns task) (numbers_of hart) found ends.after ends.left) (sym (is_part k l)) ends.block;
+      block = ends.block;
       keeps = record {
         number_is = ends.number;
         harts = ends.all;
@@ -468,7 +487,7 @@ module _ (pipeline : Pipeline) (schedule : Schedule) (boxes : Boxes) (rules : Is
 
     shared : 0 < harts → Stand text text_start (program 0 all_parts) → IsShared text bytes harts all_parts matter last memory
     shared some stands = record {
-      count = length_parts all_places 0 list ∙ count;
+      count = parts-length all_places 0 list all_parts coded ∙ count;
       stands = stands;
       some = some;
       few = few;
@@ -522,21 +541,30 @@ module _ (pipeline : Pipeline) (schedule : Schedule) (boxes : Boxes) (rules : Is
       pixel_is small = bytes-word text left address (planes func x y) small pixel_byte
 
 pub phases-are-shared : PhasesAreShared
-phases-are-shared pipeline schedule boxes rules accepted is inputs begun list are harts some few_harts coded last count text memory stands opens =
+phases-are-shared pipeline schedule boxes rules accepted is inputs begun list are parts coded countable harts some few last count text memory stands opens =
     let other = some_work pipeline schedule boxes (length pipeline.funcs) last list are count in
     let told = funcs_told pipeline schedule boxes inputs accepted is other (length pipeline.funcs) list are in
     let counted = all_counted pipeline schedule boxes (length pipeline.funcs) list are in
     let planes = held boxes.funcs (pixels pipeline.funcs inputs (length pipeline.funcs)) in
     record {
-      matter = matter pipeline schedule boxes rules accepted is inputs begun list planes told harts few_harts coded last count counted text;
-      is_shared = shared pipeline schedule boxes rules accepted is inputs begun list planes told harts few_harts coded last count counted text memory opens some stands;
+      matter = matter pipeline schedule boxes rules accepted is inputs begun list planes told harts few parts coded countable last count counted text;
+      is_shared =
+          shared pipeline schedule boxes rules accepted is inputs begun list planes told harts few parts coded countable last count counted text
+          memory opens some stands;
       stages_are = told.stages_are ∙ count;
-      tasks_are = tasks_there pipeline schedule boxes rules accepted is inputs begun list planes told harts few_harts coded last count counted text;
-      own_bytes = own_bytes pipeline schedule boxes rules accepted is inputs begun list planes told harts few_harts coded last count counted text;
-      numbers_are = λ k stage func e found. number_there pipeline schedule boxes rules accepted is inputs begun list planes told harts few_harts coded last count counted text k stage e func found;
-      root_bytes = root_byte pipeline schedule boxes rules accepted is inputs begun list planes told harts few_harts coded last count counted text;
-      runs_are = one_run pipeline schedule boxes rules accepted is inputs begun list planes told harts few_harts coded last count counted text;
+      tasks_are =
+          tasks_there pipeline schedule boxes rules accepted is inputs begun list planes told harts few parts coded countable last count counted text;
+      own_bytes =
+          own_bytes pipeline schedule boxes rules accepted is inputs begun list planes told harts few parts coded countable last count counted text;
+      numbers_are =
+          λ k stage func e found. number_there pipeline schedule boxes rules accepted is inputs begun list planes told harts few parts coded countable
+          last count counted text k stage e func found;
+      root_bytes =
+          root_byte pipeline schedule boxes rules accepted is inputs begun list planes told harts few parts coded countable last count counted text;
+      runs_are =
+          one_run pipeline schedule boxes rules accepted is inputs begun list planes told harts few parts coded countable last count counted text;
       ends = λ left done kept func x y p.
-          pixel_is pipeline schedule boxes rules accepted is inputs begun list planes told harts few_harts coded last count counted text left done kept func x y p
+          pixel_is pipeline schedule boxes rules accepted is inputs begun list planes told harts few parts coded countable last count counted text
+          left done kept func x y p
           (held_word pipeline rules inputs begun boxes.funcs (pixels pipeline.funcs inputs (length pipeline.funcs)) (pixels_answer pipeline rules inputs begun (length pipeline.funcs)) func x y);
     }

@@ -1,6 +1,6 @@
 -- The harts of an image share the tasks of a pipeline's phases, and leave the pixels of all Funcs at root.
 -- This project's own.
-use Rattle.std.specs.Prelude.{◌≡◌, ◌<◌, ◌≤◌, ◌⊎◌, ℕ, suc, ◌+◌, ◌^◌, true, List, length, slice_get, Some, Ok}
+use Rattle.std.specs.Prelude.{◌≡◌, ◌<◌, ◌≤◌, ◌⊎◌, ℕ, suc, ◌+◌, true, List, length, slice_get, Some, Ok}
 use Rattle.std.specs.List.{AllByRecursion}
 use Rattle.memory.specs.Addresses.{text_start, data_start, byte_at, AreBytes}
 use Rattle.memory.specs.Access.{word_at}
@@ -23,27 +23,16 @@ use Rattle.lowering.specs.Planes.{held}
 use Rattle.lowering.specs.PurePhases.{IsAtRoot}
 use Rattle.multi_hart_logic.specs.Uses.{Fixed, Owned}
 use Rattle.multi_hart_logic.specs.Paths.{Stand}
-use Rattle.task_code_scalar.specs.declared.places.Places.{Places}
-use Rattle.task_code.specs.Fitting.{fits_task}
 use Rattle.vector_codegen.specs.PhaseCode.{Part, program}
 use Rattle.vector_codegen.specs.Sharing.{Matter, IsShared, part_at}
-use Rattle.vector_codegen.specs.Programs.{parts_from}
+use Rattle.vector_codegen.specs.Programs.{ArePartsOf, HasFewTasks}
 use Rattle.vector_codegen_laws.specs.Points.{RootPoint, part, address_at}
 use Rattle.vector_codegen_laws.specs.Settings.{places, size}
 use Rattle.vector_codegen_laws.specs.Uses.{byte_in}
 use Rattle.vector_codegen_laws.specs.Runs.{writes_runs, IsOneRun}
 use Rattle.vector_codegen_laws.specs.Stages.{StagePlace, stages, iterations, writes}
 
--- The registers suffice for the phase's tasks, and so many harts count them in a word.
-pub record HasCode (places : Places) (harts : ℕ) (phase : Phase) : Type 0 where
-  pub fits : fits_task phase places ≡ true
-  pub few : phase.tasks + harts + 1 < 2 ^ 32
-
 module _ (pipeline : Pipeline) (schedule : Schedule) (boxes : Boxes) where
-  -- the phases' code, where the layout has the buffers
-  abbrev pub parts : List Phase → List Part
-  parts phases = parts_from (places pipeline schedule boxes.funcs) 0 phases
-
   -- The data begin so: the inputs' pixels, and zeros.
   pub record OpensWith (text memory : List ℕ) (inputs : Planes) : Type 0 where
     pub whole : length memory ≡ size pipeline schedule boxes.funcs
@@ -67,13 +56,13 @@ module _ (pipeline : Pipeline) (schedule : Schedule) (boxes : Boxes) where
 
   -- So many harts share their work. Where the tasks of the last phase left what they own, and all else is as that phase found it, the pixels
   -- stand.
-  pub record AreShared (harts : ℕ) (phases : List Phase) (last : ℕ) (text memory : List ℕ) (inputs : Planes) : Type 0 where
+  pub record AreShared (harts : ℕ) (parts : List Part) (last : ℕ) (text memory : List ℕ) (inputs : Planes) : Type 0 where
     pub matter : ℕ → Matter
-    pub is_shared : IsShared text (size pipeline schedule boxes.funcs) harts (parts phases) matter last memory
+    pub is_shared : IsShared text (size pipeline schedule boxes.funcs) harts parts matter last memory
     -- the phases compute the stages, with a task for each iteration
     pub stages_are : length (stages pipeline schedule boxes) ≡ suc last
     pub tasks_are : (k : ℕ) (stage : StagePlace) → slice_get (stages pipeline schedule boxes) k ≡ Some stage
-        → (part_at text (size pipeline schedule boxes.funcs) harts (parts phases) matter k).tasks ≡ iterations pipeline schedule boxes stage
+        → (part_at text (size pipeline schedule boxes.funcs) harts parts matter k).tasks ≡ iterations pipeline schedule boxes stage
     -- each byte of a point that an iteration writes is its task's own, and written
     pub own_bytes : (k : ℕ) (stage : StagePlace) → slice_get (stages pipeline schedule boxes) k ≡ Some stage → (task : ℕ) → task < iterations pipeline schedule boxes stage
         → (x y byte : ℕ) → writes pipeline schedule boxes inputs stage task x y ≡ true → byte < 4
@@ -92,19 +81,20 @@ module _ (pipeline : Pipeline) (schedule : Schedule) (boxes : Boxes) where
         → writes_runs plan number ≡ true
         → (task : ℕ) (written : List ℕ) → (matter k).rule task written ≡ true → IsOneRun pipeline schedule boxes place (extents_of own) plan.pure written
     pub ends : (left : List ℕ)
-        → ((address task : ℕ) → task < (part_at text (size pipeline schedule boxes.funcs) harts (parts phases) matter last).tasks
+        → ((address task : ℕ) → task < (part_at text (size pipeline schedule boxes.funcs) harts parts matter last).tasks
         → (matter last).uses address ≡ Owned task → byte_at text left address ≡ (matter last).result address)
         → ((address : ℕ) → (matter last).uses address ≡ Fixed → byte_at text left address ≡ (matter last).start address)
         → HoldsPixels text left inputs
 
 -- ---- law
 
+-- of any parts that do the phases' tasks where the layout has the buffers
 abbrev pub PhasesAreShared : Type 0
 PhasesAreShared =
     (pipeline : Pipeline) (schedule : Schedule) (boxes : Boxes) → IsWellFormed pipeline → IsAccepted pipeline schedule → inferred pipeline schedule ≡ Ok boxes
     → (inputs : Planes) → AnswerWords pipeline.inputs (reads_of inputs (pixels pipeline.funcs inputs 0))
     → (phases : List Phase) → AreLowered pipeline schedule boxes (length pipeline.funcs) phases
-    → (harts : ℕ) → 0 < harts → harts ≤ 8 → AllByRecursion (HasCode (places pipeline schedule boxes.funcs) harts) phases
-    → (last : ℕ) → length phases ≡ suc last
-    → (text memory : List ℕ) → Stand text text_start (program 0 (parts pipeline schedule boxes phases)) → OpensWith pipeline schedule boxes text memory inputs
-    → AreShared pipeline schedule boxes harts phases last text memory inputs
+    → (parts : List Part) → ArePartsOf (places pipeline schedule boxes.funcs) 0 phases parts → AllByRecursion HasFewTasks phases
+    → (harts : ℕ) → 0 < harts → harts ≤ 8 → (last : ℕ) → length phases ≡ suc last
+    → (text memory : List ℕ) → Stand text text_start (program 0 parts) → OpensWith pipeline schedule boxes text memory inputs
+    → AreShared pipeline schedule boxes harts parts last text memory inputs
