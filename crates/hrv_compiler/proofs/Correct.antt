@@ -1,7 +1,6 @@
 -- An image does what it should on every list of turns: its harts share the work of the phases.
-use Rattle.std.proofs.Common.{◌≡◌, ℕ, suc, ◌-◌, ◌*◌, ◌<◌, ◌≤◌, ◌⊎◌, true, List, [], ◌∷◌, ◌++◌, length, Some, None, sym, ap, subst, ◌∙◌, arith, true≢false}
+use Rattle.std.proofs.Common.{◌≡◌, ℕ, suc, ◌-◌, ◌*◌, ◌<◌, ◌≤◌, ◌⊎◌, true, List, ◌++◌, length, Some, None, sym, ap, subst, ◌∙◌, arith}
 use Rattle.std.specs.Prelude.{◌&&◌, nat_le, slice_get}
-use Rattle.std.specs.List.{AllByRecursion}
 use Rattle.std.proofs.lemmas.Bool.{and_parts, leb-true}
 use Rattle.std.proofs.lemmas.Option.{slice_get_within}
 use Rattle.memory.specs.Addresses.{text_start, byte_at}
@@ -29,21 +28,22 @@ use Rattle.vector_codegen_sharing.specs.Solo.{TaskWrites}
 use Rattle.vector_codegen_sharing.proofs.Assignments.{every-assignment}
 use Rattle.vector_codegen_sharing.proofs.Gates.{gate-once}
 use Rattle.vector_codegen_sharing.proofs.Races.{never-races}
-use Rattle.vector_codegen_sharing.proofs.Fair.{can-finish, fair-ends}
+use Rattle.vector_codegen_sharing.proofs.Fair.{can-finish, fair-ends, gates-grow}
 use Rattle.vector_codegen_sharing.proofs.Results.{never-traps, one-result}
 use Rattle.vector_codegen_sharing.proofs.Single.{alone-stops}
-use Rattle.vector_codegen.specs.PhaseCode.{program}
+use Rattle.vector_codegen.specs.PhaseCode.{Part, program}
 use Rattle.vector_codegen.specs.Sharing.{phase}
 use Rattle.vector_codegen.proofs.Sharing.{programs-share}
-use Rattle.vector_codegen.specs.Programs.{Fits, HasFewTasks, parts_from}
+use Rattle.vector_codegen.specs.Programs.{ArePartsOf}
 use Rattle.vector_codegen.proofs.ProgramStanding.{programs-stand}
 use Rattle.vector_codegen_laws.specs.Places.{places_of}
 use Rattle.vector_codegen_laws.specs.Settings.{places, size}
-use Rattle.vector_codegen_laws.specs.Sharing.{HasCode, HoldsPixels, AreShared, parts}
+use Rattle.vector_codegen_laws.specs.Sharing.{HoldsPixels, AreShared}
 use Rattle.vector_codegen_laws.proofs.Sharing.{phases-are-shared}
 use Rattle.vector_codegen_laws.specs.Stages.{StagePlace, stages}
 use Rattle.hrv_compiler.specs.Assigned.{byte_of_point, WrittenAs, IsReached, IsAssigned}
-use Rattle.hrv_compiler.specs.Compiled.{CompiledContents, IsCompiled}
+use Rattle.hrv_compiler.specs.Compiled.{CompiledContents}
+use Rattle.hrv_compiler.specs.inner.Held.{IsHeld}
 use Rattle.hrv_compiler.specs.Correct.{opening, ShowsOutput, IsCorrect, Correct}
 use Rattle.hrv_compiler.specs.Data.{image_data}
 use Rattle.hrv_compiler.specs.Images.{ArePictures, image_of}
@@ -55,21 +55,15 @@ use Rattle.hrv_compiler.proofs.Opening.{phases_are, opens}
 use Rattle.hrv_compiler.proofs.OutputBox.{RootOutput, root_output}
 use Rattle.hrv_compiler.proofs.Shown.{shows-output}
 
--- ---- each phase has code
-
-have-code : (own : Places) (harts : ℕ) → harts ≤ 8 → (phases : List Phase) → AllByRecursion (Fits own) phases → AllByRecursion HasFewTasks phases → AllByRecursion (HasCode own harts) phases
-have-code own harts l [] fit few = tt
-have-code own harts l (first ∷ phases) fit few =
-    (record { fits = fit.0; few = let n = few.0 in omega (arith, n, l) }, have-code own harts l phases fit.1 few.1)
-
-module _ (own : CompiledContents) (rules : IsCompiled own) (pictures : List PictureContents) (none : judged own.pipeline.inputs pictures ≡ None) (are : ArePictures pictures) where
+module _ (own : CompiledContents) (rules : IsHeld own) (pictures : List PictureContents) (none : judged own.pipeline.inputs pictures ≡ None)
+    (are : ArePictures pictures) where
   abbrev phases : List Phase
   phases = rules.words_are.phases
 
   counted : own.boxes.layout.phases ≡ length phases
   counted =
-      phases_are own rules pictures none are
-      ∙ phases-counted own.pipeline own.schedule own.boxes rules.accepted rules.inferred_is phases rules.words_are.are_lowered
+      phases_are own rules.compiled pictures none are
+      ∙ phases-counted own.pipeline own.schedule own.boxes rules.compiled.accepted rules.compiled.inferred_is phases rules.words_are.are_lowered
 
   abbrev pub bytes : List ℕ
   bytes = image_data own.boxes.layout own.pipeline.inputs pictures
@@ -81,13 +75,13 @@ module _ (own : CompiledContents) (rules : IsCompiled own) (pictures : List Pict
   there = places own.pipeline own.schedule own.boxes.funcs
 
   pub places-are : places_of own.pipeline own.schedule own.boxes.funcs own.boxes.layout ≡ there
-  places-are = ap (places_of own.pipeline own.schedule own.boxes.funcs) (layout_is own.pipeline own.schedule own.boxes rules.inferred_is)
+  places-are = ap (places_of own.pipeline own.schedule own.boxes.funcs) (layout_is own.pipeline own.schedule own.boxes rules.compiled.inferred_is)
 
   answers : AnswerWords own.pipeline.inputs (reads_of planes (pixels own.pipeline.funcs planes 0))
   answers = answer-words own.pipeline.inputs own.pipeline.funcs pictures none are
 
   root : RootOutput own.pipeline own.schedule own.boxes
-  root = root_output own.pipeline own.schedule own.boxes rules.well_formed rules.accepted rules.inferred_is
+  root = root_output own.pipeline own.schedule own.boxes rules.compiled.well_formed rules.compiled.accepted rules.compiled.inferred_is
 
   some : 1 ≤ length phases
   some =
@@ -100,34 +94,35 @@ module _ (own : CompiledContents) (rules : IsCompiled own) (pictures : List Pict
   pub count : length phases ≡ suc last
   count = let l = some in omega (arith, l)
 
-  stands : Stand own.words text_start (program 0 (parts own.pipeline own.schedule own.boxes phases))
-  stands =
-      subst (λ (p : Places). Stand own.words text_start (program 0 (parts_from p 0 phases))) places-are
-      (programs-stand (places_of own.pipeline own.schedule own.boxes.funcs own.boxes.layout) phases own.words rules.words_are.is_program)
+  -- what does their tasks
+  abbrev pub parts : List Part
+  parts = rules.words_are.is_program.parts
+
+  codes : ArePartsOf there 0 phases parts
+  codes = subst (λ (p : Places). ArePartsOf p 0 phases parts) places-are rules.words_are.is_program.are_parts
+
+  stands : Stand own.words text_start (program 0 parts)
+  stands = programs-stand (places_of own.pipeline own.schedule own.boxes.funcs own.boxes.layout) phases own.words rules.words_are.is_program
 
   abbrev image : ImageContents
   image = image_of own pictures
 
   module _ (harts : ℕ) (some_harts : 0 < harts) (few_harts : harts ≤ 8) where
-    codes : AllByRecursion (HasCode there harts) phases
-    codes =
-        have-code there harts few_harts phases
-        (subst (λ (p : Places). AllByRecursion (Fits p) phases) places-are rules.words_are.is_program.fit) rules.words_are.is_program.few_tasks
-
     abbrev pub IsSharedSo : Type 0
-    IsSharedSo = AreShared own.pipeline own.schedule own.boxes harts phases last own.words bytes planes
+    IsSharedSo = AreShared own.pipeline own.schedule own.boxes harts parts last own.words bytes planes
 
     pub shared : IsSharedSo
     shared =
-        phases-are-shared own.pipeline own.schedule own.boxes rules.well_formed rules.accepted rules.inferred_is planes answers phases rules.words_are.are_lowered harts some_harts few_harts codes last count
-        own.words bytes stands (opens own rules pictures none are answers)
+        phases-are-shared own.pipeline own.schedule own.boxes rules.compiled.well_formed rules.compiled.accepted rules.compiled.inferred_is planes answers
+        phases rules.words_are.are_lowered parts codes
+        rules.words_are.is_program.few_tasks harts some_harts few_harts last count own.words bytes stands (opens own rules.compiled pictures none are answers)
 
     module _ (is : IsSharedSo) where
       abbrev pub steps : ℕ → SharedPhase
-      steps = phase own.words (size own.pipeline own.schedule own.boxes.funcs) harts (parts own.pipeline own.schedule own.boxes phases) is.matter
+      steps = phase own.words (size own.pipeline own.schedule own.boxes.funcs) harts parts is.matter
 
       whole : Program steps last × (Opens (steps 0) text_start bytes × ((k : ℕ) → k ≤ last → TaskWrites (steps k)))
-      whole = programs-share own.words (size own.pipeline own.schedule own.boxes.funcs) harts (parts own.pipeline own.schedule own.boxes phases) is.matter last bytes is.is_shared
+      whole = programs-share own.words (size own.pipeline own.schedule own.boxes.funcs) harts parts is.matter last bytes is.is_shared
 
       pub goes : Program steps last
       goes = whole.0
@@ -162,11 +157,14 @@ module _ (own : CompiledContents) (rules : IsCompiled own) (pictures : List Pict
 
         shows : ShowsOutput own.pipeline pictures end image.output
         shows =
-            let extents = and_parts (is_width own.pipeline.output.width) (is_height own.pipeline.output.width own.pipeline.output.height) rules.well_formed.output in
+            let extents =
+            and_parts (is_width own.pipeline.output.width)
+            (is_height own.pipeline.output.width own.pipeline.output.height) rules.compiled.well_formed.output in
             let wide = and_parts (nat_le 1 own.pipeline.output.width) (nat_le own.pipeline.output.width 65536) extents.0 in
             let all = and_parts (nat_le 1 own.pipeline.output.height && nat_le own.pipeline.output.height 65536) (nat_le (own.pipeline.output.width * own.pipeline.output.height) 1048576) extents.1 in
             let high = and_parts (nat_le 1 own.pipeline.output.height) (nat_le own.pipeline.output.height 65536) all.0 in
-            shows-output own rules pictures none are (leb-true own.pipeline.output.width 65536 wide.1) (leb-true own.pipeline.output.height 65536 high.1) end holds
+            shows-output own rules.compiled pictures none are (leb-true own.pipeline.output.width 65536 wide.1)
+            (leb-true own.pipeline.output.height 65536 high.1) end holds
 
       last-is : last ≡ own.boxes.layout.phases - 1
       last-is = let all = counted in omega (arith, all)
@@ -179,6 +177,9 @@ module _ (own : CompiledContents) (rules : IsCompiled own) (pictures : List Pict
         can_finish = λ turns. can-finish steps last text_start bytes turns goes begins;
         fair_ends = (enough_rounds steps last, λ turns rounds fair long. fair-ends steps last text_start bytes goes begins turns rounds fair long);
         gates_once = λ turns number hart l. let all = counted in gate-once steps last text_start bytes turns goes begins number hart (let one = count in omega (arith, l, all, one));
+        gates_grow = λ turns more number l.
+            let all = counted in let one = count in
+            gates-grow steps last text_start bytes turns more goes begins number (omega (arith, l, all, one));
         stops_alone = λ turns hart l.
             subst (λ (n : ℕ). (more : List ℕ) × OnlyBy hart more
             × (Waits n hart (opening image harts) (turns ++ more) ⊎ ((one : HartState) → slice_get (run (opening image harts) (turns ++ more)).harts hart ≡ Some one → one.status ≡ Finished))) last-is

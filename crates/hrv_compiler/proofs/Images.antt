@@ -21,6 +21,7 @@ use Rattle.loader.specs.Image.{ImageContents, is_within_limits, is_entry, is_out
 use Rattle.loader.specs.Spelling.{padded}
 use Rattle.hrv_compiler.specs.Data.{inputs_data, image_data}
 use Rattle.hrv_compiler.specs.Compiled.{CompiledContents, IsCompiled, output_in, output_of}
+use Rattle.hrv_compiler.specs.inner.Held.{IsHeld}
 use Rattle.hrv_compiler.specs.Images.{ArePictures, image_of}
 use Rattle.hrv_compiler.specs.Outputs.{Holds}
 use Rattle.hrv_compiler.proofs.DataBytes.{length-inputs}
@@ -99,20 +100,6 @@ module _ (own : CompiledContents) (rules : IsCompiled own) (pictures : List Pict
       let b : length {A = ℕ} (replicate (own.boxes.layout.size - length content) 0) ≡ own.boxes.layout.size - length content = length-replicate {A = ℕ} (own.boxes.layout.size - length content) 0 in
       omega (arith, a, b, fit)
 
-  limits : is_within_limits (image_of own pictures) ≡ true
-  limits =
-      let few = rules.words_are.is_program.few in
-      let low = (lies_low own.pipeline own.schedule own.boxes rules.inferred_is).size in
-      let a : nat_le (length own.words) most_words ≡ true = le-leb (length own.words) most_words few in
-      let b : nat_le (length (image_data own.boxes.layout own.pipeline.inputs pictures)) most_bytes ≡ true = le-leb (length (image_data own.boxes.layout own.pipeline.inputs pictures)) most_bytes (omega (arith, long, low)) in
-      rw a (rw b refl)
-
-  entry : is_entry (length own.words) text_start ≡ true
-  entry =
-      let some = some_words own rules in
-      let l : nat_lt text_start (text_start + 4 * length own.words) ≡ true = lt-ltb text_start (text_start + 4 * length own.words) (omega (arith, some)) in
-      rw l refl
-
   pub box_here : OutputBox own.pipeline own.boxes
   box_here = output_box own.pipeline own.schedule own.boxes rules.well_formed rules.accepted rules.inferred_is
 
@@ -127,8 +114,26 @@ module _ (own : CompiledContents) (rules : IsCompiled own) (pictures : List Pict
       rw output_is (rw long (picture_lies box_here.at own.boxes.layout.size box_here.own own.pipeline.output.width own.pipeline.output.height box_here.holds box_here.aligned box_here.above box_here.within
       (output_points own.pipeline own.schedule own.boxes rules.well_formed rules.accepted rules.inferred_is)))
 
+module _ (own : CompiledContents) (rules : IsHeld own) (pictures : List PictureContents) (none : judged own.pipeline.inputs pictures ≡ None)
+    (are : ArePictures pictures) where
+  limits : is_within_limits (image_of own pictures) ≡ true
+  limits =
+      let few = rules.words_are.is_program.few in
+      let low = (lies_low own.pipeline own.schedule own.boxes rules.compiled.inferred_is).size in
+      let a : nat_le (length own.words) most_words ≡ true = le-leb (length own.words) most_words few in
+      let b : nat_le (length (image_data own.boxes.layout own.pipeline.inputs pictures)) most_bytes ≡ true =
+      le-leb (length (image_data own.boxes.layout own.pipeline.inputs pictures)) most_bytes
+      (let size = long own rules.compiled pictures none are in omega (arith, size, low)) in
+      rw a (rw b refl)
+
+  entry : is_entry (length own.words) text_start ≡ true
+  entry =
+      let some = some_words own rules in
+      let l : nat_lt text_start (text_start + 4 * length own.words) ≡ true = lt-ltb text_start (text_start + 4 * length own.words) (omega (arith, some)) in
+      rw l refl
+
   pub passes : judged_image (image_of own pictures) ≡ Ok (image_of own pictures)
-  passes = rw limits (rw entry (rw output_lies refl))
+  passes = rw limits (rw entry (rw (output_lies own rules.compiled pictures none are) refl))
 
   pub parts_pass : (words bytes : List ℕ) (output : Option Output) → words ≡ own.words → bytes ≡ image_data own.boxes.layout own.pipeline.inputs pictures → output ≡ output_of own.pipeline own.boxes
       → judged_image (record { entry = text_start; words = words; bytes = bytes; output = output }) ≡ Ok (image_of own pictures)

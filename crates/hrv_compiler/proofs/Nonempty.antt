@@ -12,12 +12,12 @@ use Rattle.bounds.specs.declared.verdict.Boxes.{Boxes}
 use Rattle.loop_ir.specs.declared.statements.Phase.{Phase}
 use Rattle.lowering.specs.Lowered.{ArePhasesOf, One_more, AreLowered, No_func, Passed, Computed}
 use Rattle.lowering.specs.PurePhases.{IsAtRoot}
-use Rattle.task_code_scalar.specs.declared.places.Places.{Places}
 use Rattle.task_code_scalar.proofs.Spelling.{emits-length}
-use Rattle.vector_codegen.specs.PhaseCode.{program}
+use Rattle.vector_codegen.specs.PhaseCode.{Part, program}
+use Rattle.vector_codegen.proofs.ProgramStanding.{parts-length}
 use Rattle.vector_codegen_laws.specs.Places.{places_of}
-use Rattle.vector_codegen.specs.Programs.{parts_from}
-use Rattle.hrv_compiler.specs.Compiled.{CompiledContents, IsCompiled}
+use Rattle.hrv_compiler.specs.Compiled.{CompiledContents}
+use Rattle.hrv_compiler.specs.inner.Held.{IsHeld}
 use Rattle.hrv_compiler.proofs.OutputBox.{root_output}
 
 module _ (pipeline : Pipeline) (schedule : Schedule) (boxes : Boxes) where
@@ -38,21 +38,23 @@ module _ (pipeline : Pipeline) (schedule : Schedule) (boxes : Boxes) where
   ]
   some_phases _ phases (Computed last before _ first second third rest there made) place func plan own l at = one_phase last first second third before (length first.updates) phases made
 
-some_code : (places : Places) (number : ℕ) (phases : List Phase) → 1 ≤ length phases → 1 ≤ length (program number (parts_from places number phases))
-some_code places number [] l = absurd (omega (arith, l))
-some_code places number (phase ∷ []) l = omega arith
-some_code places number (phase ∷ other ∷ others) l = omega arith
+some_code : (number : ℕ) (parts : List Part) → 1 ≤ length parts → 1 ≤ length (program number parts)
+some_code number [] l = absurd (omega (arith, l))
+some_code number (part ∷ []) l = omega arith
+some_code number (part ∷ other ∷ others) l = omega arith
 
-pub some_words : (own : CompiledContents) → IsCompiled own → 1 ≤ length own.words
+pub some_words : (own : CompiledContents) → IsHeld own → 1 ≤ length own.words
 some_words own rules =
-    let root = root_output own.pipeline own.schedule own.boxes rules.well_formed rules.accepted rules.inferred_is in
+    let root = root_output own.pipeline own.schedule own.boxes rules.compiled.well_formed rules.compiled.accepted rules.compiled.inferred_is in
     let words = rules.words_are in
     let phases = some_phases own.pipeline own.schedule own.boxes (length own.pipeline.funcs) words.phases words.are_lowered own.pipeline.output.func root.func root.plan root.own inside root.at_root in
-    let code = some_code (places_of own.pipeline own.schedule own.boxes.funcs own.boxes.layout) 0 words.phases phases in
-    let long = emits-length own.words (program 0 (parts_from (places_of own.pipeline own.schedule own.boxes.funcs own.boxes.layout) 0 words.phases)) words.is_program.emits in
+    let made = words.is_program in
+    let same = parts-length (places_of own.pipeline own.schedule own.boxes.funcs own.boxes.layout) 0 words.phases made.parts made.are_parts in
+    let code = some_code 0 made.parts (omega (arith, phases, same)) in
+    let long = emits-length own.words (program 0 made.parts) made.emits in
     omega (arith, code, long)
   where
     inside : own.pipeline.output.func < length own.pipeline.funcs
     inside =
-        let root = root_output own.pipeline own.schedule own.boxes rules.well_formed rules.accepted rules.inferred_is in
+        let root = root_output own.pipeline own.schedule own.boxes rules.compiled.well_formed rules.compiled.accepted rules.compiled.inferred_is in
         slice_get_within own.pipeline.funcs own.pipeline.output.func root.func root.at_root.func_is

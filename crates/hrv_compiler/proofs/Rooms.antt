@@ -1,5 +1,5 @@
 -- Phases that are lowered have registers, where no expression needs more than code is made for.
-use Rattle.std.proofs.Common.{◌≡◌, ℕ, ◌+◌, ◌*◌, ◌≤◌, Bool, true, false, List, [], ◌∷◌, map, Some, None, refl, sym, ap, subst, arith, inl, inr}
+use Rattle.std.proofs.Common.{◌≡◌, ℕ, ◌*◌, ◌≤◌, Bool, true, false, List, [], ◌∷◌, map, Some, None, refl, sym, ap, subst, arith, inl, inr}
 use Rattle.std.specs.Prelude.{◌||◌, nat_lt, if◌then◌else◌, Ok}
 use Rattle.std.specs.List.{AllByRecursion}
 use Rattle.std.proofs.lemmas.Bool.{leb-true, ltb-false}
@@ -16,9 +16,7 @@ use Rattle.vector_codegen_laws.specs.Places.{places_of}
 use Rattle.task_code_scalar.specs.Faults.{HasRoom, LieLow}
 use Rattle.lowering.specs.Sizes.{words_of}
 use Rattle.memory.specs.Addresses.{most_words}
-use Rattle.task_code_scalar.specs.declared.places.Places.{Places}
 use Rattle.vector_codegen.specs.Programs.{HasFewTasks, HasRegisters, IsTooLong, words_asked}
-use Rattle.vector_codegen.proofs.Lengths.{programs-are-short}
 use Rattle.bounds_weights.specs.Weight.{most_weight, weight}
 use Rattle.hrv_compiler.proofs.Low.{layout_is, own_few}
 
@@ -82,5 +80,5 @@ asked (phase ∷ phases) = omega (arith, asked phases)
 pub ask_for_few : (pipeline : Pipeline) (schedule : Schedule) → weight pipeline schedule ≤ most_weight → (phases : List Phase) → words_of phases ≤ 64 * weight pipeline schedule → words_asked phases ≤ most_words
 ask_for_few pipeline schedule light phases few = let e = asked phases in omega (arith, light, few, e)
 
-pub not_long : (places : Places) (phases : List Phase) → AllByRecursion HasFewTasks phases → words_asked phases ≤ most_words → IsTooLong places 0 phases → ⊥
-not_long places phases tasks few long = let l = long tasks in let s = programs-are-short places 0 phases in omega (arith, l, s, few)
+pub not_long : (phases : List Phase) → AllByRecursion HasFewTasks phases → words_asked phases ≤ most_words → IsTooLong phases → ⊥
+not_long phases tasks few long = let l = long tasks in omega (arith, l, few)

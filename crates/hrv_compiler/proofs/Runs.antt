@@ -17,13 +17,15 @@ use Rattle.vector_codegen_laws.specs.Runs.{IsOneRun}
 use Rattle.vector_codegen_laws.specs.Sharing.{IsOwnedIn}
 use Rattle.vector_codegen_laws.specs.Stages.{StagePlace, stages}
 use Rattle.hrv_compiler.specs.Assigned.{byte_of_point}
-use Rattle.hrv_compiler.specs.Compiled.{CompiledContents, IsCompiled}
+use Rattle.hrv_compiler.specs.Compiled.{CompiledContents}
+use Rattle.hrv_compiler.specs.inner.Held.{IsHeld}
 use Rattle.hrv_compiler.specs.Correct.{opening}
 use Rattle.hrv_compiler.specs.Images.{ArePictures, image_of}
 use Rattle.hrv_compiler.specs.Runs.{IsInVectors, WritesWholeRuns}
 use Rattle.hrv_compiler.proofs.Correct.{last, bytes, IsSharedSo, shared, steps, goes, begins}
 
-module _ (own : CompiledContents) (rules : IsCompiled own) (pictures : List PictureContents) (none : judged own.pipeline.inputs pictures ≡ None) (are : ArePictures pictures) (place : ℕ)
+module _ (own : CompiledContents) (rules : IsHeld own) (pictures : List PictureContents) (none : judged own.pipeline.inputs pictures ≡ None)
+    (are : ArePictures pictures) (place : ℕ)
     (is : IsInVectors own place) (harts : ℕ) (some_harts : 0 < harts) (few_harts : harts ≤ 8) (turns : List ℕ) (hart : ℕ) where
   abbrev written : List ℕ
   written = written_next (run (opening (image_of own pictures) harts) turns) hart
@@ -70,7 +72,8 @@ module _ (own : CompiledContents) (rules : IsCompiled own) (pictures : List Pict
       | inr owner ↦ by_owner owner
     ]
 
-pub writes-whole-runs : (own : CompiledContents) → IsCompiled own → (pictures : List PictureContents) → judged own.pipeline.inputs pictures ≡ None → ArePictures pictures
+pub writes-whole-runs : (own : CompiledContents) → IsHeld own → (pictures : List PictureContents) → judged own.pipeline.inputs pictures ≡ None
+    → ArePictures pictures
     → WritesWholeRuns own (image_of own pictures)
 writes-whole-runs own rules pictures none are place is harts some_harts few_harts turns hart x y byte column row small hit =
     one_run own rules pictures none are place is harts some_harts few_harts turns hart x y byte column row small hit

@@ -1,6 +1,6 @@
--- What was compiled: a pipeline under a schedule that was accepted for it, and the words of its phases.
--- This project's own.
-use Rattle.std.specs.Prelude.{◌≡◌, ℕ, ◌+◌, ◌*◌, ◌-◌, List, length, slice_get, slice_index, Option, Some, None, Ok}
+-- What was compiled: a pipeline under a schedule that was accepted for it, the boxes of both, and words. What images of these words do is said
+-- of each image that is made (Correct.antt, Assigned.antt, Runs.antt). This project's own.
+use Rattle.std.specs.Prelude.{◌≡◌, ℕ, ◌+◌, ◌*◌, ◌-◌, List, slice_get, slice_index, Option, Some, None, Ok}
 use Rattle.std.specs.declared.alloc.Global.{Global}
 use Rattle.halide_pipeline.specs.Pipelines.{Pipeline}
 use Rattle.halide_pipeline.specs.WellFormed.{IsWellFormed}
@@ -14,10 +14,6 @@ use Rattle.bounds.specs.Boxes.{box_in, extent}
 use Rattle.bounds.specs.Verdict.{inferred}
 use Rattle.bounds_ranges.specs.Ranges.{origin}
 use Rattle.loader.specs.declared.outputs.Output.{Output}
-use Rattle.loop_ir.specs.declared.statements.Phase.{Phase}
-use Rattle.lowering.specs.Lowered.{AreLowered}
-use Rattle.vector_codegen_laws.specs.Places.{places_of}
-use Rattle.vector_codegen.specs.Programs.{IsProgram}
 
 pub record CompiledContents : Type 0 where
   pub pipeline : Pipeline
@@ -26,18 +22,11 @@ pub record CompiledContents : Type 0 where
   -- the machine's text, whose first word is the entry
   pub words : List ℕ
 
--- The words are those of the phases of a pipeline under a schedule.
-pub record AreWordsOf (pipeline : Pipeline) (schedule : Schedule) (boxes : Boxes) (words : List ℕ) : Type 0 where
-  pub phases : List Phase
-  pub are_lowered : AreLowered pipeline schedule boxes (length pipeline.funcs) phases
-  pub is_program : IsProgram (places_of pipeline schedule boxes.funcs boxes.layout) phases words
-
--- The schedule was accepted for the pipeline, the boxes were inferred for both, and the words are those of their phases.
+-- The schedule was accepted for the pipeline, and the boxes were inferred for both.
 pub record IsCompiled (own : CompiledContents) : Type 0 where
   pub well_formed : IsWellFormed own.pipeline
   pub accepted : IsAccepted own.pipeline own.schedule
   pub inferred_is : inferred own.pipeline own.schedule ≡ Ok own.boxes
-  pub words_are : AreWordsOf own.pipeline own.schedule own.boxes own.words
 
 -- It is what these texts mean.
 pub record Means (alloc : Global) (algorithm schedule : List ℕ) (own : CompiledContents) : Type 0 where

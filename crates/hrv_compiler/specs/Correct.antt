@@ -1,7 +1,8 @@
 -- What an image does, however many harts there are and whatever list says which hart makes the next turn: a schedule changes speed and never
 -- pixels.
 --
--- Only the algorithm's pixels, the image, and the run of the machine from it are named here; nothing of loops, boxes or code.
+-- Only the algorithm's pixels, the image, the run of the machine from it, and how many phases there are, by which the words of control are
+-- counted, are named here; nothing of schedules, loops, boxes or code.
 -- This project's own.
 use Rattle.std.specs.Prelude.{◌≡◌, ◌<◌, ◌≤◌, ◌⊎◌, ℕ, ◌+◌, ◌-◌, ◌*◌, true, List, ◌++◌, length, slice_get, Option, Some, None}
 use Rattle.std.specs.List.{concat}
@@ -10,7 +11,7 @@ use Rattle.hart_core.specs.declared.harts.Status.TheVariants.{Finished}
 use Rattle.hart_core.specs.HartState.{HartState}
 use Rattle.multi_hart.specs.Finished.{all_finished}
 use Rattle.multi_hart.specs.Run.{State, opened, run}
-use Rattle.vector_codegen_sharing.specs.Turns.{gate_word, NoTrap, Name, OnlyBy, Waits, are_rounds, times_written, control_words, Race}
+use Rattle.vector_codegen_sharing.specs.Turns.{arrived, gate_word, NoTrap, Name, OnlyBy, Waits, are_rounds, times_written, control_words, Race}
 use Rattle.halide_pipeline.specs.Pipelines.{Pipeline}
 use Rattle.halide_pipeline.specs.Picture.{PictureContents}
 use Rattle.halide_pipeline.specs.Pixel.{output_pixel}
@@ -56,12 +57,15 @@ pub record IsCorrect (pipeline : Pipeline) (pictures : List PictureContents) (ph
       → all_finished (run (opening image harts) (turns ++ concat rounds)) ≡ true)
   -- each hart writes each gate word at most once
   pub gates_once : (turns : List ℕ) (phase hart : ℕ) → phase < phases → times_written hart (gate_word phase) (opening image harts) turns ≤ 1
+  -- no gate word falls: a hart that waits there is counted from then on, whatever turns follow
+  pub gates_grow : (turns more : List ℕ) (phase : ℕ) → phase < phases
+      → arrived (run (opening image harts) turns) phase ≤ arrived (run (opening image harts) (turns ++ more)) phase
   -- from everywhere a hart that is given turns alone finishes, or waits at the gate of a phase that isn't the last
   pub stops_alone : (turns : List ℕ) (hart : ℕ) → hart < harts
       → (more : List ℕ) × OnlyBy hart more
       × (Waits (phases - 1) hart (opening image harts) (turns ++ more)
       ⊎ ((one : HartState) → slice_get (run (opening image harts) (turns ++ more)).harts hart ≡ Some one → one.status ≡ Finished))
 
--- for every number of harts
+-- for 1 to 8 harts
 abbrev pub Correct : Pipeline → List PictureContents → ℕ → ImageContents → Type 0
 Correct pipeline pictures phases image = (harts : ℕ) → 0 < harts → harts ≤ 8 → IsCorrect pipeline pictures phases image harts

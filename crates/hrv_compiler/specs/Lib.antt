@@ -8,3 +8,4 @@ pub mod Images
 pub mod Outputs
 pub mod Runs
 pub mod Verdict
+pub mod inner

@@ -10,7 +10,8 @@ ghost use Rattle.memory.specs.Addresses.{most_words};
 ghost use Rattle.task_code_scalar.specs.Faults.{LieLow};
 ghost use Rattle.vector_codegen.specs.Programs.{HasFewTasks, HasRegisters, IsProgram, words_asked};
 ghost use Rattle.hrv_compiler.specs.declared.faults.CompileFault.TheVariants as faults;
-ghost use Rattle.hrv_compiler.specs.Compiled.{AreWordsOf, IsCompiled, Means};
+ghost use Rattle.hrv_compiler.specs.Compiled.{IsCompiled, Means};
+ghost use Rattle.hrv_compiler.specs.inner.Held.{AreWordsOf};
 ghost use Rattle.hrv_compiler.specs.Verdict as spec;
 
 use crate::compiled::Compiled;

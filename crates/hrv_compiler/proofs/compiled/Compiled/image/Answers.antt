@@ -3,7 +3,8 @@ use Rattle.halide_pipeline.specs.declared.definitions.Input.{Input}
 use Rattle.bounds.specs.Layout.{input_bytes, total}
 use Rattle.picture.specs.Evaluated.{judged}
 use Rattle.hrv_compiler.specs.Assigned.{IsAssigned}
-use Rattle.hrv_compiler.specs.Compiled.{CompiledContents, IsCompiled, output_of}
+use Rattle.hrv_compiler.specs.Compiled.{CompiledContents, output_of}
+use Rattle.hrv_compiler.specs.inner.Held.{IsHeld}
 use Rattle.hrv_compiler.specs.Correct.{Correct}
 use Rattle.hrv_compiler.specs.Data.{image_data}
 use Rattle.hrv_compiler.specs.Images.{image_of}
@@ -15,12 +16,12 @@ use Rattle.hrv_compiler.proofs.Runs.{writes-whole-runs}
 use Rattle.hrv_compiler.proofs.compiled.Compiled.image.Goals as goal
 
 pub image_data-requires-clause-low : goal.image_data-requires-clause-low
-image_data-requires-clause-low c = lies_low c.self.inside.pipeline c.self.inside.schedule c.self.inside.boxes c.self.invariant.inferred_is
+image_data-requires-clause-low c = lies_low c.self.inside.pipeline c.self.inside.schedule c.self.inside.boxes c.self.invariant.compiled.inferred_is
 
 pub image_data-requires-clause-room : goal.image_data-requires-clause-room
 image_data-requires-clause-room c =
     subst (λ (inputs : List Input). 8 * c.self.inside.boxes.layout.phases + total (map input_bytes inputs) ≤ c.self.inside.boxes.layout.size) (sym c.inputs-2.ensures.value)
-    (inputs_fit c.self.inside.pipeline c.self.inside.schedule c.self.inside.boxes c.self.invariant.inferred_is)
+    (inputs_fit c.self.inside.pipeline c.self.inside.schedule c.self.inside.boxes c.self.invariant.compiled.inferred_is)
 
 pub unwrap-requires : goal.unwrap-requires
 unwrap-requires c =
@@ -46,7 +47,7 @@ returns-clause-is c =
 
 pub returns-clause-correct : goal.returns-clause-correct
 returns-clause-correct c =
-    let rules = subst IsCompiled c.self.view_is c.self.invariant in
+    let rules = subst IsHeld c.self.view_is c.self.invariant in
     let none =
     subst (λ (own : CompiledContents). judged own.pipeline.inputs c.args.pictures.now ≡ None) c.self.view_is
     (ap (λ (inputs : List Input). judged inputs c.args.pictures.now) (sym c.inputs.ensures.value) ∙ (sym c.judge.ensures ∙ c.in_default.is)) in
@@ -55,7 +56,7 @@ returns-clause-correct c =
 
 pub returns-clause-assigned : goal.returns-clause-assigned
 returns-clause-assigned c =
-    let rules = subst IsCompiled c.self.view_is c.self.invariant in
+    let rules = subst IsHeld c.self.view_is c.self.invariant in
     let none =
     subst (λ (own : CompiledContents). judged own.pipeline.inputs c.args.pictures.now ≡ None) c.self.view_is
     (ap (λ (inputs : List Input). judged inputs c.args.pictures.now) (sym c.inputs.ensures.value) ∙ (sym c.judge.ensures ∙ c.in_default.is)) in
@@ -64,7 +65,7 @@ returns-clause-assigned c =
 
 pub returns-clause-runs : goal.returns-clause-runs
 returns-clause-runs c =
-    let rules = subst IsCompiled c.self.view_is c.self.invariant in
+    let rules = subst IsHeld c.self.view_is c.self.invariant in
     let none =
     subst (λ (own : CompiledContents). judged own.pipeline.inputs c.args.pictures.now ≡ None) c.self.view_is
     (ap (λ (inputs : List Input). judged inputs c.args.pictures.now) (sym c.inputs.ensures.value) ∙ (sym c.judge.ensures ∙ c.in_default.is)) in
