@@ -1,6 +1,7 @@
 //! Which forms a loop's body wants in registers: addresses, and numbers that take two instructions, those that are used
 //! most first. A guess, of which nothing is promised.
 
+use crate::bounds::{Bound, is_below};
 use crate::known::{Known, by_others};
 use crate::tests::number;
 use halide_pipeline::Source;
@@ -41,8 +42,16 @@ fn place_near(alloc: Global, found: &[Use], form: &Form) -> Result<Option<usize>
     Ok(None)
 }
 
-/// Counts so many uses of a form.
+/// Whether an instruction makes a form of nothing.
+fn is_small(form: &Form) -> bool {
+    form.sum.terms.len() == 0 && form.per_hart == 0 && fits(form.sum.number)
+}
+
+/// Counts so many uses of a form, unless an instruction makes it.
 fn count(alloc: Global, found: &mut Vec<Use>, form: Form, times: u32) -> Result<(), AllocError> {
+    if is_small(&form) {
+        return Ok(());
+    }
     match place_near(alloc, found.as_slice(), &form)? {
         Some(place) => {
             if place < found.len() {
@@ -69,35 +78,27 @@ fn sum_of(alloc: Global, e: &Expr) -> Result<Option<Linear>, AllocError> {
     }
 }
 
-/// Counts the address of a point whose indexes are sums.
+/// Counts the part of a point's address that is made of those of its indexes that are sums.
 fn count_point(
     alloc: Global,
     places: &Places,
     source: Source,
-    x: &Expr,
-    y: &Expr,
+    column: Option<Linear>,
+    row: Option<Linear>,
     found: &mut Vec<Use>,
 ) -> Result<(), AllocError> {
-    match sum_of(alloc, x)? {
-        None => Ok(()),
-        Some(column) => match sum_of(alloc, y)? {
-            None => Ok(()),
-            Some(row) => {
-                let place = place_of(places, source);
-                let form = point_form(alloc, &place, &column, &row)?;
-                count(alloc, found, form, 1)?;
-                Ok(())
-            }
-        },
-    }
+    let place = place_of(places, source);
+    let x = column.unwrap_or(Linear::of_number(alloc, 0));
+    let y = row.unwrap_or(Linear::of_number(alloc, 0));
+    let form = point_form(alloc, &place, &x, &y)?;
+    count(alloc, found, form, 1)?;
+    Ok(())
 }
 
-/// Counts a number that doesn't fit an immediate.
-fn count_number(alloc: Global, own: u32, found: &mut Vec<Use>) -> Result<(), AllocError> {
-    if fits(own) {
-        return Ok(());
-    }
-    count(alloc, found, number(alloc, own), 1)?;
+/// Counts a sum that is a value of its own.
+fn count_sum(alloc: Global, own: &Linear, found: &mut Vec<Use>) -> Result<(), AllocError> {
+    let sum = own.copy(alloc)?;
+    count(alloc, found, Form { sum, per_hart: 0 }, 1)?;
     Ok(())
 }
 
@@ -109,10 +110,13 @@ fn gather_expr(
 ) -> Result<(), AllocError> {
     match e {
         Expr::Number(n) => {
-            count_number(alloc, *n, found)?;
+            count(alloc, found, number(alloc, *n), 1)?;
             Ok(())
         }
-        Expr::Linear(_) => Ok(()),
+        Expr::Linear(own) => {
+            count_sum(alloc, own, found)?;
+            Ok(())
+        }
         Expr::Binary(_, a, b) => {
             gather_expr(alloc, places, a.get(), found)?;
             gather_expr(alloc, places, b.get(), found)?;
@@ -135,9 +139,15 @@ fn gather_expr(
             Ok(())
         }
         Expr::Load(source, x, y) => {
-            gather_expr(alloc, places, x.get(), found)?;
-            gather_expr(alloc, places, y.get(), found)?;
-            count_point(alloc, places, *source, x.get(), y.get(), found)?;
+            let column = sum_of(alloc, x.get())?;
+            let row = sum_of(alloc, y.get())?;
+            if column.is_none() {
+                gather_expr(alloc, places, x.get(), found)?;
+            }
+            if row.is_none() {
+                gather_expr(alloc, places, y.get(), found)?;
+            }
+            count_point(alloc, places, *source, column, row, found)?;
             Ok(())
         }
     }
@@ -151,7 +161,9 @@ fn gather_store(
 ) -> Result<(), AllocError> {
     gather_expr(alloc, places, &store.value, found)?;
     let source = Source::Func(store.func);
-    count_point(alloc, places, source, &store.x, &store.y, found)?;
+    let column = sum_of(alloc, &store.x)?;
+    let row = sum_of(alloc, &store.y)?;
+    count_point(alloc, places, source, column, row, found)?;
     Ok(())
 }
 
@@ -205,9 +217,28 @@ fn count_by_others(
     Ok(())
 }
 
+/// Counts the value of a split loop that is tested, where it isn't known to pass.
+fn count_tested(
+    alloc: Global,
+    known: &[Known],
+    bounds: &[Bound],
+    extent: u32,
+    found: &mut Vec<Use>,
+) -> Result<(), AllocError> {
+    for own in known {
+        let sum = own.sum.copy(alloc)?;
+        let form = Form { sum, per_hart: 0 };
+        if !is_below(&form, bounds, extent) {
+            count(alloc, found, form, 1)?;
+        }
+    }
+    Ok(())
+}
+
 fn gather(
     alloc: Global,
     places: &Places,
+    bounds: &[Bound],
     statement: &Stmt,
     found: &mut Vec<Use>,
 ) -> Result<(), AllocError> {
@@ -217,21 +248,27 @@ fn gather(
             Ok(())
         }
         Stmt::Sequence(first, second) => {
-            gather(alloc, places, first.get(), found)?;
-            gather(alloc, places, second.get(), found)?;
+            gather(alloc, places, bounds, first.get(), found)?;
+            gather(alloc, places, bounds, second.get(), found)?;
             Ok(())
         }
-        Stmt::For(counter, _, _, body) => {
+        Stmt::For(counter, count, _, body) => {
+            let mut within = bounds.to_vec(alloc)?;
+            within.push(Bound {
+                counter: *counter,
+                count: *count,
+            })?;
             let mut inner = Vec::new(alloc);
-            gather(alloc, places, body.get(), &mut inner)?;
+            gather(alloc, places, within.as_slice(), body.get(), &mut inner)?;
             count_at_zero(alloc, inner.as_slice(), *counter, found)?;
             Ok(())
         }
-        Stmt::Bind(counter, whole, _, body) => {
+        Stmt::Bind(counter, whole, extent, body) => {
             let mut inner = Vec::new(alloc);
-            gather(alloc, places, body.get(), &mut inner)?;
+            gather(alloc, places, bounds, body.get(), &mut inner)?;
             let known = split_sum(alloc, *counter, whole)?;
             count_by_others(alloc, inner.as_slice(), known.as_slice(), found)?;
+            count_tested(alloc, known.as_slice(), bounds, *extent, found)?;
             Ok(())
         }
     }
@@ -250,14 +287,19 @@ fn most_used(found: &[Use]) -> Option<usize> {
     best
 }
 
-/// The forms that a loop's body wants in registers, most used first.
+/// The forms that a loop's body wants in registers, most used first, where loop variables stay below these bounds.
 ///
 /// # Errors
 ///
 /// Memory ran out.
-pub fn wanted_forms(alloc: Global, places: &Places, body: &Stmt) -> Result<Vec<Form>, AllocError> {
+pub fn wanted_forms(
+    alloc: Global,
+    places: &Places,
+    bounds: &[Bound],
+    body: &Stmt,
+) -> Result<Vec<Form>, AllocError> {
     let mut found = Vec::new(alloc);
-    gather(alloc, places, body, &mut found)?;
+    gather(alloc, places, bounds, body, &mut found)?;
     let mut wanted = Vec::new(alloc);
     for _ in 0..found.len() {
         match most_used(found.as_slice()) {

@@ -1,0 +1,105 @@
+-- What is asked of a statement is asked of its parts, and what its parts do is what it does.
+use Rattle.std.proofs.Common.{◌≡◌, ℕ, ◌<◌, List, true, false, ap, ◌∙◌, sym, subst}
+use Rattle.std.specs.Prelude.{◌==◌, ◌&&◌, not, if◌then◌else◌, nat_lt}
+use Rattle.std.proofs.lemmas.Bool.{and_parts}
+use Rattle.rv_insn.specs.declared.instructions.Insn.{Insn}
+use Rattle.halide_pipeline.specs.Pixel.{Planes, reads_of}
+use Rattle.loop_ir.specs.declared.expressions.Counter.{Counter}
+use Rattle.loop_ir.specs.declared.statements.LoopKind.{LoopKind}
+use Rattle.loop_ir.specs.declared.statements.Stmt.{Stmt}
+use Rattle.loop_ir.specs.declared.statements.Stmt.TheVariants as s
+use Rattle.loop_ir.specs.declared.statements.Whole.{Whole}
+use Rattle.loop_ir.specs.Buffers.{Points}
+use Rattle.loop_ir.specs.Counters.{Values, with}
+use Rattle.loop_ir.specs.Rounds.{is_vectorized}
+use Rattle.loop_ir.specs.Runs.{Runs, runs, are_same, stores_in_runs}
+use Rattle.loop_ir.specs.Running.{whole_value}
+use Rattle.loop_ir.specs.Soundness.{every, is_sound}
+use Rattle.loop_ir.proofs.Runs.{runs_sequence, runs_for, runs_bind}
+use Rattle.loop_ir.proofs.Sound.{sound_sequence, sound_for, sound_bind}
+use Rattle.task_code_scalar.specs.Doing.{Setting, SoundIn, RunsIn}
+use Rattle.task_code_scalar.specs.Layout.{AreWords}
+use Rattle.task_code_scalar.proofs.Looping.{each-turn}
+use Rattle.task_code_registers.specs.Doing.{Did}
+
+-- ---- code that did something
+
+module _ {own : Setting} {code : List Insn} {f : ℕ → ℕ} {memory : List ℕ} {keeps_it : ℕ → Type 0} where
+  -- the same of fewer points, of as many turns, and of other buffers that are the same
+  pub did-is : {n k : ℕ} {funcs other : Planes} {stored fewer : Points} → n ≡ k → funcs ≡ other
+      → ((func x y : ℕ) → fewer func x y ≡ true → stored func x y ≡ true) → Did own code n f memory keeps_it funcs stored
+      → Did own code k f memory keeps_it other fewer
+  did-is {n} {k} {funcs} {other} {stored} {fewer} e g less a =
+      subst (λ i. Did own code i f memory keeps_it other fewer) e
+      (subst (λ p. Did own code n f memory keeps_it p fewer) g (record {
+        after = a.after;
+        left = a.left;
+        block = a.block;
+        keeps = a.keeps;
+        holds = a.holds;
+        elsewhere = a.elsewhere;
+        are_bytes = a.are_bytes;
+        writes = λ func x y byte at hit of stand. a.writes func x y byte at (less func x y hit) of stand;
+      }))
+
+-- ---- what is asked
+
+module _ (own : Setting) where
+  module _ (first second : Stmt) (values : Values) where
+    pub sound-first : SoundIn own (s.Sequence first second) values → SoundIn own first values
+    sound-first sound p words =
+        (and_parts (is_sound (reads_of own.inputs p) own.written own.loaded first values) (is_sound (reads_of own.inputs p) own.written own.loaded second values)
+        (sym (sound_sequence (reads_of own.inputs p) own.written own.loaded first second values) ∙ sound p words)).0
+
+    pub sound-second : SoundIn own (s.Sequence first second) values → SoundIn own second values
+    sound-second sound p words =
+        (and_parts (is_sound (reads_of own.inputs p) own.written own.loaded first values) (is_sound (reads_of own.inputs p) own.written own.loaded second values)
+        (sym (sound_sequence (reads_of own.inputs p) own.written own.loaded first second values) ∙ sound p words)).1
+
+    runs-both : RunsIn own (s.Sequence first second) values → (p : Planes) → AreWords p → (func : ℕ) → own.in_runs func ≡ true → (x y : ℕ)
+        → (stores_in_runs (reads_of own.inputs p) func x y (own.run func x y) first values ≡ true)
+        × (stores_in_runs (reads_of own.inputs p) func x y (own.run func x y) second values ≡ true)
+    runs-both sure p words func in_runs x y =
+        and_parts (stores_in_runs (reads_of own.inputs p) func x y (own.run func x y) first values)
+        (stores_in_runs (reads_of own.inputs p) func x y (own.run func x y) second values)
+        (sym (ap (λ (r : Runs). r.are_runs values) (runs_sequence (reads_of own.inputs p) func x y (own.run func x y) first second))
+        ∙ sure p words func in_runs x y)
+
+    pub runs-first : RunsIn own (s.Sequence first second) values → RunsIn own first values
+    runs-first sure p words func in_runs x y = (runs-both sure p words func in_runs x y).0
+
+    pub runs-second : RunsIn own (s.Sequence first second) values → RunsIn own second values
+    runs-second sure p words func in_runs x y = (runs-both sure p words func in_runs x y).1
+
+  module _ (counter : Counter) (count : ℕ) (kind : LoopKind) (body : Stmt) (values : Values) where
+    pub sound-each : SoundIn own (s.For counter count kind body) values → (i : ℕ) → i < count → SoundIn own body (with counter i values)
+    sound-each sound i less p words =
+        each-turn count (λ turn. is_sound (reads_of own.inputs p) own.written own.loaded body (with counter turn values))
+        (sym (sound_for (reads_of own.inputs p) own.written own.loaded counter count kind body values) ∙ sound p words) i less
+
+    -- iterations of a loop that is not vectorized store in runs as it does
+    pub runs-each : RunsIn own (s.For counter count kind body) values → is_vectorized kind ≡ false → (i : ℕ) → i < count
+        → RunsIn own body (with counter i values)
+    runs-each sure plain i less p words func in_runs x y =
+        let r = runs (reads_of own.inputs p) func x y (own.run func x y) body in
+        each-turn count (λ turn. r.are_runs (with counter turn values))
+        (sym (ap (λ t. if t && counter.func == func then are_same (every count (λ round. r.misses (with counter round values)))
+        (not (own.run func x y values)) else every count (λ turn. r.are_runs (with counter turn values))) plain)
+        ∙ sym (ap (λ (a : Runs). a.are_runs values) (runs_for (reads_of own.inputs p) func x y (own.run func x y) counter count kind body))
+        ∙ sure p words func in_runs x y) i less
+
+  module _ (counter : Counter) (whole : Whole) (extent : ℕ) (body : Stmt) (values : Values)
+      (passes : nat_lt (whole_value whole values) extent ≡ true) where
+    abbrev entered : Values
+    entered = with counter (whole_value whole values) values
+
+    pub sound-split : SoundIn own (s.Bind counter whole extent body) values → SoundIn own body entered
+    sound-split sound p words =
+        sym (ap (λ b. if b then is_sound (reads_of own.inputs p) own.written own.loaded body entered else true) passes)
+        ∙ sym (sound_bind (reads_of own.inputs p) own.written own.loaded counter whole extent body values) ∙ sound p words
+
+    pub runs-split : RunsIn own (s.Bind counter whole extent body) values → RunsIn own body entered
+    runs-split sure p words func in_runs x y =
+        sym (ap (λ b. if b then stores_in_runs (reads_of own.inputs p) func x y (own.run func x y) body entered else true) passes)
+        ∙ sym (ap (λ (r : Runs). r.are_runs values) (runs_bind (reads_of own.inputs p) func x y (own.run func x y) counter whole extent body))
+        ∙ sure p words func in_runs x y

@@ -1,0 +1,161 @@
+-- Split loops: their values as sums, and their bodies, under a test or not.
+use Rattle.std.proofs.Common.{◌≡◌, ℕ, ◌+◌, ◌*◌, ◌%◌, ◌^◌, ◌<◌, List, [], ◌∷◌, ◌++◌, Bool, true, false, refl, ap, ◌∙◌, sym, subst, arith}
+use Rattle.std.specs.Prelude.{if◌then◌else◌, nat_lt, is_some, IfSome, Option, Some, None}
+use Rattle.std.proofs.lemmas.Bool.{true≢false}
+use Rattle.std.proofs.lemmas.Bool.Decides.{nat_tests}
+use Rattle.halide_pipeline.specs.Words as word
+use Rattle.loop_ir.specs.declared.expressions.Counter.{Counter}
+use Rattle.loop_ir.specs.declared.expressions.Linear.{Linear}
+use Rattle.loop_ir.specs.declared.expressions.Term.{Term}
+use Rattle.loop_ir.specs.declared.statements.Stmt.{Stmt}
+use Rattle.loop_ir.specs.declared.statements.Stmt.TheVariants as s
+use Rattle.loop_ir.specs.declared.statements.Whole.{Whole}
+use Rattle.loop_ir.specs.Counters.{Values, with}
+use Rattle.loop_ir.specs.Expressions.{linear_value}
+use Rattle.loop_ir.specs.Running.{run, whole_value, at_most}
+use Rattle.loop_ir.proofs.Trees.{run_bind}
+use Rattle.task_code_scalar.specs.declared.places.Places.{Places}
+use Rattle.task_code_scalar.specs.Doing.{stored_points}
+use Rattle.task_code_scalar.proofs.Tracing.{hit, hit-bind}
+use Rattle.task_code_registers.specs.declared.scopes.Form.{Form}
+use Rattle.task_code_registers.specs.declared.scopes.Held.{Held}
+use Rattle.task_code_registers.specs.Holding.{mentions}
+use Rattle.task_code_registers.specs.Scopes.{form_value}
+use Rattle.task_code_loops.specs.declared.known.Known.{Known}
+use Rattle.task_code_loops.specs.Bounds.{IsBelow}
+use Rattle.task_code_loops.specs.Guarding.{GuardsWords, stored_if}
+use Rattle.task_code_loops.specs.Known.{AreKnown}
+use Rattle.task_code_loops.proofs.Knowledge.{knows-with}
+use Rattle.task_code_statements.specs.declared.contexts.Context.{Context}
+use Rattle.task_code_statements.specs.Contexts.{MeetsSum, Meets}
+use Rattle.task_code_statements.specs.Rewriting.{IsSameSum}
+use Rattle.task_code_statements.specs.Splits.{IsSplitSum}
+use Rattle.task_code_statements.specs.Statements.{EmitsStatement}
+use Rattle.task_code_statements.proofs.Following.{did-is, sound-split, runs-split}
+use Rattle.task_code_statements.proofs.Same.{form-sum}
+
+-- ---- values
+
+abbrev pub split_sum : Whole → Linear
+split_sum whole = record {
+  number = 0;
+  terms = (record { counter = whole.outer; stride = whole.factor }) ∷ (record { counter = whole.inner; stride = 1 }) ∷ [];
+}
+
+whole-split : (whole : Whole) (values : Values) → whole.last ≡ None → linear_value values (split_sum whole) ≡ whole_value whole values
+unfolding linear_value word.add word.multiply
+whole-split whole values none =
+    let product = values whole.outer * whole.factor in
+    let g : (0 + (product + (values whole.inner * 1 + 0))) % 2 ^ 32 ≡ (product % 2 ^ 32 + values whole.inner) % 2 ^ 32 = omega arith in
+    g ∙ ap (λ o. (at_most o (product % 2 ^ 32) + values whole.inner) % 2 ^ 32) (sym none)
+
+pub split-is : (context : Context) (known : List Known) (whole : Whole) (own made : Linear) → known ≡ context.known.items → own ≡ split_sum whole
+    → whole.last ≡ None → IsSameSum known own made → IsSplitSum context whole made
+split-is context known whole own made ek es none same = record {
+  value_is = λ values are.
+      same.value_is values (subst (λ k. AreKnown k values) (sym ek) are) ∙ ap (linear_value values) es ∙ whole-split whole values none;
+}
+
+whole-word : (whole : Whole) (values : Values) → whole_value whole values % 2 ^ 32 ≡ whole_value whole values
+unfolding word.add
+whole-word whole values = omega arith
+
+-- ---- bodies
+
+is-below : (a b : ℕ) → a < b → nat_lt a b ≡ true
+is-below a b l = grind (arith, nat_tests)
+
+module _ (places : Places) (scope : List Held) (context within : Context) (counter : Counter) (whole : Whole) (extent : ℕ) (body : Stmt) (sum : Linear)
+    (none : mentions counter scope ≡ false) (is : IsSplitSum context whole sum) (meets-sum : MeetsSum context counter sum within) where
+  abbrev own_form : Form
+  own_form = record { sum = sum; per_hart = 0 }
+
+  -- the form is the split loop's value
+  form-is : (hart : ℕ) (values : Values) → Meets context values → form_value hart values own_form ≡ whole_value whole values
+  form-is hart values meets = form-sum hart values sum ∙ is.value_is values meets.known
+
+  abbrev entered : Values → Values
+  entered values = with counter (whole_value whole values) values
+
+  -- with the variable at that value all is as known
+  meets-entered : (values : Values) → Meets context values → Meets within (entered values)
+  meets-entered values meets =
+      meets-sum.meets values (whole_value whole values) (whole-word whole values ∙ sym (is.value_is values meets.known)) meets
+
+  pub split-emits : (c0 c1 : List ℕ) → IsBelow context.bounds.items own_form extent → EmitsStatement c0 c1 places scope (Meets within) body
+      → EmitsStatement c0 c1 places scope (Meets context) (s.Bind counter whole extent body)
+  split-emits c0 c1 below x = record {
+    insns = x.insns;
+    emits = x.emits;
+    turns = λ values. x.turns (entered values);
+    does = λ own good at-places values holders meets sound sure f memory funcs holds knows.
+        let l : whole_value whole values < extent = subst (λ n. n < extent) (form-is own.world.hart values meets) (below own.world.hart values meets.below) in
+        let passes : nat_lt (whole_value whole values) extent ≡ true = is-below (whole_value whole values) extent l in
+        did-is refl
+        (sym (run_bind own.points own.inputs counter whole extent body values funcs
+        ∙ ap (λ t. if t then run own.points own.inputs body (entered values) funcs else funcs) passes))
+        (λ func i j h. sym (hit-bind own.points own.inputs func i j counter whole extent body values funcs
+        ∙ ap (λ t. if t then hit own.points own.inputs func i j body (entered values) funcs else false) passes) ∙ h)
+        (x.does own good at-places (entered values) holders (meets-entered values meets)
+        (sound-split own counter whole extent body values passes sound) (runs-split own counter whole extent body values passes sure) f memory funcs holds
+        (knows-with counter (whole_value whole values) own.world.hart scope values f none knows));
+  }
+
+  pub guarded-emits : (c0 c1 words : List ℕ) → (x : EmitsStatement [] words places scope (Meets within) body) → GuardsWords c0 c1 scope own_form extent words
+      → EmitsStatement c0 c1 places scope (Meets context) (s.Bind counter whole extent body)
+  guarded-emits c0 c1 words x guards =
+      let g = guards x.insns x.emits in
+      record {
+        insns = g.insns;
+        emits = g.emits;
+        turns = λ values. if nat_lt (whole_value whole values) extent then g.before + x.turns (entered values) else g.past;
+        does = λ own good at-places values holders meets sound sure f memory funcs holds knows.
+            let hart = own.world.hart in
+            let e = form-is hart values meets in
+            let done = g.does own hart values (x.turns (entered values)) (run own.points own.inputs body (entered values) funcs)
+            (stored_points own body (entered values) funcs) f memory funcs holders holds knows
+            (λ l h known.
+            let passes : nat_lt (whole_value whole values) extent ≡ true = is-below (whole_value whole values) extent (subst (λ n. n < extent) e l) in
+            x.does own good at-places (entered values) holders (meets-entered values meets)
+            (sound-split own counter whole extent body values passes sound) (runs-split own counter whole extent body values passes sure) h memory funcs holds
+            (knows-with counter (whole_value whole values) hart scope values h none known)) in
+            did-is (ap (λ n. if nat_lt n extent then g.before + x.turns (entered values) else g.past) e)
+            (ap (λ n. if nat_lt n extent then run own.points own.inputs body (entered values) funcs else funcs) e
+            ∙ sym (run_bind own.points own.inputs counter whole extent body values funcs))
+            (λ func i j h.
+            ap (λ n. stored_if (nat_lt n extent) (stored_points own body (entered values) funcs) func i j) e
+            ∙ sym (hit-bind own.points own.inputs func i j counter whole extent body values funcs) ∙ h)
+            done;
+      }
+
+-- ---- as the emitters call them
+
+pub two-terms : (first second : Term) (none one both : List Term) → none ≡ [] → one ≡ none ++ (first ∷ []) → both ≡ one ++ (second ∷ [])
+    → both ≡ first ∷ (second ∷ [])
+two-terms first second none one both e0 e1 e2 = e2 ∙ ap (λ l. l ++ (second ∷ [])) (e1 ∙ ap (λ l. l ++ (first ∷ [])) e0)
+
+pub is-none : (o : Option ℕ) (t : Bool) → t ≡ is_some o → t ≡ false → o ≡ None
+is-none None t e f = refl
+is-none (Some n) t e f = absurd (true≢false (sym e ∙ f))
+
+abbrev with_terms : List Term → Linear
+with_terms terms = record { number = 0; terms = terms }
+
+pub split-of : (context : Context) (known : List Known) (whole : Whole) (none one both : List Term) (made : Linear) (t : Bool)
+    → known ≡ context.known.items → none ≡ [] → one ≡ none ++ (record { counter = whole.outer; stride = whole.factor } ∷ [])
+    → both ≡ one ++ (record { counter = whole.inner; stride = 1 } ∷ []) → t ≡ is_some whole.last → t ≡ false
+    → IsSameSum known (record { number = 0; terms = both }) made → IsSplitSum context whole made
+split-of context known whole none one both made t ek e0 e1 e2 et ef same =
+    split-is context known whole (record { number = 0; terms = both }) made ek
+    (ap with_terms (two-terms (record { counter = whole.outer; stride = whole.factor }) (record { counter = whole.inner; stride = 1 }) none one both e0 e1 e2))
+    (is-none whole.last t et ef) same
+
+pub found-sum : (context : Context) (whole : Whole) (sum : Linear) (found : Option Linear) → found ≡ Some sum → IfSome found (IsSplitSum context whole)
+    → IsSplitSum context whole sum
+found-sum context whole sum found e is = subst (λ o. IfSome o (IsSplitSum context whole)) e is
+
+pub bind-arm : (places : Places) (scope : List Held) (is_so : Values → Type 0) (own : Stmt) (counter : Counter) (whole : Whole) (extent : ℕ) (body x : Stmt)
+    (c0 c1 : List ℕ) → own ≡ s.Bind counter whole extent body → x ≡ body → EmitsStatement c0 c1 places scope is_so (s.Bind counter whole extent x)
+    → EmitsStatement c0 c1 places scope is_so own
+bind-arm places scope is_so own counter whole extent body x c0 c1 is ex made =
+    subst (λ y. EmitsStatement c0 c1 places scope is_so y) (sym (is ∙ ap (s.Bind counter whole extent) (sym ex))) made

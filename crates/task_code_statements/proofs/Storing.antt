@@ -1,0 +1,102 @@
+-- A store by other loop variables than the known ones is that store.
+use Rattle.std.proofs.Common.{◌≡◌, ℕ, List, ◌++◌, Bool, length, refl, ap, ◌∙◌, sym, subst}
+use Rattle.std.specs.Prelude.{◌==◌, ◌&&◌, not}
+use Rattle.std.specs.List.{list_all}
+use Rattle.halide_pipeline.specs.Pixel.{Planes, Reads, reads_of}
+use Rattle.halide_pipeline.specs.Points.{Point}
+use Rattle.loop_ir.specs.declared.statements.Store.{Store}
+use Rattle.loop_ir.specs.declared.statements.Stmt.{Stmt}
+use Rattle.loop_ir.specs.declared.statements.Stmt.TheVariants as s
+use Rattle.loop_ir.specs.Buffers.{Points, put}
+use Rattle.loop_ir.specs.Counters.{Values}
+use Rattle.loop_ir.specs.Expressions.{value, loads}
+use Rattle.loop_ir.specs.Runs.{Runs}
+use Rattle.loop_ir.specs.Running.{run}
+use Rattle.loop_ir.specs.Soundness.{is_sound_store}
+use Rattle.loop_ir.proofs.Runs.{runs_store}
+use Rattle.loop_ir.proofs.Sound.{sound_store}
+use Rattle.loop_ir.proofs.Trees.{run_store}
+use Rattle.task_code_scalar.specs.declared.places.Places.{Places}
+use Rattle.task_code_scalar.specs.Doing.{Setting, SoundIn, RunsIn, stored_points}
+use Rattle.task_code_scalar.proofs.Tracing.{hit-store}
+use Rattle.task_code_registers.specs.declared.scopes.Held.{Held}
+use Rattle.task_code_loops.specs.declared.known.Known.{Known}
+use Rattle.task_code_loops.specs.Known.{AreKnown}
+use Rattle.task_code_values.specs.Storing.{MakesStore}
+use Rattle.task_code_statements.specs.declared.contexts.Context.{Context}
+use Rattle.task_code_statements.specs.Contexts.{Meets}
+use Rattle.task_code_statements.specs.Rewriting.{IsSameStore}
+use Rattle.task_code_statements.specs.Statements.{EmitsStatement}
+use Rattle.task_code_statements.proofs.Following.{did-is}
+
+module _ (known : List Known) (store made : Store) (is : IsSameStore known store made) (values : Values) (are : AreKnown known values) where
+  same-sound : (reads : Reads) (written : Points) (loaded : Point → Bool)
+      → is_sound_store reads written loaded made values ≡ is_sound_store reads written loaded store values
+  same-sound reads written loaded =
+      let x = value reads values store.x in
+      let y = value reads values store.y in
+      let one : written made.func (value reads values made.x) (value reads values made.y) ≡ written store.func x y =
+      ap (λ k. written k (value reads values made.x) (value reads values made.y)) is.func_is
+      ∙ ap (λ k. written store.func k (value reads values made.y)) (is.column.value_is reads values are)
+      ∙ ap (written store.func x) (is.row.value_is reads values are) in
+      ap (λ b. b && list_all loaded (loads reads values made.x ++ (loads reads values made.y ++ loads reads values made.value))) one
+      ∙ ap (λ l. written store.func x y && list_all loaded (l ++ (loads reads values made.y ++ loads reads values made.value))) (is.column.loads_are
+      reads values are)
+      ∙ ap (λ l. written store.func x y && list_all loaded (loads reads values store.x ++ (l ++ loads reads values made.value))) (is.row.loads_are reads
+      values are)
+      ∙ ap (λ l. written store.func x y && list_all loaded (loads reads values store.x ++ (loads reads values store.y ++ l))) (is.pixel.loads_are reads
+      values are)
+
+  module _ (own : Setting) where
+    sound-made : SoundIn own (s.Store store) values → SoundIn own (s.Store made) values
+    sound-made sound p words =
+        let reads = reads_of own.inputs p in
+        sound_store reads own.written own.loaded made values ∙ same-sound reads own.written own.loaded
+        ∙ sym (sound_store reads own.written own.loaded store values) ∙ sound p words
+
+    runs-made : RunsIn own (s.Store store) values → RunsIn own (s.Store made) values
+    runs-made sure p words func in_runs x y =
+        let reads = reads_of own.inputs p in
+        ap (λ (r : Runs). r.are_runs values) (runs_store reads func x y (own.run func x y) made)
+        ∙ ap (λ k. not (k == func)) is.func_is
+        ∙ sym (ap (λ (r : Runs). r.are_runs values) (runs_store reads func x y (own.run func x y) store))
+        ∙ sure p words func in_runs x y
+
+    run-made : (funcs : Planes) → run own.points own.inputs (s.Store made) values funcs ≡ run own.points own.inputs (s.Store store) values funcs
+    run-made funcs =
+        let reads = reads_of own.inputs funcs in
+        run_store own.points own.inputs made values funcs
+        ∙ ap (λ k. put own.points k (value reads values made.x) (value reads values made.y) (value reads values made.value) funcs) is.func_is
+        ∙ ap (λ k. put own.points store.func k (value reads values made.y) (value reads values made.value) funcs) (is.column.value_is reads values are)
+        ∙ ap (λ k. put own.points store.func (value reads values store.x) k (value reads values made.value) funcs) (is.row.value_is reads values are)
+        ∙ ap (λ k. put own.points store.func (value reads values store.x) (value reads values store.y) k funcs) (is.pixel.value_is reads values are)
+        ∙ sym (run_store own.points own.inputs store values funcs)
+
+    stored-made : (funcs : Planes) (func x y : ℕ)
+        → stored_points own (s.Store made) values funcs func x y ≡ stored_points own (s.Store store) values funcs func x y
+    stored-made funcs func x y =
+        let reads = reads_of own.inputs funcs in
+        hit-store own.points own.inputs func x y made values funcs
+        ∙ ap (λ k. k == func && (value reads values made.x == x && value reads values made.y == y)) is.func_is
+        ∙ ap (λ k. store.func == func && (k == x && value reads values made.y == y)) (is.column.value_is reads values are)
+        ∙ ap (λ k. store.func == func && (value reads values store.x == x && k == y)) (is.row.value_is reads values are)
+        ∙ sym (hit-store own.points own.inputs func x y store values funcs)
+
+pub store-emits : (places : Places) (scope : List Held) (context : Context) (known : List Known) (store made : Store) (c0 c1 : List ℕ)
+    → known ≡ context.known.items → IsSameStore known store made → MakesStore c0 c1 places scope made
+    → EmitsStatement c0 c1 places scope (Meets context) (s.Store store)
+store-emits places scope context known store made c0 c1 ek is x = record {
+  insns = x.insns;
+  emits = x.emits;
+  turns = λ values. length x.insns;
+  does = λ own good at values holders meets sound sure f memory funcs holds knows.
+      let are = subst (λ k. AreKnown k values) (sym ek) meets.known in
+      did-is refl (run-made known store made is values are own funcs)
+      (λ func i j hit. stored-made known store made is values are own funcs func i j ∙ hit)
+      (x.does own good at values (sound-made known store made is values are own sound) (runs-made known store made is values are own sure) holders f
+      memory funcs holds knows);
+}
+
+pub arm : (places : Places) (scope : List Held) (is_so : Values → Type 0) (own x : Stmt) (c0 c1 : List ℕ) → own ≡ x
+    → EmitsStatement c0 c1 places scope is_so x → EmitsStatement c0 c1 places scope is_so own
+arm places scope is_so own x c0 c1 is e = subst (λ y. EmitsStatement c0 c1 places scope is_so y) (sym is) e

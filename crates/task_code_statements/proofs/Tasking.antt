@@ -1,0 +1,128 @@
+-- What is so where a task begins, and what is left where it ends.
+use Rattle.std.proofs.Common.{◌≡◌, ℕ, ◌+◌, ◌^◌, ◌<◌, List, [], ◌∷◌, ◌++◌, length, refl, ◌∙◌, sym, subst, arith, inl, inr}
+use Rattle.std.specs.Prelude.{Option, Some, None}
+use Rattle.loop_ir.specs.declared.expressions.Counter.{Counter}
+use Rattle.loop_ir.specs.declared.statements.Phase.{Phase}
+use Rattle.loop_ir.specs.Counters.{no_values}
+use Rattle.loop_ir.specs.Running.{task_values}
+use Rattle.multi_hart_logic.specs.Alone.{World}
+use Rattle.multi_hart_logic.specs.Paths.{Line}
+use Rattle.multi_hart_logic.proofs.Paths.{block-then, line-then, stand-front, writes-first}
+use Rattle.task_code_scalar.specs.declared.places.Places.{Places}
+use Rattle.task_code_scalar.specs.Code.{literal}
+use Rattle.task_code_scalar.specs.Words.{Emits}
+use Rattle.task_code_scalar.proofs.Spelling.{emits_then}
+use Rattle.task_code_scalar.proofs.Values.{literal-sets}
+use Rattle.task_code_registers.specs.declared.scopes.Held.{Held}
+use Rattle.task_code_registers.specs.Scopes.{Knows, IsKept}
+use Rattle.task_code_loops.proofs.Knowledge.{variable-value}
+use Rattle.task_code_loops.specs.Bounds.{AreBelow}
+use Rattle.task_code_loops.specs.Known.{AreKnown}
+use Rattle.task_code_statements.specs.declared.contexts.Context.{Context}
+use Rattle.task_code_statements.specs.Contexts.{Meets, MeetsLoop, IsEmpty}
+use Rattle.task_code_statements.specs.Statements.{EmitsStatement}
+use Rattle.task_code_statements.specs.Tasks.{EmitsTask, Begins, drawn, restored}
+
+-- ---- the beginning
+
+empty-meets : (context : Context) → IsEmpty context → (values : Counter → ℕ) → Meets context values
+empty-meets context is values = record {
+  known = subst (λ k. AreKnown k values) (sym is.known) tt;
+  below = subst (λ b. AreBelow b values) (sym is.bounds) tt;
+}
+
+pub none-begins : (counter : Option Counter) (tasks : ℕ) (scope : List Held) (context : Context) → counter ≡ None → scope ≡ [] → IsEmpty context
+    → Begins counter tasks scope context
+none-begins counter tasks scope context ep es empty = subst (λ s. Begins counter tasks s context) (sym es) (record {
+  holders = tt;
+  knows = λ hart task f less zero number drawn. (zero, number);
+  meets = λ task less. empty-meets context empty (task_values counter task);
+})
+
+pub drawn-begins : (own : Option Counter) (tasks : ℕ) (counter : Counter) (scope : List Held) (outside context : Context) → own ≡ Some counter
+    → scope ≡ drawn counter → tasks < 2 ^ 32 → IsEmpty outside → MeetsLoop outside counter tasks context → Begins own tasks scope context
+drawn-begins own tasks counter scope outside context ep es small empty within = subst (λ s. Begins own tasks s context) (sym es) (record {
+  holders = (inl refl, (apart, tt));
+  knows = λ hart task f less zero number is.
+      subst (λ o. Knows hart (drawn counter) (task_values o task) f) (sym ep)
+      (is ∙ sym (variable-value counter hart task no_values (omega (arith, less, small))), (zero, number));
+  meets = λ task less.
+      subst (λ o. Meets context (task_values o task)) (sym ep) (within.meets no_values task less (empty-meets outside empty no_values));
+})
+  where
+    apart : (q : ℕ) → IsKept [] q → q ≡ 12 → ⊥
+    apart q kept e = omega (arith, kept, e)
+
+-- ---- the end
+
+module _ (w : World) (m : List ℕ) (l : length m ≡ w.size) where
+  record Restores (f : ℕ → ℕ) (ticket tasks : ℕ) : Type 0 where
+    pub after : ℕ → ℕ
+    pub line : Line w (restored ticket tasks) f m after m
+    pub ticket_is : after 13 ≡ ticket
+    pub gate_is : after 14 ≡ ticket + 4
+    pub one : after 15 ≡ 1
+    pub tasks_are : after 16 ≡ tasks
+    pub others : (q : ℕ) → q < 13 → after q ≡ f q
+
+  restores : (f : ℕ → ℕ) (ticket tasks : ℕ) → ticket + 4 < 2 ^ 32 → tasks < 2 ^ 32 → Restores f ticket tasks
+  restores f ticket tasks lt ls =
+      let i1 = literal-sets w m l f 13 ticket (omega arith) (omega arith) (omega (arith, lt)) in
+      let i2 = literal-sets w m l i1.after 14 (ticket + 4) (omega arith) (omega arith) lt in
+      let i3 = literal-sets w m l i2.after 15 1 (omega arith) (omega arith) (omega arith) in
+      let i4 = literal-sets w m l i3.after 16 tasks (omega arith) (omega arith) ls in
+      record {
+        after = i4.after;
+        line = line-then w (literal 13 ticket) (literal 14 (ticket + 4) ++ (literal 15 1 ++ literal 16 tasks)) f i1.after i4.after m m m i1.line
+            (line-then w (literal 14 (ticket + 4)) (literal 15 1 ++ literal 16 tasks) i1.after i2.after i4.after m m m i2.line
+            (line-then w (literal 15 1) (literal 16 tasks) i2.after i3.after i4.after m m m i3.line i4.line));
+        ticket_is = i4.others 13 (λ e. omega (arith, e)) ∙ i3.others 13 (λ e. omega (arith, e)) ∙ i2.others 13 (λ e. omega (arith, e)) ∙ i1.value;
+        gate_is = i4.others 14 (λ e. omega (arith, e)) ∙ i3.others 14 (λ e. omega (arith, e)) ∙ i2.value;
+        one = i4.others 15 (λ e. omega (arith, e)) ∙ i3.value;
+        tasks_are = i4.value;
+        others = λ q low.
+            i4.others q (λ e. omega (arith, e, low)) ∙ i3.others q (λ e. omega (arith, e, low)) ∙ i2.others q (λ e. omega (arith, e, low))
+            ∙ i1.others q (λ e. omega (arith, e, low));
+      }
+
+-- ---- a task
+
+kept-harts : (scope : List Held) → IsKept scope 10 × IsKept scope 11
+kept-harts [] = (inr (inl refl), inr (inr refl))
+kept-harts (own ∷ others) = let k = kept-harts others in (inr k.0, inr k.1)
+
+pub task-emits : (phase : Phase) (places : Places) (ticket : ℕ) (scope : List Held) (context : Context) (c0 c1 c2 : List ℕ) → ticket + 4 < 2 ^ 32
+    → phase.tasks < 2 ^ 32 → Begins phase.counter phase.tasks scope context → EmitsStatement c0 c1 places scope (Meets context) phase.body
+    → Emits c1 c2 (restored ticket phase.tasks) → EmitsTask c0 c2 phase places ticket
+task-emits phase places ticket scope context c0 c1 c2 lt ls begins x z =
+    let ends = restored ticket phase.tasks in
+    record {
+      insns = x.insns ++ ends;
+      emits = emits_then x.emits z;
+      does = record {
+        turns = λ task. x.turns (task_values phase.counter task) + length ends;
+        does = λ own good at-places task less sound sure f memory funcs holds is.
+            let values = task_values phase.counter task in
+            let knows = begins.knows own.world.hart task f less is.none is.number is.drawn in
+            let a = x.does own good at-places values begins.holders (begins.meets task less) sound sure f memory funcs holds knows in
+            let b = restores own.world a.left a.holds.size a.after ticket phase.tasks lt ls in
+            let k = kept-harts scope in
+            record {
+              after = b.after;
+              left = a.left;
+              block = block-then own.world x.insns ends (x.turns values) (length ends) f a.after b.after memory a.left a.left a.block b.line;
+              number = b.others 10 (omega arith) ∙ a.keeps 10 k.0 ∙ is.number;
+              all = b.others 11 (omega arith) ∙ a.keeps 11 k.1 ∙ is.all;
+              ticket_is = b.ticket_is;
+              gate_is = b.gate_is;
+              one = b.one;
+              tasks_are = b.tasks_are;
+              holds = a.holds;
+              elsewhere = a.elsewhere;
+              are_bytes = a.are_bytes;
+              writes = λ func x' y byte at stored of stand.
+                  writes-first own.world at (x.turns values) (length ends) f memory byte
+                  (a.writes func x' y byte at stored of (stand-front own.world.text at x.insns ends stand));
+            };
+      };
+    }

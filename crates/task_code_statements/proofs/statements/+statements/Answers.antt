@@ -1,0 +1,93 @@
+use Rattle.std.proofs.Common.{◌≡◌, ◌+◌, ◌^◌, ◌<◌, suc, sym, ◌∙◌, subst, arith}
+use Rattle.loop_ir.specs.declared.statements.Stmt.TheVariants as s
+use Rattle.task_code_registers.specs.declared.scopes.Form.{Form}
+use Rattle.task_code_loops.specs.Bounds.{IsBelow}
+use Rattle.task_code_loops.specs.Guarding.{GuardsWords}
+use Rattle.task_code_statements.specs.Contexts.{Meets}
+use Rattle.task_code_statements.specs.Laying.{LaysOut}
+use Rattle.task_code_statements.specs.Statements.{EmitsStatement}
+use Rattle.task_code_statements.proofs.Laying.{none-laid, one-laid, laid-emits, number-enters}
+use Rattle.task_code_statements.proofs.Nesting.{sequence-arm, none-emits, loop-arm, for-arm}
+use Rattle.task_code_statements.proofs.Splitting.{found-sum, split-emits, guarded-emits, bind-arm}
+use Rattle.task_code_statements.proofs.Storing.{arm}
+use Rattle.task_code_statements.proofs.statements.+statements.Goals as goal
+
+pub emit_statement-returns-in_ok-emit_known_store-in-Store : goal.emit_statement-returns-in_ok-emit_known_store-in-Store
+emit_statement-returns-in_ok-emit_known_store-in-Store t c =
+    arm c.args.places.now c.args.scope.now (Meets c.args.context.now) c.args.statement.now (s.Store c.in-Store.store) _ _ c.in-Store.is
+    c.in_ok-emit_known_store-in-Store.ensures
+
+pub emit_statement-returns-in_ok-emit_statement-in-Sequence-2 : goal.emit_statement-returns-in_ok-emit_statement-in-Sequence-2
+emit_statement-returns-in_ok-emit_statement-in-Sequence-2 t c =
+    sequence-arm c.args.places.now c.args.scope.now (Meets c.args.context.now) c.args.statement.now c.in-Sequence.first c.in-Sequence.second c.get.result.now
+    c.get-in-Sequence.result.now _ _ _ c.in-Sequence.is c.get.ensures c.get-in-Sequence.ensures c.in_ok-emit_statement-in-Sequence.ensures
+    c.in_ok-emit_statement-in-Sequence-2.ensures
+
+pub emit_statement-returns-then-is_laid_out : goal.emit_statement-returns-then-is_laid_out
+emit_statement-returns-then-is_laid_out t c =
+    for-arm c.args.places.now c.args.scope.now (Meets c.args.context.now) c.args.statement.now c.in-For.counter c.in-For.count c.in-For.kind c.in-For.body
+    c.get-then-is_laid_out.result.now _ _ c.in-For.is c.get-then-is_laid_out.ensures (c.is_laid_out.ensures c.if-is_laid_out.true)
+    c.in_ok-emit_laid_out-in-For.ensures
+
+pub emit_statement-returns-then-is_serial : goal.emit_statement-returns-then-is_serial
+emit_statement-returns-then-is_serial t c =
+    for-arm c.args.places.now c.args.scope.now (Meets c.args.context.now) c.args.statement.now c.in-For.counter c.in-For.count c.in-For.kind c.in-For.body
+    c.get-then-is_serial.result.now _ _ c.in-For.is c.get-then-is_serial.ensures (c.is_serial.ensures c.if-is_serial.true) c.in_ok-emit_loop-in-For.ensures
+
+pub emit_statement-returns-in_ok-emit_split-in-Bind : goal.emit_statement-returns-in_ok-emit_split-in-Bind
+emit_statement-returns-in_ok-emit_split-in-Bind t c =
+    bind-arm c.args.places.now c.args.scope.now (Meets c.args.context.now) c.args.statement.now c.in-Bind.counter c.in-Bind.whole c.in-Bind.extent c.in-Bind.body
+    c.get-in-Bind.result.now _ _ c.in-Bind.is c.get-in-Bind.ensures c.in_ok-emit_split-in-Bind.ensures
+
+pub emit_loop-returns-then-own-eq0 : goal.emit_loop-returns-then-own-eq0
+emit_loop-returns-then-own-eq0 t c = λ kind plain.
+    none-emits c.args.places.now c.args.scope.now (Meets c.args.context.now) c.args.own.counter c.args.own.count kind c.args.body.now _ c.if-own-eq0.true
+
+pub emit_loop-returns : goal.emit_loop-returns
+emit_loop-returns t c = λ kind plain.
+    loop-arm c.args.places.now c.args.scope.now (Meets c.args.context.now) (Meets c.in_ok-inner.inner) c.args.own.counter c.args.own.count kind c.args.body.now
+    c.in_ok-begun.begun c.as_slice-2.result.now _ _ c.len-start.result _ _ _ _ plain c.in_ok-inner.ensures.meets c.in_ok-begun.ensures.steady
+    c.in_ok-begun.ensures.ok c.as_slice-2.ensures.value (c.len-start.ensures ∙ c.begin.new.code.ok.0) c.in_ok-emit_statement.ensures c.in_ok-end_loop.ensures.ok
+
+pub emit_laid_out-loop-iteration-init : goal.emit_laid_out-loop-iteration-init
+emit_laid_out-loop-iteration-init t c =
+    none-laid c.args.places.now c.args.scope.now (Meets c.args.context.now) c.args.own.counter c.args.body.now _
+
+pub emit_laid_out-loop-iteration-preserved : goal.emit_laid_out-loop-iteration-preserved
+emit_laid_out-loop-iteration-preserved t c =
+    let k = c.loop-iteration.iteration in
+    let more : suc k ≡ k + 1 = omega arith in
+    let small : k < 2 ^ 32 = omega arith in
+    let so = Meets c.args.context.now in
+    subst (λ n. LaysOut c.args.code.now.items c.emit_statement.new.code.items c.args.places.now c.args.scope.now so c.args.own.counter c.args.body.now n) more
+    (one-laid c.args.places.now c.args.scope.now so c.args.own.counter c.args.body.now k (Meets c.in_ok-inner.inner) _ _ _
+    (sym c.mentions.ensures ∙ c.if-mentions.false)
+    (number-enters c.args.context.now c.in_ok-inner.inner c.args.own.counter k c.of_number-number.result small c.of_number-number.ensures.value
+    c.in_ok-inner.ensures) c.loop-iteration.invariant c.in_ok-emit_statement.ensures)
+
+pub emit_laid_out-returns : goal.emit_laid_out-returns
+emit_laid_out-returns t c = λ kind plain.
+    let all : c.loop-iteration.iteration ≡ c.args.own.count = omega arith in
+    let so = Meets c.args.context.now in
+    laid-emits c.args.places.now c.args.scope.now so c.args.own.counter c.args.body.now c.args.own.count kind _ _ plain
+    (subst (λ n. LaysOut c.args.code.now.items c.loop-iteration.code.items c.args.places.now c.args.scope.now so c.args.own.counter c.args.body.now n) all
+    c.loop-iteration.invariant)
+
+pub emit_split-returns-then-is_below : goal.emit_split-returns-then-is_below
+emit_split-returns-then-is_below t c =
+    split-emits c.args.places.now c.args.scope.now c.args.context.now c.in_ok-inner-in-Some.inner c.args.split.counter c.args.split.whole c.args.split.extent
+    c.args.body.now c.in-Some.sum (sym c.mentions.ensures ∙ c.if-mentions.false)
+    (found-sum c.args.context.now c.args.split.whole c.in-Some.sum _ c.in-Some.is c.in_ok-split_sum.ensures) c.in_ok-inner-in-Some.ensures _ _
+    (subst (λ b. IsBelow b (record { sum = c.in-Some.sum; per_hart = 0 }) c.args.split.extent) c.as_slice.ensures.value (c.is_below.ensures c.if-is_below.true))
+    c.in_ok-emit_statement-in-Some.ensures
+
+pub emit_split-returns-in_ok-emit_guarded-in-Some : goal.emit_split-returns-in_ok-emit_guarded-in-Some
+emit_split-returns-in_ok-emit_guarded-in-Some t c =
+    let form : Form = record { sum = c.in-Some.sum; per_hart = 0 } in
+    guarded-emits c.args.places.now c.args.scope.now c.args.context.now c.in_ok-inner-in-Some.inner c.args.split.counter c.args.split.whole c.args.split.extent
+    c.args.body.now c.in-Some.sum (sym c.mentions.ensures ∙ c.if-mentions.false)
+    (found-sum c.args.context.now c.args.split.whole c.in-Some.sum _ c.in-Some.is c.in_ok-split_sum.ensures) c.in_ok-inner-in-Some.ensures _ _ _
+    (subst (λ old. EmitsStatement old c.emit_statement-in-Some.new.code.items c.args.places.now c.args.scope.now (Meets c.in_ok-inner-in-Some.inner)
+    c.args.body.now) c.new-words.ensures.items c.in_ok-emit_statement-in-Some-2.ensures)
+    (subst (λ words. GuardsWords c.args.code.now.items c.emit_guarded.new.code.items c.args.scope.now form c.args.split.extent words)
+    c.as_slice-in-Some.ensures.value c.in_ok-emit_guarded-in-Some.ensures.ok)

@@ -1,0 +1,21 @@
+-- The size of the statement; a loop and a split loop are made of their bodies.
+use Rattle.std.proofs.Common.{suc, ◌*◌}
+use Rattle.task_code_statements.specs.Contexts.{Meets}
+use Rattle.task_code_statements.specs.Laying.{LaysOut}
+use Rattle.task_code_statements.proofs.statements.+statements.Given as goal
+
+abbrev pub decreases-emit_statement : goal.decreases-emit_statement
+decreases-emit_statement l = 2 * goal.size-emit_statement l
+
+abbrev pub decreases-emit_loop : goal.decreases-emit_loop
+decreases-emit_loop l = suc (2 * goal.size-emit_loop l)
+
+abbrev pub decreases-emit_laid_out : goal.decreases-emit_laid_out
+decreases-emit_laid_out l = suc (2 * goal.size-emit_laid_out l)
+
+abbrev pub decreases-emit_split : goal.decreases-emit_split
+decreases-emit_split l = suc (2 * goal.size-emit_split l)
+
+abbrev pub invariant-emit_laid_out-loop-iteration : goal.invariant-emit_laid_out-loop-iteration
+invariant-emit_laid_out-loop-iteration l =
+    LaysOut l.fn.code.items l.code.items l.places l.scope (Meets l.context) l.own.counter l.body l.iteration

@@ -1,0 +1,31 @@
+-- Iterations that are laid out, each with code of its own. This project's own.
+use Rattle.std.specs.Prelude.{ℕ, ◌≡◌, ◌<◌, false, List}
+use Rattle.rv_insn.specs.declared.instructions.Insn.{Insn}
+use Rattle.halide_pipeline.specs.Pixel.{Planes}
+use Rattle.loop_ir.specs.declared.expressions.Counter.{Counter}
+use Rattle.loop_ir.specs.declared.statements.Stmt.{Stmt}
+use Rattle.loop_ir.specs.Buffers.{Points}
+use Rattle.loop_ir.specs.Counters.{Values, with}
+use Rattle.loop_ir.specs.Running.{run, turns as iterated}
+use Rattle.loop_ir.specs.Stores.{trace}
+use Rattle.task_code_scalar.specs.declared.places.Places.{Places}
+use Rattle.task_code_scalar.specs.Doing.{Setting, IsSetting, SoundIn, RunsIn}
+use Rattle.task_code_scalar.specs.Words.{Emits}
+use Rattle.task_code_registers.specs.declared.scopes.Held.{Held}
+use Rattle.task_code_registers.specs.Scopes.{AreHolders}
+use Rattle.task_code_loops.specs.Guarding.{DoesFirst}
+
+-- the points at which the first so many iterations store
+abbrev pub stored_before : Setting → Counter → Stmt → Values → ℕ → Planes → Points
+stored_before own counter body values count funcs func x y =
+    (iterated count (λ turn. trace own.points own.inputs func x y body (with counter turn values)) (record { funcs = funcs; is_stored = false })).is_stored
+
+-- Appended code does a loop's first so many iterations, wherever registers hold the scope's forms and something is so of loop variables.
+pub record LaysOut (old new : List ℕ) (places : Places) (scope : List Held) (is_so : Values → Type 0) (counter : Counter) (body : Stmt) (count : ℕ) : Type 0 where
+  pub insns : List Insn
+  pub emits : Emits old new insns
+  pub turns : Values → ℕ
+  pub does : (own : Setting) → IsSetting own → own.places ≡ places → (values : Values) → AreHolders scope → is_so values
+      → ((i : ℕ) → i < count → SoundIn own body (with counter i values)) → ((i : ℕ) → i < count → RunsIn own body (with counter i values))
+      → DoesFirst own own.world.hart scope values count insns (turns values)
+      (λ i p. run own.points own.inputs body (with counter i values) p) (stored_before own counter body values)

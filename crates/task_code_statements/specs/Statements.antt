@@ -1,0 +1,33 @@
+-- What appended code does of a statement, whatever its instructions are. This project's own.
+use Rattle.std.specs.Prelude.{ℕ, ◌≡◌, false, List}
+use Rattle.rv_insn.specs.declared.instructions.Insn.{Insn}
+use Rattle.halide_pipeline.specs.Pixel.{Planes}
+use Rattle.loop_ir.specs.declared.expressions.Counter.{Counter}
+use Rattle.loop_ir.specs.declared.statements.LoopKind.{LoopKind}
+use Rattle.loop_ir.specs.declared.statements.Stmt.{Stmt}
+use Rattle.loop_ir.specs.declared.statements.Stmt.TheVariants as statements
+use Rattle.loop_ir.specs.Counters.{Values}
+use Rattle.loop_ir.specs.Rounds.{is_vectorized}
+use Rattle.loop_ir.specs.Running.{run}
+use Rattle.task_code_scalar.specs.declared.places.Places.{Places}
+use Rattle.task_code_scalar.specs.Doing.{Setting, IsSetting, SoundIn, RunsIn, HoldsFuncs, stored_points}
+use Rattle.task_code_scalar.specs.Words.{Emits}
+use Rattle.task_code_registers.specs.declared.scopes.Held.{Held}
+use Rattle.task_code_registers.specs.Doing.{Did}
+use Rattle.task_code_registers.specs.Scopes.{Knows, AreHolders, IsKept}
+
+-- Appended code does a statement, wherever registers hold the scope's forms and something is so of loop variables, and keeps these registers. In how
+-- many turns hangs on the values of loop variables alone.
+pub record EmitsStatement (old new : List ℕ) (places : Places) (scope : List Held) (is_so : Values → Type 0) (statement : Stmt) : Type 0 where
+  pub insns : List Insn
+  pub emits : Emits old new insns
+  pub turns : Values → ℕ
+  pub does : (own : Setting) → IsSetting own → own.places ≡ places → (values : Values) → AreHolders scope → is_so values
+      → SoundIn own statement values → RunsIn own statement values
+      → (f : ℕ → ℕ) (memory : List ℕ) (funcs : Planes) → HoldsFuncs own memory funcs → Knows own.world.hart scope values f
+      → Did own insns (turns values) f memory (IsKept scope) (run own.points own.inputs statement values funcs) (stored_points own statement values funcs)
+
+-- so it is of a loop that isn't vectorized, of whichever kind it is
+abbrev pub EmitsLoop : List ℕ → List ℕ → Places → List Held → (Values → Type 0) → Counter → ℕ → Stmt → Type 0
+EmitsLoop old new places scope is_so counter count body =
+    (kind : LoopKind) → is_vectorized kind ≡ false → EmitsStatement old new places scope is_so (statements.For counter count kind body)

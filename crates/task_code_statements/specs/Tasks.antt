@@ -1,0 +1,78 @@
+-- What instructions do that do each task of a phase, wherever they stand: what the phase's statement does for that task; and they leave the numbers
+-- that the draw and the gate look for. Which instructions they are isn't said. This project's own.
+use Rattle.std.specs.Prelude.{◌≡◌, ◌<◌, ℕ, ◌+◌, true, List, [], ◌∷◌, ◌++◌, Option}
+use Rattle.rv_insn.specs.declared.instructions.Insn.{Insn}
+use Rattle.memory.specs.Addresses.{byte_at, AreBytes}
+use Rattle.halide_pipeline.specs.Pixel.{Planes}
+use Rattle.loop_ir.specs.declared.expressions.Counter.{Counter}
+use Rattle.loop_ir.specs.declared.statements.Phase.{Phase}
+use Rattle.loop_ir.specs.Running.{run_task, task_values}
+use Rattle.loop_ir.specs.Stores.{is_stored_by_task}
+use Rattle.multi_hart_logic.specs.Paths.{Stand, Block, Writes}
+use Rattle.task_code_scalar.specs.declared.places.Places.{Places}
+use Rattle.task_code_scalar.specs.Code.{literal}
+use Rattle.task_code_scalar.specs.Layout.{IsOf, IsElsewhere}
+use Rattle.task_code_scalar.specs.Doing.{Setting, IsSetting, SoundIn, RunsIn, HoldsFuncs}
+use Rattle.task_code_scalar.specs.Words.{Emits}
+use Rattle.task_code_registers.specs.declared.scopes.Held.{Held}
+use Rattle.task_code_registers.specs.Registers.{zero_register, hart_number}
+use Rattle.task_code_registers.specs.Scopes.{Knows, AreHolders}
+use Rattle.task_code_loops.specs.Beginning.{variable}
+use Rattle.task_code_statements.specs.declared.contexts.Context.{Context}
+use Rattle.task_code_statements.specs.Contexts.{Meets}
+
+-- where a task begins: its number was drawn
+pub record HasDrawn (own : Setting) (task : ℕ) (f : ℕ → ℕ) : Type 0 where
+  pub none : f 0 ≡ 0
+  pub number : f 10 ≡ own.world.hart
+  pub all : f 11 ≡ own.harts
+  pub drawn : f 12 ≡ task
+
+-- The instructions come to their end in so many turns, and memory holds what the task leaves.
+pub record TaskEnds (own : Setting) (phase : Phase) (insns : List Insn) (turns ticket task : ℕ) (f : ℕ → ℕ) (memory : List ℕ) (funcs : Planes) : Type 0 where
+  pub after : ℕ → ℕ
+  pub left : List ℕ
+  pub block : Block own.world insns turns f memory after left
+  pub number : after 10 ≡ own.world.hart
+  pub all : after 11 ≡ own.harts
+  pub ticket_is : after 13 ≡ ticket
+  pub gate_is : after 14 ≡ ticket + 4
+  pub one : after 15 ≡ 1
+  pub tasks_are : after 16 ≡ phase.tasks
+  pub holds : HoldsFuncs own left (run_task own.points own.inputs phase task funcs)
+  pub elsewhere : (byte : ℕ) → IsElsewhere own.world own.places own.written byte → byte_at own.world.text left byte ≡ byte_at own.world.text memory byte
+  pub are_bytes : AreBytes memory → AreBytes left
+  -- every byte of a point at which the task stores is written
+  pub writes : (func x y byte at : ℕ) → is_stored_by_task own.points own.inputs phase task func x y funcs ≡ true → IsOf own.world own.places func x y byte
+      → Stand own.world.text at insns → Writes own.world at turns f memory byte
+
+-- These instructions do each task of the phase, wherever they stand, in turns that hang on the task alone.
+pub record DoesTask (places : Places) (phase : Phase) (ticket : ℕ) (insns : List Insn) : Type 0 where
+  pub turns : ℕ → ℕ
+  pub does : (own : Setting) → IsSetting own → own.places ≡ places → (task : ℕ) → task < phase.tasks
+      → SoundIn own phase.body (task_values phase.counter task) → RunsIn own phase.body (task_values phase.counter task)
+      → (f : ℕ → ℕ) (memory : List ℕ) (funcs : Planes) → HoldsFuncs own memory funcs → HasDrawn own task f
+      → TaskEnds own phase insns (turns task) ticket task f memory funcs
+
+-- words of such instructions are appended
+pub record EmitsTask (old new : List ℕ) (phase : Phase) (places : Places) (ticket : ℕ) : Type 0 where
+  pub insns : List Insn
+  pub emits : Emits old new insns
+  pub does : DoesTask places phase ticket insns
+
+-- what leaves the numbers that the draw and the gate look for: the addresses of the ticket and of the gate, 1, and the number of tasks
+abbrev pub restored : ℕ → ℕ → List Insn
+restored ticket tasks = literal 13 ticket ++ (literal 14 (ticket + 4) ++ (literal 15 1 ++ literal 16 tasks))
+
+-- ---- where a task begins
+
+-- x12 holds its number
+abbrev pub drawn : Counter → List Held
+drawn counter = record { register = 12; form = variable counter } ∷ []
+
+-- Where the number of one of so many tasks is drawn registers hold the scope's forms, and loop variables are as known.
+pub record Begins (counter : Option Counter) (tasks : ℕ) (scope : List Held) (context : Context) : Type 0 where
+  pub holders : AreHolders scope
+  pub knows : (hart task : ℕ) (f : ℕ → ℕ) → task < tasks → f zero_register ≡ 0 → f hart_number ≡ hart → f 12 ≡ task
+      → Knows hart scope (task_values counter task) f
+  pub meets : (task : ℕ) → task < tasks → Meets context (task_values counter task)

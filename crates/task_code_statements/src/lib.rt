@@ -1,0 +1,13 @@
+//! The machine code of statements and of tasks, over what registers hold. Contracts say what the appended code does, and
+//! not which instructions it has.
+//!
+//! - [`contexts`]: what is known of loop variables while code runs (`specs/Contexts.antt`).
+//! - [`rewriting`]: stores by the loop variables that aren't known (`specs/Rewriting.antt`).
+//! - [`statements`]: appends what does a statement, with forms that registers hold (`specs/Statements.antt`).
+//! - [`tasks`]: appends what does one task of a phase (`specs/Tasks.antt`).
+#![tactic(auto)]
+
+pub mod contexts;
+pub mod rewriting;
+pub mod statements;
+pub mod tasks;

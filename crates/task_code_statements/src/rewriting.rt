@@ -1,0 +1,92 @@
+//! Stores by the loop variables that aren't known.
+
+ghost use Rattle.std.specs.Prelude.{◌≡◌, IfOk};
+ghost use Rattle.task_code_statements.specs.Rewriting.{IsSameExpr, IsSameStore, IsSameSum};
+
+use loop_ir::expressions::{Expr, Linear};
+use loop_ir::statements::Store;
+use sqlite_items::Boxed;
+use std::alloc::{AllocError, Global};
+use task_code_loops::known::{Known, by_others};
+use task_code_registers::scopes::Form;
+
+/// A sum by other loop variables than the known ones.
+pub fn sum_by_others(alloc: Global, own: &Linear, known: &[Known]) -> Result<Linear, AllocError>
+    ensures { IfOk result (IsSameSum known.now own.now) }
+{
+    let sum = own.copy(alloc)?;
+    let form = Form { sum, per_hart: 0 };
+    let made = by_others(alloc, &form, known)?;
+    Ok(made.sum)
+}
+
+/// So it is with an expression behind a pointer.
+#[cycle(rewriting)]
+fn part_by_others(alloc: Global, e: &Expr, known: &[Known]) -> Result<Boxed<Expr>, AllocError>
+    ensures { IfOk result (IsSameExpr known.now e.now) }
+{
+    let made = by_other_variables(alloc, e, known)?;
+    let boxed = Boxed::new(alloc, made)?;
+    Ok(boxed)
+}
+
+/// An expression by other loop variables than the known ones.
+///
+/// # Errors
+///
+/// Memory ran out.
+#[cycle(rewriting)]
+pub fn by_other_variables(alloc: Global, e: &Expr, known: &[Known]) -> Result<Expr, AllocError>
+    ensures { IfOk result (IsSameExpr known.now e.now) }
+{
+    match e {
+        Expr::Number(n) => Ok(Expr::Number(*n)),
+        Expr::Linear(own) => {
+            let sum = sum_by_others(alloc, own, known)?;
+            Ok(Expr::Linear(sum))
+        }
+        Expr::Binary(operation, a, b) => {
+            let first = part_by_others(alloc, a.get(), known)?;
+            let second = part_by_others(alloc, b.get(), known)?;
+            Ok(Expr::Binary(*operation, first, second))
+        }
+        Expr::Divide(a, divisor) => {
+            let first = part_by_others(alloc, a.get(), known)?;
+            Ok(Expr::Divide(first, *divisor))
+        }
+        Expr::Remainder(a, divisor) => {
+            let first = part_by_others(alloc, a.get(), known)?;
+            Ok(Expr::Remainder(first, *divisor))
+        }
+        Expr::Select(c, a, b) => {
+            let condition = part_by_others(alloc, c.get(), known)?;
+            let first = part_by_others(alloc, a.get(), known)?;
+            let second = part_by_others(alloc, b.get(), known)?;
+            Ok(Expr::Select(condition, first, second))
+        }
+        Expr::Load(source, x, y) => {
+            let column = part_by_others(alloc, x.get(), known)?;
+            let row = part_by_others(alloc, y.get(), known)?;
+            Ok(Expr::Load(*source, column, row))
+        }
+    }
+}
+
+/// A store by other loop variables than the known ones.
+///
+/// # Errors
+///
+/// Memory ran out.
+pub fn store_by_others(alloc: Global, store: &Store, known: &[Known]) -> Result<Store, AllocError>
+    ensures { IfOk result (IsSameStore known.now store.now) }
+{
+    let x = by_other_variables(alloc, &store.x, known)?;
+    let y = by_other_variables(alloc, &store.y, known)?;
+    let value = by_other_variables(alloc, &store.value, known)?;
+    Ok(Store {
+        func: store.func,
+        x,
+        y,
+        value,
+    })
+}

@@ -1,0 +1,321 @@
+//! The code of statements, with forms that registers hold.
+
+ghost use Rattle.std.specs.Prelude.{◌≡◌, ◌≤◌, IfOk, IfSome, OnOk, false, true};
+ghost use Rattle.loop_ir.specs.declared.statements.Stmt.TheVariants as stmts;
+ghost use Rattle.loop_ir.specs.Rounds.{is_vectorized};
+ghost use Rattle.task_code_registers.specs.Holding as holding;
+ghost use Rattle.task_code_loops.specs.Beginning.{Begins};
+ghost use Rattle.task_code_statements.specs.Contexts.{Meets};
+ghost use Rattle.task_code_statements.specs.Splits.{IsSplitSum};
+ghost use Rattle.task_code_statements.specs.Statements.{EmitsLoop, EmitsStatement};
+
+use crate::contexts::{Context, has_term, in_loop, with_sum};
+use crate::rewriting::{store_by_others, sum_by_others};
+use loop_ir::expressions::{Counter, Linear, Term};
+use loop_ir::statements::{LoopKind, Stmt, Store, Whole};
+use sqlite_items::Items;
+use std::alloc::{AllocError, Global};
+use task_code_loops::beginning::{Begun, begin_loop};
+use task_code_loops::bounds::{Bound, is_below};
+use task_code_loops::ending::end_loop;
+use task_code_loops::guards::emit_guarded;
+use task_code_loops::known::by_others;
+use task_code_loops::wanted::wanted_forms;
+use task_code_registers::scopes::{Form, Held};
+use task_code_scalar::CodeFault;
+use task_code_scalar::places::Places;
+use task_code_values::stores::emit_store;
+
+/// How many words a text may have.
+const MOST_WORDS: usize = 1 << 18;
+
+/// A loop variable that stands for a split loop, and the number below which its body is run.
+#[derive(Clone, Copy, Debug)]
+pub struct Split {
+    pub counter: Counter,
+    pub whole: Whole,
+    pub extent: u32,
+}
+
+// ---- stores
+
+/// Appends a store by the loop variables that aren't known.
+fn emit_known_store(
+    alloc: Global,
+    code: &mut Vec<u32>,
+    places: &Places,
+    scope: &[Held],
+    context: &Context,
+    store: &Store,
+) -> Result<(), CodeFault>
+    ensures { OnOk result (EmitsStatement code.old.items code.new.items places.now scope.now (Meets context.now)
+        (stmts.Store store.now)) }
+{
+    let made = store_by_others(alloc, store, context.known.as_slice())?;
+    emit_store(alloc, code, places, scope, &made)?;
+    Ok(())
+}
+
+// ---- loops
+
+/// Whether a form that some register holds has a term of a loop variable.
+fn mentions(scope: &[Held], counter: Counter) -> bool
+    ensures { result ≡ holding.mentions counter scope.now }
+{
+    match scope {
+        [] => false,
+        [first, others @ ..] => {
+            if has_term(first.form.sum.terms.as_slice(), counter) {
+                true
+            } else {
+                mentions(others, counter)
+            }
+        }
+    }
+}
+
+/// How many registers the loops of a statement ask for at once: one each, but for those that are laid out and for split
+/// loops whose values are sums.
+fn depth(statement: &Stmt) -> usize {
+    match statement {
+        Stmt::Store(_) => 0,
+        Stmt::Sequence(first, second) => {
+            let one = depth(first.get());
+            let other = depth(second.get());
+            if one < other { other } else { one }
+        }
+        Stmt::For(_, count, kind, body) => {
+            let own = usize::from(!is_laid_out(*kind, *count));
+            depth(body.get()).saturating_add(own)
+        }
+        Stmt::Bind(_, whole, _, body) => {
+            let own = usize::from(whole.last.is_some());
+            depth(body.get()).saturating_add(own)
+        }
+    }
+}
+
+/// The forms that a loop's body wants in registers, by the loop variables that aren't known.
+fn wanted_in(
+    alloc: Global,
+    places: &Places,
+    context: &Context,
+    body: &Stmt,
+) -> Result<Vec<Form>, AllocError> {
+    let found = wanted_forms(alloc, places, context.bounds.as_slice(), body)?;
+    let mut wanted = Vec::new(alloc);
+    for own in found.as_slice() {
+        let form = by_others(alloc, own, context.known.as_slice())?;
+        wanted.push(form)?;
+    }
+    Ok(wanted)
+}
+
+/// Appends what stands in front of a loop whose variable no held form has.
+fn begin(
+    alloc: Global,
+    code: &mut Vec<u32>,
+    scope: &[Held],
+    own: Bound,
+    wanted: &[Form],
+    reserved: usize,
+) -> Result<Begun, CodeFault>
+    requires { 1 ≤ own.count }
+    ensures ok { IfOk result (Begins code.old.items code.new.items wanted.now own.counter own.count scope.now reserved) }
+    ensures steady { OnOk result (holding.mentions own.counter scope.now ≡ false) }
+{
+    if mentions(scope, own.counter) || reserved >= 1 << 32 {
+        return Err(CodeFault::TooDeep);
+    }
+    let begun = begin_loop(alloc, code, scope, own.counter, own.count, wanted, reserved)?;
+    Ok(begun)
+}
+
+/// Whether each iteration has code of its own.
+fn is_laid_out(kind: LoopKind, count: u32) -> bool
+    ensures { result ≡ true → is_vectorized kind ≡ false }
+{
+    match kind {
+        LoopKind::Serial => count == 1,
+        LoopKind::Unrolled => true,
+        LoopKind::Vectorized => false,
+    }
+}
+
+/// Whether one iteration comes behind the other.
+fn is_serial(kind: LoopKind) -> bool
+    ensures { result ≡ true → is_vectorized kind ≡ false }
+{
+    match kind {
+        LoopKind::Serial => true,
+        LoopKind::Unrolled => false,
+        LoopKind::Vectorized => false,
+    }
+}
+
+// ---- split loops
+
+/// The value of a split loop as a sum of those of its two loops, unless a shift bounds it.
+fn split_sum(alloc: Global, context: &Context, whole: &Whole) -> Result<Option<Linear>, AllocError>
+    ensures { IfOk result (λ found. IfSome found (IsSplitSum context.now whole.now)) }
+{
+    if whole.last.is_some() {
+        return Ok(None);
+    }
+    let mut terms = Items::new(alloc);
+    terms.push(Term {
+        counter: whole.outer,
+        stride: whole.factor,
+    })?;
+    terms.push(Term {
+        counter: whole.inner,
+        stride: 1,
+    })?;
+    let own = Linear { number: 0, terms };
+    let sum = sum_by_others(alloc, &own, context.known.as_slice())?;
+    Ok(Some(sum))
+}
+
+// ---- statements
+
+/// Appends a loop whose iterations come one behind the other.
+#[cycle(statements)]
+fn emit_loop(
+    alloc: Global,
+    code: &mut Vec<u32>,
+    places: &Places,
+    scope: &[Held],
+    context: &Context,
+    own: Bound,
+    body: &Stmt,
+) -> Result<(), CodeFault>
+    ensures { OnOk result (EmitsLoop code.old.items code.new.items places.now scope.now (Meets context.now)
+        own.counter own.count body.now) }
+{
+    if own.count == 0 {
+        return Ok(());
+    }
+    let inner = in_loop(alloc, context, own)?;
+    let wanted = wanted_in(alloc, places, &inner, body)?;
+    let begun = begin(alloc, code, scope, own, wanted.as_slice(), depth(body))?;
+    let start = code.len();
+    emit_statement(alloc, code, places, begun.inner.as_slice(), &inner, body)?;
+    end_loop(code, &begun, start)?;
+    Ok(())
+}
+
+/// Appends the iterations of a loop, each with code of its own.
+#[cycle(statements)]
+fn emit_laid_out(
+    alloc: Global,
+    code: &mut Vec<u32>,
+    places: &Places,
+    scope: &[Held],
+    context: &Context,
+    own: Bound,
+    body: &Stmt,
+) -> Result<(), CodeFault>
+    ensures { OnOk result (EmitsLoop code.old.items code.new.items places.now scope.now (Meets context.now)
+        own.counter own.count body.now) }
+{
+    if mentions(scope, own.counter) {
+        return Err(CodeFault::TooDeep);
+    }
+    for iteration in 0..own.count {
+        if code.len() >= MOST_WORDS {
+            return Err(CodeFault::TooLong);
+        }
+        let number = Linear::of_number(alloc, iteration);
+        let inner = with_sum(alloc, context, own.counter, &number)?;
+        emit_statement(alloc, code, places, scope, &inner, body)?;
+    }
+    Ok(())
+}
+
+/// Appends the body of a split loop, under a test on its value where it isn't known that it passes.
+#[cycle(statements)]
+fn emit_split(
+    alloc: Global,
+    code: &mut Vec<u32>,
+    places: &Places,
+    scope: &[Held],
+    context: &Context,
+    split: Split,
+    body: &Stmt,
+) -> Result<(), CodeFault>
+    ensures { OnOk result (EmitsStatement code.old.items code.new.items places.now scope.now (Meets context.now)
+        (stmts.Bind split.counter split.whole split.extent body.now)) }
+{
+    match split_sum(alloc, context, &split.whole)? {
+        None => Err(CodeFault::TooDeep),
+        Some(sum) => {
+            if mentions(scope, split.counter) {
+                return Err(CodeFault::TooDeep);
+            }
+            let inner = with_sum(alloc, context, split.counter, &sum)?;
+            let form = Form { sum, per_hart: 0 };
+            if is_below(&form, context.bounds.as_slice(), split.extent) {
+                emit_statement(alloc, code, places, scope, &inner, body)?;
+                return Ok(());
+            }
+            let mut words = Vec::new(alloc);
+            emit_statement(alloc, &mut words, places, scope, &inner, body)?;
+            emit_guarded(alloc, code, scope, &form, split.extent, words.as_slice())?;
+            Ok(())
+        }
+    }
+}
+
+/// Appends the code of a statement, with forms in the registers that loops and expressions leave.
+///
+/// # Errors
+///
+/// Memory ran out, the code is too long, a loop is vectorized, registers do not suffice for this way of making code, or
+/// one loop variable stands for two loops.
+#[cycle(statements)]
+pub fn emit_statement(
+    alloc: Global,
+    code: &mut Vec<u32>,
+    places: &Places,
+    scope: &[Held],
+    context: &Context,
+    statement: &Stmt,
+) -> Result<(), CodeFault>
+    ensures { OnOk result (EmitsStatement code.old.items code.new.items places.now scope.now (Meets context.now) statement.now) }
+{
+    match statement {
+        Stmt::Store(store) => {
+            emit_known_store(alloc, code, places, scope, context, store)?;
+            Ok(())
+        }
+        Stmt::Sequence(first, second) => {
+            emit_statement(alloc, code, places, scope, context, first.get())?;
+            emit_statement(alloc, code, places, scope, context, second.get())?;
+            Ok(())
+        }
+        Stmt::For(counter, count, kind, body) => {
+            let own = Bound {
+                counter: *counter,
+                count: *count,
+            };
+            if is_laid_out(*kind, *count) {
+                emit_laid_out(alloc, code, places, scope, context, own, body.get())?;
+                return Ok(());
+            }
+            if is_serial(*kind) {
+                emit_loop(alloc, code, places, scope, context, own, body.get())?;
+                return Ok(());
+            }
+            Err(CodeFault::TooDeep)
+        }
+        Stmt::Bind(counter, whole, extent, body) => {
+            let split = Split {
+                counter: *counter,
+                whole: *whole,
+                extent: *extent,
+            };
+            emit_split(alloc, code, places, scope, context, split, body.get())?;
+            Ok(())
+        }
+    }
+}

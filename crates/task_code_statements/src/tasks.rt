@@ -1,0 +1,110 @@
+//! The code of one task of a phase.
+
+ghost use Rattle.std.specs.Prelude.{◌≡◌, ◌<◌, ◌+◌, ◌^◌, IfOk, OnOk};
+ghost use Rattle.task_code_scalar.specs.Words.{Emits};
+ghost use Rattle.task_code_statements.specs.Tasks as spec;
+ghost use Rattle.task_code_statements.specs.Tasks.{Begins, EmitsTask};
+
+use crate::contexts::{Context, in_loop, nothing_known};
+use crate::statements::emit_statement;
+use loop_ir::expressions::Counter;
+use loop_ir::statements::Phase;
+use std::alloc::{AllocError, Global};
+use task_code_loops::bounds::Bound;
+use task_code_loops::tests::variable;
+use task_code_registers::scopes::{Held, with_held};
+use task_code_scalar::CodeFault;
+use task_code_scalar::instructions::emit_literal;
+use task_code_scalar::places::Places;
+
+/// Where the number of the task stands that was drawn.
+const DRAWN: u8 = 12;
+/// Where the draw and the gate look for the address of the ticket, that of the gate, 1, and the number of tasks.
+const TICKET: u8 = 13;
+
+const GATE: u8 = 14;
+
+const ONE: u8 = 15;
+
+const TASKS: u8 = 16;
+
+/// What registers hold where a task begins, and what is known of its loop variable.
+#[derive(Debug, Drop)]
+struct Start {
+    scope: Vec<Held>,
+    context: Context,
+}
+
+/// A loop variable that stands at the task's number.
+fn with_drawn(alloc: Global, counter: Counter) -> Result<Vec<Held>, AllocError>
+    ensures { IfOk result (λ made. made.items ≡ spec.drawn counter) }
+{
+    let form = variable(alloc, counter)?;
+    let made = with_held(alloc, &[], DRAWN, &form)?;
+    Ok(made)
+}
+
+/// What is so where one of so many tasks begins.
+fn beginning(alloc: Global, counter: Option<Counter>, tasks: u32) -> Result<Start, CodeFault>
+    ensures { IfOk result (λ made. Begins counter tasks made.scope.items made.context) }
+{
+    match counter {
+        None => Ok(Start {
+            scope: Vec::new(alloc),
+            context: nothing_known(alloc),
+        }),
+        Some(counter) => {
+            let scope = with_drawn(alloc, counter)?;
+            let outside = nothing_known(alloc);
+            let own = Bound {
+                counter,
+                count: tasks,
+            };
+            let context = in_loop(alloc, &outside, own)?;
+            Ok(Start { scope, context })
+        }
+    }
+}
+
+/// Appends what leaves the numbers that the draw and the gate look for.
+fn emit_restored(code: &mut Vec<u32>, ticket: u32, tasks: u32) -> Result<(), AllocError>
+    requires { ticket + 4 < 2 ^ 32 }
+    ensures { OnOk result (Emits code.old.items code.new.items (spec.restored ticket tasks) × (tasks < 2 ^ 32)) }
+{
+    emit_literal(code, TICKET, ticket)?;
+    emit_literal(code, GATE, ticket + 4)?;
+    emit_literal(code, ONE, 1)?;
+    emit_literal(code, TASKS, tasks)?;
+    Ok(())
+}
+
+/// Appends the code of one task of a phase, with forms in the registers that loops and expressions leave.
+///
+/// It finds the task's number in x12 and the hart's in x10, and ends behind its last word, with the addresses of the
+/// ticket word and of the gate word behind it in x13 and x14, 1 in x15 and the number of tasks in x16.
+///
+/// # Errors
+///
+/// As of [`emit_statement`]. Some words may have been appended.
+pub fn emit_task(
+    alloc: Global,
+    phase: &Phase,
+    places: &Places,
+    ticket: u32,
+    code: &mut Vec<u32>,
+) -> Result<(), CodeFault>
+    requires { ticket + 4 < 2 ^ 32 }
+    ensures { OnOk result (EmitsTask code.old.items code.new.items phase.now places.now ticket) }
+{
+    let begun = beginning(alloc, phase.counter, phase.tasks)?;
+    emit_statement(
+        alloc,
+        code,
+        places,
+        begun.scope.as_slice(),
+        &begun.context,
+        &phase.body,
+    )?;
+    emit_restored(code, ticket, phase.tasks)?;
+    Ok(())
+}
