@@ -5,8 +5,10 @@ pub mod SpelledBack
 pub mod ReadBack
 pub mod Measures
 pub mod Levels
+pub mod Along
 pub mod Tables
 pub mod Outputs
 pub mod Fills
 pub mod Agrees
 pub mod Forward
+pub mod Joined

@@ -1,16 +1,17 @@
 //! The output of a pipeline.
 
-ghost use Rattle.std.specs.Prelude.{◌≡◌, ◌<◌, ◌≤◌, ◌+◌, ◌*◌, ◌/◌, ◌%◌, ◌^◌, ◌==◌, ◌&&◌, ℕ, Ok, Some, None, IfSome, OnOk, slice_get, IfOk, IfErr, true, length, nat_lt, slice_index};
+ghost use Rattle.std.specs.Prelude.{◌≡◌, ◌<◌, ◌≤◌, ◌+◌, ◌*◌, ◌/◌, ◌%◌, ◌^◌, ◌==◌, ◌&&◌, ℕ, Ok, Some, None, IfSome, OnOk, slice_get, IfOk, IfErr, true, length, nat_lt, slice_index, ℕ};
 ghost use Rattle.std.specs.List.{AllZip, list_all, range_with_len};
-ghost use Rattle.halide_pipeline.specs.Words as word;
+ghost use Rattle.halide_pipeline.specs.Pixel.{Plane};
 ghost use Rattle.picture.specs.Slices.{is_forward};
 ghost use Rattle.picture.specs.Evaluated.{is_size, are_sizes, holds_bytes, hold_bytes, judged, Evaluates};
-ghost use Rattle.picture.specs.inner.Evaluation.{plane_of, numbered_pixel, AreTables, AreTablesOf, AreKnownOf, AreSlicesOf, IsSliceOf, IsTable, IsAt};
+ghost use Rattle.picture.specs.inner.Evaluation.{plane_of, IsNumberedRow, AreNumberedRows, AreNumbered, AreTables, AreTablesOf, AreKnownOf, AreSlicesOf, IsSliceOf, IsTable, IsAt};
 
 use crate::boxes::{Bounds, Slices, Wanted, bounds_of, find, slices_of};
 use crate::faults::EvalError;
 use crate::pictures::Picture;
-use crate::plain::{func_at, is_forward, pixel, run_forward};
+use crate::plain::{func_at, is_forward, run_forward};
+use crate::row_values::pixel_row;
 use crate::scenes::{Known, Scene, Slice, Table};
 use halide_pipeline::{Func, Input, Pipeline, Update, words};
 use rayon::prelude::*;
@@ -82,54 +83,55 @@ pub fn judge(inputs: &[Input], pictures: &[Picture]) -> Option<EvalError>
     None
 }
 
-/// The pixel with this number in a box of the Func at a place, by rows.
-#[tactic(auto, unfolding(crate::specs::inner::Evaluation::numbered_pixel, halide_pipeline::specs::Words::add))]
-fn numbered(
+/// The pixels in the row with this number of a box of the Func at a place.
+fn numbered_row(
     alloc: Global,
     scene: &Scene,
     place: usize,
-    left: u32,
-    top: u32,
-    width: u32,
-    at: usize,
-) -> Result<u32, AllocError>
+    bounds: Bounds,
+    number: usize,
+) -> Result<Vec<u32>, AllocError>
     requires tables { AreTables scene.now }
-    requires wide { 0 < width }
-    ensures { IfOk result (λ pixel. pixel ≡ numbered_pixel (plane_of scene.now place) left top width at) }
+    ensures { IfOk result (λ row. IsNumberedRow (plane_of scene.now place) bounds.left bounds.top bounds.width number row.items) }
 {
-    let x = words::add(left, (at % width as usize) as u32);
-    let y = words::add(top, ((at / width as usize) % (1 << 32)) as u32);
-    let pixel = pixel(alloc, scene, place, x, y)?;
-    Ok(pixel)
+    let y = words::add(bounds.top, (number % (1 << 32)) as u32);
+    let row = pixel_row(alloc, scene, place, bounds.left, y, bounds.width as usize)?;
+    Ok(row)
 }
 
-/// The pixels of the Func at a place in a box, by rows, from as many threads as there are
-/// processors.
+/// The rows of the Func at a place in a box, from as many threads as there are processors.
 fn fill(
     rt: &(impl Threads + Sync),
     alloc: Global,
     scene: &Scene,
     place: usize,
-    left: u32,
-    top: u32,
-    width: u32,
-    height: u32,
-) -> Result<Vec<u32>, AllocError>
+    bounds: Bounds,
+) -> Result<Vec<Vec<u32>>, AllocError>
     requires tables { AreTables scene.now }
-    requires wide { 0 < width }
-    ensures { IfOk result (λ pixels. AllZip (λ at pixel. pixel ≡ numbered_pixel (plane_of scene.now place) left top width at) (range_with_len 0 (width * height)) pixels.items) }
+    ensures { IfOk result (λ rows. AllZip (λ number row. IsNumberedRow (plane_of scene.now place) bounds.left bounds.top bounds.width number row.items) (range_with_len 0 bounds.height) rows.items) }
 {
     let scene = *scene;
-    let pixels: Result<Vec<u32>, AllocError> = (0..width as usize * height as usize)
+    let rows: Result<Vec<Vec<u32>>, AllocError> = (0..bounds.height as usize)
         .into_par_iter()
         .map(
-            move |at: usize| -> Result<u32, AllocError>
-                requires { AreTables scene × (0 < width) }
-                ensures { IfOk result (λ pixel. pixel ≡ numbered_pixel (plane_of scene.entry place) left top width at) }
-            { numbered(alloc, &scene, place, left, top, width, at) },
+            move |number: usize| -> Result<Vec<u32>, AllocError>
+                requires { AreTables scene }
+                ensures { IfOk result (λ row. IsNumberedRow (plane_of scene.entry place) bounds.left bounds.top bounds.width number row.items) }
+            { numbered_row(alloc, &scene, place, bounds, number) },
         )
         .collect(rt, alloc)?;
-    pixels
+    rows
+}
+
+/// Rows one behind the other.
+fn joined(alloc: Global, rows: &[Vec<u32>]) -> Result<Vec<u32>, AllocError>
+    ensures { (plane : Plane) (left top width : ℕ) → AreNumberedRows plane left top width rows.now → IfOk result (λ pixels. AreNumbered plane left top width (length rows.now) pixels.items) }
+{
+    let mut pixels = Vec::new(alloc);
+    for row in rows {
+        pixels.extend_from_slice(row)?;
+    }
+    Ok(pixels)
 }
 
 /// The table of the Func at a place in a box.
@@ -145,18 +147,13 @@ fn tabulate(
     ensures table { IfOk result (IsTable (plane_of scene.now place)) }
     ensures bounds { IfOk result (IsAt bounds.left bounds.top bounds.width bounds.height) }
 {
-    let Bounds {
-        left,
-        top,
-        width,
-        height,
-    } = bounds;
-    let pixels = fill(rt, alloc, scene, place, left, top, width, height)?;
+    let rows = fill(rt, alloc, scene, place, bounds)?;
+    let pixels = joined(alloc, &rows)?;
     Ok(Table {
-        left,
-        top,
-        width,
-        height,
+        left: bounds.left,
+        top: bounds.top,
+        width: bounds.width,
+        height: bounds.height,
         pixels,
     })
 }

@@ -19,6 +19,8 @@ pub mod faults;
 pub mod pictures;
 mod plain;
 pub mod readings;
+mod row_reads;
+mod row_values;
 mod scenes;
 pub mod spellings;
 mod writes;

@@ -59,7 +59,7 @@ fn input_pixel(pictures: &[Picture], place: usize, x: u32, y: u32) -> u32
 }
 
 /// The product, which fits.
-fn product(a: u32, b: u32) -> u64
+pub(crate) fn product(a: u32, b: u32) -> u64
     ensures value { result ≡ a * b }
     ensures few { result + 2 ^ 32 < 2 ^ 64 }
 {
@@ -248,7 +248,7 @@ fn value(
 
 /// What a read answers in a definition of the Func at a place.
 #[cycle(pixel)]
-fn read(
+pub(crate) fn read(
     alloc: Global,
     scene: &Scene,
     own: usize,

@@ -1,7 +1,7 @@
 -- What the parts of the evaluator answer, in the words of `Pixel`. Nothing here is to be believed: the
 -- contract of `evaluate` doesn't speak of it.
 -- This project's own.
-use Rattle.std.specs.Prelude.{◌≡◌, ℕ, ◌+◌, ◌*◌, ◌/◌, ◌%◌, ◌^◌, ◌<◌, true, List, [], ◌∷◌, length, Option, Some, None, slice_get, slice_index}
+use Rattle.std.specs.Prelude.{◌≡◌, ℕ, ◌+◌, ◌*◌, ◌/◌, ◌%◌, ◌^◌, ◌<◌, true, List, [], ◌∷◌, length, Option, Some, None, slice_get, slice_index, Vec}
 use Rattle.halide_pipeline.specs.declared.expressions.Expr.{Expr}
 use Rattle.halide_pipeline.specs.declared.definitions.Update.{Update}
 use Rattle.halide_pipeline.specs.declared.definitions.Func.{Func}
@@ -16,6 +16,8 @@ use Rattle.picture.specs.declared.scenes.State.TheVariants as states
 use Rattle.halide_pipeline.specs.Picture.{PictureContents}
 use Rattle.picture.specs.Slices.{is_on}
 use Rattle.picture.specs.Writes.{written}
+use Rattle.picture_rows.specs.Rows.{AreValues}
+use Rattle.std.specs.declared.alloc.Global.{Global}
 use Rattle.halide_pipeline.specs.Pixel.{Plane, Planes, Reads, input_planes, reads_of, with_plane, after, stage, func_plane, pixels}
 
 -- ---- planes of a scene
@@ -87,6 +89,19 @@ IsState scene own (states.Forward updates number slice) = IsForward scene own up
 -- the pixel with this number in a box, by rows
 unfoldable pub numbered_pixel : Plane → ℕ → ℕ → ℕ → ℕ → ℕ
 numbered_pixel plane left top width at = plane (word.add left (at % width)) (word.add top (at / width))
+
+-- a row of a box, by its number
+abbrev pub IsNumberedRow : Plane → ℕ → ℕ → ℕ → ℕ → List ℕ → Type 0
+IsNumberedRow plane left top width number row = AreValues width (λ at. plane (word.add left at) (word.add top number)) row
+
+-- rows one below the other
+pub record AreNumberedRows (plane : Plane) (left top width : ℕ) (rows : List (Vec ℕ Global)) : Type 0 where
+  pub each : (number : ℕ) (row : Vec ℕ Global) → slice_get rows number ≡ Some row → IsNumberedRow plane left top width number row.items
+
+-- the pixels of so many rows
+pub record AreNumbered (plane : Plane) (left top width height : ℕ) (pixels : List ℕ) : Type 0 where
+  pub len : length pixels ≡ width * height
+  pub each : (at : ℕ) → at < length pixels → slice_index pixels at ≡ numbered_pixel plane left top width at
 
 -- a table has the pixels of this plane in its box
 pub record IsTable (plane : Plane) (table : Table) : Type 0 where

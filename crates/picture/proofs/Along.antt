@@ -1,0 +1,88 @@
+-- Rows of pictures and of tables, as far as they are known.
+use Rattle.std.proofs.Common.{◌≡◌, ◌∙◌, ℕ, ◌+◌, ◌*◌, ◌%◌, ◌^◌, ◌<◌, ◌≤◌, Some, List, Vec, length, get_or, sym, ap, subst, arith}
+use Rattle.std.proofs.Math.Nat.{mul-le-mul_right}
+use Rattle.std.proofs.lemmas.Bool.{lt-ltb}
+use Rattle.std.specs.Prelude.{nat_lt, true}
+use Rattle.std.specs.declared.alloc.Global.{Global}
+use Rattle.halide_pipeline.specs.Words as word
+use Rattle.halide_pipeline.specs.Picture.{PictureContents, pixel_at}
+use Rattle.halide_pipeline.specs.declared.expressions.Expr.{Expr}
+use Rattle.halide_pipeline.specs.declared.expressions.Expr.TheVariants as exprs
+use Rattle.halide_pipeline.specs.declared.expressions.Variable.{Variable}
+use Rattle.halide_pipeline.specs.Pixel.{Plane, Reads, at_point, input_plane, value, value_at, variable}
+use Rattle.halide_pipeline.proofs.Trees.{at_variable}
+use Rattle.picture.specs.declared.scenes.Table.{Table}
+use Rattle.picture.specs.inner.Evaluation.{IsTable}
+use Rattle.picture.proofs.Tables.{pixel_at_place}
+use Rattle.picture_rows.specs.Rows.{AreValues, IsRow, IsWindow}
+use Rattle.picture_rows.specs.declared.rows.Row.{Row}
+use Rattle.picture_rows.specs.declared.rows.Row.TheVariants as rows
+use Rattle.picture_rows.specs.declared.windows.Window.{Window}
+
+-- a window of one row is a window of any that answers the same
+pub window-of-same : (says other : ℕ → ℕ) (window : Window) → ((x : ℕ) → says x ≡ other x) → IsWindow says window → IsWindow other window
+window-of-same says other window same is = record {
+  few = is.few;
+  each = λ at less. is.each at less ∙ same (word.add window.first at);
+}
+
+-- values that are written down are a row's
+pub written-row : (width : ℕ) (says : ℕ → ℕ) (written : List ℕ) (values : Vec ℕ Global) → values.items ≡ written → AreValues width says written → IsRow width says (rows.Each values)
+written-row width says written values same are =
+    let all : AreValues width says values.items = subst (λ (items : List ℕ). AreValues width says items) (sym same) are in
+    record { len = all.len; each = all.each }
+
+-- ---- expressions
+
+pub variable-row : (reads : Reads) (left y width : ℕ) (e : Expr) (own : Variable) (row : Row) → e ≡ exprs.Variable own
+    → IsRow width (λ at. variable (at_point (word.add left at) y) own) row → IsRow width (λ at. value reads (at_point (word.add left at) y) e) row
+unfolding value
+variable-row reads left y width e own row e_is is = record {
+  len = is.len;
+  each = λ at less. is.each at less
+      ∙ sym (ap (value reads (at_point (word.add left at) y)) e_is ∙ at_variable ℕ (value_at reads (at_point (word.add left at) y)) own);
+}
+
+-- ---- pictures
+
+from-zero : (at : ℕ) → at < 2 ^ 32 → word.add 0 at ≡ at
+unfolding word.add
+from-zero at small = omega arith
+
+inside : (picture : PictureContents) (x y : ℕ) → x < picture.width → y < picture.height → input_plane (Some picture) x y ≡ pixel_at picture x y
+inside picture x y wide high =
+    let left : nat_lt x picture.width ≡ true = lt-ltb x picture.width wide in
+    let top : nat_lt y picture.height ≡ true = lt-ltb y picture.height high in
+    rw (left, top)
+
+pub picture-row : (picture : PictureContents) (y : ℕ) (window : Window) → y < picture.height → picture.width ≤ 2 ^ 32 → window.first ≡ 0
+    → AreValues picture.width (λ at. get_or picture.pixels (y * picture.width + at) 0) window.values.now → IsWindow (λ x. input_plane (Some picture) x y) window
+picture-row picture y window high few first are = record {
+  few = omega (arith, are.len);
+  each = λ at less.
+      let wide : at < picture.width = omega (arith, are.len, less) in
+      let here : word.add window.first at ≡ at = ap (λ (n : ℕ). word.add n at) first ∙ from-zero at (omega arith) in
+      are.each at wide ∙ sym (ap (λ (x : ℕ). input_plane (Some picture) x y) here ∙ inside picture at y wide high);
+}
+
+-- ---- tables
+
+back-from : (left at : ℕ) → left < 2 ^ 32 → at < 2 ^ 32 → at ≡ word.subtract (word.add left at) left
+unfolding word.add word.subtract
+back-from left at low small = omega arith
+
+is-word : (x y : ℕ) → word.add x y < 2 ^ 32
+unfolding word.add
+is-word x y = omega arith
+
+pub table-row : (plane : Plane) (table : Table) (y row from : ℕ) (window : Window) → IsTable plane table → y < 2 ^ 32 → table.left < 2 ^ 32 → table.top < 2 ^ 32
+    → table.width < 2 ^ 32 → row ≡ word.subtract y table.top → row < table.height → from ≡ row * table.width → window.first ≡ table.left
+    → AreValues table.width (λ at. get_or table.pixels.items (from + at) 0) window.values.now → IsWindow (λ x. plane x y) window
+table-row plane table y row from window is small_y small_left small_top small_width row_is high from_is first are = record {
+  few = omega (arith, are.len);
+  each = λ at less.
+      let wide : at < table.width = omega (arith, are.len, less) in
+      let there = pixel_at_place table plane (word.add table.left at) y at row (from + at) is (is-word table.left at) small_y small_left small_top
+      (back-from table.left at small_left (omega arith)) row_is wide high (ap (λ (n : ℕ). n + at) from_is) in
+      are.each at wide ∙ there.1 ∙ ap (λ (n : ℕ). plane (word.add n at) y) (sym first);
+}

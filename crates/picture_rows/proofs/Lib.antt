@@ -1,0 +1,3 @@
+pub mod InPlace
+pub mod Steps
+pub mod Columns

@@ -1,0 +1,59 @@
+//! Stretches of a row whose words are known.
+
+ghost use Rattle.std.specs.Prelude.{◌≡◌, ◌+◌, ◌<◌, ◌≤◌, ◌^◌, IfSome, ℕ, length, slice_index};
+ghost use Rattle.halide_pipeline.specs.Words as word;
+ghost use Rattle.picture_rows.specs.Rows.{AreValues, IsWindow};
+
+use halide_pipeline::words;
+
+/// So many words from a place on.
+pub fn stretch(values: &[u32], from: usize, count: usize) -> &[u32]
+    requires { from + count ≤ length values.now }
+    ensures { AreValues count (λ at. slice_index values.now (from + at)) result.now }
+{
+    let (_, values) = values.split_at(from);
+    let (values, _) = values.split_at(count);
+    values
+}
+
+/// Words that stand in a row, from a column on; the column is a word.
+#[derive(Clone, Copy)]
+pub struct Window<'a> {
+    pub first: u32,
+    pub values: &'a [u32],
+}
+
+impl<'a> Window<'a> {
+    /// A window with no words.
+    pub fn nothing() -> Window<'a>
+        ensures { (says : ℕ → ℕ) → IsWindow says result }
+    {
+        Window {
+            first: 0,
+            values: &[],
+        }
+    }
+
+    /// The word in a column, if it is known.
+    pub fn get(&self, column: u32) -> Option<u32>
+        ensures { (says : ℕ → ℕ) → IsWindow says self.now → IfSome result (λ value. value ≡ says column) }
+    {
+        let at = words::subtract(column, self.first) as usize;
+        if at >= self.values.len() {
+            return None;
+        }
+        Some(self.values[at])
+    }
+
+    /// The words in so many columns from one on, if all are known.
+    pub fn columns(&self, column: u32, count: usize) -> Option<&'a [u32]>
+        requires { count < 2 ^ 32 }
+        ensures { (says : ℕ → ℕ) → IsWindow says self.now → IfSome result (λ values. AreValues count (λ at. says (word.add column at)) values.now) }
+    {
+        let at = words::subtract(column, self.first) as usize;
+        if at + count > self.values.len() {
+            return None;
+        }
+        Some(stretch(self.values, at, count))
+    }
+}
