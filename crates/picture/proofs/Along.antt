@@ -1,8 +1,8 @@
 -- Rows of pictures and of tables, as far as they are known.
-use Rattle.std.proofs.Common.{◌≡◌, ◌∙◌, ℕ, ◌+◌, ◌*◌, ◌%◌, ◌^◌, ◌<◌, ◌≤◌, Some, List, Vec, length, get_or, sym, ap, subst, arith}
-use Rattle.std.proofs.Math.Nat.{mul-le-mul_right}
+use Rattle.std.proofs.Common.{◌≡◌, ◌∙◌, ℕ, ◌+◌, ◌*◌, ◌^◌, ◌<◌, ◌≤◌, Some, List, [], ◌∷◌, ◌++◌, zero, suc, Vec, length, refl, take, drop, get_or, sym, ap, subst, arith}
 use Rattle.std.proofs.lemmas.Bool.{lt-ltb}
 use Rattle.std.specs.Prelude.{nat_lt, true}
+use Rattle.std.specs.Vec.{with_items}
 use Rattle.std.specs.declared.alloc.Global.{Global}
 use Rattle.halide_pipeline.specs.Words as word
 use Rattle.halide_pipeline.specs.Picture.{PictureContents, pixel_at}
@@ -31,6 +31,23 @@ pub written-row : (width : ℕ) (says : ℕ → ℕ) (written : List ℕ) (value
 written-row width says written values same are =
     let all : AreValues width says values.items = subst (λ (items : List ℕ). AreValues width says items) (sym same) are in
     record { len = all.len; each = all.each }
+
+refilled-to : (n : ℕ) (words others : List ℕ) → n ≡ length words → take n (words ++ others) ≡ words
+refilled-to zero [] others few = refl
+refilled-to zero (word ∷ words) others few = absurd (omega arith)
+refilled-to (suc n) [] others few = absurd (omega arith)
+refilled-to (suc n) (word ∷ words) others few = ap (λ (rest : List ℕ). word ∷ rest) (refilled-to n words others (omega arith))
+
+pub refilled : (values : Vec ℕ Global) (words : List ℕ) → length words ≡ length values.items → (with_items values words).items ≡ words
+refilled values words long = refilled-to values.len words (drop (length words) values.items) (omega (arith, long, values.ok))
+
+-- words in place of columns
+pub fetched-row : (width : ℕ) (says : ℕ → ℕ) (columns before words : List ℕ) (values : Vec ℕ Global) → before ≡ columns → length columns ≡ width → values.items ≡ words
+    → AreValues (length before) (λ at. says (get_or before at 0)) words → IsRow width (λ at. says (get_or columns at 0)) (rows.Each values)
+fetched-row width says columns before words values same long are_words are =
+    let all : AreValues (length columns) (λ at. says (get_or columns at 0)) words = subst (λ (items : List ℕ). AreValues (length items) (λ at. says (get_or items at 0)) words) same are in
+    let wide : AreValues width (λ at. says (get_or columns at 0)) words = subst (λ (n : ℕ). AreValues n (λ at. says (get_or columns at 0)) words) long all in
+    written-row width (λ at. says (get_or columns at 0)) words values are_words wide
 
 -- ---- expressions
 

@@ -1,6 +1,6 @@
 //! What reads answer along a row.
 
-ghost use Rattle.std.specs.Prelude.{◌≡◌, ◌<◌, ◌^◌, IfOk, Some, slice_get};
+ghost use Rattle.std.specs.Prelude.{◌≡◌, ◌<◌, ◌^◌, IfOk, Some, length, slice_get, slice_index};
 ghost use Rattle.std.specs.Option.{option_copied};
 ghost use Rattle.halide_pipeline.specs.Pixel as spec;
 ghost use Rattle.halide_pipeline.specs.Words as word;
@@ -135,6 +135,30 @@ fn read_columns(
     Ok(Row::Each(values))
 }
 
+/// The pixels of a source in one row and in these columns, in their place where all are known.
+fn read_each(
+    alloc: Global,
+    scene: &Scene,
+    own: usize,
+    source: Source,
+    mut columns: Vec<u32>,
+    y: u32,
+    width: usize,
+) -> Result<Row, AllocError>
+    requires tables { AreTables scene.now }
+    requires columns { length columns.items ≡ width }
+    requires narrow { width < 2 ^ 32 }
+    ensures { IfOk result (IsRow width (λ at. reads_in scene.now own states.Earlier source (slice_index columns.items at) y)) }
+{
+    let known = window(scene, own, source, y);
+    if known.covers(&columns) {
+        known.fetch(&mut columns);
+        return Ok(Row::Each(columns));
+    }
+    let row = read_columns(alloc, scene, own, source, &Row::Each(columns), y, width)?;
+    Ok(row)
+}
+
 /// The pixels of a source in one row and in columns one beside the other.
 fn read_stretch(
     alloc: Global,
@@ -207,8 +231,8 @@ pub(crate) fn read_row(
             let row = read_stretch(alloc, scene, own, source, first, y, width)?;
             Ok(row)
         }
-        (x, Row::Same(y)) => {
-            let row = read_columns(alloc, scene, own, source, &x, y, width)?;
+        (Row::Each(columns), Row::Same(y)) => {
+            let row = read_each(alloc, scene, own, source, columns, y, width)?;
             Ok(row)
         }
         (x, y) => {

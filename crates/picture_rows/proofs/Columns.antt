@@ -1,7 +1,7 @@
 -- Columns of a window.
-use Rattle.std.proofs.Common.{◌≡◌, ◌∙◌, ℕ, ◌+◌, ◌<◌, ◌≤◌, ◌^◌, List, length, get_or, ap, arith}
+use Rattle.std.proofs.Common.{◌≡◌, ◌∙◌, ℕ, ◌+◌, ◌<◌, ◌≤◌, ◌^◌, List, length, get_or, refl, ap, arith}
 use Rattle.halide_pipeline.specs.Words as word
-use Rattle.picture_rows.specs.Rows.{AreValues, IsWindow}
+use Rattle.picture_rows.specs.Rows.{AreValues, Covers, IsWindow}
 use Rattle.picture_rows.specs.declared.windows.Window.{Window}
 
 goes-back : (first column : ℕ) → first < 2 ^ 32 → column < 2 ^ 32 → word.add first (word.subtract column first) ≡ column
@@ -24,4 +24,14 @@ columns-are says window column at count values is low small at_is within are = r
   len = are.len;
   each = λ k less. are.each k less ∙ is.each (at + k) (omega arith)
       ∙ ap says (ap (λ (n : ℕ). word.add window.first (n + k)) at_is ∙ goes-on window.first column k low small);
+}
+
+pub fetched : (says : ℕ → ℕ) (window : Window) (columns words : List ℕ) → IsWindow says window → window.first < 2 ^ 32 → Covers window columns
+    → AreValues (length columns) (λ at. get_or window.values.now (word.subtract (get_or columns at 0) window.first) 0) words
+    → AreValues (length columns) (λ at. says (get_or columns at 0)) words
+fetched says window columns words is low covers are = record {
+  len = are.len;
+  each = λ at less.
+      let own = covers.each at less in
+      are.each at less ∙ found-in says window (get_or columns at 0) _ is low own.0 refl own.1;
 }

@@ -1,5 +1,5 @@
 -- A list that is changed place by place, from the first on.
-use Rattle.std.proofs.Common.{◌≡◌, ℕ, ◌+◌, ◌<◌, ◌≤◌, List, length, get_or}
+use Rattle.std.proofs.Common.{◌≡◌, ℕ, ◌<◌, ◌≤◌, List, length, get_or}
 
 -- as many places as before, of which the first so many have new values
 pub record Changed (count : ℕ) (before now : List ℕ) (says : ℕ → ℕ) : Type 0 where

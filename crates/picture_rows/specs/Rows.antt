@@ -31,3 +31,8 @@ pub record IsRow (width : ℕ) (says : ℕ → ℕ) (row : Row) : Type 0 where
 pub record IsWindow (says : ℕ → ℕ) (window : Window) : Type 0 where
   pub few : length window.values.now ≤ 2 ^ 32
   pub each : (at : ℕ) → at < length window.values.now → slice_index window.values.now at ≡ says (word.add window.first at)
+
+-- a window has the words in all these columns
+pub record Covers (window : Window) (columns : List ℕ) : Type 0 where
+  pub each : (at : ℕ) → at < length columns
+      → (slice_index columns at < 2 ^ 32) × (word.subtract (slice_index columns at) window.first < length window.values.now)

@@ -1,8 +1,8 @@
 //! Stretches of a row whose words are known.
 
-ghost use Rattle.std.specs.Prelude.{◌≡◌, ◌+◌, ◌<◌, ◌≤◌, ◌^◌, IfSome, ℕ, length, slice_index};
+ghost use Rattle.std.specs.Prelude.{◌≡◌, ◌+◌, ◌<◌, ◌≤◌, ◌^◌, IfSome, ℕ, length, slice_index, true};
 ghost use Rattle.halide_pipeline.specs.Words as word;
-ghost use Rattle.picture_rows.specs.Rows.{AreValues, IsWindow};
+ghost use Rattle.picture_rows.specs.Rows.{AreValues, Covers, IsWindow};
 
 use halide_pipeline::words;
 
@@ -55,5 +55,35 @@ impl<'a> Window<'a> {
             return None;
         }
         Some(stretch(self.values, at, count))
+    }
+
+    /// How far behind the first one the furthest of these columns is, as words go; 0 of none.
+    fn reach(&self, columns: &[u32]) -> u32
+        ensures { (at : ℕ) → at < length columns.now → (slice_index columns.now at < 2 ^ 32) × (word.subtract (slice_index columns.now at) self.now.first ≤ result) }
+    {
+        let mut most = 0;
+        for at in 0..columns.len() {
+            let column = columns[at];
+            most = words::subtract(column, self.first).max(most);
+        }
+        most
+    }
+
+    /// Whether the words in all these columns are known.
+    pub fn covers(&self, columns: &[u32]) -> bool
+        ensures { result ≡ true → Covers self.now columns.now }
+    {
+        (self.reach(columns) as usize) < self.values.len()
+    }
+
+    /// The word in each of these columns, in its place.
+    pub fn fetch(&self, columns: &mut [u32])
+        requires { Covers self.now columns.old }
+        ensures { (says : ℕ → ℕ) → IsWindow says self.now → AreValues (length columns.old) (λ at. says (slice_index columns.old at)) columns.new }
+    {
+        let first = self.first;
+        for at in 0..columns.len() {
+            columns[at] = self.values[words::subtract(columns[at], first) as usize];
+        }
     }
 }

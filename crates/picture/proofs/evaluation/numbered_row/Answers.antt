@@ -1,4 +1,4 @@
-use Rattle.std.proofs.Common.{◌≡◌, ◌∙◌, ℕ, subst}
+use Rattle.std.proofs.Common.{◌∙◌, ℕ, subst}
 use Rattle.halide_pipeline.specs.Words as word
 use Rattle.picture.specs.inner.Evaluation.{plane_of}
 use Rattle.picture.proofs.Joined.{adds-rest}

@@ -1,4 +1,4 @@
-use Rattle.std.proofs.Common.{rules, arith, sym}
+use Rattle.std.proofs.Common.{arith, sym}
 use Rattle.picture.specs.inner.Evaluation.{inputs_of}
 use Rattle.picture.proofs.Along.{window-of-same}
 use Rattle.picture.proofs.Levels.{pixels-before}

@@ -1,4 +1,3 @@
-use Rattle.std.proofs.Common.{rules}
 use Rattle.picture.proofs.row_reads.input_window.Goals as goal
 
 pub returns-in-None : goal.returns-in-None

@@ -1,4 +1,3 @@
-use Rattle.std.proofs.Common.{ℕ}
 use Rattle.picture.specs.inner.Evaluation.{reads_in}
 use Rattle.picture.specs.declared.scenes.State.TheVariants as states
 use Rattle.picture_rows.specs.Rows.{value_at}

@@ -1,4 +1,3 @@
-use Rattle.std.proofs.Common.{ℕ}
 use Rattle.halide_pipeline.specs.Words as word
 use Rattle.picture.specs.inner.Evaluation.{plane_of}
 use Rattle.picture_rows.proofs.InPlace.{Changed}

@@ -1,5 +1,4 @@
-use Rattle.std.proofs.Common.{◌≡◌, ◌==◌, if◌then◌else◌, ℕ, get_or}
-use Rattle.halide_pipeline.specs.Words as word
+use Rattle.std.proofs.Common.{◌==◌, if◌then◌else◌, get_or}
 use Rattle.picture_rows.proofs.InPlace.{Changed}
 use Rattle.picture_rows.proofs.loops.choose.Given as goal
 

@@ -1,4 +1,4 @@
-use Rattle.std.proofs.Common.{◌≡◌, ℕ, get_or}
+use Rattle.std.proofs.Common.{get_or}
 use Rattle.halide_pipeline.specs.Words as word
 use Rattle.picture_rows.proofs.InPlace.{Changed}
 use Rattle.picture_rows.proofs.loops.combine.Given as goal

@@ -1,4 +1,4 @@
-use Rattle.std.proofs.Common.{rules, arith}
+use Rattle.std.proofs.Common.{arith}
 use Rattle.picture_rows.proofs.Columns.{columns-are}
 use Rattle.picture_rows.proofs.windows.Window.columns.Goals as goal
 
