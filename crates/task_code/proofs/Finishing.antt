@@ -10,7 +10,7 @@ use Rattle.multi_hart_logic.specs.Alone.{World}
 use Rattle.multi_hart_logic.specs.Paths.{Stand, Line}
 use Rattle.multi_hart_logic.proofs.Paths.{block-then, line-then, stand-front, writes-first}
 use Rattle.task_code_scalar.specs.Code.{literal}
-use Rattle.task_code.specs.Restored.{restored}
+use Rattle.task_code_statements.specs.Tasks.{restored}
 use Rattle.task_code.specs.inner.Code.{stmt_code, task_scope}
 use Rattle.task_code_scalar.specs.Evaluation.{Knows}
 use Rattle.task_code_scalar.specs.Fitting.{is_word}

@@ -31,7 +31,7 @@ use Rattle.task_code_scalar.specs.declared.places.Pixels.TheVariants as pixels
 use Rattle.task_code_scalar.specs.declared.places.Place.{Place}
 use Rattle.task_code_scalar.specs.declared.places.Places.{Places}
 use Rattle.task_code_scalar.specs.Code.{Made, Deep, pair, divided, triple, beside, operation, quotient, remainder, selection, literal, move, scaled, raised, copied, addressed, fetch, loading, place_of, terms_code, seat, seat_in, made_at, spill, unspill, frames_of, on_stack, deep_or, deep_leaf, deep_at, deep, second_code, value_code, store_code, test, bounded, whole_code, bind_code}
-use Rattle.task_code.specs.Restored.{restored}
+use Rattle.task_code_statements.specs.Tasks.{restored}
 use Rattle.task_code.specs.Tasks.{task_size}
 use Rattle.task_code.specs.inner.Code.{stmt_code, task_code, task_scope}
 use Rattle.task_code.specs.inner.Code.{code_taken, group_of_loop, group_taken}

@@ -14,7 +14,7 @@ use Rattle.loop_ir.specs.declared.statements.Whole.{Whole}
 use Rattle.loop_ir.specs.Sizes.{is_laid_out}
 use Rattle.task_code_scalar.specs.declared.places.Places.{Places}
 use Rattle.task_code_scalar.specs.Code.{seat, store_code, turns_code, bind_code}
-use Rattle.task_code.specs.Restored.{restored}
+use Rattle.task_code_statements.specs.Tasks.{restored}
 use Rattle.task_code.specs.inner.Code.{stmt_code, task_scope}
 use Rattle.task_code_scalar.specs.Fitting.{is_word, has_seat, fits_store, fits_whole}
 use Rattle.task_code.specs.inner.Fitting.{fits}

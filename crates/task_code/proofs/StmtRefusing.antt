@@ -21,7 +21,7 @@ use Rattle.loop_ir.proofs.Needs.{greatest_store, greatest_sequence, greatest_for
 use Rattle.task_code_scalar.specs.declared.CodeFault.{CodeFault}
 use Rattle.task_code_scalar.specs.declared.places.Places.{Places}
 use Rattle.task_code_scalar.specs.Code.{seat, copies_code, laid_out_code, loop_code, turns_code, loop_tail}
-use Rattle.task_code.specs.Restored.{restored}
+use Rattle.task_code_statements.specs.Tasks.{restored}
 use Rattle.task_code.specs.inner.Code.{stmt_code, task_scope}
 use Rattle.task_code_scalar.specs.Faults.{IsLong, HasRoom, FitsStore}
 use Rattle.task_code_scalar.specs.Words.{Emits}

@@ -23,7 +23,7 @@ use Rattle.task_code_scalar.specs.declared.places.Pixels.TheVariants as pixels
 use Rattle.task_code_scalar.specs.declared.places.Place.{Place}
 use Rattle.task_code_scalar.specs.declared.places.Places.{Places}
 use Rattle.task_code_scalar.specs.Doing.{Setting}
-use Rattle.task_code.specs.Tasks.{HasDrawn}
+use Rattle.task_code_statements.specs.Tasks.{HasDrawn}
 
 -- ---- the phase
 

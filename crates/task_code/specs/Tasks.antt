@@ -1,68 +1,14 @@
--- What instructions do that do each task of a phase, wherever they stand: what the phase's statement does for that task; and they leave the numbers
--- that the draw and the gate look for. Which instructions they are isn't said. This project's own.
-use Rattle.std.specs.Prelude.{◌≡◌, ◌<◌, ◌≤◌, ℕ, ◌+◌, ◌*◌, ◌^◌, true, List, ◌++◌, length}
+-- The words of a task: of instructions that do each task of a phase (`task_code_statements/specs/Tasks.antt`), no more than the phase asks for.
+-- This project's own.
+use Rattle.std.specs.Prelude.{◌≡◌, ◌≤◌, ℕ, ◌+◌, ◌*◌, List, ◌++◌, length}
 use Rattle.rv_insn.specs.declared.instructions.Insn.{Insn}
-use Rattle.memory.specs.Addresses.{byte_at, AreBytes, text_start, most_words}
-use Rattle.halide_pipeline.specs.Pixel.{Planes, reads_of}
+use Rattle.memory.specs.Addresses.{text_start, most_words}
 use Rattle.loop_ir.specs.declared.statements.Phase.{Phase}
-use Rattle.loop_ir.specs.declared.statements.Stmt.{Stmt}
-use Rattle.loop_ir.specs.Counters.{Values}
-use Rattle.loop_ir.specs.Rounds.{may_be_at_once}
-use Rattle.loop_ir.specs.Running.{run_task, task_values}
 use Rattle.loop_ir.specs.Sizes.{whole_size}
-use Rattle.loop_ir.specs.Stores.{is_stored_by_task}
-use Rattle.multi_hart_logic.specs.Paths.{Stand, end, Block, Writes}
+use Rattle.multi_hart_logic.specs.Paths.{Stand, end}
 use Rattle.task_code_scalar.specs.declared.places.Places.{Places}
-use Rattle.task_code_scalar.specs.Layout.{AreWords, IsOf, IsElsewhere}
-use Rattle.task_code_scalar.specs.Doing.{Setting, IsSetting, SoundIn, RunsIn, HoldsFuncs}
 use Rattle.task_code_scalar.specs.Words.{Emits}
-
--- ---- a task
-
--- the iterations of its vectorized loops may be done at once, whatever words buffers hold
-abbrev pub AtOnceIn : Setting → Stmt → Values → Type 0
-AtOnceIn own statement values = (funcs : Planes) → AreWords funcs → may_be_at_once (reads_of own.inputs funcs) statement values ≡ true
-
--- where a task begins: its number was drawn
-pub record HasDrawn (own : Setting) (task : ℕ) (f : ℕ → ℕ) : Type 0 where
-  pub none : f 0 ≡ 0
-  pub number : f 10 ≡ own.world.hart
-  pub all : f 11 ≡ own.harts
-  pub drawn : f 12 ≡ task
-
--- the instructions come to their end in so many turns, and memory holds what the task leaves
-pub record TaskEnds (own : Setting) (phase : Phase) (insns : List Insn) (turns ticket task : ℕ) (f : ℕ → ℕ) (memory : List ℕ) (funcs : Planes) : Type 0 where
-  pub after : ℕ → ℕ
-  pub left : List ℕ
-  pub block : Block own.world insns turns f memory after left
-  pub number : after 10 ≡ own.world.hart
-  pub all : after 11 ≡ own.harts
-  pub ticket_is : after 13 ≡ ticket
-  pub gate_is : after 14 ≡ ticket + 4
-  pub one : after 15 ≡ 1
-  pub tasks_are : after 16 ≡ phase.tasks
-  pub holds : HoldsFuncs own left (run_task own.points own.inputs phase task funcs)
-  pub elsewhere : (byte : ℕ) → IsElsewhere own.world own.places own.written byte → byte_at own.world.text left byte ≡ byte_at own.world.text memory byte
-  pub are_bytes : AreBytes memory → AreBytes left
-  -- every byte of a point at which the task stores is written
-  pub writes : (func x y byte at : ℕ) → is_stored_by_task own.points own.inputs phase task func x y funcs ≡ true → IsOf own.world own.places func x y byte
-      → Stand own.world.text at insns → Writes own.world at turns f memory byte
-
--- ---- every task
-
--- Each task ends so, in as many turns as are given for it, from wherever its hart has drawn its number and memory holds the buffers.
-abbrev pub EachTaskEnds : Places → Phase → ℕ → List Insn → (ℕ → ℕ) → Type 0
-EachTaskEnds places phase ticket insns turns =
-    (own : Setting) → IsSetting own → own.places ≡ places → (task : ℕ) → task < 2 ^ 32
-    → SoundIn own phase.body (task_values phase.counter task) → AtOnceIn own phase.body (task_values phase.counter task)
-    → RunsIn own phase.body (task_values phase.counter task)
-    → (f : ℕ → ℕ) (memory : List ℕ) (funcs : Planes) → HoldsFuncs own memory funcs → HasDrawn own task f
-    → TaskEnds own phase insns (turns task) ticket task f memory funcs
-
--- These instructions do each task of the phase, wherever they stand, in turns that hang on the task alone.
-pub record DoesTask (places : Places) (phase : Phase) (ticket : ℕ) (insns : List Insn) : Type 0 where
-  pub turns : ℕ → ℕ
-  pub does : EachTaskEnds places phase ticket insns turns
+use Rattle.task_code_statements.specs.Tasks.{DoesTask}
 
 -- so many words a task asks for: those of its statement, and those that leave what the draw and the gate look for
 abbrev pub task_size : Phase → ℕ

@@ -11,4 +11,4 @@ pub mod laws;
 mod sizes;
 mod statements;
 
-pub use crate::statements::{emit, emit_restored};
+pub use crate::statements::emit;

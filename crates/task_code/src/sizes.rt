@@ -2,9 +2,10 @@
 
 ghost use Rattle.std.specs.Prelude.{◌≡◌, ℕ, ◌+◌, ◌*◌, ◌^◌, ◌≤◌, if◌then◌else◌, min};
 ghost use Rattle.loop_ir.specs.Sizes as spec;
+ghost use Rattle.task_code.specs.Tasks.{task_size};
 
 use loop_ir::expressions::Expr;
-use loop_ir::statements::{LoopKind, Stmt, Store};
+use loop_ir::statements::{LoopKind, Phase, Stmt, Store};
 use task_code_scalar::loops::are_copies;
 
 fn plus(a: u32, b: u32) -> u32
@@ -132,4 +133,11 @@ pub(crate) fn at_once_size(body: &Stmt) -> u32
     ensures { result ≡ min (spec.whole_size body.now + 38) (2 ^ 18) }
 {
     plus(whole_size(body), 38)
+}
+
+/// Of one task of a phase, or 2^18 where it is more.
+pub(crate) fn task_size(phase: &Phase) -> u32
+    ensures { result ≡ min (task_size phase.now) (2 ^ 18) }
+{
+    plus(whole_size(&phase.body), 8)
 }

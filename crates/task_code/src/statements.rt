@@ -2,30 +2,31 @@
 
 ghost use Rattle.std.specs.Prelude.{◌≡◌, ◌+◌, ◌^◌, ◌<◌, ◌&&◌, nat_le, nat_lt, OnErr, OnOk, IfErr, IfOk, true};
 ghost use Rattle.task_code_scalar.specs.Code.{store_code};
-ghost use Rattle.task_code.specs.Restored.{restored};
 ghost use Rattle.task_code.specs.inner.Code as spec;
 ghost use Rattle.task_code_scalar.specs.Faults.{FitsStore, IsFault};
 ghost use Rattle.task_code.specs.Faults.{IsTaskFault};
-ghost use Rattle.task_code.specs.inner.Emitting.{EmitsCode, EmitsStmt};
+ghost use Rattle.task_code.specs.inner.Emitting.{EmitsCode, EmitsStmt, EmitsTaskIf};
 ghost use Rattle.task_code.specs.inner.Faults.{IsCodeFault, IsStmtFault};
 ghost use Rattle.task_code_scalar.specs.Fitting.{fits_store};
 ghost use Rattle.task_code.specs.inner.Taking.{EmitsAtOnce, EmitsOtherwise, EmitsTaken, IsOtherwiseFault, IsTakenFault};
 ghost use Rattle.task_code.specs.Tasks.{EmitsTask};
 ghost use Rattle.task_code_scalar.specs.Words.{Emits};
 
-use crate::sizes::{at_once_size, is_laid_out};
+use crate::sizes::{at_once_size, is_laid_out, task_size};
 use halide_pipeline::Source;
 use loop_ir::expressions::Counter;
 use loop_ir::statements::{LoopKind, Phase, Stmt, Store};
 use std::alloc::{AllocError, Global};
 use task_code_lanes::groups::Group;
 use task_code_scalar::CodeFault;
-use task_code_scalar::expressions::{emit_number, place_of};
+use task_code_scalar::expressions::place_of;
 use task_code_scalar::frames::emit_deep;
-use task_code_scalar::instructions::{emit_literal, store_word};
+use task_code_scalar::instructions::store_word;
 use task_code_scalar::loops::{append, emit_bind, emit_move, emit_turns, next_seat, with_counter};
 use task_code_scalar::operations::emit_addressed;
 use task_code_scalar::places::Places;
+use task_code_statements::tasks;
+use task_code_statements::tasks::emit_restored;
 use task_code_vector::collecting::{emit_collected, is_one_store};
 use task_code_vector::rounds::emit_rounds;
 
@@ -227,18 +228,6 @@ fn task_scope(alloc: Global, counter: Option<Counter>) -> Result<Vec<Counter>, A
     }
 }
 
-/// Appends what leaves the numbers that the draw and the gate look for.
-pub fn emit_restored(code: &mut Vec<u32>, ticket: u32, tasks: u32) -> Result<(), AllocError>
-    requires { ticket + 4 < 2 ^ 32 }
-    ensures { OnOk result (Emits code.old.items code.new.items (restored ticket tasks) × (tasks < 2 ^ 32)) }
-{
-    emit_literal(code, 13, ticket)?;
-    emit_literal(code, 14, ticket + 4)?;
-    emit_literal(code, 15, 1)?;
-    emit_number(code, 16, tasks)?;
-    Ok(())
-}
-
 fn emit_task(
     alloc: Global,
     phase: &Phase,
@@ -254,6 +243,53 @@ fn emit_task(
     emit_stmt(alloc, code, places, scope.as_slice(), &phase.body)?;
     emit_restored(code, ticket, phase.tasks)?;
     Ok(())
+}
+
+/// Appends the code of one task with each loop variable in a register, which there is wherever registers suffice.
+fn emit_by_variables(
+    alloc: Global,
+    phase: &Phase,
+    places: &Places,
+    ticket: u32,
+    code: &mut Vec<u32>,
+) -> Result<(), CodeFault>
+    requires { ticket + 4 < 2 ^ 32 }
+    ensures ok { OnOk result (EmitsTask code.old.items code.new.items phase.now places.now ticket) }
+    ensures err { OnErr result (code.new.items ≡ code.old.items) }
+    ensures fault { IfErr result (IsTaskFault phase.now places.now) }
+{
+    let mut words = Vec::new(alloc);
+    emit_task(alloc, phase, places, ticket, &mut words)?;
+    append(code, words.as_slice())?;
+    Ok(())
+}
+
+/// Appends the code of one task with forms in registers, where there is such code and it is no longer than the phase asks
+/// for; it says whether it did.
+fn emit_by_forms(
+    alloc: Global,
+    phase: &Phase,
+    places: &Places,
+    ticket: u32,
+    code: &mut Vec<u32>,
+) -> Result<bool, AllocError>
+    requires { ticket + 4 < 2 ^ 32 }
+    ensures ok { IfOk result (λ found. EmitsTaskIf code.old.items code.new.items phase.now places.now ticket found) }
+    ensures err { OnErr result (code.new.items ≡ code.old.items) }
+{
+    let mut words = Vec::new(alloc);
+    match tasks::emit_task(alloc, phase, places, ticket, &mut words) {
+        Ok(()) => {
+            if words.len() > task_size(phase) as usize {
+                return Ok(false);
+            }
+            append(code, words.as_slice())?;
+            Ok(true)
+        }
+        Err(CodeFault::OutOfMemory(error)) => Err(error),
+        Err(CodeFault::TooLong) => Ok(false),
+        Err(CodeFault::TooDeep) => Ok(false),
+    }
 }
 
 /// Appends the code of one task of a phase.
@@ -279,8 +315,9 @@ pub fn emit(
     ensures err { OnErr result (code.new.items ≡ code.old.items) }
     ensures fault { IfErr result (IsTaskFault phase.now places.now) }
 {
-    let mut words = Vec::new(alloc);
-    emit_task(alloc, phase, places, ticket, &mut words)?;
-    append(code, words.as_slice())?;
+    if emit_by_forms(alloc, phase, places, ticket, code)? {
+        return Ok(());
+    }
+    emit_by_variables(alloc, phase, places, ticket, code)?;
     Ok(())
 }

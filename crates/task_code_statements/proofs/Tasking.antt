@@ -21,7 +21,7 @@ use Rattle.task_code_loops.specs.Known.{AreKnown}
 use Rattle.task_code_statements.specs.declared.contexts.Context.{Context}
 use Rattle.task_code_statements.specs.Contexts.{Meets, MeetsLoop, IsEmpty}
 use Rattle.task_code_statements.specs.Statements.{EmitsStatement}
-use Rattle.task_code_statements.specs.Tasks.{EmitsTask, Begins, drawn, restored}
+use Rattle.task_code_statements.specs.Tasks.{AppendsTask, Begins, drawn, restored}
 
 -- ---- the beginning
 
@@ -93,7 +93,7 @@ kept-harts (own ∷ others) = let k = kept-harts others in (inr k.0, inr k.1)
 
 pub task-emits : (phase : Phase) (places : Places) (ticket : ℕ) (scope : List Held) (context : Context) (c0 c1 c2 : List ℕ) → ticket + 4 < 2 ^ 32
     → phase.tasks < 2 ^ 32 → Begins phase.counter phase.tasks scope context → EmitsStatement c0 c1 places scope (Meets context) phase.body
-    → Emits c1 c2 (restored ticket phase.tasks) → EmitsTask c0 c2 phase places ticket
+    → Emits c1 c2 (restored ticket phase.tasks) → AppendsTask c0 c2 phase places ticket
 task-emits phase places ticket scope context c0 c1 c2 lt ls begins x z =
     let ends = restored ticket phase.tasks in
     record {
@@ -101,7 +101,7 @@ task-emits phase places ticket scope context c0 c1 c2 lt ls begins x z =
       emits = emits_then x.emits z;
       does = record {
         turns = λ task. x.turns (task_values phase.counter task) + length ends;
-        does = λ own good at-places task less sound sure f memory funcs holds is.
+        does = λ own good at-places task less sound once sure f memory funcs holds is.
             let values = task_values phase.counter task in
             let knows = begins.knows own.world.hart task f less is.none is.number is.drawn in
             let a = x.does own good at-places values begins.holders (begins.meets task less) sound sure f memory funcs holds knows in

@@ -3,15 +3,18 @@
 use Rattle.std.specs.Prelude.{◌≡◌, ◌<◌, ℕ, ◌+◌, true, List, [], ◌∷◌, ◌++◌, Option}
 use Rattle.rv_insn.specs.declared.instructions.Insn.{Insn}
 use Rattle.memory.specs.Addresses.{byte_at, AreBytes}
-use Rattle.halide_pipeline.specs.Pixel.{Planes}
+use Rattle.halide_pipeline.specs.Pixel.{Planes, reads_of}
 use Rattle.loop_ir.specs.declared.expressions.Counter.{Counter}
 use Rattle.loop_ir.specs.declared.statements.Phase.{Phase}
+use Rattle.loop_ir.specs.declared.statements.Stmt.{Stmt}
+use Rattle.loop_ir.specs.Counters.{Values}
+use Rattle.loop_ir.specs.Rounds.{may_be_at_once}
 use Rattle.loop_ir.specs.Running.{run_task, task_values}
 use Rattle.loop_ir.specs.Stores.{is_stored_by_task}
 use Rattle.multi_hart_logic.specs.Paths.{Stand, Block, Writes}
 use Rattle.task_code_scalar.specs.declared.places.Places.{Places}
 use Rattle.task_code_scalar.specs.Code.{literal}
-use Rattle.task_code_scalar.specs.Layout.{IsOf, IsElsewhere}
+use Rattle.task_code_scalar.specs.Layout.{AreWords, IsOf, IsElsewhere}
 use Rattle.task_code_scalar.specs.Doing.{Setting, IsSetting, SoundIn, RunsIn, HoldsFuncs}
 use Rattle.task_code_scalar.specs.Words.{Emits}
 use Rattle.task_code_registers.specs.declared.scopes.Held.{Held}
@@ -20,6 +23,10 @@ use Rattle.task_code_registers.specs.Scopes.{Knows, AreHolders}
 use Rattle.task_code_loops.specs.Beginning.{variable}
 use Rattle.task_code_statements.specs.declared.contexts.Context.{Context}
 use Rattle.task_code_statements.specs.Contexts.{Meets}
+
+-- the iterations of its vectorized loops may be done at once, whatever words buffers hold
+abbrev pub AtOnceIn : Setting → Stmt → Values → Type 0
+AtOnceIn own statement values = (funcs : Planes) → AreWords funcs → may_be_at_once (reads_of own.inputs funcs) statement values ≡ true
 
 -- where a task begins: its number was drawn
 pub record HasDrawn (own : Setting) (task : ℕ) (f : ℕ → ℕ) : Type 0 where
@@ -46,16 +53,22 @@ pub record TaskEnds (own : Setting) (phase : Phase) (insns : List Insn) (turns t
   pub writes : (func x y byte at : ℕ) → is_stored_by_task own.points own.inputs phase task func x y funcs ≡ true → IsOf own.world own.places func x y byte
       → Stand own.world.text at insns → Writes own.world at turns f memory byte
 
+-- Each task ends so, in as many turns as are given for it, from wherever its hart has drawn its number and memory holds the buffers.
+abbrev pub EachTaskEnds : Places → Phase → ℕ → List Insn → (ℕ → ℕ) → Type 0
+EachTaskEnds places phase ticket insns turns =
+    (own : Setting) → IsSetting own → own.places ≡ places → (task : ℕ) → task < phase.tasks
+    → SoundIn own phase.body (task_values phase.counter task) → AtOnceIn own phase.body (task_values phase.counter task)
+    → RunsIn own phase.body (task_values phase.counter task)
+    → (f : ℕ → ℕ) (memory : List ℕ) (funcs : Planes) → HoldsFuncs own memory funcs → HasDrawn own task f
+    → TaskEnds own phase insns (turns task) ticket task f memory funcs
+
 -- These instructions do each task of the phase, wherever they stand, in turns that hang on the task alone.
 pub record DoesTask (places : Places) (phase : Phase) (ticket : ℕ) (insns : List Insn) : Type 0 where
   pub turns : ℕ → ℕ
-  pub does : (own : Setting) → IsSetting own → own.places ≡ places → (task : ℕ) → task < phase.tasks
-      → SoundIn own phase.body (task_values phase.counter task) → RunsIn own phase.body (task_values phase.counter task)
-      → (f : ℕ → ℕ) (memory : List ℕ) (funcs : Planes) → HoldsFuncs own memory funcs → HasDrawn own task f
-      → TaskEnds own phase insns (turns task) ticket task f memory funcs
+  pub does : EachTaskEnds places phase ticket insns turns
 
 -- words of such instructions are appended
-pub record EmitsTask (old new : List ℕ) (phase : Phase) (places : Places) (ticket : ℕ) : Type 0 where
+pub record AppendsTask (old new : List ℕ) (phase : Phase) (places : Places) (ticket : ℕ) : Type 0 where
   pub insns : List Insn
   pub emits : Emits old new insns
   pub does : DoesTask places phase ticket insns

@@ -3,7 +3,7 @@
 ghost use Rattle.std.specs.Prelude.{◌≡◌, ◌<◌, ◌+◌, ◌^◌, IfOk, OnOk};
 ghost use Rattle.task_code_scalar.specs.Words.{Emits};
 ghost use Rattle.task_code_statements.specs.Tasks as spec;
-ghost use Rattle.task_code_statements.specs.Tasks.{Begins, EmitsTask};
+ghost use Rattle.task_code_statements.specs.Tasks.{AppendsTask, Begins};
 
 use crate::contexts::{Context, in_loop, nothing_known};
 use crate::statements::emit_statement;
@@ -67,7 +67,7 @@ fn beginning(alloc: Global, counter: Option<Counter>, tasks: u32) -> Result<Star
 }
 
 /// Appends what leaves the numbers that the draw and the gate look for.
-fn emit_restored(code: &mut Vec<u32>, ticket: u32, tasks: u32) -> Result<(), AllocError>
+pub fn emit_restored(code: &mut Vec<u32>, ticket: u32, tasks: u32) -> Result<(), AllocError>
     requires { ticket + 4 < 2 ^ 32 }
     ensures { OnOk result (Emits code.old.items code.new.items (spec.restored ticket tasks) × (tasks < 2 ^ 32)) }
 {
@@ -94,7 +94,7 @@ pub fn emit_task(
     code: &mut Vec<u32>,
 ) -> Result<(), CodeFault>
     requires { ticket + 4 < 2 ^ 32 }
-    ensures { OnOk result (EmitsTask code.old.items code.new.items phase.now places.now ticket) }
+    ensures { OnOk result (AppendsTask code.old.items code.new.items phase.now places.now ticket) }
 {
     let begun = beginning(alloc, phase.counter, phase.tasks)?;
     emit_statement(

@@ -13,7 +13,8 @@ use Rattle.task_code_scalar.specs.declared.CodeFault.{CodeFault}
 use Rattle.task_code_scalar.specs.declared.places.Places.{Places}
 use Rattle.task_code_scalar.specs.Faults.{IsFault, LieLow, HasRoom}
 use Rattle.task_code_scalar.specs.Words.{Emits}
-use Rattle.task_code.specs.Tasks.{DoesTask, task_size}
+use Rattle.task_code.specs.Tasks.{task_size}
+use Rattle.task_code_statements.specs.Tasks.{DoesTask}
 use Rattle.vector_codegen.specs.PhaseCode.{Part, program}
 
 -- It has the phase's tasks, and its instructions do each of them, where buffers lie so, with the ticket of the phase's number; they are no more than

@@ -36,7 +36,7 @@ use Rattle.lowering.specs.Touching.{is_listed, is_root_at, may_write, may_load_a
 use Rattle.lowering.proofs.RunLists.{runs_are_listed}
 use Rattle.task_code_scalar.specs.Doing.{Setting, IsSetting, SoundIn, RunsIn, HoldsFuncs}
 use Rattle.task_code_scalar.specs.Layout.{AreWords, func_point}
-use Rattle.task_code.specs.Tasks.{AtOnceIn, EachTaskEnds, HasDrawn, TaskEnds}
+use Rattle.task_code_statements.specs.Tasks.{AtOnceIn, EachTaskEnds, HasDrawn, TaskEnds}
 use Rattle.vector_codegen_laws.specs.Held.{funcs_in, HasInputs, setting, IsTask}
 use Rattle.vector_codegen_laws.specs.Points.{RootPoint}
 use Rattle.vector_codegen_laws.specs.RunBytes.{RunsAreNamed}
@@ -253,7 +253,7 @@ module _ (pipeline : Pipeline) (schedule : Schedule) (boxes : Boxes) (rules : Is
           (each_ends : EachTaskEnds (places pipeline schedule boxes.funcs) work.phase (ticket_word k) insns turns) (few : work.phase.tasks < 2 ^ 32)
           (drawn : HasDrawn own task f) where
         pub ends : TaskEnds own work.phase insns (turns task) (ticket_word k) task f found funcs_found
-        ends = each_ends own is_setting refl task (omega (arith, below, few)) sound at_once in_runs f found funcs_found holds_found drawn
+        ends = each_ends own is_setting refl task below sound at_once in_runs f found funcs_found holds_found drawn
 
         pub leaves : (address : ℕ) → uses pipeline schedule boxes.funcs k (owners_of work) address ≡ Owned task → byte_at text ends.left address ≡ byte_of_planes pipeline schedule boxes inputs result address
         leaves address o =

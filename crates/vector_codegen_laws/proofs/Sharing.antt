@@ -40,7 +40,7 @@ use Rattle.vector_codegen_sharing.specs.Programs.{IsControlByte, FoundBy}
 use Rattle.vector_codegen_sharing.specs.Turns.{ticket_word}
 use Rattle.vector_codegen_sharing.proofs.Bridges.{stands-there}
 use Rattle.task_code_scalar.specs.declared.places.Places.{Places}
-use Rattle.task_code.specs.Tasks.{EachTaskEnds, HasDrawn, TaskEnds}
+use Rattle.task_code_statements.specs.Tasks.{EachTaskEnds, HasDrawn, TaskEnds}
 use Rattle.vector_codegen.specs.PhaseCode.{Part as CodePart, program}
 use Rattle.vector_codegen.specs.Sharing.{Matter, no_part, part_at, phase, Runs, IsShared}
 use Rattle.vector_codegen.specs.Programs.{ArePartsOf, HasFewTasks}

@@ -23,7 +23,7 @@ use Rattle.task_code_lanes.specs.declared.groups.Group.{Group}
 use Rattle.task_code_lanes.specs.Groups.{group_of_rounds}
 use Rattle.task_code_vector.specs.Rounds.{rounds_code, rounds_turns, rounds_fit}
 use Rattle.task_code_vector.specs.Collected.{is_one_store, collected_code, collected_turns}
-use Rattle.task_code.specs.Restored.{restored}
+use Rattle.task_code_statements.specs.Tasks.{restored}
 
 -- ---- loops whose rounds are done at once
 

@@ -8,7 +8,7 @@ use Rattle.loop_ir.specs.declared.statements.Stmt.TheOpen.{Stmt-F}
 use Rattle.loop_ir.specs.declared.statements.Stmt.TheOpen as parts
 use Rattle.loop_ir.specs.Running.{task_values}
 use Rattle.task_code_scalar.specs.declared.places.Places.{Places}
-use Rattle.task_code.specs.Restored.{restored}
+use Rattle.task_code_statements.specs.Tasks.{restored}
 use Rattle.task_code.specs.inner.Code.{stmt_turns, task_scope}
 use Rattle.task_code_scalar.specs.Fitting.{is_word, fits_store, has_seat, fits_whole}
 

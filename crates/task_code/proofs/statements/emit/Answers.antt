@@ -1,15 +1,11 @@
-use Rattle.task_code_scalar.proofs.Refusing.{passed}
-use Rattle.task_code.proofs.Promising.{task-long, task-promised}
+use Rattle.std.proofs.Common.{ℕ, List, subst}
+use Rattle.std.specs.Prelude.{Bool}
+use Rattle.task_code.specs.Tasks.{EmitsTask}
+use Rattle.task_code.specs.inner.Emitting.{EmitsTaskIf}
 use Rattle.task_code.proofs.statements.emit.Goals as goal
 
 pub returns-clause-ok : goal.returns-clause-ok
 returns-clause-ok c =
-    task-promised c.args.phase.now c.args.places.now c.args.ticket c.new-words.result.items c.emit_task.new.code.items c.as_slice.result.now
-    c.args.code.now.items c.append.new.code.items
-    c.requires c.new-words.ensures.items c.as_slice.ensures.value c.in_ok-emit_task.ensures.ok c.in_ok-append.ensures.ok
-
-pub returns-in_err-emit_task-clause-fault : goal.returns-in_err-emit_task-clause-fault
-returns-in_err-emit_task-clause-fault c =
-    passed c.from_residual.result c.in_err-emit_task.field-0.0 c.from_residual.ensures.1
-    (task-long c.args.phase.now c.args.places.now c.args.ticket) (λ deep. deep)
-    c.in_err-emit_task.ensures.err
+    let same = subst (λ (found : Bool). EmitsTaskIf c.args.code.now.items c.emit_by_forms.new.code.items c.args.phase.now c.args.places.now c.args.ticket found) c.if-branch.false
+        c.in_ok-emit_by_forms.ensures.ok in
+    subst (λ (code : List ℕ). EmitsTask code c.emit_by_variables.new.code.items c.args.phase.now c.args.places.now c.args.ticket) same c.in_ok-emit_by_variables.ensures.ok
