@@ -126,6 +126,13 @@ fn power_from(number: u32, power: u64, exponent: u8) -> Option<u8>
     power_from(number, 2 * power, exponent + 1)
 }
 
+/// Which power of two a number is.
+pub fn power_of_two(number: u32) -> Option<u8>
+    ensures { IfSome result (λ k. (k < 32) × (number ≡ 2 ^ k)) }
+{
+    power_from(number, 1, 0)
+}
+
 /// Appends what leaves the product of a register and a number: a shift where it is a power of two.
 ///
 /// # Errors
@@ -139,7 +146,7 @@ pub fn emit_times(code: &mut Vec<u32>, r: u8, s: u8, number: u32) -> Result<(), 
         emit_number(code, r, 0)?;
         return Ok(());
     }
-    match power_from(number, 1, 0) {
+    match power_of_two(number) {
         Some(k) => {
             shift(code, ShiftOp::Slli, r, s, k)?;
             Ok(())

@@ -110,7 +110,7 @@ quotient-is x c lc =
     by-sign (nat_lt x (2 ^ 31)) x c
     ∙ sym (ap (λ b. if b then 0 else (if nat_lt x (2 ^ 31) then x / c else 2 ^ 32 - 1 - (2 ^ 32 - 1 - x) / c)) (not-zero c lc))
 
-divide-below : (x c : ℕ) → x < 2 ^ 32 → 0 < c → word.divide x c < 2 ^ 32
+pub divide-below : (x c : ℕ) → x < 2 ^ 32 → 0 < c → word.divide x c < 2 ^ 32
 divide-below x c lx lc =
     let t = nat_lt x (2 ^ 31) in
     let y = turned-below t x lx in
@@ -137,7 +137,7 @@ remainder-is x c lc hc =
     by-sign-left (nat_lt x (2 ^ 31)) x c lc hc
     ∙ sym (ap (λ b. if b then 0 else (if nat_lt x (2 ^ 31) then x % c else c - 1 - (2 ^ 32 - 1 - x) % c)) (not-zero c lc))
 
-remainder-below : (x c : ℕ) → 0 < c → c < 2 ^ 32 → word.remainder x c < 2 ^ 32
+pub remainder-below : (x c : ℕ) → 0 < c → c < 2 ^ 32 → word.remainder x c < 2 ^ 32
 remainder-below x c lc hc = let e = remainder-is x c lc hc in
     let t = nat_lt x (2 ^ 31) in
     let s : (turned t (turned t x % c) + (if t then 0 else c)) % 2 ^ 32 < 2 ^ 32 = omega arith in

@@ -7,7 +7,9 @@ pub mod Literals
 pub mod Operating
 pub mod Parts
 pub mod Pointing
+pub mod Powers
 pub mod Rooms
 pub mod Saving
+pub mod Scattering
 pub mod Standing
 pub mod Waiting

@@ -183,7 +183,7 @@ spread-out b w x y =
     let two : x * b ≡ b * x = mul_comm x b in
     ap (λ k. k + x * b) one ∙ ap (λ k. b * (y * w) + k) two ∙ sym (mul-add b (y * w) x)
 
-row-bytes : (y row : ℕ) → (y * (row % 2 ^ 32)) % 2 ^ 32 ≡ (y * row) % 2 ^ 32
+pub row-bytes : (y row : ℕ) → (y * (row % 2 ^ 32)) % 2 ^ 32 ≡ (y * row) % 2 ^ 32
 row-bytes y row = mul-mod_second y row (2 ^ 32)
 
 no-rows : (w x : ℕ) → 0 * w + x ≡ x

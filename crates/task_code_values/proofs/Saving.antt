@@ -51,10 +51,15 @@ use Rattle.task_code_registers.specs.Scopes.{AreHolders, IsKept, have_registers}
 use Rattle.task_code_registers.proofs.Going.{Hits, no_hits, Went, Does, went-then, went-hits, went-is, within, still}
 use Rattle.task_code_registers.proofs.Knowing.{knows-still, kept-apart, working-free}
 use Rattle.task_code_registers.proofs.Making.{short-then}
-use Rattle.task_code_values.specs.Operands.{IsSum, MakesOperand}
+use Rattle.task_code_values.specs.declared.points.Index.{Index}
+use Rattle.task_code_values.specs.declared.points.Index.TheVariants as indexes
+use Rattle.task_code_values.specs.Making.{IsBelow}
+use Rattle.task_code_values.specs.Operands.{IsSum, IsIndex, IsOperand, StandsIn, MakesIndex, MakesOperand}
+use Rattle.task_code_values.specs.Scattering.{ReachesPoint}
+use Rattle.task_code_values.specs.Spilling.{second_value, third_value}
 use Rattle.task_code_values.specs.Sizes.{value_words}
-use Rattle.task_code_values.specs.Storing.{LeavesDeep, MakesValue, FitsStore, MakesStore, store_words}
-use Rattle.task_code_values.proofs.Standing.{kept-below}
+use Rattle.task_code_values.specs.Storing.{LeavesDeep, MakesValue, FitsDirect, MakesStore, store_words}
+use Rattle.task_code_values.proofs.Standing.{kept-below, below-more}
 use Rattle.task_code_values.proofs.Pointing.{at-offset, own-word}
 
 -- ---- values on the stack alone
@@ -279,5 +284,99 @@ store-made places scope store x y form place at r c0 c1 c2 c3 ex ey ep point v t
 
 pub point-held : (places : Places) (scope : List Held) (store : Store) (place : Place) (x y : Linear) (form : Form) → IsPoint place x y form
     → IsSum store.x x → IsSum store.y y
-    → FitsStore places scope store → have_registers scope form.sum.terms ≡ true
+    → FitsDirect places scope store → have_registers scope form.sum.terms ≡ true
 point-held places scope store place x y form point ex ey fits = point.have scope (ex.held scope fits.column_held) (ey.held scope fits.row_held)
+
+-- ---- a store whose indexes are computed
+
+module _ (places : Places) (scope : List Held) (store : Store) (place : Place) (column row : Index) (s offset : ℕ) (c0 c1 c2 c3 c4 c5 : List ℕ) where
+  pub scattered-made : place ≡ place_of places (sources.Func store.func) → MakesValue c0 c1 places scope 0 s store.value
+      → MakesIndex c1 c2 places scope second_value column store.x → MakesIndex c2 c3 places scope third_value row store.y
+      → ReachesPoint c3 c4 scope place column row second_value offset → Emits c4 c5 (Save save_ops.Sw second_value s (lower offset) ∷ [])
+      → MakesStore c0 c5 places scope store
+  scattered-made ep v x y z last = record {
+    insns = v.insns ++ (x.insns ++ (y.insns ++ (z.insns ++ saving)));
+    emits = emits_then v.emits (emits_then x.emits (emits_then y.emits (emits_then z.emits last)));
+    short =
+        let n = all-lengths v.insns x.insns y.insns z.insns in
+        let nv = v.short in
+        let nx = x.short in
+        let ny = y.short in
+        let nz = z.short in
+        omega (arith, n, nv, nx, ny, nz);
+    does = λ own good at-places values sound sure holders f memory funcs holds knows.
+        let w = own.world in
+        let reads = reads_of own.inputs funcs in
+        let xv = value reads values store.x in
+        let yv = value reads values store.y in
+        let k = and_parts (own.written store.func xv yv) (list_all own.loaded (store_loads reads values store))
+        (sym (sound_store reads own.written own.loaded store values) ∙ sound funcs holds.are_words) in
+        let p = and_parts (list_all own.loaded (loads reads values store.x)) _
+        (sym (list_all-append own.loaded (loads reads values store.x) (loads reads values store.y ++ loads reads values store.value)) ∙ k.1) in
+        let q = and_parts (list_all own.loaded (loads reads values store.y)) (list_all own.loaded (loads reads values store.value))
+        (sym (list_all-append own.loaded (loads reads values store.y) (loads reads values store.value)) ∙ p.1) in
+        let a = v.does own good at-places values holders f memory funcs holds knows q.1 in
+        let can-x = subst (λ ps. AllByRecursion (Loads w ps a.left reads) (loads reads values store.x)) at-places (all-loaded own good [] values funcs a.left
+        a.holds (loads reads values store.x) p.0) in
+        let can-y = subst (λ ps. AllByRecursion (Loads w ps a.left reads) (loads reads values store.y)) at-places (all-loaded own good [] values funcs a.left
+        a.holds (loads reads values store.y) q.0) in
+        let first = deep-does own good values scope holders a in
+        let ka = knows-still w.hart scope values f a.after first.keeps knows in
+        let b = x.does w a.left values reads a.after a.holds.size holders ka can-x in
+        let sb = λ (n : ℕ) (h : IsKept scope n). b.keeps n (kept-below scope n second_value (omega arith) holders h) in
+        let kb = knows-still w.hart scope values a.after b.after sb ka in
+        let d = y.does w a.left values reads b.after a.holds.size holders kb can-y in
+        let sd = λ (n : ℕ) (h : IsKept scope n). d.keeps n (kept-below scope n third_value (omega arith) holders h) in
+        let kd = knows-still w.hart scope values b.after d.after sd kb in
+        let ex = index-stays column values b.after d.after xv
+        (λ r er. d.keeps r (column-below holders r (subst (λ i. StandsIn scope second_value i) er x.stands).1.1)) b.value in
+        let may-store = good.laid.stores store.func xv yv k.0 in
+        let here : address_of w own.places (func_point store.func xv yv) ≡ address place w.hart xv yv =
+        ap (λ ps. address (place_of ps (sources.Func store.func)) w.hart xv yv) at-places ∙ ap (λ pl. address pl w.hart xv yv) (sym ep) in
+        let low : address place w.hart xv yv < 2 ^ 32 = subst (λ n. n < 2 ^ 32) here may-store.low in
+        let g = z.does w a.left values d.after xv yv a.holds.size holders kd ex d.value low in
+        let sg = λ (n : ℕ) (h : IsKept scope n). g.keeps n (kept-below scope n second_value (omega arith) holders h) in
+        let at-a : plus (g.after second_value) (lower offset) ≡ address_of w own.places (func_point store.func xv yv) =
+        at-offset (g.after second_value) offset _ z.fits z.small (g.value ∙ sym here) in
+        let under = value-below holders v.which in
+        let ev = g.keeps s under ∙ d.keeps s (below-more second_value third_value s (omega arith) under) ∙ b.keeps s under ∙ a.value in
+        let two : Does own x.insns (length x.insns) a.after a.left (IsKept scope) funcs no_hits =
+        still own (λ i. i) (λ i. end i x.insns) (length x.insns) b.after a.holds sb (λ i st. b.line i st) in
+        let three : Does own y.insns (length y.insns) b.after a.left (IsKept scope) funcs no_hits =
+        still own (λ i. i) (λ i. end i y.insns) (length y.insns) d.after a.holds sd (λ i st. d.line i st) in
+        let four : Does own z.insns (length z.insns) d.after a.left (IsKept scope) funcs no_hits =
+        still own (λ i. i) (λ i. end i z.insns) (length z.insns) g.after a.holds sg (λ i st. g.line i st) in
+        let five = saved own good values (IsKept scope) store second_value s (lower offset) g.after a.left funcs (omega arith) v.source.0 a.holds k.0
+        (is-single own good values store sure funcs holds.are_words) a.small at-a ev in
+        did-went (went-hits own
+        (λ func i j h. equal-parts store.func func xv i yv j (sym (hit-store own.points own.inputs func i j store values funcs) ∙ h))
+        (went-is own (sym (all-lengths v.insns x.insns y.insns z.insns)) (sym (run_store own.points own.inputs store values funcs))
+        (does-then own good values first (does-then own good values two (does-then own good values three (does-then own good values four five))))));
+  }
+    where
+      saving : List Insn
+      saving = Save save_ops.Sw second_value s (lower offset) ∷ []
+
+      all-lengths : (is js ks ls : List Insn) → length (is ++ (js ++ (ks ++ (ls ++ (Save save_ops.Sw second_value s (lower offset) ∷ [])))))
+          ≡ length is + (length js + (length ks + (length ls + 1)))
+      all-lengths is js ks ls =
+          let o = Save save_ops.Sw second_value s (lower offset) ∷ [] in
+          let a = length-append is (js ++ (ks ++ (ls ++ o))) in
+          let b = length-append js (ks ++ (ls ++ o)) in
+          let c = length-append ks (ls ++ o) in
+          let d = length-append ls o in
+          omega (arith, a, b, c, d)
+
+      value-below : AreHolders scope → (s ≡ first_value) ⊎ IsKept scope s → IsBelow second_value s
+      value-below holders (inl e) = (inr (omega (arith, e)), inl (omega (arith, e)))
+      value-below holders (inr h) = kept-below scope s second_value (omega arith) holders h
+
+      column-below : AreHolders scope → (r : ℕ) → IsOperand scope second_value second_value r → IsBelow third_value r
+      column-below holders r (inl e) = (inr (omega (arith, e)), inl (omega (arith, e)))
+      column-below holders r (inr (inl e)) = (inr (omega (arith, e)), inl (omega (arith, e)))
+      column-below holders r (inr (inr h)) = kept-below scope r third_value (omega arith) holders h
+
+      index-stays : (index : Index) (values : Values) (f g : ℕ → ℕ) (n : ℕ) → ((r : ℕ) → index ≡ indexes.Register r → g r ≡ f r)
+          → IsIndex values f index n → IsIndex values g index n
+      index-stays (indexes.Sum own) values f g n same is = is
+      index-stays (indexes.Register r) values f g n same is = same r refl ∙ is

@@ -14,7 +14,7 @@ use Rattle.loop_ir.specs.Running.{run}
 use Rattle.multi_hart_logic.specs.Paths.{Line}
 use Rattle.task_code_scalar.specs.declared.places.Places.{Places}
 use Rattle.task_code_scalar.specs.Doing.{Setting, IsSetting, SoundIn, RunsIn, HoldsFuncs, stored_points}
-use Rattle.task_code_scalar.specs.Faults.{FitsFrame}
+use Rattle.task_code_scalar.specs.Faults.{FitsFrame, FitsStack}
 use Rattle.task_code_scalar.specs.Layout.{IsBefore}
 use Rattle.task_code_scalar.specs.Words.{Emits}
 use Rattle.task_code_registers.specs.declared.scopes.Held.{Held}
@@ -55,9 +55,18 @@ abbrev pub store_words : Store → ℕ
 store_words store = value_words store.x + value_words store.y + value_words store.value + 14
 
 -- its indexes are sums, its loop variables have registers, and the stack or the frame has room for its value
-pub record FitsStore (places : Places) (scope : List Held) (store : Store) : Type 0 where
+pub record FitsDirect (places : Places) (scope : List Held) (store : Store) : Type 0 where
   pub column : (need_of store.x).is_leaf ≡ true
   pub row : (need_of store.y).is_leaf ≡ true
+  pub column_held : are_held scope store.x ≡ true
+  pub row_held : are_held scope store.y ≡ true
+  pub value_held : are_held scope store.value ≡ true
+  pub room : FitsFrame places.frames store.value 0
+
+-- The stack has room for its indexes beside its value, its loop variables have registers, and the stack or the frame has room for its value.
+pub record FitsStore (places : Places) (scope : List Held) (store : Store) : Type 0 where
+  pub column : FitsStack store.x 21
+  pub row : FitsStack store.y 22
   pub column_held : are_held scope store.x ≡ true
   pub row_held : are_held scope store.y ≡ true
   pub value_held : are_held scope store.value ≡ true

@@ -109,8 +109,12 @@ pub fn emit_operand(
 }
 
 /// Appends what leaves an index in a register, unless it is a sum.
+///
+/// # Errors
+///
+/// As of [`emit_operand`].
 #[cycle(values)]
-fn emit_index(
+pub fn emit_index(
     alloc: Global,
     code: &mut Vec<u32>,
     places: &Places,

@@ -7,6 +7,7 @@
 //! - [`operands`]: appends what leaves a number or a sum of loop variables in a register, or names the register that
 //!   holds it already.
 //! - [`points`]: appends loads of points, whose indexes are sums or stand in registers.
+//! - [`scatters`]: appends what makes the address of a point for a store (`specs/Scattering.antt`).
 //! - [`frames`]: appends what keeps a register in a word of the hart's frame, and loads it again.
 //! - [`expressions`]: appends what leaves an expression's value in a register (`specs/Operands.antt`).
 //! - [`spilling`]: the same where the registers do not suffice and values wait in the hart's frame.
@@ -22,5 +23,6 @@ pub mod needs;
 pub mod operands;
 pub mod operations;
 pub mod points;
+pub mod scatters;
 pub mod spilling;
 pub mod stores;

@@ -1,6 +1,10 @@
 //! What operations make of registers: in a third one, so that operands stay.
 
-ghost use Rattle.std.specs.Prelude.{◌≡◌, ◌≢◌, ◌⊎◌, ◌<◌, OnOk};
+ghost use Rattle.std.specs.Prelude.{◌≡◌, ◌≢◌, ◌⊎◌, ◌<◌, [], ◌∷◌, OnOk};
+ghost use Rattle.rv_insn.specs.declared.instructions.Insn.TheVariants.{AluImm};
+ghost use Rattle.rv_insn.specs.declared.operations.AluImmOp.TheVariants.{Andi};
+ghost use Rattle.task_code_scalar.specs.Code.{lower};
+ghost use Rattle.task_code_scalar.specs.Words.{Emits};
 ghost use Rattle.halide_pipeline.specs.Words as word;
 ghost use Rattle.task_code_registers.specs.Registers.{IsPlace, IsSource};
 ghost use Rattle.task_code_registers.specs.Scopes.{IsKept};
@@ -8,11 +12,12 @@ ghost use Rattle.task_code_values.specs.Making.{Blends, IsStack, MakesFrom, Make
 
 use crate::operands::emit_number_operand;
 use halide_pipeline::Operation;
-use rv_insn::{AluImmOp, AluOp, ShiftOp};
+use rv_insn::{AluImmOp, AluOp, Insn, ShiftOp};
 use std::alloc::{AllocError, Global};
+use task_code_registers::numbers::{lower_part, power_of_two};
 use task_code_registers::registers::{ADDRESS, SCRATCH, SECOND_SCRATCH, ZERO};
 use task_code_registers::scopes::Held;
-use task_code_scalar::instructions::{alu, alu_small, shift};
+use task_code_scalar::instructions::{alu, alu_small, put, register, shift};
 
 /// The sign bit's place in a word.
 const SIGN_BIT: u8 = 31;
@@ -96,8 +101,8 @@ pub fn emit_selection(
     Ok(())
 }
 
-/// Appends what leaves the quotient of a register by a literal, rounded to minus infinity. The complement of a negative
-/// number is divided, and the quotient's complement taken.
+/// Appends what leaves the quotient of a register by a literal, rounded to minus infinity: a shift where the literal is a
+/// power of two. Else the complement of a negative number is divided, and the quotient's complement taken.
 ///
 /// # Errors
 ///
@@ -115,6 +120,10 @@ pub fn emit_quotient(
     requires some { 0 < divisor }
     ensures { OnOk result (MakesFrom code.old.items code.new.items 6 scope.now r a (λ v. word.divide v divisor)) }
 {
+    if let Some(k) = power_of_two(divisor) {
+        shift(code, ShiftOp::Srai, r, a, k)?;
+        return Ok(());
+    }
     let s = emit_number_operand(alloc, code, scope, divisor, ADDRESS)?;
     shift(code, ShiftOp::Srai, SCRATCH, a, SIGN_BIT)?;
     alu(code, AluOp::Xor, r, a, SCRATCH)?;
@@ -123,8 +132,31 @@ pub fn emit_quotient(
     Ok(())
 }
 
-/// Appends what leaves the remainder of a register by a literal, which isn't negative: of a negative number's
-/// complement the remainder is taken away from the divisor less 1.
+/// How large a power of two is at most whose predecessor an immediate is.
+const MOST_MASKED: u32 = 2048;
+
+/// Appends what leaves the bits of a register that a mask has.
+fn emit_masked(code: &mut Vec<u32>, r: u8, a: u8, mask: u32) -> Result<(), AllocError>
+    requires { (r < 32) × (a < 32) }
+    ensures { OnOk result (Emits code.old.items code.new.items (AluImm Andi r a (lower mask) ∷ [])) }
+{
+    let rd = register(r);
+    let rs1 = register(a);
+    let imm = lower_part(mask);
+    put(
+        code,
+        &Insn::AluImm {
+            op: AluImmOp::Andi,
+            rd,
+            rs1,
+            imm,
+        },
+    )?;
+    Ok(())
+}
+
+/// Appends what leaves the remainder of a register by a literal, which isn't negative: its low bits where the literal is a
+/// power of two that an immediate is for. Else of a negative number's complement the remainder is taken away from the divisor less 1.
 ///
 /// # Errors
 ///
@@ -142,6 +174,10 @@ pub fn emit_remainder(
     requires some { 0 < divisor }
     ensures { OnOk result (MakesFrom code.old.items code.new.items 8 scope.now r a (λ v. word.remainder v divisor)) }
 {
+    if divisor <= MOST_MASKED && power_of_two(divisor).is_some() {
+        emit_masked(code, r, a, divisor - 1)?;
+        return Ok(());
+    }
     let s = emit_number_operand(alloc, code, scope, divisor, ADDRESS)?;
     shift(code, ShiftOp::Srai, SCRATCH, a, SIGN_BIT)?;
     alu(code, AluOp::Xor, r, a, SCRATCH)?;

@@ -40,7 +40,12 @@ pub enum Index {
 const WORD_SHIFT: u8 = 2;
 
 /// Appends what leaves so many pixels' bytes.
-fn emit_scaled(code: &mut Vec<u32>, pixels: Pixels, r: u8, s: u8) -> Result<(), AllocError>
+pub(crate) fn emit_scaled(
+    code: &mut Vec<u32>,
+    pixels: Pixels,
+    r: u8,
+    s: u8,
+) -> Result<(), AllocError>
     requires { IsPlace r × IsSource s }
     ensures { OnOk result (Makes code.old.items code.new.items 1 r (λ f. (f s * pixel_bytes pixels) % 2 ^ 32)) }
 {

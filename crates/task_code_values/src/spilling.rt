@@ -25,9 +25,9 @@ use task_code_scalar::places::Places;
 /// How many registers the stack has.
 pub const STACK: u32 = 12;
 /// Where a second value stands.
-const SECOND_VALUE: u8 = 21;
+pub const SECOND_VALUE: u8 = 21;
 /// Where a third value stands.
-const THIRD_VALUE: u8 = 22;
+pub const THIRD_VALUE: u8 = 22;
 
 /// The registers of two operands.
 #[derive(Clone, Copy, Debug)]

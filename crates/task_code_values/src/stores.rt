@@ -1,18 +1,19 @@
 //! Values of expressions whatever they need, and stores of them.
 
 ghost use Rattle.std.specs.Prelude.{◌≡◌, IfErr, IfOk, OnOk, true};
-ghost use Rattle.task_code_scalar.specs.Faults.{FitsFrame, IsFault};
+ghost use Rattle.task_code_scalar.specs.Faults.{FitsFrame, FitsStack, IsFault};
 ghost use Rattle.loop_ir.specs.Needs.{need_of};
 ghost use Rattle.task_code_values.specs.Operands.{IsSum};
 ghost use Rattle.task_code_values.specs.Sizes.{are_held};
 ghost use Rattle.task_code_values.specs.Spilling as spec;
-ghost use Rattle.task_code_values.specs.Storing.{FitsStore, MakesStore, MakesValue};
+ghost use Rattle.task_code_values.specs.Storing.{FitsDirect, FitsStore, MakesStore, MakesValue};
 
 use crate::accesses::emit_save;
-use crate::expressions::sum_of;
-use crate::needs::need;
+use crate::expressions::{emit_index, sum_of};
+use crate::needs::{is_leaf, need};
 use crate::operands::emit_reached_address;
-use crate::spilling::{STACK, emit_deep};
+use crate::scatters::reach_point;
+use crate::spilling::{SECOND_VALUE, STACK, THIRD_VALUE, emit_deep};
 use halide_pipeline::Source;
 use loop_ir::expressions::{Expr, Linear};
 use loop_ir::statements::Store;
@@ -28,6 +29,11 @@ use task_code_scalar::places::Places;
 const FRAME_WORDS: u32 = 1024;
 /// Where frames may begin, so that those of all harts lie below 2^32.
 const LAST_START: u32 = 0xffff_0000;
+
+/// How many registers the stack has from a second value on, and from a third one on.
+const COLUMN_STACK: u32 = 11;
+
+const ROW_STACK: u32 = 10;
 
 /// How much an expression may need: the registers of the stack, or the words of a frame.
 fn room_limit(frames: Option<u32>) -> u32
@@ -76,10 +82,53 @@ fn needed_sum(alloc: Global, e: &Expr) -> Result<Linear, CodeFault>
 }
 
 /// Appends a store, whose indexes are sums.
+fn emit_direct(
+    alloc: Global,
+    code: &mut Vec<u32>,
+    places: &Places,
+    scope: &[Held],
+    store: &Store,
+) -> Result<(), CodeFault>
+    ensures ok { OnOk result (MakesStore code.old.items code.new.items places.now scope.now store.now) }
+    ensures err { IfErr result (IsFault ⊥ (FitsDirect places.now scope.now store.now → ⊥)) }
+{
+    let column = needed_sum(alloc, &store.x)?;
+    let row = needed_sum(alloc, &store.y)?;
+    let place = place_of(places, Source::Func(store.func));
+    let s = emit_value(alloc, code, places, scope, &store.value)?;
+    let form = point_form(alloc, &place, &column, &row)?;
+    let at = emit_reached_address(alloc, code, scope, &form, ADDRESS)?;
+    emit_save(code, at.register, s, at.offset)?;
+    Ok(())
+}
+
+/// Appends a store, whose indexes are computed behind the value.
+fn emit_scattered(
+    alloc: Global,
+    code: &mut Vec<u32>,
+    places: &Places,
+    scope: &[Held],
+    store: &Store,
+) -> Result<(), CodeFault>
+    requires column { FitsStack store.now.x 21 }
+    requires row { FitsStack store.now.y 22 }
+    ensures ok { OnOk result (MakesStore code.old.items code.new.items places.now scope.now store.now) }
+    ensures err { IfErr result (IsFault ⊥ (FitsStore places.now scope.now store.now → ⊥)) }
+{
+    let place = place_of(places, Source::Func(store.func));
+    let s = emit_value(alloc, code, places, scope, &store.value)?;
+    let column = emit_index(alloc, code, places, scope, &store.x, SECOND_VALUE)?;
+    let row = emit_index(alloc, code, places, scope, &store.y, THIRD_VALUE)?;
+    let offset = reach_point(alloc, code, scope, &place, &column, &row, SECOND_VALUE)?;
+    emit_save(code, SECOND_VALUE, s, offset)?;
+    Ok(())
+}
+
+/// Appends a store.
 ///
 /// # Errors
 ///
-/// Memory ran out, an index is no sum, the value needs more registers than there are, or a loop variable has no
+/// Memory ran out, the value or an index beside it needs more registers than there are, or a loop variable has no
 /// register and no form is near.
 pub fn emit_store(
     alloc: Global,
@@ -91,12 +140,13 @@ pub fn emit_store(
     ensures ok { OnOk result (MakesStore code.old.items code.new.items places.now scope.now store.now) }
     ensures err { IfErr result (IsFault ⊥ (FitsStore places.now scope.now store.now → ⊥)) }
 {
-    let column = needed_sum(alloc, &store.x)?;
-    let row = needed_sum(alloc, &store.y)?;
-    let place = place_of(places, Source::Func(store.func));
-    let s = emit_value(alloc, code, places, scope, &store.value)?;
-    let form = point_form(alloc, &place, &column, &row)?;
-    let at = emit_reached_address(alloc, code, scope, &form, ADDRESS)?;
-    emit_save(code, at.register, s, at.offset)?;
+    if is_leaf(&store.x) && is_leaf(&store.y) {
+        emit_direct(alloc, code, places, scope, store)?;
+        return Ok(());
+    }
+    if need(&store.x) > COLUMN_STACK || need(&store.y) > ROW_STACK {
+        return Err(CodeFault::TooDeep);
+    }
+    emit_scattered(alloc, code, places, scope, store)?;
     Ok(())
 }

@@ -1,6 +1,6 @@
 use Rattle.task_code_scalar.proofs.Refusing.{passed}
 use Rattle.task_code_values.proofs.Saving.{store-made, point-held}
-use Rattle.task_code_values.proofs.stores.emit_store.Goals as goal
+use Rattle.task_code_values.proofs.stores.emit_direct.Goals as goal
 
 pub returns-clause-ok : goal.returns-clause-ok
 returns-clause-ok c =

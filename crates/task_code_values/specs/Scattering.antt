@@ -1,0 +1,81 @@
+-- Addresses of points whose indexes may be computed, whatever their instructions are. This project's own.
+use Rattle.std.specs.Prelude.{◌≡◌, ◌<◌, ◌≤◌, ℕ, ◌+◌, ◌*◌, ◌%◌, ◌^◌, true, List, length}
+use Rattle.rv_insn.specs.declared.instructions.Insn.{Insn}
+use Rattle.loop_ir.specs.declared.expressions.Linear.{Linear}
+use Rattle.loop_ir.specs.Counters.{Values}
+use Rattle.loop_ir.specs.Expressions.{linear_value}
+use Rattle.multi_hart_logic.specs.Alone.{World}
+use Rattle.multi_hart_logic.specs.Paths.{Line}
+use Rattle.task_code_scalar.specs.declared.places.Place.{Place}
+use Rattle.task_code_scalar.specs.Code.{address, pixel_bytes}
+use Rattle.task_code_scalar.specs.Words.{Emits}
+use Rattle.task_code_registers.specs.declared.scopes.Held.{Held}
+use Rattle.task_code_registers.specs.Emitting.{Fits}
+use Rattle.task_code_registers.specs.Registers.{IsSource}
+use Rattle.task_code_registers.specs.Scopes.{Knows, AreHolders, have_registers}
+use Rattle.task_code_values.specs.declared.points.Index.{Index}
+use Rattle.task_code_values.specs.declared.points.Index.TheVariants as indexes
+use Rattle.task_code_values.specs.Making.{IsBelow}
+use Rattle.task_code_values.specs.Operands.{IsIndex, index_words}
+use Rattle.task_code_values.specs.Points.{HaveIndex}
+
+-- ---- the two parts of an index: what stands in a register, and what is a sum
+
+abbrev pub register_part : Index → (ℕ → ℕ) → ℕ
+register_part (indexes.Sum own) f = 0
+register_part (indexes.Register s) f = f s
+
+abbrev pub sum_part : Index → Values → ℕ
+sum_part (indexes.Sum own) values = linear_value values own
+sum_part (indexes.Register s) values = 0
+
+abbrev pub HasSource : Index → Type 0
+HasSource (indexes.Sum own) = Unit {0}
+HasSource (indexes.Register s) = IsSource s
+
+-- a sum is an index's second part
+pub record IsSumPart (index : Index) (sum : Linear) : Type 0 where
+  pub value_is : (values : Values) → linear_value values sum ≡ sum_part index values
+  pub few : 4 * length sum.terms ≤ index_words index
+  pub have : (scope : List Held) → HaveIndex scope index → have_registers scope sum.terms ≡ true
+
+-- ---- bytes
+
+abbrev pub row_bytes : Place → ℕ
+row_bytes place = (pixel_bytes place.pixels * place.width) % 2 ^ 32
+
+-- a register's bytes, and those of as many rows as another one holds where an index is one
+abbrev pub with_rows : Place → Index → ℕ → (ℕ → ℕ) → ℕ
+with_rows place (indexes.Sum own) r f = f r
+with_rows place (indexes.Register t) r f = (f r + f t * row_bytes place) % 2 ^ 32
+
+-- ---- addresses
+
+-- straight code behind which register r and an offset make v; it keeps the registers below r
+pub record Reached (world : World) (memory : List ℕ) (insns : List Insn) (f : ℕ → ℕ) (r offset v : ℕ) : Type 0 where
+  pub after : ℕ → ℕ
+  pub line : Line world insns f memory after memory
+  pub value : (after r + offset) % 2 ^ 32 ≡ v
+  pub keeps : (q : ℕ) → IsBelow r q → after q ≡ f q
+
+-- Appended code does so for what lies so many bytes behind the point of two sums as r says.
+pub record ReachesBehind (old new : List ℕ) (scope : List Held) (place : Place) (x y : Linear) (r offset : ℕ) : Type 0 where
+  pub insns : List Insn
+  pub emits : Emits old new insns
+  pub short : length insns ≤ 7 + 4 * (length x.terms + length y.terms)
+  pub fits : Fits offset
+  pub small : offset < 2 ^ 32
+  pub does : (world : World) (memory : List ℕ) (values : Values) (f : ℕ → ℕ) (a : ℕ) → length memory ≡ world.size → AreHolders scope
+      → Knows world.hart scope values f → (f r + address place world.hart (linear_value values x) (linear_value values y)) % 2 ^ 32 ≡ a
+      → Reached world memory insns f r offset a
+
+-- And for the point of two indexes.
+pub record ReachesPoint (old new : List ℕ) (scope : List Held) (place : Place) (column row : Index) (r offset : ℕ) : Type 0 where
+  pub insns : List Insn
+  pub emits : Emits old new insns
+  pub short : length insns ≤ index_words column + index_words row + 13
+  pub fits : Fits offset
+  pub small : offset < 2 ^ 32
+  pub does : (world : World) (memory : List ℕ) (values : Values) (f : ℕ → ℕ) (x y : ℕ) → length memory ≡ world.size → AreHolders scope
+      → Knows world.hart scope values f → IsIndex values f column x → IsIndex values f row y → address place world.hart x y < 2 ^ 32
+      → Reached world memory insns f r offset (address place world.hart x y)

@@ -1,0 +1,127 @@
+//! Addresses of points whose indexes may be computed.
+
+ghost use Rattle.std.specs.Prelude.{◌≡◌, ◌+◌, ◌*◌, ◌%◌, ◌^◌, IfErr, IfOk, OnOk, true};
+ghost use Rattle.task_code_scalar.specs.Code.{pixel_bytes};
+ghost use Rattle.task_code_scalar.specs.Faults.{IsFault};
+ghost use Rattle.task_code_registers.specs.Emitting.{Makes};
+ghost use Rattle.task_code_registers.specs.Scopes.{have_registers};
+ghost use Rattle.task_code_values.specs.Making.{IsStack};
+ghost use Rattle.task_code_values.specs.Operands.{StandsIn};
+ghost use Rattle.task_code_values.specs.Points.{HaveIndex};
+ghost use Rattle.task_code_values.specs.Scattering as spec;
+ghost use Rattle.task_code_values.specs.Scattering.{HasSource, IsSumPart, ReachesBehind, ReachesPoint};
+
+use crate::accesses::bytes_of;
+use crate::operands::emit_reached_address;
+use crate::points::{Index, emit_scaled};
+use halide_pipeline::words;
+use loop_ir::expressions::Linear;
+use rv_insn::AluOp;
+use std::alloc::{AllocError, Global};
+use task_code_registers::numbers::{emit_number, emit_times};
+use task_code_registers::points::point_form;
+use task_code_registers::registers::{ADDRESS, SECOND_SCRATCH};
+use task_code_registers::scopes::Held;
+use task_code_scalar::CodeFault;
+use task_code_scalar::instructions::alu;
+use task_code_scalar::places::Place;
+
+/// The part of an index that is a sum.
+fn sum_part(alloc: Global, index: &Index) -> Result<Linear, AllocError>
+    ensures { IfOk result (IsSumPart index.now) }
+{
+    match index {
+        Index::Sum(own) => {
+            let sum = own.copy(alloc)?;
+            Ok(sum)
+        }
+        Index::Register(_) => Ok(Linear::of_number(alloc, 0)),
+    }
+}
+
+/// Appends what leaves the bytes of as many pixels as a register holds where an index is one, else 0.
+fn emit_columns(code: &mut Vec<u32>, place: &Place, column: &Index, r: u8) -> Result<(), AllocError>
+    requires place { IsStack r }
+    requires source { HasSource column.now }
+    ensures { OnOk result (Makes code.old.items code.new.items 2 r
+        (λ f. (spec.register_part column.now f * pixel_bytes place.now.pixels) % 2 ^ 32)) }
+{
+    match column {
+        Index::Sum(_) => {
+            emit_number(code, r, 0)?;
+            Ok(())
+        }
+        Index::Register(s) => {
+            emit_scaled(code, place.pixels, r, *s)?;
+            Ok(())
+        }
+    }
+}
+
+/// Appends what adds the bytes of as many rows as a register holds where an index is one.
+fn emit_rows_added(code: &mut Vec<u32>, place: &Place, row: &Index, r: u8) -> Result<(), AllocError>
+    requires place { IsStack r }
+    requires source { HasSource row.now }
+    ensures { OnOk result (Makes code.old.items code.new.items 4 r (spec.with_rows place.now row.now r)) }
+{
+    match row {
+        Index::Sum(_) => Ok(()),
+        Index::Register(t) => {
+            let bytes = words::multiply(bytes_of(place.pixels), place.width);
+            emit_times(code, SECOND_SCRATCH, *t, bytes)?;
+            alu(code, AluOp::Add, r, r, SECOND_SCRATCH)?;
+            Ok(())
+        }
+    }
+}
+
+/// Appends what makes the address of what lies so many bytes behind the point of two sums as r says: it is r and the
+/// offset that is returned.
+fn reach_behind(
+    alloc: Global,
+    code: &mut Vec<u32>,
+    scope: &[Held],
+    place: &Place,
+    x: &Linear,
+    y: &Linear,
+    r: u8,
+) -> Result<u32, CodeFault>
+    requires { IsStack r }
+    ensures ok { IfOk result (ReachesBehind code.old.items code.new.items scope.now place.now x.now y.now r) }
+    ensures err { IfErr result (IsFault ⊥ (have_registers scope.now x.now.terms ≡ true
+        → have_registers scope.now y.now.terms ≡ true → ⊥)) }
+{
+    let form = point_form(alloc, place, x, y)?;
+    let at = emit_reached_address(alloc, code, scope, &form, ADDRESS)?;
+    alu(code, AluOp::Add, r, r, at.register)?;
+    Ok(at.offset)
+}
+
+/// Appends what makes the address of the point at two indexes: it is r and the offset that is returned. A row that stands
+/// in a register stands above r.
+///
+/// # Errors
+///
+/// Memory ran out, or a loop variable has no register and no form is near.
+pub fn reach_point(
+    alloc: Global,
+    code: &mut Vec<u32>,
+    scope: &[Held],
+    place: &Place,
+    column: &Index,
+    row: &Index,
+    r: u8,
+) -> Result<u32, CodeFault>
+    requires place { IsStack r }
+    requires first { StandsIn scope.now r column.now }
+    requires second { StandsIn scope.now (r + 1) row.now }
+    ensures ok { IfOk result (ReachesPoint code.old.items code.new.items scope.now place.now column.now row.now r) }
+    ensures err { IfErr result (IsFault ⊥ (HaveIndex scope.now column.now → HaveIndex scope.now row.now → ⊥)) }
+{
+    let x = sum_part(alloc, column)?;
+    let y = sum_part(alloc, row)?;
+    emit_columns(code, place, column, r)?;
+    emit_rows_added(code, place, row, r)?;
+    let offset = reach_behind(alloc, code, scope, place, &x, &y, r)?;
+    Ok(offset)
+}
