@@ -10,8 +10,11 @@ use Rattle.loader.specs.Image.{IsImage}
 use Rattle.loader.specs.Spelling.{spelled}
 use Rattle.loader.specs.declared.formats.Format.TheVariants.{Hrv2}
 use Rattle.hrv_compiler.specs.declared.faults.CompileFault.{CompileFault}
+use Rattle.hrv_compiler.specs.Assigned.{IsAssigned}
 use Rattle.hrv_compiler.specs.Compiled.{CompiledContents, IsCompiled, Means}
+use Rattle.hrv_compiler.specs.Correct.{Correct}
 use Rattle.hrv_compiler.specs.Images.{image_of}
+use Rattle.hrv_compiler.specs.Runs.{WritesWholeRuns}
 use Rattle.hrv_compiler.specs.Verdict.{refusal_of}
 use Rattle.hrv_engines.specs.declared.faults.Refusal.{Refusal}
 use Rattle.hrv_engines.specs.declared.faults.Refusal.TheVariants.{Compile}
@@ -28,7 +31,8 @@ first_fault alloc texts = refusal_of alloc texts.0.0 texts.0.1
 -- ---- what is compiled
 
 -- The texts mean a program, in which no fault stands, and pictures that it asks for; the bytes spell its image of them in the second
--- format.
+-- format. On every list of turns that image leaves the algorithm's pixels, its work can be shared in each way, and vectorized loops write
+-- whole runs.
 pub record IsCompilation (alloc : Global) (texts : Texts) (bytes : List ℕ) : Type 0 where
   pub program : CompiledContents
   pub pictures : List PictureContents
@@ -38,6 +42,9 @@ pub record IsCompilation (alloc : Global) (texts : Texts) (bytes : List ℕ) : T
   pub are_inputs : pictures_of texts.1 ≡ Ok pictures
   pub are_asked_for : judged program.pipeline.inputs pictures ≡ None
   pub is_image : IsImage (image_of program pictures)
+  pub is_correct : Correct program.pipeline pictures program.boxes.layout.phases (image_of program pictures)
+  pub is_assigned : IsAssigned program.pipeline program.schedule program.boxes pictures (image_of program pictures)
+  pub writes_runs : WritesWholeRuns program (image_of program pictures)
   pub is_spelled : bytes ≡ spelled Hrv2 (image_of program pictures)
 
 -- ---- what is refused
