@@ -31,8 +31,8 @@ use std::alloc::{AllocError, Global};
 use std::marker::Model;
 
 /// A pipeline under a schedule that was accepted for it, with the words of its phases. Contracts see a
-/// `CompiledContents` that is an `IsCompiled` (`specs/Compiled.antt`); what its words do, [`Compiled::image`] promises of the
-/// images that it makes.
+/// `CompiledContents` that is an `IsCompiled` (`specs/Compiled.antt`); what its words do, [`Compiled::image`] promises
+/// of the images that it makes.
 #[derive(Drop)]
 pub struct Compiled {
     pub(crate) pipeline: Pipeline,
@@ -78,12 +78,12 @@ impl Compiled {
     /// (`specs/Images.antt`).
     ///
     /// On every list that says which hart makes the next turn, no hart traps, none race but on the words of
-    /// [`Compiled::control`], and wherever all have finished the output is the algorithm's (`specs/Correct.antt`). Every
-    /// list in which each hart goes on having turns ends: so many rounds are enough (`fair_ends`); and a hart that waits at
-    /// a gate is counted there from then on, whatever turns follow (`gates_grow`). Every assignment of iterations to harts
-    /// is reached by some list (`specs/Assigned.antt`). Where the innermost loop of a Func at root without updates is
-    /// vectorized, a turn that writes a point of the Func writes one run of that loop, and nothing else
-    /// (`specs/Runs.antt`).
+    /// [`Compiled::control`], and wherever all have finished the output is the algorithm's (`specs/Correct.antt`).
+    /// Every list in which each hart goes on having turns ends: so many rounds are enough (`fair_ends`); and a hart
+    /// that waits at a gate is counted there from then on, whatever turns follow (`gates_grow`). Every assignment of
+    /// iterations to harts is reached by some list (`specs/Assigned.antt`). Where the innermost loop of a Func at root
+    /// without updates is vectorized, a turn that writes a point of the Func writes one run of that loop, and nothing
+    /// else (`specs/Runs.antt`).
     ///
     /// # Errors
     ///

@@ -79,8 +79,8 @@ fn push_phases(
 ///
 /// # Errors
 ///
-/// Memory ran out; the phases ask for more words than a text may have, or one has more than 2^31 tasks; or an expression or a nest
-/// of loops has no registers left.
+/// Memory ran out; the phases ask for more words than a text may have, or one has more than 2^31 tasks; or an expression
+/// or a nest of loops has no registers left.
 pub fn generate(alloc: Global, phases: &[Phase], places: &Places) -> Result<Vec<u32>, CodeFault>
     ensures ok { IfOk result (λ words. spec.IsProgram places.now phases.now words.items) }
     ensures err { IfErr result (spec.ArePhasesAtFault places.now phases.now) }

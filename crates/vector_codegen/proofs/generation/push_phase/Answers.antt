@@ -7,8 +7,8 @@ pub returns-clause-emits : goal.returns-clause-emits
 returns-clause-emits c =
     phase-emitted c.args.places.now c.ticket_of-ticket.result c.args.number c.args.is_last c.args.phase.now c.as_slice.result.now c.args.code.now.items
     c.emit_phase.new.code.items c.ticket_of-ticket.ensures.is
-    (task-apart c.args.places.now c.ticket_of-ticket.result c.args.number c.args.phase.now c.new-words.result.items c.emit.new.code.items c.as_slice.result.now c.ticket_of-ticket.ensures.is c.new-words.ensures.items
-    c.as_slice.ensures.value c.in_ok-emit.ensures.ok)
+    (task-apart c.args.places.now c.ticket_of-ticket.result c.args.number c.args.phase.now c.new-words.result.items c.emit.new.code.items
+    c.as_slice.result.now c.ticket_of-ticket.ensures.is c.new-words.ensures.items c.as_slice.ensures.value c.in_ok-emit.ensures.ok)
     c.in_ok-emit_phase.ensures.ok
 
 pub returns-in_err-emit-clause-err : goal.returns-in_err-emit-clause-err
@@ -19,6 +19,6 @@ pub returns-in_err-emit_phase-clause-err : goal.returns-in_err-emit_phase-clause
 returns-in_err-emit_phase-clause-err c =
     passed c.from_residual-in_err-emit_phase.result c.in_err-emit_phase.field-0.0 c.from_residual-in_err-emit_phase.ensures.1
     (around-long c.args.places.now c.ticket_of-ticket.result c.args.number c.args.is_last c.args.phase.now c.as_slice.result.now
-    (task-apart c.args.places.now c.ticket_of-ticket.result c.args.number c.args.phase.now c.new-words.result.items c.emit.new.code.items c.as_slice.result.now c.ticket_of-ticket.ensures.is c.new-words.ensures.items
-    c.as_slice.ensures.value c.in_ok-emit.ensures.ok))
+    (task-apart c.args.places.now c.ticket_of-ticket.result c.args.number c.args.phase.now c.new-words.result.items c.emit.new.code.items
+    c.as_slice.result.now c.ticket_of-ticket.ensures.is c.new-words.ensures.items c.as_slice.ensures.value c.in_ok-emit.ensures.ok))
     (λ deep. absurd deep) c.in_err-emit_phase.ensures.err
