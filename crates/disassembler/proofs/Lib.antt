@@ -1,3 +1,5 @@
+mod AddressedLines
+mod Comments
 pub mod Digits
 pub mod LinesListed
 pub mod Numerals

@@ -1,5 +1,5 @@
 -- No listed line has a line feed within.
-use Rattle.std.proofs.Common.{◌≡◌, ℕ, suc, ◌<◌, not, true, false, if◌then◌else◌, ℤ, pos, negsuc, ◌*ℤ◌, ◌≤ℤ◌, unsigned_abs, List, [], ◌∷◌, ◌++◌, length, refl, ap, ◌∙◌, arith, Option, Some, None}
+use Rattle.std.proofs.Common.{◌≡◌, ℕ, suc, ◌<◌, not, true, false, if◌then◌else◌, ℤ, pos, negsuc, ◌*ℤ◌, ◌≤ℤ◌, unsigned_abs, List, [], ◌∷◌, ◌++◌, length, codes, refl, ap, ◌∙◌, arith, Option, Some, None}
 use Rattle.std.specs.List.{list_all}
 use Rattle.std.specs.Fmt.{decimal, signed_decimal}
 use Rattle.std.proofs.lemmas.Bool.Decides.{nat_tests}
@@ -121,3 +121,13 @@ word_line word (Some insn) found fits = let form = form_of insn in
 
 pub is_line : (word : ℕ) (meant : Option Insn) → ((form : Form) → IsFound form) → ((insn : Insn) → meant ≡ Some insn → FitsSlots (fields_of insn) (shape (form_of insn))) → IsLine (word_text word meant)
 is_line word meant found fits = line_is (word_text word meant) (word_line word meant found fits)
+
+-- nor has a line with its address
+both_lines : (front rest : List ℕ) → IsLine front → IsLine rest → IsLine (front ++ rest)
+both_lines [] rest is is' = is'
+both_lines (byte ∷ front) rest is is' = (is.0, both_lines front rest is.1 is')
+
+pub commented_line : (line : List ℕ) (address : ℕ) → IsLine line → IsLine (line ++ codes " # " ++ hexadecimal_text 8 address)
+commented_line line address is =
+    both_lines (line ++ codes " # ") (hexadecimal_text 8 address) (both_lines line (codes " # ") is (line_is (codes " # ") refl))
+    (line_is (hexadecimal_text 8 address) (hexadecimal_in_line 8 address))

@@ -98,3 +98,14 @@ listed word = line_of word ++ 10 ∷ []
 unfoldable pub listing : List ℕ → List ℕ
 listing [] = []
 listing (word ∷ words) = listed word ++ listing words
+
+-- ---- lines that say where their words stand
+
+-- the line of a word, and behind it a comment with its address, without a line feed
+abbrev pub addressed_line : ℕ → ℕ → List ℕ
+addressed_line address word = line_of word ++ codes " # " ++ hexadecimal_text 8 address
+
+-- the lines of words, the first of which stands at an address
+unfoldable pub addressed_listing : ℕ → List ℕ → List ℕ
+addressed_listing address [] = []
+addressed_listing address (word ∷ words) = (addressed_line address word ++ 10 ∷ []) ++ addressed_listing (address + 4) words

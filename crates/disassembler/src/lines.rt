@@ -1,10 +1,10 @@
 //! The line of a word.
 
-ghost use Rattle.std.specs.Prelude.{◌≡◌, ℕ, ◌++◌, OnOk, OnErr};
+ghost use Rattle.std.specs.Prelude.{◌≡◌, ℕ, [], ◌∷◌, ◌++◌, OnOk, OnErr};
 ghost use Rattle.std.specs.String.{string_bytes};
 ghost use Rattle.rv_insn.specs.Meaning.{Means};
 ghost use Rattle.rv_encoding.specs.Decoding.{decoded};
-ghost use Rattle.disassembler.specs.Listing.{instruction_text, word_text, line_of, listed};
+ghost use Rattle.disassembler.specs.Listing.{addressed_line, instruction_text, word_text, line_of, listed};
 
 use crate::numbers::push_hexadecimal;
 use crate::operands::push_operands;
@@ -27,6 +27,33 @@ pub fn write_line(word: u32, out: &mut Vec<u8>) -> Result<(), AllocError>
     push_word(&mut line, word)?;
     line.push_str("\n")?;
     out.extend_from_slice(line.as_bytes())?;
+    Ok(())
+}
+
+/// Appends the line of a word, behind it a comment with the address at which the word stands, and a line feed. An `Err` says that there
+/// was no memory, and leaves what stands in `out` as it was.
+pub(crate) fn write_addressed_line(
+    word: u32,
+    address: u32,
+    out: &mut Vec<u8>,
+) -> Result<(), AllocError>
+    ensures appended { OnOk result (out.new.items ≡ out.old.items ++ (addressed_line address word ++ 10 ∷ [])) }
+    ensures unchanged { OnErr result (out.new.items ≡ out.old.items) }
+{
+    let mut line = String::with_capacity(*out.allocator(), USUAL_LINE)?;
+    push_addressed(&mut line, word, address)?;
+    line.push_str("\n")?;
+    out.extend_from_slice(line.as_bytes())?;
+    Ok(())
+}
+
+/// The line of a word and a comment with its address, without a line feed.
+fn push_addressed(text: &mut String, word: u32, address: u32) -> Result<(), AllocError>
+    ensures { OnOk result (string_bytes text.new ≡ string_bytes text.old ++ addressed_line address word) }
+{
+    push_word(text, word)?;
+    text.push_str(" # ")?;
+    push_hexadecimal(text, 8, u64::from(address))?;
     Ok(())
 }
 
