@@ -1,16 +1,17 @@
 -- What words without a fault ask for, and which words do.
-use Rattle.std.proofs.Common.{◌≡◌, ◌∙◌, codes, true, true≢false, refl, sym, ap, subst, List, [], ◌∷◌, ◌≤◌, length, Option, Some, IsSome}
-use Rattle.std.specs.Prelude.{is_some, option_and_then, unwrap_or, not}
+use Rattle.std.proofs.Common.{◌≡◌, ◌∙◌, codes, true, false, inl, inr, true≢false, refl, sym, ap, subst, List, [], ◌∷◌, ◌≤◌, length, Option, Some, IsSome}
+use Rattle.std.specs.Prelude.{Bool, None, if◌then◌else◌, is_some, option_and_then, unwrap_or, not}
 use Rattle.std.proofs.lemmas.Bool.{le-ltb}
 use Rattle.std.specs.List.{AllByRecursion}
+use Rattle.hrv_refusals.specs.Explanations.{is_explained}
 use Rattle.clap.specs.Lexer.{usize_max}
 use Rattle.clap.specs.Walk.{Row, Text, rows_after, first_of}
 use Rattle.clap.specs.Simple.{subcommand_of}
 use Rattle.clap.specs.Kinds.{Kinds}
 use Rattle.clap.specs.Faults.{fault_of}
-use Rattle.hrv_command_line.specs.CommandLine.{Asked, Assembles, Compiles, Debugs, Draws, IsPlainWord, IsSpelled, IsWithinLimits, Lists, Renews, Replays, asked_of, asm_of, compile_of, debug_of, dis_of, hrv_app, named, picture_of, renew_of, replay_of, run_from, unless_fault, unmarked}
+use Rattle.hrv_command_line.specs.CommandLine.{Asked, Assembles, Compiles, Debugs, Draws, Explains, IsPlainWord, IsSpelled, IsWithinLimits, Lists, ListsAddresses, Renews, Replays, TellsVersion, asked_in, asked_of, asm_of, compile_of, debug_of, explain_of, hrv_app, if_known, named, picture_of, renew_of, replay_of, run_from, unless_fault, unmarked}
 use Rattle.hrv_command_line.proofs.Positionals.{ArePlain, marked, none, passes_all, plain, takes_all, unmarked-plain}
-use Rattle.hrv_command_line.proofs.Subcommands.{IsName, first_is_name, is_asm, is_compile, is_debug, is_dis, is_picture, is_renew, is_replay, is_run, name_free, name_given, name_passes}
+use Rattle.hrv_command_line.proofs.Subcommands.{IsName, first_is_name, is_asm, is_compile, is_debug, is_dis, is_explain, is_picture, is_renew, is_replay, is_run, is_version, name_free, name_given, name_passes}
 use Rattle.hrv_command_line.proofs.ReplayWords as replay
 use Rattle.hrv_command_line.proofs.DebugWords as debug
 use Rattle.hrv_command_line.proofs.AsmWords as asm
@@ -19,6 +20,8 @@ use Rattle.hrv_command_line.proofs.RenewWords as renew
 use Rattle.hrv_command_line.proofs.PictureWords as picture
 use Rattle.hrv_command_line.proofs.CompileWords as compile
 use Rattle.hrv_command_line.proofs.RunWords as run
+use Rattle.hrv_command_line.proofs.ExplainWords as explain
+use Rattle.hrv_command_line.proofs.VersionWords as version
 
 -- what words with no fault ask for
 pub record Asks (words : List Text) : Type 0 where
@@ -76,18 +79,16 @@ asks_asm words rest e split =
     }
 
 asks_dis : (words rest : List Text) → fault_of hrv_app words ≡ [] → words ≡ codes "dis" ∷ rest → Asks words
-unfolding dis.takes_one
 asks_dis words rest e split =
-    let all = takes_all dis.takes_one rest (name_passes dis.dis_command rest (subst (λ ws. fault_of hrv_app ws ≡ []) split e)) in
-    let one = dis.one_value (unmarked rest) all.1 in
+    let own = dis.dis_asked rest (name_passes dis.dis_command rest (subst (λ ws. fault_of hrv_app ws ≡ []) split e)) in
     record {
-      asked = Lists one.0;
+      asked = own.asked;
       name = codes "dis";
       rows = rows_after dis.leaf.rules [] rest;
       met = ap (subcommand_of hrv_app) split ∙ name_given dis.dis_command rest;
-      asks = ap dis_of all.0 ∙ one.2;
-      spelled = ap unmarked split ∙ ap (λ ws. codes "dis" ∷ ws) one.1;
-      limits = tt;
+      asks = own.is_asked;
+      spelled = dis.is_spelled words own.asked rest split own.is_listed;
+      limits = dis.is_limited (unmarked rest) own.asked own.is_listed;
     }
 
 asks_renew : (words rest : List Text) → fault_of hrv_app words ≡ [] → words ≡ codes "renew" ∷ rest → Asks words
@@ -149,6 +150,39 @@ asks_run words rest e split =
       limits = run.within_limits rows _ own.is_asked;
     }
 
+explained : (words rest : List Text) (family code : Text) → words ≡ codes "explain" ∷ rest → explain.AreGiven (unmarked rest) family code
+    → IsSpelled words (Explains family code)
+explained words rest family code split (inl both) = inl (ap unmarked split ∙ ap (λ ws. codes "explain" ∷ ws) both)
+explained words rest family code split (inr one) = inr (ap unmarked split ∙ ap (λ ws. codes "explain" ∷ ws) one.0, one.1)
+
+asks_explain : (words rest : List Text) → fault_of hrv_app words ≡ [] → words ≡ codes "explain" ∷ rest → Asks words
+unfolding explain.takes_some
+asks_explain words rest e split =
+    let all = takes_all explain.takes_some rest (name_passes explain.explain_command rest (subst (λ ws. fault_of hrv_app ws ≡ []) split e)) in
+    let found = explain.given_values (unmarked rest) all.1 in
+    record {
+      asked = Explains found.0 found.1;
+      name = codes "explain";
+      rows = rows_after explain.leaf.rules [] rest;
+      met = ap (subcommand_of hrv_app) split ∙ name_given explain.explain_command rest;
+      asks = ap explain_of all.0 ∙ found.3;
+      spelled = explained words rest found.0 found.1 split found.2;
+      limits = tt;
+    }
+
+asks_version : (words rest : List Text) → fault_of hrv_app words ≡ [] → words ≡ codes "version" ∷ rest → Asks words
+asks_version words rest e split =
+    let all = takes_all version.takes_none rest (name_passes version.version_command rest (subst (λ ws. fault_of hrv_app ws ≡ []) split e)) in
+    record {
+      asked = TellsVersion;
+      name = codes "version";
+      rows = rows_after version.leaf.rules [] rest;
+      met = ap (subcommand_of hrv_app) split ∙ name_given version.version_command rest;
+      asks = refl;
+      spelled = ap unmarked split ∙ ap (λ ws. codes "version" ∷ ws) (version.no_values (unmarked rest) all.1);
+      limits = tt;
+    }
+
 pub words_ask : (words : List Text) → fault_of hrv_app words ≡ [] → Asks words
 words_ask words e =
     let first = first_is_name words e in
@@ -163,35 +197,46 @@ words_ask words e =
     by_name _ is_picture rest split = asks_picture words rest e split
     by_name _ is_compile rest split = asks_compile words rest e split
     by_name _ is_run rest split = asks_run words rest e split
+    by_name _ is_explain rest split = asks_explain words rest e split
+    by_name _ is_version rest split = asks_version words rest e split
 
--- and they name it
-pub asked_named : (words : List Text) (pass : fault_of hrv_app words ≡ []) (asks : Asks words) → named words ≡ Some asks.asked
+-- and they ask for it
+pub asked_named : (words : List Text) (pass : fault_of hrv_app words ≡ []) (asks : Asks words) → asked_in words ≡ Some asks.asked
 asked_named words pass asks =
     ap (λ kinds. unless_fault kinds (option_and_then asked_of (subcommand_of hrv_app words))) pass
     ∙ ap (option_and_then asked_of) asks.met ∙ asks.asks
 
 -- what is named has no fault
-no_fault : (kinds : Kinds) (asked : Option Asked) → IsSome (unless_fault kinds asked) → kinds ≡ []
+no_fault : (kinds : Kinds) (asked : Option Asked) → IsSome (option_and_then if_known (unless_fault kinds asked)) → kinds ≡ []
 no_fault [] asked some = refl
 no_fault (kind ∷ kinds) asked some = absurd (true≢false (sym some))
 
 pub fault_of-named : (words : List Text) → IsSome (named words) → fault_of hrv_app words ≡ []
 fault_of-named words some = no_fault (fault_of hrv_app words) (option_and_then asked_of (subcommand_of hrv_app words)) some
 
+-- what is known is what was asked for
+known_same : (asked named : Asked) → if_known asked ≡ Some named → asked ≡ named
+known_same (Explains family code) named is = go (is_explained family code) is
+  where
+    go : (b : Bool) → (if b then Some (Explains family code) else None) ≡ Some named → Explains family code ≡ named
+    go true e = ap (λ o. unwrap_or o named) e
+    go false e = absurd (true≢false (sym (ap is_some e)))
+known_same asked named is = ap (λ o. unwrap_or o named) is
+
 -- so nothing is named but what is spelled
 pub only_spelled : (words : List Text) (asked : Asked) → named words ≡ Some asked → IsSpelled words asked
 only_spelled words asked is =
     let pass = fault_of-named words (ap is_some is) in
     let found = words_ask words pass in
-    let same : Some found.asked ≡ Some asked = sym (asked_named words pass found) ∙ is in
-    subst (IsSpelled words) (ap (λ o. unwrap_or o asked) same) found.spelled
+    let same = known_same found.asked asked (sym (ap (option_and_then if_known) (asked_named words pass found)) ∙ is) in
+    subst (IsSpelled words) same found.spelled
 
 -- ---- words that name what is asked for
 
 -- what spelled words ask for
-abbrev asked_in : List Text → Asked
-asked_in (name ∷ image ∷ log ∷ []) = Replays image log
-asked_in _ = Replays [] []
+abbrev replayed_in : List Text → Asked
+replayed_in (name ∷ image ∷ log ∷ []) = Replays image log
+replayed_in _ = Replays [] []
 
 -- two values, of which those before a first `--` are plain, name a replay
 pub values_replay : (words : List Text) (image log : Text) → ArePlain words → unmarked words ≡ image ∷ log ∷ []
@@ -204,10 +249,10 @@ values_replay words image log are_plain two =
     let all = takes_all replay.takes_two words free in
     let both = replay.two_values (unmarked words) enough in
     let rows = ap replay_of all.0 ∙ both.3 in
-    let same : asked_in (codes "replay" ∷ both.0 ∷ both.1 ∷ []) ≡ asked_in (codes "replay" ∷ image ∷ log ∷ []) =
-    ap (λ ws. asked_in (codes "replay" ∷ ws)) (sym both.2 ∙ two) in
-    ap (λ kinds. unless_fault kinds (option_and_then asked_of (subcommand_of hrv_app (codes "replay" ∷ words)))) pass
-    ∙ ap (option_and_then asked_of) (name_given replay.replay_command words) ∙ rows ∙ ap (λ a. Some a) same
+    let same : replayed_in (codes "replay" ∷ both.0 ∷ both.1 ∷ []) ≡ replayed_in (codes "replay" ∷ image ∷ log ∷ []) =
+    ap (λ ws. replayed_in (codes "replay" ∷ ws)) (sym both.2 ∙ two) in
+    ap (option_and_then if_known) (ap (λ kinds. unless_fault kinds (option_and_then asked_of (subcommand_of hrv_app (codes "replay" ∷ words)))) pass
+    ∙ ap (option_and_then asked_of) (name_given replay.replay_command words) ∙ rows ∙ ap (λ a. Some a) same)
 
 pub plain_replay : (image log : Text) → IsPlainWord image → IsPlainWord log → named (codes "replay" ∷ image ∷ log ∷ []) ≡ Some (Replays image log)
 plain_replay image log image_plain log_plain =
@@ -235,8 +280,8 @@ values_debug words image log are_plain two =
     let rows = ap debug_of all.0 ∙ both.3 in
     let same : talked_in (codes "debug" ∷ both.0 ∷ both.1 ∷ []) ≡ talked_in (codes "debug" ∷ image ∷ log ∷ []) =
     ap (λ ws. talked_in (codes "debug" ∷ ws)) (sym both.2 ∙ two) in
-    ap (λ kinds. unless_fault kinds (option_and_then asked_of (subcommand_of hrv_app (codes "debug" ∷ words)))) pass
-    ∙ ap (option_and_then asked_of) (name_given debug.debug_command words) ∙ rows ∙ ap (λ a. Some a) same
+    ap (option_and_then if_known) (ap (λ kinds. unless_fault kinds (option_and_then asked_of (subcommand_of hrv_app (codes "debug" ∷ words)))) pass
+    ∙ ap (option_and_then asked_of) (name_given debug.debug_command words) ∙ rows ∙ ap (λ a. Some a) same)
 
 pub plain_debug : (image log : Text) → IsPlainWord image → IsPlainWord log → named (codes "debug" ∷ image ∷ log ∷ []) ≡ Some (Debugs image log)
 plain_debug image log image_plain log_plain =
@@ -264,8 +309,8 @@ values_asm words source image are_plain two =
     let rows = ap asm_of all.0 ∙ both.3 in
     let same : assembled_in (codes "asm" ∷ both.0 ∷ both.1 ∷ []) ≡ assembled_in (codes "asm" ∷ source ∷ image ∷ []) =
     ap (λ ws. assembled_in (codes "asm" ∷ ws)) (sym both.2 ∙ two) in
-    ap (λ kinds. unless_fault kinds (option_and_then asked_of (subcommand_of hrv_app (codes "asm" ∷ words)))) pass
-    ∙ ap (option_and_then asked_of) (name_given asm.asm_command words) ∙ rows ∙ ap (λ a. Some a) same
+    ap (option_and_then if_known) (ap (λ kinds. unless_fault kinds (option_and_then asked_of (subcommand_of hrv_app (codes "asm" ∷ words)))) pass
+    ∙ ap (option_and_then asked_of) (name_given asm.asm_command words) ∙ rows ∙ ap (λ a. Some a) same)
 
 pub plain_asm : (source image : Text) → IsPlainWord source → IsPlainWord image → named (codes "asm" ∷ source ∷ image ∷ []) ≡ Some (Assembles source image)
 plain_asm source image source_plain image_plain =
@@ -293,8 +338,8 @@ values_renew words old new are_plain two =
     let rows = ap renew_of all.0 ∙ both.3 in
     let same : renewed_in (codes "renew" ∷ both.0 ∷ both.1 ∷ []) ≡ renewed_in (codes "renew" ∷ old ∷ new ∷ []) =
     ap (λ ws. renewed_in (codes "renew" ∷ ws)) (sym both.2 ∙ two) in
-    ap (λ kinds. unless_fault kinds (option_and_then asked_of (subcommand_of hrv_app (codes "renew" ∷ words)))) pass
-    ∙ ap (option_and_then asked_of) (name_given renew.renew_command words) ∙ rows ∙ ap (λ a. Some a) same
+    ap (option_and_then if_known) (ap (λ kinds. unless_fault kinds (option_and_then asked_of (subcommand_of hrv_app (codes "renew" ∷ words)))) pass
+    ∙ ap (option_and_then asked_of) (name_given renew.renew_command words) ∙ rows ∙ ap (λ a. Some a) same)
 
 pub plain_renew : (old new : Text) → IsPlainWord old → IsPlainWord new → named (codes "renew" ∷ old ∷ new ∷ []) ≡ Some (Renews old new)
 plain_renew old new old_plain new_plain =
@@ -305,30 +350,76 @@ pub marked_renew : (old new : Text) → named (codes "renew" ∷ codes "--" ∷ 
 marked_renew old new = values_renew (codes "--" ∷ old ∷ new ∷ []) old new (marked (old ∷ new ∷ [])) refl
 
 -- and for a listing
-abbrev listed_in : List Text → Asked
-listed_in (image ∷ []) = Lists image
-listed_in _ = Lists []
-
--- one value, which is plain where no `--` stands before it, names a listing
-pub values_dis : (words : List Text) (image : Text) → ArePlain words → unmarked words ≡ image ∷ []
-    → named (codes "dis" ∷ words) ≡ Some (Lists image)
-unfolding dis.takes_one
-values_dis words image are_plain is_one =
-    let enough = ap dis.takes_one.is_enough is_one in
-    let free = passes_all dis.takes_one words are_plain enough in
-    let pass = name_free dis.dis_command words free in
-    let all = takes_all dis.takes_one words free in
-    let one = dis.one_value (unmarked words) enough in
-    let rows = ap dis_of all.0 ∙ one.2 in
-    let same : listed_in (one.0 ∷ []) ≡ listed_in (image ∷ []) = ap listed_in (sym one.1 ∙ is_one) in
-    ap (λ kinds. unless_fault kinds (option_and_then asked_of (subcommand_of hrv_app (codes "dis" ∷ words)))) pass
-    ∙ ap (option_and_then asked_of) (name_given dis.dis_command words) ∙ rows ∙ ap (λ a. Some a) same
+names_dis : (words : List Text) (asked : Asked) → dis.Names words asked → if_known asked ≡ Some asked → named (codes "dis" ∷ words) ≡ Some asked
+names_dis words asked found known =
+    let pass = name_free dis.dis_command words found.free in
+    ap (option_and_then if_known) (ap (λ kinds. unless_fault kinds (option_and_then asked_of (subcommand_of hrv_app (codes "dis" ∷ words)))) pass
+    ∙ ap (option_and_then asked_of) (name_given dis.dis_command words) ∙ found.asks) ∙ known
 
 pub plain_dis : (image : Text) → IsPlainWord image → named (codes "dis" ∷ image ∷ []) ≡ Some (Lists image)
-plain_dis image image_plain = values_dis (image ∷ []) image (plain image_plain none) (unmarked-plain image [] image_plain)
+plain_dis image is_plain = names_dis (image ∷ []) (Lists image) (dis.plain_names image is_plain) refl
 
 pub marked_dis : (image : Text) → named (codes "dis" ∷ codes "--" ∷ image ∷ []) ≡ Some (Lists image)
-marked_dis image = values_dis (codes "--" ∷ image ∷ []) image (marked (image ∷ [])) refl
+marked_dis image = names_dis (codes "--" ∷ image ∷ []) (Lists image) (dis.marked_names image) refl
+
+pub addresses_behind : (image : Text) → IsPlainWord image → named (codes "dis" ∷ image ∷ codes "--addresses" ∷ []) ≡ Some (ListsAddresses image)
+addresses_behind image is_plain = names_dis (image ∷ codes "--addresses" ∷ []) (ListsAddresses image) (dis.behind_names image is_plain) refl
+
+pub addresses_before : (image : Text) → IsPlainWord image → named (codes "dis" ∷ codes "--addresses" ∷ image ∷ []) ≡ Some (ListsAddresses image)
+addresses_before image is_plain = names_dis (codes "--addresses" ∷ image ∷ []) (ListsAddresses image) (dis.before_names image is_plain) refl
+
+-- and for an explanation
+enough_words : (words : List Text) (family code : Text) → explain.AreGiven (unmarked words) family code → explain.takes_some.is_enough (unmarked words) ≡ true
+unfolding explain.takes_some
+enough_words words family code (inl both) = ap explain.takes_some.is_enough both
+enough_words words family code (inr one) = ap explain.takes_some.is_enough one.0
+
+asked_words : (words : List Text) (family code : Text) → explain.AreGiven (unmarked words) family code → explain.asked_at (unmarked words) ≡ Some (Explains family code)
+asked_words words family code (inl both) = ap explain.asked_at both
+asked_words words family code (inr one) = ap explain.asked_at one.0 ∙ ap (λ c. Some (Explains family c)) (sym one.1)
+
+values_explain : (words : List Text) (family code : Text) → ArePlain words → explain.AreGiven (unmarked words) family code
+    → asked_in (codes "explain" ∷ words) ≡ Some (Explains family code)
+unfolding explain.takes_some
+values_explain words family code are_plain given =
+    let enough = enough_words words family code given in
+    let free = passes_all explain.takes_some words are_plain enough in
+    let pass = name_free explain.explain_command words free in
+    let all = takes_all explain.takes_some words free in
+    ap (λ kinds. unless_fault kinds (option_and_then asked_of (subcommand_of hrv_app (codes "explain" ∷ words)))) pass
+    ∙ ap (option_and_then asked_of) (name_given explain.explain_command words) ∙ ap explain_of all.0 ∙ asked_words words family code given
+
+both_words : (family code : Text) → IsPlainWord family → IsPlainWord code → asked_in (codes "explain" ∷ family ∷ code ∷ []) ≡ Some (Explains family code)
+both_words family code family_plain code_plain =
+    let two = unmarked-plain family (code ∷ []) family_plain ∙ ap (λ ws. family ∷ ws) (unmarked-plain code [] code_plain) in
+    values_explain (family ∷ code ∷ []) family code (plain family_plain (plain code_plain none)) (inl two)
+
+abbrev if_explained : Text → Text → Bool → Option Asked
+if_explained family code b = if b then Some (Explains family code) else None
+
+pub explains_both : (family code : Text) → IsPlainWord family → IsPlainWord code → is_explained family code ≡ true
+    → named (codes "explain" ∷ family ∷ code ∷ []) ≡ Some (Explains family code)
+explains_both family code family_plain code_plain known =
+    ap (option_and_then if_known) (both_words family code family_plain code_plain) ∙ ap (if_explained family code) known
+
+pub explains_no_other : (family code : Text) → IsPlainWord family → IsPlainWord code → is_explained family code ≡ false
+    → named (codes "explain" ∷ family ∷ code ∷ []) ≡ None
+explains_no_other family code family_plain code_plain unknown =
+    ap (option_and_then if_known) (both_words family code family_plain code_plain) ∙ ap (if_explained family code) unknown
+
+pub explains_alone : (family : Text) → IsPlainWord family → is_explained family [] ≡ true → named (codes "explain" ∷ family ∷ []) ≡ Some (Explains family [])
+explains_alone family family_plain known =
+    ap (option_and_then if_known) (values_explain (family ∷ []) family [] (plain family_plain none) (inr (unmarked-plain family [] family_plain, refl)))
+    ∙ ap (if_explained family []) known
+
+-- and for the version
+pub tells_version : named (codes "version" ∷ []) ≡ Some TellsVersion
+unfolding version.takes_none
+tells_version =
+    let free = passes_all version.takes_none [] none refl in
+    let pass = name_free version.version_command [] free in
+    ap (option_and_then if_known) (ap (λ kinds. unless_fault kinds (option_and_then asked_of (subcommand_of hrv_app (codes "version" ∷ [])))) pass
+    ∙ ap (option_and_then asked_of) (name_given version.version_command []))
 
 abbrev drawn_in : List Text → Asked
 drawn_in (algorithm ∷ inputs) = Draws algorithm inputs
@@ -346,8 +437,8 @@ values_picture words algorithm inputs are_plain split fit =
     let found = picture.all_values (unmarked words) enough in
     let rows = ap picture_of all.0 ∙ found.3 in
     let same : drawn_in (found.0 ∷ found.1) ≡ drawn_in (algorithm ∷ inputs) = ap drawn_in (sym found.2 ∙ split) in
-    ap (λ kinds. unless_fault kinds (option_and_then asked_of (subcommand_of hrv_app (codes "picture" ∷ words)))) pass
-    ∙ ap (option_and_then asked_of) (name_given picture.picture_command words) ∙ rows ∙ ap (λ a. Some a) same
+    ap (option_and_then if_known) (ap (λ kinds. unless_fault kinds (option_and_then asked_of (subcommand_of hrv_app (codes "picture" ∷ words)))) pass
+    ∙ ap (option_and_then asked_of) (name_given picture.picture_command words) ∙ rows ∙ ap (λ a. Some a) same)
 
 -- all words are plain
 pub all_plain : (words : List Text) → AllByRecursion IsPlainWord words → ArePlain words × (unmarked words ≡ words)
@@ -385,8 +476,8 @@ values_compile words algorithm schedule image inputs are_plain split fit =
     let found = compile.all_values (unmarked words) enough in
     let rows = ap compile_of all.0 ∙ found.is_asked in
     let same : compile.asked found ≡ Compiles algorithm schedule image inputs = ap compiled_in (sym found.split ∙ split) in
-    ap (λ kinds. unless_fault kinds (option_and_then asked_of (subcommand_of hrv_app (codes "compile" ∷ words)))) pass
-    ∙ ap (option_and_then asked_of) (name_given compile.compile_command words) ∙ rows ∙ ap (λ a. Some a) same
+    ap (option_and_then if_known) (ap (λ kinds. unless_fault kinds (option_and_then asked_of (subcommand_of hrv_app (codes "compile" ∷ words)))) pass
+    ∙ ap (option_and_then asked_of) (name_given compile.compile_command words) ∙ rows ∙ ap (λ a. Some a) same)
 
 pub plain_compile : (algorithm schedule image : Text) (inputs : List Text) → AllByRecursion IsPlainWord (algorithm ∷ schedule ∷ image ∷ inputs)
     → length inputs ≤ usize_max → named (codes "compile" ∷ algorithm ∷ schedule ∷ image ∷ inputs) ≡ Some (Compiles algorithm schedule image inputs)

@@ -3,6 +3,7 @@ mod AsmWords
 mod CompileWords
 mod DebugWords
 mod DisWords
+mod ExplainWords
 mod HelpOnly
 mod Parses
 mod PictureWords
@@ -12,3 +13,4 @@ mod ReplayWords
 mod RunForms
 mod RunWords
 mod Subcommands
+mod VersionWords

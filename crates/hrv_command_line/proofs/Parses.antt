@@ -2,6 +2,8 @@
 use Rattle.std.proofs.Common.{true≢false, ◌≡◌, ◌∙◌, ◌⊎◌, ℕ, Bool, codes, true, false, refl, sym, ap, ap₂, subst, List, [], Option, Some, None, IsSome, inl, inr}
 use Rattle.std.specs.Prelude.{if◌then◌else◌, is_some, map, option_and_then, option_map, unwrap_or}
 use Rattle.std.specs.Borrow.{Bor}
+use Rattle.std.specs.Str.{bytes_eq}
+use Rattle.std.proofs.lemmas.Slice.Eq.{bytes_eq-Decides}
 use Rattle.std.specs.Str.Parse.{ParsesUnsigned, digits_value, without_leading_plus}
 use Rattle.clap.proofs.ValueTestLemmas.{accepts-Accepts}
 use Rattle.clap.specs.ValueTests.{accepts}
@@ -30,8 +32,8 @@ use Rattle.clap.specs.declared.parser.matches.ArgMatches.TheViews.{out-ArgMatche
 use Rattle.hrv_command_line.specs.Faults.{fault_for}
 use Rattle.hrv_command_line.specs.declared.command_lines.Invocation.{Invocation}
 use Rattle.hrv_command_line.specs.declared.faults.CommandLineFault.{CommandLineFault}
-use Rattle.hrv_command_line.specs.declared.faults.CommandLineFault.TheVariants.{Refused, Memory}
-use Rattle.hrv_command_line.specs.CommandLine.{Asked, Assembles, Compiles, Debugs, Draws, IsRefusal, IsSpelled, IsWithinLimits, Lists, Makes, Renews, Replays, asked_of, asm_of, compile_of, debug_of, dis_of, hrv_app, most_harts, most_turns, named, number_or, picture_of, renew_of, replay_of, run_from, run_of}
+use Rattle.hrv_command_line.specs.declared.faults.CommandLineFault.TheVariants.{Refused, Memory, Unexplained}
+use Rattle.hrv_command_line.specs.CommandLine.{Asked, Assembles, Compiles, Debugs, Draws, Explains, IsRefusal, IsSpelled, IsWithinLimits, Makes, Renews, Replays, asked_in, asked_of, asm_of, compile_of, debug_of, dis_of, explain_of, hrv_app, if_known, is_given_by, listing_of, most_harts, most_turns, named, number_or, picture_of, renew_of, replay_of, run_from, run_of}
 use Rattle.hrv_command_line.proofs.AskedWords.{Asks, asked_named, fault_of-named, words_ask}
 use Rattle.hrv_command_line.proofs.RunWords.{run_needs}
 
@@ -46,7 +48,7 @@ is_simple_app = refl
 pub record Taken (words : List Text) (m : ArgMatches) : Type 0 where
   pub asks : Asks words
   pub met : subcommand_rows_of m ≡ Some (asks.name, asks.rows)
-  pub is_named : named words ≡ Some asks.asked
+  pub is_asked : asked_in words ≡ Some asks.asked
 
 pub taken : (command : Command) (words : List Text) (m : ArgMatches) → Makes hrv_app command
     → (is_simple_and_free (app_of command) ≡ true → fault_of (app_of command) words ≡ [])
@@ -58,7 +60,7 @@ taken command words m made passes matches =
     record {
       asks = asks;
       met = rows ∙ asks.met;
-      is_named = asked_named words pass asks;
+      is_asked = asked_named words pass asks;
     }
 
 -- ---- what a subcommand is given
@@ -111,16 +113,55 @@ pub renew_read : (rows : List Row) (old new : Text) → first_of (codes "OLD") r
     → first_of (codes "NEW") rows ≡ Some new → renew_of rows ≡ Some (Renews old new)
 renew_read rows old new first second = ap₂ (λ o n. option_and_then (λ x. option_map (λ y. Renews x y) n) o) first second
 
--- the image of a listing is there
-image_given : (image : Option Text) → IsSome (option_map (λ i. Lists i) image) → IsSome image
-image_given None e = absurd (true≢false (sym e))
-image_given (Some i) e = refl
+-- the image of a listing is there, and whether its flag is
+listing_given : (image : Option Text) (flag : Option Bool) → IsSome (option_and_then (λ i. option_map (λ b. listing_of i b) flag) image) → IsSome image × IsSome flag
+listing_given None flag e = absurd (true≢false (sym e))
+listing_given (Some i) None e = absurd (true≢false (sym e))
+listing_given (Some i) (Some b) e = (refl, refl)
 
-pub dis_given : (rows : List Row) → IsSome (dis_of rows) → IsSome (first_of (codes "IMAGE") rows)
-dis_given rows some = image_given (first_of (codes "IMAGE") rows) some
+pub dis_given : (rows : List Row) → IsSome (dis_of rows) → IsSome (first_of (codes "IMAGE") rows) × IsSome (is_given_by (one_of (codes "addresses") rows))
+dis_given rows some = listing_given (first_of (codes "IMAGE") rows) (is_given_by (one_of (codes "addresses") rows)) some
 
-pub dis_read : (rows : List Row) (image : Text) → first_of (codes "IMAGE") rows ≡ Some image → dis_of rows ≡ Some (Lists image)
-dis_read rows image first = ap (option_map (λ x. Lists x)) first
+pub dis_read : (rows : List Row) (image : Text) (flag : Bool) → first_of (codes "IMAGE") rows ≡ Some image
+    → is_given_by (one_of (codes "addresses") rows) ≡ Some flag → dis_of rows ≡ Some (listing_of image flag)
+dis_read rows image flag first given = ap₂ (λ i f. option_and_then (λ x. option_map (λ b. listing_of x b) f) i) first given
+
+-- what `get_flag` gives of a flag
+pub flag_read : (f : Found) (id : Text) (r : Bool) → (one_text f id ≡ None → r ≡ false) → (one_text f id ≡ Some (codes "true") → r ≡ true)
+    → (one_text f id ≡ Some (codes "false") → r ≡ false) → IsSome (is_given_by (one_of id (rows_of f))) → is_given_by (one_of id (rows_of f)) ≡ Some r
+flag_read f id r none given refused some =
+    subst (λ o. is_given_by o ≡ Some r) (one_text-rows f id) (by_text (one_text f id) refl (subst (λ o. IsSome (is_given_by o)) (sym (one_text-rows f id)) some))
+  where
+    by_tests : (t : Text) (a b : Bool) → one_text f id ≡ Some t → bytes_eq t (codes "true") ≡ a → bytes_eq t (codes "false") ≡ b
+        → IsSome (if a then Some true else (if b then Some false else None)) → (if a then Some true else (if b then Some false else None)) ≡ Some r
+    by_tests t true b is same other there = ap (λ x. Some x) (sym (given (is ∙ ap (λ w. Some w) ((bytes_eq-Decides t (codes "true")).0 same))))
+    by_tests t false true is other same there = ap (λ x. Some x) (sym (refused (is ∙ ap (λ w. Some w) ((bytes_eq-Decides t (codes "false")).0 same))))
+    by_tests t false false is other same there = absurd (true≢false (sym there))
+
+    by_text : (o : Option Text) → one_text f id ≡ o → IsSome (is_given_by o) → is_given_by o ≡ Some r
+    by_text None is there = ap (λ x. Some x) (sym (none is))
+    by_text (Some t) is there = by_tests t (bytes_eq t (codes "true")) (bytes_eq t (codes "false")) is refl refl there
+
+-- the family of an explanation is there
+family_given : (code : Text) (family : Option Text) → IsSome (option_map (λ f. Explains f code) family) → IsSome family
+family_given code None e = absurd (true≢false (sym e))
+family_given code (Some f) e = refl
+
+pub explain_given : (rows : List Row) → IsSome (explain_of rows) → IsSome (first_of (codes "FAMILY") rows)
+explain_given rows some = family_given (unwrap_or (first_of (codes "CODE") rows) []) (first_of (codes "FAMILY") rows) some
+
+pub explain_read : (rows : List Row) (family code : Text) → first_of (codes "FAMILY") rows ≡ Some family
+    → code ≡ unwrap_or (first_of (codes "CODE") rows) [] → explain_of rows ≡ Some (Explains family code)
+explain_read rows family code first rest = ap₂ (λ f c. option_map (λ x. Explains x c) f) first (sym rest)
+
+-- a value, or the empty text where there is none
+pub read_or_empty : (f : Found) (id : Text) (o : Option (Bor Text)) (empty x : Bor Text) → option_map (λ s. s.now) o ≡ first_value f id → empty.now ≡ []
+    → x ≡ unwrap_or o empty → x.now ≡ unwrap_or (first_of id (rows_of f)) []
+read_or_empty f id o empty x gives none is = ap (λ s. s.now) is ∙ go o gives
+  where
+    go : (o : Option (Bor Text)) → option_map (λ s. s.now) o ≡ first_value f id → (unwrap_or o empty).now ≡ unwrap_or (first_of id (rows_of f)) []
+    go None missing = none ∙ ap (λ t. unwrap_or t []) (missing ∙ first_value-rows f id)
+    go (Some s) there = ap (λ t. unwrap_or t []) (there ∙ first_value-rows f id)
 
 first_given : (inputs : List Text) (algorithm : Option Text) → IsSome (option_map (λ a. Draws a inputs) algorithm) → IsSome algorithm
 first_given inputs None e = absurd (true≢false (sym e))
@@ -220,13 +261,24 @@ refused (Ok i) words error is kinds = absurd is
 refused (Err f) words error is (inl memory) = inl (is ∙ ap (λ k. fault_for k error) memory)
 refused (Err f) words error is (inr among) = elim (fault_cases (kind_of error) error) [
   | inl memory ↦ inl (is ∙ memory)
-  | inr kept ↦ inr (error, is ∙ kept, among)
+  | inr kept ↦ inr (inl (error, is ∙ kept, among))
 ]
 
+-- what isn't known isn't named
+unnamed : (words : List Text) (asked : Asked) → asked_in words ≡ Some asked → if_known asked ≡ None → named words ≡ None
+unnamed words asked is unknown = ap (option_and_then if_known) is ∙ unknown
+
+pub known_named : (words : List Text) (asked : Asked) → asked_in words ≡ Some asked → if_known asked ≡ Some asked → named words ≡ Some asked
+known_named words asked is known = ap (option_and_then if_known) is ∙ known
+
+pub unexplained : (words : List Text) (f : CommandLineFault) (asked : Asked) → f ≡ Unexplained → asked_in words ≡ Some asked → if_known asked ≡ None → IsRefusal words f
+unexplained words f asked is there unknown = inr (inr (asked, is, there, unknown))
+
 -- what is named is refused for memory alone
-memory_alone : (words : List Text) (f : CommandLineFault) → IsSome (named words) → IsRefusal words f → f ≡ Memory
+pub memory_alone : (words : List Text) (f : CommandLineFault) → IsSome (named words) → IsRefusal words f → f ≡ Memory
 memory_alone words f some (inl memory) = memory
-memory_alone words f some (inr kept) = absurd (subst (IsAmong (kind_of kept.0)) (fault_of-named words some) kept.2)
+memory_alone words f some (inr (inl kept)) = absurd (subst (IsAmong (kind_of kept.0)) (fault_of-named words some) kept.2)
+memory_alone words f some (inr (inr unknown)) = absurd (true≢false (sym some ∙ ap is_some (unnamed words unknown.0 unknown.2 unknown.3)))
 
 pub refused_named : (r : Result Invocation CommandLineFault) (words : List Text) → IfErr r (IsRefusal words) → IfErr r (λ f. IsSome (named words) → f ≡ Memory)
 refused_named (Ok i) words h = tt

@@ -13,7 +13,7 @@ use Rattle.clap.specs.Faults.{level_fault, step_fault, turn_fault, walk_fault, w
 use Rattle.clap.specs.declared.builder.value_parser.Reading.TheVariants.{AsWritten}
 use Rattle.clap.specs.declared.builder.value_parser.ValueParser.TheVariants.{Unsigned}
 use Rattle.clap.specs.declared.parser.matches.ValueSource.TheVariants.{CommandLine}
-use Rattle.hrv_command_line.specs.CommandLine.{Asked, IsPlainWord, Resumes, Runs, asked_of, hrv_app, most_harts, most_turns, named, number_or, run_of, unless_fault}
+use Rattle.hrv_command_line.specs.CommandLine.{Asked, IsPlainWord, Resumes, Runs, asked_of, hrv_app, if_known, most_harts, most_turns, named, number_or, run_of, unless_fault}
 use Rattle.hrv_command_line.proofs.HelpOnly.{held, is_idle, looks_plain, plain_met}
 use Rattle.hrv_command_line.proofs.Positionals.{at, end_fault}
 use Rattle.hrv_command_line.proofs.RunWords.{leaf, run_command}
@@ -37,12 +37,12 @@ one_further from over to word rest quiet moved passes = (
 
 -- words that end so name what the rows ask for
 named_by : (words : List Text) (end : Walk) (asked : Asked) → Passes (walk_from nothing_held) words end → end_fault leaf end.held ≡ []
-    → run_of (finished leaf.rules end.held) ≡ Some asked → named (codes "run" ∷ words) ≡ Some asked
-named_by words end asked passes ends asks =
+    → run_of (finished leaf.rules end.held) ≡ Some asked → if_known asked ≡ Some asked → named (codes "run" ∷ words) ≡ Some asked
+named_by words end asked passes ends asks known =
     let held_is : (fold (walked leaf.rules []) (walk_from nothing_held) words).held ≡ end.held = ap (λ (w : Walk). w.held) passes.1 in
     let free : level_fault leaf [] nothing_held words false [] ≡ [] = ap₂ or_else passes.0 (ap (end_fault leaf) held_is ∙ ends) in
-    ap (λ kinds. unless_fault kinds (option_and_then asked_of (subcommand_of hrv_app (codes "run" ∷ words)))) (name_free run_command words free)
-    ∙ ap (option_and_then asked_of) (name_given run_command words) ∙ ap (λ h. run_of (finished leaf.rules h)) held_is ∙ asks
+    ap (option_and_then if_known) (ap (λ kinds. unless_fault kinds (option_and_then asked_of (subcommand_of hrv_app (codes "run" ∷ words)))) (name_free run_command words free)
+    ∙ ap (option_and_then asked_of) (name_given run_command words) ∙ ap (λ h. run_of (finished leaf.rules h)) held_is ∙ asks) ∙ known
 
 -- ---- what is held
 
@@ -100,7 +100,7 @@ module _ (image log : Text) where
   pub plain_run : IsPlainWord image → IsPlainWord log → named (codes "run" ∷ image ∷ log ∷ []) ≡ Some (Runs image log 1 most_turns)
   plain_run image_plain log_plain =
       named_by (image ∷ log ∷ []) (at false idle 3 (with_files image log)) (Runs image log 1 most_turns)
-      (files_pass image_plain log_plain [] _ (arrived _)) files_end files_asked
+      (files_pass image_plain log_plain [] _ (arrived _)) files_end files_asked refl
 
   -- ---- past `--`
 
@@ -109,7 +109,7 @@ module _ (image log : Text) where
   marked_pass = (refl, refl)
 
   pub marked_run : named (codes "run" ∷ codes "--" ∷ image ∷ log ∷ []) ≡ Some (Runs image log 1 most_turns)
-  marked_run = named_by (codes "--" ∷ image ∷ log ∷ []) (at true idle 3 (with_files image log)) (Runs image log 1 most_turns) marked_pass files_end files_asked
+  marked_run = named_by (codes "--" ∷ image ∷ log ∷ []) (at true idle 3 (with_files image log)) (Runs image log 1 most_turns) marked_pass files_end files_asked refl
 
 -- ---- options
 
@@ -225,7 +225,7 @@ module _ (image log old : Text) (plain : IsPlainWord old) where
   pub resumed_run : IsPlainWord image → IsPlainWord log → named (codes "run" ∷ image ∷ log ∷ codes "--from" ∷ old ∷ []) ≡ Some (Resumes image log old most_turns)
   resumed_run image_plain log_plain =
       named_by (image ∷ log ∷ codes "--from" ∷ old ∷ []) (at false idle 3 (with_from image log (old ∷ []))) (Resumes image log old most_turns)
-      (files_pass image log image_plain log_plain _ _ from_passes) from_end from_asked
+      (files_pass image log image_plain log_plain _ _ from_passes) from_end from_asked refl
 
 -- a text with a number is accepted
 accepted_of : (none most : ℕ) (text : Text) (n : ℕ) → number_or none most (Some text) ≡ Some n
@@ -246,5 +246,5 @@ options_run image log harts turns h t image_plain log_plain harts_are turns_are 
     let words = image ∷ log ∷ codes "--harts" ∷ harts ∷ codes "--turns" ∷ turns ∷ [] in
     named_by words (at false idle 3 (with_turns image log harts (turns ∷ []))) (Runs image log (digits_value 10 (without_leading_plus harts)) (digits_value 10 (without_leading_plus turns)))
     (files_pass image log image_plain log_plain _ _ (options_pass image log harts turns hs.0 ts.0)) (options_end image log harts turns hs.0 ts.0)
-    (options_asked image log harts turns hs.0 ts.0)
+    (options_asked image log harts turns hs.0 ts.0) refl
     ∙ ap₂ (λ m n. Some (Runs image log m n)) hs.1 ts.1

@@ -25,6 +25,8 @@ pub data IsName : Text → Type 0 where
   is_picture : IsName (codes "picture")
   is_compile : IsName (codes "compile")
   is_run : IsName (codes "run")
+  is_explain : IsName (codes "explain")
+  is_version : IsName (codes "version")
 
 -- past the subcommand, the words are its own
 abbrev pub stopped : Held → Text → List Text → Walk
@@ -77,69 +79,33 @@ begins : (word : Text) (rest : List Text) (name : Text) → IsName name → byte
 begins word rest name is_name same =
     record { name = name; is_name = is_name; rest = rest; split = ap (λ w. w ∷ rest) (sym ((bytes_eq-Decides name word).0 same)) }
 
+-- a test holds or not
+tell : {C : Type 0} (b : Bool) → (b ≡ true → C) → (b ≡ false → C) → C
+tell true holds fails = holds refl
+tell false holds fails = fails refl
+
 -- the first word is one of them
 pub first_is_name : (words : List Text) → fault_of hrv_app words ≡ [] → Named words
 unfolding walk_fault
 first_is_name [] e = absurd (fault_none e)
-first_is_name (word ∷ rest) e = by_replay (bytes_eq (codes "replay") word) refl
+first_is_name (word ∷ rest) e =
+    tell (bytes_eq (codes "replay") word) (λ same. begins word rest (codes "replay") is_replay same) (λ no_replay.
+    tell (bytes_eq (codes "debug") word) (λ same. begins word rest (codes "debug") is_debug same) (λ no_debug.
+    tell (bytes_eq (codes "asm") word) (λ same. begins word rest (codes "asm") is_asm same) (λ no_asm.
+    tell (bytes_eq (codes "dis") word) (λ same. begins word rest (codes "dis") is_dis same) (λ no_dis.
+    tell (bytes_eq (codes "renew") word) (λ same. begins word rest (codes "renew") is_renew same) (λ no_renew.
+    tell (bytes_eq (codes "picture") word) (λ same. begins word rest (codes "picture") is_picture same) (λ no_picture.
+    tell (bytes_eq (codes "compile") word) (λ same. begins word rest (codes "compile") is_compile same) (λ no_compile.
+    tell (bytes_eq (codes "run") word) (λ same. begins word rest (codes "run") is_run same) (λ no_run.
+    tell (bytes_eq (codes "explain") word) (λ same. begins word rest (codes "explain") is_explain same) (λ no_explain.
+    tell (bytes_eq (codes "version") word) (λ same. begins word rest (codes "version") is_version same) (λ no_version.
+    tell (bytes_eq (codes "help") word) (λ help. absurd (some_fault _ _ (rw (no_replay, no_debug, no_asm, no_dis, no_renew, no_picture, no_compile, no_run, no_explain, no_version, help) at first))) (λ no_help.
+    let unnamed : subcommand_met (names_of app) idle word ≡ None = rw (no_replay, no_debug, no_asm, no_dis, no_renew, no_picture, no_compile, no_run, no_explain, no_version, no_help) refl in
+    tell (bytes_eq word (codes "--")) (λ mark. absurd (fault_marked rest (subst (λ w. fault_of hrv_app (w ∷ rest) ≡ []) ((bytes_eq-Decides word (codes "--")).0 mark) e)))
+    (λ other. absurd (stray word unnamed other first)))))))))))))
   where
     first : top_fault word ≡ []
     first = (both_pass (top_fault word) _ (both_pass (walk_fault app.top (names_of app) (walk_from nothing_held) (word ∷ rest)) _ e).0).0
-
-    by_mark : (b : Bool) → bytes_eq word (codes "--") ≡ b → subcommand_met (names_of app) idle word ≡ None → Named (word ∷ rest)
-    by_mark true mark unnamed = absurd (fault_marked rest (subst (λ w. fault_of hrv_app (w ∷ rest) ≡ []) ((bytes_eq-Decides word (codes "--")).0 mark) e))
-    by_mark false mark unnamed = absurd (stray word unnamed mark first)
-
-    by_help : (b : Bool) → bytes_eq (codes "help") word ≡ b → bytes_eq (codes "replay") word ≡ false → bytes_eq (codes "debug") word ≡ false
-        → bytes_eq (codes "asm") word ≡ false → bytes_eq (codes "dis") word ≡ false → bytes_eq (codes "renew") word ≡ false → bytes_eq (codes "picture") word ≡ false
-        → bytes_eq (codes "compile") word ≡ false → bytes_eq (codes "run") word ≡ false → Named (word ∷ rest)
-    by_help true help no_replay no_debug no_asm no_dis no_renew no_picture no_compile no_run =
-        absurd (some_fault _ _ (rw (no_replay, no_debug, no_asm, no_dis, no_renew, no_picture, no_compile, no_run, help) at first))
-    by_help false help no_replay no_debug no_asm no_dis no_renew no_picture no_compile no_run =
-        by_mark (bytes_eq word (codes "--")) refl (rw (no_replay, no_debug, no_asm, no_dis, no_renew, no_picture, no_compile, no_run, help) refl)
-
-    by_run : (b : Bool) → bytes_eq (codes "run") word ≡ b → bytes_eq (codes "replay") word ≡ false → bytes_eq (codes "debug") word ≡ false
-        → bytes_eq (codes "asm") word ≡ false → bytes_eq (codes "dis") word ≡ false → bytes_eq (codes "renew") word ≡ false → bytes_eq (codes "picture") word ≡ false
-        → bytes_eq (codes "compile") word ≡ false → Named (word ∷ rest)
-    by_run true same no_replay no_debug no_asm no_dis no_renew no_picture no_compile = begins word rest (codes "run") is_run same
-    by_run false other no_replay no_debug no_asm no_dis no_renew no_picture no_compile =
-        by_help (bytes_eq (codes "help") word) refl no_replay no_debug no_asm no_dis no_renew no_picture no_compile other
-
-    by_compile : (b : Bool) → bytes_eq (codes "compile") word ≡ b → bytes_eq (codes "replay") word ≡ false → bytes_eq (codes "debug") word ≡ false
-        → bytes_eq (codes "asm") word ≡ false → bytes_eq (codes "dis") word ≡ false → bytes_eq (codes "renew") word ≡ false → bytes_eq (codes "picture") word ≡ false
-        → Named (word ∷ rest)
-    by_compile true same no_replay no_debug no_asm no_dis no_renew no_picture = begins word rest (codes "compile") is_compile same
-    by_compile false other no_replay no_debug no_asm no_dis no_renew no_picture =
-        by_run (bytes_eq (codes "run") word) refl no_replay no_debug no_asm no_dis no_renew no_picture other
-
-    by_picture : (b : Bool) → bytes_eq (codes "picture") word ≡ b → bytes_eq (codes "replay") word ≡ false → bytes_eq (codes "debug") word ≡ false
-        → bytes_eq (codes "asm") word ≡ false → bytes_eq (codes "dis") word ≡ false → bytes_eq (codes "renew") word ≡ false → Named (word ∷ rest)
-    by_picture true same no_replay no_debug no_asm no_dis no_renew = begins word rest (codes "picture") is_picture same
-    by_picture false other no_replay no_debug no_asm no_dis no_renew =
-        by_compile (bytes_eq (codes "compile") word) refl no_replay no_debug no_asm no_dis no_renew other
-
-    by_renew : (b : Bool) → bytes_eq (codes "renew") word ≡ b → bytes_eq (codes "replay") word ≡ false → bytes_eq (codes "debug") word ≡ false
-        → bytes_eq (codes "asm") word ≡ false → bytes_eq (codes "dis") word ≡ false → Named (word ∷ rest)
-    by_renew true same no_replay no_debug no_asm no_dis = begins word rest (codes "renew") is_renew same
-    by_renew false other no_replay no_debug no_asm no_dis = by_picture (bytes_eq (codes "picture") word) refl no_replay no_debug no_asm no_dis other
-
-    by_dis : (b : Bool) → bytes_eq (codes "dis") word ≡ b → bytes_eq (codes "replay") word ≡ false → bytes_eq (codes "debug") word ≡ false
-        → bytes_eq (codes "asm") word ≡ false → Named (word ∷ rest)
-    by_dis true same no_replay no_debug no_asm = begins word rest (codes "dis") is_dis same
-    by_dis false other no_replay no_debug no_asm = by_renew (bytes_eq (codes "renew") word) refl no_replay no_debug no_asm other
-
-    by_asm : (b : Bool) → bytes_eq (codes "asm") word ≡ b → bytes_eq (codes "replay") word ≡ false → bytes_eq (codes "debug") word ≡ false
-        → Named (word ∷ rest)
-    by_asm true same no_replay no_debug = begins word rest (codes "asm") is_asm same
-    by_asm false other no_replay no_debug = by_dis (bytes_eq (codes "dis") word) refl no_replay no_debug other
-
-    by_debug : (b : Bool) → bytes_eq (codes "debug") word ≡ b → bytes_eq (codes "replay") word ≡ false → Named (word ∷ rest)
-    by_debug true same no_replay = begins word rest (codes "debug") is_debug same
-    by_debug false other no_replay = by_asm (bytes_eq (codes "asm") word) refl no_replay other
-
-    by_replay : (b : Bool) → bytes_eq (codes "replay") word ≡ b → Named (word ∷ rest)
-    by_replay true same = begins word rest (codes "replay") is_replay same
-    by_replay false other = by_debug (bytes_eq (codes "debug") word) refl other
 
 -- ---- a subcommand by its name
 

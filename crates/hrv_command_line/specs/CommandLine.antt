@@ -1,22 +1,24 @@
 -- What the words of a command line ask for, by what `clap` says of a command and words.
-use Rattle.std.specs.Prelude.{◌≡◌, ◌≢◌, ◌⊎◌, ◌≤◌, ◌^◌, ℕ, false, true, List, [], ◌∷◌, Option, Some, None, codes, if◌then◌else◌}
+use Rattle.std.specs.Prelude.{◌≡◌, ◌≢◌, ◌⊎◌, ◌≤◌, ◌^◌, ℕ, Bool, false, true, List, [], ◌∷◌, Option, Some, None, codes, if◌then◌else◌}
 use Rattle.std.specs.Prelude.{option_and_then, option_map, unwrap_or}
 use Rattle.std.specs.Str.{bytes_eq}
 use Rattle.std.specs.Str.Parse.{digits_value, without_leading_plus}
+use Rattle.hrv_refusals.specs.Explanations.{is_explained}
 use Rattle.clap.specs.Lexer.{usize_max}
 use Rattle.clap.specs.Simple.{on_top}
 use Rattle.clap.specs.Walk.{texts}
 use Rattle.clap.specs.Words.{App, IsAmong, Kinds, Row, Rule, Text, all_of, app_of, fault_of, first_of, kind_of, one_of}
 use Rattle.clap.specs.Words.{new_app, new_rule, subcommand_of, with_rule, with_subcommand}
 use Rattle.clap.specs.ValueTests.{accepts}
+use Rattle.clap.specs.declared.builder.action.ArgAction.TheVariants.{SetTrue}
 use Rattle.clap.specs.declared.builder.command.Command.{Command}
 use Rattle.clap.specs.declared.builder.command.Command.TheViews.{out-Command}
 use Rattle.clap.specs.declared.builder.value_parser.ValueParser.TheVariants.{Unsigned}
 use Rattle.clap.specs.declared.error.Error.{Error}
 use Rattle.hrv_command_line.specs.declared.command_lines.Invocation.{Invocation}
-use Rattle.hrv_command_line.specs.declared.command_lines.Invocation.TheVariants.{Asm, Compile, Debug, Dis, Picture, Renew, Replay, Resume, Run}
+use Rattle.hrv_command_line.specs.declared.command_lines.Invocation.TheVariants.{Asm, Compile, Debug, Dis, DisAddresses, Explain, Picture, Renew, Replay, Resume, Run, Version}
 use Rattle.hrv_command_line.specs.declared.faults.CommandLineFault.{CommandLineFault}
-use Rattle.hrv_command_line.specs.declared.faults.CommandLineFault.TheVariants.{Refused, Memory}
+use Rattle.hrv_command_line.specs.declared.faults.CommandLineFault.TheVariants.{Refused, Memory, Unexplained}
 
 -- what the program may be asked for
 pub data Asked : Type 0 where
@@ -24,22 +26,28 @@ pub data Asked : Type 0 where
   Debugs : (image log : List ℕ) → Asked
   Assembles : (source image : List ℕ) → Asked
   Lists : (image : List ℕ) → Asked
+  ListsAddresses : (image : List ℕ) → Asked
   Renews : (old new : List ℕ) → Asked
   Draws : (algorithm : List ℕ) → (inputs : List (List ℕ)) → Asked
   Compiles : (algorithm schedule image : List ℕ) → (inputs : List (List ℕ)) → Asked
   Runs : (image log : List ℕ) → (harts turns : ℕ) → Asked
   Resumes : (image log old : List ℕ) → (turns : ℕ) → Asked
+  Explains : (family code : List ℕ) → Asked
+  TellsVersion : Asked
 
 abbrev pub asked_by : Invocation → Asked
 asked_by (Replay image log) = Replays image.now log.now
 asked_by (Debug image log) = Debugs image.now log.now
 asked_by (Asm source image) = Assembles source.now image.now
 asked_by (Dis image) = Lists image.now
+asked_by (DisAddresses image) = ListsAddresses image.now
 asked_by (Renew old new) = Renews old.now new.now
 asked_by (Picture algorithm inputs) = Draws algorithm.now (texts inputs.items)
 asked_by (Compile algorithm schedule image inputs) = Compiles algorithm.now schedule.now image.now (texts inputs.items)
 asked_by (Run image log harts turns) = Runs image.now log.now harts turns
 asked_by (Resume image log old turns) = Resumes image.now log.now old.now turns
+asked_by (Explain family code) = Explains family.now code.now
+asked_by Version = TellsVersion
 
 -- how many harts a run may have, and how many turns each
 abbrev pub most_harts : ℕ
@@ -78,6 +86,10 @@ number_rule name most = record (new_rule name) { long = Some name; value_names =
 abbrev pub word_rule : Text → Rule
 word_rule name = record (new_rule name) { long = Some name; value_names = 1 }
 
+-- an option that takes no word
+abbrev pub flag_rule : Text → Rule
+flag_rule name = record (new_rule name) { long = Some name; action = Some SetTrue }
+
 -- `replay IMAGE LOG`
 abbrev pub replay_app : App
 replay_app = with_rule (with_rule (new_app (codes "replay")) (required_rule (codes "IMAGE")))
@@ -93,9 +105,9 @@ abbrev pub asm_app : App
 asm_app = with_rule (with_rule (new_app (codes "asm")) (required_rule (codes "SOURCE")))
     (required_rule (codes "IMAGE"))
 
--- `dis IMAGE`
+-- `dis IMAGE --addresses`
 abbrev pub dis_app : App
-dis_app = with_rule (new_app (codes "dis")) (required_rule (codes "IMAGE"))
+dis_app = with_rule (with_rule (new_app (codes "dis")) (required_rule (codes "IMAGE"))) (flag_rule (codes "addresses"))
 
 -- `renew OLD NEW`
 abbrev pub renew_app : App
@@ -128,6 +140,14 @@ run_numbers_app = with_rule (with_rule run_files_app (number_rule (codes "harts"
 abbrev pub run_app : App
 run_app = with_rule run_numbers_app (word_rule (codes "from"))
 
+-- `explain FAMILY [CODE]`
+abbrev pub explain_app : App
+explain_app = with_rule (with_rule (new_app (codes "explain")) (required_rule (codes "FAMILY"))) (new_rule (codes "CODE"))
+
+-- `version`
+abbrev pub version_app : App
+version_app = new_app (codes "version")
+
 -- the words are all arguments, and one of the subcommands has to be there
 abbrev pub bare_app : App
 bare_app = on_top (λ s. record s { no_binary_name = true; subcommand_required = true }) (new_app (codes "hrv"))
@@ -144,9 +164,13 @@ text_app = with_subcommand (with_subcommand (with_subcommand log_app asm_app.top
 abbrev pub algorithm_app : App
 algorithm_app = with_subcommand (with_subcommand text_app picture_app.top) compile_app.top
 
--- and with the one that has options
+-- with the one that runs
+abbrev pub running_app : App
+running_app = with_subcommand algorithm_app run_app.top
+
+-- and with those that tell of the program itself
 abbrev pub hrv_app : App
-hrv_app = with_subcommand algorithm_app run_app.top
+hrv_app = with_subcommand (with_subcommand running_app explain_app.top) version_app.top
 
 -- the command is the one that is described, and no argument of it is another command's too
 pub record Makes (wanted : App) (command : Command) : Type 0 where
@@ -167,8 +191,19 @@ abbrev pub asm_of : List Row → Option Asked
 asm_of given = option_and_then (λ source. option_map (λ image. Assembles source image)
     (first_of (codes "IMAGE") given)) (first_of (codes "SOURCE") given)
 
+-- whether a flag is given, by its text
+abbrev pub is_given_by : Option Text → Option Bool
+is_given_by None = Some false
+is_given_by (Some text) =
+    if bytes_eq text (codes "true") then Some true else (if bytes_eq text (codes "false") then Some false else None)
+
+abbrev pub listing_of : Text → Bool → Asked
+listing_of image true = ListsAddresses image
+listing_of image false = Lists image
+
 abbrev pub dis_of : List Row → Option Asked
-dis_of given = option_map (λ image. Lists image) (first_of (codes "IMAGE") given)
+dis_of given = option_and_then (λ image. option_map (λ with_addresses. listing_of image with_addresses)
+    (is_given_by (one_of (codes "addresses") given))) (first_of (codes "IMAGE") given)
 
 abbrev pub renew_of : List Row → Option Asked
 renew_of given = option_and_then (λ old. option_map (λ new. Renews old new)
@@ -202,6 +237,10 @@ run_of given = option_and_then (λ image. option_and_then (λ log. option_and_th
     (number_or 1 most_harts (one_of (codes "harts") given)))
     (first_of (codes "LOG") given)) (first_of (codes "IMAGE") given)
 
+-- a code that isn't given is empty
+abbrev pub explain_of : List Row → Option Asked
+explain_of given = option_map (λ family. Explains family (unwrap_or (first_of (codes "CODE") given) [])) (first_of (codes "FAMILY") given)
+
 -- by the subcommand's name and what it is given
 abbrev pub asked_of : Text × List Row → Option Asked
 asked_of met = if bytes_eq met.0 (codes "replay") then replay_of met.1
@@ -211,22 +250,34 @@ asked_of met = if bytes_eq met.0 (codes "replay") then replay_of met.1
     else (if bytes_eq met.0 (codes "renew") then renew_of met.1
     else (if bytes_eq met.0 (codes "picture") then picture_of met.1
     else (if bytes_eq met.0 (codes "compile") then compile_of met.1
-    else (if bytes_eq met.0 (codes "run") then run_of met.1 else None)))))))
+    else (if bytes_eq met.0 (codes "run") then run_of met.1
+    else (if bytes_eq met.0 (codes "explain") then explain_of met.1
+    else (if bytes_eq met.0 (codes "version") then Some TellsVersion else None)))))))))
 
 -- nothing, where there is a fault
 abbrev pub unless_fault : Kinds → Option Asked → Option Asked
 unless_fault [] asked = asked
 unless_fault (kind ∷ kinds) asked = None
 
--- what these words name, if `clap` finds no fault with them
-abbrev pub named : List Text → Option Asked
-named words = unless_fault (fault_of hrv_app words)
+-- what these words ask for, if `clap` finds no fault with them
+abbrev pub asked_in : List Text → Option Asked
+asked_in words = unless_fault (fault_of hrv_app words)
     (option_and_then asked_of (subcommand_of hrv_app words))
 
--- memory was refused, or the error is of a kind that `clap` finds in the words
+-- only refusals that there are can be explained
+abbrev pub if_known : Asked → Option Asked
+if_known (Explains family code) = if is_explained family code then Some (Explains family code) else None
+if_known asked = Some asked
+
+-- what these words name
+abbrev pub named : List Text → Option Asked
+named words = option_and_then if_known (asked_in words)
+
+-- memory was refused, the error is of a kind that `clap` finds in the words, or they ask for what can't be explained
 abbrev pub IsRefusal : List Text → CommandLineFault → Type 0
 IsRefusal words fault = (fault ≡ Memory)
     ⊎ ((error : Error) × (fault ≡ Refused error) × IsAmong (kind_of error) (fault_of hrv_app words))
+    ⊎ ((asked : Asked) × (fault ≡ Unexplained) × (asked_in words ≡ Some asked) × (if_known asked ≡ None))
 
 -- ---- the same in plain words
 
@@ -246,9 +297,13 @@ IsSpelled words (Replays image log) = unmarked words ≡ codes "replay" ∷ imag
 IsSpelled words (Debugs image log) = unmarked words ≡ codes "debug" ∷ image ∷ log ∷ []
 IsSpelled words (Assembles source image) = unmarked words ≡ codes "asm" ∷ source ∷ image ∷ []
 IsSpelled words (Lists image) = unmarked words ≡ codes "dis" ∷ image ∷ []
+IsSpelled words (Explains family code) =
+    (unmarked words ≡ codes "explain" ∷ family ∷ code ∷ []) ⊎ ((unmarked words ≡ codes "explain" ∷ family ∷ []) × (code ≡ []))
+IsSpelled words TellsVersion = unmarked words ≡ codes "version" ∷ []
 IsSpelled words (Renews old new) = unmarked words ≡ codes "renew" ∷ old ∷ new ∷ []
 IsSpelled words (Draws algorithm inputs) = unmarked words ≡ codes "picture" ∷ algorithm ∷ inputs
 IsSpelled words (Compiles algorithm schedule image inputs) = unmarked words ≡ codes "compile" ∷ algorithm ∷ schedule ∷ image ∷ inputs
 -- options may stand anywhere: what they are, `named` alone says
+IsSpelled words (ListsAddresses image) = (rest : List Text) × (words ≡ codes "dis" ∷ rest)
 IsSpelled words (Runs image log harts turns) = (rest : List Text) × (words ≡ codes "run" ∷ rest)
 IsSpelled words (Resumes image log old turns) = (rest : List Text) × (words ≡ codes "run" ∷ rest)

@@ -1,14 +1,15 @@
 //! What a command line asks of the program.
-ghost use Rattle.std.specs.Prelude.{◌≡◌, ◌≤◌, ℕ, List, [], ◌∷◌, codes, false, length, unwrap_or, IfOk, IfErr, Some, IsSome};
+ghost use Rattle.std.specs.Prelude.{◌≡◌, ◌≤◌, ℕ, None, List, [], ◌∷◌, codes, true, false, length, unwrap_or, IfOk, IfErr, Some, IsSome};
 ghost use Rattle.std.specs.List.{AllByRecursion};
 ghost use Rattle.clap.specs.Lexer.{usize_max};
-ghost use Rattle.clap.specs.Words.{all_of, found_of, rows_of, rule_of, one_of};
+ghost use Rattle.clap.specs.Words.{all_of, found_of, new_rule, rows_of, rule_of, one_of};
 ghost use Rattle.clap.specs.Walk.{texts};
-ghost use Rattle.hrv_command_line.specs.CommandLine.{Asked, Assembles, Compiles, Debugs, Draws, IsPlainWord, IsRefusal, IsSpelled, IsWithinLimits, Lists, Makes, Renews, Replays, Resumes, Runs};
-ghost use Rattle.hrv_command_line.specs.CommandLine.{algorithm_app, asked_by, asked_of, asm_app, asm_of, compile_app, compile_of, compile_texts_app, debug_app, debug_of, dis_app, dis_of, hrv_app, log_app, most_harts, most_turns, named, number_or, number_rule, picture_app, picture_of, renew_app, renew_of, replay_app, replay_of, required_rule, rest_rule, run_app, run_files_app, run_numbers_app, run_of, text_app, word_rule};
+ghost use Rattle.hrv_command_line.specs.CommandLine.{Asked, Assembles, Compiles, Debugs, Draws, Explains, IsPlainWord, IsRefusal, IsSpelled, IsWithinLimits, Lists, ListsAddresses, Makes, Renews, Replays, Resumes, Runs, TellsVersion};
+ghost use Rattle.hrv_command_line.specs.CommandLine.{algorithm_app, asked_by, asked_of, asm_app, asm_of, compile_app, compile_of, compile_texts_app, debug_app, debug_of, dis_app, dis_of, explain_app, explain_of, flag_rule, hrv_app, if_known, listing_of, log_app, most_harts, most_turns, named, number_or, number_rule, picture_app, picture_of, renew_app, renew_of, replay_app, replay_of, required_rule, rest_rule, run_app, run_files_app, run_numbers_app, run_of, running_app, text_app, version_app, word_rule};
 
 use crate::faults::CommandLineFault;
-use clap::{Arg, ArgMatches, Command};
+use clap::{Arg, ArgAction, ArgMatches, Command};
+use hrv_refusals::is_explained;
 use std::alloc::{AllocError, Global};
 
 /// What the words of a command line ask for.
@@ -21,6 +22,10 @@ pub enum Invocation<'a> {
     },
     /// `dis IMAGE`
     Dis {
+        image: &'a str,
+    },
+    /// `dis IMAGE --addresses`
+    DisAddresses {
         image: &'a str,
     },
     /// `renew OLD NEW`
@@ -64,6 +69,13 @@ pub enum Invocation<'a> {
         old: &'a str,
         turns: u64,
     },
+    /// `explain FAMILY [CODE]`; a code that isn't given is empty.
+    Explain {
+        family: &'a str,
+        code: &'a str,
+    },
+    /// `version`
+    Version,
 }
 
 /// Reads the words of a command line, the program's own name left out.
@@ -80,7 +92,21 @@ pub fn command<'a>(alloc: Global, words: &'a [&'a str]) -> Result<Invocation<'a>
     let matches = program(alloc)?.try_get_matches_from(words)?;
     let (name, given) = matches.subcommand().unwrap();
     let invocation = asked_for(alloc, name, given)?;
+    if !is_known(&invocation) {
+        return Err(CommandLineFault::Unexplained);
+    }
     Ok(invocation)
+}
+
+// Whether what is to be explained, if anything is, is a refusal that there is.
+fn is_known(invocation: &Invocation) -> bool
+    ensures yes { result ≡ true → if_known (asked_by invocation.now) ≡ Some (asked_by invocation.now) }
+    ensures no { result ≡ false → if_known (asked_by invocation.now) ≡ None }
+{
+    match invocation {
+        Invocation::Explain { family, code } => is_explained(family, code),
+        _ => true,
+    }
 }
 
 // What a subcommand and its arguments ask for.
@@ -101,6 +127,8 @@ fn asked_for<'a>(
         "picture" => picture_asked(alloc, given),
         "compile" => compile_asked(alloc, given),
         "run" => Ok(run_asked(given)),
+        "explain" => Ok(explain_asked(given)),
+        "version" => Ok(Invocation::Version),
         _ => unreachable!(),
     }
 }
@@ -136,13 +164,24 @@ fn asm_asked<'a>(given: &ArgMatches<'a>) -> Invocation<'a>
     Invocation::Asm { source, image }
 }
 
-// What the argument of `dis` asks for.
+// What the arguments of `dis` ask for.
 fn dis_asked<'a>(given: &ArgMatches<'a>) -> Invocation<'a>
     requires { IsSome (dis_of (rows_of (found_of given.now))) }
     ensures { dis_of (rows_of (found_of given.now)) ≡ Some (asked_by result) }
 {
     let image = given.get_str("IMAGE").unwrap();
-    Invocation::Dis { image }
+    listing_asked(image, given.get_flag("addresses"))
+}
+
+// The listing of an image, with addresses or without.
+fn listing_asked<'a>(image: &'a str, has_addresses: bool) -> Invocation<'a>
+    ensures { asked_by result ≡ listing_of image.now has_addresses }
+{
+    if has_addresses {
+        Invocation::DisAddresses { image }
+    } else {
+        Invocation::Dis { image }
+    }
 }
 
 // What the arguments of `renew` ask for.
@@ -208,6 +247,16 @@ fn run_asked<'a>(given: &ArgMatches<'a>) -> Invocation<'a>
     }
 }
 
+// What the arguments of `explain` ask for.
+fn explain_asked<'a>(given: &ArgMatches<'a>) -> Invocation<'a>
+    requires { IsSome (explain_of (rows_of (found_of given.now))) }
+    ensures { explain_of (rows_of (found_of given.now)) ≡ Some (asked_by result) }
+{
+    let family = given.get_str("FAMILY").unwrap();
+    let code = given.get_str("CODE").unwrap_or("");
+    Invocation::Explain { family, code }
+}
+
 // How many turns a hart has at most in a log.
 const MOST_TURNS: u64 = 1 << 40;
 
@@ -228,80 +277,18 @@ fn inputs_of<'a>(alloc: Global, given: &ArgMatches<'a>) -> Result<Vec<&'a str>, 
     }
 }
 
-/// Which words name a replay: `replay` and two names, after `--` where one begins with `-`.
-pub fn replay_is_named()
-    ensures plain { (image log : List ℕ) → IsPlainWord image → IsPlainWord log
-        → named (codes "replay" ∷ image ∷ log ∷ []) ≡ Some (Replays image log) }
-    ensures marked { (image log : List ℕ)
-        → named (codes "replay" ∷ codes "--" ∷ image ∷ log ∷ []) ≡ Some (Replays image log) }
-    ensures only { (words : List (List ℕ)) (asked : Asked)
-        → named words ≡ Some asked → IsSpelled words asked }
-{}
-
-/// Which words name a talk with the debugger: `debug` and two names, after `--` where one begins with `-`.
-pub fn debug_is_named()
-    ensures plain { (image log : List ℕ) → IsPlainWord image → IsPlainWord log
-        → named (codes "debug" ∷ image ∷ log ∷ []) ≡ Some (Debugs image log) }
-    ensures marked { (image log : List ℕ)
-        → named (codes "debug" ∷ codes "--" ∷ image ∷ log ∷ []) ≡ Some (Debugs image log) }
-{}
-
-/// Which words name an assembly: `asm` and two names, after `--` where one begins with `-`.
-pub fn asm_is_named()
-    ensures plain { (source image : List ℕ) → IsPlainWord source → IsPlainWord image
-        → named (codes "asm" ∷ source ∷ image ∷ []) ≡ Some (Assembles source image) }
-    ensures marked { (source image : List ℕ)
-        → named (codes "asm" ∷ codes "--" ∷ source ∷ image ∷ []) ≡ Some (Assembles source image) }
-{}
-
-/// Which words name a listing: `dis` and a name, after `--` where it begins with `-`.
-pub fn dis_is_named()
-    ensures plain { (image : List ℕ) → IsPlainWord image → named (codes "dis" ∷ image ∷ []) ≡ Some (Lists image) }
-    ensures marked { (image : List ℕ) → named (codes "dis" ∷ codes "--" ∷ image ∷ []) ≡ Some (Lists image) }
-{}
-
-/// Which words name a renewal: `renew` and two names, after `--` where one begins with `-`.
-pub fn renew_is_named()
-    ensures plain { (old new : List ℕ) → IsPlainWord old → IsPlainWord new
-        → named (codes "renew" ∷ old ∷ new ∷ []) ≡ Some (Renews old new) }
-    ensures marked { (old new : List ℕ)
-        → named (codes "renew" ∷ codes "--" ∷ old ∷ new ∷ []) ≡ Some (Renews old new) }
-{}
-
-/// Which words name a picture: `picture`, an algorithm and any number of inputs, after `--` where one begins with `-`.
-pub fn picture_is_named()
-    ensures plain { (algorithm : List ℕ) (inputs : List (List ℕ)) → AllByRecursion IsPlainWord (algorithm ∷ inputs) → length inputs ≤ usize_max
-        → named (codes "picture" ∷ algorithm ∷ inputs) ≡ Some (Draws algorithm inputs) }
-    ensures marked { (algorithm : List ℕ) (inputs : List (List ℕ)) → length inputs ≤ usize_max
-        → named (codes "picture" ∷ codes "--" ∷ algorithm ∷ inputs) ≡ Some (Draws algorithm inputs) }
-{}
-
-/// Which words name a compilation: `compile`, an algorithm, a schedule, an image and any number of inputs, after `--` where one begins
-/// with `-`.
-pub fn compile_is_named()
-    ensures plain { (algorithm schedule image : List ℕ) (inputs : List (List ℕ)) → AllByRecursion IsPlainWord (algorithm ∷ schedule ∷ image ∷ inputs)
-        → length inputs ≤ usize_max → named (codes "compile" ∷ algorithm ∷ schedule ∷ image ∷ inputs) ≡ Some (Compiles algorithm schedule image inputs) }
-    ensures marked { (algorithm schedule image : List ℕ) (inputs : List (List ℕ)) → length inputs ≤ usize_max
-        → named (codes "compile" ∷ codes "--" ∷ algorithm ∷ schedule ∷ image ∷ inputs) ≡ Some (Compiles algorithm schedule image inputs) }
-{}
-
-/// Which words name a run: `run` and two names, after `--` where one begins with `-`; with options behind them, whose texts are
-/// numbers within the limits; or with the log that it goes on from.
-pub fn run_is_named()
-    ensures plain { (image log : List ℕ) → IsPlainWord image → IsPlainWord log
-        → named (codes "run" ∷ image ∷ log ∷ []) ≡ Some (Runs image log 1 most_turns) }
-    ensures marked { (image log : List ℕ)
-        → named (codes "run" ∷ codes "--" ∷ image ∷ log ∷ []) ≡ Some (Runs image log 1 most_turns) }
-    ensures options { (image log harts turns : List ℕ) (h t : ℕ) → IsPlainWord image → IsPlainWord log
-        → number_or 1 most_harts (Some harts) ≡ Some h → number_or 1 most_turns (Some turns) ≡ Some t
-        → named (codes "run" ∷ image ∷ log ∷ codes "--harts" ∷ harts ∷ codes "--turns" ∷ turns ∷ []) ≡ Some (Runs image log h t) }
-    ensures resumed { (image log old : List ℕ) → IsPlainWord image → IsPlainWord log → IsPlainWord old
-        → named (codes "run" ∷ image ∷ log ∷ codes "--from" ∷ old ∷ []) ≡ Some (Resumes image log old most_turns) }
-{}
-
 // The program's command.
 fn program<'a>(alloc: Global) -> Result<Command<'a>, AllocError>
     ensures { IfOk result (Makes hrv_app) }
+{
+    running_program(alloc)?
+        .subcommand(explain_command(alloc)?)?
+        .subcommand(version_command(alloc))
+}
+
+// The program's command with the subcommands that take files.
+fn running_program<'a>(alloc: Global) -> Result<Command<'a>, AllocError>
+    ensures { IfOk result (Makes running_app) }
 {
     algorithm_program(alloc)?.subcommand(run_command(alloc)?)
 }
@@ -368,13 +355,14 @@ fn asm_command<'a>(alloc: Global) -> Result<Command<'a>, AllocError>
         .arg(file_arg(alloc, "IMAGE", "The file that the image is stored in"))
 }
 
-// `dis IMAGE`
+// `dis IMAGE --addresses`
 fn dis_command<'a>(alloc: Global) -> Result<Command<'a>, AllocError>
     ensures { IfOk result (Makes dis_app) }
 {
     Command::new(alloc, "dis")
         .about("Prints a line for each word of an image's text")
-        .arg(file_arg(alloc, "IMAGE", "The image whose text is listed"))
+        .arg(file_arg(alloc, "IMAGE", "The image whose text is listed"))?
+        .arg(addresses_arg(alloc))
 }
 
 // `renew OLD NEW`
@@ -448,6 +436,48 @@ fn run_files_command<'a>(alloc: Global) -> Result<Command<'a>, AllocError>
             "LOG",
             "The file that the log of all turns is stored in",
         ))
+}
+
+// `explain FAMILY [CODE]`
+fn explain_command<'a>(alloc: Global) -> Result<Command<'a>, AllocError>
+    ensures { IfOk result (Makes explain_app) }
+{
+    Command::new(alloc, "explain")
+        .about("Says what a refusal means, and what helps: `hrv explain load 2`")
+        .arg(file_arg(
+            alloc,
+            "FAMILY",
+            "The word behind `refused`, as `load`, `parse` or `memory`",
+        ))?
+        .arg(code_arg(alloc))
+}
+
+// `version`
+fn version_command<'a>(alloc: Global) -> Command<'a>
+    ensures { Makes version_app result }
+{
+    Command::new(alloc, "version").about(
+        "Prints the version of the program, and the logic that it is proved in",
+    )
+}
+
+// The code of a refusal, where its family has codes.
+fn code_arg<'a>(alloc: Global) -> Arg<'a>
+    ensures rule { rule_of result ≡ new_rule (codes "CODE") }
+    ensures local { result.global ≡ false }
+{
+    Arg::new(alloc, "CODE").help("The number behind the family, where there is one")
+}
+
+// Whether each line of a listing ends in its address.
+fn addresses_arg<'a>(alloc: Global) -> Arg<'a>
+    ensures rule { rule_of result ≡ flag_rule (codes "addresses") }
+    ensures local { result.global ≡ false }
+{
+    Arg::new(alloc, "addresses")
+        .long("addresses")
+        .help("Ends each line in a comment with its address")
+        .action(ArgAction::SetTrue)
 }
 
 // How many harts there are.

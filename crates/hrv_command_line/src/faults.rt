@@ -15,6 +15,9 @@ pub enum CommandLineFault {
     /// A word isn't text.
     #[error("error: a word of the command line is not UTF-8")]
     NotText,
+    /// There is no refusal of the family and the code that are to be explained.
+    #[error("error: no refusal has this family and this code")]
+    Unexplained,
     /// Memory ran out.
     #[error("refused memory")]
     Memory,
@@ -28,8 +31,8 @@ impl CommandLineFault {
         ensures { result ≡ status_of self.now }
     {
         match self {
-            CommandLineFault::Refused(_) | CommandLineFault::NotText => 2,
             CommandLineFault::Memory => 1,
+            _ => 2,
         }
     }
 }

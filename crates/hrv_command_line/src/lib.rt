@@ -1,11 +1,13 @@
 //! The program's command line: what its words ask for, by what `clap` says of them.
 //!
-//! - [`command_lines`]: [`command`], over `specs/CommandLine.antt`, and which words name each command.
+//! - [`command_lines`]: [`command`], over `specs/CommandLine.antt`.
+//! - [`laws`]: which words name each command.
 //! - [`faults`]: why words are refused ([`CommandLineFault`]), over `specs/Faults.antt`.
 #![tactic(auto)]
 
 pub mod command_lines;
 pub mod faults;
+pub mod laws;
 
 pub use crate::command_lines::{Invocation, command};
 pub use crate::faults::CommandLineFault;

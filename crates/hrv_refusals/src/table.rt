@@ -3,7 +3,7 @@
 /// A line for each family, and for each of its codes as often as it has causes, in the order in which they are judged. Below it stand, behind two
 /// blanks, what the family says, and the cause with what helps.
 #[rattlefmt::skip]
-pub static REFUSALS: [u8; 7683] = *b"\
+pub static REFUSALS: [u8; 7657] = *b"\
 file\n\
 \x20\x20cause: a file can't be read or written, or a text isn't UTF-8; here `-` is standard input or output\n\
 \x20\x20cure: look at the path, its rights, the disk\n\
@@ -38,7 +38,7 @@ load 5\n\
 \x20\x20cure: `.entry` names a label in text\n\
 load 6\n\
 \x20\x20cause: the output breaks a rule\n\
-\x20\x20cure: `.output` names words of data that are there, by the rules of an image in FORMATS.md\n\
+\x20\x20cure: `.output` names words of data that are there, by the rules of images\n\
 load 8\n\
 \x20\x20cause: of `HRV2`: S isn't 0 and the last stored byte is 0\n\
 \x20\x20cure: the writer has to leave out zeros at the end\n\
@@ -101,7 +101,7 @@ parse\n\
 \x20\x20the algorithm is faulty, in the line that is named\n\
 parse 1\n\
 \x20\x20cause: syntax; it hides all else of its line\n\
-\x20\x20cure: the grammar in LANGUAGE.md\n\
+\x20\x20cure: the grammar of algorithms\n\
 parse 2\n\
 \x20\x20cause: an unknown name; a Func in its own pure definition; a call of a variable; an update or output of what is no Func\n\
 \x20\x20cure: names are defined on an earlier line; an update may call its own Func\n\
@@ -121,7 +121,7 @@ parse 7\n\
 \x20\x20cause: an update's shape\n\
 \x20\x20cure: arguments that the right side uses stand in place on the left; the update follows its Func's line\n\
 parse 8\n\
-\x20\x20cause: a limit, of those in LANGUAGE.md\n\
+\x20\x20cause: a limit of the language\n\
 \x20\x20cure: cut the text into Funcs\n\
 parse 9\n\
 \x20\x20cause: no output line: the line after the last (of an empty text, line 1)\n\

@@ -1,7 +1,8 @@
-use Rattle.std.proofs.Common.{◌∙◌, ap, sym}
+use Rattle.std.proofs.Common.{◌∙◌, ap, refl, sym}
 use Rattle.std.specs.Prelude.{is_some}
 use Rattle.clap.specs.Walk.{texts}
-use Rattle.hrv_command_line.proofs.Parses.{asked_here, kinds_of, limited_as, refused, refused_named, spelled_as, taken}
+use Rattle.hrv_command_line.proofs.Parses.{asked_here, kinds_of, known_named, limited_as, memory_alone, refused, refused_named, spelled_as, taken, unexplained}
+use Rattle.hrv_command_line.specs.declared.faults.CommandLineFault.TheVariants.{Unexplained}
 use Rattle.hrv_command_line.proofs.command_lines.command.Goals as goal
 
 pub returns-in_err-matches-clause-refused : goal.returns-in_err-matches-clause-refused
@@ -18,11 +19,20 @@ asked_for-requires c =
     let t = taken c.in_ok-program.field-0 (texts c.args.words.now) c.in_ok-matches.matches c.in_ok-program.ensures c.in_ok-matches.ensures.kinds c.in_ok-matches.ensures.matches in
     ap is_some (asked_here _ _ t c.subcommand.result c.unwrap.result c.unwrap.ensures c.subcommand.ensures.name c.subcommand.ensures.rows)
 
+pub returns-then-not-is_known-clause-refused : goal.returns-then-not-is_known-clause-refused
+returns-then-not-is_known-clause-refused c =
+    let t = taken c.in_ok-program.field-0 (texts c.args.words.now) c.in_ok-matches.matches c.in_ok-program.ensures c.in_ok-matches.ensures.kinds c.in_ok-matches.ensures.matches in
+    let here = asked_here _ _ t c.subcommand.result c.unwrap.result c.unwrap.ensures c.subcommand.ensures.name c.subcommand.ensures.rows in
+    unexplained (texts c.args.words.now) Unexplained _ refl (t.is_asked ∙ sym here ∙ c.in_ok-invocation.ensures) (c.is_known.ensures.no c.if-not-is_known.true)
+
+pub returns-then-not-is_known-clause-memory : goal.returns-then-not-is_known-clause-memory
+returns-then-not-is_known-clause-memory c = λ some. memory_alone (texts c.args.words.now) Unexplained some (returns-then-not-is_known-clause-refused c)
+
 pub returns-clause-named : goal.returns-clause-named
 returns-clause-named c =
     let t = taken c.in_ok-program.field-0 (texts c.args.words.now) c.in_ok-matches.matches c.in_ok-program.ensures c.in_ok-matches.ensures.kinds c.in_ok-matches.ensures.matches in
     let here = asked_here _ _ t c.subcommand.result c.unwrap.result c.unwrap.ensures c.subcommand.ensures.name c.subcommand.ensures.rows in
-    t.is_named ∙ sym here ∙ c.in_ok-invocation.ensures
+    known_named (texts c.args.words.now) _ (t.is_asked ∙ sym here ∙ c.in_ok-invocation.ensures) (c.is_known.ensures.yes c.if-not-is_known.false)
 
 pub returns-clause-spelled : goal.returns-clause-spelled
 returns-clause-spelled c =

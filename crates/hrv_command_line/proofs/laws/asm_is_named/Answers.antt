@@ -1,5 +1,5 @@
 use Rattle.hrv_command_line.proofs.AskedWords.{marked_asm, plain_asm}
-use Rattle.hrv_command_line.proofs.command_lines.asm_is_named.Goals as goal
+use Rattle.hrv_command_line.proofs.laws.asm_is_named.Goals as goal
 
 pub returns-clause-plain : goal.returns-clause-plain
 returns-clause-plain c = plain_asm

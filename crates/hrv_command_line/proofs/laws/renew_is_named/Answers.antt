@@ -1,5 +1,5 @@
 use Rattle.hrv_command_line.proofs.AskedWords.{marked_renew, plain_renew}
-use Rattle.hrv_command_line.proofs.command_lines.renew_is_named.Goals as goal
+use Rattle.hrv_command_line.proofs.laws.renew_is_named.Goals as goal
 
 pub returns-clause-plain : goal.returns-clause-plain
 returns-clause-plain c = plain_renew

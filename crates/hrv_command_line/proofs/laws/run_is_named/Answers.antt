@@ -1,5 +1,5 @@
 use Rattle.hrv_command_line.proofs.RunForms.{marked_run, options_run, plain_run, resumed_run}
-use Rattle.hrv_command_line.proofs.command_lines.run_is_named.Goals as goal
+use Rattle.hrv_command_line.proofs.laws.run_is_named.Goals as goal
 
 pub returns-clause-plain : goal.returns-clause-plain
 returns-clause-plain c = plain_run

@@ -1,0 +1,98 @@
+//! Which words name each command, each law the contract of a function that does nothing.
+ghost use Rattle.std.specs.Prelude.{◌≡◌, ◌≤◌, ℕ, List, None, [], ◌∷◌, codes, false, true, length, Some};
+ghost use Rattle.std.specs.List.{AllByRecursion};
+ghost use Rattle.clap.specs.Lexer.{usize_max};
+ghost use Rattle.hrv_command_line.specs.CommandLine.{Asked, Assembles, Compiles, Debugs, Draws, Explains, IsPlainWord, IsSpelled, Lists, ListsAddresses, Renews, Replays, Resumes, Runs, TellsVersion};
+ghost use Rattle.hrv_command_line.specs.CommandLine.{most_harts, most_turns, named, number_or};
+ghost use Rattle.hrv_refusals.specs.Explanations.{is_explained};
+
+/// Which words name a replay: `replay` and two names, after `--` where one begins with `-`.
+pub fn replay_is_named()
+    ensures plain { (image log : List ℕ) → IsPlainWord image → IsPlainWord log
+        → named (codes "replay" ∷ image ∷ log ∷ []) ≡ Some (Replays image log) }
+    ensures marked { (image log : List ℕ)
+        → named (codes "replay" ∷ codes "--" ∷ image ∷ log ∷ []) ≡ Some (Replays image log) }
+    ensures only { (words : List (List ℕ)) (asked : Asked)
+        → named words ≡ Some asked → IsSpelled words asked }
+{}
+
+/// Which words name a talk with the debugger: `debug` and two names, after `--` where one begins with `-`.
+pub fn debug_is_named()
+    ensures plain { (image log : List ℕ) → IsPlainWord image → IsPlainWord log
+        → named (codes "debug" ∷ image ∷ log ∷ []) ≡ Some (Debugs image log) }
+    ensures marked { (image log : List ℕ)
+        → named (codes "debug" ∷ codes "--" ∷ image ∷ log ∷ []) ≡ Some (Debugs image log) }
+{}
+
+/// Which words name an assembly: `asm` and two names, after `--` where one begins with `-`.
+pub fn asm_is_named()
+    ensures plain { (source image : List ℕ) → IsPlainWord source → IsPlainWord image
+        → named (codes "asm" ∷ source ∷ image ∷ []) ≡ Some (Assembles source image) }
+    ensures marked { (source image : List ℕ)
+        → named (codes "asm" ∷ codes "--" ∷ source ∷ image ∷ []) ≡ Some (Assembles source image) }
+{}
+
+/// Which words name a listing: `dis` and a name, after `--` where it begins with `-`; with addresses where `--addresses` stands behind
+/// the name or before it.
+pub fn dis_is_named()
+    ensures plain { (image : List ℕ) → IsPlainWord image → named (codes "dis" ∷ image ∷ []) ≡ Some (Lists image) }
+    ensures marked { (image : List ℕ) → named (codes "dis" ∷ codes "--" ∷ image ∷ []) ≡ Some (Lists image) }
+    ensures addresses { (image : List ℕ) → IsPlainWord image
+        → named (codes "dis" ∷ image ∷ codes "--addresses" ∷ []) ≡ Some (ListsAddresses image) }
+    ensures before { (image : List ℕ) → IsPlainWord image
+        → named (codes "dis" ∷ codes "--addresses" ∷ image ∷ []) ≡ Some (ListsAddresses image) }
+{}
+
+/// Which words name an explanation: `explain`, a family and a code, or a family alone, of a refusal that there is.
+pub fn explain_is_named()
+    ensures both { (family code : List ℕ) → IsPlainWord family → IsPlainWord code → is_explained family code ≡ true
+        → named (codes "explain" ∷ family ∷ code ∷ []) ≡ Some (Explains family code) }
+    ensures alone { (family : List ℕ) → IsPlainWord family → is_explained family [] ≡ true
+        → named (codes "explain" ∷ family ∷ []) ≡ Some (Explains family []) }
+    ensures others { (family code : List ℕ) → IsPlainWord family → IsPlainWord code → is_explained family code ≡ false
+        → named (codes "explain" ∷ family ∷ code ∷ []) ≡ None }
+{}
+
+/// The word that asks for the program's version.
+pub fn version_is_named()
+    ensures { named (codes "version" ∷ []) ≡ Some TellsVersion }
+{}
+
+/// Which words name a renewal: `renew` and two names, after `--` where one begins with `-`.
+pub fn renew_is_named()
+    ensures plain { (old new : List ℕ) → IsPlainWord old → IsPlainWord new
+        → named (codes "renew" ∷ old ∷ new ∷ []) ≡ Some (Renews old new) }
+    ensures marked { (old new : List ℕ)
+        → named (codes "renew" ∷ codes "--" ∷ old ∷ new ∷ []) ≡ Some (Renews old new) }
+{}
+
+/// Which words name a picture: `picture`, an algorithm and any number of inputs, after `--` where one begins with `-`.
+pub fn picture_is_named()
+    ensures plain { (algorithm : List ℕ) (inputs : List (List ℕ)) → AllByRecursion IsPlainWord (algorithm ∷ inputs) → length inputs ≤ usize_max
+        → named (codes "picture" ∷ algorithm ∷ inputs) ≡ Some (Draws algorithm inputs) }
+    ensures marked { (algorithm : List ℕ) (inputs : List (List ℕ)) → length inputs ≤ usize_max
+        → named (codes "picture" ∷ codes "--" ∷ algorithm ∷ inputs) ≡ Some (Draws algorithm inputs) }
+{}
+
+/// Which words name a compilation: `compile`, an algorithm, a schedule, an image and any number of inputs, after `--` where one begins
+/// with `-`.
+pub fn compile_is_named()
+    ensures plain { (algorithm schedule image : List ℕ) (inputs : List (List ℕ)) → AllByRecursion IsPlainWord (algorithm ∷ schedule ∷ image ∷ inputs)
+        → length inputs ≤ usize_max → named (codes "compile" ∷ algorithm ∷ schedule ∷ image ∷ inputs) ≡ Some (Compiles algorithm schedule image inputs) }
+    ensures marked { (algorithm schedule image : List ℕ) (inputs : List (List ℕ)) → length inputs ≤ usize_max
+        → named (codes "compile" ∷ codes "--" ∷ algorithm ∷ schedule ∷ image ∷ inputs) ≡ Some (Compiles algorithm schedule image inputs) }
+{}
+
+/// Which words name a run: `run` and two names, after `--` where one begins with `-`; with options behind them, whose texts are
+/// numbers within the limits; or with the log that it goes on from.
+pub fn run_is_named()
+    ensures plain { (image log : List ℕ) → IsPlainWord image → IsPlainWord log
+        → named (codes "run" ∷ image ∷ log ∷ []) ≡ Some (Runs image log 1 most_turns) }
+    ensures marked { (image log : List ℕ)
+        → named (codes "run" ∷ codes "--" ∷ image ∷ log ∷ []) ≡ Some (Runs image log 1 most_turns) }
+    ensures options { (image log harts turns : List ℕ) (h t : ℕ) → IsPlainWord image → IsPlainWord log
+        → number_or 1 most_harts (Some harts) ≡ Some h → number_or 1 most_turns (Some turns) ≡ Some t
+        → named (codes "run" ∷ image ∷ log ∷ codes "--harts" ∷ harts ∷ codes "--turns" ∷ turns ∷ []) ≡ Some (Runs image log h t) }
+    ensures resumed { (image log old : List ℕ) → IsPlainWord image → IsPlainWord log → IsPlainWord old
+        → named (codes "run" ∷ image ∷ log ∷ codes "--from" ∷ old ∷ []) ≡ Some (Resumes image log old most_turns) }
+{}
