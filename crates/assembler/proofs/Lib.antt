@@ -1,3 +1,4 @@
+mod AddressedTexts
 pub mod Built
 pub mod Filling
 pub mod Fronts

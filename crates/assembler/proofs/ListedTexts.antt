@@ -37,10 +37,10 @@ pub record Below : Type 0 where
   pub is_word : (word : ℕ) (insn : Insn) → Means word insn ↔ IsWord word (form_of insn) (fields_of insn)
   pub meant : (word : ℕ) (insn : Insn) → word < 2 ^ 32 → (decoded word ≡ Some insn) ↔ Means word insn
 
-first_small : (word : ℕ) (words : List ℕ) → AreWords (word ∷ words) → word < 2 ^ 32
+pub first_small : (word : ℕ) (words : List ℕ) → AreWords (word ∷ words) → word < 2 ^ 32
 first_small word words small = All-head (λ (n : ℕ). n < 2 ^ 32) word words small
 
-others_small : (word : ℕ) (words : List ℕ) → AreWords (word ∷ words) → AreWords words
+pub others_small : (word : ℕ) (words : List ℕ) → AreWords (word ∷ words) → AreWords words
 others_small word words small = All-tail (λ (n : ℕ). n < 2 ^ 32) word words small
 
 -- ---- the lines of the listing
@@ -59,7 +59,7 @@ lines_listed b words small = ap lines_of (lines_joined words) ∙ b.read_back (m
 
 -- ---- all lines
 
-abbrev item_of : ℕ → Item
+abbrev pub item_of : ℕ → Item
 item_of word = item_said word (decoded word)
 
 next_taken : Below → (survey : Survey) (line count : ℕ) (items : List Item) (word : ℕ) → count < 262144 → word < 2 ^ 32
@@ -88,7 +88,7 @@ word_is : Below → (word : ℕ) (meant : Option Insn) → decoded word ≡ mean
 word_is b word None e small = refl
 word_is b word (Some insn) e small = (b.is_word word insn).0 ((b.meant word insn small).0 e)
 
-words_are : Below → (words : List ℕ) → AreWords words → AreItems words (map item_of words)
+pub words_are : Below → (words : List ℕ) → AreWords words → AreItems words (map item_of words)
 words_are b [] small = tt
 words_are b (word ∷ words) small = (word_is b word (decoded word) refl (first_small word words small), words_are b words (others_small word words small))
 
@@ -98,7 +98,7 @@ same_word b word other None e small small' is = is
 same_word b word other (Some insn) e small small' is =
     one_spelling insn other word small' small ((b.is_word other insn).1 is) ((b.meant word insn small).0 e)
 
-same_words : Below → (words others : List ℕ) → AreWords words → AreWords others → AreItems others (map item_of words) → others ≡ words
+pub same_words : Below → (words others : List ℕ) → AreWords words → AreWords others → AreItems others (map item_of words) → others ≡ words
 same_words b [] [] small small' are = refl
 same_words b [] (other ∷ others) small small' are = elim are [ ]
 same_words b (word ∷ words) [] small small' are = elim are [ ]
@@ -109,11 +109,11 @@ same_words b (word ∷ words) (other ∷ others) small small' are =
 
 -- ---- the object
 
-same_parts : (entry : ℕ) (words others bytes : List ℕ) (output : Option Output) → entry ≡ text_start → others ≡ words → bytes ≡ [] → output ≡ None
+pub same_parts : (entry : ℕ) (words others bytes : List ℕ) (output : Option Output) → entry ≡ text_start → others ≡ words → bytes ≡ [] → output ≡ None
     → record { entry = entry; words = others; bytes = bytes; output = output } ≡ of_words words
 same_parts entry words others bytes output starts same none no_output = rw (starts, same, none, no_output) refl
 
-some_items : (words : List ℕ) → 1 ≤ length words → (length (map item_of words) == 0) ≡ false
+pub some_items : (words : List ℕ) → 1 ≤ length words → (length (map item_of words) == 0) ≡ false
 some_items [] some = absurd (omega (arith, some))
 some_items (word ∷ words) some = grind (arith, nat_tests)
 

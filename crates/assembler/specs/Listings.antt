@@ -4,7 +4,7 @@ use Rattle.std.specs.Prelude.{◌≡◌, ℕ, ◌<◌, ◌^◌, List, [], None, 
 use Rattle.std.specs.List.{All}
 use Rattle.memory.specs.Addresses.{text_start}
 use Rattle.loader.specs.Image.{ImageContents}
-use Rattle.disassembler.specs.Listing.{listing}
+use Rattle.disassembler.specs.Listing.{addressed_listing, listing}
 use Rattle.assembler.specs.Object.{Assembled, IsObject, assembled}
 
 -- numbers of 32 bits
@@ -19,5 +19,12 @@ of_words words = record { entry = text_start; words = words; bytes = []; output 
 pub record AssemblesBack (words : List ℕ) : Type 0 where
   pub meaning : Assembled
   pub assembled_is : assembled (listing words) ≡ Ok meaning
+  pub is_object : IsObject (of_words words) meaning
+  pub alone : (object : ImageContents) → AreWords object.words → IsObject object meaning → object ≡ of_words words
+
+-- The same of the listing whose lines say where their words stand, whatever the first one's address.
+pub record AssemblesBackFrom (start : ℕ) (words : List ℕ) : Type 0 where
+  pub meaning : Assembled
+  pub assembled_is : assembled (addressed_listing start words) ≡ Ok meaning
   pub is_object : IsObject (of_words words) meaning
   pub alone : (object : ImageContents) → AreWords object.words → IsObject object meaning → object ≡ of_words words
