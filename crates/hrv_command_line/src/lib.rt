@@ -2,12 +2,14 @@
 //!
 //! - [`command_lines`]: [`command`], over `specs/CommandLine.antt`.
 //! - [`laws`]: which words name each command.
+//! - `programs`: the program's command, as `clap` takes it.
 //! - [`faults`]: why words are refused ([`CommandLineFault`]), over `specs/Faults.antt`.
 #![tactic(auto)]
 
 pub mod command_lines;
 pub mod faults;
 pub mod laws;
+mod programs;
 
 pub use crate::command_lines::{Invocation, command};
 pub use crate::faults::CommandLineFault;

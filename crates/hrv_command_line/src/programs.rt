@@ -1,0 +1,264 @@
+//! The program's command, with its subcommands and their arguments.
+ghost use Rattle.std.specs.Prelude.{◌≡◌, codes, false, IfOk};
+ghost use Rattle.clap.specs.Words.{new_rule, rule_of};
+ghost use Rattle.hrv_command_line.specs.CommandLine.{Makes, algorithm_app, asm_app, compile_app, compile_texts_app, debug_app, dis_app, explain_app, flag_rule, hrv_app, log_app, most_harts, most_turns, number_rule, picture_app, renew_app, replay_app, required_rule, rest_rule, run_app, run_files_app, run_numbers_app, running_app, text_app, version_app, word_rule};
+
+use clap::{Arg, ArgAction, Command};
+use std::alloc::{AllocError, Global};
+
+/// The program's command.
+pub(crate) fn program<'a>(alloc: Global) -> Result<Command<'a>, AllocError>
+    ensures { IfOk result (Makes hrv_app) }
+{
+    running_program(alloc)?
+        .subcommand(explain_command(alloc)?)?
+        .subcommand(version_command(alloc))
+}
+
+// The program's command with the subcommands that take files.
+fn running_program<'a>(alloc: Global) -> Result<Command<'a>, AllocError>
+    ensures { IfOk result (Makes running_app) }
+{
+    algorithm_program(alloc)?.subcommand(run_command(alloc)?)
+}
+
+// The program's command with the subcommands that have no option.
+fn algorithm_program<'a>(alloc: Global) -> Result<Command<'a>, AllocError>
+    ensures { IfOk result (Makes algorithm_app) }
+{
+    text_program(alloc)?
+        .subcommand(picture_command(alloc)?)?
+        .subcommand(compile_command(alloc)?)
+}
+
+// The program's command with the subcommands that take a log, an assembly text or an image alone.
+fn text_program<'a>(alloc: Global) -> Result<Command<'a>, AllocError>
+    ensures { IfOk result (Makes text_app) }
+{
+    log_program(alloc)?
+        .subcommand(asm_command(alloc)?)?
+        .subcommand(dis_command(alloc)?)?
+        .subcommand(renew_command(alloc)?)
+}
+
+// The program's command with the subcommands that take a log.
+fn log_program<'a>(alloc: Global) -> Result<Command<'a>, AllocError>
+    ensures { IfOk result (Makes log_app) }
+{
+    Command::new(alloc, "hrv")
+        .about("Runs programs for several RISC-V harts over one memory")
+        .bin_name("hrv")?
+        .no_binary_name(true)
+        .subcommand_required(true)
+        .subcommand(replay_command(alloc)?)?
+        .subcommand(debug_command(alloc)?)
+}
+
+// `replay IMAGE LOG`
+fn replay_command<'a>(alloc: Global) -> Result<Command<'a>, AllocError>
+    ensures { IfOk result (Makes replay_app) }
+{
+    Command::new(alloc, "replay")
+        .about("Runs an image once more, turn by turn as the log says")
+        .arg(file_arg(alloc, "IMAGE", "The image that is run"))?
+        .arg(file_arg(alloc, "LOG", "The log of the turns that harts make"))
+}
+
+// `debug IMAGE LOG`
+fn debug_command<'a>(alloc: Global) -> Result<Command<'a>, AllocError>
+    ensures { IfOk result (Makes debug_app) }
+{
+    Command::new(alloc, "debug")
+        .about("Answers questions about an image and a log, asked on standard input")
+        .arg(file_arg(alloc, "IMAGE", "The image that is asked about"))?
+        .arg(file_arg(alloc, "LOG", "The log of its turns"))
+}
+
+// `asm SOURCE IMAGE`
+fn asm_command<'a>(alloc: Global) -> Result<Command<'a>, AllocError>
+    ensures { IfOk result (Makes asm_app) }
+{
+    Command::new(alloc, "asm")
+        .about("Assembles a text and stores the image")
+        .arg(file_arg(alloc, "SOURCE", "The assembly text"))?
+        .arg(file_arg(alloc, "IMAGE", "The file that the image is stored in"))
+}
+
+// `dis IMAGE --addresses`
+fn dis_command<'a>(alloc: Global) -> Result<Command<'a>, AllocError>
+    ensures { IfOk result (Makes dis_app) }
+{
+    Command::new(alloc, "dis")
+        .about("Prints a line for each word of an image's text")
+        .arg(file_arg(alloc, "IMAGE", "The image whose text is listed"))?
+        .arg(addresses_arg(alloc))
+}
+
+// `renew OLD NEW`
+fn renew_command<'a>(alloc: Global) -> Result<Command<'a>, AllocError>
+    ensures { IfOk result (Makes renew_app) }
+{
+    Command::new(alloc, "renew")
+        .about("Stores an image in the newest format")
+        .arg(file_arg(alloc, "OLD", "An image of either format"))?
+        .arg(file_arg(alloc, "NEW", "The file that it is stored in; it may be OLD"))
+}
+
+// `picture ALGORITHM [INPUT..]`
+fn picture_command<'a>(alloc: Global) -> Result<Command<'a>, AllocError>
+    ensures { IfOk result (Makes picture_app) }
+{
+    Command::new(alloc, "picture")
+        .about("Draws the picture that an algorithm defines")
+        .arg(file_arg(alloc, "ALGORITHM", "The algorithm's text"))?
+        .arg(rest_arg(alloc, "INPUT"))
+}
+
+// `compile ALGORITHM SCHEDULE IMAGE [INPUT..]`
+fn compile_command<'a>(alloc: Global) -> Result<Command<'a>, AllocError>
+    ensures { IfOk result (Makes compile_app) }
+{
+    compile_texts_command(alloc)?
+        .arg(file_arg(alloc, "IMAGE", "The file that the image is stored in"))?
+        .arg(rest_arg(alloc, "INPUT"))
+}
+
+// `compile` with its texts alone.
+fn compile_texts_command<'a>(alloc: Global) -> Result<Command<'a>, AllocError>
+    ensures { IfOk result (Makes compile_texts_app) }
+{
+    Command::new(alloc, "compile")
+        .about("Compiles an algorithm under a schedule and stores the image")
+        .arg(file_arg(alloc, "ALGORITHM", "The algorithm's text"))?
+        .arg(file_arg(
+            alloc,
+            "SCHEDULE",
+            "The schedule's text, which changes speed and never pixels",
+        ))
+}
+
+// `run IMAGE LOG --harts N --turns L --from OLD`
+fn run_command<'a>(alloc: Global) -> Result<Command<'a>, AllocError>
+    ensures { IfOk result (Makes run_app) }
+{
+    run_numbers_command(alloc)?.arg(from_arg(alloc))
+}
+
+// `run IMAGE LOG --harts N --turns L`
+fn run_numbers_command<'a>(alloc: Global) -> Result<Command<'a>, AllocError>
+    ensures { IfOk result (Makes run_numbers_app) }
+{
+    run_files_command(alloc)?
+        .arg(harts_arg(alloc))?
+        .arg(turns_arg(alloc))
+}
+
+// `run` with its files alone.
+fn run_files_command<'a>(alloc: Global) -> Result<Command<'a>, AllocError>
+    ensures { IfOk result (Makes run_files_app) }
+{
+    Command::new(alloc, "run")
+        .about("Runs an image by threads, a thread a hart, and stores the log of their turns")
+        .arg(file_arg(alloc, "IMAGE", "The image that is run"))?
+        .arg(file_arg(
+            alloc,
+            "LOG",
+            "The file that the log of all turns is stored in",
+        ))
+}
+
+// `explain FAMILY [CODE]`
+fn explain_command<'a>(alloc: Global) -> Result<Command<'a>, AllocError>
+    ensures { IfOk result (Makes explain_app) }
+{
+    Command::new(alloc, "explain")
+        .about("Says what a refusal means, and what helps: `hrv explain load 2`")
+        .arg(file_arg(
+            alloc,
+            "FAMILY",
+            "The word behind `refused`, as `load`, `parse` or `memory`",
+        ))?
+        .arg(code_arg(alloc))
+}
+
+// `version`
+fn version_command<'a>(alloc: Global) -> Command<'a>
+    ensures { Makes version_app result }
+{
+    Command::new(alloc, "version").about(
+        "Prints the version of the program, and the logic that it is proved in",
+    )
+}
+
+// The code of a refusal, where its family has codes.
+fn code_arg<'a>(alloc: Global) -> Arg<'a>
+    ensures rule { rule_of result ≡ new_rule (codes "CODE") }
+    ensures local { result.global ≡ false }
+{
+    Arg::new(alloc, "CODE").help("The number behind the family, where there is one")
+}
+
+// Whether each line of a listing ends in its address.
+fn addresses_arg<'a>(alloc: Global) -> Arg<'a>
+    ensures rule { rule_of result ≡ flag_rule (codes "addresses") }
+    ensures local { result.global ≡ false }
+{
+    Arg::new(alloc, "addresses")
+        .long("addresses")
+        .help("Ends each line in a comment with its address")
+        .action(ArgAction::SetTrue)
+}
+
+// How many harts there are.
+fn harts_arg<'a>(alloc: Global) -> Arg<'a>
+    ensures rule { rule_of result ≡ number_rule (codes "harts") most_harts }
+    ensures local { result.global ≡ false }
+{
+    Arg::new(alloc, "harts")
+        .long("harts")
+        .value_name("N")
+        .help("How many harts run, 1 to 8: one where it isn't given")
+        .value_parser(clap::value_parser!(u64).range(1..=8))
+}
+
+// How many turns each hart makes at most.
+fn turns_arg<'a>(alloc: Global) -> Arg<'a>
+    ensures rule { rule_of result ≡ number_rule (codes "turns") most_turns }
+    ensures local { result.global ≡ false }
+{
+    Arg::new(alloc, "turns")
+        .long("turns")
+        .value_name("L")
+        .help(
+            "How many turns each hart makes at most, 1 to 1099511627776: that many where it isn't given",
+        )
+        .value_parser(clap::value_parser!(u64).range(1..=1_099_511_627_776))
+}
+
+// The log that the run goes on from.
+fn from_arg<'a>(alloc: Global) -> Arg<'a>
+    ensures rule { rule_of result ≡ word_rule (codes "from") }
+    ensures local { result.global ≡ false }
+{
+    Arg::new(alloc, "from").long("from").value_name("OLD").help(
+        "The log that the run goes on from, with as many harts as that log has",
+    )
+}
+
+// A file that has to be named.
+fn file_arg<'a>(alloc: Global, id: &'a str, help: &'a str) -> Arg<'a>
+    ensures rule { rule_of result ≡ required_rule id.now }
+    ensures local { result.global ≡ false }
+{
+    Arg::new(alloc, id).required(true).help(help)
+}
+
+// An argument that takes the words left over.
+fn rest_arg<'a>(alloc: Global, id: &'a str) -> Arg<'a>
+    ensures rule { rule_of result ≡ rest_rule id.now }
+    ensures local { result.global ≡ false }
+{
+    Arg::new(alloc, id).num_args(..).help(
+        "The inputs' pictures, in the order of the algorithm's lines",
+    )
+}
