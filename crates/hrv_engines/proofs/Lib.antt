@@ -1,12 +1,13 @@
+mod Telling
 pub mod Compilations
 pub mod Drawings
 pub mod Numbers
 pub mod Pixels
 pub mod Printing
 pub mod Reading
+pub mod Runs
 pub mod Sources
 pub mod Splits
-pub mod Runs
 pub mod Steps
 pub mod StopsFound
 pub mod TalkSteps

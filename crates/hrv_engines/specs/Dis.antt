@@ -4,7 +4,8 @@ use Rattle.std.specs.Prelude.{◌≡◌, ℕ, List, Option, Some, None, Result, 
 use Rattle.loader.specs.Image.{ImageContents}
 use Rattle.loader.specs.Spelling.{Spells, image_of}
 use Rattle.loader.specs.declared.faults.LoadFault.{LoadFault}
-use Rattle.disassembler.specs.Listing.{listing}
+use Rattle.memory.specs.Addresses.{text_start}
+use Rattle.disassembler.specs.Listing.{addressed_listing, listing}
 use Rattle.hrv_engines.specs.declared.faults.Refusal.{Refusal}
 use Rattle.hrv_engines.specs.declared.faults.Refusal.TheVariants.{Load}
 
@@ -14,6 +15,13 @@ pub record IsListing (image text : List ℕ) : Type 0 where
   pub is_read : image_of image ≡ Ok contents
   pub is_spelled : Spells image contents
   pub is_listed : text ≡ listing contents.words
+
+-- The same, where each line says the address of its word.
+pub record IsAddressedListing (image text : List ℕ) : Type 0 where
+  pub contents : ImageContents
+  pub is_read : image_of image ≡ Ok contents
+  pub is_spelled : Spells image contents
+  pub is_listed : text ≡ addressed_listing text_start contents.words
 
 abbrev pub refused_by : Result ImageContents LoadFault → Option Refusal
 refused_by (Ok contents) = None

@@ -1,7 +1,8 @@
 //! The commands, each as an engine that works over devices and knows no command line.
 //!
 //! - [`asm`]: an assembly text becomes an image; [`asm_bytes`], over `specs/Asm.antt`.
-//! - [`dis`]: the words of an image become lines; [`dis_bytes`], over `specs/Dis.antt`.
+//! - [`dis`]: the words of an image become lines; [`dis_bytes`], and [`dis_addresses_bytes`] with their addresses, over
+//!   `specs/Dis.antt`.
 //! - [`renew`]: an image is stored in the second format; [`renew_bytes`], over `specs/Renew.antt`.
 //! - [`replay`]: an image and a log of turns become a dump; [`replay_bytes`], over `specs/Replay.antt` and `Dump.antt`.
 //! - [`run`]: an image becomes a log of turns that threads made, and a dump; [`run_bytes`], and [`resume_bytes`] where a log goes on, over
@@ -9,6 +10,7 @@
 //! - [`debug`]: an image, a log of turns and lines of commands become a talk; [`debug_bytes`], over `specs/Debug.antt` and `Talk.antt`.
 //! - [`drawing`]: an algorithm and input pictures become the reference picture; [`picture_bytes`], over `specs/Drawing.antt`.
 //! - [`compiling`]: an algorithm, a schedule and input pictures become an image; [`compile_bytes`], over `specs/Compile.antt`.
+//! - [`explain`]: a refusal is explained; [`explain_bytes`], and the version is told; [`version_bytes`].
 //! - [`devices`]: what is read from and written to ([`Source`], [`Sink`]).
 //! - [`faults`]: why an engine gives no answer ([`Fault`]).
 //!
@@ -25,6 +27,7 @@ pub mod devices;
 pub mod dis;
 pub mod drawing;
 mod dumps;
+pub mod explain;
 pub mod faults;
 mod pictures;
 pub mod renew;
@@ -36,8 +39,9 @@ pub use crate::asm::asm_bytes;
 pub use crate::compiling::compile_bytes;
 pub use crate::debug::debug_bytes;
 pub use crate::devices::{Sink, Source};
-pub use crate::dis::dis_bytes;
+pub use crate::dis::{dis_addresses_bytes, dis_bytes};
 pub use crate::drawing::picture_bytes;
+pub use crate::explain::{explain_bytes, version_bytes};
 pub use crate::faults::{Fault, Refusal};
 pub use crate::renew::renew_bytes;
 pub use crate::replay::replay_bytes;
