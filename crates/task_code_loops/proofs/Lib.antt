@@ -1,3 +1,4 @@
+pub mod Combining
 pub mod Entered
 pub mod Following
 pub mod Knowledge

@@ -42,7 +42,7 @@ sum-append : (values : Values) (a b : List Term) → sum_of values (a ++ b) ≡ 
 sum-append values [] b = let g : sum_of values b ≡ 0 + sum_of values b = omega arith in g
 sum-append values (first ∷ others) b = let e = sum-append values others b in omega (arith, e)
 
-sum-times : (values : Values) (factor : ℕ) (terms : List Term) → sum_of values (times factor terms) % 2 ^ 32 ≡ (sum_of values terms * factor) % 2 ^ 32
+pub sum-times : (values : Values) (factor : ℕ) (terms : List Term) → sum_of values (times factor terms) % 2 ^ 32 ≡ (sum_of values terms * factor) % 2 ^ 32
 unfolding word.multiply
 sum-times values factor [] = let g : 0 ≡ 0 * factor = omega arith in ap (λ n. n % 2 ^ 32) g
 sum-times values factor (first ∷ others) =

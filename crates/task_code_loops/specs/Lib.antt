@@ -3,3 +3,4 @@ pub mod Bounds
 pub mod Ending
 pub mod Guarding
 pub mod Known
+pub mod Sums

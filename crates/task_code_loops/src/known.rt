@@ -34,7 +34,11 @@ fn known_sum<'a>(known: &'a [Known], counter: Counter) -> Option<&'a Linear>
 }
 
 /// Appends terms times a number.
-fn add_scaled(made: &mut Items<Term>, terms: &[Term], factor: u32) -> Result<(), AllocError>
+///
+/// # Errors
+///
+/// Memory ran out.
+pub fn add_scaled(made: &mut Items<Term>, terms: &[Term], factor: u32) -> Result<(), AllocError>
     ensures { OnOk result (made.new ≡ made.old ++ times factor terms.now) }
 {
     match terms {

@@ -3,8 +3,9 @@
 
 use crate::bounds::{Bound, is_below};
 use crate::known::{Known, by_others};
+use crate::sums::combined;
 use crate::tests::number;
-use halide_pipeline::Source;
+use halide_pipeline::{Operation, Source, words};
 use loop_ir::expressions::{Counter, Expr, Linear, Term};
 use loop_ir::statements::{Stmt, Store, Whole};
 use sqlite_items::Items;
@@ -16,6 +17,10 @@ use task_code_registers::scopes::Form;
 use task_code_registers::sums::distance;
 use task_code_scalar::expressions::place_of;
 use task_code_scalar::places::Places;
+
+/// As many uses a sum counts for whose value is wanted and not only an address: there is no code for it where no
+/// register holds it.
+const VALUE_USES: u32 = 64;
 
 /// A form, and how often one near it is used.
 #[derive(Debug, Drop)]
@@ -47,11 +52,8 @@ fn is_small(form: &Form) -> bool {
     form.sum.terms.len() == 0 && form.per_hart == 0 && fits(form.sum.number)
 }
 
-/// Counts so many uses of a form, unless an instruction makes it.
+/// Counts so many uses of a form.
 fn count(alloc: Global, found: &mut Vec<Use>, form: Form, times: u32) -> Result<(), AllocError> {
-    if is_small(&form) {
-        return Ok(());
-    }
     match place_near(alloc, found.as_slice(), &form)? {
         Some(place) => {
             if place < found.len() {
@@ -66,7 +68,7 @@ fn count(alloc: Global, found: &mut Vec<Use>, form: Form, times: u32) -> Result<
     }
 }
 
-/// An index as a sum, if it is one.
+/// An expression as a sum, if it is one.
 fn sum_of(alloc: Global, e: &Expr) -> Result<Option<Linear>, AllocError> {
     match e {
         Expr::Linear(own) => {
@@ -74,6 +76,16 @@ fn sum_of(alloc: Global, e: &Expr) -> Result<Option<Linear>, AllocError> {
             Ok(Some(sum))
         }
         Expr::Number(n) => Ok(Some(Linear::of_number(alloc, *n))),
+        Expr::Binary(operation, a, b) => match sum_of(alloc, a.get())? {
+            None => Ok(None),
+            Some(x) => match sum_of(alloc, b.get())? {
+                None => Ok(None),
+                Some(y) => {
+                    let found = combined(alloc, *operation, x, &y)?;
+                    Ok(found)
+                }
+            },
+        },
         _ => Ok(None),
     }
 }
@@ -95,11 +107,33 @@ fn count_point(
     Ok(())
 }
 
-/// Counts a sum that is a value of its own.
-fn count_sum(alloc: Global, own: &Linear, found: &mut Vec<Use>) -> Result<(), AllocError> {
-    let sum = own.copy(alloc)?;
-    count(alloc, found, Form { sum, per_hart: 0 }, 1)?;
+/// Counts a number that has to stand in a register; 0 always does.
+fn count_number(alloc: Global, own: u32, found: &mut Vec<Use>) -> Result<(), AllocError> {
+    if own != 0 {
+        count(alloc, found, number(alloc, own), 1)?;
+    }
     Ok(())
+}
+
+/// Counts a divisor, unless a shift divides by it.
+fn count_divisor(alloc: Global, divisor: u32, found: &mut Vec<Use>) -> Result<(), AllocError> {
+    if divisor.count_ones() != 1 {
+        count_number(alloc, divisor, found)?;
+    }
+    Ok(())
+}
+
+/// Whether an instruction holds the number that is the second operand.
+fn is_immediate(operation: Operation, e: &Expr) -> bool {
+    match e {
+        Expr::Number(n) => match operation {
+            Operation::Add => fits(*n),
+            Operation::Subtract => fits(words::subtract(0, *n)),
+            Operation::Multiply => n.count_ones() == 1,
+            _ => false,
+        },
+        _ => false,
+    }
 }
 
 fn gather_expr(
@@ -108,28 +142,40 @@ fn gather_expr(
     e: &Expr,
     found: &mut Vec<Use>,
 ) -> Result<(), AllocError> {
+    if let Some(own) = sum_of(alloc, e)? {
+        if own.terms.len() == 0 {
+            count_number(alloc, own.number, found)?;
+            return Ok(());
+        }
+        count(
+            alloc,
+            found,
+            Form {
+                sum: own,
+                per_hart: 0,
+            },
+            VALUE_USES,
+        )?;
+        return Ok(());
+    }
     match e {
-        Expr::Number(n) => {
-            count(alloc, found, number(alloc, *n), 1)?;
-            Ok(())
-        }
-        Expr::Linear(own) => {
-            count_sum(alloc, own, found)?;
-            Ok(())
-        }
-        Expr::Binary(_, a, b) => {
+        Expr::Number(_) => Ok(()),
+        Expr::Linear(_) => Ok(()),
+        Expr::Binary(operation, a, b) => {
             gather_expr(alloc, places, a.get(), found)?;
-            gather_expr(alloc, places, b.get(), found)?;
+            if !is_immediate(*operation, b.get()) {
+                gather_expr(alloc, places, b.get(), found)?;
+            }
             Ok(())
         }
         Expr::Divide(a, divisor) => {
             gather_expr(alloc, places, a.get(), found)?;
-            count(alloc, found, number(alloc, *divisor), 1)?;
+            count_divisor(alloc, *divisor, found)?;
             Ok(())
         }
         Expr::Remainder(a, divisor) => {
             gather_expr(alloc, places, a.get(), found)?;
-            count(alloc, found, number(alloc, *divisor), 1)?;
+            count_divisor(alloc, *divisor, found)?;
             Ok(())
         }
         Expr::Select(c, a, b) => {
@@ -176,7 +222,10 @@ fn count_at_zero(
 ) -> Result<(), AllocError> {
     for own in inner {
         let form = at_value(alloc, &own.form, counter, 0)?;
-        count(alloc, found, form, own.times)?;
+        let is_own = own.form.sum.terms.len() == 0;
+        if is_own || !is_small(&form) {
+            count(alloc, found, form, own.times)?;
+        }
     }
     Ok(())
 }
@@ -229,7 +278,7 @@ fn count_tested(
         let sum = own.sum.copy(alloc)?;
         let form = Form { sum, per_hart: 0 };
         if !is_below(&form, bounds, extent) {
-            count(alloc, found, form, 1)?;
+            count(alloc, found, form, VALUE_USES)?;
         }
     }
     Ok(())

@@ -1,6 +1,6 @@
 -- Sums, expressions and stores by other loop variables than the known ones.
 use Rattle.std.proofs.Common.{◌≡◌, ℕ, ◌+◌, ◌*◌, ◌%◌, ◌^◌, List, ◌∷◌, ◌++◌, [], refl, ap, ◌∙◌, sym, subst, arith}
-use Rattle.std.specs.Prelude.{◌==◌, if◌then◌else◌}
+use Rattle.std.specs.Prelude.{◌==◌, if◌then◌else◌, Option, Some, None, IfSome}
 use Rattle.halide_pipeline.specs.declared.expressions.Operation.{Operation}
 use Rattle.halide_pipeline.specs.declared.expressions.Source.{Source}
 use Rattle.halide_pipeline.specs.Pixel.{Reads}
@@ -17,9 +17,10 @@ use Rattle.task_code_registers.specs.Scopes.{form_value}
 use Rattle.task_code_registers.proofs.Knowing.{linear-small}
 use Rattle.task_code_loops.specs.declared.known.Known.{Known}
 use Rattle.task_code_loops.specs.Known.{IsRewritten}
-use Rattle.task_code_values.proofs.Evaluating.{value_linear, value_binary, value_divide, value_remainder, value_select, value_load}
+use Rattle.task_code_loops.specs.Sums.{IsCombined}
+use Rattle.task_code_values.proofs.Evaluating.{value_number, value_linear, value_binary, value_divide, value_remainder, value_select, value_load}
 use Rattle.task_code_values.proofs.Evaluating.{loads_binary, loads_divide, loads_remainder, loads_select, loads_load}
-use Rattle.task_code_statements.specs.Rewriting.{IsSameSum, IsSameExpr}
+use Rattle.task_code_statements.specs.Rewriting.{IsSameSum, IsSameExpr, IsBinary, IsLeafSum}
 
 -- ---- sums
 
@@ -127,3 +128,45 @@ module _ (known : List Known) where
             ∙ ap (λ z. (loads reads values x ++ loads reads values y) ++ (point source (value reads values x) z ∷ [])) (two.value_is reads values are)
             ∙ sym (loads_load reads values source x y);
       })
+
+-- ---- operations on sums
+
+pub leaf-number : (own : Expr) (n : ℕ) (sum : Linear) → own ≡ e.Number n → ((values : Values) → linear_value values sum ≡ n) → IsLeafSum own sum
+leaf-number own n sum is made = subst (λ x. IsLeafSum x sum) (sym is) (record {
+  value_is = λ reads values. made values ∙ sym (value_number reads values n);
+  none = λ reads values. loads_number reads values n;
+})
+
+pub leaf-linear : (own : Expr) (x sum : Linear) → own ≡ e.Linear x → sum ≡ x → IsLeafSum own sum
+leaf-linear own x sum is made = subst (λ y. IsLeafSum y sum) (sym is) (record {
+  value_is = λ reads values. ap (linear_value values) made ∙ sym (value_linear reads values x);
+  none = λ reads values. loads_linear reads values x;
+})
+
+pub binary-plain : (o : Operation) (a b : Expr) → IsBinary o a b (e.Binary o a b)
+binary-plain o a b = record { value_is = λ reads values. value_binary reads values o a b; loads_are = λ reads values. loads_binary reads values o a b }
+
+pub binary-sum : (o : Operation) (a b : Expr) (x y sum : Linear) → IsLeafSum a x → IsLeafSum b y → IsCombined o x y sum → IsBinary o a b (e.Linear sum)
+binary-sum o a b x y sum one two is = record {
+  value_is = λ reads values. value_linear reads values sum ∙ is values ∙ ap (λ n. word.applied o n (linear_value values y)) (one.value_is reads values)
+      ∙ ap (word.applied o (value reads values a)) (two.value_is reads values);
+  loads_are = λ reads values. loads_linear reads values sum ∙ sym (ap (λ l. l ++ loads reads values b) (one.none reads values) ∙ two.none reads values);
+}
+
+pub same-made : (known : List Known) (own : Expr) (o : Operation) (a b x y p q made : Expr) → own ≡ e.Binary o a b → x ≡ a → y ≡ b
+    → IsSameExpr known x p → IsSameExpr known y q → IsBinary o p q made → IsSameExpr known own made
+same-made known own o a b x y p q made is ex ey one two m =
+    let whole = same-binary known own o a b x y p q is ex ey one two in
+    record {
+      value_is = λ reads values are. m.value_is reads values ∙ sym (value_binary reads values o p q) ∙ whole.value_is reads values are;
+      loads_are = λ reads values are. m.loads_are reads values ∙ sym (loads_binary reads values o p q) ∙ whole.loads_are reads values are;
+    }
+
+-- as the emitter calls them
+pub leaf-found : (own : Expr) (x : Linear) (found : Option Linear) → found ≡ Some x → IfSome found (IsLeafSum own) → IsLeafSum own x
+leaf-found own x found e is = subst (λ o. IfSome o (IsLeafSum own)) e is
+
+pub sums-found : (o : Operation) (a b : Expr) (x y : Linear) (found : Option Linear) → IsLeafSum a x → IsLeafSum b y → IfSome found (IsCombined o x y)
+    → IfSome found (λ sum. IsBinary o a b (e.Linear sum))
+sums-found o a b x y None one two is = tt
+sums-found o a b x y (Some sum) one two is = binary-sum o a b x y sum one two is

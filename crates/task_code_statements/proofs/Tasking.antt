@@ -1,6 +1,6 @@
 -- What is so where a task begins, and what is left where it ends.
-use Rattle.std.proofs.Common.{◌≡◌, ℕ, ◌+◌, ◌^◌, ◌<◌, List, [], ◌∷◌, ◌++◌, length, refl, ◌∙◌, sym, subst, arith, inl, inr}
-use Rattle.std.specs.Prelude.{Option, Some, None}
+use Rattle.std.proofs.Common.{◌≡◌, ℕ, ◌+◌, ◌^◌, ◌<◌, List, [], ◌∷◌, ◌++◌, length, refl, ap, ◌∙◌, sym, subst, arith, inl, inr}
+use Rattle.std.specs.Prelude.{if◌then◌else◌, Bool, false, Option, Some, None}
 use Rattle.loop_ir.specs.declared.expressions.Counter.{Counter}
 use Rattle.loop_ir.specs.declared.statements.Phase.{Phase}
 use Rattle.loop_ir.specs.Counters.{no_values}
@@ -11,7 +11,7 @@ use Rattle.multi_hart_logic.proofs.Paths.{block-then, line-then, stand-front, wr
 use Rattle.task_code_scalar.specs.declared.places.Places.{Places}
 use Rattle.task_code_scalar.specs.Code.{literal}
 use Rattle.task_code_scalar.specs.Words.{Emits}
-use Rattle.task_code_scalar.proofs.Spelling.{emits_then}
+use Rattle.task_code_scalar.proofs.Spelling.{emits_then, emits-apart}
 use Rattle.task_code_scalar.proofs.Values.{literal-sets}
 use Rattle.task_code_registers.specs.declared.scopes.Held.{Held}
 use Rattle.task_code_registers.specs.Scopes.{Knows, IsKept}
@@ -19,9 +19,9 @@ use Rattle.task_code_loops.proofs.Knowledge.{variable-value}
 use Rattle.task_code_loops.specs.Bounds.{AreBelow}
 use Rattle.task_code_loops.specs.Known.{AreKnown}
 use Rattle.task_code_statements.specs.declared.contexts.Context.{Context}
-use Rattle.task_code_statements.specs.Contexts.{Meets, MeetsLoop, IsEmpty}
+use Rattle.task_code_statements.specs.Contexts.{Meets, MeetsLoop, MeetsZero, IsEmpty}
 use Rattle.task_code_statements.specs.Statements.{EmitsStatement}
-use Rattle.task_code_statements.specs.Tasks.{AppendsTask, Begins, drawn, restored}
+use Rattle.task_code_statements.specs.Tasks.{EmitsTask, Begins, StaysMet, drawn, is_own, restored}
 
 -- ---- the beginning
 
@@ -126,3 +126,36 @@ task-emits phase places ticket scope context c0 c1 c2 lt ls begins x z =
             };
       };
     }
+
+-- ---- variables that no loop has
+
+pub stays-none : (own : Option Counter) (context : Context) → StaysMet own context context
+stays-none own context = record { meets = λ task meets. meets }
+
+stands-still : (own : Option Counter) (counter : Counter) (task : ℕ) → is_own own counter ≡ false → task_values own task counter ≡ 0
+stands-still None counter task other = refl
+stands-still (Some own) counter task other = ap (λ t. if t then task else no_values counter) other
+
+pub stays-more : (own : Option Counter) (counter : Counter) (t : Bool) (context next made : Context) → t ≡ is_own own counter → t ≡ false
+    → MeetsZero context counter next → StaysMet own next made → StaysMet own context made
+stays-more own counter t context next made e f zero rest = record {
+  meets = λ task meets. rest.meets task (zero.meets (task_values own task) (stands-still own counter task (sym e ∙ f)) meets);
+}
+
+pub begins-met : (own : Option Counter) (tasks : ℕ) (scope : List Held) (context made : Context) → Begins own tasks scope context
+    → StaysMet own context made → Begins own tasks scope made
+begins-met own tasks scope context made begins stays = record {
+  holders = begins.holders;
+  knows = begins.knows;
+  meets = λ task less. stays.meets task (begins.meets task less);
+}
+
+-- ---- words that are appended
+
+pub appended-task : (phase : Phase) (places : Places) (ticket : ℕ) (old new words view : List ℕ) → view ≡ words → new ≡ old ++ view
+    → EmitsTask [] words phase places ticket → EmitsTask old new phase places ticket
+appended-task phase places ticket old new words view ev en x = record {
+  insns = x.insns;
+  emits = emits-apart old new words x.insns x.emits (en ∙ ap (λ k. old ++ k) ev);
+  does = x.does;
+}

@@ -1,12 +1,14 @@
 -- What is known of loop variables while code runs. This project's own.
-use Rattle.std.specs.Prelude.{◌≡◌, ◌<◌, ℕ, ◌%◌, ◌^◌, ◌&&◌, not, if◌then◌else◌, Bool, true, false, List, [], ◌∷◌}
+use Rattle.std.specs.Prelude.{◌≡◌, ◌<◌, ℕ, ◌%◌, ◌^◌, ◌||◌, if◌then◌else◌, Bool, true, false, List, [], ◌∷◌}
 use Rattle.loop_ir.specs.declared.expressions.Counter.{Counter}
 use Rattle.loop_ir.specs.declared.expressions.Linear.{Linear}
 use Rattle.loop_ir.specs.Counters.{Values, same_counter, with}
 use Rattle.loop_ir.specs.Expressions.{linear_value}
+use Rattle.task_code_registers.specs.Strides.{has_counter}
+use Rattle.task_code_loops.specs.declared.known.Known.{Known}
 use Rattle.task_code_loops.specs.declared.bounds.Bound.{Bound}
 use Rattle.task_code_loops.specs.Bounds.{AreBelow}
-use Rattle.task_code_loops.specs.Known.{AreKnown, is_fresh}
+use Rattle.task_code_loops.specs.Known.{AreKnown}
 use Rattle.task_code_statements.specs.declared.contexts.Context.{Context}
 
 -- variables have the values of their sums, and are below their counts
@@ -26,12 +28,19 @@ pub record MeetsLoop (context : Context) (counter : Counter) (count : ℕ) (made
 pub record MeetsSum (context : Context) (counter : Counter) (sum : Linear) (made : Context) : Type 0 where
   pub meets : (values : Values) (v : ℕ) → v % 2 ^ 32 ≡ linear_value values sum → Meets context values → Meets made (with counter v values)
 
--- ---- what nothing is known of
+-- and where one that stands at 0 is known to do so
+pub record MeetsZero (context : Context) (counter : Counter) (made : Context) : Type 0 where
+  pub meets : (values : Values) → values counter ≡ 0 → Meets context values → Meets made values
+
+-- ---- other variables
 
 -- a number is known below which the variable stays
 abbrev pub is_bounded : List Bound → Counter → Bool
 is_bounded [] counter = false
 is_bounded (own ∷ others) counter = if same_counter own.counter counter then true else is_bounded others counter
 
-abbrev pub is_new : Context → Counter → Bool
-is_new context counter = is_fresh counter context.known.items && not (is_bounded context.bounds.items counter)
+-- what is known of other variables than one, by sums without it
+abbrev pub without : Counter → List Known → List Known
+without counter [] = []
+without counter (own ∷ others) =
+    if same_counter own.counter counter || has_counter counter own.sum.terms then without counter others else own ∷ without counter others

@@ -1,5 +1,7 @@
 -- Stores by other loop variables than the known ones. This project's own.
-use Rattle.std.specs.Prelude.{◌≡◌, List}
+use Rattle.std.specs.Prelude.{◌≡◌, List, [], ◌++◌}
+use Rattle.halide_pipeline.specs.declared.expressions.Operation.{Operation}
+use Rattle.halide_pipeline.specs.Words as word
 use Rattle.halide_pipeline.specs.Pixel.{Reads}
 use Rattle.loop_ir.specs.declared.expressions.Expr.{Expr}
 use Rattle.loop_ir.specs.declared.expressions.Linear.{Linear}
@@ -24,3 +26,15 @@ pub record IsSameStore (known : List Known) (own made : Store) : Type 0 where
   pub column : IsSameExpr known own.x made.x
   pub row : IsSameExpr known own.y made.y
   pub pixel : IsSameExpr known own.value made.value
+
+-- ---- operations
+
+-- an expression is what an operation makes of two others, and loads what they load
+pub record IsBinary (operation : Operation) (a b made : Expr) : Type 0 where
+  pub value_is : (reads : Reads) (values : Values) → value reads values made ≡ word.applied operation (value reads values a) (value reads values b)
+  pub loads_are : (reads : Reads) (values : Values) → loads reads values made ≡ loads reads values a ++ loads reads values b
+
+-- an expression is a sum, and loads nothing
+pub record IsLeafSum (own : Expr) (sum : Linear) : Type 0 where
+  pub value_is : (reads : Reads) (values : Values) → linear_value values sum ≡ value reads values own
+  pub none : (reads : Reads) (values : Values) → loads reads values own ≡ []

@@ -1,14 +1,12 @@
 -- What instructions do that do each task of a phase, wherever they stand: what the phase's statement does for that task; and they leave the numbers
 -- that the draw and the gate look for. Which instructions they are isn't said. This project's own.
-use Rattle.std.specs.Prelude.{◌≡◌, ◌<◌, ℕ, ◌+◌, true, List, [], ◌∷◌, ◌++◌, Option}
+use Rattle.std.specs.Prelude.{◌≡◌, ◌<◌, ℕ, ◌+◌, true, List, [], ◌∷◌, ◌++◌, Bool, false, Option, Some, None}
 use Rattle.rv_insn.specs.declared.instructions.Insn.{Insn}
 use Rattle.memory.specs.Addresses.{byte_at, AreBytes}
 use Rattle.halide_pipeline.specs.Pixel.{Planes, reads_of}
 use Rattle.loop_ir.specs.declared.expressions.Counter.{Counter}
 use Rattle.loop_ir.specs.declared.statements.Phase.{Phase}
-use Rattle.loop_ir.specs.declared.statements.Stmt.{Stmt}
-use Rattle.loop_ir.specs.Counters.{Values}
-use Rattle.loop_ir.specs.Rounds.{may_be_at_once}
+use Rattle.loop_ir.specs.Counters.{same_counter}
 use Rattle.loop_ir.specs.Running.{run_task, task_values}
 use Rattle.loop_ir.specs.Stores.{is_stored_by_task}
 use Rattle.multi_hart_logic.specs.Paths.{Stand, Block, Writes}
@@ -89,3 +87,14 @@ pub record Begins (counter : Option Counter) (tasks : ℕ) (scope : List Held) (
   pub knows : (hart task : ℕ) (f : ℕ → ℕ) → task < tasks → f zero_register ≡ 0 → f hart_number ≡ hart → f 12 ≡ task
       → Knows hart scope (task_values counter task) f
   pub meets : (task : ℕ) → task < tasks → Meets context (task_values counter task)
+
+-- ---- variables that no loop has
+
+-- the variable of the task's number
+abbrev pub is_own : Option Counter → Counter → Bool
+is_own None counter = false
+is_own (Some own) counter = same_counter counter own
+
+-- Where one context meets what variables stand at before a task, another one does.
+pub record StaysMet (own : Option Counter) (context made : Context) : Type 0 where
+  pub meets : (task : ℕ) → Meets context (task_values own task) → Meets made (task_values own task)

@@ -2,9 +2,8 @@
 
 ghost use Rattle.std.specs.Prelude.{◌≡◌, ◌++◌, ◌∷◌, IfOk, OnOk};
 ghost use Rattle.task_code_registers.specs.Strides.{has_counter};
-ghost use Rattle.task_code_loops.specs.Known as spec;
 ghost use Rattle.task_code_statements.specs.Contexts as contexts;
-ghost use Rattle.task_code_statements.specs.Contexts.{IsEmpty, MeetsLoop, MeetsSum};
+ghost use Rattle.task_code_statements.specs.Contexts.{IsEmpty, MeetsLoop, MeetsSum, MeetsZero};
 
 use loop_ir::expressions::{Counter, Linear, Term, same_counter};
 use std::alloc::{AllocError, Global};
@@ -17,33 +16,18 @@ use task_code_scalar::CodeFault;
 pub struct Context {
     pub known: Vec<Known>,
     pub bounds: Vec<Bound>,
+    /// Whether each loop holds its variable first, so that any address can be made of variables.
+    pub with_variables: bool,
 }
 
 /// Nothing is known.
-pub fn nothing_known(alloc: Global) -> Context
+pub fn nothing_known(alloc: Global, with_variables: bool) -> Context
     ensures { IsEmpty result }
 {
     Context {
         known: Vec::new(alloc),
         bounds: Vec::new(alloc),
-    }
-}
-
-/// Appends copies.
-fn copy_known(alloc: Global, made: &mut Vec<Known>, known: &[Known]) -> Result<(), AllocError>
-    ensures { OnOk result (made.new.items ≡ made.old.items ++ known.now) }
-{
-    match known {
-        [] => Ok(()),
-        [first, others @ ..] => {
-            let sum = first.sum.copy(alloc)?;
-            made.push(Known {
-                counter: first.counter,
-                sum,
-            })?;
-            copy_known(alloc, made, others)?;
-            Ok(())
-        }
+        with_variables,
     }
 }
 
@@ -63,15 +47,31 @@ pub fn has_term(terms: &[Term], counter: Counter) -> bool
     }
 }
 
-/// Whether none of these is that loop variable, or a sum of it.
-fn is_fresh(known: &[Known], counter: Counter) -> bool
-    ensures { result ≡ spec.is_fresh counter known.now }
+/// Appends copies of those that are neither of a loop variable nor a sum of it.
+fn keep_others(
+    alloc: Global,
+    made: &mut Vec<Known>,
+    known: &[Known],
+    counter: Counter,
+) -> Result<(), AllocError>
+    ensures { OnOk result (made.new.items ≡ made.old.items ++ contexts.without counter known.now) }
 {
     match known {
-        [] => true,
+        [] => Ok(()),
         [first, others @ ..] => {
-            !(same_counter(first.counter, counter) || has_term(first.sum.terms.as_slice(), counter))
-                && is_fresh(others, counter)
+            if same_counter(first.counter, counter)
+                || has_term(first.sum.terms.as_slice(), counter)
+            {
+                keep_others(alloc, made, others, counter)?;
+                return Ok(());
+            }
+            let sum = first.sum.copy(alloc)?;
+            made.push(Known {
+                counter: first.counter,
+                sum,
+            })?;
+            keep_others(alloc, made, others, counter)?;
+            Ok(())
         }
     }
 }
@@ -92,26 +92,20 @@ fn is_bounded(bounds: &[Bound], counter: Counter) -> bool
     }
 }
 
-/// Whether nothing is known of a loop variable.
-fn is_new(context: &Context, counter: Counter) -> bool
-    ensures { result ≡ contexts.is_new context.now counter }
-{
-    is_fresh(context.known.as_slice(), counter) && !is_bounded(context.bounds.as_slice(), counter)
-}
-
-/// These and one more in front.
+/// A loop variable and the sum that it is, before what is known beside it of others.
 fn with_known(
     alloc: Global,
     known: &[Known],
     counter: Counter,
     sum: &Linear,
 ) -> Result<Vec<Known>, AllocError>
-    ensures { IfOk result (λ made. made.items ≡ record { counter = counter; sum = sum.now } ∷ known.now) }
+    ensures { IfOk result (λ made. made.items
+        ≡ record { counter = counter; sum = sum.now } ∷ contexts.without counter known.now) }
 {
     let sum = sum.copy(alloc)?;
     let mut made = Vec::new(alloc);
     made.push(Known { counter, sum })?;
-    copy_known(alloc, &mut made, known)?;
+    keep_others(alloc, &mut made, known, counter)?;
     Ok(made)
 }
 
@@ -137,24 +131,28 @@ fn copy_bounds(alloc: Global, bounds: &[Bound]) -> Result<Vec<Bound>, AllocError
 ///
 /// # Errors
 ///
-/// Memory ran out, or something is known of the loop variable outside of the loop.
+/// Memory ran out, or the loop variable stands for a loop outside too.
 pub fn in_loop(alloc: Global, context: &Context, own: Bound) -> Result<Context, CodeFault>
     ensures { IfOk result (MeetsLoop context.now own.counter own.count) }
 {
-    if !is_new(context, own.counter) {
+    if is_bounded(context.bounds.as_slice(), own.counter) {
         return Err(CodeFault::TooDeep);
     }
     let mut known = Vec::new(alloc);
-    copy_known(alloc, &mut known, context.known.as_slice())?;
+    keep_others(alloc, &mut known, context.known.as_slice(), own.counter)?;
     let bounds = with_bound(alloc, context.bounds.as_slice(), own)?;
-    Ok(Context { known, bounds })
+    Ok(Context {
+        known,
+        bounds,
+        with_variables: context.with_variables,
+    })
 }
 
 /// What is known where a loop variable stands at the value of a sum.
 ///
 /// # Errors
 ///
-/// Memory ran out, or something is known of the loop variable outside.
+/// Memory ran out, the loop variable stands for a loop outside too, or the sum is one of it.
 pub fn with_sum(
     alloc: Global,
     context: &Context,
@@ -163,10 +161,32 @@ pub fn with_sum(
 ) -> Result<Context, CodeFault>
     ensures { IfOk result (MeetsSum context.now counter sum.now) }
 {
-    if !is_new(context, counter) || has_term(sum.terms.as_slice(), counter) {
+    let is_own = has_term(sum.terms.as_slice(), counter);
+    if is_own || is_bounded(context.bounds.as_slice(), counter) {
         return Err(CodeFault::TooDeep);
     }
     let known = with_known(alloc, context.known.as_slice(), counter, sum)?;
     let bounds = copy_bounds(alloc, context.bounds.as_slice())?;
-    Ok(Context { known, bounds })
+    Ok(Context {
+        known,
+        bounds,
+        with_variables: context.with_variables,
+    })
+}
+
+/// What is known where a loop variable stands at 0.
+///
+/// # Errors
+///
+/// Memory ran out.
+pub fn with_zero(alloc: Global, context: Context, counter: Counter) -> Result<Context, AllocError>
+    ensures { IfOk result (MeetsZero context counter) }
+{
+    let zero = Linear::of_number(alloc, 0);
+    let known = with_known(alloc, context.known.as_slice(), counter, &zero)?;
+    Ok(Context {
+        known,
+        bounds: context.bounds,
+        with_variables: context.with_variables,
+    })
 }

@@ -8,6 +8,7 @@
 #![tactic(auto)]
 
 pub mod contexts;
+mod mentions;
 pub mod rewriting;
 pub mod statements;
 pub mod tasks;

@@ -1,13 +1,16 @@
 //! Stores by the loop variables that aren't known.
 
-ghost use Rattle.std.specs.Prelude.{◌≡◌, IfOk};
-ghost use Rattle.task_code_statements.specs.Rewriting.{IsSameExpr, IsSameStore, IsSameSum};
+ghost use Rattle.std.specs.Prelude.{◌≡◌, IfOk, IfSome};
+ghost use Rattle.loop_ir.specs.declared.expressions.Expr.TheVariants as expressions;
+ghost use Rattle.task_code_statements.specs.Rewriting.{IsBinary, IsLeafSum, IsSameExpr, IsSameStore, IsSameSum};
 
+use halide_pipeline::Operation;
 use loop_ir::expressions::{Expr, Linear};
 use loop_ir::statements::Store;
 use sqlite_items::Boxed;
 use std::alloc::{AllocError, Global};
 use task_code_loops::known::{Known, by_others};
+use task_code_loops::sums::combined;
 use task_code_registers::scopes::Form;
 
 /// A sum by other loop variables than the known ones.
@@ -18,6 +21,56 @@ pub fn sum_by_others(alloc: Global, own: &Linear, known: &[Known]) -> Result<Lin
     let form = Form { sum, per_hart: 0 };
     let made = by_others(alloc, &form, known)?;
     Ok(made.sum)
+}
+
+/// A number or a sum as a sum.
+fn leaf_sum(alloc: Global, e: &Expr) -> Result<Option<Linear>, AllocError>
+    ensures { IfOk result (λ found. IfSome found (IsLeafSum e.now)) }
+{
+    match e {
+        Expr::Number(n) => Ok(Some(Linear::of_number(alloc, *n))),
+        Expr::Linear(own) => {
+            let sum = own.copy(alloc)?;
+            Ok(Some(sum))
+        }
+        _ => Ok(None),
+    }
+}
+
+/// What an operation makes of two expressions that are sums, where it is a sum.
+fn sum_of_both(
+    alloc: Global,
+    operation: Operation,
+    a: &Expr,
+    b: &Expr,
+) -> Result<Option<Linear>, AllocError>
+    ensures { IfOk result (λ found. IfSome found (λ sum. IsBinary operation a.now b.now (expressions.Linear sum))) }
+{
+    match leaf_sum(alloc, a)? {
+        None => Ok(None),
+        Some(x) => match leaf_sum(alloc, b)? {
+            None => Ok(None),
+            Some(y) => {
+                let found = combined(alloc, operation, x, &y)?;
+                Ok(found)
+            }
+        },
+    }
+}
+
+/// What an operation makes of two expressions: a sum where it is one.
+fn binary_of(
+    alloc: Global,
+    operation: Operation,
+    a: Boxed<Expr>,
+    b: Boxed<Expr>,
+) -> Result<Expr, AllocError>
+    ensures { IfOk result (IsBinary operation a b) }
+{
+    match sum_of_both(alloc, operation, a.get(), b.get())? {
+        Some(sum) => Ok(Expr::Linear(sum)),
+        None => Ok(Expr::Binary(operation, a, b)),
+    }
 }
 
 /// So it is with an expression behind a pointer.
@@ -48,7 +101,8 @@ pub fn by_other_variables(alloc: Global, e: &Expr, known: &[Known]) -> Result<Ex
         Expr::Binary(operation, a, b) => {
             let first = part_by_others(alloc, a.get(), known)?;
             let second = part_by_others(alloc, b.get(), known)?;
-            Ok(Expr::Binary(*operation, first, second))
+            let made = binary_of(alloc, *operation, first, second)?;
+            Ok(made)
         }
         Expr::Divide(a, divisor) => {
             let first = part_by_others(alloc, a.get(), known)?;

@@ -20,14 +20,22 @@ use task_code_loops::bounds::{Bound, is_below};
 use task_code_loops::ending::end_loop;
 use task_code_loops::guards::emit_guarded;
 use task_code_loops::known::by_others;
+use task_code_loops::tests::variable;
 use task_code_loops::wanted::wanted_forms;
-use task_code_registers::scopes::{Form, Held};
+use task_code_registers::scopes::{Form, Held, free_register};
 use task_code_scalar::CodeFault;
 use task_code_scalar::places::Places;
 use task_code_values::stores::emit_store;
 
 /// How many words a text may have.
 const MOST_WORDS: usize = 1 << 18;
+
+/// How many registers hold forms at most.
+const MOST_HELD: usize = 14;
+/// How many registers a loop has good use for: for its variable and its count, or for pointers and their ends.
+const VARIABLE_REGISTERS: usize = 2;
+
+const POINTER_REGISTERS: usize = 4;
 
 /// A loop variable that stands for a split loop, and the number below which its body is run.
 #[derive(Clone, Copy, Debug)]
@@ -95,15 +103,44 @@ fn depth(statement: &Stmt) -> usize {
     }
 }
 
+/// How many registers are left.
+fn left(scope: &[Held]) -> usize {
+    let mut count = 0;
+    for taken in 0..MOST_HELD {
+        if free_register(scope, taken).is_some() {
+            count = taken + 1;
+        }
+    }
+    count
+}
+
+/// How many registers a loop leaves to so many loops inside: what each has good use for, as far as it has as much itself.
+fn reserve(scope: &[Held], inside: usize, with_variables: bool) -> usize {
+    let each = if with_variables {
+        VARIABLE_REGISTERS
+    } else {
+        POINTER_REGISTERS
+    };
+    let most = left(scope).saturating_sub(each);
+    let most = if most < inside { inside } else { most };
+    let wanted = inside.saturating_mul(each);
+    if wanted < most { wanted } else { most }
+}
+
 /// The forms that a loop's body wants in registers, by the loop variables that aren't known.
 fn wanted_in(
     alloc: Global,
     places: &Places,
     context: &Context,
+    counter: Counter,
     body: &Stmt,
 ) -> Result<Vec<Form>, AllocError> {
     let found = wanted_forms(alloc, places, context.bounds.as_slice(), body)?;
     let mut wanted = Vec::new(alloc);
+    if context.with_variables {
+        let own = variable(alloc, counter)?;
+        wanted.push(own)?;
+    }
     for own in found.as_slice() {
         let form = by_others(alloc, own, context.known.as_slice())?;
         wanted.push(form)?;
@@ -196,8 +233,9 @@ fn emit_loop(
         return Ok(());
     }
     let inner = in_loop(alloc, context, own)?;
-    let wanted = wanted_in(alloc, places, &inner, body)?;
-    let begun = begin(alloc, code, scope, own, wanted.as_slice(), depth(body))?;
+    let wanted = wanted_in(alloc, places, &inner, own.counter, body)?;
+    let reserved = reserve(scope, depth(body), context.with_variables);
+    let begun = begin(alloc, code, scope, own, wanted.as_slice(), reserved)?;
     let start = code.len();
     emit_statement(alloc, code, places, begun.inner.as_slice(), &inner, body)?;
     end_loop(code, &begun, start)?;

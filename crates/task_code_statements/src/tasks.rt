@@ -1,21 +1,22 @@
 //! The code of one task of a phase.
 
-ghost use Rattle.std.specs.Prelude.{◌≡◌, ◌<◌, ◌+◌, ◌^◌, IfOk, OnOk};
+ghost use Rattle.std.specs.Prelude.{◌≡◌, ◌<◌, ◌+◌, ◌^◌, [], IfOk, IfSome, OnOk};
 ghost use Rattle.task_code_scalar.specs.Words.{Emits};
 ghost use Rattle.task_code_statements.specs.Tasks as spec;
-ghost use Rattle.task_code_statements.specs.Tasks.{AppendsTask, Begins};
+ghost use Rattle.task_code_statements.specs.Tasks.{Begins, EmitsTask, StaysMet};
 
-use crate::contexts::{Context, in_loop, nothing_known};
+use crate::contexts::{Context, in_loop, nothing_known, with_zero};
+use crate::mentions::mentioned_variables;
 use crate::statements::emit_statement;
-use loop_ir::expressions::Counter;
+use loop_ir::expressions::{Counter, same_counter};
 use loop_ir::statements::Phase;
 use std::alloc::{AllocError, Global};
 use task_code_loops::bounds::Bound;
 use task_code_loops::tests::variable;
 use task_code_registers::scopes::{Held, with_held};
-use task_code_scalar::CodeFault;
 use task_code_scalar::instructions::emit_literal;
 use task_code_scalar::places::Places;
+use task_code_scalar::{CodeFault, append};
 
 /// Where the number of the task stands that was drawn.
 const DRAWN: u8 = 12;
@@ -44,18 +45,56 @@ fn with_drawn(alloc: Global, counter: Counter) -> Result<Vec<Held>, AllocError>
     Ok(made)
 }
 
+/// Whether a loop variable is the task's own.
+fn is_own(own: Option<Counter>, counter: Counter) -> bool
+    ensures { result ≡ spec.is_own own counter }
+{
+    match own {
+        None => false,
+        Some(own) => same_counter(counter, own),
+    }
+}
+
+/// What is known where each of these loop variables, but the task's own, stands at 0.
+fn with_zeros(
+    alloc: Global,
+    context: Context,
+    own: Option<Counter>,
+    others: &[Counter],
+) -> Result<Context, AllocError>
+    ensures { IfOk result (StaysMet own context) }
+{
+    match others {
+        [] => Ok(context),
+        [first, rest @ ..] => {
+            if is_own(own, *first) {
+                let made = with_zeros(alloc, context, own, rest)?;
+                return Ok(made);
+            }
+            let next = with_zero(alloc, context, *first)?;
+            let made = with_zeros(alloc, next, own, rest)?;
+            Ok(made)
+        }
+    }
+}
+
 /// What is so where one of so many tasks begins.
-fn beginning(alloc: Global, counter: Option<Counter>, tasks: u32) -> Result<Start, CodeFault>
+fn beginning(
+    alloc: Global,
+    counter: Option<Counter>,
+    tasks: u32,
+    with_variables: bool,
+) -> Result<Start, CodeFault>
     ensures { IfOk result (λ made. Begins counter tasks made.scope.items made.context) }
 {
     match counter {
         None => Ok(Start {
             scope: Vec::new(alloc),
-            context: nothing_known(alloc),
+            context: nothing_known(alloc, with_variables),
         }),
         Some(counter) => {
             let scope = with_drawn(alloc, counter)?;
-            let outside = nothing_known(alloc);
+            let outside = nothing_known(alloc, with_variables);
             let own = Bound {
                 counter,
                 count: tasks,
@@ -78,14 +117,62 @@ pub fn emit_restored(code: &mut Vec<u32>, ticket: u32, tasks: u32) -> Result<(),
     Ok(())
 }
 
-/// Appends the code of one task of a phase, with forms in the registers that loops and expressions leave.
+/// Appends the code of one task of a phase, in which loops hold their variables first, or as they need them.
+fn emit_words(
+    alloc: Global,
+    phase: &Phase,
+    places: &Places,
+    ticket: u32,
+    with_variables: bool,
+    code: &mut Vec<u32>,
+) -> Result<(), CodeFault>
+    requires { ticket + 4 < 2 ^ 32 }
+    ensures { OnOk result (EmitsTask code.old.items code.new.items phase.now places.now ticket) }
+{
+    let begun = beginning(alloc, phase.counter, phase.tasks, with_variables)?;
+    let others = mentioned_variables(alloc, &phase.body)?;
+    let context = with_zeros(alloc, begun.context, phase.counter, others.as_slice())?;
+    emit_statement(
+        alloc,
+        code,
+        places,
+        begun.scope.as_slice(),
+        &context,
+        &phase.body,
+    )?;
+    emit_restored(code, ticket, phase.tasks)?;
+    Ok(())
+}
+
+/// The words of one task of a phase, where there are some.
+fn tried_words(
+    alloc: Global,
+    phase: &Phase,
+    places: &Places,
+    ticket: u32,
+    with_variables: bool,
+) -> Result<Option<Vec<u32>>, AllocError>
+    requires { ticket + 4 < 2 ^ 32 }
+    ensures { IfOk result (λ found. IfSome found (λ words. EmitsTask [] words.items phase.now places.now ticket)) }
+{
+    let mut words = Vec::new(alloc);
+    match emit_words(alloc, phase, places, ticket, with_variables, &mut words) {
+        Ok(()) => Ok(Some(words)),
+        Err(CodeFault::OutOfMemory(error)) => Err(error),
+        Err(CodeFault::TooLong) => Ok(None),
+        Err(CodeFault::TooDeep) => Ok(None),
+    }
+}
+
+/// Appends the code of one task of a phase, with forms in the registers that loops and expressions leave: pointers first,
+/// and where registers do not suffice for this, loop variables first.
 ///
 /// It finds the task's number in x12 and the hart's in x10, and ends behind its last word, with the addresses of the
 /// ticket word and of the gate word behind it in x13 and x14, 1 in x15 and the number of tasks in x16.
 ///
 /// # Errors
 ///
-/// As of [`emit_statement`]. Some words may have been appended.
+/// As of [`emit_statement`], for loop variables first.
 pub fn emit_task(
     alloc: Global,
     phase: &Phase,
@@ -96,15 +183,15 @@ pub fn emit_task(
     requires { ticket + 4 < 2 ^ 32 }
     ensures { OnOk result (AppendsTask code.old.items code.new.items phase.now places.now ticket) }
 {
-    let begun = beginning(alloc, phase.counter, phase.tasks)?;
-    emit_statement(
-        alloc,
-        code,
-        places,
-        begun.scope.as_slice(),
-        &begun.context,
-        &phase.body,
-    )?;
-    emit_restored(code, ticket, phase.tasks)?;
-    Ok(())
+    if let Some(words) = tried_words(alloc, phase, places, ticket, false)? {
+        append(code, words.as_slice())?;
+        return Ok(());
+    }
+    match tried_words(alloc, phase, places, ticket, true)? {
+        Some(words) => {
+            append(code, words.as_slice())?;
+            Ok(())
+        }
+        None => Err(CodeFault::TooDeep),
+    }
 }

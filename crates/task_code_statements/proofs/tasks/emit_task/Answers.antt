@@ -1,14 +1,17 @@
-use Rattle.std.proofs.Common.{subst}
-use Rattle.task_code_statements.specs.Contexts.{Meets}
-use Rattle.task_code_statements.specs.Statements.{EmitsStatement}
-use Rattle.task_code_statements.proofs.Tasking.{task-emits}
+use Rattle.std.proofs.Common.{[], subst}
+use Rattle.std.specs.Prelude.{IfSome}
+use Rattle.task_code_statements.specs.Tasks.{EmitsTask}
+use Rattle.task_code_statements.proofs.Tasking.{appended-task}
 use Rattle.task_code_statements.proofs.tasks.emit_task.Goals as goal
 
-pub returns : goal.returns
-returns c =
-    let begun = c.in_ok-begun.begun in
-    task-emits c.args.phase.now c.args.places.now c.args.ticket begun.scope.items begun.context _ _ _ c.requires c.in_ok-emit_restored.ensures.1
-    c.in_ok-begun.ensures
-    (subst (λ scope. EmitsStatement c.args.code.now.items c.emit_statement.new.code.items c.args.places.now scope (Meets begun.context) c.args.phase.now.body)
-    c.as_slice.ensures.value c.in_ok-emit_statement.ensures)
-    c.in_ok-emit_restored.ensures.0
+pub returns-in-Some : goal.returns-in-Some
+returns-in-Some c =
+    appended-task c.args.phase.now c.args.places.now c.args.ticket _ _ c.in-Some.words.items c.as_slice.result.now c.as_slice.ensures.value
+    c.in_ok-append.ensures.ok
+    (subst (λ o. IfSome o (λ words. EmitsTask [] words.items c.args.phase.now c.args.places.now c.args.ticket)) c.in-Some.is c.in_ok-words.ensures)
+
+pub returns-in_ok-append-in-Some-2 : goal.returns-in_ok-append-in-Some-2
+returns-in_ok-append-in-Some-2 c =
+    appended-task c.args.phase.now c.args.places.now c.args.ticket _ _ c.in-Some-2.words.items c.as_slice-in-Some-2.result.now
+    c.as_slice-in-Some-2.ensures.value c.in_ok-append-in-Some-2.ensures.ok
+    (subst (λ o. IfSome o (λ words. EmitsTask [] words.items c.args.phase.now c.args.places.now c.args.ticket)) c.in-Some-2.is c.in_ok-words-2.ensures)

@@ -1,0 +1,9 @@
+use Rattle.std.proofs.Common.{◌∙◌, ap, ◌++◌}
+use Rattle.task_code_registers.specs.Points.{times}
+use Rattle.task_code_loops.proofs.Combining.{times-are}
+use Rattle.task_code_loops.proofs.sums.scaled.Goals as goal
+
+pub returns : goal.returns
+returns c =
+    times-are c.args.own.now c.args.factor c.multiply-number.result c.new-terms.result c.add_scaled.new.made c.new-terms.ensures
+    (c.in_ok-add_scaled.ensures ∙ ap (λ t. c.new-terms.result ++ times c.args.factor t) c.as_slice.ensures) c.multiply-number.ensures

@@ -1,0 +1,75 @@
+//! What operations make of sums of loop variables, where it is a sum again.
+
+ghost use Rattle.std.specs.Prelude.{◌≡◌, IfOk, IfSome};
+ghost use Rattle.halide_pipeline.specs.declared.expressions.Operation.TheVariants.{Add, Multiply};
+ghost use Rattle.task_code_loops.specs.Sums.{IsCombined, IsTimes};
+
+use crate::known::add_scaled;
+use halide_pipeline::{Operation, words};
+use loop_ir::expressions::Linear;
+use sqlite_items::Items;
+use std::alloc::{AllocError, Global};
+
+/// A sum so many times.
+fn scaled(alloc: Global, own: &Linear, factor: u32) -> Result<Linear, AllocError>
+    ensures { IfOk result (IsTimes own.now factor) }
+{
+    let mut terms = Items::new(alloc);
+    add_scaled(&mut terms, own.terms.as_slice(), factor)?;
+    let number = words::multiply(own.number, factor);
+    Ok(Linear { number, terms })
+}
+
+/// Two sums together.
+fn plus(alloc: Global, x: Linear, y: &Linear) -> Result<Linear, AllocError>
+    ensures { IfOk result (IsCombined Add x y.now) }
+{
+    let opposite = Linear::of_number(alloc, 0).minus(y)?;
+    let made = x.minus(&opposite)?;
+    Ok(made)
+}
+
+/// The product of two sums, of which one is a number.
+fn product(alloc: Global, x: &Linear, y: &Linear) -> Result<Option<Linear>, AllocError>
+    ensures { IfOk result (λ found. IfSome found (IsCombined Multiply x.now y.now)) }
+{
+    if y.terms.len() == 0 {
+        let made = scaled(alloc, x, y.number)?;
+        return Ok(Some(made));
+    }
+    if x.terms.len() == 0 {
+        let made = scaled(alloc, y, x.number)?;
+        return Ok(Some(made));
+    }
+    Ok(None)
+}
+
+/// What an operation makes of two sums, where it is a sum.
+///
+/// # Errors
+///
+/// Memory ran out.
+pub fn combined(
+    alloc: Global,
+    operation: Operation,
+    x: Linear,
+    y: &Linear,
+) -> Result<Option<Linear>, AllocError>
+    ensures { IfOk result (λ found. IfSome found (IsCombined operation x y.now)) }
+{
+    match operation {
+        Operation::Add => {
+            let made = plus(alloc, x, y)?;
+            Ok(Some(made))
+        }
+        Operation::Subtract => {
+            let made = x.minus(y)?;
+            Ok(Some(made))
+        }
+        Operation::Multiply => {
+            let found = product(alloc, &x, y)?;
+            Ok(found)
+        }
+        _ => Ok(None),
+    }
+}
