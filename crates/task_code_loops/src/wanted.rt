@@ -136,28 +136,42 @@ fn is_immediate(operation: Operation, e: &Expr) -> bool {
     }
 }
 
+/// Counts a sum whose value is wanted.
+fn count_value(alloc: Global, own: Linear, found: &mut Vec<Use>) -> Result<(), AllocError> {
+    if own.terms.len() == 0 {
+        count_number(alloc, own.number, found)?;
+        return Ok(());
+    }
+    let form = Form {
+        sum: own,
+        per_hart: 0,
+    };
+    count(alloc, found, form, VALUE_USES)?;
+    Ok(())
+}
+
+#[cycle(gathering)]
 fn gather_expr(
     alloc: Global,
     places: &Places,
     e: &Expr,
     found: &mut Vec<Use>,
 ) -> Result<(), AllocError> {
-    if let Some(own) = sum_of(alloc, e)? {
-        if own.terms.len() == 0 {
-            count_number(alloc, own.number, found)?;
-            return Ok(());
-        }
-        count(
-            alloc,
-            found,
-            Form {
-                sum: own,
-                per_hart: 0,
-            },
-            VALUE_USES,
-        )?;
-        return Ok(());
+    match sum_of(alloc, e)? {
+        Some(own) => count_value(alloc, own, found)?,
+        None => gather_parts(alloc, places, e, found)?,
     }
+    Ok(())
+}
+
+/// Counts what an expression that is no sum wants.
+#[cycle(gathering)]
+fn gather_parts(
+    alloc: Global,
+    places: &Places,
+    e: &Expr,
+    found: &mut Vec<Use>,
+) -> Result<(), AllocError> {
     match e {
         Expr::Number(_) => Ok(()),
         Expr::Linear(_) => Ok(()),
