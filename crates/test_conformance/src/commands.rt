@@ -7,7 +7,8 @@ use crate::algorithms::push_bytes;
 use crate::devices::{Devices, devices_of};
 use crate::failures::Failure;
 use hrv_engines::{
-    Fault, asm_bytes, debug_bytes, dis_bytes, picture_bytes, renew_bytes, replay_bytes,
+    Fault, asm_bytes, debug_bytes, dis_addresses_bytes, dis_bytes, explain_bytes, picture_bytes,
+    renew_bytes, replay_bytes,
 };
 use std::alloc::{AllocError, Global};
 use std::thread::Threads;
@@ -35,6 +36,32 @@ pub fn push_lines(alloc: Global, parts: &[Part], out: &mut String) -> Result<(),
     let image = bytes_of(alloc, image.named("image")?)?;
     let mut page = devices.page(alloc)?;
     let answered = dis_bytes(alloc, &mut devices.tape("image", &image)?, &mut page);
+    push_answer(answered, &page, out)
+}
+
+/// The listing of an image with the addresses of its words.
+pub fn push_addresses(alloc: Global, parts: &[Part], out: &mut String) -> Result<(), Failure> {
+    let (parts, devices) = devices_of(parts);
+    let [image] = parts else {
+        return Err(Failure::Malformed("not one part"));
+    };
+    let image = bytes_of(alloc, image.named("image")?)?;
+    let mut page = devices.page(alloc)?;
+    let answered = dis_addresses_bytes(alloc, &mut devices.tape("image", &image)?, &mut page);
+    push_answer(answered, &page, out)
+}
+
+/// What a refusal means.
+pub fn push_explained(alloc: Global, parts: &[Part], out: &mut String) -> Result<(), Failure> {
+    let (parts, devices) = devices_of(parts);
+    let [words] = parts else {
+        return Err(Failure::Malformed("not one part"));
+    };
+    let mut words = words.named("words")?.lines();
+    let family = words.next().unwrap_or("");
+    let code = words.next().unwrap_or("");
+    let mut page = devices.page(alloc)?;
+    let answered = explain_bytes(alloc, family, code, &mut page);
     push_answer(answered, &page, out)
 }
 

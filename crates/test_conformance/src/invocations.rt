@@ -35,6 +35,7 @@ fn push_asked(invocation: &Invocation, out: &mut String) -> Result<(), AllocErro
     match invocation {
         Invocation::Asm { source, image } => writeln!(out, "asm from {source} to {image}"),
         Invocation::Dis { image } => writeln!(out, "dis of {image}"),
+        Invocation::DisAddresses { image } => writeln!(out, "dis of {image} with addresses"),
         Invocation::Renew { old, new } => writeln!(out, "renew from {old} to {new}"),
         Invocation::Replay { image, log } => writeln!(out, "replay of {image} by {log}"),
         Invocation::Debug { image, log } => writeln!(out, "debug of {image} by {log}"),
@@ -66,6 +67,8 @@ fn push_asked(invocation: &Invocation, out: &mut String) -> Result<(), AllocErro
             old,
             turns,
         } => writeln!(out, "run of {image} from {old} to {log} of {turns} turns"),
+        Invocation::Explain { family, code } => writeln!(out, "explain {family} {code}"),
+        Invocation::Version => writeln!(out, "version"),
     }
 }
 

@@ -17,6 +17,8 @@
 //! | `turn` | `before`: an assembly text; `instructions`: one each line | each line, and what it changes behind it |
 //! | `asm` | `source` | the image's bytes, in hexadecimal |
 //! | `dis` | `image` | the listing |
+//! | `addresses` | `image` | the listing with addresses |
+//! | `explain` | `words`: a family, and below it a code where there is one | what the refusal means |
 //! | `renew` | `image` | the renewed image's bytes, in hexadecimal |
 //! | `replay` | `image`, `log`: lines in hexadecimal | the dump |
 //! | `debug` | `image`, `log`: lines in hexadecimal; `lines` | the talk |
@@ -63,7 +65,10 @@ mod weights;
 
 use crate::algorithms::{push_reading, push_verdict};
 use crate::assemblies::{push_listing, push_object};
-use crate::commands::{push_drawing, push_image, push_lines, push_renewal, push_replay, push_talk};
+use crate::commands::{
+    push_addresses, push_drawing, push_explained, push_image, push_lines, push_renewal,
+    push_replay, push_talk,
+};
 use crate::compilations::{push_accesses, push_compilation};
 use crate::failures::Failure;
 use crate::invocations::push_invocation;
@@ -146,6 +151,8 @@ fn push_answer(
         "turn" => push_changes(alloc, parts, out),
         "asm" => push_image(alloc, parts, out),
         "dis" => push_lines(alloc, parts, out),
+        "addresses" => push_addresses(alloc, parts, out),
+        "explain" => push_explained(alloc, parts, out),
         "renew" => push_renewal(alloc, parts, out),
         "replay" => push_replay(alloc, parts, out),
         "debug" => push_talk(alloc, parts, out),
