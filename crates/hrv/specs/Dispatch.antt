@@ -8,13 +8,15 @@ use Rattle.hrv_engines.specs.Asm.{IsAssembly, IsRefusedAssembly}
 use Rattle.hrv_engines.specs.Compile.{IsCompilation, IsRefusedCompilation}
 use Rattle.hrv_engines.specs.Debug.{Talks}
 use Rattle.hrv_engines.specs.Devices.{both, bytes_of, pieces_of, sink_of, text_of, texts_of}
-use Rattle.hrv_engines.specs.Dis.{IsListing, IsRefusedImage}
+use Rattle.hrv_engines.specs.Dis.{IsAddressedListing, IsListing, IsRefusedImage}
 use Rattle.hrv_engines.specs.Drawing.{IsDrawing, IsRefusedDrawing}
-use Rattle.hrv_engines.specs.Engine.{Performs}
+use Rattle.hrv_engines.specs.Engine.{Performs, Writes}
 use Rattle.hrv_engines.specs.Renew.{IsRenewal}
 use Rattle.hrv_engines.specs.Replay.{IsRefusedReplay, IsReplay}
 use Rattle.hrv_engines.specs.Run as run
-use Rattle.hrv_command_line.specs.CommandLine.{Asked, Replays, Debugs, Assembles, Lists, Renews, Draws, Compiles, Runs, Resumes}
+use Rattle.hrv_engines.specs.declared.explain.TheConstants.{VERSION}
+use Rattle.hrv_refusals.specs.Explanations.{explanation}
+use Rattle.hrv_command_line.specs.CommandLine.{Asked, Replays, Debugs, Assembles, Lists, ListsAddresses, Renews, Draws, Compiles, Runs, Resumes, Explains, TellsVersion}
 
 -- a fact of some device at this place, by its state before and after
 abbrev pub At : {S : Type 0} → (S → List ℕ) → List ℕ → (S → S → Type 0) → Type 0
@@ -46,6 +48,9 @@ module _ {R W T P : Type 0}
   Does alloc (Lists image) result =
       At read_at image (λ s t. At printed_at dash (λ o p.
       Performs IsListing IsRefusedImage (bytes_of read_at read_failed gave ended s t) (sink_of printed_at print_failed printed o p) result))
+  Does alloc (ListsAddresses image) result =
+      At read_at image (λ s t. At printed_at dash (λ o p.
+      Performs IsAddressedListing IsRefusedImage (bytes_of read_at read_failed gave ended s t) (sink_of printed_at print_failed printed o p) result))
   Does alloc (Renews old new) result =
       At read_at old (λ s t. At written_at new (λ o p.
       Performs IsRenewal IsRefusedImage (bytes_of read_at read_failed gave ended s t) (sink_of written_at write_failed stored o p) result))
@@ -78,3 +83,7 @@ module _ {R W T P : Type 0}
       run.Runs (run.IsResumedRun turns) IsRefusedReplay
       (both (bytes_of read_at read_failed gave ended s t) (bytes_of read_at read_failed gave ended x y)) (sink_of written_at write_failed stored u v)
       (sink_of printed_at print_failed printed o p) result))))
+  Does alloc (Explains family code) result =
+      At printed_at dash (λ o p. Writes (sink_of printed_at print_failed printed o p) (explanation family code) result)
+  Does alloc TellsVersion result =
+      At printed_at dash (λ o p. Writes (sink_of printed_at print_failed printed o p) VERSION result)

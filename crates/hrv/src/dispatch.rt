@@ -3,13 +3,14 @@
 ghost use Rattle.std.specs.Prelude.{◌≡◌, codes, map, IfOk};
 ghost use Rattle.std.specs.List.{All};
 ghost use Rattle.clap.specs.Walk.{texts};
-ghost use Rattle.hrv_command_line.specs.CommandLine.{AreWithinLimits, Assembles, Compiles, Debugs, Draws, IsWithinLimits, Lists, Renews, Replays, Resumes, Runs, asked_by};
+ghost use Rattle.hrv_command_line.specs.CommandLine.{AreWithinLimits, Assembles, Compiles, Debugs, Draws, Explains, IsWithinLimits, Lists, ListsAddresses, Renews, Replays, Resumes, Runs, TellsVersion, asked_by};
 ghost use Rattle.hrv.specs.Dispatch.{Does};
 
 use hrv_command_line::Invocation;
 use hrv_engines::{
-    Fault, Sink, Source, asm_bytes, compile_bytes, debug_bytes, dis_bytes, picture_bytes,
-    renew_bytes, replay_bytes, resume_bytes, run_bytes,
+    Fault, Sink, Source, asm_bytes, compile_bytes, debug_bytes, dis_addresses_bytes, dis_bytes,
+    explain_bytes, picture_bytes, renew_bytes, replay_bytes, resume_bytes, run_bytes,
+    version_bytes,
 };
 use std::alloc::{AllocError, Global};
 use std::sync::Wait;
@@ -63,6 +64,7 @@ pub fn obey<'a, R: Threads + Wait + Sync, D: Devices<'a>>(
     match invocation {
         Invocation::Asm { source, image } => assemble(alloc, devices, source, image),
         Invocation::Dis { image } => list(alloc, devices, image),
+        Invocation::DisAddresses { image } => list_addresses(alloc, devices, image),
         Invocation::Renew { old, new } => renew(alloc, devices, old, new),
         Invocation::Replay { image, log } => replay(alloc, devices, image, log),
         Invocation::Debug { image, log } => debug(alloc, devices, image, log),
@@ -87,6 +89,8 @@ pub fn obey<'a, R: Threads + Wait + Sync, D: Devices<'a>>(
             old,
             turns,
         } => resume(threads, alloc, devices, image, log, old, turns),
+        Invocation::Explain { family, code } => explain(alloc, devices, family, code),
+        Invocation::Version => tell_version(alloc, devices),
     }
 }
 
@@ -117,6 +121,20 @@ fn list<'a, D: Devices<'a>>(alloc: Global, devices: &D, image: &'a str) -> Resul
         D.Printed.place D.Printed.failed D.Printed.took alloc (Lists image.entry.now) result }
 {
     dis_bytes(alloc, &mut devices.read(image), &mut devices.printed())
+}
+
+/// `dis IMAGE --addresses`
+fn list_addresses<'a, D: Devices<'a>>(
+    alloc: Global,
+    devices: &D,
+    image: &'a str,
+) -> Result<(), Fault>
+    ensures { Does D.Read.place D.Read.failed D.Read.gave D.Read.ended
+        D.Written.place D.Written.failed D.Written.took
+        D.Typed.place D.Typed.failed D.Typed.gave D.Typed.ended
+        D.Printed.place D.Printed.failed D.Printed.took alloc (ListsAddresses image.entry.now) result }
+{
+    dis_addresses_bytes(alloc, &mut devices.read(image), &mut devices.printed())
 }
 
 /// `renew OLD NEW`
@@ -278,6 +296,31 @@ fn resume<'a, R: Threads + Wait + Sync, D: Devices<'a>>(
         &mut devices.printed(),
         turns,
     )
+}
+
+/// `explain FAMILY [CODE]`
+fn explain<'a, D: Devices<'a>>(
+    alloc: Global,
+    devices: &D,
+    family: &'a str,
+    code: &'a str,
+) -> Result<(), Fault>
+    ensures { Does D.Read.place D.Read.failed D.Read.gave D.Read.ended
+        D.Written.place D.Written.failed D.Written.took
+        D.Typed.place D.Typed.failed D.Typed.gave D.Typed.ended
+        D.Printed.place D.Printed.failed D.Printed.took alloc (Explains family.entry.now code.entry.now) result }
+{
+    explain_bytes(alloc, family, code, &mut devices.printed())
+}
+
+/// `version`
+fn tell_version<'a, D: Devices<'a>>(alloc: Global, devices: &D) -> Result<(), Fault>
+    ensures { Does D.Read.place D.Read.failed D.Read.gave D.Read.ended
+        D.Written.place D.Written.failed D.Written.took
+        D.Typed.place D.Typed.failed D.Typed.gave D.Typed.ended
+        D.Printed.place D.Printed.failed D.Printed.took alloc TellsVersion result }
+{
+    version_bytes(alloc, &mut devices.printed())
 }
 
 /// The files at paths, to be read.
