@@ -34,11 +34,7 @@ fn push_lines(words: &[u32], out: &mut Vec<u8>) -> Result<(), AllocError>
 
 /// Appends the lines of words, each with a comment that says its address: the first word stands at `start`. After an `Err`, for want of
 /// memory, the lines of some first words stand in `out`.
-pub fn write_addressed_lines(
-    words: &[u32],
-    start: u32,
-    out: &mut Vec<u8>,
-) -> Result<(), AllocError>
+pub fn write_addressed_lines(words: &[u32], start: u32, out: &mut Vec<u8>) -> Result<(), AllocError>
     requires { start + 4 * length words.now < 2 ^ 32 }
     ensures { OnOk result (out.new.items ≡ out.old.items ++ addressed_listing start words.now) }
 {
