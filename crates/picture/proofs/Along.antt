@@ -1,6 +1,8 @@
 -- Rows of pictures and of tables, as far as they are known.
-use Rattle.std.proofs.Common.{◌≡◌, ◌∙◌, ℕ, ◌+◌, ◌*◌, ◌^◌, ◌<◌, ◌≤◌, Some, List, [], ◌∷◌, ◌++◌, zero, suc, Vec, length, refl, take, drop, get_or, sym, ap, subst, arith}
-use Rattle.std.proofs.lemmas.Bool.{lt-ltb}
+use Rattle.std.proofs.Common.{◌≡◌, ◌-◌, inl, inr, ◌∙◌, ℕ, ◌+◌, ◌*◌, ◌^◌, ◌<◌, ◌≤◌, Some, List, [], ◌∷◌, ◌++◌, zero, suc, Vec, length, refl, take, drop, get_or, sym, ap, subst, arith}
+use Rattle.std.proofs.lemmas.Bool.{lt-ltb, cases_lt}
+use Rattle.std.proofs.lemmas.List.{length-append, get_or-append_right}
+use Rattle.std.proofs.Math.ListN.{get_or-append}
 use Rattle.std.specs.Prelude.{nat_lt, true}
 use Rattle.std.specs.Vec.{with_items}
 use Rattle.std.specs.declared.alloc.Global.{Global}
@@ -103,3 +105,28 @@ table-row plane table y row from window is small_y small_left small_top small_wi
       (back-from table.left at small_left (omega arith)) row_is wide high (ap (λ (n : ℕ). n + at) from_is) in
       are.each at wide ∙ there.1 ∙ ap (λ (n : ℕ). plane (word.add n at) y) (sym first);
 }
+
+-- ---- stretches
+
+goes-further : (left from k : ℕ) → word.add (word.add left from) k ≡ word.add left (from + k)
+unfolding word.add
+goes-further left from k = omega arith
+
+-- a stretch behind what stands from a column on
+pub one-more-stretch : (plane : Plane) (left y from count whole : ℕ) (pixels stretch next : List ℕ) → AreValues from (λ at. plane (word.add left at) y) pixels
+    → AreValues count (λ at. plane (word.add (word.add left from) at) y) stretch → next ≡ pixels ++ stretch → whole ≡ from + count
+    → AreValues whole (λ at. plane (word.add left at) y) next
+one-more-stretch plane left y from count whole pixels stretch next are more joined whole_is =
+    subst (λ (all : List ℕ). AreValues whole (λ at. plane (word.add left at) y) all) (sym joined) (record { len = len; each = each })
+  where
+    len : length (pixels ++ stretch) ≡ whole
+    len = omega (arith, length-append pixels stretch, are.len, more.len, whole_is)
+
+    each : (at : ℕ) → at < whole → get_or (pixels ++ stretch) at 0 ≡ plane (word.add left at) y
+    each at less = elim (cases_lt at (length pixels)) [
+      | inl before ↦ get_or-append pixels stretch 0 at before ∙ are.each at (omega (arith, before, are.len))
+      | inr behind ↦
+          let place : from + (at - length pixels) ≡ at = omega (arith, are.len, behind) in
+          get_or-append_right pixels stretch (length pixels) at 0 refl behind ∙ more.each (at - length pixels) (omega (arith, less, whole_is, are.len, behind))
+          ∙ ap (λ (x : ℕ). plane x y) (goes-further left from (at - length pixels) ∙ ap (word.add left) place)
+    ]

@@ -9,13 +9,16 @@ ghost use Rattle.picture_rows.specs.Rows.{AreValues, IsRow};
 
 use crate::plain::{func_at, pixel};
 use crate::row_reads::read_row;
-use crate::scenes::Scene;
-use halide_pipeline::{Expr, Variable, words};
+use crate::scenes::{Scene, Table};
+use halide_pipeline::{Expr, Source, Variable, words};
 use picture_rows::Row;
 use std::alloc::{AllocError, Global};
 
 /// A row of fewer pixels is computed pixel by pixel.
 const FEW: usize = 8;
+
+/// So many columns are computed at once.
+const STRETCH: usize = 4096;
 
 /// What a variable stands for at points one beside the other.
 fn variable_row(variable: Variable, left: u32, y: u32) -> Row
@@ -105,9 +108,43 @@ fn pixels_one_by_one(
     Ok(pixels)
 }
 
-/// So many pixels of the Func at a place in a row from a column on.
+/// Whether there is a table of each Func that an expression reads. Where there isn't, only what a point needs is to be
+/// computed: of a choice one side alone, and each pixel once.
+fn reads_tables(tables: &[Table], expr: &Expr) -> bool {
+    match expr {
+        Expr::Number(_) => true,
+        Expr::Variable(_) => true,
+        Expr::Binary(_, a, b) => reads_tables(tables, a.get()) && reads_tables(tables, b.get()),
+        Expr::Divide(a, _) => reads_tables(tables, a.get()),
+        Expr::Remainder(a, _) => reads_tables(tables, a.get()),
+        Expr::Select(condition, a, b) => {
+            reads_tables(tables, condition.get())
+                && reads_tables(tables, a.get())
+                && reads_tables(tables, b.get())
+        }
+        Expr::Call1(source, x) => has_table(tables, *source) && reads_tables(tables, x.get()),
+        Expr::Call2(source, x, y) => {
+            has_table(tables, *source)
+                && reads_tables(tables, x.get())
+                && reads_tables(tables, y.get())
+        }
+    }
+}
+
+/// Whether the pixels that are wanted of a source are known.
+fn has_table(tables: &[Table], source: Source) -> bool {
+    match source {
+        Source::Input(_) => true,
+        Source::Func(place) => match tables.get(place) {
+            None => false,
+            Some(table) => table.height > 0,
+        },
+    }
+}
+
+/// So many pixels of the Func at a place in a row from a column on, at once where that is less work.
 #[tactic(auto, unfolding(halide_pipeline::specs::Pixel::stage))]
-pub(crate) fn pixel_row(
+fn pixel_stretch(
     alloc: Global,
     scene: &Scene,
     place: usize,
@@ -122,11 +159,37 @@ pub(crate) fn pixel_row(
     if width >= FEW
         && let Some(func) = func_at(scene.funcs, place)
         && func.updates.is_empty()
+        && reads_tables(scene.tables, &func.pure)
     {
         let row = row_of(alloc, scene, place, left, y, width, &func.pure)?;
         let pixels = row.into_values(alloc, width)?;
         return Ok(pixels);
     }
     let pixels = pixels_one_by_one(alloc, scene, place, left, y, width)?;
+    Ok(pixels)
+}
+
+/// So many pixels of the Func at a place in a row from a column on, a stretch after the other, so that rows of values take
+/// little memory.
+pub(crate) fn pixel_row(
+    alloc: Global,
+    scene: &Scene,
+    place: usize,
+    left: u32,
+    y: u32,
+    width: usize,
+) -> Result<Vec<u32>, AllocError>
+    requires tables { AreTables scene.now }
+    requires narrow { width < 2 ^ 32 }
+    ensures { IfOk result (λ pixels. AreValues width (λ at. plane_of scene.now place (word.add left at) y) pixels.items) }
+{
+    let mut pixels = Vec::new(alloc);
+    for number in 0..width / STRETCH + 1 {
+        let from = number * STRETCH;
+        let count = (width - from).min(STRETCH);
+        let first = words::add(left, from as u32);
+        let stretch = pixel_stretch(alloc, scene, place, first, y, count)?;
+        pixels.extend_from_slice(&stretch)?;
+    }
     Ok(pixels)
 }
