@@ -1,4 +1,4 @@
--- What an image does, however many harts there are and whatever list says which hart makes the next turn: a schedule changes speed and never
+-- What an image does, on 1 to 8 harts and whatever list says which hart makes the next turn: a schedule changes speed and never
 -- pixels.
 --
 -- Only the algorithm's pixels, the image, the run of the machine from it, and how many phases there are, by which the words of control are
@@ -57,7 +57,7 @@ pub record IsCorrect (pipeline : Pipeline) (pictures : List PictureContents) (ph
       → all_finished (run (opening image harts) (turns ++ concat rounds)) ≡ true)
   -- each hart writes each gate word at most once
   pub gates_once : (turns : List ℕ) (phase hart : ℕ) → phase < phases → times_written hart (gate_word phase) (opening image harts) turns ≤ 1
-  -- no gate word falls: a hart that waits there is counted from then on, whatever turns follow
+  -- no gate word falls, whatever turns follow
   pub gates_grow : (turns more : List ℕ) (phase : ℕ) → phase < phases
       → arrived (run (opening image harts) turns) phase ≤ arrived (run (opening image harts) (turns ++ more)) phase
   -- from everywhere a hart that is given turns alone finishes, or waits at the gate of a phase that isn't the last

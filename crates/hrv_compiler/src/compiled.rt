@@ -79,11 +79,12 @@ impl Compiled {
     ///
     /// On every list that says which hart makes the next turn, no hart traps, none race but on the words of
     /// [`Compiled::control`], and wherever all have finished the output is the algorithm's (`specs/Correct.antt`).
-    /// Every list in which each hart goes on having turns ends: so many rounds are enough (`fair_ends`); and a hart
-    /// that waits at a gate is counted there from then on, whatever turns follow (`gates_grow`). Every assignment of
-    /// iterations to harts is reached by some list (`specs/Assigned.antt`). Where the innermost loop of a Func at root
-    /// without updates is vectorized, a turn that writes a point of the Func writes one run of that loop, and nothing
-    /// else (`specs/Runs.antt`).
+    /// From everywhere some turns make all finish, and for each number of harts there is a count of rounds, in each of
+    /// which every hart has a turn, such that after any turns so many rounds make all finish. No gate word falls, each
+    /// hart writes each one once at most, and a hart that is given turns alone finishes or waits at a gate. Every
+    /// assignment of iterations to harts is reached by some list (`specs/Assigned.antt`). Where the innermost loop of a
+    /// Func at root without updates is vectorized, a turn that writes a point of the Func writes one run of that loop,
+    /// and nothing else (`specs/Runs.antt`).
     ///
     /// # Errors
     ///

@@ -44,7 +44,7 @@ FinishedStays =
     (state : State) (turns : List ℕ) (number : ℕ) (hart : HartState) → slice_get state.harts number ≡ Some hart → hart.status ≡ Finished
     → slice_get (run state turns).harts number ≡ Some hart
 
--- a hart that waits at a gate is counted there from then on: no gate word falls
+-- no gate word falls, whatever turns follow
 abbrev pub GatesGrow : Type 0
 GatesGrow =
     (phases : ℕ → Phase) (last entry : ℕ) (memory turns more : List ℕ) → Program phases last → Opens (phases 0) entry memory

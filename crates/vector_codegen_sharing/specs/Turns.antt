@@ -109,7 +109,7 @@ are_rounds harts rounds = list_all (is_round harts) rounds
 
 -- ---- waiting
 
--- the number of harts that have come to the gate of a phase
+-- what the gate word of a phase holds: each hart that comes there adds 1
 abbrev pub arrived : State → ℕ → ℕ
 arrived state phase = word_at state.text state.memory (gate_word phase)
 
