@@ -1,0 +1,4 @@
+mod LastTurns
+mod Outcomes
+mod Passing
+pub mod Storing
