@@ -1,5 +1,5 @@
 -- What a turn writes, by what it came to.
-use Rattle.std.proofs.Common.{◌≡◌, ◌≢◌, ◌∙◌, ℕ, Bool, true, false, refl, sym, ap, subst, List, [], ◌∷◌, length, Option, Some, None}
+use Rattle.std.proofs.Common.{◌≡◌, ◌≢◌, ◌∙◌, ℕ, Bool, false, refl, sym, ap, List, [], length, Option, Some, None}
 use Rattle.std.specs.Prelude.{option_and_then, slice_get}
 use Rattle.rv_insn.specs.declared.outcomes.Outcome.{Outcome}
 use Rattle.rv_insn.specs.declared.outcomes.Outcome.TheVariants.{Finished as HasFinished, Idle, Stepped, Trapped as HasTrapped}
@@ -7,11 +7,11 @@ use Rattle.rv_insn.specs.declared.outcomes.Trap.{Trap}
 use Rattle.rv_insn.specs.declared.instructions.Insn.{Insn}
 use Rattle.rv_insn.specs.declared.instructions.Insn.TheVariants as i
 use Rattle.rv_encoding.specs.Decoding.{decoded}
-use Rattle.memory.specs.Access.{first_fault, or_else}
+use Rattle.memory.specs.Access.{or_else}
 use Rattle.memory.specs.Addresses.{fetched}
 use Rattle.hart_core.specs.HartState.{HartState}
-use Rattle.hart_core.specs.Scalar.{accesses, illegal_fault, jump_fault, jump_of, kind_of, outcome_of, own_fault}
-use Rattle.hart_core.specs.Turn.{Next, Rests, Traps, Does, due, effect, fault, if_running, judged, made, meant, next_of}
+use Rattle.hart_core.specs.Scalar.{illegal_fault, outcome_of}
+use Rattle.hart_core.specs.Turn.{Next, Rests, Traps, Does, due, fault, if_running, judged, made, meant, next_of}
 use Rattle.hart_core.specs.declared.harts.Status.{Status}
 use Rattle.hart_core.specs.declared.harts.Status.TheVariants.{Running, Finished, Trapped}
 use Rattle.multi_hart.specs.Frame.{writes}

@@ -1,5 +1,5 @@
 -- Turns of a log that are passed, one stretch after the other.
-use Rattle.std.proofs.Common.{◌≡◌, ◌≢◌, ◌∙◌, ◌<◌, ◌≤◌, ◌+◌, ◌-◌, ℕ, zero, suc, false, refl, sym, ap, subst, arith, List, [], ◌∷◌, ◌++◌, length, length-append, append_assoc, append-nil, replicate, take, drop, Option, Some, None}
+use Rattle.std.proofs.Common.{◌≡◌, ◌≢◌, ◌∙◌, ◌<◌, ◌≤◌, ◌+◌, ◌-◌, ℕ, zero, suc, false, refl, sym, ap, subst, arith, List, [], ◌∷◌, ◌++◌, length, length-append, append_assoc, append-nil, replicate, take, drop, Option, Some}
 use Rattle.std.specs.Prelude.{slice_get}
 use Rattle.std.proofs.Math.Seq.{take-add}
 use Rattle.std.proofs.lemmas.List.{length-replicate, take-append-le, take-replicate}
