@@ -27,8 +27,8 @@ does-task phase places ticket low fits = record {
   turns = task_turns phase places ticket;
   does = λ own good same task small sound once runs f memory funcs holds drawn.
       subst (λ (p : Places). TaskEnds own phase (task_code phase p ticket) (task_turns phase p ticket task) ticket task f memory funcs) same
-      (tasks-done own good phase ticket task (subst (λ (p : Places). fits_task phase p ≡ true) (sym same) fits) low small sound once runs f memory funcs holds
-      drawn);
+      (tasks-done own good phase ticket task (subst (λ (p : Places). fits_task phase p ≡ true) (sym same) fits) low
+      (omega (arith, small, few-tasks phase places fits)) sound once runs f memory funcs holds drawn);
 }
 
 -- what was made apart is appended

@@ -21,7 +21,7 @@ use Rattle.task_code_loops.specs.Known.{AreKnown}
 use Rattle.task_code_statements.specs.declared.contexts.Context.{Context}
 use Rattle.task_code_statements.specs.Contexts.{Meets, MeetsLoop, MeetsZero, IsEmpty}
 use Rattle.task_code_statements.specs.Statements.{EmitsStatement}
-use Rattle.task_code_statements.specs.Tasks.{EmitsTask, Begins, StaysMet, drawn, is_own, restored}
+use Rattle.task_code_statements.specs.Tasks.{AppendsTask, Begins, StaysMet, drawn, is_own, restored}
 
 -- ---- the beginning
 
@@ -153,7 +153,7 @@ begins-met own tasks scope context made begins stays = record {
 -- ---- words that are appended
 
 pub appended-task : (phase : Phase) (places : Places) (ticket : ℕ) (old new words view : List ℕ) → view ≡ words → new ≡ old ++ view
-    → EmitsTask [] words phase places ticket → EmitsTask old new phase places ticket
+    → AppendsTask [] words phase places ticket → AppendsTask old new phase places ticket
 appended-task phase places ticket old new words view ev en x = record {
   insns = x.insns;
   emits = emits-apart old new words x.insns x.emits (en ∙ ap (λ k. old ++ k) ev);

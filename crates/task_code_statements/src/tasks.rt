@@ -3,7 +3,7 @@
 ghost use Rattle.std.specs.Prelude.{◌≡◌, ◌<◌, ◌+◌, ◌^◌, [], IfOk, IfSome, OnOk};
 ghost use Rattle.task_code_scalar.specs.Words.{Emits};
 ghost use Rattle.task_code_statements.specs.Tasks as spec;
-ghost use Rattle.task_code_statements.specs.Tasks.{Begins, EmitsTask, StaysMet};
+ghost use Rattle.task_code_statements.specs.Tasks.{AppendsTask, Begins, StaysMet};
 
 use crate::contexts::{Context, in_loop, nothing_known, with_zero};
 use crate::mentions::mentioned_variables;
@@ -127,7 +127,7 @@ fn emit_words(
     code: &mut Vec<u32>,
 ) -> Result<(), CodeFault>
     requires { ticket + 4 < 2 ^ 32 }
-    ensures { OnOk result (EmitsTask code.old.items code.new.items phase.now places.now ticket) }
+    ensures { OnOk result (AppendsTask code.old.items code.new.items phase.now places.now ticket) }
 {
     let begun = beginning(alloc, phase.counter, phase.tasks, with_variables)?;
     let others = mentioned_variables(alloc, &phase.body)?;
@@ -153,7 +153,7 @@ fn tried_words(
     with_variables: bool,
 ) -> Result<Option<Vec<u32>>, AllocError>
     requires { ticket + 4 < 2 ^ 32 }
-    ensures { IfOk result (λ found. IfSome found (λ words. EmitsTask [] words.items phase.now places.now ticket)) }
+    ensures { IfOk result (λ found. IfSome found (λ words. AppendsTask [] words.items phase.now places.now ticket)) }
 {
     let mut words = Vec::new(alloc);
     match emit_words(alloc, phase, places, ticket, with_variables, &mut words) {
