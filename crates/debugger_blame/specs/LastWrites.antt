@@ -6,7 +6,7 @@ use Rattle.rv_insn.specs.declared.instructions.Insn.{Insn}
 use Rattle.hart_core.specs.HartState.{HartState}
 use Rattle.hart_core.specs.Scalar.{accesses, kind_of}
 use Rattle.multi_hart.specs.Run.{State, hart_at, run, turn, word_in}
-use Rattle.multi_hart_logic.specs.Alone.{is_in}
+use Rattle.multi_hart.specs.Frame.{is_in}
 use Rattle.vector_codegen_sharing.specs.Turns.{is_word_in, last_writer, written_next}
 use Rattle.debugger_blame.specs.declared.writes.Write.{Write}
 

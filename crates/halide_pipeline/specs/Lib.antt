@@ -4,6 +4,7 @@ pub mod Names
 pub mod Pipelines
 pub mod Words
 pub mod WellFormed
+pub mod Contents
 pub mod Picture
 pub mod Pixel
 pub mod Points

@@ -18,7 +18,7 @@ use Rattle.halide_pipeline.specs.declared.definitions.Func.{Func}
 use Rattle.halide_pipeline.specs.Pipelines.{Pipeline}
 use Rattle.halide_pipeline.specs.Words as word
 use Rattle.halide_pipeline.specs.declared.environments.Environment.{Environment}
-use Rattle.halide_pipeline.specs.Picture.{PictureContents, pixel_at}
+use Rattle.halide_pipeline.specs.Contents.{PictureContents, pixel_at}
 
 -- ---- the value of an expression, whoever answers its reads
 

@@ -8,7 +8,7 @@
 //! - [`pipelines`]: the whole of what a text names. `specs/WellFormed.antt` says what each keeps.
 //! - [`words`]: arithmetic on words that stand for signed numbers (`specs/Words.antt`).
 //! - `specs/Pixel.antt`: **what a pixel is**, for every Func, update and point of the plane; [`environments`] has what the variables
-//!   of an expression stand for, `specs/Picture.antt` what a picture holds, and the limits that it keeps.
+//!   of an expression stand for, `specs/Contents.antt` what a picture holds, `specs/Picture.antt` the limits that it keeps.
 //! - `specs/Points.antt`: **the points that an expression reads, and a pixel**, with all that these read in turn.
 //! - [`laws`]: values and pixels depend on these points alone; a test that each definition's reads pass is passed by all
 //!   that pixels read.

@@ -371,7 +371,7 @@ impl Hart {
     }
 
     /// A register plus an immediate, modulo 2^32.
-    fn address(&self, rs1: Reg, imm: Imm12) -> u32
+    pub fn address(&self, rs1: Reg, imm: Imm12) -> u32
         ensures { result ≡ plus (register self.now rs1) imm }
     {
         self.register(rs1).wrapping_add(extend(imm))

@@ -173,7 +173,7 @@ impl Hart {
     }
 
     /// The vector unit's part.
-    pub(crate) fn vectors(&self) -> &VectorState
+    pub fn vectors(&self) -> &VectorState
         ensures { result.now ≡ vectors_of self.now }
     {
         &self.unit

@@ -134,7 +134,7 @@ impl Hart {
     }
 
     /// How the elements of a load or store lie.
-    fn spacing(&self, width: ElementWidth, addressing: Addressing) -> Spacing
+    pub fn spacing(&self, width: ElementWidth, addressing: Addressing) -> Spacing
         ensures { result ≡ spacing_of width addressing (register self.now) }
     {
         match addressing {
@@ -146,7 +146,7 @@ impl Hart {
 
     /// The addresses of the active elements of an access from the address in `rs1` on.
     #[inline(always)]
-    fn addresses(&self, spacing: Spacing, vm: bool, rs1: Reg) -> Numbers
+    pub fn addresses(&self, spacing: Spacing, vm: bool, rs1: Reg) -> Numbers
         requires { has_vill (vectors_of self.now) ≡ false }
         ensures { result ≡ addresses_by (vectors_of self.now) spacing vm (register self.now rs1) }
     {

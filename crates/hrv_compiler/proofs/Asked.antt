@@ -5,7 +5,8 @@ use Rattle.std.specs.List.{All, list_all}
 use Rattle.std.proofs.lemmas.Bool.{and_parts, ltb-true}
 use Rattle.halide_pipeline.specs.declared.definitions.Func.{Func}
 use Rattle.halide_pipeline.specs.declared.definitions.Input.{Input}
-use Rattle.halide_pipeline.specs.Picture.{PictureContents, IsPicture}
+use Rattle.halide_pipeline.specs.Picture.{IsPicture}
+use Rattle.halide_pipeline.specs.Contents.{PictureContents}
 use Rattle.halide_pipeline.specs.Pixel.{input_planes, reads_of, pixels}
 use Rattle.bounds_ranges.specs.Laws.{AnswerWords}
 use Rattle.picture.specs.Evaluated.{holds_bytes, hold_bytes, judged}

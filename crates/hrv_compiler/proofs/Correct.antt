@@ -12,7 +12,7 @@ use Rattle.multi_hart.proofs.TurnByTurn.{shape-run}
 use Rattle.multi_hart_logic.specs.Paths.{Stand}
 use Rattle.multi_hart_logic.specs.Uses.{Fixed, Owned}
 use Rattle.halide_pipeline.specs.WellFormed.{is_width, is_height}
-use Rattle.halide_pipeline.specs.Picture.{PictureContents}
+use Rattle.halide_pipeline.specs.Contents.{PictureContents}
 use Rattle.halide_pipeline.specs.Pixel.{Planes, input_planes, reads_of, pixels}
 use Rattle.bounds_ranges.specs.Laws.{AnswerWords}
 use Rattle.loop_ir.specs.declared.statements.Phase.{Phase}

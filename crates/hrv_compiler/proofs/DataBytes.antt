@@ -9,7 +9,8 @@ use Rattle.std.proofs.lemmas.Bool.{and_parts, cases_lt, eqb-true, lt-ltb, le-ltb
 use Rattle.std.proofs.lemmas.List.{append_assoc, get_or_append_left, length-append, length-replicate}
 use Rattle.halide_pipeline.specs.declared.definitions.Input.{Input}
 use Rattle.halide_pipeline.specs.WellFormed.{is_width, is_height}
-use Rattle.halide_pipeline.specs.Picture.{PictureContents, IsPicture}
+use Rattle.halide_pipeline.specs.Picture.{IsPicture}
+use Rattle.halide_pipeline.specs.Contents.{PictureContents}
 use Rattle.halide_pipeline.specs.Pixel.{Planes, input_plane, input_planes}
 use Rattle.bounds.specs.Layout.{input_bytes, total}
 use Rattle.picture.specs.Evaluated.{is_size, are_sizes}

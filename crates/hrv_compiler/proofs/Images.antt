@@ -7,7 +7,7 @@ use Rattle.std.proofs.Math.Nat.{add-mul, mul-le-mul_right, mul_comm, mul_left_co
 use Rattle.std.proofs.lemmas.Option.{get_or_from_slice_get}
 use Rattle.std.proofs.lemmas.List.{length-append, length-replicate}
 use Rattle.halide_pipeline.specs.declared.definitions.Input.{Input}
-use Rattle.halide_pipeline.specs.Picture.{PictureContents}
+use Rattle.halide_pipeline.specs.Contents.{PictureContents}
 use Rattle.memory.specs.Addresses.{data_start, text_start, most_words, most_bytes}
 use Rattle.bounds_ranges.specs.Ranges.{origin}
 use Rattle.bounds.specs.declared.boxes.SourceBox.{SourceBox}

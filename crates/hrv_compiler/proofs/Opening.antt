@@ -6,7 +6,7 @@ use Rattle.std.proofs.Math.Seq.{get_or-append_right}
 use Rattle.std.proofs.lemmas.List.{append_assoc, get_or_append_left, length-replicate}
 use Rattle.memory.specs.Addresses.{text_start, data_start, byte_at}
 use Rattle.halide_pipeline.specs.declared.definitions.Input.{Input}
-use Rattle.halide_pipeline.specs.Picture.{PictureContents}
+use Rattle.halide_pipeline.specs.Contents.{PictureContents}
 use Rattle.halide_pipeline.specs.Pixel.{Planes, input_planes, reads_of, pixels}
 use Rattle.bounds_ranges.specs.Laws.{AnswerWords}
 use Rattle.bounds.specs.declared.boxes.SourceBox.{SourceBox}

@@ -3,9 +3,9 @@ use Rattle.std.proofs.Common.{◌≡◌, ℕ, ◌<◌, ◌≤◌, true, List, le
 use Rattle.std.specs.Prelude.{slice_get}
 use Rattle.memory.specs.Addresses.{text_start}
 use Rattle.multi_hart.specs.Run.{run}
-use Rattle.multi_hart_logic.specs.Alone.{is_in}
+use Rattle.multi_hart.specs.Frame.{is_in}
 use Rattle.halide_pipeline.specs.declared.definitions.Update.{Update}
-use Rattle.halide_pipeline.specs.Picture.{PictureContents}
+use Rattle.halide_pipeline.specs.Contents.{PictureContents}
 use Rattle.bounds.specs.Boxes.{extent}
 use Rattle.bounds.specs.Views.{extents_of}
 use Rattle.picture.specs.Evaluated.{judged}

@@ -7,7 +7,7 @@ use Rattle.memory.specs.Access.{word_at}
 use Rattle.multi_hart.specs.Run.{State}
 use Rattle.halide_pipeline.specs.declared.expressions.Source.TheVariants as sources
 use Rattle.halide_pipeline.specs.Words as word
-use Rattle.halide_pipeline.specs.Picture.{PictureContents}
+use Rattle.halide_pipeline.specs.Contents.{PictureContents}
 use Rattle.halide_pipeline.specs.Pixel.{input_planes, pixels, output_pixel}
 use Rattle.bounds_ranges.specs.Ranges.{origin, least}
 use Rattle.bounds.specs.declared.layout.Layout.{Layout}

@@ -13,7 +13,7 @@ use Rattle.multi_hart.specs.Finished.{all_finished}
 use Rattle.multi_hart.specs.Run.{State, opened, run}
 use Rattle.vector_codegen_sharing.specs.Turns.{arrived, gate_word, NoTrap, Name, OnlyBy, Waits, are_rounds, times_written, control_words, Race}
 use Rattle.halide_pipeline.specs.Pipelines.{Pipeline}
-use Rattle.halide_pipeline.specs.Picture.{PictureContents}
+use Rattle.halide_pipeline.specs.Contents.{PictureContents}
 use Rattle.halide_pipeline.specs.Pixel.{output_pixel}
 use Rattle.loader.specs.Image.{ImageContents}
 use Rattle.loader.specs.declared.outputs.Output.{Output}

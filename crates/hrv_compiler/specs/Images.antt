@@ -3,7 +3,8 @@
 use Rattle.std.specs.Prelude.{◌≡◌, ◌⊎◌, List, Option, Some}
 use Rattle.std.specs.List.{AllByRecursion}
 use Rattle.memory.specs.Addresses.{text_start}
-use Rattle.halide_pipeline.specs.Picture.{PictureContents, IsPicture}
+use Rattle.halide_pipeline.specs.Picture.{IsPicture}
+use Rattle.halide_pipeline.specs.Contents.{PictureContents}
 use Rattle.loader.specs.Image.{ImageContents}
 use Rattle.picture.specs.declared.faults.EvalError.{EvalError}
 use Rattle.picture.specs.declared.faults.EvalError.TheVariants as errors

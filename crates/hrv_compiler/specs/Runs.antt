@@ -11,7 +11,7 @@ use Rattle.bounds.specs.declared.boxes.SourceBox.{SourceBox}
 use Rattle.bounds.specs.Boxes.{extent}
 use Rattle.bounds.specs.Views.{extents_of}
 use Rattle.loader.specs.Image.{ImageContents}
-use Rattle.multi_hart_logic.specs.Alone.{is_in}
+use Rattle.multi_hart.specs.Frame.{is_in}
 use Rattle.lowering.specs.PurePhases.{IsAtRoot}
 use Rattle.lowering.specs.Runs.{is_vectorized_first}
 use Rattle.multi_hart.specs.Run.{run}

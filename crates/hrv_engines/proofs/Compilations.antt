@@ -2,7 +2,7 @@
 use Rattle.std.proofs.Common.{◌≡◌, ◌∙◌, ℕ, ap, subst, sym, inl, inr, List}
 use Rattle.std.specs.Prelude.{IsErrAnd, None, Ok, Result, Some, option_map}
 use Rattle.std.specs.declared.alloc.Global.{Global}
-use Rattle.halide_pipeline.specs.Picture.{PictureContents}
+use Rattle.halide_pipeline.specs.Contents.{PictureContents}
 use Rattle.picture.specs.Evaluated.{judged}
 use Rattle.picture.specs.declared.faults.EvalError.{EvalError}
 use Rattle.picture.specs.declared.faults.EvalError.TheVariants as eval

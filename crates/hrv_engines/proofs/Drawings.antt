@@ -6,7 +6,7 @@ use Rattle.line_text.specs.Reading.{◌>>=◌}
 use Rattle.halide_pipeline.specs.Pipelines.{Pipeline}
 use Rattle.halide_parser.specs.Parsing.{parsed}
 use Rattle.picture.specs.declared.faults.PictureFault.{PictureFault}
-use Rattle.halide_pipeline.specs.Picture.{PictureContents}
+use Rattle.halide_pipeline.specs.Contents.{PictureContents}
 use Rattle.hrv_engines.specs.declared.faults.Fault.{Fault}
 use Rattle.hrv_engines.specs.declared.faults.Fault.TheVariants.{Refused, File, Memory, Thread}
 use Rattle.hrv_engines.specs.Drawing.{IsDrawing, IsRefusedDrawing, RefusesPictures, refusal_of, with_pictures, with_pipeline}

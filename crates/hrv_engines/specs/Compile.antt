@@ -4,7 +4,7 @@ use Rattle.std.specs.Prelude.{◌≡◌, ◌⊎◌, ℕ, List, Option, Some, Non
 use Rattle.std.specs.declared.alloc.Global.{Global}
 use Rattle.halide_pipeline.specs.Pipelines.{Pipeline}
 use Rattle.halide_parser.specs.Parsing.{parsed}
-use Rattle.halide_pipeline.specs.Picture.{PictureContents}
+use Rattle.halide_pipeline.specs.Contents.{PictureContents}
 use Rattle.picture.specs.Evaluated.{judged}
 use Rattle.loader.specs.Image.{IsImage}
 use Rattle.loader.specs.Spelling.{spelled}

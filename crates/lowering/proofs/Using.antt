@@ -9,7 +9,8 @@ use Rattle.halide_pipeline.specs.declared.definitions.Input.{Input}
 use Rattle.halide_pipeline.specs.declared.expressions.Source.{Source}
 use Rattle.halide_pipeline.specs.declared.expressions.Source.TheVariants as sources
 use Rattle.halide_pipeline.specs.WellFormed.{is_width, is_height}
-use Rattle.halide_pipeline.specs.Picture.{PictureContents, IsPicture, pixel_at}
+use Rattle.halide_pipeline.specs.Picture.{IsPicture}
+use Rattle.halide_pipeline.specs.Contents.{PictureContents, pixel_at}
 use Rattle.halide_pipeline.specs.Pixel.{Planes, input_plane, input_planes, reads_of, pixels}
 use Rattle.schedule_loops.specs.Iterations.{times}
 use Rattle.bounds.specs.Boxes.{extent}

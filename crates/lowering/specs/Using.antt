@@ -4,7 +4,8 @@ use Rattle.std.specs.Prelude.{◌≡◌, ℕ, zero, suc, ◌<◌, Bool, true, Li
 use Rattle.std.specs.List.{All}
 use Rattle.halide_pipeline.specs.declared.definitions.Func.{Func}
 use Rattle.halide_pipeline.specs.declared.definitions.Input.{Input}
-use Rattle.halide_pipeline.specs.Picture.{PictureContents, IsPicture}
+use Rattle.halide_pipeline.specs.Picture.{IsPicture}
+use Rattle.halide_pipeline.specs.Contents.{PictureContents}
 use Rattle.halide_pipeline.specs.Pixel.{Planes, input_planes, reads_of, pixels}
 use Rattle.schedule_loops.specs.Iterations.{IsOrder}
 use Rattle.bounds_ranges.specs.Laws.{AnswerWords}

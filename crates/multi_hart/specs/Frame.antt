@@ -1,7 +1,7 @@
 -- Which bytes a turn depends on and which it changes, and the two laws that follow: over one text and one size
 -- of data, a turn depends on its hart and on the bytes that it reads alone, and turns that do not conflict may be made in either order.
 -- This project's own.
-use Rattle.std.specs.Prelude.{◌≡◌, ◌≢◌, ℕ, Bool, true, List, [], ◌∷◌, length, slice_get, slice_set, Some}
+use Rattle.std.specs.Prelude.{◌≡◌, ◌≢◌, ℕ, ◌==◌, Bool, true, false, if◌then◌else◌, List, [], ◌∷◌, length, slice_get, slice_set, Some}
 use Rattle.memory.specs.Addresses.{byte_at, put, NotIn}
 use Rattle.memory.specs.Access.{touched, read_by, written_by}
 use Rattle.hart_core.specs.HartState.{HartState}
@@ -19,6 +19,11 @@ abbrev pub writes : Next → HartState → List ℕ
 writes Rests hart = []
 writes (Traps trap) hart = []
 writes (Does insn) hart = touched (written_by (kind_of insn) (accesses insn hart))
+
+-- the place is one of these
+abbrev pub is_in : ℕ → List ℕ → Bool
+is_in place [] = false
+is_in place (other ∷ others) = if place == other then true else is_in place others
 
 -- two memories hold the same bytes at these places
 abbrev pub Agree : (ℕ → ℕ) → (ℕ → ℕ) → List ℕ → Type 0

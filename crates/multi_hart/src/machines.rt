@@ -146,6 +146,14 @@ impl Machine {
         self.harts.len()
     }
 
+    /// A hart, to be looked at.
+    pub fn hart(&self, hart: usize) -> &Hart
+        requires { hart < length self.now.harts }
+        ensures { result.now ≡ hart_at self.now hart }
+    {
+        &self.harts[hart]
+    }
+
     /// A hart's program counter.
     pub fn pc(&self, hart: usize) -> u32
         requires { hart < length self.now.harts }

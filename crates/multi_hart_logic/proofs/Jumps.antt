@@ -13,9 +13,9 @@ use Rattle.memory.specs.Access.{Size, Byte, Half, Word, Reads, Writes as WritesK
 use Rattle.hart_core.specs.HartState.{HartState, register, advanced, given, at_pc}
 use Rattle.hart_core.specs.Alu.{plus, is_taken, load_size, loaded, store_size, kept}
 use Rattle.hart_core.specs.Scalar.{one_access, offset_from, jump_of, jump_fault, jumped}
-use Rattle.multi_hart.specs.Frame.{Within, writes}
+use Rattle.multi_hart.specs.Frame.{Within, is_in, writes}
 use Rattle.multi_hart_logic.specs.Uses.{MayRead, MayWrite}
-use Rattle.multi_hart_logic.specs.Alone.{World, Says, Keeps, is_in}
+use Rattle.multi_hart_logic.specs.Alone.{World, Says, Keeps}
 use Rattle.multi_hart_logic.specs.Paths.{update, At, Comes, Path, Line, Writes, Readable, Writable, stored_at}
 use Rattle.multi_hart_logic.proofs.Rules.{next-by, in-front}
 use Rattle.multi_hart_logic.proofs.Paths.{spot, at-given, at-to}

@@ -16,7 +16,7 @@ use Rattle.rv_insn.specs.declared.vector_instructions.Addressing.TheVariants as 
 use Rattle.rv_insn.specs.declared.vector_operations.ElementWidth.TheVariants as widths
 use Rattle.memory.specs.Addresses.{put}
 use Rattle.memory.specs.Access.{Size, Byte, Half, Word, Writes as WritesKind, Kind, access_at, first_fault, or_else, touched, spread}
-use Rattle.multi_hart.specs.Frame.{Within, writes}
+use Rattle.multi_hart.specs.Frame.{Within, is_in, writes}
 use Rattle.hart_core.specs.HartState.{HartState, register, vectors_of, advanced, at_pc}
 use Rattle.hart_core.specs.Scalar.{one_access}
 use Rattle.hart_core.specs.Turn.{fault}
@@ -24,7 +24,7 @@ use Rattle.vector_unit.specs.VectorState.{group_of}
 use Rattle.vector_unit.specs.Vector.{element_from, width, count, active_in, group_at, is_unfit, is_refused, is_other_width}
 use Rattle.vector_unit.specs.Accesses.{spacing_of, offset, addresses_by, active_numbers}
 use Rattle.multi_hart_logic.specs.Uses.{MayWrite}
-use Rattle.multi_hart_logic.specs.Alone.{World, Says, Keeps, is_in}
+use Rattle.multi_hart_logic.specs.Alone.{World, Says, Keeps}
 use Rattle.multi_hart_logic.specs.Paths.{lane, vl_number, LanesConfigured, IsGroup, At, Comes, Line, Writes, stored_at}
 use Rattle.multi_hart_logic.specs.LaneMemory.{firsts, accesses_to, AllWritable, stored_lanes, offset_at, OffsetsFit}
 use Rattle.multi_hart_logic.proofs.Rules.{next-by, in-front}

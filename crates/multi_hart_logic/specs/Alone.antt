@@ -1,12 +1,12 @@
 -- The run of one hart alone, told forwards from where it begins: what each of its turns may touch, and what it has come to after so
 -- many turns. Nothing of other harts enters here. This project's own.
-use Rattle.std.specs.Prelude.{◌≡◌, ◌⊎◌, ℕ, zero, suc, ◌==◌, ◌||◌, Bool, true, false, if◌then◌else◌, List, [], ◌∷◌, Some}
+use Rattle.std.specs.Prelude.{◌≡◌, ◌⊎◌, ℕ, zero, suc, Bool, true, List, [], ◌∷◌, Some}
 use Rattle.rv_insn.specs.declared.instructions.Insn.{Insn}
 use Rattle.rv_encoding.specs.Decoding.{decoded}
 use Rattle.memory.specs.Addresses.{fetched}
 use Rattle.hart_core.specs.HartState.{HartState}
 use Rattle.hart_core.specs.Turn.{Does, next_of, step}
-use Rattle.multi_hart.specs.Frame.{reads, writes, Within}
+use Rattle.multi_hart.specs.Frame.{is_in, reads, writes, Within}
 use Rattle.multi_hart_logic.specs.Uses.{Use, Owned, Job, MayRead, MayWrite}
 
 -- where a hart runs alone: the text, how many data bytes there are, what each byte is for, what the places are to meet that one
@@ -24,10 +24,6 @@ pub record Says (text : List ℕ) (address : ℕ) (insn : Insn) : Type 0 where
   pub word : ℕ
   pub fetched : fetched text address ≡ Some word
   pub decoded : decoded word ≡ Some insn
-
-abbrev pub is_in : ℕ → List ℕ → Bool
-is_in place [] = false
-is_in place (other ∷ others) = if place == other then true else is_in place others
 
 -- what a turn writes keeps the rule, if it writes a byte that a task owns
 abbrev pub Keeps : World → List ℕ → Type 0

@@ -32,7 +32,8 @@ ghost use Rattle.hart_core.specs.Alu.{one_if, extended, plus, computed, computed
 ghost use Rattle.hart_core.specs.Scalar.{one_access, offset_from};
 ghost use Rattle.multi_hart_logic.specs.Groups.{GroupHolds, OthersStay, SizeStays, LanesGiven};
 ghost use Rattle.multi_hart_logic.specs.FirstGroup.{AnyLanesGiven, GroupsHold, IsAnyGroup, held, write_group};
-ghost use Rattle.multi_hart_logic.specs.Alone.{World, Says, is_in};
+ghost use Rattle.multi_hart_logic.specs.Alone.{World, Says};
+ghost use Rattle.multi_hart.specs.Frame.{is_in};
 ghost use Rattle.multi_hart_logic.specs.Paths.{update, Path, Block, Line, Writes, Readable, Writable, stored_at, configure, lane, bit, vl_number, write_lanes, write_bits, byte_of, write_bytes, LanesConfigured, IsGroup};
 
 /// A word of a text of any length stands at its address.

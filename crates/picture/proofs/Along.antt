@@ -7,7 +7,7 @@ use Rattle.std.specs.Prelude.{nat_lt, true}
 use Rattle.std.specs.Vec.{with_items}
 use Rattle.std.specs.declared.alloc.Global.{Global}
 use Rattle.halide_pipeline.specs.Words as word
-use Rattle.halide_pipeline.specs.Picture.{PictureContents, pixel_at}
+use Rattle.halide_pipeline.specs.Contents.{PictureContents, pixel_at}
 use Rattle.halide_pipeline.specs.declared.expressions.Expr.{Expr}
 use Rattle.halide_pipeline.specs.declared.expressions.Expr.TheVariants as exprs
 use Rattle.halide_pipeline.specs.declared.expressions.Variable.{Variable}

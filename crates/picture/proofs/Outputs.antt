@@ -8,7 +8,8 @@ use Rattle.halide_pipeline.specs.declared.definitions.Func.{Func}
 use Rattle.halide_pipeline.specs.Pipelines.{Pipeline}
 use Rattle.picture.specs.declared.scenes.Scene.{Scene}
 use Rattle.picture.specs.declared.scenes.Table.{Table}
-use Rattle.halide_pipeline.specs.Picture.{PictureContents, IsPicture, picture_if, is_picture}
+use Rattle.halide_pipeline.specs.Picture.{IsPicture, picture_if, is_picture}
+use Rattle.halide_pipeline.specs.Contents.{PictureContents}
 use Rattle.halide_pipeline.specs.Pixel.{Planes, func_plane, pixels, input_planes}
 use Rattle.picture.specs.Evaluated.{IsOutput}
 use Rattle.picture.specs.inner.Evaluation.{plane_of, IsTable}

@@ -7,7 +7,7 @@ use Rattle.picture.specs.declared.scenes.Known.{Known}
 use Rattle.picture.specs.declared.scenes.Table.{Table}
 use Rattle.halide_pipeline.specs.Pixel.{Plane}
 use Rattle.picture.specs.inner.Evaluation.{IsTable, AreTablesOf, AreKnownOf, IsKnown, plane_in, numbered_pixel}
-use Rattle.halide_pipeline.specs.Picture.{PictureContents}
+use Rattle.halide_pipeline.specs.Contents.{PictureContents}
 use Rattle.halide_pipeline.specs.declared.definitions.Func.{Func}
 use Rattle.std.specs.Prelude.{slice_get}
 

@@ -6,7 +6,8 @@ use Rattle.halide_pipeline.specs.declared.definitions.Input.{Input}
 use Rattle.halide_pipeline.specs.Pipelines.{Pipeline}
 use Rattle.picture.specs.declared.faults.EvalError.{EvalError}
 use Rattle.picture.specs.declared.faults.EvalError.TheVariants as errors
-use Rattle.halide_pipeline.specs.Picture.{PictureContents, IsPicture, pixel_at}
+use Rattle.halide_pipeline.specs.Picture.{IsPicture}
+use Rattle.halide_pipeline.specs.Contents.{PictureContents, pixel_at}
 use Rattle.halide_pipeline.specs.Pixel.{output_pixel}
 
 abbrev pub error_number : EvalError → Option ℕ

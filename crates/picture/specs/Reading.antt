@@ -10,7 +10,7 @@ use Rattle.line_text.specs.Reading.{◌>>=◌}
 use Rattle.picture.specs.declared.faults.PictureFault.{PictureFault}
 use Rattle.picture.specs.declared.faults.PictureFault.TheVariants.{Syntax, Extents, Number}
 use Rattle.halide_pipeline.specs.WellFormed.{is_width, is_height}
-use Rattle.halide_pipeline.specs.Picture.{PictureContents}
+use Rattle.halide_pipeline.specs.Contents.{PictureContents}
 
 -- ---- faults
 

@@ -2,7 +2,8 @@
 
 ghost use Rattle.std.specs.Prelude.{◌≡◌, ◌<◌, IfSome};
 ghost use Rattle.halide_pipeline.specs.WellFormed.{is_width, is_height};
-ghost use Rattle.halide_pipeline.specs.Picture.{IsPicture, picture_if, pixel_at};
+ghost use Rattle.halide_pipeline.specs.Picture.{IsPicture, picture_if};
+ghost use Rattle.halide_pipeline.specs.Contents.{pixel_at};
 
 use halide_pipeline::{MOST_EXTENT, MOST_POINTS};
 use std::marker::Model;
@@ -18,7 +19,8 @@ pub struct Picture {
 }
 
 impl Model for Picture {
-    ghost use Rattle.halide_pipeline.specs.Picture.{PictureContents, IsPicture};
+    ghost use Rattle.halide_pipeline.specs.Picture.{IsPicture};
+    ghost use Rattle.halide_pipeline.specs.Contents.{PictureContents};
 
     ghost Value = { PictureContents };
 

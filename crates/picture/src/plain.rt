@@ -10,7 +10,7 @@ ghost use Rattle.picture.specs.Slices.{is_on, is_forward, mentions};
 ghost use Rattle.picture.specs.declared.scenes.State.TheVariants as states;
 ghost use Rattle.picture.specs.declared.scenes.Table.{Table};
 ghost use Rattle.halide_pipeline.specs.declared.definitions.Func.{Func};
-ghost use Rattle.halide_pipeline.specs.Picture.{PictureContents};
+ghost use Rattle.halide_pipeline.specs.Contents.{PictureContents};
 
 use crate::pictures::Picture;
 use crate::scenes::{Known, Scene, Slice, State, Table};

@@ -2,7 +2,8 @@
 
 ghost use Rattle.std.specs.Fmt.{decimal};
 ghost use Rattle.std.specs.Prelude.{◌≡◌, ◌+◌, ◌*◌, ◌<◌, ◌≤◌, ◌++◌, ℕ, List, OnOk, OnErr, length, vec_len, vec_capacity};
-ghost use Rattle.halide_pipeline.specs.Picture.{PictureContents, IsPicture};
+ghost use Rattle.halide_pipeline.specs.Picture.{IsPicture};
+ghost use Rattle.halide_pipeline.specs.Contents.{PictureContents};
 ghost use Rattle.picture.specs.Spelling.{number_text, rows_text, heading, spelled};
 
 use crate::pictures::Picture;

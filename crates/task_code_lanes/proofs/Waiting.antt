@@ -16,7 +16,8 @@ use Rattle.hart_core.specs.Scalar.{one_access}
 use Rattle.halide_pipeline.specs.Pixel.{Planes, reads_of}
 use Rattle.loop_ir.specs.declared.expressions.Counter.{Counter}
 use Rattle.loop_ir.specs.Counters.{Values}
-use Rattle.multi_hart_logic.specs.Alone.{World, is_in}
+use Rattle.multi_hart_logic.specs.Alone.{World}
+use Rattle.multi_hart.specs.Frame.{is_in}
 use Rattle.multi_hart_logic.specs.Paths.{Line, lane, vl_number, vtype_number, stored_at, Readable, Writable}
 use Rattle.multi_hart_logic.specs.LaneMemory.{firsts, AllReadable, AllWritable, stored_lanes}
 use Rattle.multi_hart_logic.proofs.Paths.{line-then}

@@ -17,7 +17,8 @@ use Rattle.halide_pipeline.specs.declared.expressions.Source.TheVariants as sour
 use Rattle.halide_pipeline.specs.Pixel.{Planes, reads_of}
 use Rattle.halide_pipeline.specs.Points.{Point}
 use Rattle.loop_ir.specs.Buffers.{Points, put as put_point}
-use Rattle.multi_hart_logic.specs.Alone.{World, is_in}
+use Rattle.multi_hart_logic.specs.Alone.{World}
+use Rattle.multi_hart.specs.Frame.{is_in}
 use Rattle.multi_hart_logic.specs.Paths.{stored_at}
 use Rattle.task_code_scalar.specs.declared.places.Pixels.{Pixels}
 use Rattle.task_code_scalar.specs.declared.places.Pixels.TheVariants as pixels

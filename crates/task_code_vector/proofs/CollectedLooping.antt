@@ -25,7 +25,8 @@ use Rattle.loop_ir.proofs.AtOnce.{in_turn}
 use Rattle.loop_ir.proofs.Rounds.{rounds_for}
 use Rattle.loop_ir.proofs.Sound.{sound_for}
 use Rattle.loop_ir.proofs.Trees.{run_for}
-use Rattle.multi_hart_logic.specs.Alone.{World, Keeps, is_in}
+use Rattle.multi_hart_logic.specs.Alone.{World, Keeps}
+use Rattle.multi_hart.specs.Frame.{is_in}
 use Rattle.multi_hart_logic.specs.Paths.{Path, end, configure, lane, vl_number, vtype_number}
 use Rattle.multi_hart_logic.specs.LaneMemory.{accesses_to, stored_lanes, AllWritable}
 use Rattle.multi_hart_logic.proofs.Configurations.{configure-at}

@@ -24,7 +24,8 @@ use Rattle.loop_ir.specs.Counters.{Values}
 use Rattle.loop_ir.specs.Expressions.{value, loads}
 use Rattle.loop_ir.specs.Soundness.{store_loads, is_sound_store}
 use Rattle.loop_ir.proofs.AtOnce.{effect_store}
-use Rattle.multi_hart_logic.specs.Alone.{World, is_in}
+use Rattle.multi_hart_logic.specs.Alone.{World}
+use Rattle.multi_hart.specs.Frame.{is_in}
 use Rattle.multi_hart_logic.specs.Paths.{Path, configure, lane, vl_number, vtype_number, LanesConfigured, IsGroup, update}
 use Rattle.multi_hart_logic.specs.LaneMemory.{accesses_to, stored_lanes, AllWritable}
 use Rattle.multi_hart_logic.proofs.Paths.{update-same, update-other}

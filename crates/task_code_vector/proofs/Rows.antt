@@ -10,7 +10,8 @@ use Rattle.halide_pipeline.specs.declared.expressions.Source.TheVariants as sour
 use Rattle.halide_pipeline.specs.Pixel.{Planes, reads_of}
 use Rattle.loop_ir.specs.AtOnce.{Effect}
 use Rattle.loop_ir.specs.Running.{turns}
-use Rattle.multi_hart_logic.specs.Alone.{World, is_in}
+use Rattle.multi_hart_logic.specs.Alone.{World}
+use Rattle.multi_hart.specs.Frame.{is_in}
 use Rattle.multi_hart_logic.specs.Paths.{stored_at}
 use Rattle.multi_hart_logic.specs.LaneMemory.{firsts, accesses_to, AllWritable, stored_lanes}
 use Rattle.task_code_scalar.specs.declared.places.Place.{Place}

@@ -13,7 +13,8 @@ use Rattle.schedule_loops.specs.Visits.{Visit, is_slice}
 use Rattle.bounds.specs.declared.boxes.SourceBox.{SourceBox}
 use Rattle.loop_ir.specs.Buffers.{Points}
 use Rattle.multi_hart_logic.specs.Uses.{Owned, Private}
-use Rattle.multi_hart_logic.specs.Alone.{is_in, Keeps}
+use Rattle.multi_hart_logic.specs.Alone.{Keeps}
+use Rattle.multi_hart.specs.Frame.{is_in}
 use Rattle.multi_hart_logic.specs.LaneMemory.{firsts, accesses_to}
 use Rattle.task_code_scalar.specs.declared.places.Place.{Place}
 use Rattle.task_code_scalar.specs.Code.{place_of, pixel_bytes, address}

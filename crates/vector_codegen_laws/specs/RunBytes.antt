@@ -9,7 +9,7 @@ use Rattle.schedule.specs.declared.schedules.Schedule.{Schedule}
 use Rattle.schedule_loops.specs.Visits.{Visit, is_slice}
 use Rattle.bounds.specs.declared.boxes.SourceBox.{SourceBox}
 use Rattle.loop_ir.specs.Counters.{Values}
-use Rattle.multi_hart_logic.specs.Alone.{is_in}
+use Rattle.multi_hart.specs.Frame.{is_in}
 use Rattle.vector_codegen_laws.specs.Points.{address_at}
 use Rattle.vector_codegen_laws.specs.Uses.{Owners}
 

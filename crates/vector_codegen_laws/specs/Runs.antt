@@ -12,7 +12,7 @@ use Rattle.schedule_loops.specs.Counts.{Values, counts}
 use Rattle.schedule_loops.specs.Reach.{AreTurns}
 use Rattle.schedule_loops.specs.Visits.{is_slice}
 use Rattle.bounds.specs.declared.verdict.Boxes.{Boxes}
-use Rattle.multi_hart_logic.specs.Alone.{is_in}
+use Rattle.multi_hart.specs.Frame.{is_in}
 use Rattle.lowering.specs.Runs.{is_vectorized_first, outside_innermost, run_of}
 use Rattle.vector_codegen_laws.specs.Points.{address_at}
 use Rattle.vector_codegen_laws.specs.RunBytes.{IsByteOf}

@@ -15,7 +15,7 @@ use Rattle.multi_hart.proofs.Framing.{others-stay}
 use Rattle.multi_hart.proofs.Resting.{there, turn-resting, run-append}
 use Rattle.multi_hart.proofs.TurnByTurn.{shape-run}
 use Rattle.multi_hart_logic.specs.Uses.{Setup}
-use Rattle.multi_hart_logic.specs.Alone.{is_in}
+use Rattle.multi_hart.specs.Frame.{is_in}
 use Rattle.vector_codegen_sharing.specs.Phases.{Phase, HasGate, HasEnd}
 use Rattle.vector_codegen_sharing.specs.Programs.{Program, start, Opens}
 use Rattle.vector_codegen_sharing.specs.Promises.{CanFinish}

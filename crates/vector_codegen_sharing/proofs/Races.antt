@@ -1,5 +1,6 @@
 -- No race outside the control words.
-use Rattle.multi_hart_logic.specs.Alone.{Says, is_in}
+use Rattle.multi_hart_logic.specs.Alone.{Says}
+use Rattle.multi_hart.specs.Frame.{Within, is_in, reads, writes}
 use Rattle.std.proofs.Common.{◌≡◌, ℕ, suc, ◌+◌, ◌<◌, ◌≤◌, List, [], ◌∷◌, length, Option, Some, None, true, false, refl, ap, ◌∙◌, sym, subst, arith, inl, inr, true≢false}
 use Rattle.std.specs.Prelude.{◌≢◌, ◌==◌, slice_get, cond, pos}
 use Rattle.std.proofs.lemmas.Bool.{cases_eq}
@@ -17,7 +18,6 @@ use Rattle.hart_core.specs.Scalar.{one_access, kind_of, accesses}
 use Rattle.hart_core.specs.Alu.{plus}
 use Rattle.hart_core.specs.Turn.{next_of, if_running, due, meant, judged, fault}
 use Rattle.multi_hart.specs.Run.{State, run}
-use Rattle.multi_hart.specs.Frame.{reads, writes, Within}
 use Rattle.multi_hart_logic.specs.Uses.{Use, Control, Fixed, Owned, Private, Job, Task, Setup, MayRead, MayWrite}
 use Rattle.vector_codegen_sharing.specs.Phases.{Phase, IsControl, Code}
 use Rattle.vector_codegen_sharing.specs.Programs.{Link, Program, start}

@@ -1,5 +1,6 @@
 -- Rules for the run of one job alone: one more instruction in front, and a counted loop.
-use Rattle.multi_hart_logic.specs.Alone.{Covers, Says, Keeps, is_in}
+use Rattle.multi_hart_logic.specs.Alone.{Covers, Says, Keeps}
+use Rattle.multi_hart.specs.Frame.{Within, is_in, writes}
 use Rattle.std.proofs.Common.{◌≡◌, ℕ, zero, suc, ◌+◌, ◌*◌, ◌%◌, ◌^◌, ◌≤◌, List, length, set, None, Bool, true, false, refl, ap, ◌∙◌, sym, subst, arith, inl, inr, get_or-set_other, [], ◌∷◌, length-set}
 use Rattle.std.specs.Prelude.{◌≢◌, ◌⊎◌, ◌==◌, ◌||◌, not, slice_index, slice_get, nat_lt, Some, ℤ}
 use Rattle.std.proofs.lemmas.Bool.{ltb-true}
@@ -15,7 +16,6 @@ use Rattle.hart_core.specs.HartState.{HartState, advanced, register, given}
 use Rattle.hart_core.specs.Scalar.{one_access, kind_of, accesses}
 use Rattle.hart_core.specs.Alu.{plus}
 use Rattle.hart_core.specs.Turn.{Does, done, numbers_read, applied, step, fault}
-use Rattle.multi_hart.specs.Frame.{writes, Within}
 use Rattle.multi_hart_logic.specs.Uses.{Owned, Job, Task, Setup, MayRead, MayWrite}
 use Rattle.vector_codegen_sharing.specs.Phases.{Phase, Kept, Stands}
 use Rattle.vector_codegen_sharing.specs.Solo.{world, SoonDone}

@@ -8,11 +8,11 @@ use Rattle.memory.proofs.Putting.{length-put, byte-put}
 use Rattle.hart_core.specs.HartState.{HartState}
 use Rattle.hart_core.specs.Turn.{next_of, effect, step}
 use Rattle.multi_hart.specs.Run.{State, turn, turned, run}
-use Rattle.multi_hart.specs.Frame.{reads, writes, Within}
+use Rattle.multi_hart.specs.Frame.{Within, is_in, reads, writes}
 use Rattle.multi_hart.proofs.Framing.{frame-by, places-are, turn-is}
 use Rattle.multi_hart_logic.specs.Uses.{Job, Task, Setup}
 use Rattle.vector_codegen_sharing.specs.Phases.{Phase, Stands}
-use Rattle.multi_hart_logic.specs.Alone.{is_in, touches}
+use Rattle.multi_hart_logic.specs.Alone.{touches}
 use Rattle.vector_codegen_sharing.specs.Solo.{Leaves, SoonDone}
 use Rattle.multi_hart.proofs.Framing.{others-stay}
 use Rattle.vector_codegen_sharing.specs.Turns.{written_by_one}

@@ -7,7 +7,7 @@ use Rattle.hart_core.specs.HartState.{HartState}
 use Rattle.multi_hart.specs.Finished.{all_finished}
 use Rattle.multi_hart.specs.Run.{State, run}
 use Rattle.multi_hart_logic.specs.Uses.{Fixed, Owned}
-use Rattle.multi_hart_logic.specs.Alone.{is_in}
+use Rattle.multi_hart.specs.Frame.{is_in}
 use Rattle.vector_codegen_sharing.specs.Phases.{Phase}
 use Rattle.vector_codegen_sharing.specs.Solo.{TaskWrites}
 use Rattle.vector_codegen_sharing.specs.Programs.{Program, Opens, start}

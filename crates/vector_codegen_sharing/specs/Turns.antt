@@ -9,9 +9,8 @@ use Rattle.memory.specs.Access.{word_at}
 use Rattle.hart_core.specs.declared.harts.Status.TheVariants.{Trapped as HasTrapped}
 use Rattle.hart_core.specs.HartState.{HartState}
 use Rattle.hart_core.specs.Turn.{next_of}
-use Rattle.multi_hart.specs.Frame.{reads, writes, Within}
+use Rattle.multi_hart.specs.Frame.{Within, is_in, reads, writes}
 use Rattle.multi_hart.specs.Run.{State, turn, run}
-use Rattle.multi_hart_logic.specs.Alone.{is_in}
 
 -- ---- the words of control: of each phase one to draw tasks and one to wait at
 

@@ -13,7 +13,7 @@ use Rattle.picture.specs.declared.scenes.Slice.{Slice}
 use Rattle.picture.specs.declared.scenes.Table.{Table}
 use Rattle.picture.specs.declared.scenes.State.{State}
 use Rattle.picture.specs.declared.scenes.State.TheVariants as states
-use Rattle.halide_pipeline.specs.Picture.{PictureContents}
+use Rattle.halide_pipeline.specs.Contents.{PictureContents}
 use Rattle.picture.specs.Slices.{is_on}
 use Rattle.picture.specs.Writes.{written}
 use Rattle.picture_rows.specs.Rows.{AreValues}
