@@ -1,0 +1,45 @@
+-- What appended code over lanes leaves: a value for each iteration of a vectorized loop, in a group of vector registers. This project's own.
+use Rattle.std.specs.Prelude.{◌≡◌, ◌⊎◌, ◌<◌, ◌≤◌, ℕ, ◌*◌, ◌^◌, List, length}
+use Rattle.std.specs.List.{AllByRecursion}
+use Rattle.rv_insn.specs.declared.instructions.Insn.{Insn}
+use Rattle.halide_pipeline.specs.Pixel.{Reads}
+use Rattle.loop_ir.specs.declared.expressions.Expr.{Expr}
+use Rattle.loop_ir.specs.Counters.{Values, with}
+use Rattle.loop_ir.specs.Expressions.{value, loads}
+use Rattle.multi_hart_logic.specs.Alone.{World}
+use Rattle.multi_hart_logic.specs.Paths.{Line, lane, vl_number, vtype_number}
+use Rattle.task_code_scalar.specs.declared.places.Places.{Places}
+use Rattle.task_code_scalar.specs.Evaluation.{ArePlaces, Loads}
+use Rattle.task_code_scalar.specs.Words.{Emits}
+use Rattle.task_code_registers.specs.declared.scopes.Held.{Held}
+use Rattle.task_code_registers.specs.Registers.{scratch, address_register, first_value}
+use Rattle.task_code_registers.specs.Scopes.{Knows, AreHolders}
+use Rattle.task_code_lanes.specs.declared.groups.Group.{Group}
+use Rattle.task_code_lanes.specs.Groups.{registers, slot}
+use Rattle.task_code_lanes.specs.Leaving.{HasLanes}
+use Rattle.task_code_lane_values.specs.declared.lanes.Lanes.{Lanes}
+
+-- What stays while values are made in group k: scalar registers below those of values, but for the scratch registers and the one where
+-- addresses are made; how many lanes there are; and the groups below.
+abbrev pub IsUnder : Group → ℕ → ℕ → Type 0
+IsUnder group k q =
+    ((q < first_value) × ((q < scratch) ⊎ (address_register < q)))
+    ⊎ (((q ≡ vl_number) ⊎ (q ≡ vtype_number)) ⊎ ((lane (slot group 0) 0 ≤ q) × (q < lane (slot group k) 0)))
+
+-- straight code that leaves these words in group k, one for each of so many iterations, and memory as it was
+pub record LeavesLanes (world : World) (memory : List ℕ) (insns : List Insn) (f : ℕ → ℕ) (group : Group) (k count : ℕ) (v : ℕ → ℕ) : Type 0 where
+  pub after : ℕ → ℕ
+  pub line : Line world insns f memory after memory
+  pub value : (i : ℕ) → i < count → after (lane (slot group k) i) ≡ v i
+  pub small : (i : ℕ) → i < count → v i < 2 ^ 32
+  pub keeps : (q : ℕ) → IsUnder group k q → after q ≡ f q
+
+-- Appended code leaves an expression's values in so many iterations as lanes are configured for, from what registers hold in the first of them,
+-- wherever memory holds what each iteration loads.
+pub record MakesLanes (old new : List ℕ) (places : Places) (scope : List Held) (own : Lanes) (k : ℕ) (e : Expr) : Type 0 where
+  pub insns : List Insn
+  pub emits : Emits old new insns
+  pub does : (world : World) (memory : List ℕ) (values : Values) (reads : Reads) (count : ℕ) (f : ℕ → ℕ) → length memory ≡ world.size → ArePlaces places
+      → AreHolders scope → Knows world.hart scope (with own.counter 0 values) f → HasLanes own.group count f → 1 ≤ count → count ≤ 4 * registers own.group
+      → ((i : ℕ) → i < count → AllByRecursion (Loads world places memory reads) (loads reads (with own.counter i values) e))
+      → LeavesLanes world memory insns f own.group k count (λ i. value reads (with own.counter i values) e)
