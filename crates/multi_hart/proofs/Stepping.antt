@@ -1,5 +1,5 @@
 -- A turn of a hart that runs steps exactly where the hart goes on running.
-use Rattle.std.proofs.Common.{◌≡◌, ◌≢◌, ◌⊎◌, ℕ, ◌<◌, Bool, true, false, List, length, Option, Some, None, inl, inr, ⊎_elim, sym, refl, ap, ◌∙◌, subst, true≢false}
+use Rattle.std.proofs.Common.{◌≡◌, ◌≢◌, ◌⊎◌, ℕ, ◌+◌, ◌-◌, ◌<◌, ◌≤◌, Bool, true, false, List, length, replicate, arith, Option, Some, None, inl, inr, ⊎_elim, sym, refl, ap, ◌∙◌, subst, true≢false}
 use Rattle.std.proofs.lemmas.List.{get_or-set_same}
 use Rattle.rv_insn.specs.declared.outcomes.Outcome.{Outcome}
 use Rattle.rv_insn.specs.declared.outcomes.Outcome.TheVariants.{Stepped, Finished, Trapped, Idle}
@@ -17,8 +17,9 @@ use Rattle.hart_core.specs.HartState.{HartState, opening_hart, with_vectors}
 use Rattle.hart_core.specs.Scalar.{jump_of, jumped, after, outcome_of}
 use Rattle.hart_core.specs.VectorRows.{vector_after_turn, computed_by, with_scalar}
 use Rattle.hart_core.specs.Turn.{Traps, judged, meant, due, if_running, made, step}
-use Rattle.multi_hart.specs.Run.{State, turn, turned, told, outcome, hart_at}
-use Rattle.multi_hart.proofs.Resting.{there}
+use Rattle.multi_hart.specs.Run.{State, turn, turned, told, outcome, run, hart_at}
+use Rattle.multi_hart.proofs.Resting.{there, turn-resting, outcome-resting, run-stayed, run-same-more}
+use Rattle.multi_hart.proofs.TurnByTurn.{shape-run}
 
 -- ---- one instruction
 
@@ -64,7 +65,7 @@ vector-status (v.StoreElements w vs3 rs1 addressing vm) hart read = refl
 abbrev pub Went : Outcome → Status → Type 0
 Went came status = ((came ≡ Stepped) × (status ≡ Running)) ⊎ ((came ≢ Stepped) × (status ≢ Running))
 
-abbrev has-stepped : Outcome → Bool
+abbrev pub has-stepped : Outcome → Bool
 has-stepped Stepped = true
 has-stepped Finished = false
 has-stepped (Trapped trap) = false
@@ -136,3 +137,43 @@ halts-after state hart below runs ended =
     (λ (on : (outcome state hart ≡ Stepped) × ((hart_at (turn state hart) hart).status ≡ Running)). absurd (ended on.0))
     (λ (off : (outcome state hart ≢ Stepped) × ((hart_at (turn state hart) hart).status ≢ Running)). off.1)
     (turn-went state hart below runs)
+
+-- behind a turn that doesn't step the hart doesn't run
+halted-after : (state : State) (hart : ℕ) → hart < length state.harts → outcome state hart ≢ Stepped → (status : Status) → (hart_at state hart).status ≡ status → (hart_at (turn state hart) hart).status ≢ Running
+halted-after state hart below ended Running is = halts-after state hart below is ended
+halted-after state hart below ended HasFinished is =
+    let rests : (hart_at state hart).status ≢ Running = λ e. true≢false (sym (ap runs-on e) ∙ ap runs-on is) in
+    subst (λ s. (hart_at s hart).status ≢ Running) (sym (turn-resting state hart below rests)) rests
+halted-after state hart below ended (HasTrapped trap) is =
+    let rests : (hart_at state hart).status ≢ Running = λ e. true≢false (sym (ap runs-on e) ∙ ap runs-on is) in
+    subst (λ s. (hart_at s hart).status ≢ Running) (sym (turn-resting state hart below rests)) rests
+
+pub stopped-after : (state : State) (hart : ℕ) → hart < length state.harts → outcome state hart ≢ Stepped → (hart_at (turn state hart) hart).status ≢ Running
+stopped-after state hart below ended = halted-after state hart below ended (hart_at state hart).status refl
+
+-- behind turns of which the last doesn't step, all further ones change nothing
+module _ (state : State) (hart made turns : ℕ) (below : hart < length state.harts) (some : 1 ≤ made) (fewer : made < turns)
+    (ended : outcome (run state (replicate (made - 1) hart)) hart ≢ Stepped) where
+  one : made - 1 + 1 ≡ made
+  one = omega (arith, some)
+
+  abbrev next : State
+  next = run state (replicate made hart)
+
+  there-then : (n : ℕ) → hart < length (run state (replicate n hart)).harts
+  there-then n = let shape = shape-run state (replicate n hart) in omega (arith, shape.harts, below)
+
+  same : turn (run state (replicate (made - 1) hart)) hart ≡ next
+  same = sym (run-same-more state hart (made - 1)) ∙ ap (λ (n : ℕ). run state (replicate n hart)) one
+
+  rests : (hart_at next hart).status ≢ Running
+  rests = subst (λ s. (hart_at s hart).status ≢ Running) same (stopped-after (run state (replicate (made - 1) hart)) hart (there-then (made - 1)) ended)
+
+  stays : turn next hart ≡ next
+  stays = turn-resting next hart (there-then made) rests
+
+  pub stretched : next ≡ run state (replicate turns hart)
+  stretched = sym (run-stayed state hart made turns (omega (arith, fewer)) stays)
+
+  pub idles : Idle ≡ outcome (run state (replicate (turns - 1) hart)) hart
+  idles = sym (ap (λ s. outcome s hart) (run-stayed state hart made (turns - 1) (omega (arith, fewer)) stays) ∙ outcome-resting next hart (there-then made) rests)

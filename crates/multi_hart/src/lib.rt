@@ -14,5 +14,5 @@ pub mod machines;
 pub mod snapshots;
 
 pub use crate::laws::{commute, frame, frame_within, turns_put_back};
-pub use crate::machines::{Machine, UnknownHart};
+pub use crate::machines::{Machine, Stretch, UnknownHart};
 pub use crate::snapshots::Snapshot;

@@ -8,6 +8,7 @@ ghost use Rattle.hart_core.specs.Meanings.{insn_of, word_meaning};
 ghost use Rattle.multi_hart.specs.Finished.{all_finished};
 ghost use Rattle.multi_hart.specs.inner.Alone.{alone};
 ghost use Rattle.multi_hart.specs.Run.{opened, turn, outcome, run, KeepsShape, hart_at, word_in};
+ghost use Rattle.multi_hart.specs.Stretches.{IsStretch};
 
 use hart_core::{Hart, Meaning, Status};
 use memory::{Bytes, Memory, TEXT_START, read_u32};
@@ -21,6 +22,15 @@ use std::marker::Model;
 pub struct UnknownHart {
     /// The place in the list, from 0 on.
     pub at: usize,
+}
+
+/// Turns of one hart, one after the other.
+#[derive(Clone, Copy, Debug, PartialEq, Eq)]
+pub struct Stretch {
+    /// How many they are, at least one.
+    pub made: u64,
+    /// What the last of them came to.
+    pub last: Outcome,
 }
 
 /// One to eight harts over one memory. A contract sees text, data and the harts as a `State`. Nothing in it can grow,
@@ -111,6 +121,24 @@ impl Machine {
         Ok(())
     }
 
+    /// Turns of one hart, one after the other, until one doesn't step or so many are made. Takes no memory.
+    pub fn step_on(&mut self, hart: usize, most: u64) -> Stretch
+        requires there { hart < length self.old.harts }
+        requires some { 1 ≤ most }
+        ensures state { self.new ≡ run self.old (replicate result.made hart) }
+        ensures stretch { IsStretch self.old hart most result.made result.last }
+        ensures shape { KeepsShape self.old self.new }
+    {
+        let Status::Running = self.status(hart) else {
+            return Stretch {
+                made: 1,
+                last: Outcome::Idle,
+            };
+        };
+        let running = &mut self.harts[hart];
+        run_alone(running, &mut self.memory, &self.meanings, most)
+    }
+
     /// So many turns of one hart, one after the other, and the last one's outcome. A hart that isn't
     /// running makes all that are left at once, since they change nothing. Takes no memory.
     pub fn run_same(&mut self, hart: usize, turns: u64) -> Outcome
@@ -120,11 +148,12 @@ impl Machine {
         ensures outcome { result ≡ outcome (run self.old (replicate (turns - 1) hart)) hart }
         ensures shape { KeepsShape self.old self.new }
     {
-        let Status::Running = self.status(hart) else {
-            return Outcome::Idle;
-        };
-        let running = &mut self.harts[hart];
-        run_alone(running, &mut self.memory, &self.meanings, turns)
+        let stretch = self.step_on(hart, turns);
+        if stretch.made == turns {
+            stretch.last
+        } else {
+            Outcome::Idle
+        }
     }
 
     /// One turn of a hart that runs.
@@ -221,27 +250,27 @@ impl Machine {
     }
 }
 
-/// So many turns of a hart that runs, over a memory whose words mean this: it runs on exactly where a turn steps, so that its
-/// status is never read. Hart, memory and meanings are found once for all turns.
-fn run_alone(hart: &mut Hart, memory: &mut Memory, meanings: &[Meaning], turns: u64) -> Outcome
+/// Turns of a hart that runs, over a memory whose words mean this, until one doesn't step or so many are made: it runs on
+/// exactly where a turn steps, so that its status is never read. Hart, memory and meanings are found once for all turns.
+fn run_alone(hart: &mut Hart, memory: &mut Memory, meanings: &[Meaning], most: u64) -> Stretch
     requires runs { hart.old.status ≡ Status.Running }
     requires meant { meanings.now ≡ map word_meaning memory.old.text }
     requires few { length meanings.now ≤ most_words }
-    requires some { 1 ≤ turns }
-    ensures state { alone memory.new hart.new ≡ run (alone memory.old hart.old) (replicate turns 0) }
+    requires some { 1 ≤ most }
+    ensures state { alone memory.new hart.new ≡ run (alone memory.old hart.old) (replicate result.made 0) }
     ensures text { memory.new.text ≡ memory.old.text }
-    ensures outcome { result ≡ outcome (run (alone memory.old hart.old) (replicate (turns - 1) 0)) 0 }
+    ensures stretch { IsStretch (alone memory.old hart.old) 0 most result.made result.last }
 {
-    let mut left = turns;
+    let mut made = 1;
     loop {
-        let outcome = step_meant(hart, memory, meanings);
-        let Outcome::Stepped = outcome else {
-            return if left == 1 { outcome } else { Outcome::Idle };
+        let last = step_meant(hart, memory, meanings);
+        let Outcome::Stepped = last else {
+            return Stretch { made, last };
         };
-        left -= 1;
-        if left == 0 {
-            return Outcome::Stepped;
+        if made == most {
+            return Stretch { made, last };
         }
+        made += 1;
     }
 }
 

@@ -1,11 +1,12 @@
 -- A log of turns tells what happened: the state that it leads to, how many turns a hart made, and the sum of what they
 -- came to. Count and sum together name a hart's outcomes in order, since only the last turn that changed anything isn't a step.
 -- This project's own.
-use Rattle.std.specs.Prelude.{◌≡◌, ℕ, ◌+◌, ◌-◌, ◌<◌, ◌==◌, if◌then◌else◌, List, [], ◌∷◌, ◌++◌, length, take, replicate}
+use Rattle.std.specs.Prelude.{◌≡◌, ℕ, ◌+◌, ◌-◌, ◌==◌, if◌then◌else◌, List, [], ◌∷◌, ◌++◌, length, take, replicate}
 use Rattle.rv_insn.specs.declared.outcomes.Outcome.{Outcome}
 use Rattle.rv_insn.specs.declared.outcomes.Outcome.TheVariants.{Stepped, Finished, Trapped, Idle}
 use Rattle.rv_insn.specs.Trap.{trap_number}
 use Rattle.multi_hart.specs.Run.{State, turn, outcome, run}
+use Rattle.multi_hart.specs.Stretches.{StepsOn}
 use Rattle.turn_log.specs.TurnLog.{LogState, IsLog, count_of}
 use Rattle.loader.specs.Image.{ImageContents}
 use Rattle.loader.specs.Loading.{machine_of}
@@ -49,10 +50,6 @@ after_turns state hart made = run state (replicate made hart)
 -- the sum of the codes of so many turns of one hart
 abbrev pub tally_more : State → ℕ → ℕ → ℕ
 tally_more state hart made = tally_from state (replicate made hart) hart
-
--- each of so many turns of a hart steps
-abbrev pub StepsOn : State → ℕ → ℕ → Type 0
-StepsOn state hart made = (k : ℕ) → k < made → outcome (after_turns state hart k) hart ≡ Stepped
 
 -- A hart that had made so many turns, with this tally, made `made` more, one after the other: all but the last stepped, and
 -- the last came to this. There is a log that says so, of this image and so many harts, which begins with the turns resumed.

@@ -4,14 +4,15 @@ ghost use Rattle.std.specs.Prelude.{◌≡◌, ◌+◌, ◌-◌, ◌<◌, ◌≤
 ghost use Rattle.rv_insn.specs.declared.outcomes.Outcome.TheVariants.{Stepped};
 ghost use Rattle.multi_hart.specs.Run.{turn, outcome};
 ghost use Rattle.turn_log.specs.TurnLog.{IsLog, count_of, most_turns};
-ghost use Rattle.shared_machine.specs.Log.{BeginsWith, StepsOn, after_turns, state_after, with_turn, with_turns};
+ghost use Rattle.shared_machine.specs.Log.{BeginsWith, after_turns, state_after, with_turn, with_turns};
+ghost use Rattle.multi_hart.specs.Stretches.{StepsOn};
 ghost use Rattle.shared_machine.specs.Refusals.{number_of};
 ghost use Rattle.shared_machine.specs.declared.refusals.Refusal.TheVariants.{TurnsSpent};
 
 use crate::origins::Origin;
 use crate::refusals::Refusal;
 use crate::seats::Batch;
-use multi_hart::Machine;
+use multi_hart::{Machine, Stretch};
 use rv_insn::Outcome;
 use std::marker::PhantomData;
 use turn_log::{MOST_TURNS, TurnLog};
@@ -88,7 +89,7 @@ impl<O: Origin> Locked<O> {
             return Err(Refusal::TurnsSpent);
         }
         log.push(hart)?;
-        let (made, last) = step_on(machine, hart, most.min(MOST_TURNS - before));
+        let Stretch { made, last } = machine.step_on(hart, most.min(MOST_TURNS - before));
         push_more(log, hart, made - 1);
         Ok(Batch {
             first: before + 1,
@@ -121,26 +122,6 @@ impl<O: Origin> Locked<O> {
         let Locked { machine, log, .. } = self;
         (machine, log)
     }
-}
-
-/// Turns of a hart until one doesn't step or so many are made: how many they are, and what the last of them came to.
-fn step_on(machine: &mut Machine, hart: usize, most: u64) -> (u64, Outcome)
-    requires there { hart < length machine.old.harts }
-    requires some { 1 ≤ most }
-    ensures made { (1 ≤ result.0) × (result.0 ≤ most) }
-    ensures state { machine.new ≡ after_turns machine.old hart result.0 }
-    ensures steps { StepsOn machine.old hart (result.0 - 1) }
-    ensures last { result.1 ≡ outcome (after_turns machine.old hart (result.0 - 1)) hart }
-    ensures whole { result.1 ≡ Stepped → result.0 ≡ most }
-    ensures harts { length machine.new.harts ≡ length machine.old.harts }
-{
-    for made in 0..most - 1 {
-        match machine.turn(hart) {
-            Outcome::Stepped => {}
-            other => return (made + 1, other),
-        }
-    }
-    (most, machine.turn(hart))
 }
 
 /// Turns that go on the last run of a log. They take no memory.

@@ -1,64 +1,65 @@
-use Rattle.std.proofs.Common.{◌≡◌, ◌+◌, ◌-◌, ◌<◌, length, replicate, ap, sym, subst, ◌∙◌, arith}
-use Rattle.std.specs.Prelude.{◌≢◌}
+use Rattle.std.proofs.Common.{◌≡◌, ◌+◌, ◌-◌, ℕ, replicate, ap, sym, subst, ◌∙◌, arith}
+use mathlib.Core.Logic.{dite}
+use native.Mathlib.Decide.{ℕ_discrete}
 use Rattle.hart_core.specs.declared.harts.Status.TheVariants.{Running}
+use Rattle.rv_insn.specs.declared.outcomes.Outcome.TheVariants.{Stepped}
 use Rattle.multi_hart.specs.Run.{turn, outcome, run, hart_at}
 use Rattle.multi_hart.specs.inner.Alone.{alone}
-use Rattle.multi_hart.proofs.TurnByTurn.{shape-run}
-use Rattle.multi_hart.proofs.Resting.{turn-resting, outcome-resting, run-stayed, run-same-more}
-use Rattle.multi_hart.proofs.Stepping.{runs-after, halts-after}
+use Rattle.multi_hart.proofs.Resting.{run-same-more}
+use Rattle.multi_hart.proofs.Stepping.{runs-after}
 use Rattle.multi_hart.proofs.machines.run_alone.Goals as goal
 
-pub returns-then-left-eq1 : goal.returns-then-left-eq1
-returns-then-left-eq1 c =
+pub returns-in_default : goal.returns-in_default
+returns-in_default c =
     let start = alone c.args.memory.now c.args.hart.now in
-    let made = c.args.turns - c.loop-outcome.left in
-    let all : made + 1 ≡ c.args.turns = omega arith in
-    let before : made ≡ c.args.turns - 1 = omega arith in
+    let i = c.loop-made.invariant in
+    let made = c.loop-made.made in
+    let one : made - 1 + 1 ≡ made = omega (arith, i.some) in
     record {
-      state = c.step_meant-outcome.ensures.state ∙ ap (λ s. turn s 0) c.loop-outcome.invariant.state ∙ sym (run-same-more start 0 made) ∙ ap (λ n. run start (replicate n 0)) all;
-      text = c.step_meant-outcome.ensures.text ∙ c.loop-outcome.invariant.text;
-      outcome = c.step_meant-outcome.ensures.outcome ∙ ap (λ s. outcome s 0) (c.loop-outcome.invariant.state ∙ ap (λ n. run start (replicate n 0)) before);
+      state = c.step_meant-last.ensures.state ∙ ap (λ s. turn s 0) i.state ∙ sym (run-same-more start 0 (made - 1)) ∙ ap (λ (n : ℕ). run start (replicate n 0)) one;
+      text = c.step_meant-last.ensures.text ∙ i.text;
+      stretch = record {
+        some = i.some;
+        few = i.few;
+        steps = i.steps;
+        last_is = c.step_meant-last.ensures.outcome ∙ ap (λ s. outcome s 0) i.state;
+        whole = λ is. absurd (c.in_default.not-Stepped is);
+      };
     }
 
-pub returns-else-left-eq1 : goal.returns-else-left-eq1
-returns-else-left-eq1 c =
+pub returns-then-made-most-clause-state : goal.returns-then-made-most-clause-state
+returns-then-made-most-clause-state c =
     let start = alone c.args.memory.now c.args.hart.now in
-    let state = alone c.loop-outcome.memory c.loop-outcome.hart in
-    let made = c.args.turns - c.loop-outcome.left in
-    let next = run start (replicate (made + 1) 0) in
-    let below : 0 < length next.harts = let shape = shape-run start (replicate (made + 1) 0) in omega (arith, shape.harts) in
-    let halts = halts-after state 0 (omega arith) c.loop-outcome.invariant.runs (λ is. c.in_default.not-Stepped (c.step_meant-outcome.ensures.outcome ∙ is)) in
-    let same : turn state 0 ≡ next = ap (λ s. turn s 0) c.loop-outcome.invariant.state ∙ sym (run-same-more start 0 made) in
-    let rests : (hart_at next 0).status ≢ Running = subst (λ s. (hart_at s 0).status ≢ Running) same halts in
-    let stays = turn-resting next 0 below rests in
+    let i = c.loop-made.invariant in
+    let made = c.loop-made.made in
+    let one : made - 1 + 1 ≡ made = omega (arith, i.some) in
+    c.step_meant-last.ensures.state ∙ ap (λ s. turn s 0) i.state ∙ sym (run-same-more start 0 (made - 1)) ∙ ap (λ (n : ℕ). run start (replicate n 0)) one
+
+pub returns-then-made-most-clause-stretch : goal.returns-then-made-most-clause-stretch
+returns-then-made-most-clause-stretch c =
+    let i = c.loop-made.invariant in
     record {
-      state = c.step_meant-outcome.ensures.state ∙ same ∙ sym (run-stayed start 0 (made + 1) c.args.turns (omega arith) stays);
-      text = c.step_meant-outcome.ensures.text ∙ c.loop-outcome.invariant.text;
-      outcome = sym (ap (λ s. outcome s 0) (run-stayed start 0 (made + 1) (c.args.turns - 1) (omega arith) stays) ∙ outcome-resting next 0 below rests);
+      some = i.some;
+      few = i.few;
+      steps = i.steps;
+      last_is = c.step_meant-last.ensures.outcome ∙ ap (λ s. outcome s 0) i.state;
+      whole = λ is. c.if-made-most.true;
     }
 
-pub returns-then-left-eq0-clause-state : goal.returns-then-left-eq0-clause-state
-returns-then-left-eq0-clause-state c =
+pub loop-made-preserved : goal.loop-made-preserved
+loop-made-preserved c =
     let start = alone c.args.memory.now c.args.hart.now in
-    let made = c.args.turns - c.loop-outcome.left in
-    let all : made + 1 ≡ c.args.turns = omega arith in
-    c.step_meant-outcome.ensures.state ∙ ap (λ s. turn s 0) c.loop-outcome.invariant.state ∙ sym (run-same-more start 0 made) ∙ ap (λ n. run start (replicate n 0)) all
-
-pub returns-then-left-eq0-clause-text : goal.returns-then-left-eq0-clause-text
-returns-then-left-eq0-clause-text c = c.step_meant-outcome.ensures.text ∙ c.loop-outcome.invariant.text
-
-pub loop-outcome-preserved : goal.loop-outcome-preserved
-loop-outcome-preserved c =
-    let start = alone c.args.memory.now c.args.hart.now in
-    let state = alone c.loop-outcome.memory c.loop-outcome.hart in
-    let left = c.loop-outcome.left in
-    let made = c.args.turns - left in
-    let stepped = sym c.step_meant-outcome.ensures.outcome ∙ c.in-Stepped.is in
-    let further : made + 1 ≡ c.args.turns - (left - 1) = omega arith in
+    let state = alone c.loop-made.memory c.loop-made.hart in
+    let i = c.loop-made.invariant in
+    let made = c.loop-made.made in
+    let one : made - 1 + 1 ≡ made + 1 - 1 = omega (arith, i.some) in
+    let stepped = sym c.step_meant-last.ensures.outcome ∙ c.in-Stepped.is in
+    let here : outcome (run start (replicate (made - 1) 0)) 0 ≡ Stepped = sym (ap (λ s. outcome s 0) i.state) ∙ stepped in
     record {
       some = omega arith;
-      most = omega arith;
-      state = c.step_meant-outcome.ensures.state ∙ ap (λ s. turn s 0) c.loop-outcome.invariant.state ∙ sym (run-same-more start 0 made) ∙ ap (λ n. run start (replicate n 0)) further;
-      text = c.step_meant-outcome.ensures.text ∙ c.loop-outcome.invariant.text;
-      runs = subst (λ s. (hart_at s 0).status ≡ Running) (sym c.step_meant-outcome.ensures.state) (runs-after state 0 (omega arith) c.loop-outcome.invariant.runs stepped);
+      few = omega (arith, i.few, c.if-made-most.false);
+      state = c.step_meant-last.ensures.state ∙ ap (λ s. turn s 0) i.state ∙ sym (run-same-more start 0 (made - 1)) ∙ ap (λ (n : ℕ). run start (replicate n 0)) one;
+      text = c.step_meant-last.ensures.text ∙ i.text;
+      runs = subst (λ s. (hart_at s 0).status ≡ Running) (sym c.step_meant-last.ensures.state) (runs-after state 0 (omega arith) i.runs stepped);
+      steps = λ k below. dite (ℕ_discrete k (made - 1)) (λ e. ap (λ (n : ℕ). outcome (run start (replicate n 0)) 0) e ∙ here) (λ n. i.steps k (omega (arith, below, n)));
     }

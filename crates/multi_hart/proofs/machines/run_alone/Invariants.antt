@@ -1,17 +1,19 @@
 use Rattle.std.proofs.Common.{◌≡◌, ◌≤◌, ◌-◌, replicate}
 use Rattle.hart_core.specs.declared.harts.Status.TheVariants.{Running}
 use Rattle.multi_hart.specs.Run.{run}
+use Rattle.multi_hart.specs.Stretches.{StepsOn}
 use Rattle.multi_hart.specs.inner.Alone.{alone}
 use Rattle.multi_hart.proofs.machines.run_alone.Given as goal
 
-abbrev pub invariant-loop-outcome : goal.invariant-loop-outcome
-invariant-loop-outcome l = record {
-  some : 1 ≤ l.left;
-  most : l.left ≤ l.fn.turns;
-  state : alone l.memory l.hart ≡ run (alone l.fn.memory l.fn.hart) (replicate (l.fn.turns - l.left) 0);
+abbrev pub invariant-loop-made : goal.invariant-loop-made
+invariant-loop-made l = record {
+  some : 1 ≤ l.made;
+  few : l.made ≤ l.fn.most;
+  state : alone l.memory l.hart ≡ run (alone l.fn.memory l.fn.hart) (replicate (l.made - 1) 0);
   text : l.memory.text ≡ l.fn.memory.text;
   runs : l.hart.status ≡ Running;
+  steps : StepsOn (alone l.fn.memory l.fn.hart) 0 (l.made - 1);
 }
 
-abbrev pub decreases-loop-outcome : goal.decreases-loop-outcome
-decreases-loop-outcome l = l.left
+abbrev pub decreases-loop-made : goal.decreases-loop-made
+decreases-loop-made l = l.fn.most - l.made

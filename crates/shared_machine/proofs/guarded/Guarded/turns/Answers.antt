@@ -2,7 +2,8 @@ use Rattle.std.proofs.Common.{◌≡◌, ◌<◌, ◌≤◌, ◌+◌, ◌-◌, �
 use Rattle.turn_log.specs.TurnLog.{IsLog, count_of, most_turns}
 use Rattle.multi_hart.specs.Run.{outcome, run}
 use Rattle.loader.specs.Loading.{machine_of}
-use Rattle.shared_machine.specs.Log.{StepsOn, after_turns, tally}
+use Rattle.shared_machine.specs.Log.{after_turns, tally}
+use Rattle.multi_hart.specs.Stretches.{StepsOn}
 use Rattle.shared_machine.specs.Tallies.{hart_of, number_in, tally_in, numbers_of, tallies_of}
 use Rattle.shared_machine.specs.declared.refusals.Refusal.{Refusal}
 use Rattle.shared_machine.specs.declared.refusals.Refusal.TheVariants.{TurnsSpent}
