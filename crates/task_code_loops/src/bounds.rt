@@ -29,7 +29,7 @@ fn count_of(bounds: &[Bound], counter: Counter) -> Option<u32>
 }
 
 /// The most that terms come to, where that is known and not large.
-fn most_of(terms: &[Term], bounds: &[Bound]) -> Option<u64>
+pub fn most_of(terms: &[Term], bounds: &[Bound]) -> Option<u64>
     ensures { IfSome result (IsMost bounds.now terms.now) }
 {
     match terms {

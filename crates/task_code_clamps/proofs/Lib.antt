@@ -1,0 +1,2 @@
+pub mod Lying
+pub mod Same

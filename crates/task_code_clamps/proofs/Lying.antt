@@ -1,0 +1,70 @@
+-- Words that lie in ranges.
+use Rattle.std.proofs.Common.{◌≡◌, ℕ, ◌+◌, ◌%◌, ◌^◌, ◌<◌, ◌≤◌, refl, arith, inl, inr}
+use Rattle.std.specs.Prelude.{min, max}
+use Rattle.std.proofs.lemmas.Bool.{lt-ltb, le-ltb, cases_lt}
+use Rattle.halide_pipeline.specs.Words.{add, less, minimum, maximum}
+use Rattle.loop_ir.specs.declared.expressions.Linear.{Linear}
+use Rattle.loop_ir.specs.Counters.{Values}
+use Rattle.loop_ir.specs.Expressions.{linear_value, sum_of}
+use Rattle.task_code_clamps.specs.declared.ranges.Range.{Range}
+use Rattle.task_code_clamps.specs.Ranges.{level, LiesIn}
+
+-- the lesser's level is the lesser level, and so it is with the greater
+pub level-minimum : (v w : ℕ) → level (minimum v w) ≡ min (level v) (level w)
+unfolding less
+level-minimum v w = elim (cases_lt (level w) (level v)) [
+  | inl l ↦ rw (lt-ltb (level w) (level v) l) (omega arith)
+  | inr l ↦ rw (le-ltb (level w) (level v) l) (omega arith)
+]
+
+pub level-maximum : (v w : ℕ) → level (maximum v w) ≡ max (level v) (level w)
+unfolding less
+level-maximum v w = elim (cases_lt (level v) (level w)) [
+  | inl l ↦ rw (lt-ltb (level v) (level w) l) (omega arith)
+  | inr l ↦ rw (le-ltb (level v) (level w) l) (omega arith)
+]
+
+pub lesser-lies : (a b made : Range) (v w : ℕ) → made.low ≡ min a.low b.low → made.high ≡ min a.high b.high → LiesIn a v → LiesIn b w
+    → LiesIn made (minimum v w)
+lesser-lies a b made v w el eh x y =
+    let e = level-minimum v w in
+    let xl = x.low in let xh = x.high in let yl = y.low in let yh = y.high in
+    record { low = omega (arith, e, el, xl, yl); high = omega (arith, e, eh, xh, yh) }
+
+pub greater-lies : (a b made : Range) (v w : ℕ) → made.low ≡ max a.low b.low → made.high ≡ max a.high b.high → LiesIn a v → LiesIn b w
+    → LiesIn made (maximum v w)
+greater-lies a b made v w el eh x y =
+    let e = level-maximum v w in
+    let xl = x.low in let xh = x.high in let yl = y.low in let yh = y.high in
+    record { low = omega (arith, e, el, xl, yl); high = omega (arith, e, eh, xh, yh) }
+
+-- the first of two words is the lesser, or the second is
+pub minimum-first : (v w : ℕ) → level v ≤ level w → minimum v w ≡ v
+unfolding less
+minimum-first v w l = rw (le-ltb (level w) (level v) l) refl
+
+pub minimum-second : (v w : ℕ) → level w < level v → minimum v w ≡ w
+unfolding less
+minimum-second v w l = rw (lt-ltb (level w) (level v) l) refl
+
+pub maximum-first : (v w : ℕ) → level w ≤ level v → maximum v w ≡ v
+unfolding less
+maximum-first v w l = rw (le-ltb (level v) (level w) l) refl
+
+pub maximum-second : (v w : ℕ) → level v < level w → maximum v w ≡ w
+unfolding less
+maximum-second v w l = rw (lt-ltb (level v) (level w) l) refl
+
+-- ---- sums
+
+pub up-lies : (first most more low : ℕ) (made : Range) → low ≡ level first → made.low ≡ low → made.high ≡ low + most → low + most < 2 ^ 32 → more ≤ most
+    → LiesIn made (add first more)
+unfolding add
+up-lies first most more low made e el eh small l =
+    let s : level ((first + more) % 2 ^ 32) ≡ low + more = omega (arith, e, small, l) in
+    record { low = omega (arith, s, el); high = omega (arith, s, eh, l) }
+
+-- a sum is its number and its terms
+pub sum-is : (values : Values) (own : Linear) → linear_value values own ≡ add own.number (sum_of values own.terms)
+unfolding linear_value add
+sum-is values own = refl

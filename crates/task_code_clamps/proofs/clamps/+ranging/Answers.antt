@@ -1,0 +1,39 @@
+use Rattle.task_code_clamps.proofs.Same.{ranged-number, ranged-linear, ranged-binary, ranged-divide, ranged-remainder, ranged-select, ranged-load}
+use Rattle.task_code_clamps.proofs.clamps.+ranging.Goals as goal
+
+pub unclamped-returns-in-Number : goal.unclamped-returns-in-Number
+unclamped-returns-in-Number t c = ranged-number c.args.places.now c.args.bounds.now c.args.e.now c.in-Number.n c.only.result c.in-Number.is c.only.ensures
+
+pub unclamped-returns-in_ok-sum-in-Linear : goal.unclamped-returns-in_ok-sum-in-Linear
+unclamped-returns-in_ok-sum-in-Linear t c =
+    ranged-linear c.args.places.now c.args.bounds.now c.args.e.now c.in-Linear.own c.in_ok-sum-in-Linear.sum c.of_sum-range.result c.in-Linear.is
+    c.in_ok-sum-in-Linear.ensures c.of_sum-range.ensures
+
+pub unclamped-returns-in_ok-made-in-Binary : goal.unclamped-returns-in_ok-made-in-Binary
+unclamped-returns-in_ok-made-in-Binary t c =
+    ranged-binary c.args.places.now c.args.bounds.now c.args.e.now c.in-Binary.a c.in-Binary.b c.get.result.now c.get-in-Binary.result.now c.in-Binary.operation
+    c.in_ok-first-in-Binary.first c.in_ok-second-in-Binary.second c.in_ok-made-in-Binary.made c.in-Binary.is c.get.ensures c.get-in-Binary.ensures
+    c.in_ok-first-in-Binary.ensures c.in_ok-second-in-Binary.ensures c.in_ok-made-in-Binary.ensures
+
+pub unclamped-returns-in_ok-first-in-Divide : goal.unclamped-returns-in_ok-first-in-Divide
+unclamped-returns-in_ok-first-in-Divide t c =
+    ranged-divide c.args.places.now c.args.bounds.now c.args.e.now c.in-Divide.a c.get-in-Divide.result.now c.in_ok-first-in-Divide.first c.in-Divide.divisor
+    _ c.in-Divide.is c.get-in-Divide.ensures c.in_ok-first-in-Divide.ensures c.any.ensures
+
+pub unclamped-returns-in_ok-first-in-Remainder : goal.unclamped-returns-in_ok-first-in-Remainder
+unclamped-returns-in_ok-first-in-Remainder t c =
+    ranged-remainder c.args.places.now c.args.bounds.now c.args.e.now c.in-Remainder.a c.get-in-Remainder.result.now c.in_ok-first-in-Remainder.first
+    c.in-Remainder.divisor _ c.in-Remainder.is c.get-in-Remainder.ensures c.in_ok-first-in-Remainder.ensures c.any-in-Remainder.ensures
+
+pub unclamped-returns-in_ok-second-in-Select : goal.unclamped-returns-in_ok-second-in-Select
+unclamped-returns-in_ok-second-in-Select t c =
+    ranged-select c.args.places.now c.args.bounds.now c.args.e.now c.in-Select.c c.in-Select.a c.in-Select.b c.get-in-Select.result.now c.get-in-Select-2.result.now
+    c.get-in-Select-3.result.now c.in_ok-condition-in-Select.condition c.in_ok-first-in-Select.first c.in_ok-second-in-Select.second _ c.in-Select.is
+    c.get-in-Select.ensures c.get-in-Select-2.ensures c.get-in-Select-3.ensures c.in_ok-condition-in-Select.ensures c.in_ok-first-in-Select.ensures
+    c.in_ok-second-in-Select.ensures c.any-in-Select.ensures
+
+pub unclamped-returns-in_ok-row-in-Load : goal.unclamped-returns-in_ok-row-in-Load
+unclamped-returns-in_ok-row-in-Load t c =
+    ranged-load c.args.places.now c.args.bounds.now c.args.e.now c.in-Load.x c.in-Load.y c.get-in-Load.result.now c.get-in-Load-2.result.now
+    c.in_ok-column-in-Load.column c.in_ok-row-in-Load.row c.in-Load.source _ c.in-Load.is c.get-in-Load.ensures c.get-in-Load-2.ensures
+    c.in_ok-column-in-Load.ensures c.in_ok-row-in-Load.ensures c.of_pixels.ensures

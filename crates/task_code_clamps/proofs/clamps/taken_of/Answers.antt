@@ -1,0 +1,24 @@
+use Rattle.std.proofs.Common.{◌∙◌, ap, arith}
+use Rattle.halide_pipeline.specs.Words as word
+use Rattle.task_code_clamps.proofs.Lying.{minimum-first, minimum-second, maximum-first, maximum-second}
+use Rattle.task_code_clamps.proofs.clamps.taken_of.Goals as goal
+
+pub returns-then-a-b-clause-first : goal.returns-then-a-b-clause-first
+returns-then-a-b-clause-first c = λ v w x y is.
+    ap (λ o. word.applied o v w) c.in-Minimum.is
+    ∙ minimum-first v w (let t = c.if-a-b.true in let h = x.high in let l = y.low in omega (arith, t, h, l))
+
+pub returns-then-b-a-clause-second : goal.returns-then-b-a-clause-second
+returns-then-b-a-clause-second c = λ v w x y is.
+    ap (λ o. word.applied o v w) c.in-Minimum.is
+    ∙ minimum-second v w (let t = c.if-b-a.true in let l = x.low in let h = y.high in omega (arith, t, h, l))
+
+pub returns-then-b-a-2-clause-first : goal.returns-then-b-a-2-clause-first
+returns-then-b-a-2-clause-first c = λ v w x y is.
+    ap (λ o. word.applied o v w) c.in-Maximum.is
+    ∙ maximum-first v w (let t = c.if-b-a-2.true in let l = x.low in let h = y.high in omega (arith, t, h, l))
+
+pub returns-then-a-b-2-clause-second : goal.returns-then-a-b-2-clause-second
+returns-then-a-b-2-clause-second c = λ v w x y is.
+    ap (λ o. word.applied o v w) c.in-Maximum.is
+    ∙ maximum-second v w (let t = c.if-a-b-2.true in let h = x.high in let l = y.low in omega (arith, t, h, l))

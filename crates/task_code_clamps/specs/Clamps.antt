@@ -1,0 +1,39 @@
+-- Expressions without clamps that cut nothing off. This project's own.
+use Rattle.std.specs.Prelude.{◌≡◌, List}
+use Rattle.std.specs.List.{AllByRecursion}
+use Rattle.halide_pipeline.specs.Pixel.{Reads}
+use Rattle.halide_pipeline.specs.Points.{Point}
+use Rattle.loop_ir.specs.declared.expressions.Expr.{Expr}
+use Rattle.loop_ir.specs.declared.statements.Store.{Store}
+use Rattle.loop_ir.specs.Counters.{Values}
+use Rattle.loop_ir.specs.Expressions.{value, loads}
+use Rattle.task_code_scalar.specs.declared.places.Places.{Places}
+use Rattle.task_code_loops.specs.declared.bounds.Bound.{Bound}
+use Rattle.task_code_loops.specs.Bounds.{AreBelow}
+use Rattle.task_code_clamps.specs.declared.clamps.Ranged.{Ranged}
+use Rattle.task_code_clamps.specs.Ranges.{IsByte, LiesIn}
+
+-- pixels of sources that hold bytes are bytes at these points
+abbrev pub AreBytesAt : Places → Reads → List Point → Type 0
+AreBytesAt places reads points = AllByRecursion (λ (point : Point). IsByte places point.source (reads point.source point.x point.y)) points
+
+-- An expression comes to the same as another one, and loads the same points, where loop variables are below their bounds and bytes are loaded
+-- where there are bytes.
+pub record IsSame (places : Places) (bounds : List Bound) (own made : Expr) : Type 0 where
+  pub value_is : (reads : Reads) (values : Values) → AreBelow bounds values → AreBytesAt places reads (loads reads values own)
+      → value reads values made ≡ value reads values own
+  pub loads_are : (reads : Reads) (values : Values) → AreBelow bounds values → AreBytesAt places reads (loads reads values own)
+      → loads reads values made ≡ loads reads values own
+
+-- and lies in a range
+pub record IsRanged (places : Places) (bounds : List Bound) (own : Expr) (made : Ranged) : Type 0 where
+  pub same : IsSame places bounds own made.e
+  pub lies : (reads : Reads) (values : Values) → AreBelow bounds values → AreBytesAt places reads (loads reads values own)
+      → LiesIn made.range (value reads values own)
+
+-- a store writes the same value at the same point there
+pub record IsSameStore (places : Places) (bounds : List Bound) (own made : Store) : Type 0 where
+  pub func_is : made.func ≡ own.func
+  pub column : IsSame places bounds own.x made.x
+  pub row : IsSame places bounds own.y made.y
+  pub pixel : IsSame places bounds own.value made.value

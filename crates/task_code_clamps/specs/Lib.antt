@@ -1,0 +1,2 @@
+pub mod Clamps
+pub mod Ranges

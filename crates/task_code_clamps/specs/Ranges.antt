@@ -1,0 +1,20 @@
+-- Between which numbers words lie, as signed numbers. This project's own.
+use Rattle.std.specs.Prelude.{◌≡◌, ◌<◌, ◌≤◌, ℕ, ◌+◌, ◌%◌, ◌^◌}
+use Rattle.halide_pipeline.specs.declared.expressions.Source.{Source}
+use Rattle.task_code_scalar.specs.declared.places.Pixels.TheVariants.{Bytes}
+use Rattle.task_code_scalar.specs.declared.places.Places.{Places}
+use Rattle.task_code_scalar.specs.Code.{place_of}
+use Rattle.task_code_clamps.specs.declared.ranges.Range.{Range}
+
+-- how far a word lies above the least signed number
+abbrev pub level : ℕ → ℕ
+level word = (word + 2 ^ 31) % 2 ^ 32
+
+-- a word's level is within the range
+pub record LiesIn (range : Range) (v : ℕ) : Type 0 where
+  pub low : range.low ≤ level v
+  pub high : level v ≤ range.high
+
+-- a source's pixel is below 256, if the source holds bytes
+abbrev pub IsByte : Places → Source → ℕ → Type 0
+IsByte places source v = (place_of places source).pixels ≡ Bytes → v < 256

@@ -1,0 +1,228 @@
+//! Expressions and stores without clamps that cut nothing off.
+
+ghost use Rattle.std.specs.Prelude.{◌≡◌, ℕ, List, IfOk, [], true};
+ghost use Rattle.halide_pipeline.specs.Words as word;
+ghost use Rattle.halide_pipeline.specs.Pixel.{Reads};
+ghost use Rattle.loop_ir.specs.Counters.{Values};
+ghost use Rattle.loop_ir.specs.Expressions.{loads};
+ghost use Rattle.loop_ir.specs.declared.expressions.Expr.TheVariants as expressions;
+ghost use Rattle.task_code_clamps.specs.Clamps.{IsRanged, IsSame, IsSameStore};
+ghost use Rattle.task_code_loops.specs.declared.bounds.Bound.{Bound};
+ghost use Rattle.task_code_scalar.specs.declared.places.Places.{Places};
+ghost use Rattle.loop_ir.specs.declared.expressions.Expr.{Expr};
+ghost use Rattle.task_code_clamps.specs.Ranges.{LiesIn};
+
+use crate::ranges::{Range, any, of_greater, of_lesser, of_pixels, of_sum, only};
+use halide_pipeline::Operation;
+use loop_ir::expressions::Expr;
+use loop_ir::statements::Store;
+use sqlite_items::Boxed;
+use std::alloc::{AllocError, Global};
+use task_code_loops::bounds::Bound;
+use task_code_scalar::places::Places;
+
+/// An expression, and between which numbers its value lies.
+#[derive(Debug, Drop)]
+pub struct Ranged {
+    pub e: Expr,
+    pub range: Range,
+}
+
+/// Which of an operation's operands its value always is.
+#[derive(Clone, Copy, Debug)]
+enum Taken {
+    First,
+    Second,
+    Either,
+}
+
+/// Whether an expression loads nothing, being a number or a sum.
+fn is_leaf(e: &Expr) -> bool
+    ensures { result ≡ true → (reads : Reads) (values : Values) → loads reads values e.now ≡ [] }
+{
+    match e {
+        Expr::Number(_) => true,
+        Expr::Linear(_) => true,
+        Expr::Binary(_, _, _) => false,
+        Expr::Divide(_, _) => false,
+        Expr::Remainder(_, _) => false,
+        Expr::Select(_, _, _) => false,
+        Expr::Load(_, _, _) => false,
+    }
+}
+
+/// Which of two operands an operation takes wherever they lie in these ranges.
+fn taken_of(operation: Operation, a: Range, b: Range) -> Taken
+    ensures first { (v w : ℕ) → LiesIn a v → LiesIn b w → result ≡ Taken.First → word.applied operation v w ≡ v }
+    ensures second { (v w : ℕ) → LiesIn a v → LiesIn b w → result ≡ Taken.Second → word.applied operation v w ≡ w }
+{
+    match operation {
+        Operation::Minimum => {
+            if a.high <= b.low {
+                Taken::First
+            } else if b.high < a.low {
+                Taken::Second
+            } else {
+                Taken::Either
+            }
+        }
+        Operation::Maximum => {
+            if b.high <= a.low {
+                Taken::First
+            } else if a.high < b.low {
+                Taken::Second
+            } else {
+                Taken::Either
+            }
+        }
+        _ => Taken::Either,
+    }
+}
+
+/// Between which numbers lies what an operation makes.
+fn range_of_both(operation: Operation, a: Range, b: Range) -> Range
+    ensures { (v w : ℕ) → LiesIn a v → LiesIn b w → LiesIn result (word.applied operation v w) }
+{
+    match operation {
+        Operation::Minimum => of_lesser(a, b),
+        Operation::Maximum => of_greater(a, b),
+        _ => any(),
+    }
+}
+
+/// What an operation makes of two expressions without clamps that cut nothing off.
+fn of_both(alloc: Global, operation: Operation, a: Ranged, b: Ranged) -> Result<Ranged, AllocError>
+    ensures { IfOk result (λ made. (places : Places) (bounds : List Bound) (x y : Expr) → IsRanged places bounds x a → IsRanged places bounds y b
+        → IsRanged places bounds (expressions.Binary operation x y) made) }
+{
+    let own = taken_of(operation, a.range, b.range);
+    let first_is_leaf = is_leaf(&a.e);
+    let second_is_leaf = is_leaf(&b.e);
+    match own {
+        Taken::First => {
+            if second_is_leaf {
+                return Ok(a);
+            }
+        }
+        Taken::Second => {
+            if first_is_leaf {
+                return Ok(b);
+            }
+        }
+        Taken::Either => {}
+    }
+    let range = range_of_both(operation, a.range, b.range);
+    let first = Boxed::new(alloc, a.e)?;
+    let second = Boxed::new(alloc, b.e)?;
+    Ok(Ranged {
+        e: Expr::Binary(operation, first, second),
+        range,
+    })
+}
+
+/// So it is with an expression behind a pointer, whose range is not asked for.
+#[cycle(ranging)]
+fn part(
+    alloc: Global,
+    places: &Places,
+    bounds: &[Bound],
+    e: &Expr,
+) -> Result<Boxed<Expr>, AllocError>
+    ensures { IfOk result (λ made. IsSame places.now bounds.now e.now made) }
+{
+    let made = unclamped(alloc, places, bounds, e)?;
+    let boxed = Boxed::new(alloc, made.e)?;
+    Ok(boxed)
+}
+
+/// An expression without clamps that cut nothing off, and between which numbers its value lies, where loop variables
+/// stay below these bounds.
+///
+/// # Errors
+///
+/// Memory ran out.
+#[cycle(ranging)]
+pub fn unclamped(
+    alloc: Global,
+    places: &Places,
+    bounds: &[Bound],
+    e: &Expr,
+) -> Result<Ranged, AllocError>
+    ensures { IfOk result (IsRanged places.now bounds.now e.now) }
+{
+    match e {
+        Expr::Number(n) => Ok(Ranged {
+            e: Expr::Number(*n),
+            range: only(*n),
+        }),
+        Expr::Linear(own) => {
+            let sum = own.copy(alloc)?;
+            let range = of_sum(own, bounds);
+            Ok(Ranged {
+                e: Expr::Linear(sum),
+                range,
+            })
+        }
+        Expr::Binary(operation, a, b) => {
+            let first = unclamped(alloc, places, bounds, a.get())?;
+            let second = unclamped(alloc, places, bounds, b.get())?;
+            let made = of_both(alloc, *operation, first, second)?;
+            Ok(made)
+        }
+        Expr::Divide(a, divisor) => {
+            let first = part(alloc, places, bounds, a.get())?;
+            Ok(Ranged {
+                e: Expr::Divide(first, *divisor),
+                range: any(),
+            })
+        }
+        Expr::Remainder(a, divisor) => {
+            let first = part(alloc, places, bounds, a.get())?;
+            Ok(Ranged {
+                e: Expr::Remainder(first, *divisor),
+                range: any(),
+            })
+        }
+        Expr::Select(c, a, b) => {
+            let condition = part(alloc, places, bounds, c.get())?;
+            let first = part(alloc, places, bounds, a.get())?;
+            let second = part(alloc, places, bounds, b.get())?;
+            Ok(Ranged {
+                e: Expr::Select(condition, first, second),
+                range: any(),
+            })
+        }
+        Expr::Load(source, x, y) => {
+            let column = part(alloc, places, bounds, x.get())?;
+            let row = part(alloc, places, bounds, y.get())?;
+            Ok(Ranged {
+                e: Expr::Load(*source, column, row),
+                range: of_pixels(places, *source),
+            })
+        }
+    }
+}
+
+/// A store without clamps that cut nothing off.
+///
+/// # Errors
+///
+/// Memory ran out.
+pub fn unclamped_store(
+    alloc: Global,
+    places: &Places,
+    bounds: &[Bound],
+    store: &Store,
+) -> Result<Store, AllocError>
+    ensures { IfOk result (IsSameStore places.now bounds.now store.now) }
+{
+    let x = unclamped(alloc, places, bounds, &store.x)?;
+    let y = unclamped(alloc, places, bounds, &store.y)?;
+    let value = unclamped(alloc, places, bounds, &store.value)?;
+    Ok(Store {
+        func: store.func,
+        x: x.e,
+        y: y.e,
+        value: value.e,
+    })
+}

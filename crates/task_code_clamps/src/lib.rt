@@ -1,0 +1,8 @@
+//! Expressions without clamps that cut nothing off, where loop variables stay below the counts of their loops.
+//!
+//! - [`ranges`]: between which numbers a word lies (`specs/Ranges.antt`).
+//! - [`clamps`]: expressions and stores without such clamps (`specs/Clamps.antt`).
+#![tactic(auto)]
+
+pub mod clamps;
+pub mod ranges;
