@@ -13,3 +13,4 @@ pub mod Saving
 pub mod Scattering
 pub mod Standing
 pub mod Waiting
+pub mod Updating

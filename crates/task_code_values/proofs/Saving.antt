@@ -98,7 +98,7 @@ value-stacked places scope first r own c0 c1 x = record {
 
 -- ---- the store itself
 
-equal-parts : (a b c d g h : ℕ) → (a == b && (c == d && g == h)) ≡ true → (a ≡ b) × ((c ≡ d) × (g ≡ h))
+pub equal-parts : (a b c d g h : ℕ) → (a == b && (c == d && g == h)) ≡ true → (a ≡ b) × ((c ≡ d) × (g ≡ h))
 equal-parts a b c d g h t =
     let k = and_parts (a == b) (c == d && g == h) t in
     let j = and_parts (c == d) (g == h) k.1 in
@@ -112,7 +112,7 @@ module _ (own : Setting) (good : IsSetting own) (values : Values) where
   w = own.world
 
   -- a single store is of no Func that is stored in runs
-  is-single : (store : Store) → RunsIn own (s.Store store) values → (funcs : Planes) → AreWords funcs → own.in_runs store.func ≡ false
+  pub is-single : (store : Store) → RunsIn own (s.Store store) values → (funcs : Planes) → AreWords funcs → own.in_runs store.func ≡ false
   is-single store sure funcs words = by-test (own.in_runs store.func) refl
     where
       by-test : (t : Bool) → own.in_runs store.func ≡ t → own.in_runs store.func ≡ false
@@ -132,7 +132,7 @@ module _ (own : Setting) (good : IsSetting own) (values : Values) where
       (store.func ≡ func) × ((value (reads_of own.inputs funcs) values store.x ≡ x) × (value (reads_of own.inputs funcs) values store.y ≡ y))
 
   -- the last instruction, with any base and offset
-  saved : (keeps_it : ℕ → Type 0) (store : Store) (b r : ℕ) (z : ℤ) (f : ℕ → ℕ) (memory : List ℕ) (funcs : Planes) → b < 32 → r < 32
+  pub saved : (keeps_it : ℕ → Type 0) (store : Store) (b r : ℕ) (z : ℤ) (f : ℕ → ℕ) (memory : List ℕ) (funcs : Planes) → b < 32 → r < 32
       → HoldsFuncs own memory funcs
       → own.written store.func (value (reads_of own.inputs funcs) values store.x) (value (reads_of own.inputs funcs) values store.y) ≡ true
       → own.in_runs store.func ≡ false → value (reads_of own.inputs funcs) values store.value < 2 ^ 32 → plus (f b) z ≡ spot store funcs
@@ -177,7 +177,7 @@ module _ (own : Setting) (good : IsSetting own) (values : Values) where
   -- ---- parts of code, one behind the other
 
   -- what stands behind other code
-  does-then : {is js : List Insn} {f : ℕ → ℕ} {memory : List ℕ} {keeps_it : ℕ → Type 0} {n k : ℕ} {middle funcs : Planes} {hits : Hits}
+  pub does-then : {is js : List Insn} {f : ℕ → ℕ} {memory : List ℕ} {keeps_it : ℕ → Type 0} {n k : ℕ} {middle funcs : Planes} {hits : Hits}
       → (a : Does own is n f memory keeps_it middle no_hits) → Does own js k a.after a.left keeps_it funcs hits
       → Does own (is ++ js) (n + k) f memory keeps_it funcs hits
   does-then {is} {js} {f} {memory} {keeps_it} {n} {k} {middle} {funcs} {hits} a b =

@@ -6,3 +6,4 @@ pub mod Scattering
 pub mod Sizes
 pub mod Spilling
 pub mod Storing
+pub mod Updating

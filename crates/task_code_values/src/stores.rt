@@ -14,6 +14,7 @@ use crate::needs::{is_leaf, need};
 use crate::operands::emit_reached_address;
 use crate::scatters::reach_point;
 use crate::spilling::{SECOND_VALUE, STACK, THIRD_VALUE, emit_deep};
+use crate::updates::{emit_update, is_own_pixel};
 use halide_pipeline::Source;
 use loop_ir::expressions::{Expr, Linear};
 use loop_ir::statements::Store;
@@ -124,6 +125,37 @@ fn emit_scattered(
     Ok(())
 }
 
+/// Appends a store with an index that is computed: where it stores what an operation makes of the pixel that it
+/// overwrites, the address is made once.
+fn emit_computed(
+    alloc: Global,
+    code: &mut Vec<u32>,
+    places: &Places,
+    scope: &[Held],
+    store: &Store,
+) -> Result<(), CodeFault>
+    requires column { FitsStack store.now.x 21 }
+    requires row { FitsStack store.now.y 22 }
+    ensures ok { OnOk result (MakesStore code.old.items code.new.items places.now scope.now store.now) }
+    ensures err { IfErr result (IsFault ⊥ (FitsStore places.now scope.now store.now → ⊥)) }
+{
+    match &store.value {
+        Expr::Binary(operation, a, b) => {
+            let other = b.get();
+            if is_own_pixel(a.get(), store) && need(other) <= ROW_STACK {
+                emit_update(alloc, code, places, scope, store, *operation, other)?;
+                return Ok(());
+            }
+            emit_scattered(alloc, code, places, scope, store)?;
+            Ok(())
+        }
+        _ => {
+            emit_scattered(alloc, code, places, scope, store)?;
+            Ok(())
+        }
+    }
+}
+
 /// Appends a store.
 ///
 /// # Errors
@@ -147,6 +179,6 @@ pub fn emit_store(
     if need(&store.x) > COLUMN_STACK || need(&store.y) > ROW_STACK {
         return Err(CodeFault::TooDeep);
     }
-    emit_scattered(alloc, code, places, scope, store)?;
+    emit_computed(alloc, code, places, scope, store)?;
     Ok(())
 }
