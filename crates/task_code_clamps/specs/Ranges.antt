@@ -1,6 +1,7 @@
 -- Between which numbers words lie, as signed numbers. This project's own.
 use Rattle.std.specs.Prelude.{◌≡◌, ◌<◌, ◌≤◌, ℕ, ◌+◌, ◌%◌, ◌^◌}
 use Rattle.halide_pipeline.specs.declared.expressions.Source.{Source}
+use Rattle.halide_pipeline.specs.declared.expressions.Source.TheVariants as sources
 use Rattle.task_code_scalar.specs.declared.places.Pixels.TheVariants.{Bytes}
 use Rattle.task_code_scalar.specs.declared.places.Places.{Places}
 use Rattle.task_code_scalar.specs.Code.{place_of}
@@ -15,6 +16,7 @@ pub record LiesIn (range : Range) (v : ℕ) : Type 0 where
   pub low : range.low ≤ level v
   pub high : level v ≤ range.high
 
--- a source's pixel is below 256, if the source holds bytes
+-- an input's pixel is below 256, if the input holds bytes
 abbrev pub IsByte : Places → Source → ℕ → Type 0
-IsByte places source v = (place_of places source).pixels ≡ Bytes → v < 256
+IsByte places (sources.Input place) v = (place_of places (sources.Input place)).pixels ≡ Bytes → v < 256
+IsByte places (sources.Func place) v = Unit {0}

@@ -80,11 +80,14 @@ pub fn of_sum(own: &Linear, bounds: &[Bound]) -> Range
 pub fn of_pixels(places: &Places, source: Source) -> Range
     ensures { (v : ℕ) → IsByte places.now source v → LiesIn result v }
 {
-    match place_of(places, source).pixels {
-        Pixels::Words => any(),
-        Pixels::Bytes => Range {
-            low: ZERO,
-            high: ZERO + 255,
+    match source {
+        Source::Func(_) => any(),
+        Source::Input(_) => match place_of(places, source).pixels {
+            Pixels::Words => any(),
+            Pixels::Bytes => Range {
+                low: ZERO,
+                high: ZERO + 255,
+            },
         },
     }
 }
