@@ -1,0 +1,10 @@
+pub mod Arms
+pub mod Composing
+pub mod Dividing
+pub mod Gathering
+pub mod Loading
+pub mod Moving
+pub mod Powers
+pub mod Signs
+pub mod Steady
+pub mod Turning

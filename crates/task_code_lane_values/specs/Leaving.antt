@@ -17,7 +17,7 @@ use Rattle.task_code_registers.specs.Scopes.{Knows, AreHolders}
 use Rattle.task_code_lanes.specs.declared.groups.Group.{Group}
 use Rattle.task_code_lanes.specs.Groups.{registers, slot}
 use Rattle.task_code_lanes.specs.Leaving.{HasLanes}
-use Rattle.task_code_lane_values.specs.declared.lanes.Lanes.{Lanes}
+use Rattle.task_code_lane_values.specs.declared.vectorized.Lanes.{Lanes}
 
 -- What stays while values are made in group k: scalar registers below those of values, but for the scratch registers and the one where
 -- addresses are made; how many lanes there are; and the groups below.

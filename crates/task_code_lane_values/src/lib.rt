@@ -1,9 +1,18 @@
 //! Values of expressions over lanes, a lane for each iteration of a vectorized loop, from what registers hold in its
 //! first one. Contracts say what the appended code does, and not which instructions it has.
 //!
-//! - [`lanes`]: which loop has lanes, and in which groups of vector registers ([`Lanes`](lanes::Lanes)).
+//! - [`vectorized`]: which loop has lanes, and in which groups of vector registers ([`Lanes`](vectorized::Lanes)).
+//! - [`operations`]: appends what an operation makes of lanes and those of the next group, or a scalar register.
+//! - [`scalars`]: which expressions all iterations have in common; appends what leaves one, or
+//!   an address.
+//! - [`points`]: appends loads of pixels that lie one behind the other.
+//! - [`sums`]: appends what leaves a sum's values where it goes along with the iterations.
 //! - [`values`]: appends what leaves an expression's values in a group (`specs/Leaving.antt`).
 #![tactic(auto)]
 
-pub mod lanes;
+pub mod operations;
+pub mod points;
+pub mod scalars;
+pub mod sums;
 pub mod values;
+pub mod vectorized;

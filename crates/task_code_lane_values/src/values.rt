@@ -1,15 +1,57 @@
 //! The values of an expression in all iterations of a vectorized loop at once.
 
-ghost use Rattle.std.specs.Prelude.{◌<◌, OnOk};
+ghost use Rattle.std.specs.Prelude.{◌<◌, ◌≡◌, ◌+◌, IfOk, IfSome, OnOk};
+ghost use Rattle.task_code_values.specs.Operands.{IsSum};
 ghost use Rattle.task_code_lanes.specs.Groups.{slots};
 ghost use Rattle.task_code_lane_values.specs.Leaving.{MakesLanes};
 
-use crate::lanes::Lanes;
-use loop_ir::expressions::Expr;
-use std::alloc::Global;
+use crate::operations::{
+    emit_by, emit_quotient, emit_shifted, emit_turned, emit_two, takes_first, takes_second,
+};
+use crate::points::{dense_column, emit_gather, emit_point, emit_row, emit_scattered};
+use crate::scalars::{emit_literal, emit_steady, is_steady};
+use crate::sums::emit_sum;
+use crate::vectorized::Lanes;
+use loop_ir::expressions::{Expr, Linear};
+use std::alloc::{AllocError, Global};
+use task_code_lanes::groups::Group;
+use task_code_lanes::vectors::spread;
+use task_code_registers::numbers::power_of_two;
 use task_code_registers::scopes::Held;
 use task_code_scalar::CodeFault;
 use task_code_scalar::places::Places;
+use task_code_values::expressions::sum_of;
+
+/// The column and the row of a point, where both are sums.
+#[derive(Debug, Drop)]
+struct Sums {
+    x: Linear,
+    y: Linear,
+}
+
+fn both_sums(alloc: Global, x: &Expr, y: &Expr) -> Result<Option<Sums>, AllocError>
+    ensures { IfOk result (λ found. IfSome found (λ sums. IsSum x.now sums.x × IsSum y.now sums.y)) }
+{
+    match sum_of(alloc, x)? {
+        None => Ok(None),
+        Some(column) => match sum_of(alloc, y)? {
+            None => Ok(None),
+            Some(row) => Ok(Some(Sums { x: column, y: row })),
+        },
+    }
+}
+
+/// The next group, if there is one.
+fn next_slot(group: Group, k: u8) -> Result<u8, CodeFault>
+    requires { k < slots group }
+    ensures { IfOk result (λ next. (next ≡ k + 1) × (k + 1 < slots group)) }
+{
+    if k + 1 < group.slots() {
+        Ok(k + 1)
+    } else {
+        Err(CodeFault::TooDeep)
+    }
+}
 
 /// Appends what leaves an expression's values in group k of the stack, with those above it free.
 ///
@@ -17,7 +59,7 @@ use task_code_scalar::places::Places;
 ///
 /// Memory ran out, or groups and registers do not suffice for this way of making code.
 pub fn emit_lanes(
-    _alloc: Global,
+    alloc: Global,
     code: &mut Vec<u32>,
     places: &Places,
     scope: &[Held],
@@ -28,5 +70,82 @@ pub fn emit_lanes(
     requires { k < slots own.group }
     ensures { OnOk result (MakesLanes code.old.items code.new.items places.now scope.now own k e.now) }
 {
-    Err(CodeFault::TooDeep)
+    if is_steady(e, own.counter) {
+        let s = emit_steady(alloc, code, places, scope, own, e)?;
+        spread(code, own.group.slot(k), s)?;
+        return Ok(());
+    }
+    match e {
+        Expr::Linear(sum) => {
+            emit_sum(alloc, code, scope, own, sum, k)?;
+            Ok(())
+        }
+        Expr::Binary(operation, a, b) => {
+            let first = a.get();
+            let second = b.get();
+            if takes_second(*operation) && is_steady(second, own.counter) {
+                emit_lanes(alloc, code, places, scope, own, first, k)?;
+                let s = emit_steady(alloc, code, places, scope, own, second)?;
+                emit_by(code, own.group, *operation, k, s)?;
+                return Ok(());
+            }
+            if takes_first(*operation) && is_steady(first, own.counter) {
+                emit_lanes(alloc, code, places, scope, own, second, k)?;
+                let s = emit_steady(alloc, code, places, scope, own, first)?;
+                emit_turned(code, own.group, *operation, k, s)?;
+                return Ok(());
+            }
+            let next = next_slot(own.group, k)?;
+            emit_lanes(alloc, code, places, scope, own, first, k)?;
+            emit_lanes(alloc, code, places, scope, own, second, next)?;
+            emit_two(code, own.group, *operation, k)?;
+            Ok(())
+        }
+        Expr::Divide(a, divisor) => {
+            if *divisor == 0 {
+                return Err(CodeFault::TooDeep);
+            }
+            emit_lanes(alloc, code, places, scope, own, a.get(), k)?;
+            if let Some(bits) = power_of_two(*divisor) {
+                emit_shifted(code, own.group, *divisor, bits, k)?;
+                return Ok(());
+            }
+            let s = emit_literal(alloc, code, scope, own, *divisor)?;
+            emit_quotient(code, own.group, *divisor, k, s)?;
+            Ok(())
+        }
+        Expr::Load(source, x, y) => {
+            if let Some(sums) = both_sums(alloc, x.get(), y.get())? {
+                emit_point(
+                    alloc, code, places, scope, own, *source, &sums.x, &sums.y, k,
+                )?;
+                return Ok(());
+            }
+            if is_steady(y.get(), own.counter) {
+                if let Some(column) = dense_column(alloc, x.get(), own.counter)? {
+                    emit_row(
+                        alloc,
+                        code,
+                        places,
+                        scope,
+                        own,
+                        *source,
+                        &column,
+                        y.get(),
+                        k,
+                    )?;
+                    return Ok(());
+                }
+                emit_lanes(alloc, code, places, scope, own, x.get(), k)?;
+                emit_gather(alloc, code, places, scope, own, *source, y.get(), k)?;
+                return Ok(());
+            }
+            let next = next_slot(own.group, k)?;
+            emit_lanes(alloc, code, places, scope, own, x.get(), k)?;
+            emit_lanes(alloc, code, places, scope, own, y.get(), next)?;
+            emit_scattered(alloc, code, places, scope, own, *source, k)?;
+            Ok(())
+        }
+        _ => Err(CodeFault::TooDeep),
+    }
 }

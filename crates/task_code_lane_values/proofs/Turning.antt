@@ -1,0 +1,140 @@
+-- Operations on lanes.
+use Rattle.std.proofs.Common.{◌≡◌, ℕ, ◌+◌, ◌*◌, ◌%◌, ◌^◌, ◌<◌, List, [], ◌∷◌, true, refl, ap, ◌∙◌, sym, subst, arith}
+use Rattle.std.specs.Prelude.{if◌then◌else◌}
+use Rattle.rv_insn.specs.declared.instructions.Insn.TheVariants.{Vector}
+use Rattle.rv_insn.specs.declared.vector_instructions.VectorInsn.TheVariants as v
+use Rattle.rv_insn.specs.declared.vector_operations.ArithmeticVxOp.{ArithmeticVxOp}
+use Rattle.rv_insn.specs.declared.vector_operations.ArithmeticVxOp.TheVariants as vxs
+use Rattle.rv_insn.specs.declared.vector_operations.MultiplyOp.TheVariants as multiplies
+use Rattle.lanes.specs.Words as lanes
+use Rattle.vector_unit.specs.Operations.{arithmetic_vx}
+use Rattle.halide_pipeline.specs.declared.expressions.Operation.{Operation}
+use Rattle.halide_pipeline.specs.declared.expressions.Operation.TheVariants as op
+use Rattle.halide_pipeline.specs.Words as word
+use Rattle.multi_hart_logic.specs.Paths.{lane}
+use Rattle.multi_hart_logic.proofs.VectorRows as vector
+use Rattle.task_code_scalar.specs.Words.{Emits}
+use Rattle.task_code_scalar.proofs.Evaluation.{applied-below}
+use Rattle.task_code_scalar.proofs.Numbers.{less-is}
+use Rattle.task_code_lanes.specs.declared.groups.Group.{Group}
+use Rattle.task_code_lanes.specs.Groups.{registers, slots, slot}
+use Rattle.task_code_lanes.specs.Lanes.{lanes_operation}
+use Rattle.task_code_lanes.proofs.Slots.{SlotLies, slot-lies}
+use Rattle.task_code_lanes.proofs.Rows as rows
+use Rattle.task_code_lanes.proofs.Operations.{operation-leaves}
+use Rattle.task_code_lane_values.specs.inner.Parts.{TurnsBy, TurnsTwo, AnyWord, IsBy, IsTurnedBy}
+use Rattle.task_code_lane_values.proofs.Composing.{left-of}
+
+-- ---- instructions with a register
+
+pub by-add : IsBy op.Add vxs.Vadd
+unfolding word.add
+by-add x c lx lc = refl
+
+pub by-subtract : IsBy op.Subtract vxs.Vsub
+unfolding word.subtract
+by-subtract x c lx lc = refl
+
+pub by-minimum : IsBy op.Minimum vxs.Vmin
+by-minimum x c lx lc = ap (λ t. if t then c else x) (less-is c x lc lx)
+
+pub by-maximum : IsBy op.Maximum vxs.Vmax
+by-maximum x c lx lc = ap (λ t. if t then c else x) (less-is x c lx lc)
+
+pub turned-add : IsTurnedBy op.Add vxs.Vadd
+unfolding word.add
+turned-add x c lx lc = let e : x + c ≡ c + x = omega arith in ap (λ n. n % 2 ^ 32) e
+
+pub turned-subtract : IsTurnedBy op.Subtract vxs.Vrsub
+unfolding word.subtract
+turned-subtract x c lx lc = refl
+
+pub by-as-is : (o other : Operation) (own : ArithmeticVxOp) → o ≡ other → IsBy other own → IsBy o own
+by-as-is o other own e is = subst (λ z. IsBy z own) (sym e) is
+
+pub turned-as-is : (o other : Operation) (own : ArithmeticVxOp) → o ≡ other → IsTurnedBy other own → IsTurnedBy o own
+turned-as-is o other own e is = subst (λ z. IsTurnedBy z own) (sym e) is
+
+-- ---- one instruction
+
+module _ (group : Group) (k : ℕ) (in-stack : k < slots group) where
+  abbrev r : ℕ
+  r = slot group k
+
+  abbrev lies : SlotLies group k
+  lies = slot-lies group k in-stack
+
+  pub two-made : (o : Operation) (c0 c1 : List ℕ) → k + 1 < slots group → Emits c0 c1 (lanes_operation o (slot group k) (slot group (k + 1))) → TurnsTwo c0 c1 group k (word.applied o)
+  two-made o c0 c1 next x = record {
+    insns = lanes_operation o (slot group k) (slot group (k + 1));
+    emits = x;
+    does = λ w m n f u t l has hu ht lu lt.
+        left-of w m l group n (lanes_operation o (slot group k) (slot group (k + 1))) f k (λ i. word.applied o (u i) (t i)) (λ i b. applied-below o (u i) (t i) (lu i b) (lt i b))
+        (operation-leaves w m l group n k lies (slot group (k + 1)) (slot-lies group (k + 1) next).is_group f u t has hu ht lu lt o);
+  }
+
+  pub two-as : (o : Operation) (a b : ℕ) (c0 c1 : List ℕ) → k + 1 < slots group → a ≡ slot group k → b ≡ slot group (k + 1) → Emits c0 c1 (lanes_operation o a b)
+      → TurnsTwo c0 c1 group k (word.applied o)
+  two-as o a b c0 c1 next ea eb x = two-made o c0 c1 next (subst (λ z. Emits c0 c1 (lanes_operation o (slot group k) z)) eb (subst (λ z. Emits c0 c1 (lanes_operation o z b)) ea x))
+
+  module _ (s : ℕ) (low : s < 32) (c0 c1 : List ℕ) (says : ℕ → ℕ → ℕ) (small : (x c : ℕ) → x < 2 ^ 32 → c < 2 ^ 32 → says x c < 2 ^ 32) where
+    pub by-arithmetic : (o : ArithmeticVxOp) → ((x c : ℕ) → x < 2 ^ 32 → c < 2 ^ 32 → arithmetic_vx o 32 x c ≡ says x c) → Emits c0 c1 (Vector (v.ArithmeticVx o r r s true) ∷ [])
+        → TurnsBy c0 c1 group k s AnyWord says
+    by-arithmetic o same x = record {
+      insns = Vector (v.ArithmeticVx o r r s true) ∷ [];
+      emits = x;
+      does = λ w m n f u c l has hu lu es lc is.
+          let ec : f s % 2 ^ 32 ≡ c = omega (arith, es, lc) in
+          left-of w m l group n (Vector (v.ArithmeticVx o r r s true) ∷ []) f k (λ i. says (u i) c) (λ i b. small (u i) c (lu i b) lc)
+          (rows.last w m l group n k lies (rows.writes w m l group n (λ i. says (u i) c) (λ i. arithmetic_vx o 32 (f (lane r i)) (f s % 2 ^ 32)) has
+          (vector.arithmetic-vx w f m l (registers group) has.configured o r r s lies.is_group lies.is_group low)
+          (λ i b. ap (λ z. arithmetic_vx o 32 z (f s % 2 ^ 32)) (hu i b) ∙ ap (arithmetic_vx o 32 (u i)) ec ∙ same (u i) c (lu i b) lc)));
+    }
+
+    pub by-product : ((x c : ℕ) → x < 2 ^ 32 → c < 2 ^ 32 → lanes.multiply 32 x c ≡ says x c) → Emits c0 c1 (Vector (v.MultiplyVx multiplies.Vmul r r s true) ∷ [])
+        → TurnsBy c0 c1 group k s AnyWord says
+    by-product same x = record {
+      insns = Vector (v.MultiplyVx multiplies.Vmul r r s true) ∷ [];
+      emits = x;
+      does = λ w m n f u c l has hu lu es lc is.
+          let ec : f s % 2 ^ 32 ≡ c = omega (arith, es, lc) in
+          left-of w m l group n (Vector (v.MultiplyVx multiplies.Vmul r r s true) ∷ []) f k (λ i. says (u i) c) (λ i b. small (u i) c (lu i b) lc)
+          (rows.last w m l group n k lies (rows.writes w m l group n (λ i. says (u i) c) (λ i. lanes.multiply 32 (f (lane r i)) (f s % 2 ^ 32)) has
+          (vector.multiply-vx w f m l (registers group) has.configured multiplies.Vmul r r s lies.is_group lies.is_group low)
+          (λ i b. ap (λ z. lanes.multiply 32 z (f s % 2 ^ 32)) (hu i b) ∙ ap (lanes.multiply 32 (u i)) ec ∙ same (u i) c (lu i b) lc)));
+    }
+
+  module _ (o : Operation) (s : ℕ) (low : s < 32) (c0 c1 : List ℕ) where
+    pub second-arithmetic : (own : ArithmeticVxOp) → IsBy o own → Emits c0 c1 (Vector (v.ArithmeticVx own r r s true) ∷ []) → TurnsBy c0 c1 group k s AnyWord (word.applied o)
+    second-arithmetic own is x = by-arithmetic s low c0 c1 (word.applied o) (λ x c lx lc. applied-below o x c lx lc) own is x
+
+    pub first-arithmetic : (own : ArithmeticVxOp) → IsTurnedBy o own → Emits c0 c1 (Vector (v.ArithmeticVx own r r s true) ∷ [])
+        → TurnsBy c0 c1 group k s AnyWord (λ x c. word.applied o c x)
+    first-arithmetic own is x = by-arithmetic s low c0 c1 (λ x c. word.applied o c x) (λ x c lx lc. applied-below o c x lc lx) own is x
+
+    pub second-product : o ≡ op.Multiply → Emits c0 c1 (Vector (v.MultiplyVx multiplies.Vmul r r s true) ∷ []) → TurnsBy c0 c1 group k s AnyWord (word.applied o)
+    unfolding word.multiply
+    second-product e x =
+        subst (λ z. TurnsBy c0 c1 group k s AnyWord (word.applied z)) (sym e)
+        (by-product s low c0 c1 (word.applied op.Multiply) (λ x c lx lc. applied-below op.Multiply x c lx lc) (λ x c lx lc. refl) x)
+
+    pub first-product : o ≡ op.Multiply → Emits c0 c1 (Vector (v.MultiplyVx multiplies.Vmul r r s true) ∷ []) → TurnsBy c0 c1 group k s AnyWord (λ x c. word.applied o c x)
+    unfolding word.multiply
+    first-product e x =
+        subst (λ z. TurnsBy c0 c1 group k s AnyWord (λ x c. word.applied z c x)) (sym e)
+        (by-product s low c0 c1 (λ x c. word.applied op.Multiply c x) (λ x c lx lc. applied-below op.Multiply c x lc lx)
+        (λ x c lx lc. let g : x * c ≡ c * x = omega arith in ap (λ n. n % 2 ^ 32) g) x)
+
+    -- as the emitters call them
+    pub second-by : (a : ℕ) → a ≡ r → (own : ArithmeticVxOp) → IsBy o own → Emits c0 c1 (Vector (v.ArithmeticVx own a a s true) ∷ []) → TurnsBy c0 c1 group k s AnyWord (word.applied o)
+    second-by a ea own is x = second-arithmetic own is (subst (λ z. Emits c0 c1 (Vector (v.ArithmeticVx own z z s true) ∷ [])) ea x)
+
+    pub first-by : (a : ℕ) → a ≡ r → (own : ArithmeticVxOp) → IsTurnedBy o own → Emits c0 c1 (Vector (v.ArithmeticVx own a a s true) ∷ [])
+        → TurnsBy c0 c1 group k s AnyWord (λ x c. word.applied o c x)
+    first-by a ea own is x = first-arithmetic own is (subst (λ z. Emits c0 c1 (Vector (v.ArithmeticVx own z z s true) ∷ [])) ea x)
+
+    pub second-times : (a : ℕ) → a ≡ r → o ≡ op.Multiply → Emits c0 c1 (Vector (v.MultiplyVx multiplies.Vmul a a s true) ∷ []) → TurnsBy c0 c1 group k s AnyWord (word.applied o)
+    second-times a ea e x = second-product e (subst (λ z. Emits c0 c1 (Vector (v.MultiplyVx multiplies.Vmul z z s true) ∷ [])) ea x)
+
+    pub first-times : (a : ℕ) → a ≡ r → o ≡ op.Multiply → Emits c0 c1 (Vector (v.MultiplyVx multiplies.Vmul a a s true) ∷ []) → TurnsBy c0 c1 group k s AnyWord (λ x c. word.applied o c x)
+    first-times a ea e x = first-product e (subst (λ z. Emits c0 c1 (Vector (v.MultiplyVx multiplies.Vmul z z s true) ∷ [])) ea x)

@@ -1,0 +1,134 @@
+-- What parts of code over lanes do: scalar operands, lanes of any numbers, and single operations. This project's own.
+use Rattle.std.specs.Prelude.{◌≡◌, ◌<◌, ◌≤◌, ℕ, ◌+◌, ◌*◌, ◌%◌, ◌^◌, List, length}
+use Rattle.std.specs.List.{AllByRecursion}
+use Rattle.rv_insn.specs.declared.instructions.Insn.{Insn}
+use Rattle.rv_insn.specs.declared.vector_operations.ArithmeticVxOp.{ArithmeticVxOp}
+use Rattle.vector_unit.specs.Operations.{arithmetic_vx}
+use Rattle.halide_pipeline.specs.declared.expressions.Operation.{Operation}
+use Rattle.halide_pipeline.specs.declared.expressions.Source.{Source}
+use Rattle.halide_pipeline.specs.Words as word
+use Rattle.halide_pipeline.specs.Pixel.{Reads}
+use Rattle.loop_ir.specs.declared.expressions.Counter.{Counter}
+use Rattle.loop_ir.specs.declared.expressions.Expr.{Expr}
+use Rattle.loop_ir.specs.declared.expressions.Linear.{Linear}
+use Rattle.loop_ir.specs.Counters.{Values, with}
+use Rattle.loop_ir.specs.Expressions.{value, loads, linear_value}
+use Rattle.multi_hart_logic.specs.Alone.{World}
+use Rattle.multi_hart_logic.specs.Paths.{lane}
+use Rattle.task_code_scalar.specs.declared.places.Place.{Place}
+use Rattle.task_code_scalar.specs.declared.places.Places.{Places}
+use Rattle.task_code_scalar.specs.Code.{address, place_of}
+use Rattle.task_code_scalar.specs.Evaluation.{ArePlaces, Loads, LoadsAt}
+use Rattle.task_code_scalar.specs.Words.{Emits}
+use Rattle.task_code_registers.specs.declared.scopes.Held.{Held}
+use Rattle.task_code_registers.specs.Registers.{first_value, IsSource}
+use Rattle.task_code_registers.specs.Scopes.{Knows, AreHolders}
+use Rattle.task_code_values.specs.Making.{Leaves}
+use Rattle.task_code_lanes.specs.declared.groups.Group.{Group}
+use Rattle.task_code_lanes.specs.Groups.{registers, slot}
+use Rattle.task_code_lanes.specs.Leaving.{HasLanes}
+use Rattle.task_code_lane_values.specs.declared.vectorized.Lanes.{Lanes}
+use Rattle.task_code_lane_values.specs.Leaving.{LeavesLanes}
+
+-- ---- expressions that all iterations have in common
+
+-- each iteration has the value of the first one
+abbrev pub IsSteady : Counter → Expr → Type 0
+IsSteady counter e = (reads : Reads) (values : Values) (i : ℕ) → value reads (with counter i values) e ≡ value reads (with counter 0 values) e
+
+-- ---- scalar operands
+
+-- Appended code leaves a number in register s, from what registers hold in the first iteration. It keeps memory and all registers but
+-- those of values and scratch ones.
+pub record MakesScalar (old new : List ℕ) (scope : List Held) (own : Lanes) (s : ℕ) (may : World → List ℕ → Reads → Values → Type 0)
+    (says : ℕ → Reads → Values → ℕ) : Type 0 where
+  pub insns : List Insn
+  pub emits : Emits old new insns
+  pub source : IsSource s
+  pub does : (world : World) (memory : List ℕ) (values : Values) (reads : Reads) (f : ℕ → ℕ) → length memory ≡ world.size → AreHolders scope
+      → Knows world.hart scope (with own.counter 0 values) f → may world memory reads values
+      → Leaves world memory insns f first_value s (says world.hart reads values)
+
+-- it loads nothing
+abbrev pub Nothing : World → List ℕ → Reads → Values → Type 0
+Nothing world memory reads values = Unit {0}
+
+-- an expression's value in the first iteration
+abbrev pub MakesSteady : List ℕ → List ℕ → Places → List Held → Lanes → ℕ → Expr → Type 0
+MakesSteady old new places scope own s e =
+    MakesScalar old new scope own s (λ world memory reads values. AllByRecursion (Loads world places memory reads) (loads reads (with own.counter 0 values) e))
+    (λ hart reads values. value reads (with own.counter 0 values) e)
+
+-- a pointer to the point at a column of the first iteration and a row, as far as words go
+abbrev pub MakesRowPointer : List ℕ → List ℕ → Places → List Held → Lanes → ℕ → Place → Linear → Expr → Type 0
+MakesRowPointer old new places scope own s place x y =
+    MakesScalar old new scope own s (λ world memory reads values. AllByRecursion (Loads world places memory reads) (loads reads (with own.counter 0 values) y))
+    (λ hart reads values. address place hart (linear_value (with own.counter 0 values) x) (value reads (with own.counter 0 values) y) % 2 ^ 32)
+
+-- ---- lanes of any numbers
+
+-- Appended code leaves a number for each iteration in group k, as the lanes of an expression are left.
+pub record MakesEach (old new : List ℕ) (places : Places) (scope : List Held) (own : Lanes) (k : ℕ)
+    (may : World → List ℕ → Reads → Values → ℕ → Type 0) (says : Reads → Values → ℕ → ℕ) : Type 0 where
+  pub insns : List Insn
+  pub emits : Emits old new insns
+  pub does : (world : World) (memory : List ℕ) (values : Values) (reads : Reads) (count : ℕ) (f : ℕ → ℕ) → length memory ≡ world.size
+      → ArePlaces places → AreHolders scope → Knows world.hart scope (with own.counter 0 values) f → HasLanes own.group count f → 1 ≤ count
+      → count ≤ 4 * registers own.group → ((i : ℕ) → i < count → may world memory reads values i)
+      → LeavesLanes world memory insns f own.group k count (λ i. says reads values i)
+
+abbrev pub NothingEach : World → List ℕ → Reads → Values → ℕ → Type 0
+NothingEach world memory reads values i = Unit {0}
+
+-- a sum in an iteration
+abbrev pub sum_at : Counter → Linear → Values → ℕ → ℕ
+sum_at counter own values i = linear_value (with counter i values) own
+
+-- a buffer has what is read at the point of two sums in an iteration
+abbrev pub LoadsPoint : Places → Source → Counter → Linear → Linear → World → List ℕ → Reads → Values → ℕ → Type 0
+LoadsPoint places source counter x y world memory reads values i =
+    LoadsAt world (place_of places source) memory (sum_at counter x values i) (sum_at counter y values i)
+    (reads source (sum_at counter x values i) (sum_at counter y values i))
+
+abbrev pub MakesPoint : List ℕ → List ℕ → Places → List Held → Lanes → ℕ → Source → Linear → Linear → Type 0
+MakesPoint old new places scope own k source x y =
+    MakesEach old new places scope own k (LoadsPoint places source own.counter x y)
+    (λ reads values i. reads source (sum_at own.counter x values i) (sum_at own.counter y values i))
+
+-- ---- operations on lanes
+
+-- Appended code makes of each lane of group k what is made of it.
+pub record TurnsOne (old new : List ℕ) (group : Group) (k : ℕ) (says : ℕ → ℕ) : Type 0 where
+  pub insns : List Insn
+  pub emits : Emits old new insns
+  pub does : (world : World) (memory : List ℕ) (count : ℕ) (f x : ℕ → ℕ) → length memory ≡ world.size → HasLanes group count f
+      → ((i : ℕ) → i < count → f (lane (slot group k) i) ≡ x i) → ((i : ℕ) → i < count → x i < 2 ^ 32)
+      → LeavesLanes world memory insns f group k count (λ i. says (x i))
+
+-- So it does of the lane and register s, which holds such a word.
+pub record TurnsBy (old new : List ℕ) (group : Group) (k s : ℕ) (fits : ℕ → Type 0) (says : ℕ → ℕ → ℕ) : Type 0 where
+  pub insns : List Insn
+  pub emits : Emits old new insns
+  pub does : (world : World) (memory : List ℕ) (count : ℕ) (f x : ℕ → ℕ) (c : ℕ) → length memory ≡ world.size → HasLanes group count f
+      → ((i : ℕ) → i < count → f (lane (slot group k) i) ≡ x i) → ((i : ℕ) → i < count → x i < 2 ^ 32) → f s ≡ c → c < 2 ^ 32 → fits c
+      → LeavesLanes world memory insns f group k count (λ i. says (x i) c)
+
+abbrev pub AnyWord : ℕ → Type 0
+AnyWord c = Unit {0}
+
+-- an instruction does an operation on lanes with a register as the second operand
+abbrev pub IsBy : Operation → ArithmeticVxOp → Type 0
+IsBy op own = (x c : ℕ) → x < 2 ^ 32 → c < 2 ^ 32 → arithmetic_vx own 32 x c ≡ word.applied op x c
+
+-- or as the first one
+abbrev pub IsTurnedBy : Operation → ArithmeticVxOp → Type 0
+IsTurnedBy op own = (x c : ℕ) → x < 2 ^ 32 → c < 2 ^ 32 → arithmetic_vx own 32 x c ≡ word.applied op c x
+
+-- And of the lane and that of the next group.
+pub record TurnsTwo (old new : List ℕ) (group : Group) (k : ℕ) (says : ℕ → ℕ → ℕ) : Type 0 where
+  pub insns : List Insn
+  pub emits : Emits old new insns
+  pub does : (world : World) (memory : List ℕ) (count : ℕ) (f x y : ℕ → ℕ) → length memory ≡ world.size → HasLanes group count f
+      → ((i : ℕ) → i < count → f (lane (slot group k) i) ≡ x i) → ((i : ℕ) → i < count → f (lane (slot group (k + 1)) i) ≡ y i)
+      → ((i : ℕ) → i < count → x i < 2 ^ 32) → ((i : ℕ) → i < count → y i < 2 ^ 32)
+      → LeavesLanes world memory insns f group k count (λ i. says (x i) (y i))

@@ -1,0 +1,250 @@
+//! What operations make of lanes, in the group of the first operand.
+
+ghost use Rattle.std.specs.Prelude.{◌≡◌, ◌+◌, ◌*◌, ◌%◌, ◌<◌, ◌^◌, [], ◌∷◌, IfSome, OnOk, true};
+ghost use Rattle.rv_insn.specs.declared.instructions.Insn.TheVariants.{Vector};
+ghost use Rattle.rv_insn.specs.declared.vector_instructions.VectorInsn.TheVariants as v;
+ghost use Rattle.rv_insn.specs.declared.vector_operations.ShiftViOp.TheVariants.{Vsra as shift_right};
+ghost use Rattle.halide_pipeline.specs.Words as word;
+ghost use Rattle.task_code_scalar.specs.Words.{Emits};
+ghost use Rattle.task_code_lanes.specs.Groups.{slots};
+ghost use Rattle.task_code_lanes.specs.Lanes.{compared, flagged, lanes_operation};
+ghost use Rattle.task_code_lane_values.specs.inner.Parts.{AnyWord, IsBy, IsTurnedBy, TurnsBy, TurnsOne, TurnsTwo};
+
+use halide_pipeline::Operation;
+use rv_insn::{
+    ArithmeticVvOp, ArithmeticVxOp, CompareVvOp, Insn, MultiplyOp, ShiftAmount, ShiftViOp, VReg,
+    VectorInsn,
+};
+use std::alloc::AllocError;
+use task_code_lanes::groups::Group;
+use task_code_lanes::vectors::{
+    arithmetic, arithmetic_by, clear, comparison, merge_one, multiplication, multiplication_by,
+    signs, times_four,
+};
+use task_code_scalar::CodeFault;
+use task_code_scalar::instructions::put;
+
+// ---- two groups
+
+/// Appends what makes lanes of the mask's bits.
+fn emit_flagged(code: &mut Vec<u32>, r: u8) -> Result<(), AllocError>
+    requires { r < 32 }
+    ensures { OnOk result (Emits code.old.items code.new.items (flagged r)) }
+{
+    clear(code, r)?;
+    merge_one(code, r)?;
+    Ok(())
+}
+
+fn emit_compared(
+    code: &mut Vec<u32>,
+    op: CompareVvOp,
+    r: u8,
+    a: u8,
+    b: u8,
+) -> Result<(), AllocError>
+    requires { (r < 32) × (a < 32) × (b < 32) }
+    ensures { OnOk result (Emits code.old.items code.new.items (compared op r a b)) }
+{
+    comparison(code, op, a, b)?;
+    emit_flagged(code, r)?;
+    Ok(())
+}
+
+fn emit_operation(code: &mut Vec<u32>, op: Operation, r: u8, s: u8) -> Result<(), AllocError>
+    requires { (r < 32) × (s < 32) }
+    ensures { OnOk result (Emits code.old.items code.new.items (lanes_operation op r s)) }
+{
+    match op {
+        Operation::Add => arithmetic(code, ArithmeticVvOp::Vadd, r, r, s)?,
+        Operation::Subtract => arithmetic(code, ArithmeticVvOp::Vsub, r, r, s)?,
+        Operation::Multiply => multiplication(code, MultiplyOp::Vmul, r, r, s)?,
+        Operation::Minimum => arithmetic(code, ArithmeticVvOp::Vmin, r, r, s)?,
+        Operation::Maximum => arithmetic(code, ArithmeticVvOp::Vmax, r, r, s)?,
+        Operation::Less => emit_compared(code, CompareVvOp::Vmslt, r, r, s)?,
+        Operation::LessOrEqual => emit_compared(code, CompareVvOp::Vmsle, r, r, s)?,
+        Operation::Greater => emit_compared(code, CompareVvOp::Vmslt, r, s, r)?,
+        Operation::GreaterOrEqual => emit_compared(code, CompareVvOp::Vmsle, r, s, r)?,
+        Operation::Equal => emit_compared(code, CompareVvOp::Vmseq, r, r, s)?,
+        Operation::NotEqual => emit_compared(code, CompareVvOp::Vmsne, r, r, s)?,
+    }
+    Ok(())
+}
+
+/// Appends what an operation makes of the lanes of a group and those of the next one.
+pub(crate) fn emit_two(
+    code: &mut Vec<u32>,
+    group: Group,
+    op: Operation,
+    k: u8,
+) -> Result<(), AllocError>
+    requires { k + 1 < slots group }
+    ensures { OnOk result (TurnsTwo code.old.items code.new.items group k (word.applied op)) }
+{
+    emit_operation(code, op, group.slot(k), group.slot(k + 1))?;
+    Ok(())
+}
+
+// ---- a group and a register
+
+/// The instruction that does an operation with a register as the second operand.
+fn instruction_by(op: Operation) -> Option<ArithmeticVxOp>
+    ensures { IfSome result (IsBy op) }
+{
+    match op {
+        Operation::Add => Some(ArithmeticVxOp::Vadd),
+        Operation::Subtract => Some(ArithmeticVxOp::Vsub),
+        Operation::Minimum => Some(ArithmeticVxOp::Vmin),
+        Operation::Maximum => Some(ArithmeticVxOp::Vmax),
+        _ => None,
+    }
+}
+
+/// Or as the first one.
+fn instruction_turned(op: Operation) -> Option<ArithmeticVxOp>
+    ensures { IfSome result (IsTurnedBy op) }
+{
+    match op {
+        Operation::Add => Some(ArithmeticVxOp::Vadd),
+        Operation::Subtract => Some(ArithmeticVxOp::Vrsub),
+        _ => None,
+    }
+}
+
+/// Whether an operation's second operand may stand in a register.
+pub(crate) fn takes_second(op: Operation) -> bool {
+    match op {
+        Operation::Multiply => true,
+        _ => instruction_by(op).is_some(),
+    }
+}
+
+/// Whether its first one may.
+pub(crate) fn takes_first(op: Operation) -> bool {
+    match op {
+        Operation::Multiply => true,
+        _ => instruction_turned(op).is_some(),
+    }
+}
+
+/// Appends what an operation makes of lanes and a register.
+pub(crate) fn emit_by(
+    code: &mut Vec<u32>,
+    group: Group,
+    op: Operation,
+    k: u8,
+    s: u8,
+) -> Result<(), CodeFault>
+    requires { (k < slots group) × (s < 32) }
+    ensures { OnOk result (TurnsBy code.old.items code.new.items group k s AnyWord (word.applied op)) }
+{
+    let r = group.slot(k);
+    match op {
+        Operation::Multiply => {
+            multiplication_by(code, MultiplyOp::Vmul, r, r, s)?;
+            Ok(())
+        }
+        _ => match instruction_by(op) {
+            None => Err(CodeFault::TooDeep),
+            Some(own) => {
+                arithmetic_by(code, own, r, r, s)?;
+                Ok(())
+            }
+        },
+    }
+}
+
+/// Appends what an operation makes of a register and lanes.
+pub(crate) fn emit_turned(
+    code: &mut Vec<u32>,
+    group: Group,
+    op: Operation,
+    k: u8,
+    s: u8,
+) -> Result<(), CodeFault>
+    requires { (k < slots group) × (s < 32) }
+    ensures { OnOk result (TurnsBy code.old.items code.new.items group k s AnyWord (λ x c. word.applied op c x)) }
+{
+    let r = group.slot(k);
+    match op {
+        Operation::Multiply => {
+            multiplication_by(code, MultiplyOp::Vmul, r, r, s)?;
+            Ok(())
+        }
+        _ => match instruction_turned(op) {
+            None => Err(CodeFault::TooDeep),
+            Some(own) => {
+                arithmetic_by(code, own, r, r, s)?;
+                Ok(())
+            }
+        },
+    }
+}
+
+// ---- quotients
+
+/// Appends what leaves quotients by the literal in a register, rounded to minus infinity: a negative lane's complement is
+/// divided, and the quotient's complement taken.
+pub(crate) fn emit_quotient(
+    code: &mut Vec<u32>,
+    group: Group,
+    divisor: u32,
+    k: u8,
+    s: u8,
+) -> Result<(), AllocError>
+    requires { (k < slots group) × ((s < 32) × (0 < divisor)) }
+    ensures { OnOk result (TurnsBy code.old.items code.new.items group k s (λ c. c ≡ divisor) (λ x c. word.divide x divisor)) }
+{
+    let r = group.slot(k);
+    let u = group.spare();
+    signs(code, u, r)?;
+    arithmetic(code, ArithmeticVvOp::Vxor, r, r, u)?;
+    multiplication_by(code, MultiplyOp::Vdivu, r, r, s)?;
+    arithmetic(code, ArithmeticVvOp::Vxor, r, r, u)?;
+    Ok(())
+}
+
+/// Appends a shift of each lane to the right, which keeps its sign.
+fn shift_lanes_right(code: &mut Vec<u32>, r: u8, bits: u8) -> Result<(), AllocError>
+    requires { (r < 32) × (bits < 32) }
+    ensures { OnOk result (Emits code.old.items code.new.items (Vector (v.ShiftVi shift_right r r bits true) ∷ [])) }
+{
+    let register = VReg::new(r).unwrap();
+    put(
+        code,
+        &Insn::Vector(VectorInsn::ShiftVi {
+            op: ShiftViOp::Vsra,
+            vd: register,
+            vs2: register,
+            amount: ShiftAmount::new(bits).unwrap(),
+            vm: true,
+        }),
+    )?;
+    Ok(())
+}
+
+/// Appends what leaves quotients by a power of two, rounded to minus infinity.
+pub(crate) fn emit_shifted(
+    code: &mut Vec<u32>,
+    group: Group,
+    divisor: u32,
+    bits: u8,
+    k: u8,
+) -> Result<(), AllocError>
+    requires { (k < slots group) × ((bits < 32) × (divisor ≡ 2 ^ bits)) }
+    ensures { OnOk result (TurnsOne code.old.items code.new.items group k (λ x. word.divide x divisor)) }
+{
+    shift_lanes_right(code, group.slot(k), bits)?;
+    Ok(())
+}
+
+// ---- distances
+
+/// Appends what makes of numbers of words how many bytes they take.
+pub(crate) fn emit_word_offsets(code: &mut Vec<u32>, group: Group, k: u8) -> Result<(), AllocError>
+    requires { k < slots group }
+    ensures { OnOk result (TurnsOne code.old.items code.new.items group k (λ x. (x * 4) % 2 ^ 32)) }
+{
+    times_four(code, group.slot(k))?;
+    Ok(())
+}

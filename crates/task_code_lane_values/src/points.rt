@@ -1,0 +1,219 @@
+//! Loads of pixels, one for each iteration.
+
+ghost use Rattle.std.specs.Prelude.{◌≡◌, ◌+◌, ◌<◌, ◌%◌, ◌^◌, List, ℕ, IfOk, IfSome, OnOk, true};
+ghost use Rattle.loop_ir.specs.declared.expressions.Expr.{Expr as Exprs};
+ghost use Rattle.loop_ir.specs.declared.expressions.Expr.TheVariants.{Load as loaded};
+ghost use Rattle.task_code_scalar.specs.declared.places.Pixels.TheVariants.{Words as words_of};
+ghost use Rattle.task_code_scalar.specs.Code.{place_of as placed};
+ghost use Rattle.task_code_registers.specs.Strides.{strides};
+ghost use Rattle.task_code_values.specs.Operands.{IsSum};
+ghost use Rattle.task_code_lanes.specs.Groups.{slots};
+ghost use Rattle.task_code_lane_values.specs.Leaving.{MakesLanes};
+ghost use Rattle.task_code_lane_values.specs.inner.Parts.{IsSteady, MakesPoint, MakesRowPointer};
+
+use crate::operations::{emit_by, emit_two, emit_word_offsets};
+use crate::scalars::{emit_form_operand, emit_literal, emit_steady};
+use crate::vectorized::Lanes;
+use halide_pipeline::{Operation, Source, words};
+use loop_ir::expressions::{Counter, Expr, Linear};
+use rv_insn::AluOp;
+use std::alloc::{AllocError, Global};
+use task_code_lanes::vectors::{load_at, load_row};
+use task_code_registers::holding::{at_value, stride_of};
+use task_code_registers::numbers::emit_times;
+use task_code_registers::points::point_form;
+use task_code_registers::registers::{ADDRESS, FIRST_VALUE};
+use task_code_registers::scopes::Held;
+use task_code_scalar::CodeFault;
+use task_code_scalar::expressions::place_of;
+use task_code_scalar::instructions::alu;
+use task_code_scalar::places::{Pixels, Place, Places};
+use task_code_values::accesses::bytes_of;
+use task_code_values::expressions::sum_of;
+
+/// How many bytes a word has.
+const WORD_BYTES: u32 = 4;
+
+pub(crate) fn are_words(pixels: Pixels) -> bool
+    ensures { result ≡ true → pixels ≡ words_of }
+{
+    match pixels {
+        Pixels::Words => true,
+        Pixels::Bytes => false,
+    }
+}
+
+// ---- points of two sums
+
+/// Appends a load of the pixels at two sums, where they lie one behind the other.
+pub(crate) fn emit_point(
+    alloc: Global,
+    code: &mut Vec<u32>,
+    places: &Places,
+    scope: &[Held],
+    own: Lanes,
+    source: Source,
+    x: &Linear,
+    y: &Linear,
+    k: u8,
+) -> Result<(), CodeFault>
+    requires { k < slots own.group }
+    ensures { OnOk result (MakesPoint code.old.items code.new.items places.now scope.now own k source x.now y.now) }
+{
+    let place = place_of(places, source);
+    let form = point_form(alloc, &place, x, y)?;
+    let stride = stride_of(form.sum.terms.as_slice(), own.counter);
+    let start = at_value(alloc, &form, own.counter, 0)?;
+    if !are_words(place.pixels) {
+        return Err(CodeFault::TooDeep);
+    }
+    if stride == WORD_BYTES {
+        let b = emit_form_operand(alloc, code, scope, &start)?;
+        load_row(code, own.group.slot(k), b)?;
+        return Ok(());
+    }
+    Err(CodeFault::TooDeep)
+}
+
+// ---- points of a row that all iterations have
+
+/// Appends what makes a register point to a column of the first iteration in a row that all have.
+fn emit_row_pointer(
+    alloc: Global,
+    code: &mut Vec<u32>,
+    places: &Places,
+    scope: &[Held],
+    own: Lanes,
+    place: &Place,
+    x: &Linear,
+    y: &Expr,
+) -> Result<u8, CodeFault>
+    ensures { IfOk result (λ s. MakesRowPointer code.old.items code.new.items places.now scope.now own s place.now x.now y.now) }
+{
+    match sum_of(alloc, y)? {
+        Some(row) => {
+            let form = point_form(alloc, place, x, &row)?;
+            let start = at_value(alloc, &form, own.counter, 0)?;
+            let s = emit_form_operand(alloc, code, scope, &start)?;
+            Ok(s)
+        }
+        None => {
+            let row = words::multiply(bytes_of(place.pixels), place.width);
+            let zero = Linear::of_number(alloc, 0);
+            let form = point_form(alloc, place, x, &zero)?;
+            let start = at_value(alloc, &form, own.counter, 0)?;
+            let t = emit_steady(alloc, code, places, scope, own, y)?;
+            emit_times(code, FIRST_VALUE, t, row)?;
+            let b = emit_form_operand(alloc, code, scope, &start)?;
+            alu(code, AluOp::Add, ADDRESS, b, FIRST_VALUE)?;
+            Ok(ADDRESS)
+        }
+    }
+}
+
+/// The column that an expression is, where it goes on by one pixel an iteration.
+pub(crate) fn dense_column(
+    alloc: Global,
+    e: &Expr,
+    counter: Counter,
+) -> Result<Option<Linear>, AllocError>
+    ensures { IfOk result (λ found. IfSome found (λ own. IsSum e.now own × (strides counter own.terms % 2 ^ 32 ≡ 1))) }
+{
+    match sum_of(alloc, e)? {
+        None => Ok(None),
+        Some(own) => {
+            if stride_of(own.terms.as_slice(), counter) == 1 {
+                Ok(Some(own))
+            } else {
+                Ok(None)
+            }
+        }
+    }
+}
+
+/// Appends a load of the pixels from a column on, in a row that all iterations have.
+pub(crate) fn emit_row(
+    alloc: Global,
+    code: &mut Vec<u32>,
+    places: &Places,
+    scope: &[Held],
+    own: Lanes,
+    source: Source,
+    column: &Linear,
+    y: &Expr,
+    k: u8,
+) -> Result<(), CodeFault>
+    requires slot { k < slots own.group }
+    requires stride { strides own.counter column.now.terms % 2 ^ 32 ≡ 1 }
+    requires row { IsSteady own.counter y.now }
+    ensures { OnOk result ((x : Exprs) → IsSum x column.now
+        → MakesLanes code.old.items code.new.items places.now scope.now own k (loaded source x y.now)) }
+{
+    let place = place_of(places, source);
+    if !are_words(place.pixels) {
+        return Err(CodeFault::TooDeep);
+    }
+    let b = emit_row_pointer(alloc, code, places, scope, own, &place, column, y)?;
+    load_row(code, own.group.slot(k), b)?;
+    Ok(())
+}
+
+/// Appends a load of the pixels at columns in lanes, in a row that all iterations have.
+pub(crate) fn emit_gather(
+    alloc: Global,
+    code: &mut Vec<u32>,
+    places: &Places,
+    scope: &[Held],
+    own: Lanes,
+    source: Source,
+    y: &Expr,
+    k: u8,
+) -> Result<(), CodeFault>
+    requires slot { k < slots own.group }
+    requires row { IsSteady own.counter y.now }
+    ensures { OnOk result ((before : List ℕ) (x : Exprs) → MakesLanes before code.old.items places.now scope.now own k x
+        → MakesLanes before code.new.items places.now scope.now own k (loaded source x y.now)) }
+{
+    let place = place_of(places, source);
+    if !are_words(place.pixels) {
+        return Err(CodeFault::TooDeep);
+    }
+    emit_word_offsets(code, own.group, k)?;
+    let zero = Linear::of_number(alloc, 0);
+    let b = emit_row_pointer(alloc, code, places, scope, own, &place, &zero, y)?;
+    load_at(code, own.group.slot(k), b)?;
+    Ok(())
+}
+
+// ---- points that lie anywhere
+
+/// Appends a load of the pixels at columns in the lanes of a group and rows in those of the next one.
+pub(crate) fn emit_scattered(
+    alloc: Global,
+    code: &mut Vec<u32>,
+    places: &Places,
+    scope: &[Held],
+    own: Lanes,
+    source: Source,
+    k: u8,
+) -> Result<(), CodeFault>
+    requires { k + 1 < slots own.group }
+    ensures { OnOk result ((before middle : List ℕ) (x y : Exprs) → MakesLanes before middle places.now scope.now own k x
+        → MakesLanes middle code.old.items places.now scope.now own (k + 1) y
+        → MakesLanes before code.new.items places.now scope.now own k (loaded source x y)) }
+{
+    let place = place_of(places, source);
+    if !are_words(place.pixels) {
+        return Err(CodeFault::TooDeep);
+    }
+    let zero = Linear::of_number(alloc, 0);
+    let form = point_form(alloc, &place, &zero, &zero)?;
+    let start = at_value(alloc, &form, own.counter, 0)?;
+    let s = emit_literal(alloc, code, scope, own, place.width)?;
+    emit_by(code, own.group, Operation::Multiply, k + 1, s)?;
+    emit_two(code, own.group, Operation::Add, k)?;
+    emit_word_offsets(code, own.group, k)?;
+    let b = emit_form_operand(alloc, code, scope, &start)?;
+    load_at(code, own.group.slot(k), b)?;
+    Ok(())
+}

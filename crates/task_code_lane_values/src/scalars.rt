@@ -1,0 +1,96 @@
+//! Scalar operands of code over lanes: what all iterations have in common.
+
+ghost use Rattle.std.specs.Prelude.{◌≡◌, IfOk, true};
+ghost use Rattle.task_code_registers.specs.Emitting.{sum_words};
+ghost use Rattle.task_code_registers.specs.Registers.{address_register};
+ghost use Rattle.task_code_registers.specs.Scopes.{form_value};
+ghost use Rattle.task_code_values.specs.Making.{MakesHeld};
+ghost use Rattle.task_code_lane_values.specs.inner.Parts.{IsSteady, MakesScalar, MakesSteady, Nothing};
+
+use crate::vectorized::Lanes;
+use loop_ir::expressions::{Counter, Expr};
+use std::alloc::{AllocError, Global};
+use task_code_registers::holding::stride_of;
+use task_code_registers::registers::{ADDRESS, FIRST_VALUE};
+use task_code_registers::scopes::{Form, Held};
+use task_code_registers::sums::find;
+use task_code_scalar::CodeFault;
+use task_code_scalar::places::Places;
+use task_code_values::expressions::emit_operand;
+use task_code_values::needs::need;
+use task_code_values::operands::{emit_number_operand, emit_reached};
+
+/// How many registers the scalar stack has.
+const STACK: u32 = 12;
+
+/// Whether an expression has one value in all iterations, as far as its sums tell.
+pub fn is_steady(e: &Expr, counter: Counter) -> bool
+    ensures { result ≡ true → IsSteady counter e.now }
+{
+    match e {
+        Expr::Number(_) => true,
+        Expr::Linear(own) => stride_of(own.terms.as_slice(), counter) == 0,
+        Expr::Binary(_, a, b) => is_steady(a.get(), counter) && is_steady(b.get(), counter),
+        Expr::Divide(a, _) => is_steady(a.get(), counter),
+        Expr::Remainder(a, _) => is_steady(a.get(), counter),
+        Expr::Select(c, a, b) => {
+            is_steady(c.get(), counter)
+                && (is_steady(a.get(), counter) && is_steady(b.get(), counter))
+        }
+        Expr::Load(_, x, y) => is_steady(x.get(), counter) && is_steady(y.get(), counter),
+    }
+}
+
+/// Appends what leaves an expression's value of the first iteration in a register, where none holds it; which one it is.
+pub(crate) fn emit_steady(
+    alloc: Global,
+    code: &mut Vec<u32>,
+    places: &Places,
+    scope: &[Held],
+    own: Lanes,
+    e: &Expr,
+) -> Result<u8, CodeFault>
+    ensures { IfOk result (λ s. MakesSteady code.old.items code.new.items places.now scope.now own s e.now) }
+{
+    if need(e) > STACK {
+        return Err(CodeFault::TooDeep);
+    }
+    let s = emit_operand(alloc, code, places, scope, e, FIRST_VALUE, ADDRESS)?;
+    Ok(s)
+}
+
+/// Appends what leaves a number in a register, where none holds it; which one it is.
+pub(crate) fn emit_literal(
+    alloc: Global,
+    code: &mut Vec<u32>,
+    scope: &[Held],
+    own: Lanes,
+    number: u32,
+) -> Result<u8, AllocError>
+    ensures { IfOk result (λ s. MakesScalar code.old.items code.new.items scope.now own s Nothing (λ hart reads values. number)) }
+{
+    let s = emit_number_operand(alloc, code, scope, number, ADDRESS)?;
+    Ok(s)
+}
+
+/// Appends what leaves a form's value in a register, where none holds it; which one it is.
+pub(crate) fn emit_form_operand(
+    alloc: Global,
+    code: &mut Vec<u32>,
+    scope: &[Held],
+    form: &Form,
+) -> Result<u8, CodeFault>
+    ensures { IfOk result (λ s. MakesHeld code.old.items code.new.items (sum_words form.now.sum.terms)
+        scope.now address_register s (λ hart values. form_value hart values form.now)) }
+{
+    match find(alloc, scope, form, true)? {
+        Some(found) => {
+            if found.number == 0 {
+                return Ok(found.register);
+            }
+        }
+        None => {}
+    }
+    emit_reached(alloc, code, scope, form, ADDRESS)?;
+    Ok(ADDRESS)
+}
