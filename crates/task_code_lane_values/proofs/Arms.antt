@@ -1,5 +1,6 @@
 -- Expressions over lanes, by their parts.
 use Rattle.std.proofs.Common.{◌≡◌, ℕ, ◌+◌, ◌^◌, ◌<◌, ◌≤◌, List, [], ◌∷◌, ◌++◌, refl, ap, ◌∙◌, sym, subst, arith}
+use Rattle.std.specs.Prelude.{◌==◌, if◌then◌else◌}
 use Rattle.std.specs.List.{AllByRecursion}
 use Rattle.rv_insn.specs.declared.instructions.Insn.TheVariants.{Vector}
 use Rattle.rv_insn.specs.declared.vector_instructions.VectorInsn.TheVariants as v
@@ -20,12 +21,12 @@ use Rattle.task_code_scalar.specs.Evaluation.{Loads, LoadsAt}
 use Rattle.task_code_scalar.specs.Words.{Emits}
 use Rattle.task_code_registers.specs.declared.scopes.Held.{Held}
 use Rattle.task_code_values.specs.Operands.{IsSum}
-use Rattle.task_code_values.proofs.Evaluating.{value_binary, value_divide, value_load, loads_binary, loads_divide, loads_load}
+use Rattle.task_code_values.proofs.Evaluating.{value_binary, value_divide, value_remainder, value_select, value_load, loads_binary, loads_divide, loads_remainder, loads_select, loads_load}
 use Rattle.task_code_lanes.specs.Groups.{slots, slot}
 use Rattle.task_code_lane_values.specs.declared.vectorized.Lanes.{Lanes}
 use Rattle.task_code_lane_values.specs.Leaving.{MakesLanes}
-use Rattle.task_code_lane_values.specs.inner.Parts.{IsSteady, MakesScalar, MakesSteady, MakesEach, MakesPoint, Nothing, TurnsOne, TurnsBy, TurnsTwo, AnyWord, LoadsPoint}
-use Rattle.task_code_lane_values.proofs.Composing.{each-spread, each-one, each-by, each-two}
+use Rattle.task_code_lane_values.specs.inner.Parts.{IsSteady, MakesScalar, MakesSteady, MakesEach, MakesPoint, Nothing, TurnsOne, TurnsBy, TurnsTwo, AnyWord, LoadsPoint, Chooses}
+use Rattle.task_code_lane_values.proofs.Composing.{each-spread, each-one, each-by, each-two, each-three}
 
 module _ (places : Places) (scope : List Held) (own : Lanes) (k : ℕ) (in-stack : k < slots own.group) where
   abbrev at : ℕ → Values → Values
@@ -151,6 +152,46 @@ module _ (places : Places) (scope : List Held) (own : Lanes) (k : ℕ) (in-stack
       (lanes-of c0 c2 (e.Divide a c) (May a) (λ reads values i. word.divide (value reads (with own.counter i values) a) c)
       (λ w m reads values n some all i lt. part-of-divide a c w m reads values i (all i lt)) (λ reads values i. sym (value_divide reads (at i values) a c))
       (each-one places scope own k in-stack c0 c1 c2 (May a) (λ reads values i. value reads (with own.counter i values) a) (λ y. word.divide y c) (each-of c0 c1 k a (subst (Left c0 c1 k) ep first)) z))
+
+  -- ---- remainders
+
+  part-of-remainder : (a : Expr) (c : ℕ) (w : World) (m : List ℕ) (reads : Reads) (values : Values) (i : ℕ) → May (e.Remainder a c) w m reads values i → May a w m reads values i
+  part-of-remainder a c w m reads values i all = subst (AllByRecursion (Loads w places m reads)) (loads_remainder reads (at i values) a c) all
+
+  -- of a register that holds what such an operation wants
+  pub remainder-arm : (x a p : Expr) (c d s : ℕ) (c0 c1 c2 c3 : List ℕ) → x ≡ e.Remainder a c → p ≡ a → Left c0 c1 k p
+      → MakesScalar c1 c2 scope own s Nothing (λ hart reads values. d) → TurnsBy c2 c3 own.group k s (λ n. n ≡ d) (λ y n. word.remainder y c) → Left c0 c3 k x
+  remainder-arm x a p c d s c0 c1 c2 c3 eo ep first second z =
+      lanes-as c0 c3 x (e.Remainder a c) eo
+      (lanes-of c0 c3 (e.Remainder a c) (λ w m reads values i. May a w m reads values i × Nothing w m reads values) (λ reads values i. word.remainder (value reads (with own.counter i values) a) c)
+      (λ w m reads values n some all i lt. (part-of-remainder a c w m reads values i (all i lt), tt)) (λ reads values i. sym (value_remainder reads (at i values) a c))
+      (each-by places scope own k in-stack s c0 c1 c2 c3 (May a) Nothing (λ reads values i. value reads (with own.counter i values) a) (λ reads values. d) (λ n. n ≡ d) (λ y n. word.remainder y c)
+      (each-of c0 c1 k a (subst (Left c0 c1 k) ep first)) second z (λ reads values small. refl)))
+
+  -- ---- choices
+
+  pub choice-arm : (x c a b o p q : Expr) (next last : ℕ) (c0 c1 c2 c3 c4 : List ℕ) → k + 2 < slots own.group → x ≡ e.Select c a b → o ≡ c → p ≡ a → q ≡ b → next ≡ k + 1 → last ≡ k + 2
+      → Left c0 c1 k o → Left c1 c2 next p → Left c2 c3 last q → Chooses c3 c4 own.group k → Left c0 c4 k x
+  choice-arm x c a b o p q next last c0 c1 c2 c3 c4 room es eo ep eq en el condition first second z =
+      let vc : Reads → Values → ℕ → ℕ = (λ reads values i. value reads (with own.counter i values) c) in
+      let va : Reads → Values → ℕ → ℕ = (λ reads values i. value reads (with own.counter i values) a) in
+      let vb : Reads → Values → ℕ → ℕ = (λ reads values i. value reads (with own.counter i values) b) in
+      lanes-as c0 c4 x (e.Select c a b) es
+      (lanes-of c0 c4 (e.Select c a b) (λ w m reads values i. May c w m reads values i × (May a w m reads values i × May b w m reads values i))
+      (λ reads values i. if vc reads values i == 0 then vb reads values i else va reads values i)
+      (λ w m reads values n some all i lt.
+      let each = all_parts (Loads w places m reads) (loads reads (at i values) c) (loads reads (at i values) a ++ loads reads (at i values) b)
+      (subst (AllByRecursion (Loads w places m reads)) (loads_select reads (at i values) c a b) (all i lt)) in
+      (each.0, all_parts (Loads w places m reads) (loads reads (at i values) a) (loads reads (at i values) b) each.1))
+      (λ reads values i. sym (value_select reads (at i values) c a b))
+      (each-three places scope own k in-stack room c0 c1 c2 c3 c4 (May c) (May a) (May b) vc va vb (each-of c0 c1 k c (subst (Left c0 c1 k) eo condition))
+      (each-of c1 c2 (k + 1) a (subst (λ j. Left c1 c2 j a) en (subst (Left c1 c2 next) ep first))) (each-of c2 c3 (k + 2) b (subst (λ j. Left c2 c3 j b) el (subst (Left c2 c3 last) eq second))) z))
+
+  pub choice-next : (x c a b o p q : Expr) (next last : ℕ) (c0 c1 c2 c3 c4 : List ℕ) → x ≡ e.Select c a b → o ≡ c → p ≡ a → q ≡ b → next ≡ k + 1 → last ≡ next + 1 → next + 1 < slots own.group
+      → Left c0 c1 k o → Left c1 c2 next p → Left c2 c3 last q → Chooses c3 c4 own.group k → Left c0 c4 k x
+  choice-next x c a b o p q next last c0 c1 c2 c3 c4 es eo ep eq en el room condition first second z =
+      let e2 : next + 1 ≡ k + 2 = omega (arith, en) in
+      choice-arm x c a b o p q next last c0 c1 c2 c3 c4 (subst (λ n. n < slots own.group) e2 room) es eo ep eq en (el ∙ e2) condition first second z
 
   -- ---- pixels
 

@@ -1,6 +1,6 @@
 -- Code over lanes that goes on behind other code.
 use Rattle.std.proofs.Common.{◌≡◌, ℕ, ◌+◌, ◌*◌, ◌^◌, ◌<◌, ◌≤◌, List, [], ◌∷◌, ◌++◌, length, refl, ◌∙◌, sym, subst, arith, inl, inr}
-use Rattle.std.specs.Prelude.{◌≢◌, ◌⊎◌, ◌%◌}
+use Rattle.std.specs.Prelude.{◌≢◌, ◌⊎◌, ◌%◌, ◌==◌, if◌then◌else◌}
 use Rattle.std.proofs.lemmas.Bool.{cases_lt}
 use Rattle.rv_insn.specs.declared.instructions.Insn.{Insn}
 use Rattle.rv_insn.specs.declared.instructions.Insn.TheVariants.{Vector}
@@ -27,7 +27,7 @@ use Rattle.task_code_lanes.proofs.Slots.{slot-lies}
 use Rattle.task_code_lanes.proofs.Rows as rows
 use Rattle.task_code_lane_values.specs.declared.vectorized.Lanes.{Lanes}
 use Rattle.task_code_lane_values.specs.Leaving.{IsUnder, LeavesLanes}
-use Rattle.task_code_lane_values.specs.inner.Parts.{MakesScalar, MakesEach, TurnsOne, TurnsBy, TurnsTwo, Nothing}
+use Rattle.task_code_lane_values.specs.inner.Parts.{MakesScalar, MakesEach, TurnsOne, TurnsBy, TurnsTwo, Chooses, Nothing}
 
 -- ---- what stays
 
@@ -66,6 +66,13 @@ under-next group k q l (inr (inr h)) = let s = slot-lies group k l in let e = s.
 -- a group's lanes stay where the next one is made
 pub slot-under : (group : Group) (k i n : ℕ) → k < slots group → n ≤ 4 * registers group → i < n → IsUnder group (k + 1) (lane (slot group k) i)
 slot-under group k i n l few b = let s = slot-lies group k l in let e = s.next in let low = s.low in inr (inr (omega (arith, low), omega (arith, e, b, few)))
+
+-- two groups further
+pub under-two : (group : Group) (k q : ℕ) → k + 1 < slots group → IsUnder group (k + 1) q → IsUnder group (k + 2) q
+under-two group k q l h = let e : k + 1 + 1 ≡ k + 2 = omega arith in subst (λ j. IsUnder group j q) e (under-next group (k + 1) q l h)
+
+pub slot-under-two : (group : Group) (k i n : ℕ) → k + 1 < slots group → n ≤ 4 * registers group → i < n → IsUnder group (k + 2) (lane (slot group (k + 1)) i)
+slot-under-two group k i n l few b = let e : k + 1 + 1 ≡ k + 2 = omega arith in subst (λ j. IsUnder group j (lane (slot group (k + 1)) i)) e (slot-under group (k + 1) i n l few b)
 
 pub vl-under : (group : Group) (k : ℕ) → IsUnder group k vl_number
 vl-under group k = inr (inl (inl refl))
@@ -253,5 +260,40 @@ module _ (places : Places) (scope : List Held) (own : Lanes) (k : ℕ) (in-stack
           value = t.value;
           small = t.small;
           keeps = λ u h. t.keeps u h ∙ q.keeps u (under-next own.group k u in-stack h) ∙ p.keeps u h;
+        };
+  }
+
+  -- a choice of two groups by a third one
+  pub each-three : k + 2 < slots own.group → (c0 c1 c2 c3 c4 : List ℕ) (mc ma mb : MayEach) (xc xa xb : Reads → Values → ℕ → ℕ) → MakesEach c0 c1 places scope own k mc xc
+      → MakesEach c1 c2 places scope own (k + 1) ma xa → MakesEach c2 c3 places scope own (k + 2) mb xb → Chooses c3 c4 own.group k
+      → MakesEach c0 c4 places scope own k (λ w m reads values i. mc w m reads values i × (ma w m reads values i × mb w m reads values i))
+      (λ reads values i. if xc reads values i == 0 then xb reads values i else xa reads values i)
+  each-three room c0 c1 c2 c3 c4 mc ma mb xc xa xb o x y z = record {
+    insns = o.insns ++ (x.insns ++ (y.insns ++ z.insns));
+    emits = emits_then o.emits (emits_then x.emits (emits_then y.emits z.emits));
+    does = λ w m values reads n f l are holders knows has some few may.
+        let first = with own.counter 0 values in
+        let in-next : k + 1 < slots own.group = omega (arith, room) in
+        let s = o.does w m values reads n f l are holders knows has some few (λ i b. (may i b).0) in
+        let ks = known w.hart first k f s.after holders s.keeps knows in
+        let hs = lanes-under w m l own.group n k f s.after s.keeps has in
+        let p = x.does w m values reads n s.after l are holders ks hs some few (λ i b. (may i b).1.0) in
+        let kp = known w.hart first (k + 1) s.after p.after holders p.keeps ks in
+        let hp = lanes-under w m l own.group n (k + 1) s.after p.after p.keeps hs in
+        let q = y.does w m values reads n p.after l are holders kp hp some few (λ i b. (may i b).1.1) in
+        let hq = lanes-under w m l own.group n (k + 2) p.after q.after q.keeps hp in
+        let up : (u : ℕ) → IsUnder own.group (k + 1) u → IsUnder own.group (k + 2) u = (λ u h. under-two own.group k u in-next h) in
+        let ec : (i : ℕ) → i < n → q.after (lane (slot own.group k) i) ≡ xc reads values i =
+        (λ i b. let h = slot-under own.group k i n in-stack few b in q.keeps (lane (slot own.group k) i) (up (lane (slot own.group k) i) h) ∙ p.keeps (lane (slot own.group k) i) h ∙ s.value i b) in
+        let ex : (i : ℕ) → i < n → q.after (lane (slot own.group (k + 1)) i) ≡ xa reads values i =
+        (λ i b. q.keeps (lane (slot own.group (k + 1)) i) (slot-under-two own.group k i n in-next few b) ∙ p.value i b) in
+        let t = z.does w m n q.after (xc reads values) (xa reads values) (xb reads values) l hq ec ex q.value p.small q.small in
+        record {
+          after = t.after;
+          line = line-then w o.insns (x.insns ++ (y.insns ++ z.insns)) f s.after t.after m m m s.line
+              (line-then w x.insns (y.insns ++ z.insns) s.after p.after t.after m m m p.line (line-then w y.insns z.insns p.after q.after t.after m m m q.line t.line));
+          value = t.value;
+          small = t.small;
+          keeps = λ u h. let h1 = under-next own.group k u in-stack h in t.keeps u h ∙ q.keeps u (up u h1) ∙ p.keeps u h1 ∙ s.keeps u h;
         };
   }

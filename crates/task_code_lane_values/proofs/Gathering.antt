@@ -6,8 +6,6 @@ use Rattle.std.specs.List.{AllByRecursion}
 use Rattle.rv_insn.specs.declared.instructions.Insn.TheVariants.{Alu, Vector}
 use Rattle.rv_insn.specs.declared.operations.AluOp.TheVariants as alus
 use Rattle.rv_insn.specs.declared.vector_instructions.VectorInsn.TheVariants as v
-use Rattle.rv_insn.specs.declared.vector_instructions.Addressing.TheVariants as addressings
-use Rattle.rv_insn.specs.declared.vector_operations.ElementWidth.TheVariants.{Bits32}
 use Rattle.rv_insn.specs.declared.vector_operations.ShiftViOp.TheVariants as shifts
 use Rattle.lanes.specs.Words as lanes
 use Rattle.halide_pipeline.specs.declared.expressions.Operation.TheVariants as op
@@ -21,15 +19,16 @@ use Rattle.loop_ir.specs.Counters.{Values, with}
 use Rattle.loop_ir.specs.Expressions.{value, loads, linear_value, sum_of}
 use Rattle.multi_hart_logic.specs.Alone.{World}
 use Rattle.multi_hart_logic.specs.Paths.{lane}
-use Rattle.multi_hart_logic.proofs.Paths.{line-then}
+use Rattle.multi_hart_logic.proofs.Paths.{line-then, stay}
 use Rattle.multi_hart_logic.proofs.VectorRows as vector
+use Rattle.task_code_scalar.specs.declared.places.Pixels.{Pixels}
 use Rattle.task_code_scalar.specs.declared.places.Pixels.TheVariants as pixels
 use Rattle.task_code_scalar.specs.declared.places.Place.{Place}
 use Rattle.task_code_scalar.specs.declared.places.Places.{Places}
 use Rattle.task_code_scalar.specs.Code.{address, place_of, pixel_bytes}
 use Rattle.task_code_scalar.specs.Evaluation.{Loads, LoadsAt}
 use Rattle.task_code_scalar.specs.Words.{Emits}
-use Rattle.task_code_scalar.proofs.Spelling.{emits_then}
+use Rattle.task_code_scalar.proofs.Spelling.{emits_then, emits-none}
 use Rattle.task_code_scalar.proofs.Values.{alu-sets}
 use Rattle.task_code_registers.specs.declared.scopes.Form.{Form}
 use Rattle.task_code_registers.specs.declared.scopes.Held.{Held}
@@ -50,7 +49,7 @@ use Rattle.task_code_lanes.proofs.Slots.{slot-lies}
 use Rattle.task_code_lanes.proofs.Rows as rows
 use Rattle.task_code_lane_values.specs.declared.vectorized.Lanes.{Lanes}
 use Rattle.task_code_lane_values.specs.Leaving.{MakesLanes}
-use Rattle.task_code_lane_values.specs.inner.Parts.{IsSteady, MakesScalar, MakesSteady, Nothing, AnyWord, TurnsOne, TurnsBy, TurnsTwo, MakesRowPointer}
+use Rattle.task_code_lane_values.specs.inner.Parts.{IsSteady, LoadsAlong, LoadsFrom, MakesScalar, MakesSteady, Nothing, AnyWord, TurnsOne, TurnsBy, TurnsTwo, MakesRowPointer}
 use Rattle.task_code_lane_values.proofs.Arms.{May, each-of, lanes-of, load-has, load-first, load-second, load-value}
 use Rattle.task_code_lane_values.proofs.Composing.{each-one, each-by, each-two, left-of, scalar-as}
 use Rattle.task_code_lane_values.proofs.Loading.{pointer-scalar, each-dense, each-gathered}
@@ -73,38 +72,39 @@ row-number place b x y hart p eb =
     ∙ ap (λ k. ((s + c) % 2 ^ 32 + k) % 2 ^ 32) (e1 ∙ ap (λ n. n % 2 ^ 32) e2) ∙ g ∙ ap (λ k. (s + k) % 2 ^ 32) (sym e3)
     ∙ ap (λ k. (s + k * (y * w + x)) % 2 ^ 32) (sym eb)
 
--- a word's distance from the beginning of its row
-pub column-reaches : (p : Place) (hart x y : ℕ) → p.pixels ≡ pixels.Words → address p hart x y < 2 ^ 32 → (address p hart 0 y % 2 ^ 32 + (x * 4) % 2 ^ 32) % 2 ^ 32 ≡ address p hart x y
-column-reaches p hart x y words low =
-    let s = p.start + p.distance * hart in
-    let q = y * p.width in
-    let eb : pixel_bytes p.pixels ≡ 4 = ap pixel_bytes words in
-    let l : s + 4 * (q + x) < 2 ^ 32 = subst (λ b. s + b * (q + x) < 2 ^ 32) eb low in
-    let g : ((s + 4 * (q + 0)) % 2 ^ 32 + (x * 4) % 2 ^ 32) % 2 ^ 32 ≡ s + 4 * (q + x) = omega (arith, l) in
-    ap (λ b. ((s + b * (q + 0)) % 2 ^ 32 + (x * 4) % 2 ^ 32) % 2 ^ 32) eb ∙ g ∙ ap (λ b. s + b * (q + x)) (sym eb)
+column-number : (t : Pixels) (s q x : ℕ) → s + pixel_bytes t * (q + x) < 2 ^ 32
+    → ((s + pixel_bytes t * (q + 0)) % 2 ^ 32 + (x * pixel_bytes t) % 2 ^ 32) % 2 ^ 32 ≡ s + pixel_bytes t * (q + x)
+column-number pixels.Words s q x low = omega (arith, low)
+column-number pixels.Bytes s q x low = omega (arith, low)
 
--- and where it goes on from word to word
-pub row-reaches : (p : Place) (hart x c y i : ℕ) → p.pixels ≡ pixels.Words → c ≡ (x + i) % 2 ^ 32 → address p hart c y < 2 ^ 32 → (address p hart x y % 2 ^ 32 + i * 4) % 2 ^ 32 ≡ address p hart c y
-row-reaches p hart x c y i words ec low =
-    let s = p.start + p.distance * hart in
-    let q = y * p.width in
-    let eb : pixel_bytes p.pixels ≡ 4 = ap pixel_bytes words in
-    let l : s + 4 * (q + c) < 2 ^ 32 = subst (λ b. s + b * (q + c) < 2 ^ 32) eb low in
-    let g : ((s + 4 * (q + x)) % 2 ^ 32 + i * 4) % 2 ^ 32 ≡ s + 4 * (q + c) = omega (arith, l, ec) in
-    ap (λ b. ((s + b * (q + x)) % 2 ^ 32 + i * 4) % 2 ^ 32) eb ∙ g ∙ ap (λ b. s + b * (q + c)) (sym eb)
+row-number-goes : (t : Pixels) (s q x c i : ℕ) → c ≡ (x + i) % 2 ^ 32 → s + pixel_bytes t * (q + c) < 2 ^ 32
+    → ((s + pixel_bytes t * (q + x)) % 2 ^ 32 + i * pixel_bytes t) % 2 ^ 32 ≡ s + pixel_bytes t * (q + c)
+row-number-goes pixels.Words s q x c i ec low = omega (arith, ec, low)
+row-number-goes pixels.Bytes s q x c i ec low = omega (arith, ec, low)
+
+all-number : (t : Pixels) (s q x : ℕ) → s + pixel_bytes t * (q + x) < 2 ^ 32
+    → ((s + pixel_bytes t * 0) % 2 ^ 32 + ((x + q % 2 ^ 32) % 2 ^ 32 * pixel_bytes t) % 2 ^ 32) % 2 ^ 32 ≡ s + pixel_bytes t * (q + x)
+all-number pixels.Words s q x low = omega (arith, low)
+all-number pixels.Bytes s q x low = omega (arith, low)
+
+-- a pixel's distance from the beginning of its row
+pub column-reaches : (p : Place) (hart x y : ℕ) → address p hart x y < 2 ^ 32
+    → (address p hart 0 y % 2 ^ 32 + (x * pixel_bytes p.pixels) % 2 ^ 32) % 2 ^ 32 ≡ address p hart x y
+column-reaches p hart x y low = column-number p.pixels (p.start + p.distance * hart) (y * p.width) x low
+
+-- and where it goes on from pixel to pixel
+pub row-reaches : (p : Place) (hart x c y i : ℕ) → c ≡ (x + i) % 2 ^ 32 → address p hart c y < 2 ^ 32
+    → (address p hart x y % 2 ^ 32 + i * pixel_bytes p.pixels) % 2 ^ 32 ≡ address p hart c y
+row-reaches p hart x c y i ec low = row-number-goes p.pixels (p.start + p.distance * hart) (y * p.width) x c i ec low
 
 -- from numbers of pixels
-pub number-reaches : (p : Place) (hart x y : ℕ) → p.pixels ≡ pixels.Words → address p hart x y < 2 ^ 32
-    → (address p hart 0 0 % 2 ^ 32 + ((x + (y * p.width) % 2 ^ 32) % 2 ^ 32 * 4) % 2 ^ 32) % 2 ^ 32 ≡ address p hart x y
-number-reaches p hart x y words low =
+pub number-reaches : (p : Place) (hart x y : ℕ) → address p hart x y < 2 ^ 32
+    → (address p hart 0 0 % 2 ^ 32 + ((x + (y * p.width) % 2 ^ 32) % 2 ^ 32 * pixel_bytes p.pixels) % 2 ^ 32) % 2 ^ 32 ≡ address p hart x y
+number-reaches p hart x y low =
     let s = p.start + p.distance * hart in
     let q = y * p.width in
     let z : 0 * p.width + 0 ≡ 0 = omega arith in
-    let eb : pixel_bytes p.pixels ≡ 4 = ap pixel_bytes words in
-    let l : s + 4 * (q + x) < 2 ^ 32 = subst (λ b. s + b * (q + x) < 2 ^ 32) eb low in
-    let g : ((s + 4 * 0) % 2 ^ 32 + ((x + q % 2 ^ 32) % 2 ^ 32 * 4) % 2 ^ 32) % 2 ^ 32 ≡ s + 4 * (q + x) = omega (arith, l) in
-    ap (λ b. ((s + b * (0 * p.width + 0)) % 2 ^ 32 + ((x + q % 2 ^ 32) % 2 ^ 32 * 4) % 2 ^ 32) % 2 ^ 32) eb
-    ∙ ap (λ n. ((s + 4 * n) % 2 ^ 32 + ((x + q % 2 ^ 32) % 2 ^ 32 * 4) % 2 ^ 32) % 2 ^ 32) z ∙ g ∙ ap (λ b. s + b * (q + x)) (sym eb)
+    ap (λ n. ((s + pixel_bytes p.pixels * n) % 2 ^ 32 + ((x + q % 2 ^ 32) % 2 ^ 32 * pixel_bytes p.pixels) % 2 ^ 32) % 2 ^ 32) z ∙ all-number p.pixels s q x low
 
 -- ---- pointers to a column of the first iteration and a row
 
@@ -181,133 +181,141 @@ times-four-made group k in-stack c0 c1 z = record {
       (vector.shift-vi w f m l (registers group) has.configured shifts.Vsll (slot group k) (slot group k) 2 lies.is_group lies.is_group) (λ i b. ap (λ y. (y * 4) % 2 ^ 32) (hx i b))));
 }
 
-pub times-four-as : (group : Group) (k : ℕ) → k < slots group → (a : ℕ) (c0 c1 : List ℕ) → a ≡ slot group k → Emits c0 c1 (Vector (v.ShiftVi shifts.Vsll a a 2 true) ∷ [])
-    → TurnsOne c0 c1 group k (λ x. (x * 4) % 2 ^ 32)
-times-four-as group k in-stack a c0 c1 ea z = times-four-made group k in-stack c0 c1 (subst (λ y. Emits c0 c1 (Vector (v.ShiftVi shifts.Vsll y y 2 true) ∷ [])) ea z)
+pub offsets-words : (group : Group) (k : ℕ) → k < slots group → (own : Pixels) (a : ℕ) (c0 c1 : List ℕ) → own ≡ pixels.Words → a ≡ slot group k
+    → Emits c0 c1 (Vector (v.ShiftVi shifts.Vsll a a 2 true) ∷ []) → TurnsOne c0 c1 group k (λ x. (x * pixel_bytes own) % 2 ^ 32)
+offsets-words group k in-stack own a c0 c1 is ea z =
+    subst (λ p. TurnsOne c0 c1 group k (λ x. (x * pixel_bytes p) % 2 ^ 32)) (sym is)
+    (times-four-made group k in-stack c0 c1 (subst (λ y. Emits c0 c1 (Vector (v.ShiftVi shifts.Vsll y y 2 true) ∷ [])) ea z))
+
+pub offsets-bytes : (group : Group) (k : ℕ) (own : Pixels) (c : List ℕ) → own ≡ pixels.Bytes → TurnsOne c c group k (λ x. (x * pixel_bytes own) % 2 ^ 32)
+offsets-bytes group k own c is = subst (λ p. TurnsOne c c group k (λ x. (x * pixel_bytes p) % 2 ^ 32)) (sym is) (record {
+  insns = [];
+  emits = emits-none c;
+  does = λ w m n f x l has hx lx.
+      record {
+        after = f;
+        line = λ at s. stay w at f m;
+        value = λ i b. let low = lx i b in let g : x i ≡ (x i * 1) % 2 ^ 32 = omega (arith, low) in hx i b ∙ g;
+        small = λ i b. omega arith;
+        keeps = λ q h. refl;
+      };
+})
 
 module _ (places : Places) (scope : List Held) (own : Lanes) (k : ℕ) (in-stack : k < slots own.group) (source : Source) (place : Place) (ep : place ≡ place_of places source)
-    (words : place.pixels ≡ pixels.Words) where
-  abbrev Left : List ℕ → List ℕ → ℕ → Expr → Type 0
-  Left c0 c1 j x = MakesLanes c0 c1 places scope own j x
+  where
+    abbrev Left : List ℕ → List ℕ → ℕ → Expr → Type 0
+    Left c0 c1 j x = MakesLanes c0 c1 places scope own j x
 
-  abbrev At : ℕ → Values → Expr → Reads → ℕ
-  At i values x reads = value reads (with own.counter i values) x
+    abbrev At : ℕ → Values → Expr → Reads → ℕ
+    At i values x reads = value reads (with own.counter i values) x
 
-  abbrev HasPoint : Expr → Expr → World → List ℕ → Reads → Values → ℕ → Type 0
-  HasPoint x y w m reads values i =
-      LoadsAt w (place_of places source) m (value reads (with own.counter i values) x) (value reads (with own.counter i values) y)
-      (reads source (value reads (with own.counter i values) x) (value reads (with own.counter i values) y))
+    abbrev HasPoint : Expr → Expr → World → List ℕ → Reads → Values → ℕ → Type 0
+    HasPoint x y w m reads values i =
+        LoadsAt w (place_of places source) m (value reads (with own.counter i values) x) (value reads (with own.counter i values) y)
+        (reads source (value reads (with own.counter i values) x) (value reads (with own.counter i values) y))
 
-  -- columns in lanes, of a row that all iterations have
-  pub gather-made : (zero : Linear) (b : ℕ) (c1 c2 c3 c4 : List ℕ) (y : Expr) → ((values : Values) → linear_value values zero ≡ 0) → IsSteady own.counter y
-      → TurnsOne c1 c2 own.group k (λ x. (x * 4) % 2 ^ 32) → MakesRowPointer c2 c3 places scope own b place zero y
-      → Emits c3 c4 (Vector (v.LoadElements Bits32 (slot own.group k) b (addressings.Indexed (slot own.group k)) true) ∷ [])
-      → (c0 : List ℕ) (x : Expr) → Left c0 c1 k x → Left c0 c4 k (e.Load source x y)
-  gather-made zero b c1 c2 c3 c4 y none steady t p z c0 x first =
-      let pointer : ℕ → Reads → Values → ℕ = (λ hart reads values. address place hart (linear_value (with own.counter 0 values) zero) (value reads (with own.counter 0 values) y) % 2 ^ 32) in
-      let mb : World → List ℕ → Reads → Values → Type 0 = (λ w m reads values. AllByRecursion (Loads w places m reads) (loads reads (with own.counter 0 values) y)) in
-      lanes-of places scope own k in-stack c0 c4 (e.Load source x y)
-      (λ w m reads values i. May places scope own k in-stack x w m reads values i × (mb w m reads values × HasPoint x y w m reads values i))
-      (λ reads values i. reads source (value reads (with own.counter i values) x) (value reads (with own.counter i values) y))
-      (λ w m reads values n some all i lt. (
-        load-first places scope own k in-stack source x y w m reads values i (all i lt),
-        (load-second places scope own k in-stack source x y w m reads values 0 (all 0 (omega (arith, some))), load-has places scope own k in-stack source x y w m reads values i (all i lt)),
-      ))
-      (λ reads values i. sym (load-value places scope own k in-stack source x y reads values i))
-      (each-gathered places scope own k in-stack source place ep words (λ reads values i. value reads (with own.counter i values) x) (λ reads values i. value reads (with own.counter i values) y)
-      b c0 c2 c3 c4 (May places scope own k in-stack x) mb (λ reads values i. (value reads (with own.counter i values) x * 4) % 2 ^ 32) pointer
-      (λ hart reads values i low.
-      let xv = value reads (with own.counter i values) x in
-      ap (λ c. (address place hart c (value reads (with own.counter 0 values) y) % 2 ^ 32 + (xv * 4) % 2 ^ 32) % 2 ^ 32) (none (with own.counter 0 values))
-      ∙ ap (λ r. (address place hart 0 r % 2 ^ 32 + (xv * 4) % 2 ^ 32) % 2 ^ 32) (sym (steady reads values i))
-      ∙ column-reaches place hart xv (value reads (with own.counter i values) y) words low)
-      (each-one places scope own k in-stack c0 c1 c2 (May places scope own k in-stack x) (λ reads values i. value reads (with own.counter i values) x) (λ n. (n * 4) % 2 ^ 32)
-      (each-of places scope own k in-stack c0 c1 k x first) t) p z)
+    -- columns in lanes, of a row that all iterations have
+    pub gather-made : (zero : Linear) (b : ℕ) (c1 c2 c3 c4 : List ℕ) (y : Expr) → ((values : Values) → linear_value values zero ≡ 0) → IsSteady own.counter y
+        → TurnsOne c1 c2 own.group k (λ x. (x * pixel_bytes place.pixels) % 2 ^ 32) → MakesRowPointer c2 c3 places scope own b place zero y
+        → LoadsFrom c3 c4 own.group k b place.pixels
+        → (c0 : List ℕ) (x : Expr) → Left c0 c1 k x → Left c0 c4 k (e.Load source x y)
+    gather-made zero b c1 c2 c3 c4 y none steady t p z c0 x first =
+        let pointer : ℕ → Reads → Values → ℕ = (λ hart reads values. address place hart (linear_value (with own.counter 0 values) zero) (value reads (with own.counter 0 values) y) % 2 ^ 32) in
+        let mb : World → List ℕ → Reads → Values → Type 0 = (λ w m reads values. AllByRecursion (Loads w places m reads) (loads reads (with own.counter 0 values) y)) in
+        lanes-of places scope own k in-stack c0 c4 (e.Load source x y)
+        (λ w m reads values i. May places scope own k in-stack x w m reads values i × (mb w m reads values × HasPoint x y w m reads values i))
+        (λ reads values i. reads source (value reads (with own.counter i values) x) (value reads (with own.counter i values) y))
+        (λ w m reads values n some all i lt. (
+          load-first places scope own k in-stack source x y w m reads values i (all i lt),
+          (load-second places scope own k in-stack source x y w m reads values 0 (all 0 (omega (arith, some))), load-has places scope own k in-stack source x y w m reads values i (all i lt)),
+        ))
+        (λ reads values i. sym (load-value places scope own k in-stack source x y reads values i))
+        (each-gathered places scope own k in-stack source place ep (λ reads values i. value reads (with own.counter i values) x) (λ reads values i. value reads (with own.counter i values) y)
+        b c0 c2 c3 c4 (May places scope own k in-stack x) mb (λ reads values i. (value reads (with own.counter i values) x * pixel_bytes place.pixels) % 2 ^ 32) pointer
+        (λ hart reads values i low.
+        let xv = value reads (with own.counter i values) x in
+        ap (λ c. (address place hart c (value reads (with own.counter 0 values) y) % 2 ^ 32 + (xv * pixel_bytes place.pixels) % 2 ^ 32) % 2 ^ 32) (none (with own.counter 0 values))
+        ∙ ap (λ r. (address place hart 0 r % 2 ^ 32 + (xv * pixel_bytes place.pixels) % 2 ^ 32) % 2 ^ 32) (sym (steady reads values i))
+        ∙ column-reaches place hart xv (value reads (with own.counter i values) y) low)
+        (each-one places scope own k in-stack c0 c1 c2 (May places scope own k in-stack x) (λ reads values i. value reads (with own.counter i values) x) (λ n. (n * pixel_bytes place.pixels) % 2 ^ 32)
+        (each-of places scope own k in-stack c0 c1 k x first) t) p z)
 
-  -- columns that go on by one, of such a row
-  pub row-made : (column : Linear) (b stride : ℕ) (c0 c1 c2 : List ℕ) (x y : Expr) → IsSum x column → stride ≡ strides own.counter column.terms % 2 ^ 32 → stride ≡ 1 → IsSteady own.counter y
-      → MakesRowPointer c0 c1 places scope own b place column y → Emits c1 c2 (Vector (v.LoadElements Bits32 (slot own.group k) b addressings.UnitStride true) ∷ [])
-      → Left c0 c2 k (e.Load source x y)
-  row-made column b stride c0 c1 c2 x y sum es one steady p z =
-      let pointer : ℕ → Reads → Values → ℕ = (λ hart reads values. address place hart (linear_value (with own.counter 0 values) column) (value reads (with own.counter 0 values) y) % 2 ^ 32) in
-      let mb : World → List ℕ → Reads → Values → Type 0 = (λ w m reads values. AllByRecursion (Loads w places m reads) (loads reads (with own.counter 0 values) y)) in
-      let e1 : 1 ≡ strides own.counter column.terms % 2 ^ 32 = sym one ∙ es in
-      let goes : (values : Values) (i : ℕ) → linear_value (with own.counter i values) column ≡ (linear_value (with own.counter 0 values) column + i) % 2 ^ 32 =
-      (λ values i.
-      let a = column.number + sum_of values (others_of own.counter column.terms) in
-      let g : (a + i * 1) % 2 ^ 32 ≡ ((a + 0 * 1) % 2 ^ 32 + i) % 2 ^ 32 = omega arith in
-      linear-with own.counter i 1 values column e1 ∙ g ∙ ap (λ n. (n + i) % 2 ^ 32) (sym (linear-with own.counter 0 1 values column e1))) in
-      lanes-of places scope own k in-stack c0 c2 (e.Load source x y)
-      (λ w m reads values i. mb w m reads values × HasPoint x y w m reads values i)
-      (λ reads values i. reads source (value reads (with own.counter i values) x) (value reads (with own.counter i values) y))
-      (λ w m reads values n some all i lt.
-      (load-second places scope own k in-stack source x y w m reads values 0 (all 0 (omega (arith, some))), load-has places scope own k in-stack source x y w m reads values i (all i lt)))
-      (λ reads values i. sym (load-value places scope own k in-stack source x y reads values i))
-      (each-dense places scope own k in-stack source place ep words (λ reads values i. value reads (with own.counter i values) x) (λ reads values i. value reads (with own.counter i values) y)
-      b c0 c1 c2 mb pointer
-      (λ hart reads values i low.
-      ap (λ r. (address place hart (linear_value (with own.counter 0 values) column) r % 2 ^ 32 + i * 4) % 2 ^ 32) (sym (steady reads values i))
-      ∙ row-reaches place hart (linear_value (with own.counter 0 values) column) (value reads (with own.counter i values) x) (value reads (with own.counter i values) y) i words
-      (sum.value_is reads (with own.counter i values) ∙ goes values i) low) p z)
+    -- columns that go on by one, of such a row
+    pub row-made : (column : Linear) (b stride : ℕ) (c0 c1 c2 : List ℕ) (x y : Expr) → IsSum x column → stride ≡ strides own.counter column.terms % 2 ^ 32 → stride ≡ 1 → IsSteady own.counter y
+        → MakesRowPointer c0 c1 places scope own b place column y → LoadsAlong c1 c2 own.group k b place.pixels
+        → Left c0 c2 k (e.Load source x y)
+    row-made column b stride c0 c1 c2 x y sum es one steady p z =
+        let pointer : ℕ → Reads → Values → ℕ = (λ hart reads values. address place hart (linear_value (with own.counter 0 values) column) (value reads (with own.counter 0 values) y) % 2 ^ 32) in
+        let mb : World → List ℕ → Reads → Values → Type 0 = (λ w m reads values. AllByRecursion (Loads w places m reads) (loads reads (with own.counter 0 values) y)) in
+        let e1 : 1 ≡ strides own.counter column.terms % 2 ^ 32 = sym one ∙ es in
+        let goes : (values : Values) (i : ℕ) → linear_value (with own.counter i values) column ≡ (linear_value (with own.counter 0 values) column + i) % 2 ^ 32 =
+        (λ values i.
+        let a = column.number + sum_of values (others_of own.counter column.terms) in
+        let g : (a + i * 1) % 2 ^ 32 ≡ ((a + 0 * 1) % 2 ^ 32 + i) % 2 ^ 32 = omega arith in
+        linear-with own.counter i 1 values column e1 ∙ g ∙ ap (λ n. (n + i) % 2 ^ 32) (sym (linear-with own.counter 0 1 values column e1))) in
+        lanes-of places scope own k in-stack c0 c2 (e.Load source x y)
+        (λ w m reads values i. mb w m reads values × HasPoint x y w m reads values i)
+        (λ reads values i. reads source (value reads (with own.counter i values) x) (value reads (with own.counter i values) y))
+        (λ w m reads values n some all i lt.
+        (load-second places scope own k in-stack source x y w m reads values 0 (all 0 (omega (arith, some))), load-has places scope own k in-stack source x y w m reads values i (all i lt)))
+        (λ reads values i. sym (load-value places scope own k in-stack source x y reads values i))
+        (each-dense places scope own k in-stack source place ep (λ reads values i. value reads (with own.counter i values) x) (λ reads values i. value reads (with own.counter i values) y)
+        b c0 c1 c2 mb pointer
+        (λ hart reads values i low.
+        ap (λ r. (address place hart (linear_value (with own.counter 0 values) column) r % 2 ^ 32 + i * pixel_bytes place.pixels) % 2 ^ 32) (sym (steady reads values i))
+        ∙ row-reaches place hart (linear_value (with own.counter 0 values) column) (value reads (with own.counter i values) x) (value reads (with own.counter i values) y) i
+        (sum.value_is reads (with own.counter i values) ∙ goes values i) low) p z)
 
-  -- columns and rows in lanes
-  pub scattered-made : (zero : Linear) (form start : Form) (most s b : ℕ) (c2 c3 c4 c5 c6 c7 c8 : List ℕ) → k + 1 < slots own.group → ((values : Values) → linear_value values zero ≡ 0)
-      → IsPoint place zero zero form → IsAt own.counter 0 form start → MakesScalar c2 c3 scope own s Nothing (λ hart reads values. place.width)
-      → TurnsBy c3 c4 own.group (k + 1) s AnyWord (word.applied op.Multiply) → TurnsTwo c4 c5 own.group k (word.applied op.Add) → TurnsOne c5 c6 own.group k (λ x. (x * 4) % 2 ^ 32)
-      → MakesHeld c6 c7 most scope address_register b (λ hart values. form_value hart values start)
-      → Emits c7 c8 (Vector (v.LoadElements Bits32 (slot own.group k) b (addressings.Indexed (slot own.group k)) true) ∷ [])
-      → (c0 c1 : List ℕ) (x y : Expr) → Left c0 c1 k x → Left c1 c2 (k + 1) y → Left c0 c8 k (e.Load source x y)
-  unfolding word.add word.multiply
-  scattered-made zero form start most s b c2 c3 c4 c5 c6 c7 c8 next none point at width product plus four p z c0 c1 x y first second =
-      let MayOf : Expr → World → List ℕ → Reads → Values → ℕ → Type 0 = May places scope own k in-stack in
-      let pointer : ℕ → Reads → Values → ℕ = (λ hart reads values. form_value hart (with own.counter 0 values) form) in
-      let vx : Reads → Values → ℕ → ℕ = (λ reads values i. value reads (with own.counter i values) x) in
-      let vy : Reads → Values → ℕ → ℕ = (λ reads values i. value reads (with own.counter i values) y) in
-      let scaled = each-by places scope own (k + 1) next s c1 c2 c3 c4 (MayOf y) Nothing vy (λ reads values. place.width) AnyWord (word.applied op.Multiply)
-      (each-of places scope own k in-stack c1 c2 (k + 1) y second) width product (λ reads values small. tt) in
-      let numbers = each-two places scope own k in-stack c0 c1 c4 c5 (MayOf x) (λ w m reads values i. MayOf y w m reads values i × Nothing w m reads values) vx
-      (λ reads values i. word.applied op.Multiply (vy reads values i) place.width) (word.applied op.Add) (each-of places scope own k in-stack c0 c1 k x first) scaled plus in
-      let offsets = each-one places scope own k in-stack c0 c5 c6 (λ w m reads values i. MayOf x w m reads values i × (MayOf y w m reads values i × Nothing w m reads values))
-      (λ reads values i. word.applied op.Add (vx reads values i) (word.applied op.Multiply (vy reads values i) place.width)) (λ n. (n * 4) % 2 ^ 32) numbers four in
-      lanes-of places scope own k in-stack c0 c8 (e.Load source x y)
-      (λ w m reads values i. (MayOf x w m reads values i × (MayOf y w m reads values i × Nothing w m reads values)) × (Nothing w m reads values × HasPoint x y w m reads values i))
-      (λ reads values i. reads source (value reads (with own.counter i values) x) (value reads (with own.counter i values) y))
-      (λ w m reads values n some all i lt. (
-        (load-first places scope own k in-stack source x y w m reads values i (all i lt), (load-second places scope own k in-stack source x y w m reads values i (all i lt), tt)),
-        (tt, load-has places scope own k in-stack source x y w m reads values i (all i lt)),
-      ))
-      (λ reads values i. sym (load-value places scope own k in-stack source x y reads values i))
-      (each-gathered places scope own k in-stack source place ep words vx vy
-      b c0 c6 c7 c8 (λ w m reads values i. MayOf x w m reads values i × (MayOf y w m reads values i × Nothing w m reads values)) Nothing
-      (λ reads values i. ((vx reads values i + (vy reads values i * place.width) % 2 ^ 32) % 2 ^ 32 * 4) % 2 ^ 32) pointer
-      (λ hart reads values i low.
-      let zv = linear_value (with own.counter 0 values) zero in
-      let o = ((vx reads values i + (vy reads values i * place.width) % 2 ^ 32) % 2 ^ 32 * 4) % 2 ^ 32 in
-      ap (λ n. (n + o) % 2 ^ 32) (point.value hart (with own.counter 0 values) ∙ ap (λ c. address place hart c zv % 2 ^ 32) (none (with own.counter 0 values))
-      ∙ ap (λ r. address place hart 0 r % 2 ^ 32) (none (with own.counter 0 values)))
-      ∙ number-reaches place hart (vx reads values i) (vy reads values i) words low)
-      offsets (pointer-scalar scope own form start most b c6 c7 at p) z)
+    -- columns and rows in lanes
+    pub scattered-made : (zero : Linear) (form start : Form) (most s b : ℕ) (c2 c3 c4 c5 c6 c7 c8 : List ℕ) → k + 1 < slots own.group → ((values : Values) → linear_value values zero ≡ 0)
+        → IsPoint place zero zero form → IsAt own.counter 0 form start → MakesScalar c2 c3 scope own s Nothing (λ hart reads values. place.width)
+        → TurnsBy c3 c4 own.group (k + 1) s AnyWord (word.applied op.Multiply) → TurnsTwo c4 c5 own.group k (word.applied op.Add) → TurnsOne c5 c6 own.group k (λ x. (x * pixel_bytes place.pixels) % 2 ^ 32)
+        → MakesHeld c6 c7 most scope address_register b (λ hart values. form_value hart values start)
+        → LoadsFrom c7 c8 own.group k b place.pixels
+        → (c0 c1 : List ℕ) (x y : Expr) → Left c0 c1 k x → Left c1 c2 (k + 1) y → Left c0 c8 k (e.Load source x y)
+    unfolding word.add word.multiply
+    scattered-made zero form start most s b c2 c3 c4 c5 c6 c7 c8 next none point at width product plus four p z c0 c1 x y first second =
+        let MayOf : Expr → World → List ℕ → Reads → Values → ℕ → Type 0 = May places scope own k in-stack in
+        let pointer : ℕ → Reads → Values → ℕ = (λ hart reads values. form_value hart (with own.counter 0 values) form) in
+        let vx : Reads → Values → ℕ → ℕ = (λ reads values i. value reads (with own.counter i values) x) in
+        let vy : Reads → Values → ℕ → ℕ = (λ reads values i. value reads (with own.counter i values) y) in
+        let scaled = each-by places scope own (k + 1) next s c1 c2 c3 c4 (MayOf y) Nothing vy (λ reads values. place.width) AnyWord (word.applied op.Multiply)
+        (each-of places scope own k in-stack c1 c2 (k + 1) y second) width product (λ reads values small. tt) in
+        let numbers = each-two places scope own k in-stack c0 c1 c4 c5 (MayOf x) (λ w m reads values i. MayOf y w m reads values i × Nothing w m reads values) vx
+        (λ reads values i. word.applied op.Multiply (vy reads values i) place.width) (word.applied op.Add) (each-of places scope own k in-stack c0 c1 k x first) scaled plus in
+        let offsets = each-one places scope own k in-stack c0 c5 c6 (λ w m reads values i. MayOf x w m reads values i × (MayOf y w m reads values i × Nothing w m reads values))
+        (λ reads values i. word.applied op.Add (vx reads values i) (word.applied op.Multiply (vy reads values i) place.width)) (λ n. (n * pixel_bytes place.pixels) % 2 ^ 32) numbers four in
+        lanes-of places scope own k in-stack c0 c8 (e.Load source x y)
+        (λ w m reads values i. (MayOf x w m reads values i × (MayOf y w m reads values i × Nothing w m reads values)) × (Nothing w m reads values × HasPoint x y w m reads values i))
+        (λ reads values i. reads source (value reads (with own.counter i values) x) (value reads (with own.counter i values) y))
+        (λ w m reads values n some all i lt. (
+          (load-first places scope own k in-stack source x y w m reads values i (all i lt), (load-second places scope own k in-stack source x y w m reads values i (all i lt), tt)),
+          (tt, load-has places scope own k in-stack source x y w m reads values i (all i lt)),
+        ))
+        (λ reads values i. sym (load-value places scope own k in-stack source x y reads values i))
+        (each-gathered places scope own k in-stack source place ep vx vy
+        b c0 c6 c7 c8 (λ w m reads values i. MayOf x w m reads values i × (MayOf y w m reads values i × Nothing w m reads values)) Nothing
+        (λ reads values i. ((vx reads values i + (vy reads values i * place.width) % 2 ^ 32) % 2 ^ 32 * pixel_bytes place.pixels) % 2 ^ 32) pointer
+        (λ hart reads values i low.
+        let zv = linear_value (with own.counter 0 values) zero in
+        let o = ((vx reads values i + (vy reads values i * place.width) % 2 ^ 32) % 2 ^ 32 * pixel_bytes place.pixels) % 2 ^ 32 in
+        ap (λ n. (n + o) % 2 ^ 32) (point.value hart (with own.counter 0 values) ∙ ap (λ c. address place hart c zv % 2 ^ 32) (none (with own.counter 0 values))
+        ∙ ap (λ r. address place hart 0 r % 2 ^ 32) (none (with own.counter 0 values)))
+        ∙ number-reaches place hart (vx reads values i) (vy reads values i) low)
+        offsets (pointer-scalar scope own form start most b c6 c7 at p) z)
 
-  -- as the emitters call them
-  pub row-as : (column : Linear) (b a : ℕ) (c0 c1 c2 : List ℕ) (x y : Expr) → IsSum x column → strides own.counter column.terms % 2 ^ 32 ≡ 1 → IsSteady own.counter y → a ≡ slot own.group k
-      → MakesRowPointer c0 c1 places scope own b place column y → Emits c1 c2 (Vector (v.LoadElements Bits32 a b addressings.UnitStride true) ∷ []) → Left c0 c2 k (e.Load source x y)
-  row-as column b a c0 c1 c2 x y sum one steady ea p z =
-      row-made column b (strides own.counter column.terms % 2 ^ 32) c0 c1 c2 x y sum refl one steady p
-      (subst (λ q. Emits c1 c2 (Vector (v.LoadElements Bits32 q b addressings.UnitStride true) ∷ [])) ea z)
+    -- as the emitters call them
+    pub row-as : (column : Linear) (b : ℕ) (c0 c1 c2 : List ℕ) (x y : Expr) → IsSum x column → strides own.counter column.terms % 2 ^ 32 ≡ 1 → IsSteady own.counter y
+        → MakesRowPointer c0 c1 places scope own b place column y → LoadsAlong c1 c2 own.group k b place.pixels → Left c0 c2 k (e.Load source x y)
+    row-as column b c0 c1 c2 x y sum one steady p z = row-made column b (strides own.counter column.terms % 2 ^ 32) c0 c1 c2 x y sum refl one steady p z
 
-  pub gather-as : (zero : Linear) (b a : ℕ) (c1 c2 c3 c4 : List ℕ) (y : Expr) → ((values : Values) → linear_value values zero ≡ 0) → IsSteady own.counter y → a ≡ slot own.group k
-      → TurnsOne c1 c2 own.group k (λ x. (x * 4) % 2 ^ 32) → MakesRowPointer c2 c3 places scope own b place zero y
-      → Emits c3 c4 (Vector (v.LoadElements Bits32 a b (addressings.Indexed a) true) ∷ []) → (c0 : List ℕ) (x : Expr) → Left c0 c1 k x → Left c0 c4 k (e.Load source x y)
-  gather-as zero b a c1 c2 c3 c4 y none steady ea t p z c0 x first =
-      gather-made zero b c1 c2 c3 c4 y none steady t p (subst (λ q. Emits c3 c4 (Vector (v.LoadElements Bits32 q b (addressings.Indexed q) true) ∷ [])) ea z) c0 x first
-
-pub scattered-as : (places : Places) (scope : List Held) (own : Lanes) (k : ℕ) → k + 1 < slots own.group → (source : Source) (place : Place) → place ≡ place_of places source → place.pixels ≡ pixels.Words
-    → (zero : Linear) (form start : Form) (most s b a : ℕ) (c2 c3 c4 c5 c6 c7 c8 : List ℕ) → ((values : Values) → linear_value values zero ≡ 0)
-    → IsPoint place zero zero form → IsAt own.counter 0 form start → a ≡ slot own.group k → MakesScalar c2 c3 scope own s Nothing (λ hart reads values. place.width)
-    → TurnsBy c3 c4 own.group (k + 1) s AnyWord (word.applied op.Multiply) → TurnsTwo c4 c5 own.group k (word.applied op.Add) → TurnsOne c5 c6 own.group k (λ x. (x * 4) % 2 ^ 32)
-    → MakesHeld c6 c7 most scope address_register b (λ hart values. form_value hart values start) → Emits c7 c8 (Vector (v.LoadElements Bits32 a b (addressings.Indexed a) true) ∷ [])
+pub scattered-as : (places : Places) (scope : List Held) (own : Lanes) (k : ℕ) → k + 1 < slots own.group → (source : Source) (place : Place) → place ≡ place_of places source
+    → (zero : Linear) (form start : Form) (most s b : ℕ) (c2 c3 c4 c5 c6 c7 c8 : List ℕ) → ((values : Values) → linear_value values zero ≡ 0)
+    → IsPoint place zero zero form → IsAt own.counter 0 form start → MakesScalar c2 c3 scope own s Nothing (λ hart reads values. place.width)
+    → TurnsBy c3 c4 own.group (k + 1) s AnyWord (word.applied op.Multiply) → TurnsTwo c4 c5 own.group k (word.applied op.Add)
+    → TurnsOne c5 c6 own.group k (λ x. (x * pixel_bytes place.pixels) % 2 ^ 32)
+    → MakesHeld c6 c7 most scope address_register b (λ hart values. form_value hart values start) → LoadsFrom c7 c8 own.group k b place.pixels
     → (c0 c1 : List ℕ) (x y : Expr) → MakesLanes c0 c1 places scope own k x → MakesLanes c1 c2 places scope own (k + 1) y → MakesLanes c0 c8 places scope own k (e.Load source x y)
-scattered-as places scope own k next source place ep words zero form start most s b a c2 c3 c4 c5 c6 c7 c8 none point at ea width product plus four p z c0 c1 x y first second =
+scattered-as places scope own k next source place ep zero form start most s b c2 c3 c4 c5 c6 c7 c8 none point at width product plus four p z c0 c1 x y first second =
     let in-stack : k < slots own.group = omega (arith, next) in
-    scattered-made places scope own k in-stack source place ep words zero form start most s b c2 c3 c4 c5 c6 c7 c8 next none point at width product plus four p
-    (subst (λ q. Emits c7 c8 (Vector (v.LoadElements Bits32 q b (addressings.Indexed q) true) ∷ [])) ea z) c0 c1 x y first second
+    scattered-made places scope own k in-stack source place ep zero form start most s b c2 c3 c4 c5 c6 c7 c8 next none point at width product plus four p z c0 c1 x y first second

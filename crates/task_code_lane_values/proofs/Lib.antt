@@ -1,4 +1,6 @@
 pub mod Arms
+pub mod Bytes
+pub mod Choosing
 pub mod Composing
 pub mod Dividing
 pub mod Gathering
@@ -6,5 +8,7 @@ pub mod Loading
 pub mod Moving
 pub mod Powers
 pub mod Signs
+pub mod Sparing
 pub mod Steady
 pub mod Turning
+pub mod Words

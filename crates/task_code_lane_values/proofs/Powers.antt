@@ -145,3 +145,8 @@ module _ (group : Group) (k : ℕ) (in-stack : k < slots group) (c e : ℕ) (few
 pub shifted-as : (group : Group) (k : ℕ) → k < slots group → (c e : ℕ) → e < 32 → c ≡ 2 ^ e → (a : ℕ) (c0 c1 : List ℕ) → a ≡ slot group k → Emits c0 c1 (Vector (v.ShiftVi shifts.Vsra a a e true) ∷ [])
     → TurnsOne c0 c1 group k (λ x. word.divide x c)
 shifted-as group k in-stack c e few is a c0 c1 ea z = quotient-shifted group k in-stack c e few is c0 c1 (subst (λ y. Emits c0 c1 (Vector (v.ShiftVi shifts.Vsra y y e true) ∷ [])) ea z)
+
+pub masked-as : (group : Group) (k : ℕ) → k < slots group → (c e s : ℕ) → e < 32 → c ≡ 2 ^ e → c < 2 ^ 32 → s < 32 → (a : ℕ) (c0 c1 : List ℕ) → a ≡ slot group k
+    → Emits c0 c1 (Vector (v.ArithmeticVx vxs.Vand a a s true) ∷ []) → TurnsBy c0 c1 group k s (λ d. d ≡ c - 1) (λ x d. word.remainder x c)
+masked-as group k in-stack c e s few is lc ls a c0 c1 ea z =
+    remainder-masked group k in-stack c e few is c0 c1 s ls lc (subst (λ y. Emits c0 c1 (Vector (v.ArithmeticVx vxs.Vand y y s true) ∷ [])) ea z)

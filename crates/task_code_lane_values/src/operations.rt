@@ -1,6 +1,6 @@
 //! What operations make of lanes, in the group of the first operand.
 
-ghost use Rattle.std.specs.Prelude.{◌≡◌, ◌+◌, ◌*◌, ◌%◌, ◌<◌, ◌^◌, [], ◌∷◌, IfSome, OnOk, true};
+ghost use Rattle.std.specs.Prelude.{◌≡◌, ◌+◌, ◌-◌, ◌<◌, ◌^◌, [], ◌∷◌, IfSome, OnOk, true};
 ghost use Rattle.rv_insn.specs.declared.instructions.Insn.TheVariants.{Vector};
 ghost use Rattle.rv_insn.specs.declared.vector_instructions.VectorInsn.TheVariants as v;
 ghost use Rattle.rv_insn.specs.declared.vector_operations.ShiftViOp.TheVariants.{Vsra as shift_right};
@@ -8,7 +8,7 @@ ghost use Rattle.halide_pipeline.specs.Words as word;
 ghost use Rattle.task_code_scalar.specs.Words.{Emits};
 ghost use Rattle.task_code_lanes.specs.Groups.{slots};
 ghost use Rattle.task_code_lanes.specs.Lanes.{compared, flagged, lanes_operation};
-ghost use Rattle.task_code_lane_values.specs.inner.Parts.{AnyWord, IsBy, IsTurnedBy, TurnsBy, TurnsOne, TurnsTwo};
+ghost use Rattle.task_code_lane_values.specs.inner.Parts.{AnyWord, Chooses, IsBy, IsTurnedBy, TurnsBy, TurnsOne, TurnsTwo};
 
 use halide_pipeline::Operation;
 use rv_insn::{
@@ -18,8 +18,8 @@ use rv_insn::{
 use std::alloc::AllocError;
 use task_code_lanes::groups::Group;
 use task_code_lanes::vectors::{
-    arithmetic, arithmetic_by, clear, comparison, merge_one, multiplication, multiplication_by,
-    signs, times_four,
+    arithmetic, arithmetic_by, clear, comparison, merge, merge_one, multiplication,
+    multiplication_by, signs, test_nonzero,
 };
 use task_code_scalar::CodeFault;
 use task_code_scalar::instructions::put;
@@ -238,13 +238,57 @@ pub(crate) fn emit_shifted(
     Ok(())
 }
 
-// ---- distances
+// ---- remainders
 
-/// Appends what makes of numbers of words how many bytes they take.
-pub(crate) fn emit_word_offsets(code: &mut Vec<u32>, group: Group, k: u8) -> Result<(), AllocError>
-    requires { k < slots group }
-    ensures { OnOk result (TurnsOne code.old.items code.new.items group k (λ x. (x * 4) % 2 ^ 32)) }
+/// Appends what leaves remainders by a power of two, whose predecessor a register holds.
+pub(crate) fn emit_masked(
+    code: &mut Vec<u32>,
+    group: Group,
+    divisor: u32,
+    bits: u8,
+    k: u8,
+    s: u8,
+) -> Result<(), AllocError>
+    requires { (k < slots group) × ((s < 32) × ((bits < 32) × (divisor ≡ 2 ^ bits))) }
+    ensures { OnOk result (TurnsBy code.old.items code.new.items group k s (λ c. c ≡ divisor - 1) (λ x c. word.remainder x divisor)) }
 {
-    times_four(code, group.slot(k))?;
+    let r = group.slot(k);
+    arithmetic_by(code, ArithmeticVxOp::Vand, r, r, s)?;
+    Ok(())
+}
+
+/// Appends what leaves remainders by the literal in a register, which are not negative: of a negative lane's complement the
+/// remainder is taken away from the divisor less 1.
+pub(crate) fn emit_remainder(
+    code: &mut Vec<u32>,
+    group: Group,
+    divisor: u32,
+    k: u8,
+    s: u8,
+) -> Result<(), AllocError>
+    requires { (k < slots group) × ((s < 32) × (0 < divisor)) }
+    ensures { OnOk result (TurnsBy code.old.items code.new.items group k s (λ c. c ≡ divisor) (λ x c. word.remainder x divisor)) }
+{
+    let r = group.slot(k);
+    let u = group.spare();
+    signs(code, u, r)?;
+    arithmetic(code, ArithmeticVvOp::Vxor, r, r, u)?;
+    multiplication_by(code, MultiplyOp::Vremu, r, r, s)?;
+    arithmetic(code, ArithmeticVvOp::Vxor, r, r, u)?;
+    arithmetic_by(code, ArithmeticVxOp::Vand, u, u, s)?;
+    arithmetic(code, ArithmeticVvOp::Vadd, r, r, u)?;
+    Ok(())
+}
+
+// ---- choices
+
+/// Appends a choice by the lanes of a group: of those of the next one where they are not 0, else of those of the one behind it.
+pub(crate) fn emit_choice(code: &mut Vec<u32>, group: Group, k: u8) -> Result<(), AllocError>
+    requires { k + 2 < slots group }
+    ensures { OnOk result (Chooses code.old.items code.new.items group k) }
+{
+    let r = group.slot(k);
+    test_nonzero(code, r)?;
+    merge(code, r, group.slot(k + 2), group.slot(k + 1))?;
     Ok(())
 }

@@ -3,22 +3,20 @@
 ghost use Rattle.std.specs.Prelude.{◌≡◌, ◌+◌, ◌<◌, ◌%◌, ◌^◌, List, ℕ, IfOk, IfSome, OnOk, true};
 ghost use Rattle.loop_ir.specs.declared.expressions.Expr.{Expr as Exprs};
 ghost use Rattle.loop_ir.specs.declared.expressions.Expr.TheVariants.{Load as loaded};
-ghost use Rattle.task_code_scalar.specs.declared.places.Pixels.TheVariants.{Words as words_of};
-ghost use Rattle.task_code_scalar.specs.Code.{place_of as placed};
 ghost use Rattle.task_code_registers.specs.Strides.{strides};
 ghost use Rattle.task_code_values.specs.Operands.{IsSum};
 ghost use Rattle.task_code_lanes.specs.Groups.{slots};
 ghost use Rattle.task_code_lane_values.specs.Leaving.{MakesLanes};
 ghost use Rattle.task_code_lane_values.specs.inner.Parts.{IsSteady, MakesPoint, MakesRowPointer};
 
-use crate::operations::{emit_by, emit_two, emit_word_offsets};
+use crate::loads::{emit_along, emit_from, emit_offsets};
+use crate::operations::{emit_by, emit_two};
 use crate::scalars::{emit_form_operand, emit_literal, emit_steady};
 use crate::vectorized::Lanes;
 use halide_pipeline::{Operation, Source, words};
 use loop_ir::expressions::{Counter, Expr, Linear};
 use rv_insn::AluOp;
 use std::alloc::{AllocError, Global};
-use task_code_lanes::vectors::{load_at, load_row};
 use task_code_registers::holding::{at_value, stride_of};
 use task_code_registers::numbers::emit_times;
 use task_code_registers::points::point_form;
@@ -27,23 +25,25 @@ use task_code_registers::scopes::Held;
 use task_code_scalar::CodeFault;
 use task_code_scalar::expressions::place_of;
 use task_code_scalar::instructions::alu;
-use task_code_scalar::places::{Pixels, Place, Places};
+use task_code_scalar::places::{Place, Places};
 use task_code_values::accesses::bytes_of;
 use task_code_values::expressions::sum_of;
 
-/// How many bytes a word has.
-const WORD_BYTES: u32 = 4;
-
-pub(crate) fn are_words(pixels: Pixels) -> bool
-    ensures { result ≡ true → pixels ≡ words_of }
-{
-    match pixels {
-        Pixels::Words => true,
-        Pixels::Bytes => false,
-    }
-}
-
 // ---- points of two sums
+
+/// Whether the pixels at two sums lie one behind the other.
+pub(crate) fn are_dense(
+    alloc: Global,
+    places: &Places,
+    own: Lanes,
+    source: Source,
+    x: &Linear,
+    y: &Linear,
+) -> Result<bool, AllocError> {
+    let place = place_of(places, source);
+    let form = point_form(alloc, &place, x, y)?;
+    Ok(stride_of(form.sum.terms.as_slice(), own.counter) == bytes_of(place.pixels))
+}
 
 /// Appends a load of the pixels at two sums, where they lie one behind the other.
 pub(crate) fn emit_point(
@@ -64,12 +64,9 @@ pub(crate) fn emit_point(
     let form = point_form(alloc, &place, x, y)?;
     let stride = stride_of(form.sum.terms.as_slice(), own.counter);
     let start = at_value(alloc, &form, own.counter, 0)?;
-    if !are_words(place.pixels) {
-        return Err(CodeFault::TooDeep);
-    }
-    if stride == WORD_BYTES {
+    if stride == bytes_of(place.pixels) {
         let b = emit_form_operand(alloc, code, scope, &start)?;
-        load_row(code, own.group.slot(k), b)?;
+        emit_along(code, own.group, place.pixels, k, b)?;
         return Ok(());
     }
     Err(CodeFault::TooDeep)
@@ -150,11 +147,8 @@ pub(crate) fn emit_row(
         → MakesLanes code.old.items code.new.items places.now scope.now own k (loaded source x y.now)) }
 {
     let place = place_of(places, source);
-    if !are_words(place.pixels) {
-        return Err(CodeFault::TooDeep);
-    }
     let b = emit_row_pointer(alloc, code, places, scope, own, &place, column, y)?;
-    load_row(code, own.group.slot(k), b)?;
+    emit_along(code, own.group, place.pixels, k, b)?;
     Ok(())
 }
 
@@ -175,13 +169,10 @@ pub(crate) fn emit_gather(
         → MakesLanes before code.new.items places.now scope.now own k (loaded source x y.now)) }
 {
     let place = place_of(places, source);
-    if !are_words(place.pixels) {
-        return Err(CodeFault::TooDeep);
-    }
-    emit_word_offsets(code, own.group, k)?;
+    emit_offsets(code, own.group, place.pixels, k)?;
     let zero = Linear::of_number(alloc, 0);
     let b = emit_row_pointer(alloc, code, places, scope, own, &place, &zero, y)?;
-    load_at(code, own.group.slot(k), b)?;
+    emit_from(code, own.group, place.pixels, k, b)?;
     Ok(())
 }
 
@@ -203,17 +194,14 @@ pub(crate) fn emit_scattered(
         → MakesLanes before code.new.items places.now scope.now own k (loaded source x y)) }
 {
     let place = place_of(places, source);
-    if !are_words(place.pixels) {
-        return Err(CodeFault::TooDeep);
-    }
     let zero = Linear::of_number(alloc, 0);
     let form = point_form(alloc, &place, &zero, &zero)?;
     let start = at_value(alloc, &form, own.counter, 0)?;
     let s = emit_literal(alloc, code, scope, own, place.width)?;
     emit_by(code, own.group, Operation::Multiply, k + 1, s)?;
     emit_two(code, own.group, Operation::Add, k)?;
-    emit_word_offsets(code, own.group, k)?;
+    emit_offsets(code, own.group, place.pixels, k)?;
     let b = emit_form_operand(alloc, code, scope, &start)?;
-    load_at(code, own.group.slot(k), b)?;
+    emit_from(code, own.group, place.pixels, k, b)?;
     Ok(())
 }

@@ -6,9 +6,10 @@ ghost use Rattle.task_code_lanes.specs.Groups.{slots};
 ghost use Rattle.task_code_lane_values.specs.Leaving.{MakesLanes};
 
 use crate::operations::{
-    emit_by, emit_quotient, emit_shifted, emit_turned, emit_two, takes_first, takes_second,
+    emit_by, emit_choice, emit_masked, emit_quotient, emit_remainder, emit_shifted, emit_turned,
+    emit_two, takes_first, takes_second,
 };
-use crate::points::{dense_column, emit_gather, emit_point, emit_row, emit_scattered};
+use crate::points::{are_dense, dense_column, emit_gather, emit_point, emit_row, emit_scattered};
 use crate::scalars::{emit_literal, emit_steady, is_steady};
 use crate::sums::emit_sum;
 use crate::vectorized::Lanes;
@@ -114,6 +115,29 @@ pub fn emit_lanes(
             emit_quotient(code, own.group, *divisor, k, s)?;
             Ok(())
         }
+        Expr::Remainder(a, divisor) => {
+            if *divisor == 0 {
+                return Err(CodeFault::TooDeep);
+            }
+            emit_lanes(alloc, code, places, scope, own, a.get(), k)?;
+            if let Some(bits) = power_of_two(*divisor) {
+                let s = emit_literal(alloc, code, scope, own, *divisor - 1)?;
+                emit_masked(code, own.group, *divisor, bits, k, s)?;
+                return Ok(());
+            }
+            let s = emit_literal(alloc, code, scope, own, *divisor)?;
+            emit_remainder(code, own.group, *divisor, k, s)?;
+            Ok(())
+        }
+        Expr::Select(condition, a, b) => {
+            let next = next_slot(own.group, k)?;
+            let last = next_slot(own.group, next)?;
+            emit_lanes(alloc, code, places, scope, own, condition.get(), k)?;
+            emit_lanes(alloc, code, places, scope, own, a.get(), next)?;
+            emit_lanes(alloc, code, places, scope, own, b.get(), last)?;
+            emit_choice(code, own.group, k)?;
+            Ok(())
+        }
         Expr::Load(source, x, y) => {
             if let Some(sums) = both_sums(alloc, x.get(), y.get())? {
                 emit_point(
@@ -146,6 +170,6 @@ pub fn emit_lanes(
             emit_scattered(alloc, code, places, scope, own, *source, k)?;
             Ok(())
         }
-        _ => Err(CodeFault::TooDeep),
+        Expr::Number(_) => Err(CodeFault::TooDeep),
     }
 }

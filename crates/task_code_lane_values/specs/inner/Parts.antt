@@ -1,5 +1,5 @@
 -- What parts of code over lanes do: scalar operands, lanes of any numbers, and single operations. This project's own.
-use Rattle.std.specs.Prelude.{◌≡◌, ◌<◌, ◌≤◌, ℕ, ◌+◌, ◌*◌, ◌%◌, ◌^◌, List, length}
+use Rattle.std.specs.Prelude.{◌≡◌, ◌<◌, ◌≤◌, ℕ, ◌+◌, ◌*◌, ◌%◌, ◌^◌, ◌==◌, if◌then◌else◌, List, length}
 use Rattle.std.specs.List.{AllByRecursion}
 use Rattle.rv_insn.specs.declared.instructions.Insn.{Insn}
 use Rattle.rv_insn.specs.declared.vector_operations.ArithmeticVxOp.{ArithmeticVxOp}
@@ -15,13 +15,14 @@ use Rattle.loop_ir.specs.Counters.{Values, with}
 use Rattle.loop_ir.specs.Expressions.{value, loads, linear_value}
 use Rattle.multi_hart_logic.specs.Alone.{World}
 use Rattle.multi_hart_logic.specs.Paths.{lane}
+use Rattle.task_code_scalar.specs.declared.places.Pixels.{Pixels}
 use Rattle.task_code_scalar.specs.declared.places.Place.{Place}
 use Rattle.task_code_scalar.specs.declared.places.Places.{Places}
-use Rattle.task_code_scalar.specs.Code.{address, place_of}
+use Rattle.task_code_scalar.specs.Code.{address, pixel_bytes, place_of}
 use Rattle.task_code_scalar.specs.Evaluation.{ArePlaces, Loads, LoadsAt}
 use Rattle.task_code_scalar.specs.Words.{Emits}
 use Rattle.task_code_registers.specs.declared.scopes.Held.{Held}
-use Rattle.task_code_registers.specs.Registers.{first_value, IsSource}
+use Rattle.task_code_registers.specs.Registers.{zero_register, first_value, IsSource}
 use Rattle.task_code_registers.specs.Scopes.{Knows, AreHolders}
 use Rattle.task_code_values.specs.Making.{Leaves}
 use Rattle.task_code_lanes.specs.declared.groups.Group.{Group}
@@ -95,6 +96,25 @@ MakesPoint old new places scope own k source x y =
     MakesEach old new places scope own k (LoadsPoint places source own.counter x y)
     (λ reads values i. reads source (sum_at own.counter x values i) (sum_at own.counter y values i))
 
+-- Appended code loads pixels that lie one behind the other, from the address in register b on.
+pub record LoadsAlong (old new : List ℕ) (group : Group) (k b : ℕ) (pixels : Pixels) : Type 0 where
+  pub insns : List Insn
+  pub emits : Emits old new insns
+  pub does : (world : World) (memory : List ℕ) (count : ℕ) (f x y pixel : ℕ → ℕ) (place : Place) → length memory ≡ world.size → HasLanes group count f
+      → place.pixels ≡ pixels → ((i : ℕ) → i < count → LoadsAt world place memory (x i) (y i) (pixel i))
+      → ((i : ℕ) → i < count → (f b + i * pixel_bytes pixels) % 2 ^ 32 ≡ address place world.hart (x i) (y i))
+      → LeavesLanes world memory insns f group k count pixel
+
+-- And at the distances from there that the lanes hold.
+pub record LoadsFrom (old new : List ℕ) (group : Group) (k b : ℕ) (pixels : Pixels) : Type 0 where
+  pub insns : List Insn
+  pub emits : Emits old new insns
+  pub does : (world : World) (memory : List ℕ) (count : ℕ) (f x y pixel offset : ℕ → ℕ) (place : Place) → length memory ≡ world.size → HasLanes group count f
+      → f zero_register ≡ 0 → place.pixels ≡ pixels → ((i : ℕ) → i < count → LoadsAt world place memory (x i) (y i) (pixel i))
+      → ((i : ℕ) → i < count → f (lane (slot group k) i) ≡ offset i)
+      → ((i : ℕ) → i < count → (f b + offset i) % 2 ^ 32 ≡ address place world.hart (x i) (y i))
+      → LeavesLanes world memory insns f group k count pixel
+
 -- ---- operations on lanes
 
 -- Appended code makes of each lane of group k what is made of it.
@@ -132,3 +152,12 @@ pub record TurnsTwo (old new : List ℕ) (group : Group) (k : ℕ) (says : ℕ �
       → ((i : ℕ) → i < count → f (lane (slot group k) i) ≡ x i) → ((i : ℕ) → i < count → f (lane (slot group (k + 1)) i) ≡ y i)
       → ((i : ℕ) → i < count → x i < 2 ^ 32) → ((i : ℕ) → i < count → y i < 2 ^ 32)
       → LeavesLanes world memory insns f group k count (λ i. says (x i) (y i))
+
+-- A lane of the next group stays where that of group k isn't 0, else one of the group behind it: in group k.
+pub record Chooses (old new : List ℕ) (group : Group) (k : ℕ) : Type 0 where
+  pub insns : List Insn
+  pub emits : Emits old new insns
+  pub does : (world : World) (memory : List ℕ) (count : ℕ) (f c x y : ℕ → ℕ) → length memory ≡ world.size → HasLanes group count f
+      → ((i : ℕ) → i < count → f (lane (slot group k) i) ≡ c i) → ((i : ℕ) → i < count → f (lane (slot group (k + 1)) i) ≡ x i)
+      → ((i : ℕ) → i < count → f (lane (slot group (k + 2)) i) ≡ y i) → ((i : ℕ) → i < count → x i < 2 ^ 32) → ((i : ℕ) → i < count → y i < 2 ^ 32)
+      → LeavesLanes world memory insns f group k count (λ i. if c i == 0 then y i else x i)

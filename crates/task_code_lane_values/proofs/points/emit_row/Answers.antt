@@ -3,6 +3,5 @@ use Rattle.task_code_lane_values.proofs.points.emit_row.Goals as goal
 
 pub returns : goal.returns
 returns c =
-    λ x sum. row-as c.args.places.now c.args.scope.now c.args.own c.args.k c.requires.slot c.args.source c.place_of-place.result c.place_of-place.ensures
-    (c.are_words.ensures c.if-not-are_words.false) c.args.column.now c.in_ok-b.b _ _ _ _ x c.args.y.now sum c.requires.stride c.requires.row
-    c.slot.ensures.0 c.in_ok-b.ensures c.in_ok-load_row.ensures
+    λ x sum. row-as c.args.places.now c.args.scope.now c.args.own c.args.k c.requires.slot c.args.source c.place_of-place.result c.place_of-place.ensures c.args.column.now
+    c.in_ok-b.b _ _ _ x c.args.y.now sum c.requires.stride c.requires.row c.in_ok-b.ensures c.in_ok-emit_along.ensures

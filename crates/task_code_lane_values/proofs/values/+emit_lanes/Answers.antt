@@ -1,7 +1,7 @@
 use Rattle.std.proofs.Common.{subst}
 use Rattle.std.specs.Prelude.{IfSome}
 use Rattle.task_code_values.specs.Operands.{IsSum}
-use Rattle.task_code_lane_values.proofs.Arms.{steady-as, two-next, second-arm, first-arm, divide-arm, shift-arm, point-arm}
+use Rattle.task_code_lane_values.proofs.Arms.{steady-as, two-next, second-arm, first-arm, divide-arm, shift-arm, point-arm, remainder-arm, choice-next}
 use Rattle.task_code_lane_values.proofs.values.+emit_lanes.Goals as goal
 
 pub returns-then-is_steady : goal.returns-then-is_steady
@@ -42,3 +42,21 @@ pub returns-in_ok-emit_quotient-in-Divide : goal.returns-in_ok-emit_quotient-in-
 returns-in_ok-emit_quotient-in-Divide t c =
     divide-arm c.args.places.now c.args.scope.now c.args.own c.args.k c.requires c.args.e.now c.in-Divide.a _ c.in-Divide.divisor c.in_ok-s-in-Divide.s _ _ _ _ c.in-Divide.is
     c.get.ensures c.in_ok-emit_lanes-in-Divide.ensures c.in_ok-s-in-Divide.ensures c.in_ok-emit_quotient-in-Divide.ensures
+
+pub returns-in-Some-power_of_two : goal.returns-in-Some-power_of_two
+returns-in-Some-power_of_two t c =
+    remainder-arm c.args.places.now c.args.scope.now c.args.own c.args.k c.requires c.args.e.now c.in-Remainder.a _ c.in-Remainder.divisor _ c.in_ok-s-in-Remainder.s _ _ _ _
+    c.in-Remainder.is c.get-in-Remainder.ensures c.in_ok-emit_lanes-in-Remainder.ensures c.in_ok-s-in-Remainder.ensures c.in_ok-emit_masked-in-Remainder.ensures
+
+pub returns-in_ok-emit_remainder-in-Remainder : goal.returns-in_ok-emit_remainder-in-Remainder
+returns-in_ok-emit_remainder-in-Remainder t c =
+    remainder-arm c.args.places.now c.args.scope.now c.args.own c.args.k c.requires c.args.e.now c.in-Remainder.a _ c.in-Remainder.divisor c.in-Remainder.divisor
+    c.in_ok-s-in-Remainder-2.s _ _ _ _ c.in-Remainder.is c.get-in-Remainder.ensures c.in_ok-emit_lanes-in-Remainder.ensures c.in_ok-s-in-Remainder-2.ensures
+    c.in_ok-emit_remainder-in-Remainder.ensures
+
+pub returns-in_ok-emit_choice-in-Select : goal.returns-in_ok-emit_choice-in-Select
+returns-in_ok-emit_choice-in-Select t c =
+    choice-next c.args.places.now c.args.scope.now c.args.own c.args.k c.requires c.args.e.now c.in-Select.condition c.in-Select.a c.in-Select.b _ _ _ c.in_ok-next-in-Select.next
+    c.in_ok-last-in-Select.last _ _ _ _ _ c.in-Select.is c.get-in-Select.ensures c.get-in-Select-2.ensures c.get-in-Select-3.ensures c.in_ok-next-in-Select.ensures.0
+    c.in_ok-last-in-Select.ensures.0 c.in_ok-last-in-Select.ensures.1 c.in_ok-emit_lanes-in-Select.ensures c.in_ok-emit_lanes-in-Select-2.ensures
+    c.in_ok-emit_lanes-in-Select-3.ensures c.in_ok-emit_choice-in-Select.ensures
