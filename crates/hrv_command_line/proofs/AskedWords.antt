@@ -9,12 +9,13 @@ use Rattle.clap.specs.Walk.{Row, Text, rows_after, first_of}
 use Rattle.clap.specs.Simple.{subcommand_of}
 use Rattle.clap.specs.Kinds.{Kinds}
 use Rattle.clap.specs.Faults.{fault_of}
-use Rattle.hrv_command_line.specs.CommandLine.{Asked, Assembles, Compiles, Debugs, Draws, Explains, IsPlainWord, IsSpelled, IsWithinLimits, Lists, ListsAddresses, Renews, Replays, TellsVersion, asked_in, asked_of, asm_of, compile_of, debug_of, explain_of, hrv_app, if_known, named, picture_of, renew_of, replay_of, run_from, unless_fault, unmarked}
+use Rattle.hrv_command_line.specs.CommandLine.{Asked, Assembles, Blames, Compiles, Debugs, Draws, Explains, IsPlainWord, IsSpelled, IsWithinLimits, Lists, ListsAddresses, Renews, Replays, TellsVersion, asked_in, asked_of, asm_of, compile_of, debug_of, explain_of, hrv_app, if_known, named, picture_of, renew_of, replay_of, run_from, unless_fault, unmarked}
 use Rattle.hrv_command_line.proofs.Positionals.{ArePlain, marked, none, passes_all, plain, takes_all, unmarked-plain}
-use Rattle.hrv_command_line.proofs.Subcommands.{IsName, first_is_name, is_asm, is_compile, is_debug, is_dis, is_explain, is_picture, is_renew, is_replay, is_run, is_version, name_free, name_given, name_passes}
+use Rattle.hrv_command_line.proofs.Subcommands.{IsName, first_is_name, is_asm, is_blame, is_compile, is_debug, is_dis, is_explain, is_picture, is_renew, is_replay, is_run, is_version, name_free, name_given, name_passes}
 use Rattle.hrv_command_line.proofs.ReplayWords as replay
 use Rattle.hrv_command_line.proofs.DebugWords as debug
 use Rattle.hrv_command_line.proofs.AsmWords as asm
+use Rattle.hrv_command_line.proofs.BlameWords as blame
 use Rattle.hrv_command_line.proofs.DisWords as dis
 use Rattle.hrv_command_line.proofs.RenewWords as renew
 use Rattle.hrv_command_line.proofs.PictureWords as picture
@@ -60,6 +61,20 @@ asks_debug words rest e split =
       met = ap (subcommand_of hrv_app) split ∙ name_given debug.debug_command rest;
       asks = ap debug_of all.0 ∙ both.3;
       spelled = ap unmarked split ∙ ap (λ ws. codes "debug" ∷ ws) both.2;
+      limits = tt;
+    }
+
+asks_blame : (words rest : List Text) → fault_of hrv_app words ≡ [] → words ≡ codes "blame" ∷ rest → Asks words
+asks_blame words rest e split =
+    let own = blame.blame_asked rest (name_passes blame.blame_command rest (subst (λ ws. fault_of hrv_app ws ≡ []) split e)) in
+    let rows = rows_after blame.leaf.rules [] rest in
+    record {
+      asked = Blames own.image own.log (first_of (codes "X") rows) (first_of (codes "Y") rows) (first_of (codes "address") rows) own.with_turns;
+      name = codes "blame";
+      rows = rows;
+      met = ap (subcommand_of hrv_app) split ∙ name_given blame.blame_command rest;
+      asks = own.is_asked;
+      spelled = (rest, split);
       limits = tt;
     }
 
@@ -191,6 +206,7 @@ words_ask words e =
     by_name : (name : Text) → IsName name → (rest : List Text) → words ≡ name ∷ rest → Asks words
     by_name _ is_replay rest split = asks_replay words rest e split
     by_name _ is_debug rest split = asks_debug words rest e split
+    by_name _ is_blame rest split = asks_blame words rest e split
     by_name _ is_asm rest split = asks_asm words rest e split
     by_name _ is_dis rest split = asks_dis words rest e split
     by_name _ is_renew rest split = asks_renew words rest e split

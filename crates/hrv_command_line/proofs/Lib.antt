@@ -1,5 +1,7 @@
 mod AskedWords
 mod AsmWords
+mod BlameForms
+mod BlameWords
 mod CompileWords
 mod DebugWords
 mod DisWords

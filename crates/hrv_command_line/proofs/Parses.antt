@@ -33,8 +33,9 @@ use Rattle.hrv_command_line.specs.Faults.{fault_for}
 use Rattle.hrv_command_line.specs.declared.command_lines.Invocation.{Invocation}
 use Rattle.hrv_command_line.specs.declared.faults.CommandLineFault.{CommandLineFault}
 use Rattle.hrv_command_line.specs.declared.faults.CommandLineFault.TheVariants.{Refused, Memory, Unexplained}
-use Rattle.hrv_command_line.specs.CommandLine.{Asked, Assembles, Compiles, Debugs, Draws, Explains, IsRefusal, IsSpelled, IsWithinLimits, Makes, Renews, Replays, asked_in, asked_of, asm_of, compile_of, debug_of, dis_of, explain_of, hrv_app, if_known, is_given_by, listing_of, most_harts, most_turns, named, number_or, picture_of, renew_of, replay_of, run_from, run_of}
+use Rattle.hrv_command_line.specs.CommandLine.{Asked, Assembles, Blames, Compiles, Debugs, Draws, Explains, IsRefusal, IsSpelled, IsWithinLimits, Makes, Renews, Replays, asked_in, asked_of, asm_of, blame_of, compile_of, debug_of, dis_of, explain_of, hrv_app, if_known, is_given_by, listing_of, most_harts, most_turns, named, number_or, picture_of, renew_of, replay_of, run_from, run_of}
 use Rattle.hrv_command_line.proofs.AskedWords.{Asks, asked_named, fault_of-named, words_ask}
+use Rattle.hrv_command_line.proofs.BlameWords.{blame_needs}
 use Rattle.hrv_command_line.proofs.RunWords.{run_needs}
 
 -- the program's command is one that `clap` gives the matches and the faults of
@@ -333,3 +334,25 @@ run_read rows from image log harts turns some from_is image_is log_is harts_are 
         let h = harts_are most_harts _ needs.harts_are in
         let t = turns_are most_turns _ needs.turns_are in
         rw (from_is, image_is, log_is, needs.harts_are, needs.turns_are, h, t) refl
+
+-- the files of blame are there, and whether its flag is
+pub blame_given : (rows : List Row) → IsSome (blame_of rows)
+    → IsSome (first_of (codes "IMAGE") rows) × IsSome (first_of (codes "LOG") rows) × IsSome (is_given_by (one_of (codes "turns") rows))
+blame_given rows some = go (blame_of rows) refl some
+  where
+    go : (o : Option Asked) → blame_of rows ≡ o → IsSome o
+        → IsSome (first_of (codes "IMAGE") rows) × IsSome (first_of (codes "LOG") rows) × IsSome (is_given_by (one_of (codes "turns") rows))
+    go None is there = absurd (true≢false (sym there))
+    go (Some asked) is there =
+        let needs = blame_needs rows asked is in
+        (ap is_some needs.image_is, ap is_some needs.log_is, ap is_some needs.flag_is)
+
+pub blame_read : (rows : List Row) (image log : Text) (x y address : Option Text) (with_turns : Bool) → first_of (codes "IMAGE") rows ≡ Some image
+    → first_of (codes "LOG") rows ≡ Some log → x ≡ first_of (codes "X") rows → y ≡ first_of (codes "Y") rows → address ≡ first_of (codes "address") rows
+    → is_given_by (one_of (codes "turns") rows) ≡ Some with_turns → blame_of rows ≡ Some (Blames image log x y address with_turns)
+blame_read rows image log x y address with_turns image_is log_is x_is y_is address_is flag_is =
+    rw (image_is, log_is, flag_is, ← x_is, ← y_is, ← address_is) refl
+
+-- a value that may be left out
+pub read_or_none : (f : Found) (id : Text) (o : Option (Bor Text)) → option_map (λ s. s.now) o ≡ first_value f id → option_map (λ s. s.now) o ≡ first_of id (rows_of f)
+read_or_none f id o gives = gives ∙ first_value-rows f id

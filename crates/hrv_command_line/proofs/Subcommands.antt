@@ -19,6 +19,7 @@ app = built hrv_app
 pub data IsName : Text → Type 0 where
   is_replay : IsName (codes "replay")
   is_debug : IsName (codes "debug")
+  is_blame : IsName (codes "blame")
   is_asm : IsName (codes "asm")
   is_dis : IsName (codes "dis")
   is_renew : IsName (codes "renew")
@@ -91,6 +92,7 @@ first_is_name [] e = absurd (fault_none e)
 first_is_name (word ∷ rest) e =
     tell (bytes_eq (codes "replay") word) (λ same. begins word rest (codes "replay") is_replay same) (λ no_replay.
     tell (bytes_eq (codes "debug") word) (λ same. begins word rest (codes "debug") is_debug same) (λ no_debug.
+    tell (bytes_eq (codes "blame") word) (λ same. begins word rest (codes "blame") is_blame same) (λ no_blame.
     tell (bytes_eq (codes "asm") word) (λ same. begins word rest (codes "asm") is_asm same) (λ no_asm.
     tell (bytes_eq (codes "dis") word) (λ same. begins word rest (codes "dis") is_dis same) (λ no_dis.
     tell (bytes_eq (codes "renew") word) (λ same. begins word rest (codes "renew") is_renew same) (λ no_renew.
@@ -99,10 +101,10 @@ first_is_name (word ∷ rest) e =
     tell (bytes_eq (codes "run") word) (λ same. begins word rest (codes "run") is_run same) (λ no_run.
     tell (bytes_eq (codes "explain") word) (λ same. begins word rest (codes "explain") is_explain same) (λ no_explain.
     tell (bytes_eq (codes "version") word) (λ same. begins word rest (codes "version") is_version same) (λ no_version.
-    tell (bytes_eq (codes "help") word) (λ help. absurd (some_fault _ _ (rw (no_replay, no_debug, no_asm, no_dis, no_renew, no_picture, no_compile, no_run, no_explain, no_version, help) at first))) (λ no_help.
-    let unnamed : subcommand_met (names_of app) idle word ≡ None = rw (no_replay, no_debug, no_asm, no_dis, no_renew, no_picture, no_compile, no_run, no_explain, no_version, no_help) refl in
+    tell (bytes_eq (codes "help") word) (λ help. absurd (some_fault _ _ (rw (no_replay, no_debug, no_blame, no_asm, no_dis, no_renew, no_picture, no_compile, no_run, no_explain, no_version, help) at first))) (λ no_help.
+    let unnamed : subcommand_met (names_of app) idle word ≡ None = rw (no_replay, no_debug, no_blame, no_asm, no_dis, no_renew, no_picture, no_compile, no_run, no_explain, no_version, no_help) refl in
     tell (bytes_eq word (codes "--")) (λ mark. absurd (fault_marked rest (subst (λ w. fault_of hrv_app (w ∷ rest) ≡ []) ((bytes_eq-Decides word (codes "--")).0 mark) e)))
-    (λ other. absurd (stray word unnamed other first)))))))))))))
+    (λ other. absurd (stray word unnamed other first))))))))))))))
   where
     first : top_fault word ≡ []
     first = (both_pass (top_fault word) _ (both_pass (walk_fault app.top (names_of app) (walk_from nothing_held) (word ∷ rest)) _ e).0).0

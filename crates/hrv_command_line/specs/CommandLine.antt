@@ -16,7 +16,7 @@ use Rattle.clap.specs.declared.builder.command.Command.TheViews.{out-Command}
 use Rattle.clap.specs.declared.builder.value_parser.ValueParser.TheVariants.{Unsigned}
 use Rattle.clap.specs.declared.error.Error.{Error}
 use Rattle.hrv_command_line.specs.declared.command_lines.Invocation.{Invocation}
-use Rattle.hrv_command_line.specs.declared.command_lines.Invocation.TheVariants.{Asm, Compile, Debug, Dis, DisAddresses, Explain, Picture, Renew, Replay, Resume, Run, Version}
+use Rattle.hrv_command_line.specs.declared.command_lines.Invocation.TheVariants.{Asm, Blame, Compile, Debug, Dis, DisAddresses, Explain, Picture, Renew, Replay, Resume, Run, Version}
 use Rattle.hrv_command_line.specs.declared.faults.CommandLineFault.{CommandLineFault}
 use Rattle.hrv_command_line.specs.declared.faults.CommandLineFault.TheVariants.{Refused, Memory, Unexplained}
 
@@ -24,6 +24,7 @@ use Rattle.hrv_command_line.specs.declared.faults.CommandLineFault.TheVariants.{
 pub data Asked : Type 0 where
   Replays : (image log : List ℕ) → Asked
   Debugs : (image log : List ℕ) → Asked
+  Blames : (image log : List ℕ) → (x y address : Option (List ℕ)) → (with_turns : Bool) → Asked
   Assembles : (source image : List ℕ) → Asked
   Lists : (image : List ℕ) → Asked
   ListsAddresses : (image : List ℕ) → Asked
@@ -38,6 +39,8 @@ pub data Asked : Type 0 where
 abbrev pub asked_by : Invocation → Asked
 asked_by (Replay image log) = Replays image.now log.now
 asked_by (Debug image log) = Debugs image.now log.now
+asked_by (Blame image log x y address with_turns) =
+    Blames image.now log.now (option_map (λ s. s.now) x) (option_map (λ s. s.now) y) (option_map (λ s. s.now) address) with_turns
 asked_by (Asm source image) = Assembles source.now image.now
 asked_by (Dis image) = Lists image.now
 asked_by (DisAddresses image) = ListsAddresses image.now
@@ -100,6 +103,18 @@ abbrev pub debug_app : App
 debug_app = with_rule (with_rule (new_app (codes "debug")) (required_rule (codes "IMAGE")))
     (required_rule (codes "LOG"))
 
+-- the files of `blame`
+abbrev pub blame_files_app : App
+blame_files_app = with_rule (with_rule (new_app (codes "blame")) (required_rule (codes "IMAGE"))) (required_rule (codes "LOG"))
+
+-- `blame IMAGE LOG [X] [Y]`
+abbrev pub blame_pixel_app : App
+blame_pixel_app = with_rule (with_rule blame_files_app (new_rule (codes "X"))) (new_rule (codes "Y"))
+
+-- `blame IMAGE LOG [X] [Y] --address A --turns`
+abbrev pub blame_app : App
+blame_app = with_rule (with_rule blame_pixel_app (word_rule (codes "address"))) (flag_rule (codes "turns"))
+
 -- `asm SOURCE IMAGE`
 abbrev pub asm_app : App
 asm_app = with_rule (with_rule (new_app (codes "asm")) (required_rule (codes "SOURCE")))
@@ -156,9 +171,13 @@ bare_app = on_top (λ s. record s { no_binary_name = true; subcommand_required =
 abbrev pub log_app : App
 log_app = with_subcommand (with_subcommand bare_app replay_app.top) debug_app.top
 
+-- with the one that says who wrote data by a log
+abbrev pub telling_app : App
+telling_app = with_subcommand log_app blame_app.top
+
 -- with those that take an assembly text or an image alone
 abbrev pub text_app : App
-text_app = with_subcommand (with_subcommand (with_subcommand log_app asm_app.top) dis_app.top) renew_app.top
+text_app = with_subcommand (with_subcommand (with_subcommand telling_app asm_app.top) dis_app.top) renew_app.top
 
 -- with those that take an algorithm
 abbrev pub algorithm_app : App
@@ -196,6 +215,12 @@ abbrev pub is_given_by : Option Text → Option Bool
 is_given_by None = Some false
 is_given_by (Some text) =
     if bytes_eq text (codes "true") then Some true else (if bytes_eq text (codes "false") then Some false else None)
+
+-- what isn't given is none; which words go together, the command judges
+abbrev pub blame_of : List Row → Option Asked
+blame_of given = option_and_then (λ image. option_and_then (λ log. option_map (λ with_turns.
+    Blames image log (first_of (codes "X") given) (first_of (codes "Y") given) (first_of (codes "address") given) with_turns)
+    (is_given_by (one_of (codes "turns") given))) (first_of (codes "LOG") given)) (first_of (codes "IMAGE") given)
 
 abbrev pub listing_of : Text → Bool → Asked
 listing_of image true = ListsAddresses image
@@ -245,6 +270,7 @@ explain_of given = option_map (λ family. Explains family (unwrap_or (first_of (
 abbrev pub asked_of : Text × List Row → Option Asked
 asked_of met = if bytes_eq met.0 (codes "replay") then replay_of met.1
     else (if bytes_eq met.0 (codes "debug") then debug_of met.1
+    else (if bytes_eq met.0 (codes "blame") then blame_of met.1
     else (if bytes_eq met.0 (codes "asm") then asm_of met.1
     else (if bytes_eq met.0 (codes "dis") then dis_of met.1
     else (if bytes_eq met.0 (codes "renew") then renew_of met.1
@@ -252,7 +278,7 @@ asked_of met = if bytes_eq met.0 (codes "replay") then replay_of met.1
     else (if bytes_eq met.0 (codes "compile") then compile_of met.1
     else (if bytes_eq met.0 (codes "run") then run_of met.1
     else (if bytes_eq met.0 (codes "explain") then explain_of met.1
-    else (if bytes_eq met.0 (codes "version") then Some TellsVersion else None)))))))))
+    else (if bytes_eq met.0 (codes "version") then Some TellsVersion else None))))))))))
 
 -- nothing, where there is a fault
 abbrev pub unless_fault : Kinds → Option Asked → Option Asked
@@ -304,6 +330,7 @@ IsSpelled words (Renews old new) = unmarked words ≡ codes "renew" ∷ old ∷ 
 IsSpelled words (Draws algorithm inputs) = unmarked words ≡ codes "picture" ∷ algorithm ∷ inputs
 IsSpelled words (Compiles algorithm schedule image inputs) = unmarked words ≡ codes "compile" ∷ algorithm ∷ schedule ∷ image ∷ inputs
 -- options may stand anywhere: what they are, `named` alone says
+IsSpelled words (Blames image log x y address with_turns) = (rest : List Text) × (words ≡ codes "blame" ∷ rest)
 IsSpelled words (ListsAddresses image) = (rest : List Text) × (words ≡ codes "dis" ∷ rest)
 IsSpelled words (Runs image log harts turns) = (rest : List Text) × (words ≡ codes "run" ∷ rest)
 IsSpelled words (Resumes image log old turns) = (rest : List Text) × (words ≡ codes "run" ∷ rest)

@@ -2,7 +2,7 @@
 ghost use Rattle.std.specs.Prelude.{◌≡◌, ℕ, None, [], codes, true, false, unwrap_or, IfOk, IfErr, Some, IsSome};
 ghost use Rattle.clap.specs.Words.{all_of, found_of, one_of, rows_of};
 ghost use Rattle.clap.specs.Walk.{texts};
-ghost use Rattle.hrv_command_line.specs.CommandLine.{IsRefusal, IsSpelled, IsWithinLimits, asked_by, asked_of, asm_of, compile_of, debug_of, dis_of, explain_of, if_known, listing_of, named, number_or, picture_of, renew_of, replay_of, run_of};
+ghost use Rattle.hrv_command_line.specs.CommandLine.{IsRefusal, IsSpelled, IsWithinLimits, asked_by, asked_of, asm_of, blame_of, compile_of, debug_of, dis_of, explain_of, if_known, listing_of, named, number_or, picture_of, renew_of, replay_of, run_of};
 
 use crate::faults::CommandLineFault;
 use crate::programs::program;
@@ -40,6 +40,15 @@ pub enum Invocation<'a> {
     Debug {
         image: &'a str,
         log: &'a str,
+    },
+    /// `blame IMAGE LOG [X Y] --address A --turns`; which of them go together, the command judges.
+    Blame {
+        image: &'a str,
+        log: &'a str,
+        x: Option<&'a str>,
+        y: Option<&'a str>,
+        address: Option<&'a str>,
+        with_turns: bool,
     },
     /// `picture ALGORITHM [INPUT..]`
     Picture {
@@ -119,6 +128,7 @@ fn asked_for<'a>(
     match name {
         "replay" => Ok(replay_asked(given)),
         "debug" => Ok(debug_asked(given)),
+        "blame" => Ok(blame_asked(given)),
         "asm" => Ok(asm_asked(given)),
         "dis" => Ok(dis_asked(given)),
         "renew" => Ok(renew_asked(given)),
@@ -150,6 +160,27 @@ fn debug_asked<'a>(given: &ArgMatches<'a>) -> Invocation<'a>
     let image = given.get_str("IMAGE").unwrap();
     let log = given.get_str("LOG").unwrap();
     Invocation::Debug { image, log }
+}
+
+// What the arguments of `blame` ask for.
+fn blame_asked<'a>(given: &ArgMatches<'a>) -> Invocation<'a>
+    requires { IsSome (blame_of (rows_of (found_of given.now))) }
+    ensures { blame_of (rows_of (found_of given.now)) ≡ Some (asked_by result) }
+{
+    let image = given.get_str("IMAGE").unwrap();
+    let log = given.get_str("LOG").unwrap();
+    let x = given.get_str("X");
+    let y = given.get_str("Y");
+    let address = given.get_str("address");
+    let with_turns = given.get_flag("turns");
+    Invocation::Blame {
+        image,
+        log,
+        x,
+        y,
+        address,
+        with_turns,
+    }
 }
 
 // What the arguments of `asm` ask for.

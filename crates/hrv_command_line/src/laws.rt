@@ -2,7 +2,7 @@
 ghost use Rattle.std.specs.Prelude.{◌≡◌, ◌≤◌, ℕ, List, None, [], ◌∷◌, codes, false, true, length, Some};
 ghost use Rattle.std.specs.List.{AllByRecursion};
 ghost use Rattle.clap.specs.Lexer.{usize_max};
-ghost use Rattle.hrv_command_line.specs.CommandLine.{Asked, Assembles, Compiles, Debugs, Draws, Explains, IsPlainWord, IsSpelled, Lists, ListsAddresses, Renews, Replays, Resumes, Runs, TellsVersion};
+ghost use Rattle.hrv_command_line.specs.CommandLine.{Asked, Assembles, Blames, Compiles, Debugs, Draws, Explains, IsPlainWord, IsSpelled, Lists, ListsAddresses, Renews, Replays, Resumes, Runs, TellsVersion};
 ghost use Rattle.hrv_command_line.specs.CommandLine.{most_harts, most_turns, named, number_or};
 ghost use Rattle.hrv_refusals.specs.Explanations.{is_explained};
 
@@ -22,6 +22,19 @@ pub fn debug_is_named()
         → named (codes "debug" ∷ image ∷ log ∷ []) ≡ Some (Debugs image log) }
     ensures marked { (image log : List ℕ)
         → named (codes "debug" ∷ codes "--" ∷ image ∷ log ∷ []) ≡ Some (Debugs image log) }
+{}
+
+/// Which words name the answer who wrote a pixel: `blame` and two names, alone or with the two numbers of a pixel behind them, with
+/// `--turns`, or with the address of a word.
+pub fn blame_is_named()
+    ensures plain { (image log : List ℕ) → IsPlainWord image → IsPlainWord log
+        → named (codes "blame" ∷ image ∷ log ∷ []) ≡ Some (Blames image log None None None false) }
+    ensures turns { (image log : List ℕ) → IsPlainWord image → IsPlainWord log
+        → named (codes "blame" ∷ image ∷ log ∷ codes "--turns" ∷ []) ≡ Some (Blames image log None None None true) }
+    ensures pixel { (image log x y : List ℕ) → IsPlainWord image → IsPlainWord log → IsPlainWord x → IsPlainWord y
+        → named (codes "blame" ∷ image ∷ log ∷ x ∷ y ∷ []) ≡ Some (Blames image log (Some x) (Some y) None false) }
+    ensures address { (image log address : List ℕ) → IsPlainWord image → IsPlainWord log → IsPlainWord address
+        → named (codes "blame" ∷ image ∷ log ∷ codes "--address" ∷ address ∷ []) ≡ Some (Blames image log None None (Some address) false) }
 {}
 
 /// Which words name an assembly: `asm` and two names, after `--` where one begins with `-`.

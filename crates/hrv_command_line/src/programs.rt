@@ -1,7 +1,7 @@
 //! The program's command, with its subcommands and their arguments.
 ghost use Rattle.std.specs.Prelude.{◌≡◌, codes, false, IfOk};
 ghost use Rattle.clap.specs.Words.{new_rule, rule_of};
-ghost use Rattle.hrv_command_line.specs.CommandLine.{Makes, algorithm_app, asm_app, compile_app, compile_texts_app, debug_app, dis_app, explain_app, flag_rule, hrv_app, log_app, most_harts, most_turns, number_rule, picture_app, renew_app, replay_app, required_rule, rest_rule, run_app, run_files_app, run_numbers_app, running_app, text_app, version_app, word_rule};
+ghost use Rattle.hrv_command_line.specs.CommandLine.{Makes, algorithm_app, asm_app, blame_app, blame_files_app, blame_pixel_app, compile_app, compile_texts_app, debug_app, dis_app, explain_app, flag_rule, hrv_app, log_app, most_harts, most_turns, number_rule, picture_app, renew_app, replay_app, required_rule, rest_rule, run_app, run_files_app, run_numbers_app, running_app, telling_app, text_app, version_app, word_rule};
 
 use clap::{Arg, ArgAction, Command};
 use std::alloc::{AllocError, Global};
@@ -35,13 +35,20 @@ fn algorithm_program<'a>(alloc: Global) -> Result<Command<'a>, AllocError>
 fn text_program<'a>(alloc: Global) -> Result<Command<'a>, AllocError>
     ensures { IfOk result (Makes text_app) }
 {
-    log_program(alloc)?
+    telling_program(alloc)?
         .subcommand(asm_command(alloc)?)?
         .subcommand(dis_command(alloc)?)?
         .subcommand(renew_command(alloc)?)
 }
 
 // The program's command with the subcommands that take a log.
+fn telling_program<'a>(alloc: Global) -> Result<Command<'a>, AllocError>
+    ensures { IfOk result (Makes telling_app) }
+{
+    log_program(alloc)?.subcommand(blame_command(alloc)?)
+}
+
+// The program's command with the subcommands that replay a log.
 fn log_program<'a>(alloc: Global) -> Result<Command<'a>, AllocError>
     ensures { IfOk result (Makes log_app) }
 {
@@ -71,6 +78,38 @@ fn debug_command<'a>(alloc: Global) -> Result<Command<'a>, AllocError>
     Command::new(alloc, "debug")
         .about("Answers questions about an image and a log, asked on standard input")
         .arg(file_arg(alloc, "IMAGE", "The image that is asked about"))?
+        .arg(file_arg(alloc, "LOG", "The log of its turns"))
+}
+
+// `blame IMAGE LOG [X] [Y] --address A --turns`
+fn blame_command<'a>(alloc: Global) -> Result<Command<'a>, AllocError>
+    ensures { IfOk result (Makes blame_app) }
+{
+    blame_pixel_command(alloc)?
+        .arg(address_arg(alloc))?
+        .arg(marks_arg(alloc))
+}
+
+// `blame IMAGE LOG [X] [Y]`
+fn blame_pixel_command<'a>(alloc: Global) -> Result<Command<'a>, AllocError>
+    ensures { IfOk result (Makes blame_pixel_app) }
+{
+    blame_files_command(alloc)?
+        .arg(coordinate_arg(
+            alloc,
+            "X",
+            "The column of a pixel; without X and Y all pixels are told of",
+        ))?
+        .arg(coordinate_arg(alloc, "Y", "The row of that pixel"))
+}
+
+// `blame` with its files alone.
+fn blame_files_command<'a>(alloc: Global) -> Result<Command<'a>, AllocError>
+    ensures { IfOk result (Makes blame_files_app) }
+{
+    Command::new(alloc, "blame")
+        .about("Says which turn of a log wrote a pixel last, or which hart wrote each")
+        .arg(file_arg(alloc, "IMAGE", "The image that was run"))?
         .arg(file_arg(alloc, "LOG", "The log of its turns"))
 }
 
@@ -196,6 +235,36 @@ fn code_arg<'a>(alloc: Global) -> Arg<'a>
     ensures local { result.global ≡ false }
 {
     Arg::new(alloc, "CODE").help("The number behind the family, where there is one")
+}
+
+// A number of a pixel, which may be left out.
+fn coordinate_arg<'a>(alloc: Global, id: &'a str, help: &'a str) -> Arg<'a>
+    ensures rule { rule_of result ≡ new_rule id.now }
+    ensures local { result.global ≡ false }
+{
+    Arg::new(alloc, id).help(help)
+}
+
+// The word of data that is told of in place of a pixel.
+fn address_arg<'a>(alloc: Global) -> Arg<'a>
+    ensures rule { rule_of result ≡ word_rule (codes "address") }
+    ensures local { result.global ≡ false }
+{
+    Arg::new(alloc, "address")
+        .long("address")
+        .value_name("A")
+        .help("A word of data, by its address, in place of a pixel")
+}
+
+// Whether pixels are the numbers of turns.
+fn marks_arg<'a>(alloc: Global) -> Arg<'a>
+    ensures rule { rule_of result ≡ flag_rule (codes "turns") }
+    ensures local { result.global ≡ false }
+{
+    Arg::new(alloc, "turns")
+        .long("turns")
+        .help("Gives for each pixel the number of the turn, modulo 2147483648, in place of its hart")
+        .action(ArgAction::SetTrue)
 }
 
 // Whether each line of a listing ends in its address.
