@@ -9,7 +9,7 @@ use Rattle.debugger_blame.specs.LastWrites.{Blames, HartsAreLastWriters, IsLastW
 
 -- ---- lists
 
-got_behind : (before after : List ℕ) (x : ℕ) → slice_get (before ++ x ∷ after) (length before) ≡ Some x
+pub got_behind : (before after : List ℕ) (x : ℕ) → slice_get (before ++ x ∷ after) (length before) ≡ Some x
 got_behind [] after x = refl
 got_behind (y ∷ before) after x = got_behind before after x
 
@@ -53,7 +53,7 @@ harts_of_last place state turns = hart_of_last place [] None state turns
 
 -- ---- one turn more
 
-last-append : (test : List ℕ → Bool) (count : ℕ) (known : Option ℕ) (state : State) (xs : List ℕ) (hart : ℕ)
+pub last-append : (test : List ℕ → Bool) (count : ℕ) (known : Option ℕ) (state : State) (xs : List ℕ) (hart : ℕ)
     → last_turn test count known state (xs ++ hart ∷ [])
     ≡ (if test (written_next (run state xs) hart) then Some (count + length xs) else last_turn test count known state xs)
 last-append test count known state [] hart =

@@ -1,4 +1,6 @@
 mod LastTurns
+mod MarksMade
 mod Outcomes
 mod Passing
 pub mod Storing
+pub mod WordsTouched

@@ -36,7 +36,7 @@ rests_quietly text bytes hart Running other = absurd (other refl)
 rests_quietly text bytes hart Finished other = refl
 rests_quietly text bytes hart (Trapped trap) other = refl
 
-writes_nothing : (state : State) (number : ℕ) → number < length state.harts → (hart_at state number).status ≢ Running → written_next state number ≡ []
+pub writes_nothing : (state : State) (number : ℕ) → number < length state.harts → (hart_at state number).status ≢ Running → written_next state number ≡ []
 writes_nothing state number below rests =
     let hart = hart_at state number in
     ap (written_by_one state) (hart_there state number below) ∙ rests_quietly state.text (length state.memory) hart hart.status rests

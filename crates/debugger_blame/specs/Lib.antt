@@ -1,1 +1,3 @@
 pub mod LastWrites
+pub mod Marks
+pub mod inner

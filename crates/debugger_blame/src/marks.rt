@@ -1,0 +1,212 @@
+//! One pass over a log that marks words which stand in a row, each with the last turn that wrote it.
+
+ghost use Rattle.std.specs.Prelude.{◌≡◌, ◌+◌, ◌*◌, ◌<◌, ◌≤◌, ◌%◌, ◌^◌, ◌++◌, ◌∷◌, [], ℕ, List, length, map, replicate, IfOk};
+ghost use Rattle.hart_core.specs.VectorRows.{accesses_at, size_of};
+ghost use Rattle.memory.specs.Access.{access_at, places_of, touched};
+ghost use Rattle.memory.specs.Addresses.{most_words};
+ghost use Rattle.multi_hart.specs.Run.{State, run, turn};
+ghost use Rattle.rv_encoding.specs.Decoding.{decoded};
+ghost use Rattle.vector_codegen_sharing.specs.Turns.{is_word_in};
+ghost use Rattle.debugger_blame.specs.Marks.{AreMarks};
+ghost use Rattle.debugger_blame.specs.inner.Stored.{Marked, is_byte_of_word, places_in};
+
+use crate::passes::{Stretch, meanings, next_stored};
+use crate::stores::Stored;
+use hart_core::Status;
+use multi_hart::Machine;
+use rv_insn::{ElementWidth, Insn, Outcome};
+use std::alloc::{AllocError, Global};
+use turn_log::TurnLog;
+
+/// What words are marked with.
+#[derive(Clone, Copy, Debug, PartialEq, Eq)]
+pub enum Marking {
+    /// The hart of the last turn that wrote the word.
+    Harts,
+    /// The number of that turn, modulo 2^31.
+    Turns,
+}
+
+/// Words of data that stand in a row, and what they are marked with.
+#[derive(Clone, Copy, Debug, PartialEq, Eq)]
+pub struct MarkedRange {
+    /// The address of the first one.
+    pub first: u32,
+    pub count: usize,
+    pub marking: Marking,
+}
+
+/// The mark of a word that no turn wrote: -1.
+const UNMARKED: u32 = 0xffff_ffff;
+
+/// Makes the turns of a log on a machine whose text has these words, and gives the marks of words that stand in a row. It takes memory by
+/// the word of text, and four bytes for each of the words that are marked.
+pub fn mark_words(
+    alloc: Global,
+    machine: &mut Machine,
+    words: &[u32],
+    log: &TurnLog,
+    range: MarkedRange,
+) -> Result<Vec<u32>, AllocError>
+    requires text { words.now ≡ machine.old.text }
+    requires few { length words.now ≤ most_words }
+    requires harts { length machine.old.harts ≡ log.now.harts }
+    ensures marks { IfOk result (λ marks. AreMarks range.marking range.first machine.old log.now.turns marks.items) }
+    ensures count { IfOk result (λ marks. length marks.items ≡ range.count) }
+{
+    let insns = meanings(alloc, words)?;
+    let mut marks = vec![in alloc; UNMARKED; range.count]?;
+    mark_all(machine, &insns, log, range, &mut marks);
+    Ok(marks)
+}
+
+/// The same, where it is known what the words of text mean, and nothing is marked.
+fn mark_all(
+    machine: &mut Machine,
+    insns: &[Option<Insn>],
+    log: &TurnLog,
+    range: MarkedRange,
+    marks: &mut [u32],
+)
+    requires meant { insns.now ≡ map decoded machine.old.text }
+    requires few { length insns.now ≤ most_words }
+    requires harts { length machine.old.harts ≡ log.now.harts }
+    requires unmarked { AreMarks range.marking range.first machine.old [] marks.old }
+    ensures { AreMarks range.marking range.first machine.old log.now.turns marks.new }
+{
+    // What these ensure says that every turn is of one of the log's harts, and that places are numbers of 64 bits.
+    let _harts = log.harts();
+    let _length = log.len();
+    let mut place = 0;
+    'runs: while let Some((hart, count)) = log.run_at(place) {
+        let stretch = Stretch { hart, count, place };
+        mark_run(machine, insns, stretch, range, marks);
+        place += count;
+    }
+}
+
+/// Makes turns of one hart, and marks what they write. Where the hart doesn't run, all that are left are made at once.
+fn mark_run(
+    machine: &mut Machine,
+    insns: &[Option<Insn>],
+    stretch: Stretch,
+    range: MarkedRange,
+    marks: &mut [u32],
+)
+    requires there { stretch.hart < length machine.old.harts }
+    requires eight { length machine.old.harts ≤ 8 }
+    requires meant { insns.now ≡ map decoded machine.old.text }
+    requires few { length insns.now ≤ most_words }
+    requires fits { stretch.place + stretch.count < 2 ^ 64 }
+    ensures state { machine.new ≡ run machine.old (replicate stretch.count stretch.hart) }
+    ensures marks { (begin : State) (done : List ℕ) → machine.old ≡ run begin done → length done ≡ stretch.place
+        → AreMarks range.marking range.first begin done marks.old
+        → AreMarks range.marking range.first begin (done ++ replicate stretch.count stretch.hart) marks.new }
+{
+    let Stretch { hart, count, place } = stretch;
+    let mut made = 0;
+    'turns: while made < count {
+        let Status::Running = machine.status(hart) else {
+            let _ = machine.run_same(hart, count - made);
+            return;
+        };
+        mark_turn(machine, insns, hart, place + made, range, marks);
+        made += 1;
+    }
+}
+
+/// Makes a turn, and marks the words that it writes.
+fn mark_turn(
+    machine: &mut Machine,
+    insns: &[Option<Insn>],
+    hart: usize,
+    place: u64,
+    range: MarkedRange,
+    marks: &mut [u32],
+)
+    requires there { hart < length machine.old.harts }
+    requires eight { length machine.old.harts ≤ 8 }
+    requires meant { insns.now ≡ map decoded machine.old.text }
+    requires few { length insns.now ≤ most_words }
+    ensures state { machine.new ≡ turn machine.old hart }
+    ensures marks { (begin : State) (done : List ℕ) → machine.old ≡ run begin done → length done ≡ place
+        → AreMarks range.marking range.first begin done marks.old
+        → AreMarks range.marking range.first begin (done ++ hart ∷ []) marks.new }
+{
+    let stored = next_stored(machine, insns, hart);
+    let Outcome::Stepped = machine.turn(hart) else {
+        return;
+    };
+    mark_stored(
+        marks,
+        range.first,
+        &stored,
+        mark_of(range.marking, place, hart),
+    );
+}
+
+/// What a turn of a hart marks words with.
+fn mark_of(marking: Marking, place: u64, hart: usize) -> u32
+    requires { hart < 8 }
+    ensures harts { marking ≡ Marking.Harts → result ≡ hart }
+    ensures turns { marking ≡ Marking.Turns → result ≡ place % 2147483648 }
+{
+    match marking {
+        Marking::Harts => hart as u32,
+        Marking::Turns => (place % (1 << 31)) as u32,
+    }
+}
+
+/// Marks the words of which a byte is stored.
+fn mark_stored(marks: &mut [u32], first: u32, stored: &Stored, mark: u32)
+    ensures { Marked first (λ word. is_word_in word (places_in stored.now)) mark marks.old marks.new }
+{
+    match stored {
+        Stored::Nothing => {}
+        Stored::Number { address, width } => mark_numbers(marks, first, &[*address], *width, mark),
+        Stored::Elements { addresses, width } => {
+            mark_numbers(marks, first, addresses.as_slice(), *width, mark);
+        }
+    }
+}
+
+/// Marks the words of which numbers of a width at addresses have a byte.
+fn mark_numbers(marks: &mut [u32], first: u32, addresses: &[u32], width: ElementWidth, mark: u32)
+    ensures { Marked first (λ word. is_word_in word (touched (accesses_at width addresses.now))) mark marks.old marks.new }
+{
+    match addresses {
+        [] => {}
+        [address, others @ ..] => {
+            mark_number(marks, first, *address, width, mark);
+            mark_numbers(marks, first, others, width, mark);
+        }
+    }
+}
+
+/// Marks the words of which a number of a width at an address has a byte: those of its first byte and of its last.
+fn mark_number(marks: &mut [u32], first: u32, address: u32, width: ElementWidth, mark: u32)
+    ensures { Marked first (λ word. is_word_in word (places_of (access_at (size_of width) address))) mark marks.old marks.new }
+{
+    let place = u64::from(address);
+    mark_byte(marks, first, place, mark);
+    match width {
+        ElementWidth::Bits8 => {}
+        ElementWidth::Bits16 => mark_byte(marks, first, place + 1, mark),
+        ElementWidth::Bits32 => mark_byte(marks, first, place + 3, mark),
+    }
+}
+
+/// Marks the word that a byte is in.
+fn mark_byte(marks: &mut [u32], first: u32, place: u64, mark: u32)
+    requires { place < 2 ^ 64 }
+    ensures { Marked first (λ word. is_byte_of_word word place) mark marks.old marks.new }
+{
+    let first = u64::from(first);
+    if place < first {
+        return;
+    }
+    let index = ((place - first) / 4) as usize;
+    if index < marks.len() {
+        marks[index] = mark;
+    }
+}
