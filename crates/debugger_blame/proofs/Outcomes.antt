@@ -1,6 +1,6 @@
 -- What a turn writes, by what it came to.
 use Rattle.std.proofs.Common.{◌≡◌, ◌≢◌, ◌∙◌, ℕ, Bool, false, refl, sym, ap, List, [], length, Option, Some, None}
-use Rattle.std.specs.Prelude.{option_and_then, slice_get}
+use Rattle.std.specs.Prelude.{if◌then◌else◌, option_and_then, slice_get, true}
 use Rattle.rv_insn.specs.declared.outcomes.Outcome.{Outcome}
 use Rattle.rv_insn.specs.declared.outcomes.Outcome.TheVariants.{Finished as HasFinished, Idle, Stepped, Trapped as HasTrapped}
 use Rattle.rv_insn.specs.declared.outcomes.Trap.{Trap}
@@ -17,7 +17,9 @@ use Rattle.hart_core.specs.declared.harts.Status.TheVariants.{Running, Finished,
 use Rattle.multi_hart.specs.Frame.{writes}
 use Rattle.multi_hart.specs.Run.{State, hart_at, outcome}
 use Rattle.vector_codegen_sharing.specs.Turns.{is_word_in, written_by_one, written_next}
+use Rattle.rv_insn.specs.declared.vector_instructions.VectorInsn.TheVariants as v
 use Rattle.debugger_blame.specs.LastWrites.{places_stored}
+use Rattle.debugger_blame.specs.inner.Stored.{if_store, is_store, store_in}
 
 -- the next turn does what the word at the pc means, which is legal
 pub record DoesMeant (text : List ℕ) (hart : HartState) (next : Next) : Type 0 where
@@ -129,3 +131,41 @@ unstored state number word would there stores isnt = go (outcome state number) r
     go HasFinished is = unstepped state number word there (λ e. (let other : HasFinished ≡ Stepped = sym is ∙ e in cc))
     go Idle is = unstepped state number word there (λ e. (let other : Idle ≡ Stepped = sym is ∙ e in cc))
     go (HasTrapped trap) is = unstepped state number word there (λ e. (let other : HasTrapped trap ≡ Stepped = sym is ∙ e in cc))
+
+-- ---- where the next instruction stores, or doesn't
+
+-- what the word means stores, or writes nothing
+other_stores_nothing : (insn : Insn) (hart : HartState) → is_store insn ≡ false → places_stored insn hart ≡ []
+other_stores_nothing (i.Store op rs1 rs2 imm) hart isnt = absurd cc
+other_stores_nothing (i.AmoaddW rd rs1 rs2 aq rl) hart isnt = absurd cc
+other_stores_nothing (i.Vector (v.StoreElements w vs3 rs1 addressing vm)) hart isnt = absurd cc
+other_stores_nothing insn hart isnt = refl
+
+pub store_is : (word : Option ℕ) (insn store : Insn) → option_and_then decoded word ≡ Some insn → option_and_then store_in word ≡ Some store → insn ≡ store
+store_is None insn store is stores = absurd cc
+store_is (Some w) insn store is stores = go (is_store insn) (ap if_store (sym is) ∙ stores)
+  where
+    go : (b : Bool) → (if b then Some insn else None) ≡ Some store → insn ≡ store
+    go true e = cc
+    go false e = absurd cc
+
+pub store_none : (word : Option ℕ) (insn : Insn) (hart : HartState) → option_and_then decoded word ≡ Some insn → option_and_then store_in word ≡ None → places_stored insn hart ≡ []
+store_none None insn hart is stores = absurd cc
+store_none (Some w) insn hart is stores = other_stores_nothing insn hart (go (is_store insn) (ap if_store (sym is) ∙ stores))
+  where
+    go : (b : Bool) → (if b then Some insn else None) ≡ None → b ≡ false
+    go true e = absurd cc
+    go false e = refl
+
+-- a hart whose next instruction doesn't store writes nothing
+pub quiet_without_store : (state : State) (number : ℕ) → slice_get state.harts number ≡ Some (hart_at state number)
+    → option_and_then store_in (fetched state.text (hart_at state number).pc) ≡ None → written_next state number ≡ []
+quiet_without_store state number there none = go (outcome state number) refl
+  where
+    go : (o : Outcome) → outcome state number ≡ o → written_next state number ≡ []
+    go Stepped is =
+        let did = stepped state number there is in
+        did.writes_it ∙ store_none (fetched state.text (hart_at state number).pc) did.insn (hart_at state number) did.meant_is none
+    go HasFinished is = not_stepped state number there (λ e. (let other : HasFinished ≡ Stepped = sym is ∙ e in cc))
+    go Idle is = not_stepped state number there (λ e. (let other : Idle ≡ Stepped = sym is ∙ e in cc))
+    go (HasTrapped trap) is = not_stepped state number there (λ e. (let other : HasTrapped trap ≡ Stepped = sym is ∙ e in cc))

@@ -1,17 +1,16 @@
 //! One pass over a log that marks words which stand in a row, each with the last turn that wrote it.
 
-ghost use Rattle.std.specs.Prelude.{◌≡◌, ◌+◌, ◌*◌, ◌<◌, ◌≤◌, ◌%◌, ◌^◌, ◌++◌, ◌∷◌, [], ℕ, List, length, map, replicate, IfOk};
+ghost use Rattle.std.specs.Prelude.{◌≡◌, ◌+◌, ◌*◌, ◌<◌, ◌≤◌, ◌%◌, ◌^◌, ◌++◌, ◌∷◌, [], ℕ, List, length, map, option_and_then, replicate, Some, IfOk};
 ghost use Rattle.hart_core.specs.VectorRows.{accesses_at, size_of};
 ghost use Rattle.memory.specs.Access.{access_at, places_of, touched};
-ghost use Rattle.memory.specs.Addresses.{most_words};
-ghost use Rattle.multi_hart.specs.Run.{State, run, turn};
-ghost use Rattle.rv_encoding.specs.Decoding.{decoded};
-ghost use Rattle.vector_codegen_sharing.specs.Turns.{is_word_in};
+ghost use Rattle.memory.specs.Addresses.{fetched, most_words};
+ghost use Rattle.multi_hart.specs.Run.{State, hart_at, run, turn};
+ghost use Rattle.vector_codegen_sharing.specs.Turns.{is_word_in, written_next};
 ghost use Rattle.debugger_blame.specs.Marks.{AreMarks};
-ghost use Rattle.debugger_blame.specs.inner.Stored.{Marked, is_byte_of_word, places_in};
+ghost use Rattle.debugger_blame.specs.inner.Stored.{Marked, is_byte_of_word, places_in, store_in};
 
-use crate::passes::{Stretch, meanings, next_stored};
-use crate::stores::Stored;
+use crate::passes::{Stretch, store_at, stores_of};
+use crate::stores::{Stored, numbers_stored};
 use hart_core::Status;
 use multi_hart::Machine;
 use rv_insn::{ElementWidth, Insn, Outcome};
@@ -54,13 +53,13 @@ pub fn mark_words(
     ensures marks { IfOk result (λ marks. AreMarks range.marking range.first machine.old log.now.turns marks.items) }
     ensures count { IfOk result (λ marks. length marks.items ≡ range.count) }
 {
-    let insns = meanings(alloc, words)?;
+    let insns = stores_of(alloc, words)?;
     let mut marks = vec![in alloc; UNMARKED; range.count]?;
     mark_all(machine, &insns, log, range, &mut marks);
     Ok(marks)
 }
 
-/// The same, where it is known what the words of text mean, and nothing is marked.
+/// The same, where it is known which words of text store, and nothing is marked.
 fn mark_all(
     machine: &mut Machine,
     insns: &[Option<Insn>],
@@ -68,7 +67,7 @@ fn mark_all(
     range: MarkedRange,
     marks: &mut [u32],
 )
-    requires meant { insns.now ≡ map decoded machine.old.text }
+    requires meant { insns.now ≡ map store_in machine.old.text }
     requires few { length insns.now ≤ most_words }
     requires harts { length machine.old.harts ≡ log.now.harts }
     requires unmarked { AreMarks range.marking range.first machine.old [] marks.old }
@@ -95,7 +94,7 @@ fn mark_run(
 )
     requires there { stretch.hart < length machine.old.harts }
     requires eight { length machine.old.harts ≤ 8 }
-    requires meant { insns.now ≡ map decoded machine.old.text }
+    requires meant { insns.now ≡ map store_in machine.old.text }
     requires few { length insns.now ≤ most_words }
     requires fits { stretch.place + stretch.count < 2 ^ 64 }
     ensures state { machine.new ≡ run machine.old (replicate stretch.count stretch.hart) }
@@ -126,23 +125,40 @@ fn mark_turn(
 )
     requires there { hart < length machine.old.harts }
     requires eight { length machine.old.harts ≤ 8 }
-    requires meant { insns.now ≡ map decoded machine.old.text }
+    requires meant { insns.now ≡ map store_in machine.old.text }
     requires few { length insns.now ≤ most_words }
     ensures state { machine.new ≡ turn machine.old hart }
     ensures marks { (begin : State) (done : List ℕ) → machine.old ≡ run begin done → length done ≡ place
         → AreMarks range.marking range.first begin done marks.old
         → AreMarks range.marking range.first begin (done ++ hart ∷ []) marks.new }
 {
-    let stored = next_stored(machine, insns, hart);
+    let Some(insn) = store_at(insns, machine.pc(hart)) else {
+        let _ = machine.turn(hart);
+        return;
+    };
+    let mark = mark_of(range.marking, place, hart);
+    mark_store(machine, insn, hart, mark, range.first, marks);
+}
+
+/// Makes a turn whose instruction stores, and marks the words that it writes.
+fn mark_store(
+    machine: &mut Machine,
+    insn: &Insn,
+    hart: usize,
+    mark: u32,
+    first: u32,
+    marks: &mut [u32],
+)
+    requires there { hart < length machine.old.harts }
+    requires stores { option_and_then store_in (fetched machine.old.text (hart_at machine.old hart).pc) ≡ Some insn.now }
+    ensures state { machine.new ≡ turn machine.old hart }
+    ensures marks { Marked first (λ word. is_word_in word (written_next machine.old hart)) mark marks.old marks.new }
+{
+    let stored = numbers_stored(machine.hart(hart), insn);
     let Outcome::Stepped = machine.turn(hart) else {
         return;
     };
-    mark_stored(
-        marks,
-        range.first,
-        &stored,
-        mark_of(range.marking, place, hart),
-    );
+    mark_stored(marks, first, &stored, mark);
 }
 
 /// What a turn of a hart marks words with.

@@ -8,15 +8,14 @@ ghost use Rattle.hart_core.specs.Scalar.{illegal_fault};
 ghost use Rattle.multi_hart.specs.Run.{State, hart_at, run, turn, word_in};
 ghost use Rattle.vector_codegen_sharing.specs.Turns.{is_word_in};
 ghost use Rattle.debugger_blame.specs.LastWrites.{Blames, held, places_stored};
-ghost use Rattle.debugger_blame.specs.inner.Stored.{places_in};
+ghost use Rattle.debugger_blame.specs.inner.Stored.{store_in};
 ghost use Rattle.rv_insn.specs.declared.instructions.Insn.{Insn};
 
-use crate::stores::{Stored, numbers_stored};
+use crate::stores::{store_of, stores_to};
 use crate::writes::Write;
 use hart_core::Status;
 use memory::TEXT_START;
 use multi_hart::Machine;
-use rv_encoding::decode;
 use rv_insn::{Insn, Outcome};
 use std::alloc::{AllocError, Global};
 use turn_log::TurnLog;
@@ -35,20 +34,20 @@ pub fn last_write(
     requires harts { length machine.old.harts ≡ log.now.harts }
     ensures { IfOk result (Blames machine.old log.now.turns address) }
 {
-    let insns = meanings(alloc, words)?;
+    let insns = stores_of(alloc, words)?;
     Ok(pass(machine, &insns, log, address))
 }
 
-/// What each of the words means.
-pub(crate) fn meanings(alloc: Global, words: &[u32]) -> Result<Vec<Option<Insn>>, AllocError>
-    ensures { IfOk result (λ insns. insns.items ≡ map decoded words.now) }
+/// The instruction that each of the words means, if that stores.
+pub(crate) fn stores_of(alloc: Global, words: &[u32]) -> Result<Vec<Option<Insn>>, AllocError>
+    ensures { IfOk result (λ insns. insns.items ≡ map store_in words.now) }
 {
-    words.iter().map(|word| decode(*word)).collect(alloc)
+    words.iter().map(|word| store_of(*word)).collect(alloc)
 }
 
-/// The same, where it is known what the words of text mean.
+/// The same, where it is known which words of text store.
 fn pass(machine: &mut Machine, insns: &[Option<Insn>], log: &TurnLog, address: u32) -> Option<Write>
-    requires meant { insns.now ≡ map decoded machine.old.text }
+    requires meant { insns.now ≡ map store_in machine.old.text }
     requires few { length insns.now ≤ most_words }
     requires harts { length machine.old.harts ≡ log.now.harts }
     ensures { Blames machine.old log.now.turns address result }
@@ -85,7 +84,7 @@ fn pass_run(
     last: Option<Write>,
 ) -> Option<Write>
     requires there { stretch.hart < length machine.old.harts }
-    requires meant { insns.now ≡ map decoded machine.old.text }
+    requires meant { insns.now ≡ map store_in machine.old.text }
     requires few { length insns.now ≤ most_words }
     requires fits { stretch.place + stretch.count < 2 ^ 64 }
     ensures state { machine.new ≡ run machine.old (replicate stretch.count stretch.hart) }
@@ -116,7 +115,7 @@ fn step(
     last: Option<Write>,
 ) -> Option<Write>
     requires there { hart < length machine.old.harts }
-    requires meant { insns.now ≡ map decoded machine.old.text }
+    requires meant { insns.now ≡ map store_in machine.old.text }
     requires few { length insns.now ≤ most_words }
     ensures state { machine.new ≡ turn machine.old hart }
     ensures blames { (begin : State) (done : List ℕ) → machine.old ≡ run begin done → length done ≡ place → Blames begin done address last
@@ -144,34 +143,22 @@ fn step(
 /// Whether a hart's next turn writes a byte of the word, if it makes no trap.
 fn would_write(machine: &Machine, insns: &[Option<Insn>], hart: usize, address: u32) -> bool
     requires there { hart < length machine.now.harts }
-    requires meant { insns.now ≡ map decoded machine.now.text }
+    requires meant { insns.now ≡ map store_in machine.now.text }
     requires few { length insns.now ≤ most_words }
     ensures { (insn : Insn) → option_and_then decoded (fetched machine.now.text (hart_at machine.now hart).pc) ≡ Some insn
         → illegal_fault insn (hart_at machine.now hart) ≡ None
         → result ≡ is_word_in address (places_stored insn (hart_at machine.now hart)) }
 {
-    next_stored(machine, insns, hart).touches(address)
-}
-
-/// What a hart's next turn stores, if it makes no trap.
-pub(crate) fn next_stored(machine: &Machine, insns: &[Option<Insn>], hart: usize) -> Stored
-    requires there { hart < length machine.now.harts }
-    requires meant { insns.now ≡ map decoded machine.now.text }
-    requires few { length insns.now ≤ most_words }
-    ensures { (insn : Insn) → option_and_then decoded (fetched machine.now.text (hart_at machine.now hart).pc) ≡ Some insn
-        → illegal_fault insn (hart_at machine.now hart) ≡ None
-        → places_in result ≡ places_stored insn (hart_at machine.now hart) }
-{
-    match insn_at(insns, machine.pc(hart)) {
-        Some(insn) => numbers_stored(machine.hart(hart), insn),
-        None => Stored::Nothing,
+    match store_at(insns, machine.pc(hart)) {
+        Some(insn) => stores_to(machine.hart(hart), insn, address),
+        None => false,
     }
 }
 
-/// What the word of text at an address means.
-fn insn_at(insns: &[Option<Insn>], pc: u32) -> Option<&Insn>
+/// The instruction at an address, if that stores.
+pub(crate) fn store_at(insns: &[Option<Insn>], pc: u32) -> Option<&Insn>
     requires { length insns.now ≤ most_words }
-    ensures { (text : List ℕ) → insns.now ≡ map decoded text → option_copied result ≡ option_and_then decoded (fetched text pc) }
+    ensures { (text : List ℕ) → insns.now ≡ map store_in text → option_copied result ≡ option_and_then store_in (fetched text pc) }
 {
     if pc < TEXT_START || pc % 4 != 0 {
         return None;

@@ -11,10 +11,11 @@ ghost use Rattle.hart_core.specs.VectorRows.{accesses_at, size_of};
 ghost use Rattle.multi_hart.specs.Frame.{is_in};
 ghost use Rattle.vector_codegen_sharing.specs.Turns.{is_word_in};
 ghost use Rattle.debugger_blame.specs.LastWrites.{places_stored};
-ghost use Rattle.debugger_blame.specs.inner.Stored.{places_in};
+ghost use Rattle.debugger_blame.specs.inner.Stored.{is_store, places_in, store_in};
 ghost use Rattle.rv_insn.specs.declared.instructions.Insn.TheVariants as insns;
 
 use hart_core::Hart;
+use rv_encoding::decode;
 use rv_insn::{Addressing, ElementWidth, Insn, Reg, StoreOp, VectorInsn};
 use vector_unit::Numbers;
 
@@ -31,6 +32,42 @@ pub(crate) enum Stored {
         addresses: Numbers,
         width: ElementWidth,
     },
+}
+
+/// The instruction that a word means, if that stores.
+pub(crate) fn store_of(word: u32) -> Option<Insn>
+    ensures { result ≡ store_in word }
+{
+    match decode(word) {
+        Some(insn) if is_store(&insn) => Some(insn),
+        _ => None,
+    }
+}
+
+/// Whether an instruction stores.
+fn is_store(insn: &Insn) -> bool
+    ensures { result ≡ is_store insn.now }
+{
+    match insn {
+        Insn::Store { .. } | Insn::AmoaddW { .. } => true,
+        Insn::Vector(VectorInsn::StoreElements { .. }) => true,
+        _ => false,
+    }
+}
+
+/// Whether an instruction that is legal in the hart's state stores a byte of a word, where it makes no other trap.
+pub(crate) fn stores_to(hart: &Hart, insn: &Insn, word: u32) -> bool
+    ensures { illegal_fault insn.now hart.now ≡ None → result ≡ is_word_in word (places_stored insn.now hart.now) }
+{
+    match insn {
+        Insn::Store { op, rs1, imm, .. } => {
+            touches_any(&[hart.address(*rs1, *imm)], width_of(*op), word)
+        }
+        Insn::AmoaddW { rs1, .. } => {
+            touches_any(&[hart.register(*rs1)], ElementWidth::Bits32, word)
+        }
+        _ => numbers_stored(hart, insn).touches(word),
+    }
 }
 
 /// What an instruction that is legal in the hart's state stores, where it makes no other trap.
