@@ -5,6 +5,7 @@ use Rattle.std.specs.declared.alloc.Global.{Global}
 use Rattle.hrv_engines.specs.declared.faults.Fault.{Fault}
 use Rattle.hrv_engines.specs.declared.faults.Fault.TheVariants.{Memory}
 use Rattle.hrv_engines.specs.Asm.{IsAssembly, IsRefusedAssembly}
+use Rattle.hrv_engines.specs.Blame.{IsBlame, IsRefusedBlame}
 use Rattle.hrv_engines.specs.Compile.{IsCompilation, IsRefusedCompilation}
 use Rattle.hrv_engines.specs.Debug.{Talks}
 use Rattle.hrv_engines.specs.Devices.{both, bytes_of, pieces_of, sink_of, text_of, texts_of}
@@ -16,7 +17,7 @@ use Rattle.hrv_engines.specs.Replay.{IsRefusedReplay, IsReplay}
 use Rattle.hrv_engines.specs.Run as run
 use Rattle.hrv_engines.specs.declared.explain.TheConstants.{VERSION}
 use Rattle.hrv_refusals.specs.Explanations.{explanation}
-use Rattle.hrv_command_line.specs.CommandLine.{Asked, Replays, Debugs, Assembles, Lists, ListsAddresses, Renews, Draws, Compiles, Runs, Resumes, Explains, TellsVersion}
+use Rattle.hrv_command_line.specs.CommandLine.{Asked, Replays, Debugs, Blames, Assembles, Lists, ListsAddresses, Renews, Draws, Compiles, Runs, Resumes, Explains, TellsVersion}
 
 -- a fact of some device at this place, by its state before and after
 abbrev pub At : {S : Type 0} → (S → List ℕ) → List ℕ → (S → S → Type 0) → Type 0
@@ -64,6 +65,12 @@ module _ {R W T P : Type 0}
       Talks (both (bytes_of read_at read_failed gave ended s t) (bytes_of read_at read_failed gave ended u v))
       (pieces_of typed_at typing_failed typed k l) (typed_all l)
       (sink_of printed_at print_failed printed o p) result))))
+  Does alloc (Blames image log x y address with_turns) result =
+      At read_at image (λ s t. At read_at log (λ u v. At printed_at dash (λ o p.
+      Performs (IsBlame (record { x = x; y = y; address = address; with_turns = with_turns }))
+      (IsRefusedBlame (record { x = x; y = y; address = address; with_turns = with_turns }))
+      (both (bytes_of read_at read_failed gave ended s t) (bytes_of read_at read_failed gave ended u v))
+      (sink_of printed_at print_failed printed o p) result)))
   Does alloc (Draws algorithm inputs) result =
       OrMemory result (At read_at algorithm (λ s t. AtEach read_at inputs (λ u v. At printed_at dash (λ o p.
       Performs (IsDrawing alloc) (IsRefusedDrawing alloc)

@@ -1,16 +1,16 @@
 //! What the words ask for, done by the engine of the command over the devices that they name.
 
-ghost use Rattle.std.specs.Prelude.{◌≡◌, codes, map, IfOk};
+ghost use Rattle.std.specs.Prelude.{◌≡◌, codes, map, option_map, IfOk};
 ghost use Rattle.std.specs.List.{All};
 ghost use Rattle.clap.specs.Walk.{texts};
-ghost use Rattle.hrv_command_line.specs.CommandLine.{AreWithinLimits, Assembles, Compiles, Debugs, Draws, Explains, IsWithinLimits, Lists, ListsAddresses, Renews, Replays, Resumes, Runs, TellsVersion, asked_by};
+ghost use Rattle.hrv_command_line.specs.CommandLine.{AreWithinLimits, Assembles, Blames, Compiles, Debugs, Draws, Explains, IsWithinLimits, Lists, ListsAddresses, Renews, Replays, Resumes, Runs, TellsVersion, asked_by};
 ghost use Rattle.hrv.specs.Dispatch.{Does};
 
 use hrv_command_line::Invocation;
 use hrv_engines::{
-    Fault, Sink, Source, asm_bytes, compile_bytes, debug_bytes, dis_addresses_bytes, dis_bytes,
-    explain_bytes, picture_bytes, renew_bytes, replay_bytes, resume_bytes, run_bytes,
-    version_bytes,
+    Fault, Question, Sink, Source, asm_bytes, blame_bytes, compile_bytes, debug_bytes,
+    dis_addresses_bytes, dis_bytes, explain_bytes, picture_bytes, renew_bytes, replay_bytes,
+    resume_bytes, run_bytes, version_bytes,
 };
 use std::alloc::{AllocError, Global};
 use std::sync::Wait;
@@ -68,6 +68,22 @@ pub fn obey<'a, R: Threads + Wait + Sync, D: Devices<'a>>(
         Invocation::Renew { old, new } => renew(alloc, devices, old, new),
         Invocation::Replay { image, log } => replay(alloc, devices, image, log),
         Invocation::Debug { image, log } => debug(alloc, devices, image, log),
+        Invocation::Blame {
+            image,
+            log,
+            x,
+            y,
+            address,
+            with_turns,
+        } => {
+            let question = Question {
+                x,
+                y,
+                address,
+                with_turns,
+            };
+            blame(alloc, devices, image, log, question)
+        }
         Invocation::Picture { algorithm, inputs } => {
             draw(threads, alloc, devices, algorithm, inputs)
         }
@@ -188,6 +204,32 @@ fn debug<'a, D: Devices<'a>>(
         &mut image,
         &mut log,
         &mut devices.typed(),
+        &mut devices.printed(),
+    )
+}
+
+/// `blame IMAGE LOG [X Y] --address A --turns`
+fn blame<'a, D: Devices<'a>>(
+    alloc: Global,
+    devices: &D,
+    image: &'a str,
+    log: &'a str,
+    question: Question<'a>,
+) -> Result<(), Fault>
+    ensures { Does D.Read.place D.Read.failed D.Read.gave D.Read.ended
+        D.Written.place D.Written.failed D.Written.took
+        D.Typed.place D.Typed.failed D.Typed.gave D.Typed.ended
+        D.Printed.place D.Printed.failed D.Printed.took alloc
+        (Blames image.entry.now log.entry.now (option_map (λ s. s.now) question.entry.x) (option_map (λ s. s.now) question.entry.y)
+        (option_map (λ s. s.now) question.entry.address) question.entry.with_turns) result }
+{
+    let mut image = devices.read(image);
+    let mut log = devices.read(log);
+    blame_bytes(
+        alloc,
+        &mut image,
+        &mut log,
+        question,
         &mut devices.printed(),
     )
 }

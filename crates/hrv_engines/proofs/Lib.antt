@@ -1,6 +1,8 @@
 mod Telling
 pub mod Compilations
 pub mod Drawings
+pub mod LastTold
+pub mod MarkRows
 pub mod Numbers
 pub mod Pixels
 pub mod Printing

@@ -11,13 +11,13 @@ use Rattle.multi_hart.specs.Run.{State, if_no_fault, word_in}
 use Rattle.hrv_engines.specs.Dump.{pixel_address, pixel}
 
 -- what the rules of an output say
-record Lies (bytes : ℕ) (output : Output) : Type 0 where
-  address : output.address % 4 ≡ 0
-  stride : output.stride % 4 ≡ 0
-  low : data_start ≤ output.address
-  high : end_of output ≤ data_start + bytes
+pub record Lies (bytes : ℕ) (output : Output) : Type 0 where
+  pub address : output.address % 4 ≡ 0
+  pub stride : output.stride % 4 ≡ 0
+  pub low : data_start ≤ output.address
+  pub high : end_of output ≤ data_start + bytes
 
-lies : (bytes : ℕ) (output : Output) → IsTrue (is_output bytes output) → Lies bytes output
+pub lies : (bytes : ℕ) (output : Output) → IsTrue (is_output bytes output) → Lies bytes output
 lies bytes output h = record {
   address = grind (arith, nat_tests);
   stride = grind (arith, nat_tests);
@@ -31,7 +31,7 @@ fours stride y h =
     let e : y * stride ≡ y * (4 * (stride / 4)) = ap (λ s. y * s) whole in
     omega (arith, e)
 
-before_last : (stride y height : ℕ) → y < height → y * stride ≤ (height - 1) * stride
+pub before_last : (stride y height : ℕ) → y < height → y * stride ≤ (height - 1) * stride
 before_last stride y height h =
     let e : stride * y ≤ stride * (height - 1) = mul-le-mul_left stride (omega arith) in
     omega (arith, e)

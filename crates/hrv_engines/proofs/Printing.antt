@@ -40,18 +40,18 @@ unfolding vector_lines
 vector_lines-more hart v = rw add-one refl
 
 -- what stands behind texts before one more
-abbrev separator : List (List ℕ) → List ℕ
+abbrev pub separator : List (List ℕ) → List ℕ
 separator [] = []
 separator (text ∷ texts) = 32 ∷ []
 
-joined-more : (texts : List (List ℕ)) (one : List ℕ) → join_with_byte 32 (texts ++ one ∷ []) ≡ join_with_byte 32 texts ++ (separator texts ++ one)
+pub joined-more : (texts : List (List ℕ)) (one : List ℕ) → join_with_byte 32 (texts ++ one ∷ []) ≡ join_with_byte 32 texts ++ (separator texts ++ one)
 joined-more [] one = refl
 joined-more (text ∷ []) one = refl
 joined-more (text ∷ other ∷ texts) one =
     ap (λ rest. text ++ (32 ∷ rest)) (joined-more (other ∷ texts) one)
     ∙ sym (append_assoc text (32 ∷ join_with_byte 32 (other ∷ texts)) (32 ∷ one))
 
-separator-more : (xs : List ℕ) (x : ℕ) → separator (map number_text (xs ++ x ∷ [])) ≡ 32 ∷ []
+pub separator-more : (xs : List ℕ) (x : ℕ) → separator (map number_text (xs ++ x ∷ [])) ≡ 32 ∷ []
 separator-more [] x = refl
 separator-more (first ∷ others) x = refl
 

@@ -1,4 +1,6 @@
 pub mod Asm
+pub mod Blame
+pub mod BlameQuestions
 pub mod Commands
 pub mod Compile
 pub mod Debug
@@ -14,3 +16,4 @@ pub mod Replay
 pub mod Run
 pub mod Talk
 pub mod TalkSoFar
+pub mod inner

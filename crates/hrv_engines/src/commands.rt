@@ -133,7 +133,7 @@ fn with_two(name: &[u8], hart: u64, number: u64) -> Option<Command>
 
 /// The number that a word spells: decimal digits, or `0x` and hexadecimal digits.
 #[tactic(auto, unfolding(crate::specs::Commands::number_of))]
-fn read_number(word: &[u8]) -> Option<u64>
+pub(crate) fn read_number(word: &[u8]) -> Option<u64>
     ensures { result ≡ spec.number_of word.now }
 {
     match word {

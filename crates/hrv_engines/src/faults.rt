@@ -2,6 +2,7 @@
 
 ghost use Rattle.std.specs.Prelude.{◌≡◌};
 
+use crate::questions::BlameFault;
 use assembler::AsmFault;
 use halide_parser_syntax::ParseFault;
 use hrv_compiler::CompileFault;
@@ -34,6 +35,9 @@ pub enum Refusal {
     /// The input pictures are not those that the algorithm asks for.
     #[error("input {}", .0.number().unwrap_or(0))]
     Input(EvalError),
+    /// A question about who wrote data.
+    #[error("blame {}", .0.number())]
+    Blame(BlameFault),
     /// An algorithm under a schedule, which aren't compiled.
     #[error("{0}")]
     Compile(CompileFault),
@@ -173,6 +177,17 @@ impl From<EvalError> for Fault {
             EvalError::OutOfMemory => Fault::Memory,
             _ => Fault::Refused(Refusal::Input(error)),
         }
+    }
+}
+
+impl From<BlameFault> for Fault {
+    ghost use Rattle.hrv_engines.specs.declared.faults.Fault.TheVariants.{Refused};
+    ghost use Rattle.hrv_engines.specs.declared.faults.Refusal.TheVariants.{Blame};
+
+    ghost from_gives = { λ fault answered. answered ≡ Refused (Blame fault) };
+
+    fn from(fault: BlameFault) -> Fault {
+        Fault::Refused(Refusal::Blame(fault))
     }
 }
 

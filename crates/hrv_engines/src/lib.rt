@@ -8,6 +8,8 @@
 //! - [`run`]: an image becomes a log of turns that threads made, and a dump; [`run_bytes`], and [`resume_bytes`] where a log goes on, over
 //!   `specs/Run.antt`.
 //! - [`debug`]: an image, a log of turns and lines of commands become a talk; [`debug_bytes`], over `specs/Debug.antt` and `Talk.antt`.
+//! - [`blame`]: an image, a log of turns and a question become the answer who wrote data; [`blame_bytes`], over `specs/Blame.antt`, by
+//!   what [`questions`] ask, over `specs/BlameQuestions.antt`.
 //! - [`drawing`]: an algorithm and input pictures become the reference picture; [`picture_bytes`], over `specs/Drawing.antt`.
 //! - [`compiling`]: an algorithm, a schedule and input pictures become an image; [`compile_bytes`], over `specs/Compile.antt`.
 //! - [`explain`]: a refusal is explained; [`explain_bytes`], and the version is told; [`version_bytes`].
@@ -19,6 +21,8 @@
 #![tactic(auto)]
 
 pub mod asm;
+pub mod blame;
+mod blame_texts;
 mod commands;
 pub mod compiling;
 mod cuts;
@@ -30,12 +34,14 @@ mod dumps;
 pub mod explain;
 pub mod faults;
 mod pictures;
+pub mod questions;
 pub mod renew;
 pub mod replay;
 pub mod run;
 mod talks;
 
 pub use crate::asm::asm_bytes;
+pub use crate::blame::blame_bytes;
 pub use crate::compiling::compile_bytes;
 pub use crate::debug::debug_bytes;
 pub use crate::devices::{Sink, Source};
@@ -43,6 +49,7 @@ pub use crate::dis::{dis_addresses_bytes, dis_bytes};
 pub use crate::drawing::picture_bytes;
 pub use crate::explain::{explain_bytes, version_bytes};
 pub use crate::faults::{Fault, Refusal};
+pub use crate::questions::{BlameFault, Question};
 pub use crate::renew::renew_bytes;
 pub use crate::replay::replay_bytes;
 pub use crate::run::{resume_bytes, run_bytes};

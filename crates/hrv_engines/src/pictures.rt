@@ -27,7 +27,11 @@ pub fn push_picture(text: &mut String, machine: &Machine, output: Output) -> Res
 
 /// `picture W H`
 #[tactic(auto, unfolding(picture::specs::Spelling::heading))]
-fn push_picture_heading(text: &mut String, width: u32, height: u32) -> Result<(), AllocError>
+pub(crate) fn push_picture_heading(
+    text: &mut String,
+    width: u32,
+    height: u32,
+) -> Result<(), AllocError>
     ensures { OnOk result (string_bytes text.new ≡ string_bytes text.old ++ heading width height) }
 {
     writeln!(text, "picture {width} {height}")?;
@@ -49,7 +53,7 @@ fn push_row(text: &mut String, machine: &Machine, output: Output, y: u32) -> Res
 }
 
 /// The number of a row at a place; each but the first has a space before it.
-fn push_separated(text: &mut String, x: u32, pixel: u32) -> Result<(), AllocError>
+pub(crate) fn push_separated(text: &mut String, x: u32, pixel: u32) -> Result<(), AllocError>
     ensures { OnOk result (string_bytes text.new ≡ string_bytes text.old ++ ((if x == 0 then [] else codes " ") ++ number_text pixel)) }
 {
     if x > 0 {
@@ -61,7 +65,7 @@ fn push_separated(text: &mut String, x: u32, pixel: u32) -> Result<(), AllocErro
 
 /// The signed number that a word stands for.
 #[tactic(auto, unfolding(picture::specs::Spelling::number_text))]
-fn push_number(text: &mut String, pixel: u32) -> Result<(), AllocError>
+pub(crate) fn push_number(text: &mut String, pixel: u32) -> Result<(), AllocError>
     ensures { OnOk result (string_bytes text.new ≡ string_bytes text.old ++ number_text pixel) }
 {
     if pixel < 1 << 31 {

@@ -3,7 +3,7 @@
 /// A line for each family, and for each of its codes as often as it has causes, in the order in which they are judged. Below it stand, behind two
 /// blanks, what the family says, and the cause with what helps.
 #[rattlefmt::skip]
-pub static REFUSALS: [u8; 7657] = *b"\
+pub static REFUSALS: [u8; 8315] = *b"\
 file\n\
 \x20\x20cause: a file can't be read or written, or a text isn't UTF-8; here `-` is standard input or output\n\
 \x20\x20cure: look at the path, its rights, the disk\n\
@@ -71,6 +71,23 @@ log 5\n\
 log 4\n\
 \x20\x20cause: at the end: bytes behind the last run\n\
 \x20\x20cure: something was appended\n\
+blame\n\
+\x20\x20of `hrv blame`: what is asked has no answer\n\
+blame 1\n\
+\x20\x20cause: words that don't go together: X without Y, a pixel beside an address, `--turns` beside either\n\
+\x20\x20cure: no number, X and Y, or `--address`; `--turns` alone\n\
+blame 2\n\
+\x20\x20cause: a word that is no number\n\
+\x20\x20cure: decimal digits, or `0x` and hexadecimal digits, below 2^64\n\
+blame 3\n\
+\x20\x20cause: the image has no output\n\
+\x20\x20cure: `--address` takes any word of data\n\
+blame 4\n\
+\x20\x20cause: X or Y outside of the output\n\
+\x20\x20cure: both begin at 0 and lie below the output's width and height\n\
+blame 5\n\
+\x20\x20cause: an address that is none of a word of data\n\
+\x20\x20cure: a multiple of 4, from 0x00200000 up to the last word of data\n\
 asm\n\
 \x20\x20the assembly text is faulty, in the line that is named\n\
 asm 1\n\

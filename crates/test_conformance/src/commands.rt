@@ -6,9 +6,11 @@ ghost use Rattle.std.specs.List.{All};
 use crate::algorithms::push_bytes;
 use crate::devices::{Devices, devices_of};
 use crate::failures::Failure;
+use crate::invocations::words_of;
+use hrv_command_line::{Invocation, command};
 use hrv_engines::{
-    Fault, asm_bytes, debug_bytes, dis_addresses_bytes, dis_bytes, explain_bytes, picture_bytes,
-    renew_bytes, replay_bytes,
+    Fault, Question, asm_bytes, blame_bytes, debug_bytes, dis_addresses_bytes, dis_bytes,
+    explain_bytes, picture_bytes, renew_bytes, replay_bytes,
 };
 use std::alloc::{AllocError, Global};
 use std::thread::Threads;
@@ -113,6 +115,48 @@ pub fn push_talk(alloc: Global, parts: &[Part], out: &mut String) -> Result<(), 
         &mut page,
     );
     push_answer(answered, &page, out)
+}
+
+/// Who wrote what words behind an image and a log ask about.
+pub fn push_blame(alloc: Global, parts: &[Part], out: &mut String) -> Result<(), Failure> {
+    let (parts, devices) = devices_of(parts);
+    let [image, log, words] = parts else {
+        return Err(Failure::Malformed("not three parts"));
+    };
+    let image = bytes_of(alloc, image.named("image")?)?;
+    let log = bytes_of(alloc, log.named("log")?)?;
+    let words = words_of(alloc, "blame\nimage\nlog", words.named("words")?)?;
+    let question = question_of(alloc, &words)?;
+    let mut page = devices.page(alloc)?;
+    let answered = blame_bytes(
+        alloc,
+        &mut devices.tape("image", &image)?,
+        &mut devices.tape("log", &log)?,
+        question,
+        &mut page,
+    );
+    push_answer(answered, &page, out)
+}
+
+/// What the words of a command line ask about.
+fn question_of<'a>(alloc: Global, words: &'a [&'a str]) -> Result<Question<'a>, Failure> {
+    match command(alloc, words) {
+        Ok(
+            Invocation::Blame {
+                x,
+                y,
+                address,
+                with_turns,
+                ..
+            },
+        ) => Ok(Question {
+            x,
+            y,
+            address,
+            with_turns,
+        }),
+        _ => Err(Failure::Malformed("other words")),
+    }
 }
 
 /// The picture that an algorithm draws from pictures.

@@ -10,7 +10,7 @@ pub fn push_invocation(alloc: Global, parts: &[Part], out: &mut String) -> Resul
     let [words] = parts else {
         return Err(Failure::Malformed("not one part"));
     };
-    let words = words_of(alloc, words.named("words")?)?;
+    let words = words_of(alloc, "", words.named("words")?)?;
     match command(alloc, &words) {
         Ok(invocation) => push_asked(&invocation, out)?,
         Err(fault) => {
@@ -21,10 +21,17 @@ pub fn push_invocation(alloc: Global, parts: &[Part], out: &mut String) -> Resul
     Ok(())
 }
 
-/// The words, one a line.
-fn words_of<'a>(alloc: Global, lines: &'a str) -> Result<Vec<&'a str>, AllocError> {
+/// The words of two texts, one a line.
+pub fn words_of<'a>(
+    alloc: Global,
+    first: &'a str,
+    others: &'a str,
+) -> Result<Vec<&'a str>, AllocError> {
     let mut words = Vec::new(alloc);
-    for word in lines.lines() {
+    for word in first.lines() {
+        words.push(word)?;
+    }
+    for word in others.lines() {
         words.push(word)?;
     }
     Ok(words)
@@ -39,6 +46,18 @@ fn push_asked(invocation: &Invocation, out: &mut String) -> Result<(), AllocErro
         Invocation::Renew { old, new } => writeln!(out, "renew from {old} to {new}"),
         Invocation::Replay { image, log } => writeln!(out, "replay of {image} by {log}"),
         Invocation::Debug { image, log } => writeln!(out, "debug of {image} by {log}"),
+        Invocation::Blame {
+            image,
+            log,
+            x,
+            y,
+            address,
+            with_turns,
+        } => {
+            write!(out, "blame of {image} by {log} at")?;
+            push_given(&[*x, *y, *address], out)?;
+            writeln!(out, "{}", if *with_turns { " with turns" } else { "" })
+        }
         Invocation::Picture { algorithm, inputs } => {
             write!(out, "picture by {algorithm} of")?;
             push_inputs(inputs, out)
@@ -70,6 +89,14 @@ fn push_asked(invocation: &Invocation, out: &mut String) -> Result<(), AllocErro
         Invocation::Explain { family, code } => writeln!(out, "explain {family} {code}"),
         Invocation::Version => writeln!(out, "version"),
     }
+}
+
+/// Words that may be given, `-` where one isn't.
+fn push_given(words: &[Option<&str>], out: &mut String) -> Result<(), AllocError> {
+    for word in words {
+        write!(out, " {}", word.unwrap_or("-"))?;
+    }
+    Ok(())
 }
 
 /// The rest of a line: the files of inputs.

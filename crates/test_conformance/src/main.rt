@@ -22,6 +22,7 @@
 //! | `renew` | `image` | the renewed image's bytes, in hexadecimal |
 //! | `replay` | `image`, `log`: lines in hexadecimal | the dump |
 //! | `debug` | `image`, `log`: lines in hexadecimal; `lines` | the talk |
+//! | `blame` | `image`, `log`: lines in hexadecimal; `words`: those behind the files, one each line | who wrote what is asked about |
 //! | `run` | `image`; `turns`: how many a hart makes at most | the log of one hart, in hexadecimal, and the dump |
 //! | `resume` | `image`, `log`; `turns` | the same, from where a log of one hart ends |
 //! | `compile` | `algorithm`, `schedule`, any number of `picture` | the image but for its words, one hart's picture |
@@ -66,7 +67,7 @@ mod weights;
 use crate::algorithms::{push_reading, push_verdict};
 use crate::assemblies::{push_listing, push_object};
 use crate::commands::{
-    push_addresses, push_drawing, push_explained, push_image, push_lines, push_renewal,
+    push_addresses, push_blame, push_drawing, push_explained, push_image, push_lines, push_renewal,
     push_replay, push_talk,
 };
 use crate::compilations::{push_accesses, push_compilation};
@@ -156,6 +157,7 @@ fn push_answer(
         "renew" => push_renewal(alloc, parts, out),
         "replay" => push_replay(alloc, parts, out),
         "debug" => push_talk(alloc, parts, out),
+        "blame" => push_blame(alloc, parts, out),
         "run" => push_run(rt, alloc, parts, out),
         "resume" => push_resumption(rt, alloc, parts, out),
         "compile" => push_compilation(alloc, parts, out),
