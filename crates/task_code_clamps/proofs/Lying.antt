@@ -2,10 +2,11 @@
 use Rattle.std.proofs.Common.{◌≡◌, ℕ, ◌+◌, ◌%◌, ◌^◌, ◌<◌, ◌≤◌, refl, arith, inl, inr}
 use Rattle.std.specs.Prelude.{min, max}
 use Rattle.std.proofs.lemmas.Bool.{lt-ltb, le-ltb, cases_lt}
-use Rattle.halide_pipeline.specs.Words.{add, less, minimum, maximum}
+use Rattle.halide_pipeline.specs.Words.{add, less, minimum, maximum, subtract}
 use Rattle.loop_ir.specs.declared.expressions.Linear.{Linear}
 use Rattle.loop_ir.specs.Counters.{Values}
 use Rattle.loop_ir.specs.Expressions.{linear_value, sum_of}
+use Rattle.task_code_scalar.proofs.Evaluation.{chosen-below}
 use Rattle.task_code_clamps.specs.declared.ranges.Range.{Range}
 use Rattle.task_code_clamps.specs.Ranges.{level, LiesIn}
 
@@ -68,3 +69,26 @@ up-lies first most more low made e el eh small l =
 pub sum-is : (values : Values) (own : Linear) → linear_value values own ≡ add own.number (sum_of values own.terms)
 unfolding linear_value add
 sum-is values own = refl
+
+-- 0 changes nothing
+pub none-added : (v w : ℕ) → v < 2 ^ 32 → w ≡ 0 → add v w ≡ v
+unfolding add
+none-added v w small zero = omega (arith, small, zero)
+
+pub none-subtracted : (v w : ℕ) → v < 2 ^ 32 → w ≡ 0 → subtract v w ≡ v
+unfolding subtract
+none-subtracted v w small zero = omega (arith, small, zero)
+
+pub is-zero : (range : Range) (v : ℕ) → range.low ≡ 2 ^ 31 → range.high ≡ 2 ^ 31 → v < 2 ^ 32 → LiesIn range v → v ≡ 0
+is-zero range v el eh small l = let a = l.low in let b = l.high in omega (arith, el, eh, small, a, b)
+
+-- one of two words is a word
+pub choice-minimum : (v w : ℕ) → v < 2 ^ 32 → w < 2 ^ 32 → minimum v w < 2 ^ 32
+choice-minimum v w x y = chosen-below (less w v) w v (2 ^ 32) y x
+
+pub choice-maximum : (v w : ℕ) → v < 2 ^ 32 → w < 2 ^ 32 → maximum v w < 2 ^ 32
+choice-maximum v w x y = chosen-below (less v w) w v (2 ^ 32) y x
+
+pub sum-word : (values : Values) (own : Linear) → linear_value values own < 2 ^ 32
+unfolding linear_value
+sum-word values own = omega arith

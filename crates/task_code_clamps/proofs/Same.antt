@@ -1,6 +1,7 @@
 -- Expressions without clamps that cut nothing off come to the same.
-use Rattle.std.proofs.Common.{◌≡◌, ℕ, List, [], ◌∷◌, ◌++◌, ap, ◌∙◌, sym, subst}
-use Rattle.std.specs.Prelude.{◌==◌, if◌then◌else◌}
+use Rattle.std.proofs.Common.{◌≡◌, ℕ, List, [], ◌∷◌, ◌++◌, ap, ◌∙◌, sym, subst, ◌^◌, ◌<◌, Bool, true, false, arith}
+use Rattle.std.specs.Prelude.{◌==◌, ◌&&◌, if◌then◌else◌}
+use Rattle.std.proofs.lemmas.Bool.{and_parts, true≢false}
 use Rattle.std.proofs.lemmas.List.{append-nil}
 use Rattle.halide_pipeline.specs.declared.expressions.Operation.{Operation}
 use Rattle.halide_pipeline.specs.declared.expressions.Source.{Source}
@@ -23,6 +24,7 @@ use Rattle.task_code_clamps.specs.declared.clamps.Ranged.{Ranged}
 use Rattle.task_code_clamps.specs.declared.ranges.Range.{Range}
 use Rattle.task_code_clamps.specs.Clamps.{AreBytesAt, IsSame, IsRanged}
 use Rattle.task_code_clamps.specs.Ranges.{IsByte, LiesIn}
+use Rattle.task_code_clamps.proofs.Lying.{sum-word}
 
 -- a number and a sum load nothing
 no-loads-number : (reads : Reads) (values : Values) (n : ℕ) → loads reads values (e.Number n) ≡ []
@@ -48,20 +50,23 @@ module _ (places : Places) (bounds : List Bound) where
     loads_are = λ reads values below bytes. ap (λ x. loads reads values x) (sym is);
   }
 
-  pub ranged-number : (own : Expr) (n : ℕ) (range : Range) → own ≡ e.Number n → LiesIn range n
-      → IsRanged places bounds own (record { e = e.Number n; range = range })
-  ranged-number own n range is l = record {
+  pub ranged-number : (own : Expr) (n : ℕ) (range : Range) → own ≡ e.Number n → n < 2 ^ 32 → LiesIn range n
+      → IsRanged places bounds own (record { e = e.Number n; range = range; is_word = true })
+  ranged-number own n range is small l = record {
     same = same-itself own (e.Number n) is;
     lies = λ reads values below bytes. subst (λ k. LiesIn range k) (sym (ap (λ x. value reads values x) is ∙ value_number reads values n)) l;
+    word = λ reads values below bytes w. subst (λ k. k < 2 ^ 32) (sym (ap (λ x. value reads values x) is ∙ value_number reads values n)) small;
   }
 
   pub ranged-linear : (own : Expr) (sum made : Linear) (range : Range) → own ≡ e.Linear sum → made ≡ sum
       → ((values : Values) → AreBelow bounds values → LiesIn range (linear_value values sum))
-      → IsRanged places bounds own (record { e = e.Linear made; range = range })
+      → IsRanged places bounds own (record { e = e.Linear made; range = range; is_word = true })
   ranged-linear own sum made range is same l = record {
     same = same-itself own (e.Linear made) (is ∙ ap e.Linear (sym same));
     lies = λ reads values below bytes.
         subst (λ k. LiesIn range k) (sym (ap (λ x. value reads values x) is ∙ value_linear reads values sum)) (l values below);
+    word = λ reads values below bytes w.
+        subst (λ k. k < 2 ^ 32) (sym (ap (λ x. value reads values x) is ∙ value_linear reads values sum)) (sum-word values sum);
   }
 
   -- ---- operations
@@ -85,8 +90,14 @@ module _ (places : Places) (bounds : List Bound) where
     lies-y : LiesIn b.range vy
     lies-y = ry.lies reads values below parts.1
 
-    first-value : ((v w : ℕ) → LiesIn a.range v → LiesIn b.range w → word.applied o v w ≡ v) → value reads values (e.Binary o x y) ≡ vx
-    first-value is = value_binary reads values o x y ∙ is vx vy lies-x lies-y
+    words-both : (a.is_word && b.is_word) ≡ true → (vx < 2 ^ 32) × (vy < 2 ^ 32)
+    words-both t =
+        let k = and_parts a.is_word b.is_word t in
+        (rx.word reads values below parts.0 k.0, ry.word reads values below parts.1 k.1)
+
+    first-value : ((v w : ℕ) → LiesIn a.range v → LiesIn b.range w → ((a.is_word && b.is_word) ≡ true → (v < 2 ^ 32) × (w < 2 ^ 32)) → word.applied o v w ≡ v)
+        → value reads values (e.Binary o x y) ≡ vx
+    first-value is = value_binary reads values o x y ∙ is vx vy lies-x lies-y words-both
 
     second-value : ((v w : ℕ) → LiesIn a.range v → LiesIn b.range w → word.applied o v w ≡ w) → value reads values (e.Binary o x y) ≡ vy
     second-value is = value_binary reads values o x y ∙ is vx vy lies-x lies-y
@@ -111,7 +122,7 @@ module _ (places : Places) (bounds : List Bound) where
         ∙ ap (λ l. loads reads values x ++ l) (ry.same.loads_are reads values below parts.1) ∙ sym (loads_binary reads values o x y)
 
   module _ (o : Operation) (x y : Expr) (a b : Ranged) (rx : IsRanged places bounds x a) (ry : IsRanged places bounds y b) where
-    pub taken-first : ((v w : ℕ) → LiesIn a.range v → LiesIn b.range w → word.applied o v w ≡ v)
+    pub taken-first : ((v w : ℕ) → LiesIn a.range v → LiesIn b.range w → ((a.is_word && b.is_word) ≡ true → (v < 2 ^ 32) × (w < 2 ^ 32)) → word.applied o v w ≡ v)
         → ((reads : Reads) (values : Values) → loads reads values b.e ≡ []) → IsRanged places bounds (e.Binary o x y) a
     taken-first is leaf = record {
       same = record {
@@ -124,6 +135,9 @@ module _ (places : Places) (bounds : List Bound) where
       };
       lies = λ reads values below bytes.
           subst (λ n. LiesIn a.range n) (sym (first-value o x y a b rx ry reads values below bytes is)) (lies-x o x y a b rx ry reads values below bytes);
+      word = λ reads values below bytes w.
+          subst (λ n. n < 2 ^ 32) (sym (first-value o x y a b rx ry reads values below bytes is))
+          (rx.word reads values below (parts o x y a b rx ry reads values below bytes).0 w);
     }
 
     pub taken-second : ((v w : ℕ) → LiesIn a.range v → LiesIn b.range w → word.applied o v w ≡ w)
@@ -139,13 +153,18 @@ module _ (places : Places) (bounds : List Bound) where
       };
       lies = λ reads values below bytes.
           subst (λ n. LiesIn b.range n) (sym (second-value o x y a b rx ry reads values below bytes is)) (lies-y o x y a b rx ry reads values below bytes);
+      word = λ reads values below bytes w.
+          subst (λ n. n < 2 ^ 32) (sym (second-value o x y a b rx ry reads values below bytes is))
+          (ry.word reads values below (parts o x y a b rx ry reads values below bytes).1 w);
     }
 
-    pub taken-both : (first second : Expr) (range : Range) → first ≡ a.e → second ≡ b.e
+    pub taken-both : (first second : Expr) (range : Range) (is_word is_choice : Bool) → first ≡ a.e → second ≡ b.e
         → ((v w : ℕ) → LiesIn a.range v → LiesIn b.range w → LiesIn range (word.applied o v w))
-        → IsRanged places bounds (e.Binary o x y) (record { e = e.Binary o first second; range = range })
-    taken-both first second range ef es l =
-        subst (λ own. IsRanged places bounds (e.Binary o x y) (record { e = own; range = range }))
+        → is_word ≡ ((a.is_word && b.is_word) && is_choice)
+        → (is_choice ≡ true → (v w : ℕ) → v < 2 ^ 32 → w < 2 ^ 32 → word.applied o v w < 2 ^ 32)
+        → IsRanged places bounds (e.Binary o x y) (record { e = e.Binary o first second; range = range; is_word = is_word })
+    taken-both first second range is_word is_choice ef es l ew choice =
+        subst (λ own. IsRanged places bounds (e.Binary o x y) (record { e = own; range = range; is_word = is_word }))
         (sym (ap (λ p. e.Binary o p second) ef ∙ ap (e.Binary o a.e) es)) (record {
           same = record {
             value_is = λ reads values below bytes. both-value o x y a b rx ry reads values below bytes;
@@ -154,6 +173,10 @@ module _ (places : Places) (bounds : List Bound) where
           lies = λ reads values below bytes.
               subst (λ n. LiesIn range n) (sym (value_binary reads values o x y))
               (l (value reads values x) (value reads values y) (lies-x o x y a b rx ry reads values below bytes) (lies-y o x y a b rx ry reads values below bytes));
+          word = λ reads values below bytes w.
+              let k = and_parts (a.is_word && b.is_word) is_choice (sym ew ∙ w) in
+              let both = words-both o x y a b rx ry reads values below bytes k.0 in
+              subst (λ n. n < 2 ^ 32) (sym (value_binary reads values o x y)) (choice k.1 (value reads values x) (value reads values y) both.0 both.1);
         })
 
   pub ranged-binary : (own x y gx gy : Expr) (o : Operation) (a b made : Ranged) → own ≡ e.Binary o x y → gx ≡ x → gy ≡ y → IsRanged places bounds gx a
@@ -167,9 +190,9 @@ module _ (places : Places) (bounds : List Bound) where
   -- ---- other expressions
 
   pub ranged-divide : (own x gx made : Expr) (c : ℕ) (range : Range) → own ≡ e.Divide x c → gx ≡ x → IsSame places bounds gx made
-      → ((v : ℕ) → LiesIn range v) → IsRanged places bounds own (record { e = e.Divide made c; range = range })
+      → ((v : ℕ) → LiesIn range v) → IsRanged places bounds own (record { e = e.Divide made c; range = range; is_word = false })
   ranged-divide own x gx made c range is ex same l =
-      subst (λ t. IsRanged places bounds t (record { e = e.Divide made c; range = range })) (sym (is ∙ ap (λ t. e.Divide t c) (sym ex))) (record {
+      subst (λ t. IsRanged places bounds t (record { e = e.Divide made c; range = range; is_word = false })) (sym (is ∙ ap (λ t. e.Divide t c) (sym ex))) (record {
         same = record {
           value_is = λ reads values below bytes.
               let inner = subst (λ k. AreBytesAt places reads k) (loads_divide reads values gx c) bytes in
@@ -179,12 +202,13 @@ module _ (places : Places) (bounds : List Bound) where
               loads_divide reads values made c ∙ same.loads_are reads values below inner ∙ sym (loads_divide reads values gx c);
         };
         lies = λ reads values below bytes. l (value reads values (e.Divide gx c));
+        word = λ reads values below bytes w. absurd (true≢false (sym w));
       })
 
   pub ranged-remainder : (own x gx made : Expr) (c : ℕ) (range : Range) → own ≡ e.Remainder x c → gx ≡ x → IsSame places bounds gx made
-      → ((v : ℕ) → LiesIn range v) → IsRanged places bounds own (record { e = e.Remainder made c; range = range })
+      → ((v : ℕ) → LiesIn range v) → IsRanged places bounds own (record { e = e.Remainder made c; range = range; is_word = false })
   ranged-remainder own x gx made c range is ex same l =
-      subst (λ t. IsRanged places bounds t (record { e = e.Remainder made c; range = range })) (sym (is ∙ ap (λ t. e.Remainder t c) (sym ex))) (record {
+      subst (λ t. IsRanged places bounds t (record { e = e.Remainder made c; range = range; is_word = false })) (sym (is ∙ ap (λ t. e.Remainder t c) (sym ex))) (record {
         same = record {
           value_is = λ reads values below bytes.
               let inner = subst (λ k. AreBytesAt places reads k) (loads_remainder reads values gx c) bytes in
@@ -195,6 +219,7 @@ module _ (places : Places) (bounds : List Bound) where
               loads_remainder reads values made c ∙ same.loads_are reads values below inner ∙ sym (loads_remainder reads values gx c);
         };
         lies = λ reads values below bytes. l (value reads values (e.Remainder gx c));
+        word = λ reads values below bytes w. absurd (true≢false (sym w));
       })
 
   abbrev is-byte : Reads → Point → Type 0
@@ -233,15 +258,16 @@ module _ (places : Places) (bounds : List Bound) where
 
   pub ranged-select : (own c x y gc gx gy mc mx my : Expr) (range : Range) → own ≡ e.Select c x y → gc ≡ c → gx ≡ x → gy ≡ y
       → IsSame places bounds gc mc → IsSame places bounds gx mx → IsSame places bounds gy my → ((v : ℕ) → LiesIn range v)
-      → IsRanged places bounds own (record { e = e.Select mc mx my; range = range })
+      → IsRanged places bounds own (record { e = e.Select mc mx my; range = range; is_word = false })
   ranged-select own c x y gc gx gy mc mx my range is ec ex ey sc sx sy l =
-      subst (λ t. IsRanged places bounds t (record { e = e.Select mc mx my; range = range }))
+      subst (λ t. IsRanged places bounds t (record { e = e.Select mc mx my; range = range; is_word = false }))
       (sym (is ∙ ap (λ t. e.Select t x y) (sym ec) ∙ ap (λ t. e.Select gc t y) (sym ex) ∙ ap (e.Select gc gx) (sym ey))) (record {
         same = record {
           value_is = λ reads values below bytes. select-value gc gx gy mc mx my sc sx sy reads values below bytes;
           loads_are = λ reads values below bytes. select-loads gc gx gy mc mx my sc sx sy reads values below bytes;
         };
         lies = λ reads values below bytes. l (value reads values (e.Select gc gx gy));
+        word = λ reads values below bytes w. absurd (true≢false (sym w));
       })
 
   module _ (source : Source) (x y mx my : Expr) (sx : IsSame places bounds x mx) (sy : IsSame places bounds y my) (reads : Reads)
@@ -282,15 +308,18 @@ module _ (places : Places) (bounds : List Bound) where
     load-byte : IsByte places source (value reads values (e.Load source x y))
     load-byte = subst (λ n. IsByte places source n) (sym (value_load reads values source x y)) two.1.0
 
-  pub ranged-load : (own x y gx gy mx my : Expr) (source : Source) (range : Range) → own ≡ e.Load source x y → gx ≡ x → gy ≡ y
+  pub ranged-load : (own x y gx gy mx my : Expr) (source : Source) (range : Range) (is_word : Bool) → own ≡ e.Load source x y → gx ≡ x → gy ≡ y
       → IsSame places bounds gx mx → IsSame places bounds gy my → ((v : ℕ) → IsByte places source v → LiesIn range v)
-      → IsRanged places bounds own (record { e = e.Load source mx my; range = range })
-  ranged-load own x y gx gy mx my source range is ex ey sx sy l =
-      subst (λ t. IsRanged places bounds t (record { e = e.Load source mx my; range = range }))
+      → (is_word ≡ true → (v : ℕ) → IsByte places source v → v < 256)
+      → IsRanged places bounds own (record { e = e.Load source mx my; range = range; is_word = is_word })
+  ranged-load own x y gx gy mx my source range is_word is ex ey sx sy l small =
+      subst (λ t. IsRanged places bounds t (record { e = e.Load source mx my; range = range; is_word = is_word }))
       (sym (is ∙ ap (λ t. e.Load source t y) (sym ex) ∙ ap (e.Load source gx) (sym ey))) (record {
         same = record {
           value_is = λ reads values below bytes. load-value source gx gy mx my sx sy reads values below bytes;
           loads_are = λ reads values below bytes. load-loads source gx gy mx my sx sy reads values below bytes;
         };
         lies = λ reads values below bytes. l (value reads values (e.Load source gx gy)) (load-byte source gx gy mx my sx sy reads values below bytes);
+        word = λ reads values below bytes w.
+            let b = small w (value reads values (e.Load source gx gy)) (load-byte source gx gy mx my sx sy reads values below bytes) in omega (arith, b);
       })

@@ -1,5 +1,5 @@
 -- Expressions without clamps that cut nothing off. This project's own.
-use Rattle.std.specs.Prelude.{◌≡◌, List}
+use Rattle.std.specs.Prelude.{◌≡◌, ◌<◌, ◌^◌, true, List}
 use Rattle.std.specs.List.{AllByRecursion}
 use Rattle.halide_pipeline.specs.Pixel.{Reads}
 use Rattle.halide_pipeline.specs.Points.{Point}
@@ -25,11 +25,13 @@ pub record IsSame (places : Places) (bounds : List Bound) (own made : Expr) : Ty
   pub loads_are : (reads : Reads) (values : Values) → AreBelow bounds values → AreBytesAt places reads (loads reads values own)
       → loads reads values made ≡ loads reads values own
 
--- and lies in a range
+-- and lies in a range, and is a word, if so
 pub record IsRanged (places : Places) (bounds : List Bound) (own : Expr) (made : Ranged) : Type 0 where
   pub same : IsSame places bounds own made.e
   pub lies : (reads : Reads) (values : Values) → AreBelow bounds values → AreBytesAt places reads (loads reads values own)
       → LiesIn made.range (value reads values own)
+  pub word : (reads : Reads) (values : Values) → AreBelow bounds values → AreBytesAt places reads (loads reads values own)
+      → made.is_word ≡ true → value reads values own < 2 ^ 32
 
 -- a store writes the same value at the same point there
 pub record IsSameStore (places : Places) (bounds : List Bound) (own made : Store) : Type 0 where

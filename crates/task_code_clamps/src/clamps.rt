@@ -1,6 +1,6 @@
 //! Expressions and stores without clamps that cut nothing off.
 
-ghost use Rattle.std.specs.Prelude.{◌≡◌, ℕ, List, IfOk, [], true};
+ghost use Rattle.std.specs.Prelude.{◌&&◌, ◌<◌, ◌^◌, ◌≡◌, ℕ, List, IfOk, [], true};
 ghost use Rattle.halide_pipeline.specs.Words as word;
 ghost use Rattle.halide_pipeline.specs.Pixel.{Reads};
 ghost use Rattle.loop_ir.specs.Counters.{Values};
@@ -12,7 +12,7 @@ ghost use Rattle.task_code_scalar.specs.declared.places.Places.{Places};
 ghost use Rattle.loop_ir.specs.declared.expressions.Expr.{Expr};
 ghost use Rattle.task_code_clamps.specs.Ranges.{LiesIn};
 
-use crate::ranges::{Range, any, of_greater, of_lesser, of_pixels, of_sum, only};
+use crate::ranges::{Range, ZERO, any, has_bytes, of_greater, of_lesser, of_pixels, of_sum, only};
 use halide_pipeline::Operation;
 use loop_ir::expressions::Expr;
 use loop_ir::statements::Store;
@@ -21,11 +21,12 @@ use std::alloc::{AllocError, Global};
 use task_code_loops::bounds::Bound;
 use task_code_scalar::places::Places;
 
-/// An expression, and between which numbers its value lies.
+/// An expression, between which numbers its value lies, and whether it is known that it is below 2^32.
 #[derive(Debug, Drop)]
 pub struct Ranged {
     pub e: Expr,
     pub range: Range,
+    pub is_word: bool,
 }
 
 /// Which of an operation's operands its value always is.
@@ -51,9 +52,17 @@ fn is_leaf(e: &Expr) -> bool
     }
 }
 
-/// Which of two operands an operation takes wherever they lie in these ranges.
-fn taken_of(operation: Operation, a: Range, b: Range) -> Taken
-    ensures first { (v w : ℕ) → LiesIn a v → LiesIn b w → result ≡ Taken.First → word.applied operation v w ≡ v }
+/// Whether a range is that of 0 alone.
+fn is_zero(range: Range) -> bool
+    ensures { result ≡ true → (v : ℕ) → v < 2 ^ 32 → LiesIn range v → v ≡ 0 }
+{
+    range.low == ZERO && range.high == ZERO
+}
+
+/// Which of two operands an operation takes wherever they lie in these ranges, and are words, if so.
+fn taken_of(operation: Operation, a: Range, b: Range, are_words: bool) -> Taken
+    ensures first { (v w : ℕ) → LiesIn a v → LiesIn b w → (are_words ≡ true → (v < 2 ^ 32) × (w < 2 ^ 32)) → result ≡ Taken.First
+        → word.applied operation v w ≡ v }
     ensures second { (v w : ℕ) → LiesIn a v → LiesIn b w → result ≡ Taken.Second → word.applied operation v w ≡ w }
 {
     match operation {
@@ -75,6 +84,20 @@ fn taken_of(operation: Operation, a: Range, b: Range) -> Taken
                 Taken::Either
             }
         }
+        Operation::Add => {
+            if are_words && is_zero(b) {
+                Taken::First
+            } else {
+                Taken::Either
+            }
+        }
+        Operation::Subtract => {
+            if are_words && is_zero(b) {
+                Taken::First
+            } else {
+                Taken::Either
+            }
+        }
         _ => Taken::Either,
     }
 }
@@ -90,12 +113,30 @@ fn range_of_both(operation: Operation, a: Range, b: Range) -> Range
     }
 }
 
+/// Whether an operation takes one of its operands.
+fn is_choice(operation: Operation) -> bool
+    ensures { result ≡ true → (v w : ℕ) → v < 2 ^ 32 → w < 2 ^ 32 → word.applied operation v w < 2 ^ 32 }
+{
+    match operation {
+        Operation::Minimum => true,
+        Operation::Maximum => true,
+        _ => false,
+    }
+}
+
+fn both(a: bool, b: bool) -> bool
+    ensures { result ≡ (a && b) }
+{
+    a && b
+}
+
 /// What an operation makes of two expressions without clamps that cut nothing off.
 fn of_both(alloc: Global, operation: Operation, a: Ranged, b: Ranged) -> Result<Ranged, AllocError>
     ensures { IfOk result (λ made. (places : Places) (bounds : List Bound) (x y : Expr) → IsRanged places bounds x a → IsRanged places bounds y b
         → IsRanged places bounds (expressions.Binary operation x y) made) }
 {
-    let own = taken_of(operation, a.range, b.range);
+    let are_words = both(a.is_word, b.is_word);
+    let own = taken_of(operation, a.range, b.range, are_words);
     let first_is_leaf = is_leaf(&a.e);
     let second_is_leaf = is_leaf(&b.e);
     match own {
@@ -112,11 +153,14 @@ fn of_both(alloc: Global, operation: Operation, a: Ranged, b: Ranged) -> Result<
         Taken::Either => {}
     }
     let range = range_of_both(operation, a.range, b.range);
+    let stays = is_choice(operation);
+    let is_word = both(are_words, stays);
     let first = Boxed::new(alloc, a.e)?;
     let second = Boxed::new(alloc, b.e)?;
     Ok(Ranged {
         e: Expr::Binary(operation, first, second),
         range,
+        is_word,
     })
 }
 
@@ -154,6 +198,7 @@ pub fn unclamped(
         Expr::Number(n) => Ok(Ranged {
             e: Expr::Number(*n),
             range: only(*n),
+            is_word: true,
         }),
         Expr::Linear(own) => {
             let sum = own.copy(alloc)?;
@@ -161,6 +206,7 @@ pub fn unclamped(
             Ok(Ranged {
                 e: Expr::Linear(sum),
                 range,
+                is_word: true,
             })
         }
         Expr::Binary(operation, a, b) => {
@@ -174,6 +220,7 @@ pub fn unclamped(
             Ok(Ranged {
                 e: Expr::Divide(first, *divisor),
                 range: any(),
+                is_word: false,
             })
         }
         Expr::Remainder(a, divisor) => {
@@ -181,6 +228,7 @@ pub fn unclamped(
             Ok(Ranged {
                 e: Expr::Remainder(first, *divisor),
                 range: any(),
+                is_word: false,
             })
         }
         Expr::Select(c, a, b) => {
@@ -190,6 +238,7 @@ pub fn unclamped(
             Ok(Ranged {
                 e: Expr::Select(condition, first, second),
                 range: any(),
+                is_word: false,
             })
         }
         Expr::Load(source, x, y) => {
@@ -198,6 +247,7 @@ pub fn unclamped(
             Ok(Ranged {
                 e: Expr::Load(*source, column, row),
                 range: of_pixels(places, *source),
+                is_word: has_bytes(places, *source),
             })
         }
     }

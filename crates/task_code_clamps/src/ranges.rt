@@ -1,6 +1,6 @@
 //! Between which numbers words lie, as signed numbers.
 
-ghost use Rattle.std.specs.Prelude.{◌≡◌, ◌≤◌, ◌<◌, ℕ};
+ghost use Rattle.std.specs.Prelude.{true, ◌≡◌, ◌≤◌, ◌<◌, ℕ};
 ghost use Rattle.halide_pipeline.specs.Words as word;
 ghost use Rattle.loop_ir.specs.Counters.{Values};
 ghost use Rattle.loop_ir.specs.Expressions.{linear_value};
@@ -22,7 +22,7 @@ pub struct Range {
 }
 
 /// The level of 0.
-const ZERO: u32 = 1 << 31;
+pub const ZERO: u32 = 1 << 31;
 
 /// How far a word lies above -2^31.
 fn level(word: u32) -> u32
@@ -88,6 +88,19 @@ pub fn of_pixels(places: &Places, source: Source) -> Range
                 low: ZERO,
                 high: ZERO + 255,
             },
+        },
+    }
+}
+
+/// Whether a source is an input of bytes.
+pub fn has_bytes(places: &Places, source: Source) -> bool
+    ensures { result ≡ true → (v : ℕ) → IsByte places.now source v → v < 256 }
+{
+    match source {
+        Source::Func(_) => false,
+        Source::Input(_) => match place_of(places, source).pixels {
+            Pixels::Words => false,
+            Pixels::Bytes => true,
         },
     }
 }

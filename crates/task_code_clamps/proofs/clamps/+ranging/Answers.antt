@@ -1,8 +1,9 @@
+use Rattle.std.proofs.Common.{arith}
 use Rattle.task_code_clamps.proofs.Same.{ranged-number, ranged-linear, ranged-binary, ranged-divide, ranged-remainder, ranged-select, ranged-load}
 use Rattle.task_code_clamps.proofs.clamps.+ranging.Goals as goal
 
 pub unclamped-returns-in-Number : goal.unclamped-returns-in-Number
-unclamped-returns-in-Number t c = ranged-number c.args.places.now c.args.bounds.now c.args.e.now c.in-Number.n c.only.result c.in-Number.is c.only.ensures
+unclamped-returns-in-Number t c = ranged-number c.args.places.now c.args.bounds.now c.args.e.now c.in-Number.n c.only.result c.in-Number.is (omega arith) c.only.ensures
 
 pub unclamped-returns-in_ok-sum-in-Linear : goal.unclamped-returns-in_ok-sum-in-Linear
 unclamped-returns-in_ok-sum-in-Linear t c =
@@ -35,5 +36,5 @@ unclamped-returns-in_ok-second-in-Select t c =
 pub unclamped-returns-in_ok-row-in-Load : goal.unclamped-returns-in_ok-row-in-Load
 unclamped-returns-in_ok-row-in-Load t c =
     ranged-load c.args.places.now c.args.bounds.now c.args.e.now c.in-Load.x c.in-Load.y c.get-in-Load.result.now c.get-in-Load-2.result.now
-    c.in_ok-column-in-Load.column c.in_ok-row-in-Load.row c.in-Load.source _ c.in-Load.is c.get-in-Load.ensures c.get-in-Load-2.ensures
-    c.in_ok-column-in-Load.ensures c.in_ok-row-in-Load.ensures c.of_pixels.ensures
+    c.in_ok-column-in-Load.column c.in_ok-row-in-Load.row c.in-Load.source _ _ c.in-Load.is c.get-in-Load.ensures c.get-in-Load-2.ensures
+    c.in_ok-column-in-Load.ensures c.in_ok-row-in-Load.ensures c.of_pixels.ensures c.has_bytes.ensures

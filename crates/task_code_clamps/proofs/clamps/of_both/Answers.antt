@@ -1,9 +1,12 @@
+use Rattle.std.proofs.Common.{ap, sym, ◌∙◌}
+use Rattle.std.specs.Prelude.{◌&&◌}
 use Rattle.task_code_clamps.proofs.Same.{taken-first, taken-second, taken-both}
 use Rattle.task_code_clamps.proofs.clamps.of_both.Goals as goal
 
 pub returns-then-second_is_leaf : goal.returns-then-second_is_leaf
 returns-then-second_is_leaf c = λ places bounds x y rx ry.
-    taken-first places bounds c.args.operation x y c.args.a c.args.b rx ry (λ v w la lb. c.taken_of-own.ensures.first v w la lb c.in-First.is)
+    taken-first places bounds c.args.operation x y c.args.a c.args.b rx ry
+    (λ v w la lb words. c.taken_of-own.ensures.first v w la lb (λ t. words (sym c.both-are_words.ensures ∙ t)) c.in-First.is)
     (c.is_leaf-second_is_leaf.ensures c.if-second_is_leaf.true)
 
 pub returns-then-first_is_leaf : goal.returns-then-first_is_leaf
@@ -14,4 +17,5 @@ returns-then-first_is_leaf c = λ places bounds x y rx ry.
 pub returns : goal.returns
 returns c = λ places bounds x y rx ry.
     taken-both places bounds c.args.operation x y c.args.a c.args.b rx ry c.in_ok-first.first c.in_ok-second.second c.range_of_both-range.result
-    c.in_ok-first.ensures c.in_ok-second.ensures c.range_of_both-range.ensures
+    c.both-is_word.result c.is_choice-stays.result c.in_ok-first.ensures c.in_ok-second.ensures c.range_of_both-range.ensures
+    (c.both-is_word.ensures ∙ ap (λ t. t && c.is_choice-stays.result) c.both-are_words.ensures) c.is_choice-stays.ensures
