@@ -1,6 +1,7 @@
 pub mod Arms
 pub mod Bytes
 pub mod Choosing
+pub mod Comparing
 pub mod Composing
 pub mod Dividing
 pub mod Gathering

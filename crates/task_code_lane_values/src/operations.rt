@@ -8,12 +8,12 @@ ghost use Rattle.halide_pipeline.specs.Words as word;
 ghost use Rattle.task_code_scalar.specs.Words.{Emits};
 ghost use Rattle.task_code_lanes.specs.Groups.{slots};
 ghost use Rattle.task_code_lanes.specs.Lanes.{compared, flagged, lanes_operation};
-ghost use Rattle.task_code_lane_values.specs.inner.Parts.{AnyWord, Chooses, IsBy, IsTurnedBy, TurnsBy, TurnsOne, TurnsTwo};
+ghost use Rattle.task_code_lane_values.specs.inner.Parts.{AnyWord, Chooses, IsBy, IsComparedBy, IsTurnedBy, TurnsBy, TurnsOne, TurnsTwo};
 
 use halide_pipeline::Operation;
 use rv_insn::{
-    ArithmeticVvOp, ArithmeticVxOp, CompareVvOp, Insn, MultiplyOp, ShiftAmount, ShiftViOp, VReg,
-    VectorInsn,
+    ArithmeticVvOp, ArithmeticVxOp, CompareVvOp, CompareVxOp, Insn, MultiplyOp, ShiftAmount,
+    ShiftViOp, VReg, VectorInsn,
 };
 use std::alloc::AllocError;
 use task_code_lanes::groups::Group;
@@ -22,7 +22,7 @@ use task_code_lanes::vectors::{
     multiplication_by, signs, test_nonzero,
 };
 use task_code_scalar::CodeFault;
-use task_code_scalar::instructions::put;
+use task_code_scalar::instructions::{put, register};
 
 // ---- two groups
 
@@ -111,11 +111,65 @@ fn instruction_turned(op: Operation) -> Option<ArithmeticVxOp>
     }
 }
 
+/// The comparison that does an operation with a register as the second operand.
+fn comparison_with(op: Operation) -> Option<CompareVxOp>
+    ensures { IfSome result (IsComparedBy op) }
+{
+    match op {
+        Operation::Less => Some(CompareVxOp::Vmslt),
+        Operation::LessOrEqual => Some(CompareVxOp::Vmsle),
+        Operation::Greater => Some(CompareVxOp::Vmsgt),
+        Operation::Equal => Some(CompareVxOp::Vmseq),
+        Operation::NotEqual => Some(CompareVxOp::Vmsne),
+        _ => None,
+    }
+}
+
+/// Appends a comparison of lanes and a register, into the mask.
+fn comparison_by(code: &mut Vec<u32>, op: CompareVxOp, a: u8, s: u8) -> Result<(), AllocError>
+    requires { (a < 32) × (s < 32) }
+    ensures { OnOk result (Emits code.old.items code.new.items (Vector (v.CompareVx op 0 a s true) ∷ [])) }
+{
+    put(
+        code,
+        &Insn::Vector(VectorInsn::CompareVx {
+            op,
+            vd: VReg::new(0).unwrap(),
+            vs2: VReg::new(a).unwrap(),
+            rs1: register(s),
+            vm: true,
+        }),
+    )?;
+    Ok(())
+}
+
+/// Appends what such a comparison makes of lanes.
+fn emit_compared_by(
+    code: &mut Vec<u32>,
+    group: Group,
+    op: Operation,
+    k: u8,
+    s: u8,
+) -> Result<(), CodeFault>
+    requires { (k < slots group) × (s < 32) }
+    ensures { OnOk result (TurnsBy code.old.items code.new.items group k s AnyWord (word.applied op)) }
+{
+    let r = group.slot(k);
+    match comparison_with(op) {
+        None => Err(CodeFault::TooDeep),
+        Some(own) => {
+            comparison_by(code, own, r, s)?;
+            emit_flagged(code, r)?;
+            Ok(())
+        }
+    }
+}
+
 /// Whether an operation's second operand may stand in a register.
 pub(crate) fn takes_second(op: Operation) -> bool {
     match op {
         Operation::Multiply => true,
-        _ => instruction_by(op).is_some(),
+        _ => instruction_by(op).is_some() || comparison_with(op).is_some(),
     }
 }
 
@@ -145,7 +199,7 @@ pub(crate) fn emit_by(
             Ok(())
         }
         _ => match instruction_by(op) {
-            None => Err(CodeFault::TooDeep),
+            None => emit_compared_by(code, group, op, k, s),
             Some(own) => {
                 arithmetic_by(code, own, r, r, s)?;
                 Ok(())
@@ -209,13 +263,13 @@ fn shift_lanes_right(code: &mut Vec<u32>, r: u8, bits: u8) -> Result<(), AllocEr
     requires { (r < 32) × (bits < 32) }
     ensures { OnOk result (Emits code.old.items code.new.items (Vector (v.ShiftVi shift_right r r bits true) ∷ [])) }
 {
-    let register = VReg::new(r).unwrap();
+    let lanes = VReg::new(r).unwrap();
     put(
         code,
         &Insn::Vector(VectorInsn::ShiftVi {
             op: ShiftViOp::Vsra,
-            vd: register,
-            vs2: register,
+            vd: lanes,
+            vs2: lanes,
             amount: ShiftAmount::new(bits).unwrap(),
             vm: true,
         }),

@@ -3,7 +3,9 @@ use Rattle.std.specs.Prelude.{◌≡◌, ◌<◌, ◌≤◌, ℕ, ◌+◌, ◌*�
 use Rattle.std.specs.List.{AllByRecursion}
 use Rattle.rv_insn.specs.declared.instructions.Insn.{Insn}
 use Rattle.rv_insn.specs.declared.vector_operations.ArithmeticVxOp.{ArithmeticVxOp}
-use Rattle.vector_unit.specs.Operations.{arithmetic_vx}
+use Rattle.rv_insn.specs.declared.vector_operations.CompareVxOp.{CompareVxOp}
+use Rattle.hart_core.specs.Alu.{one_if}
+use Rattle.vector_unit.specs.Operations.{arithmetic_vx, compare_vx}
 use Rattle.halide_pipeline.specs.declared.expressions.Operation.{Operation}
 use Rattle.halide_pipeline.specs.declared.expressions.Source.{Source}
 use Rattle.halide_pipeline.specs.Words as word
@@ -139,6 +141,10 @@ AnyWord c = Unit {0}
 -- an instruction does an operation on lanes with a register as the second operand
 abbrev pub IsBy : Operation → ArithmeticVxOp → Type 0
 IsBy op own = (x c : ℕ) → x < 2 ^ 32 → c < 2 ^ 32 → arithmetic_vx own 32 x c ≡ word.applied op x c
+
+-- so does a comparison
+abbrev pub IsComparedBy : Operation → CompareVxOp → Type 0
+IsComparedBy op own = (x c : ℕ) → x < 2 ^ 32 → c < 2 ^ 32 → one_if (compare_vx own 32 x c) ≡ word.applied op x c
 
 -- or as the first one
 abbrev pub IsTurnedBy : Operation → ArithmeticVxOp → Type 0
