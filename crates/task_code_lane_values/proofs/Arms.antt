@@ -21,11 +21,13 @@ use Rattle.task_code_scalar.specs.Evaluation.{Loads, LoadsAt}
 use Rattle.task_code_scalar.specs.Words.{Emits}
 use Rattle.task_code_registers.specs.declared.scopes.Held.{Held}
 use Rattle.task_code_values.specs.Operands.{IsSum}
-use Rattle.task_code_values.proofs.Evaluating.{value_binary, value_divide, value_remainder, value_select, value_load, loads_binary, loads_divide, loads_remainder, loads_select, loads_load}
+use Rattle.task_code_values.proofs.Evaluating.{value_binary, value_divide, value_remainder, value_select, value_load}
+use Rattle.task_code_values.proofs.Evaluating.{loads_binary, loads_divide, loads_remainder, loads_select, loads_load}
 use Rattle.task_code_lanes.specs.Groups.{slots, slot}
 use Rattle.task_code_lane_values.specs.declared.vectorized.Lanes.{Lanes}
 use Rattle.task_code_lane_values.specs.Leaving.{MakesLanes}
-use Rattle.task_code_lane_values.specs.inner.Parts.{IsSteady, MakesScalar, MakesSteady, MakesEach, MakesPoint, Nothing, TurnsOne, TurnsBy, TurnsTwo, AnyWord, LoadsPoint, Chooses}
+use Rattle.task_code_lane_values.specs.inner.Parts.{IsSteady, MakesScalar, MakesSteady, MakesEach, MakesPoint, Nothing}
+use Rattle.task_code_lane_values.specs.inner.Parts.{TurnsOne, TurnsBy, TurnsTwo, AnyWord, LoadsPoint, Chooses}
 use Rattle.task_code_lane_values.proofs.Composing.{each-spread, each-one, each-by, each-two, each-three}
 
 module _ (places : Places) (scope : List Held) (own : Lanes) (k : ℕ) (in-stack : k < slots own.group) where
@@ -50,7 +52,8 @@ module _ (places : Places) (scope : List Held) (own : Lanes) (k : ℕ) (in-stack
   }
 
   pub lanes-of : (c0 c1 : List ℕ) (x : Expr) (may : World → List ℕ → Reads → Values → ℕ → Type 0) (says : Reads → Values → ℕ → ℕ)
-      → ((w : World) (m : List ℕ) (reads : Reads) (values : Values) (n : ℕ) → 1 ≤ n → ((i : ℕ) → i < n → May x w m reads values i) → (i : ℕ) → i < n → may w m reads values i)
+      → ((w : World) (m : List ℕ) (reads : Reads) (values : Values) (n : ℕ) → 1 ≤ n → ((i : ℕ) → i < n → May x w m reads values i) → (i : ℕ) → i < n
+      → may w m reads values i)
       → ((reads : Reads) (values : Values) (i : ℕ) → says reads values i ≡ value reads (with own.counter i values) x)
       → MakesEach c0 c1 places scope own k may says → Left c0 c1 k x
   lanes-of c0 c1 x may says can is a = record {
@@ -71,12 +74,14 @@ module _ (places : Places) (scope : List Held) (own : Lanes) (k : ℕ) (in-stack
   pub lanes-as : (c0 c1 : List ℕ) (x y : Expr) → x ≡ y → Left c0 c1 k y → Left c0 c1 k x
   lanes-as c0 c1 x y e a = subst (Left c0 c1 k) (sym e) a
 
-  pub steady-arm : (x : Expr) (s : ℕ) (c0 c1 c2 : List ℕ) → IsSteady own.counter x → MakesSteady c0 c1 places scope own s x → Emits c1 c2 (Vector (v.MoveVx (slot own.group k) s) ∷ [])
+  pub steady-arm : (x : Expr) (s : ℕ) (c0 c1 c2 : List ℕ) → IsSteady own.counter x → MakesSteady c0 c1 places scope own s x → Emits c1 c2 (Vector
+      (v.MoveVx (slot own.group k) s) ∷ [])
       → Left c0 c2 k x
   steady-arm x s c0 c1 c2 steady p z =
       lanes-of c0 c2 x (λ w m reads values i. May x w m reads values 0) (λ reads values i. value reads (with own.counter 0 values) x)
       (λ w m reads values n some all i b. all 0 (omega (arith, some))) (λ reads values i. sym (steady reads values i))
-      (each-spread places scope own k in-stack s c0 c1 c2 (λ w m reads values. May x w m reads values 0) (λ reads values. value reads (with own.counter 0 values) x) p z)
+      (each-spread places scope own k in-stack s c0 c1 c2 (λ w m reads values. May x w m reads values 0) (λ reads values. value reads
+      (with own.counter 0 values) x) p z)
 
   pub steady-as : (x : Expr) (s a : ℕ) (c0 c1 c2 : List ℕ) → IsSteady own.counter x → a ≡ slot own.group k → MakesSteady c0 c1 places scope own s x
       → Emits c1 c2 (Vector (v.MoveVx a s) ∷ []) → Left c0 c2 k x
@@ -97,65 +102,88 @@ module _ (places : Places) (scope : List Held) (own : Lanes) (k : ℕ) (in-stack
       (lanes-of c0 c3 (e.Binary o a b) (λ w m reads values i. May a w m reads values i × May b w m reads values i)
       (λ reads values i. word.applied o (value reads (with own.counter i values) a) (value reads (with own.counter i values) b))
       (λ w m reads values n some all i lt. parts-of o a b w m reads values i (all i lt)) (λ reads values i. sym (value_binary reads (at i values) o a b))
-      (each-two places scope own k in-stack c0 c1 c2 c3 (May a) (May b) (λ reads values i. value reads (with own.counter i values) a) (λ reads values i. value reads (with own.counter i values) b)
+      (each-two places scope own k in-stack c0 c1 c2 c3 (May a) (May b) (λ reads values i. value reads (with own.counter i values) a)
+      (λ reads values i. value reads (with own.counter i values) b)
       (word.applied o) (each-of c0 c1 k a (subst (Left c0 c1 k) ep first)) (each-of c1 c2 (k + 1) b (subst (Left c1 c2 (k + 1)) eq second)) z))
 
-  pub two-next : (x a b p q : Expr) (o : Operation) (next : ℕ) (c0 c1 c2 c3 : List ℕ) → x ≡ e.Binary o a b → p ≡ a → q ≡ b → next ≡ k + 1 → Left c0 c1 k p → Left c1 c2 next q
+  pub two-next : (x a b p q : Expr) (o : Operation) (next : ℕ) (c0 c1 c2 c3 : List ℕ) → x ≡ e.Binary o a b → p ≡ a → q ≡ b → next ≡ k + 1
+      → Left c0 c1 k p → Left c1 c2 next q
       → TurnsTwo c2 c3 own.group k (word.applied o) → Left c0 c3 k x
   two-next x a b p q o next c0 c1 c2 c3 eo ep eq en first second z = two-arm x a b p q o c0 c1 c2 c3 eo ep eq first (subst (λ j. Left c1 c2 j q) en second) z
 
   -- the second operand is a scalar
-  pub second-arm : (x a b p q : Expr) (o : Operation) (s : ℕ) (c0 c1 c2 c3 : List ℕ) → x ≡ e.Binary o a b → p ≡ a → q ≡ b → IsSteady own.counter q → Left c0 c1 k p
+  pub second-arm : (x a b p q : Expr) (o : Operation) (s : ℕ) (c0 c1 c2 c3 : List ℕ) → x ≡ e.Binary o a b → p ≡ a → q ≡ b → IsSteady own.counter q
+      → Left c0 c1 k p
       → MakesSteady c1 c2 places scope own s q → TurnsBy c2 c3 own.group k s AnyWord (word.applied o) → Left c0 c3 k x
   second-arm x a b p q o s c0 c1 c2 c3 eo ep eq steady first second z =
       let still = subst (IsSteady own.counter) eq steady in
       lanes-as c0 c3 x (e.Binary o a b) eo
       (lanes-of c0 c3 (e.Binary o a b) (λ w m reads values i. May a w m reads values i × May b w m reads values 0)
       (λ reads values i. word.applied o (value reads (with own.counter i values) a) (value reads (with own.counter 0 values) b))
-      (λ w m reads values n some all i lt. ((parts-of o a b w m reads values i (all i lt)).0, (parts-of o a b w m reads values 0 (all 0 (omega (arith, some)))).1))
-      (λ reads values i. ap (word.applied o (value reads (with own.counter i values) a)) (sym (still reads values i)) ∙ sym (value_binary reads (at i values) o a b))
-      (each-by places scope own k in-stack s c0 c1 c2 c3 (May a) (λ w m reads values. May b w m reads values 0) (λ reads values i. value reads (with own.counter i values) a)
+      (λ w m reads values n some all i lt. (
+        (parts-of o a b w m reads values i (all i lt)).0,
+        (parts-of o a b w m reads values 0 (all 0 (omega
+            (arith, some)))).1,
+      ))
+      (λ reads values i. ap (word.applied o (value reads (with own.counter i values) a)) (sym (still reads values i)) ∙ sym (value_binary reads
+      (at i values) o a b))
+      (each-by places scope own k in-stack s c0 c1 c2 c3 (May a) (λ w m reads values. May b w m reads values 0) (λ reads values i. value reads
+      (with own.counter i values) a)
       (λ reads values. value reads (with own.counter 0 values) b) AnyWord (word.applied o) (each-of c0 c1 k a (subst (Left c0 c1 k) ep first))
       (subst (MakesSteady c1 c2 places scope own s) eq second) z (λ reads values small. tt)))
 
   -- or the first
-  pub first-arm : (x a b p q : Expr) (o : Operation) (s : ℕ) (c0 c1 c2 c3 : List ℕ) → x ≡ e.Binary o a b → p ≡ a → q ≡ b → IsSteady own.counter p → Left c0 c1 k q
+  pub first-arm : (x a b p q : Expr) (o : Operation) (s : ℕ) (c0 c1 c2 c3 : List ℕ) → x ≡ e.Binary o a b → p ≡ a → q ≡ b → IsSteady own.counter p
+      → Left c0 c1 k q
       → MakesSteady c1 c2 places scope own s p → TurnsBy c2 c3 own.group k s AnyWord (λ y c. word.applied o c y) → Left c0 c3 k x
   first-arm x a b p q o s c0 c1 c2 c3 eo ep eq steady second first z =
       let still = subst (IsSteady own.counter) ep steady in
       lanes-as c0 c3 x (e.Binary o a b) eo
       (lanes-of c0 c3 (e.Binary o a b) (λ w m reads values i. May b w m reads values i × May a w m reads values 0)
       (λ reads values i. word.applied o (value reads (with own.counter 0 values) a) (value reads (with own.counter i values) b))
-      (λ w m reads values n some all i lt. ((parts-of o a b w m reads values i (all i lt)).1, (parts-of o a b w m reads values 0 (all 0 (omega (arith, some)))).0))
-      (λ reads values i. ap (λ n. word.applied o n (value reads (with own.counter i values) b)) (sym (still reads values i)) ∙ sym (value_binary reads (at i values) o a b))
-      (each-by places scope own k in-stack s c0 c1 c2 c3 (May b) (λ w m reads values. May a w m reads values 0) (λ reads values i. value reads (with own.counter i values) b)
+      (λ w m reads values n some all i lt. (
+        (parts-of o a b w m reads values i (all i lt)).1,
+        (parts-of o a b w m reads values 0 (all 0 (omega
+            (arith, some)))).0,
+      ))
+      (λ reads values i. ap (λ n. word.applied o n (value reads (with own.counter i values) b)) (sym (still reads values i)) ∙ sym (value_binary reads
+      (at i values) o a b))
+      (each-by places scope own k in-stack s c0 c1 c2 c3 (May b) (λ w m reads values. May a w m reads values 0) (λ reads values i. value reads
+      (with own.counter i values) b)
       (λ reads values. value reads (with own.counter 0 values) a) AnyWord (λ y c. word.applied o c y) (each-of c0 c1 k b (subst (Left c0 c1 k) eq second))
       (subst (MakesSteady c1 c2 places scope own s) ep first) z (λ reads values small. tt)))
 
   -- ---- quotients
 
-  part-of-divide : (a : Expr) (c : ℕ) (w : World) (m : List ℕ) (reads : Reads) (values : Values) (i : ℕ) → May (e.Divide a c) w m reads values i → May a w m reads values i
+  part-of-divide : (a : Expr) (c : ℕ) (w : World) (m : List ℕ) (reads : Reads) (values : Values) (i : ℕ) → May (e.Divide a c) w m reads values i
+      → May a w m reads values i
   part-of-divide a c w m reads values i all = subst (AllByRecursion (Loads w places m reads)) (loads_divide reads (at i values) a c) all
 
   pub divide-arm : (x a p : Expr) (c s : ℕ) (c0 c1 c2 c3 : List ℕ) → x ≡ e.Divide a c → p ≡ a → Left c0 c1 k p
       → MakesScalar c1 c2 scope own s Nothing (λ hart reads values. c) → TurnsBy c2 c3 own.group k s (λ d. d ≡ c) (λ y d. word.divide y c) → Left c0 c3 k x
   divide-arm x a p c s c0 c1 c2 c3 eo ep first second z =
       lanes-as c0 c3 x (e.Divide a c) eo
-      (lanes-of c0 c3 (e.Divide a c) (λ w m reads values i. May a w m reads values i × Nothing w m reads values) (λ reads values i. word.divide (value reads (with own.counter i values) a) c)
-      (λ w m reads values n some all i lt. (part-of-divide a c w m reads values i (all i lt), tt)) (λ reads values i. sym (value_divide reads (at i values) a c))
-      (each-by places scope own k in-stack s c0 c1 c2 c3 (May a) Nothing (λ reads values i. value reads (with own.counter i values) a) (λ reads values. c) (λ d. d ≡ c) (λ y d. word.divide y c)
+      (lanes-of c0 c3 (e.Divide a c) (λ w m reads values i. May a w m reads values i × Nothing w m reads values) (λ reads values i. word.divide
+      (value reads (with own.counter i values) a) c)
+      (λ w m reads values n some all i lt. (part-of-divide a c w m reads values i (all i lt), tt)) (λ reads values i. sym (value_divide reads
+      (at i values) a c))
+      (each-by places scope own k in-stack s c0 c1 c2 c3 (May a) Nothing (λ reads values i. value reads (with own.counter i values) a) (λ reads values. c)
+      (λ d. d ≡ c) (λ y d. word.divide y c)
       (each-of c0 c1 k a (subst (Left c0 c1 k) ep first)) second z (λ reads values small. refl)))
 
-  pub shift-arm : (x a p : Expr) (c : ℕ) (c0 c1 c2 : List ℕ) → x ≡ e.Divide a c → p ≡ a → Left c0 c1 k p → TurnsOne c1 c2 own.group k (λ y. word.divide y c) → Left c0 c2 k x
+  pub shift-arm : (x a p : Expr) (c : ℕ) (c0 c1 c2 : List ℕ) → x ≡ e.Divide a c → p ≡ a → Left c0 c1 k p → TurnsOne c1 c2 own.group k
+      (λ y. word.divide y c) → Left c0 c2 k x
   shift-arm x a p c c0 c1 c2 eo ep first z =
       lanes-as c0 c2 x (e.Divide a c) eo
       (lanes-of c0 c2 (e.Divide a c) (May a) (λ reads values i. word.divide (value reads (with own.counter i values) a) c)
       (λ w m reads values n some all i lt. part-of-divide a c w m reads values i (all i lt)) (λ reads values i. sym (value_divide reads (at i values) a c))
-      (each-one places scope own k in-stack c0 c1 c2 (May a) (λ reads values i. value reads (with own.counter i values) a) (λ y. word.divide y c) (each-of c0 c1 k a (subst (Left c0 c1 k) ep first)) z))
+      (each-one places scope own k in-stack c0 c1 c2 (May a) (λ reads values i. value reads (with own.counter i values) a) (λ y. word.divide y c)
+      (each-of c0 c1 k a (subst (Left c0 c1 k) ep first)) z))
 
   -- ---- remainders
 
-  part-of-remainder : (a : Expr) (c : ℕ) (w : World) (m : List ℕ) (reads : Reads) (values : Values) (i : ℕ) → May (e.Remainder a c) w m reads values i → May a w m reads values i
+  part-of-remainder : (a : Expr) (c : ℕ) (w : World) (m : List ℕ) (reads : Reads) (values : Values) (i : ℕ) → May (e.Remainder a c) w m reads values i
+      → May a w m reads values i
   part-of-remainder a c w m reads values i all = subst (AllByRecursion (Loads w places m reads)) (loads_remainder reads (at i values) a c) all
 
   -- of a register that holds what such an operation wants
@@ -163,14 +191,18 @@ module _ (places : Places) (scope : List Held) (own : Lanes) (k : ℕ) (in-stack
       → MakesScalar c1 c2 scope own s Nothing (λ hart reads values. d) → TurnsBy c2 c3 own.group k s (λ n. n ≡ d) (λ y n. word.remainder y c) → Left c0 c3 k x
   remainder-arm x a p c d s c0 c1 c2 c3 eo ep first second z =
       lanes-as c0 c3 x (e.Remainder a c) eo
-      (lanes-of c0 c3 (e.Remainder a c) (λ w m reads values i. May a w m reads values i × Nothing w m reads values) (λ reads values i. word.remainder (value reads (with own.counter i values) a) c)
-      (λ w m reads values n some all i lt. (part-of-remainder a c w m reads values i (all i lt), tt)) (λ reads values i. sym (value_remainder reads (at i values) a c))
-      (each-by places scope own k in-stack s c0 c1 c2 c3 (May a) Nothing (λ reads values i. value reads (with own.counter i values) a) (λ reads values. d) (λ n. n ≡ d) (λ y n. word.remainder y c)
+      (lanes-of c0 c3 (e.Remainder a c) (λ w m reads values i. May a w m reads values i × Nothing w m reads values) (λ reads values i. word.remainder
+      (value reads (with own.counter i values) a) c)
+      (λ w m reads values n some all i lt. (part-of-remainder a c w m reads values i (all i lt), tt)) (λ reads values i. sym (value_remainder reads
+      (at i values) a c))
+      (each-by places scope own k in-stack s c0 c1 c2 c3 (May a) Nothing (λ reads values i. value reads (with own.counter i values) a) (λ reads values. d)
+      (λ n. n ≡ d) (λ y n. word.remainder y c)
       (each-of c0 c1 k a (subst (Left c0 c1 k) ep first)) second z (λ reads values small. refl)))
 
   -- ---- choices
 
-  pub choice-arm : (x c a b o p q : Expr) (next last : ℕ) (c0 c1 c2 c3 c4 : List ℕ) → k + 2 < slots own.group → x ≡ e.Select c a b → o ≡ c → p ≡ a → q ≡ b → next ≡ k + 1 → last ≡ k + 2
+  pub choice-arm : (x c a b o p q : Expr) (next last : ℕ) (c0 c1 c2 c3 c4 : List ℕ) → k + 2 < slots own.group → x ≡ e.Select c a b → o ≡ c → p ≡ a
+      → q ≡ b → next ≡ k + 1 → last ≡ k + 2
       → Left c0 c1 k o → Left c1 c2 next p → Left c2 c3 last q → Chooses c3 c4 own.group k → Left c0 c4 k x
   choice-arm x c a b o p q next last c0 c1 c2 c3 c4 room es eo ep eq en el condition first second z =
       let vc : Reads → Values → ℕ → ℕ = (λ reads values i. value reads (with own.counter i values) c) in
@@ -185,9 +217,11 @@ module _ (places : Places) (scope : List Held) (own : Lanes) (k : ℕ) (in-stack
       (each.0, all_parts (Loads w places m reads) (loads reads (at i values) a) (loads reads (at i values) b) each.1))
       (λ reads values i. sym (value_select reads (at i values) c a b))
       (each-three places scope own k in-stack room c0 c1 c2 c3 c4 (May c) (May a) (May b) vc va vb (each-of c0 c1 k c (subst (Left c0 c1 k) eo condition))
-      (each-of c1 c2 (k + 1) a (subst (λ j. Left c1 c2 j a) en (subst (Left c1 c2 next) ep first))) (each-of c2 c3 (k + 2) b (subst (λ j. Left c2 c3 j b) el (subst (Left c2 c3 last) eq second))) z))
+      (each-of c1 c2 (k + 1) a (subst (λ j. Left c1 c2 j a) en (subst (Left c1 c2 next) ep first))) (each-of c2 c3 (k + 2) b (subst
+      (λ j. Left c2 c3 j b) el (subst (Left c2 c3 last) eq second))) z))
 
-  pub choice-next : (x c a b o p q : Expr) (next last : ℕ) (c0 c1 c2 c3 c4 : List ℕ) → x ≡ e.Select c a b → o ≡ c → p ≡ a → q ≡ b → next ≡ k + 1 → last ≡ next + 1 → next + 1 < slots own.group
+  pub choice-next : (x c a b o p q : Expr) (next last : ℕ) (c0 c1 c2 c3 c4 : List ℕ) → x ≡ e.Select c a b → o ≡ c → p ≡ a → q ≡ b → next ≡ k + 1
+      → last ≡ next + 1 → next + 1 < slots own.group
       → Left c0 c1 k o → Left c1 c2 next p → Left c2 c3 last q → Chooses c3 c4 own.group k → Left c0 c4 k x
   choice-next x c a b o p q next last c0 c1 c2 c3 c4 es eo ep eq en el room condition first second z =
       let e2 : next + 1 ≡ k + 2 = omega (arith, en) in
@@ -199,37 +233,50 @@ module _ (places : Places) (scope : List Held) (own : Lanes) (k : ℕ) (in-stack
       → AllByRecursion (Loads w places m reads) (loads reads (at i values) a ++ loads reads (at i values) b)
       × AllByRecursion (Loads w places m reads) (record { source = source; x = value reads (at i values) a; y = value reads (at i values) b } ∷ [])
   parts-of-load source a b w m reads values i all =
-      all_parts (Loads w places m reads) (loads reads (at i values) a ++ loads reads (at i values) b) (record { source = source; x = value reads (at i values) a; y = value reads (at i values) b } ∷ [])
+      all_parts (Loads w places m reads) (loads reads (at i values) a ++ loads reads (at i values) b) (record {
+        source = source;
+        x = value reads
+            (at i values) a;
+        y = value reads (at i values) b;
+      } ∷ [])
       (subst (AllByRecursion (Loads w places m reads)) (loads_load reads (at i values) source a b) all)
 
-  pub load-first : (source : Source) (a b : Expr) (w : World) (m : List ℕ) (reads : Reads) (values : Values) (i : ℕ) → May (e.Load source a b) w m reads values i → May a w m reads values i
+  pub load-first : (source : Source) (a b : Expr) (w : World) (m : List ℕ) (reads : Reads) (values : Values) (i : ℕ) → May
+      (e.Load source a b) w m reads values i → May a w m reads values i
   load-first source a b w m reads values i all =
       (all_parts (Loads w places m reads) (loads reads (at i values) a) (loads reads (at i values) b) (parts-of-load source a b w m reads values i all).0).0
 
-  pub load-second : (source : Source) (a b : Expr) (w : World) (m : List ℕ) (reads : Reads) (values : Values) (i : ℕ) → May (e.Load source a b) w m reads values i → May b w m reads values i
+  pub load-second : (source : Source) (a b : Expr) (w : World) (m : List ℕ) (reads : Reads) (values : Values) (i : ℕ) → May
+      (e.Load source a b) w m reads values i → May b w m reads values i
   load-second source a b w m reads values i all =
       (all_parts (Loads w places m reads) (loads reads (at i values) a) (loads reads (at i values) b) (parts-of-load source a b w m reads values i all).0).1
 
   pub load-has : (source : Source) (a b : Expr) (w : World) (m : List ℕ) (reads : Reads) (values : Values) (i : ℕ) → May (e.Load source a b) w m reads values i
-      → LoadsAt w (place_of places source) m (value reads (at i values) a) (value reads (at i values) b) (reads source (value reads (at i values) a) (value reads (at i values) b))
+      → LoadsAt w (place_of places source) m (value reads (at i values) a) (value reads (at i values) b) (reads source (value reads (at i values) a)
+      (value reads (at i values) b))
   load-has source a b w m reads values i all = (parts-of-load source a b w m reads values i all).1.0
 
   pub load-value : (source : Source) (a b : Expr) (reads : Reads) (values : Values) (i : ℕ)
       → value reads (at i values) (e.Load source a b) ≡ reads source (value reads (at i values) a) (value reads (at i values) b)
   load-value source a b reads values i = value_load reads (at i values) source a b
 
-  pub point-arm : (x a b p q : Expr) (source : Source) (column row : Linear) (c0 c1 : List ℕ) → x ≡ e.Load source a b → p ≡ a → q ≡ b → IsSum p column → IsSum q row
+  pub point-arm : (x a b p q : Expr) (source : Source) (column row : Linear) (c0 c1 : List ℕ) → x ≡ e.Load source a b → p ≡ a → q ≡ b → IsSum p column
+      → IsSum q row
       → MakesPoint c0 c1 places scope own k source column row → Left c0 c1 k x
   point-arm x a b p q source column row c0 c1 eo ep eq sx sy z =
-      let vx : (reads : Reads) (values : Values) → value reads values a ≡ linear_value values column = (λ reads values. ap (value reads values) (sym ep) ∙ sx.value_is reads values) in
-      let vy : (reads : Reads) (values : Values) → value reads values b ≡ linear_value values row = (λ reads values. ap (value reads values) (sym eq) ∙ sy.value_is reads values) in
+      let vx : (reads : Reads) (values : Values) → value reads values a ≡ linear_value values column = (λ reads values. ap (value reads values) (sym ep)
+      ∙ sx.value_is reads values) in
+      let vy : (reads : Reads) (values : Values) → value reads values b ≡ linear_value values row = (λ reads values. ap (value reads values) (sym eq)
+      ∙ sy.value_is reads values) in
       lanes-as c0 c1 x (e.Load source a b) eo
       (lanes-of c0 c1 (e.Load source a b) (LoadsPoint places source own.counter column row)
       (λ reads values i. reads source (linear_value (with own.counter i values) column) (linear_value (with own.counter i values) row))
       (λ w m reads values n some all i lt.
-      subst (λ r. LoadsAt w (place_of places source) m (linear_value (at i values) column) r (reads source (linear_value (at i values) column) r)) (vy reads (at i values))
+      subst (λ r. LoadsAt w (place_of places source) m (linear_value (at i values) column) r (reads source (linear_value (at i values) column) r))
+      (vy reads (at i values))
       (subst (λ c. LoadsAt w (place_of places source) m c (value reads (at i values) b) (reads source c (value reads (at i values) b))) (vx reads (at i values))
       (load-has source a b w m reads values i (all i lt))))
       (λ reads values i.
-      ap (λ c. reads source c (linear_value (with own.counter i values) row)) (sym (vx reads (at i values))) ∙ ap (reads source (value reads (at i values) a)) (sym (vy reads (at i values)))
+      ap (λ c. reads source c (linear_value (with own.counter i values) row)) (sym (vx reads (at i values))) ∙ ap (reads source (value reads
+      (at i values) a)) (sym (vy reads (at i values)))
       ∙ sym (value_load reads (at i values) source a b)) z)

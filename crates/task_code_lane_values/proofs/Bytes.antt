@@ -1,5 +1,6 @@
 -- Bytes that lie one behind the other, or at distances, from a register on: of the word that holds one, the bytes before and behind it are cut off.
-use Rattle.std.proofs.Common.{◌≡◌, ℕ, zero, suc, ◌+◌, ◌*◌, ◌/◌, ◌%◌, ◌^◌, ◌<◌, ◌≤◌, List, [], ◌∷◌, ◌++◌, length, true, ap, ◌∙◌, refl, sym, subst, arith, inl, inr}
+use Rattle.std.proofs.Common.{◌≡◌, ℕ, zero, suc, ◌+◌, ◌*◌, ◌/◌, ◌%◌, ◌^◌, ◌<◌, ◌≤◌, List}
+use Rattle.std.proofs.Common.{[], ◌∷◌, ◌++◌, length, true, ap, ◌∙◌, refl, sym, subst, arith, inl, inr}
 use Rattle.std.specs.Prelude.{◌≢◌, ◌⊎◌, bit_and, negsuc}
 use Rattle.std.proofs.lemmas.Nat.{and_mask}
 use Rattle.std.proofs.lemmas.Nat.Bits.{and_high_mask}
@@ -62,14 +63,18 @@ byte-in text m c zero are l =
     let e : c + 0 ≡ c = omega arith in
     (let g : number_in text m Word c % 2 ^ 32 / 2 ^ (8 * 0) % 256 ≡ byte_at text m c = omega (arith, b0, b1, b2, b3) in g) ∙ ap (byte_at text m) (sym e)
 byte-in text m c (suc zero) are l =
-    let b0 = byte-small text m c are in let b1 = byte-small text m (c + 1) are in let b2 = byte-small text m (c + 2) are in let b3 = byte-small text m (c + 3) are in omega (arith, b0, b1, b2, b3)
+    let b0 = byte-small text m c are in let b1 = byte-small text m (c + 1) are in let b2 = byte-small text m (c + 2) are in let b3 = byte-small text m
+    (c + 3) are in omega (arith, b0, b1, b2, b3)
 byte-in text m c (suc (suc zero)) are l =
-    let b0 = byte-small text m c are in let b1 = byte-small text m (c + 1) are in let b2 = byte-small text m (c + 2) are in let b3 = byte-small text m (c + 3) are in omega (arith, b0, b1, b2, b3)
+    let b0 = byte-small text m c are in let b1 = byte-small text m (c + 1) are in let b2 = byte-small text m (c + 2) are in let b3 = byte-small text m
+    (c + 3) are in omega (arith, b0, b1, b2, b3)
 byte-in text m c (suc (suc (suc zero))) are l =
-    let b0 = byte-small text m c are in let b1 = byte-small text m (c + 1) are in let b2 = byte-small text m (c + 2) are in let b3 = byte-small text m (c + 3) are in omega (arith, b0, b1, b2, b3)
+    let b0 = byte-small text m c are in let b1 = byte-small text m (c + 1) are in let b2 = byte-small text m (c + 2) are in let b3 = byte-small text m
+    (c + 3) are in omega (arith, b0, b1, b2, b3)
 byte-in text m c (suc (suc (suc (suc q)))) are l = absurd (omega (arith, l))
 
-module _ (w : World) (m : List ℕ) (l : length m ≡ w.size) (group : Group) (n k : ℕ) (lies : SlotLies group k) (place : Place) (bytes : place.pixels ≡ pixels.Bytes) (x y pixel : ℕ → ℕ)
+module _ (w : World) (m : List ℕ) (l : length m ≡ w.size) (group : Group) (n k : ℕ) (lies : SlotLies group k) (place : Place)
+    (bytes : place.pixels ≡ pixels.Bytes) (x y pixel : ℕ → ℕ)
     (can : (i : ℕ) → i < n → LoadsAt w place m (x i) (y i) (pixel i)) where
   abbrev g : ℕ
   g = registers group
@@ -119,12 +124,14 @@ module _ (w : World) (m : List ℕ) (l : length m ≡ w.size) (group : Group) (n
       let line = loads-bytes w f m l g has.configured 1 b spot (omega arith) (omega arith) lb (λ i c. far i (omega (arith, c, count))) (all-readable f has) in
       let stays : (q : ℕ) → (q < lane 1 0) ⊎ (lane 1 4 ≤ q) → f1 q ≡ f q = bytes-apart f 1 (f vl_number) found in
       let has1 = rows.lanes-kept w m l group n f f1 (stays vl_number (inl (omega arith))) (stays 33 (inl (omega arith))) has in
-      let wr : rows.Writes w m l group n (Vector (v.ExtendBytes r 1 true) ∷ []) f1 r pixel = rows.writes w m l group n pixel (λ i. byte_of (f1 (lane 1 (i / 4))) (i % 4)) has1 (extends w f1 m l g has1.configured r 1 lies.is_group (omega arith) (omega arith))
+      let wr : rows.Writes w m l group n (Vector (v.ExtendBytes r 1 true) ∷ []) f1 r pixel = rows.writes w m l group n pixel (λ i. byte_of (f1 (lane 1
+      (i / 4))) (i % 4)) has1 (extends w f1 m l g has1.configured r 1 lies.is_group (omega arith) (omega arith))
       (λ i c. byte-written f 1 (f vl_number) found i (omega (arith, c, count)) (omega (arith, few, most, count)) (λ j d. rest-small _) ∙ byte-is i c) in
       let low = stack-low group in
       record {
         after = wr.after;
-        line = line-then w (Vector (v.LoadElements Bits8 1 b addressings.UnitStride true) ∷ []) (Vector (v.ExtendBytes r 1 true) ∷ []) f f1 wr.after m m m line wr.line;
+        line = line-then w (Vector (v.LoadElements Bits8 1 b addressings.UnitStride true) ∷ []) (Vector
+            (v.ExtendBytes r 1 true) ∷ []) f f1 wr.after m m m line wr.line;
         value = wr.value;
         small = λ i c. (can i c).is_word;
         keeps = λ q h.
@@ -154,7 +161,8 @@ module _ (w : World) (m : List ℕ) (l : length m ≡ w.size) (group : Group) (n
   cut-is i b =
       let c = can i b in
       let q : spot i % 4 < 4 = omega arith in
-      ap (λ z. word_at i / 2 ^ z % 256) (shift-count (spot i)) ∙ byte-in w.text m (a i) (spot i % 4) c.are_bytes q ∙ ap (number_in w.text m Byte) (same-rest (spot i)) ∙ holds i b
+      ap (λ z. word_at i / 2 ^ z % 256) (shift-count (spot i)) ∙ byte-in w.text m (a i) (spot i % 4) c.are_bytes q ∙ ap (number_in w.text m Byte)
+      (same-rest (spot i)) ∙ holds i b
 
   -- what stands in the midst of it: numbers in the slot, how many bits lie before each byte in the scratch group
   record Halfway (is : List Insn) (f v : ℕ → ℕ) : Type 0 where
@@ -183,8 +191,10 @@ module _ (w : World) (m : List ℕ) (l : length m ≡ w.size) (group : Group) (n
       let low = lies.low in
       let high = lies.high in
       let i1 : rows.Writes w m l group n (Vector (v.ArithmeticVx vxs.Vadd r r b true) ∷ []) f r spot =
-      rows.writes w m l group n spot (λ i. lanes.add 32 (f (lane r i)) (f b % 2 ^ 32)) has (vector.arithmetic-vx w f m l g has.configured vxs.Vadd r r b lies.is_group lies.is_group lb)
-      (λ i lt. let o = offset i in let c = f b in let g2 : (o + c % 2 ^ 32) % 2 ^ 32 ≡ (c + o) % 2 ^ 32 = omega arith in ap (λ z. lanes.add 32 z (f b % 2 ^ 32)) (hx i lt) ∙ g2 ∙ reach i lt) in
+      rows.writes w m l group n spot (λ i. lanes.add 32 (f (lane r i)) (f b % 2 ^ 32)) has (vector.arithmetic-vx w f m l g has.configured vxs.Vadd r r b
+      lies.is_group lies.is_group lb)
+      (λ i lt. let o = offset i in let c = f b in let g2 : (o + c % 2 ^ 32) % 2 ^ 32 ≡ (c + o) % 2 ^ 32 = omega arith in ap (λ z. lanes.add 32 z
+      (f b % 2 ^ 32)) (hx i lt) ∙ g2 ∙ reach i lt) in
       let has1 = rows.writes-lanes w m l group n i1 has in
       let i2 : Spared w m l group n k lies (Vector (v.ShiftVi shifts.Vsll u r 3 true) ∷ []) i1.after (λ i. spot i * 8 % 2 ^ 32) =
       spared w m l group n k lies (λ i. spot i * 8 % 2 ^ 32) (λ i. lanes.shift_left 32 (held i1.after r i) 3) has1 few
@@ -192,7 +202,8 @@ module _ (w : World) (m : List ℕ) (l : length m ≡ w.size) (group : Group) (n
       (λ i lt. ap (λ z. lanes.shift_left 32 z 3) (rows.slot-held w m l group n k lies i1.after i ∙ i1.value i lt)) (λ i lt. omega arith) in
       record {
         after = i2.after;
-        line = line-then w (Vector (v.ArithmeticVx vxs.Vadd r r b true) ∷ []) (Vector (v.ShiftVi shifts.Vsll u r 3 true) ∷ []) f i1.after i2.after m m m i1.line i2.line;
+        line = line-then w (Vector (v.ArithmeticVx vxs.Vadd r r b true) ∷ []) (Vector (v.ShiftVi shifts.Vsll u r 3 true) ∷ []) f i1.after i2.after m m m
+            i1.line i2.line;
         value = λ i lt. i2.keeps (lane r i) (inr (omega (arith, low), omega (arith, high, few, lt))) ∙ i1.value i lt;
         bits = i2.value;
         none = i2.keeps 0 (inl (omega arith)) ∙ i1.below 0 (omega arith) ∙ none;
@@ -204,12 +215,14 @@ module _ (w : World) (m : List ℕ) (l : length m ≡ w.size) (group : Group) (n
   to_words = (Vector (v.ArithmeticVi vis.Vand r r (negsuc 3) true) ∷ []) ++ (Vector (v.LoadElements Bits32 r 0 (addressings.Indexed r) true) ∷ [])
 
   -- to the words there
-  fetched : (f : ℕ → ℕ) → HasLanes group n f → f 0 ≡ 0 → ((i : ℕ) → i < n → f (lane r i) ≡ spot i) → ((i : ℕ) → i < n → held f u i ≡ spot i * 8 % 2 ^ 32) → Halfway to_words f word_at
+  fetched : (f : ℕ → ℕ) → HasLanes group n f → f 0 ≡ 0 → ((i : ℕ) → i < n → f (lane r i) ≡ spot i) → ((i : ℕ) → i < n → held f u i ≡ spot i * 8 % 2 ^ 32)
+      → Halfway to_words f word_at
   fetched f has none hx hu =
       let few = rows.few-rounds w m l group n f has in
       let aside : rows.Aside w m l group n k lies u = inr refl in
       let i3 : rows.Writes w m l group n (Vector (v.ArithmeticVi vis.Vand r r (negsuc 3) true) ∷ []) f r a =
-      rows.writes w m l group n a (λ i. bit_and (f (lane r i)) (lanes.wrapped 32 (negsuc 3))) has (vector.arithmetic-vi w f m l g has.configured vis.Vand r r (negsuc 3) lies.is_group lies.is_group)
+      rows.writes w m l group n a (λ i. bit_and (f (lane r i)) (lanes.wrapped 32 (negsuc 3))) has (vector.arithmetic-vi w f m l g has.configured vis.Vand r
+      r (negsuc 3) lies.is_group lies.is_group)
       (λ i lt. ap (λ z. bit_and z (lanes.wrapped 32 (negsuc 3))) (hx i lt) ∙ and_high_mask 32 2 (omega arith) (spot i) (can i lt).low) in
       let has3 = rows.writes-lanes w m l group n i3 has in
       let count = has3.count in
@@ -225,7 +238,8 @@ module _ (w : World) (m : List ℕ) (l : length m ≡ w.size) (group : Group) (n
       (λ i lt. refl) in
       record {
         after = i4.after;
-        line = line-then w (Vector (v.ArithmeticVi vis.Vand r r (negsuc 3) true) ∷ []) (Vector (v.LoadElements Bits32 r 0 (addressings.Indexed r) true) ∷ []) f i3.after i4.after m m m i3.line i4.line;
+        line = line-then w (Vector (v.ArithmeticVi vis.Vand r r (negsuc 3) true) ∷ []) (Vector (v.LoadElements Bits32 r 0
+            (addressings.Indexed r) true) ∷ []) f i3.after i4.after m m m i3.line i4.line;
         value = i4.value;
         bits = rows.aside-stays w m l group n k lies i4 aside few (rows.aside-stays w m l group n k lies i3 aside few hu);
         none = i4.below 0 (omega arith) ∙ z3;
@@ -243,12 +257,14 @@ module _ (w : World) (m : List ℕ) (l : length m ≡ w.size) (group : Group) (n
       let ir = any-group g r lies.few lies.is_group in
       let shifted : ℕ → ℕ = (λ i. word_at i / 2 ^ (spot i * 8 % 2 ^ 32 % 32)) in
       let i5 : rows.Writes w m l group n (Vector (v.ArithmeticVv vvs.Vsrl r r u true) ∷ []) f r shifted =
-      rows.slot-writes w m l group n k lies shifted (λ i. held f r i / 2 ^ (held f u i % 32)) has (firsts.arithmetic-vv w f m l g has.configured vvs.Vsrl r r u ir ir (spare-is group))
+      rows.slot-writes w m l group n k lies shifted (λ i. held f r i / 2 ^ (held f u i % 32)) has (firsts.arithmetic-vv w f m l g has.configured vvs.Vsrl r
+      r u ir ir (spare-is group))
       (λ i lt. ap (λ q. q / 2 ^ (held f u i % 32)) (rows.slot-held w m l group n k lies f i ∙ hx i lt) ∙ ap (λ q. word_at i / 2 ^ (q % 32)) (hu i lt)) in
       let has5 = rows.writes-lanes w m l group n i5 has in
       let i6 = lit.does w m i5.after l (i5.below 0 (omega arith) ∙ none) in
       let same6 : (q : ℕ) → q ≢ 13 → q ≢ 14 → i6.after q ≡ i5.after q = (λ q p s. i6.others q p p s) in
-      let has6 = rows.lanes-kept w m l group n i5.after i6.after (same6 vl_number (λ e. omega (arith, e)) (λ e. omega (arith, e))) (same6 vtype_number (λ e. omega (arith, e)) (λ e. omega (arith, e))) has5 in
+      let has6 = rows.lanes-kept w m l group n i5.after i6.after (same6 vl_number (λ e. omega (arith, e)) (λ e. omega (arith, e))) (same6 vtype_number
+      (λ e. omega (arith, e)) (λ e. omega (arith, e))) has5 in
       let i7 : rows.Writes w m l group n (Vector (v.ArithmeticVx vxs.Vand r r 13 true) ∷ []) i6.after r pixel =
       rows.writes w m l group n pixel (λ i. bit_and (i6.after (lane r i)) (i6.after 13 % 2 ^ 32)) has6
       (vector.arithmetic-vx w i6.after m l g has6.configured vxs.Vand r r 13 lies.is_group lies.is_group (omega arith))
@@ -265,7 +281,8 @@ module _ (w : World) (m : List ℕ) (l : length m ≡ w.size) (group : Group) (n
         keeps = λ q h. let d = under-apart group k q h in i7.below q (below-slot q h) ∙ same6 q d.0 d.1 ∙ i5.below q (below-slot q h);
       }
 
-  bytes-cut : (f offset : ℕ → ℕ) (b : ℕ) (c0 c1 : List ℕ) → (lit : Makes c0 c1 2 13 (λ f. 255)) → HasLanes group n f → b < 32 → f 0 ≡ 0 → ((i : ℕ) → i < n → f (lane r i) ≡ offset i)
+  bytes-cut : (f offset : ℕ → ℕ) (b : ℕ) (c0 c1 : List ℕ) → (lit : Makes c0 c1 2 13 (λ f. 255)) → HasLanes group n f → b < 32 → f 0 ≡ 0 → ((i : ℕ)
+      → i < n → f (lane r i) ≡ offset i)
       → ((i : ℕ) → i < n → (f b + offset i) % 2 ^ 32 ≡ spot i) → LeavesLanes w m (to_bits b ++ (to_words ++ to_bytes lit.insns)) f group k n pixel
   bytes-cut f offset b c0 c1 lit has lb none hx reach =
       let x1 = addressed f offset b has lb none hx reach in
@@ -273,7 +290,8 @@ module _ (w : World) (m : List ℕ) (l : length m ≡ w.size) (group : Group) (n
       let x3 = cut x2.after c0 c1 lit x2.has x2.none x2.value x2.bits in
       record {
         after = x3.after;
-        line = line-then w (to_bits b) (to_words ++ to_bytes lit.insns) f x1.after x3.after m m m x1.line (line-then w to_words (to_bytes lit.insns) x1.after x2.after x3.after m m m x2.line x3.line);
+        line = line-then w (to_bits b) (to_words ++ to_bytes lit.insns) f x1.after x3.after m m m x1.line (line-then w to_words
+            (to_bytes lit.insns) x1.after x2.after x3.after m m m x2.line x3.line);
         value = x3.value;
         small = x3.small;
         keeps = λ q h. x3.keeps q h ∙ x2.keeps q h ∙ x1.keeps q h;
@@ -282,7 +300,8 @@ module _ (w : World) (m : List ℕ) (l : length m ≡ w.size) (group : Group) (n
 -- ---- as the emitters call it
 
 pub bytes-along : (group : Group) (k b a : ℕ) (c0 c1 : List ℕ) → k < slots group → b < 32 → a ≡ slot group k
-    → Emits c0 c1 (Vector (v.LoadElements Bits8 1 b addressings.UnitStride true) ∷ Vector (v.ExtendBytes a 1 true) ∷ []) → LoadsAlong c0 c1 group k b pixels.Bytes
+    → Emits c0 c1 (Vector (v.LoadElements Bits8 1 b addressings.UnitStride true) ∷ Vector (v.ExtendBytes a 1 true) ∷ [])
+    → LoadsAlong c0 c1 group k b pixels.Bytes
 bytes-along group k b a c0 c1 in-stack lb ea z = record {
   insns = Vector (v.LoadElements Bits8 1 b addressings.UnitStride true) ∷ Vector (v.ExtendBytes (slot group k) 1 true) ∷ [];
   emits = subst (λ q. Emits c0 c1 (Vector (v.LoadElements Bits8 1 b addressings.UnitStride true) ∷ Vector (v.ExtendBytes q 1 true) ∷ [])) ea z;
@@ -293,8 +312,10 @@ bytes-along group k b a c0 c1 in-stack lb ea z = record {
 
 pub bytes-from : (group : Group) (k b a u : ℕ) (c0 c1 c2 c3 c4 c5 c6 c7 : List ℕ) → k < slots group → b < 32 → a ≡ slot group k → u ≡ spare group
     → Emits c0 c1 (Vector (v.ArithmeticVx vxs.Vadd a a b true) ∷ []) → Emits c1 c2 (Vector (v.ShiftVi shifts.Vsll u a 3 true) ∷ [])
-    → Emits c2 c3 (Vector (v.ArithmeticVi vis.Vand a a (negsuc 3) true) ∷ []) → Emits c3 c4 (Vector (v.LoadElements Bits32 a 0 (addressings.Indexed a) true) ∷ [])
-    → Emits c4 c5 (Vector (v.ArithmeticVv vvs.Vsrl a a u true) ∷ []) → Makes c5 c6 2 13 (λ f. 255) → Emits c6 c7 (Vector (v.ArithmeticVx vxs.Vand a a 13 true) ∷ [])
+    → Emits c2 c3 (Vector (v.ArithmeticVi vis.Vand a a (negsuc 3) true) ∷ []) → Emits c3 c4 (Vector (v.LoadElements Bits32 a 0
+    (addressings.Indexed a) true) ∷ [])
+    → Emits c4 c5 (Vector (v.ArithmeticVv vvs.Vsrl a a u true) ∷ []) → Makes c5 c6 2 13 (λ f. 255) → Emits c6 c7 (Vector
+    (v.ArithmeticVx vxs.Vand a a 13 true) ∷ [])
     → LoadsFrom c0 c7 group k b pixels.Bytes
 bytes-from group k b a u c0 c1 c2 c3 c4 c5 c6 c7 in-stack lb ea eu z1 z2 z3 z4 z5 lit z7 =
     let r = slot group k in
@@ -306,11 +327,13 @@ bytes-from group k b a u c0 c1 c2 c3 c4 c5 c6 c7 in-stack lb ea eu z1 z2 z3 z4 z
       emits =
           emits_then
           (emits_then (subst (λ q. Emits c0 c1 (Vector (v.ArithmeticVx vxs.Vadd q q b true) ∷ [])) ea z1)
-          (subst (λ q. Emits c1 c2 (Vector (v.ShiftVi shifts.Vsll q r 3 true) ∷ [])) eu (subst (λ q. Emits c1 c2 (Vector (v.ShiftVi shifts.Vsll u q 3 true) ∷ [])) ea z2)))
+          (subst (λ q. Emits c1 c2 (Vector (v.ShiftVi shifts.Vsll q r 3 true) ∷ [])) eu (subst (λ q. Emits c1 c2 (Vector
+          (v.ShiftVi shifts.Vsll u q 3 true) ∷ [])) ea z2)))
           (emits_then
           (emits_then (subst (λ q. Emits c2 c3 (Vector (v.ArithmeticVi vis.Vand q q (negsuc 3) true) ∷ [])) ea z3)
           (subst (λ q. Emits c3 c4 (Vector (v.LoadElements Bits32 q 0 (addressings.Indexed q) true) ∷ [])) ea z4))
-          (emits_then (subst (λ q. Emits c4 c5 (Vector (v.ArithmeticVv vvs.Vsrl r r q true) ∷ [])) eu (subst (λ q. Emits c4 c5 (Vector (v.ArithmeticVv vvs.Vsrl q q u true) ∷ [])) ea z5))
+          (emits_then (subst (λ q. Emits c4 c5 (Vector (v.ArithmeticVv vvs.Vsrl r r q true) ∷ [])) eu (subst (λ q. Emits c4 c5 (Vector
+          (v.ArithmeticVv vvs.Vsrl q q u true) ∷ [])) ea z5))
           (emits_then lit.emits (subst (λ q. Emits c6 c7 (Vector (v.ArithmeticVx vxs.Vand q q 13 true) ∷ [])) ea z7))));
       does = λ w m n f x y pixel offset place l has none bytes can holds reach.
           bytes-cut w m l group n k (slot-lies group k in-stack) place bytes x y pixel can f offset b c5 c6 lit has lb none holds reach;

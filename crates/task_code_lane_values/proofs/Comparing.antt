@@ -43,7 +43,8 @@ compared-not-equal x c lx lc = refl
 pub compared-as-is : (o other : Operation) (own : CompareVxOp) → o ≡ other → IsComparedBy other own → IsComparedBy o own
 compared-as-is o other own e is = subst (λ z. IsComparedBy z own) (sym e) is
 
-pub compared-by : (group : Group) (k : ℕ) → k < slots group → (o : Operation) (s : ℕ) → s < 32 → (own : CompareVxOp) → IsComparedBy o own → (a : ℕ) (c0 c1 c2 : List ℕ) → a ≡ slot group k
+pub compared-by : (group : Group) (k : ℕ) → k < slots group → (o : Operation) (s : ℕ) → s < 32 → (own : CompareVxOp) → IsComparedBy o own → (a : ℕ)
+    (c0 c1 c2 : List ℕ) → a ≡ slot group k
     → Emits c0 c1 (Vector (v.CompareVx own 0 a s true) ∷ []) → Emits c1 c2 (flagged a) → TurnsBy c0 c2 group k s AnyWord (word.applied o)
 compared-by group k in-stack o s low own is a c0 c1 c2 ea x y = record {
   insns = Vector (v.CompareVx own 0 (slot group k) s true) ∷ flagged (slot group k);

@@ -72,7 +72,8 @@ pub under-two : (group : Group) (k q : ℕ) → k + 1 < slots group → IsUnder 
 under-two group k q l h = let e : k + 1 + 1 ≡ k + 2 = omega arith in subst (λ j. IsUnder group j q) e (under-next group (k + 1) q l h)
 
 pub slot-under-two : (group : Group) (k i n : ℕ) → k + 1 < slots group → n ≤ 4 * registers group → i < n → IsUnder group (k + 2) (lane (slot group (k + 1)) i)
-slot-under-two group k i n l few b = let e : k + 1 + 1 ≡ k + 2 = omega arith in subst (λ j. IsUnder group j (lane (slot group (k + 1)) i)) e (slot-under group (k + 1) i n l few b)
+slot-under-two group k i n l few b = let e : k + 1 + 1 ≡ k + 2 = omega arith in subst (λ j. IsUnder group j (lane (slot group (k + 1)) i)) e
+    (slot-under group (k + 1) i n l few b)
 
 pub vl-under : (group : Group) (k : ℕ) → IsUnder group k vl_number
 vl-under group k = inr (inl (inl refl))
@@ -86,13 +87,16 @@ module _ (w : World) (m : List ℕ) (l : length m ≡ w.size) (group : Group) (n
 
   pub lanes-scalar : (f g : ℕ → ℕ) → ((q : ℕ) → IsBelow first_value q → g q ≡ f q) → HasLanes group n f → HasLanes group n g
   lanes-scalar f g same has =
-      rows.lanes-kept w m l group n f g (same vl_number (under-below group 0 vl_number (vl-under group 0))) (same vtype_number (under-below group 0 vtype_number (vtype-under group 0))) has
+      rows.lanes-kept w m l group n f g (same vl_number (under-below group 0 vl_number (vl-under group 0))) (same vtype_number
+      (under-below group 0 vtype_number (vtype-under group 0))) has
 
   -- what instructions in a slot leave
-  pub left-of : (is : List Insn) (f : ℕ → ℕ) (k : ℕ) (x : ℕ → ℕ) → ((i : ℕ) → i < n → x i < 2 ^ 32) → LeavesSlot w m group n is f k x → LeavesLanes w m is f group k n x
+  pub left-of : (is : List Insn) (f : ℕ → ℕ) (k : ℕ) (x : ℕ → ℕ) → ((i : ℕ) → i < n → x i < 2 ^ 32) → LeavesSlot w m group n is f k x
+      → LeavesLanes w m is f group k n x
   left-of is f k x small a = record { after = a.after; line = a.line; value = a.value; small = small; keeps = λ q u. a.keeps q (under-kept group k q u) }
 
-  pub left-as : (is : List Insn) (f : ℕ → ℕ) (k : ℕ) (x y : ℕ → ℕ) → ((i : ℕ) → i < n → x i ≡ y i) → LeavesLanes w m is f group k n x → LeavesLanes w m is f group k n y
+  pub left-as : (is : List Insn) (f : ℕ → ℕ) (k : ℕ) (x y : ℕ → ℕ) → ((i : ℕ) → i < n → x i ≡ y i) → LeavesLanes w m is f group k n x
+      → LeavesLanes w m is f group k n y
   left-as is f k x y same a = record {
     after = a.after;
     line = a.line;
@@ -104,7 +108,8 @@ module _ (w : World) (m : List ℕ) (l : length m ≡ w.size) (group : Group) (n
 -- ---- scalars
 
 -- a number or a form is one that a register holds or gets
-pub scalar-held : (scope : List Held) (own : Lanes) (most s : ℕ) (c0 c1 : List ℕ) (says : ℕ → Values → ℕ) → ((hart : ℕ) (values : Values) → says hart values < 2 ^ 32)
+pub scalar-held : (scope : List Held) (own : Lanes) (most s : ℕ) (c0 c1 : List ℕ) (says : ℕ → Values → ℕ) → ((hart : ℕ) (values : Values)
+    → says hart values < 2 ^ 32)
     → MakesHeld c0 c1 most scope address_register s says → MakesScalar c0 c1 scope own s Nothing (λ hart reads values. says hart (with own.counter 0 values))
 scalar-held scope own most s c0 c1 says small x = record {
   insns = x.insns;
@@ -121,7 +126,8 @@ scalar-held scope own most s c0 c1 says small x = record {
       };
 }
 
-pub scalar-as : (scope : List Held) (own : Lanes) (s : ℕ) (c0 c1 : List ℕ) (may : World → List ℕ → Reads → Values → Type 0) (says other : ℕ → Reads → Values → ℕ)
+pub scalar-as : (scope : List Held) (own : Lanes) (s : ℕ) (c0 c1 : List ℕ) (may : World → List ℕ → Reads → Values → Type 0) (says other : ℕ → Reads
+    → Values → ℕ)
     → ((hart : ℕ) (reads : Reads) (values : Values) → says hart reads values ≡ other hart reads values) → MakesScalar c0 c1 scope own s may says
     → MakesScalar c0 c1 scope own s may other
 scalar-as scope own s c0 c1 may says other same x = record {
@@ -136,7 +142,8 @@ scalar-as scope own s c0 c1 may says other same x = record {
 
 -- ---- operations that make the same
 
-pub by-as : (group : Group) (k s : ℕ) (c0 c1 : List ℕ) (fits : ℕ → Type 0) (says other : ℕ → ℕ → ℕ) → ((x c : ℕ) → x < 2 ^ 32 → c < 2 ^ 32 → fits c → says x c ≡ other x c)
+pub by-as : (group : Group) (k s : ℕ) (c0 c1 : List ℕ) (fits : ℕ → Type 0) (says other : ℕ → ℕ → ℕ) → ((x c : ℕ) → x < 2 ^ 32 → c < 2 ^ 32 → fits c
+    → says x c ≡ other x c)
     → TurnsBy c0 c1 group k s fits says → TurnsBy c0 c1 group k s fits other
 by-as group k s c0 c1 fits says other same x = record {
   insns = x.insns;
@@ -148,13 +155,16 @@ by-as group k s c0 c1 fits says other same x = record {
 -- ---- one part behind another
 
 -- the same of what has as much of memory
-pub each-as : (places : Places) (scope : List Held) (own : Lanes) (k : ℕ) (c0 c1 : List ℕ) (may other : World → List ℕ → Reads → Values → ℕ → Type 0) (says : Reads → Values → ℕ → ℕ)
-    → ((w : World) (m : List ℕ) (reads : Reads) (values : Values) (n : ℕ) → 1 ≤ n → ((i : ℕ) → i < n → other w m reads values i) → (i : ℕ) → i < n → may w m reads values i)
+pub each-as : (places : Places) (scope : List Held) (own : Lanes) (k : ℕ) (c0 c1 : List ℕ) (may other : World → List ℕ → Reads → Values → ℕ → Type 0)
+    (says : Reads → Values → ℕ → ℕ)
+    → ((w : World) (m : List ℕ) (reads : Reads) (values : Values) (n : ℕ) → 1 ≤ n → ((i : ℕ) → i < n → other w m reads values i) → (i : ℕ) → i < n
+    → may w m reads values i)
     → MakesEach c0 c1 places scope own k may says → MakesEach c0 c1 places scope own k other says
 each-as places scope own k c0 c1 may other says can a = record {
   insns = a.insns;
   emits = a.emits;
-  does = λ w m values reads n f l are holders knows has some few all. a.does w m values reads n f l are holders knows has some few (can w m reads values n some all);
+  does = λ w m values reads n f l are holders knows has some few all. a.does w m values reads n f l are holders knows has some few
+      (can w m reads values n some all);
 }
 
 module _ (places : Places) (scope : List Held) (own : Lanes) (k : ℕ) (in-stack : k < slots own.group) where
@@ -164,14 +174,17 @@ module _ (places : Places) (scope : List Held) (own : Lanes) (k : ℕ) (in-stack
   abbrev MayOnce : Type 1
   MayOnce = World → List ℕ → Reads → Values → Type 0
 
-  known : (hart : ℕ) (values : Values) (j : ℕ) (f g : ℕ → ℕ) → AreHolders scope → ((q : ℕ) → IsUnder own.group j q → g q ≡ f q) → Knows hart scope values f → Knows hart scope values g
+  known : (hart : ℕ) (values : Values) (j : ℕ) (f g : ℕ → ℕ) → AreHolders scope → ((q : ℕ) → IsUnder own.group j q → g q ≡ f q)
+      → Knows hart scope values f → Knows hart scope values g
   known hart values j f g holders same knows = knows-still hart scope values f g (λ q h. same q (kept-under own.group j scope q holders h)) knows
 
-  known-scalar : (hart : ℕ) (values : Values) (f g : ℕ → ℕ) → AreHolders scope → ((q : ℕ) → IsBelow first_value q → g q ≡ f q) → Knows hart scope values f → Knows hart scope values g
+  known-scalar : (hart : ℕ) (values : Values) (f g : ℕ → ℕ) → AreHolders scope → ((q : ℕ) → IsBelow first_value q → g q ≡ f q)
+      → Knows hart scope values f → Knows hart scope values g
   known-scalar hart values f g holders same knows = known hart values 0 f g holders (λ q u. same q (under-below own.group 0 q u)) knows
 
   -- all lanes are a scalar
-  pub each-spread : (s : ℕ) (c0 c1 c2 : List ℕ) (mb : MayOnce) (xb : Reads → Values → ℕ) → MakesScalar c0 c1 scope own s mb (λ hart reads values. xb reads values)
+  pub each-spread : (s : ℕ) (c0 c1 c2 : List ℕ) (mb : MayOnce) (xb : Reads → Values → ℕ) → MakesScalar c0 c1 scope own s mb
+      (λ hart reads values. xb reads values)
       → Emits c1 c2 (Vector (v.MoveVx (slot own.group k) s) ∷ [])
       → MakesEach c0 c2 places scope own k (λ w m reads values i. mb w m reads values) (λ reads values i. xb reads values)
   each-spread s c0 c1 c2 mb xb x z = record {
@@ -196,7 +209,8 @@ module _ (places : Places) (scope : List Held) (own : Lanes) (k : ℕ) (in-stack
         };
   }
 
-  pub each-one : (c0 c1 c2 : List ℕ) (ma : MayEach) (xa : Reads → Values → ℕ → ℕ) (says : ℕ → ℕ) → MakesEach c0 c1 places scope own k ma xa → TurnsOne c1 c2 own.group k says
+  pub each-one : (c0 c1 c2 : List ℕ) (ma : MayEach) (xa : Reads → Values → ℕ → ℕ) (says : ℕ → ℕ) → MakesEach c0 c1 places scope own k ma xa
+      → TurnsOne c1 c2 own.group k says
       → MakesEach c0 c2 places scope own k ma (λ reads values i. says (xa reads values i))
   each-one c0 c1 c2 ma xa says x z = record {
     insns = x.insns ++ z.insns;
@@ -215,10 +229,13 @@ module _ (places : Places) (scope : List Held) (own : Lanes) (k : ℕ) (in-stack
   }
 
   -- an operation on lanes and a scalar
-  pub each-by : (s : ℕ) (c0 c1 c2 c3 : List ℕ) (ma : MayEach) (mb : MayOnce) (xa : Reads → Values → ℕ → ℕ) (xb : Reads → Values → ℕ) (fits : ℕ → Type 0) (says : ℕ → ℕ → ℕ)
-      → MakesEach c0 c1 places scope own k ma xa → MakesScalar c1 c2 scope own s mb (λ hart reads values. xb reads values) → TurnsBy c2 c3 own.group k s fits says
+  pub each-by : (s : ℕ) (c0 c1 c2 c3 : List ℕ) (ma : MayEach) (mb : MayOnce) (xa : Reads → Values → ℕ → ℕ) (xb : Reads → Values → ℕ) (fits : ℕ → Type 0)
+      (says : ℕ → ℕ → ℕ)
+      → MakesEach c0 c1 places scope own k ma xa → MakesScalar c1 c2 scope own s mb (λ hart reads values. xb reads values)
+      → TurnsBy c2 c3 own.group k s fits says
       → ((reads : Reads) (values : Values) → xb reads values < 2 ^ 32 → fits (xb reads values))
-      → MakesEach c0 c3 places scope own k (λ w m reads values i. ma w m reads values i × mb w m reads values) (λ reads values i. says (xa reads values i) (xb reads values))
+      → MakesEach c0 c3 places scope own k (λ w m reads values i. ma w m reads values i × mb w m reads values) (λ reads values i. says (xa reads values i)
+      (xb reads values))
   each-by s c0 c1 c2 c3 ma mb xa xb fits says x y z fit = record {
     insns = x.insns ++ (y.insns ++ z.insns);
     emits = emits_then x.emits (emits_then y.emits z.emits);
@@ -228,11 +245,13 @@ module _ (places : Places) (scope : List Held) (own : Lanes) (k : ℕ) (in-stack
         let hp = lanes-under w m l own.group n k f p.after p.keeps has in
         let q = y.does w m values reads p.after l holders kp ((may 0 (omega (arith, some))).1) in
         let hq = lanes-scalar w m l own.group n p.after q.after q.keeps hp in
-        let t = z.does w m n q.after (xa reads values) (xb reads values) l hq (λ i b. q.keeps (lane (slot own.group k) i) (lane-below (slot own.group k) i) ∙ p.value i b) p.small q.value
+        let t = z.does w m n q.after (xa reads values) (xb reads values) l hq (λ i b. q.keeps (lane (slot own.group k) i) (lane-below
+        (slot own.group k) i) ∙ p.value i b) p.small q.value
         q.small (fit reads values q.small) in
         record {
           after = t.after;
-          line = line-then w x.insns (y.insns ++ z.insns) f p.after t.after m m m p.line (line-then w y.insns z.insns p.after q.after t.after m m m q.line t.line);
+          line = line-then w x.insns (y.insns ++ z.insns) f p.after t.after m m m p.line (line-then w y.insns z.insns p.after q.after t.after m m m q.line
+              t.line);
           value = t.value;
           small = t.small;
           keeps = λ u h. t.keeps u h ∙ q.keeps u (under-below own.group k u h) ∙ p.keeps u h;
@@ -242,7 +261,8 @@ module _ (places : Places) (scope : List Held) (own : Lanes) (k : ℕ) (in-stack
   -- an operation on two groups
   pub each-two : (c0 c1 c2 c3 : List ℕ) (ma mb : MayEach) (xa xb : Reads → Values → ℕ → ℕ) (says : ℕ → ℕ → ℕ) → MakesEach c0 c1 places scope own k ma xa
       → MakesEach c1 c2 places scope own (k + 1) mb xb → TurnsTwo c2 c3 own.group k says
-      → MakesEach c0 c3 places scope own k (λ w m reads values i. ma w m reads values i × mb w m reads values i) (λ reads values i. says (xa reads values i) (xb reads values i))
+      → MakesEach c0 c3 places scope own k (λ w m reads values i. ma w m reads values i × mb w m reads values i) (λ reads values i. says
+      (xa reads values i) (xb reads values i))
   each-two c0 c1 c2 c3 ma mb xa xb says x y z = record {
     insns = x.insns ++ (y.insns ++ z.insns);
     emits = emits_then x.emits (emits_then y.emits z.emits);
@@ -252,11 +272,13 @@ module _ (places : Places) (scope : List Held) (own : Lanes) (k : ℕ) (in-stack
         let hp = lanes-under w m l own.group n k f p.after p.keeps has in
         let q = y.does w m values reads n p.after l are holders kp hp some few (λ i b. (may i b).1) in
         let hq = lanes-under w m l own.group n (k + 1) p.after q.after q.keeps hp in
-        let t = z.does w m n q.after (xa reads values) (xb reads values) l hq (λ i b. q.keeps (lane (slot own.group k) i) (slot-under own.group k i n in-stack few b) ∙ p.value i b) q.value
+        let t = z.does w m n q.after (xa reads values) (xb reads values) l hq (λ i b. q.keeps (lane (slot own.group k) i)
+        (slot-under own.group k i n in-stack few b) ∙ p.value i b) q.value
         p.small q.small in
         record {
           after = t.after;
-          line = line-then w x.insns (y.insns ++ z.insns) f p.after t.after m m m p.line (line-then w y.insns z.insns p.after q.after t.after m m m q.line t.line);
+          line = line-then w x.insns (y.insns ++ z.insns) f p.after t.after m m m p.line (line-then w y.insns z.insns p.after q.after t.after m m m q.line
+              t.line);
           value = t.value;
           small = t.small;
           keeps = λ u h. t.keeps u h ∙ q.keeps u (under-next own.group k u in-stack h) ∙ p.keeps u h;
@@ -264,7 +286,8 @@ module _ (places : Places) (scope : List Held) (own : Lanes) (k : ℕ) (in-stack
   }
 
   -- a choice of two groups by a third one
-  pub each-three : k + 2 < slots own.group → (c0 c1 c2 c3 c4 : List ℕ) (mc ma mb : MayEach) (xc xa xb : Reads → Values → ℕ → ℕ) → MakesEach c0 c1 places scope own k mc xc
+  pub each-three : k + 2 < slots own.group → (c0 c1 c2 c3 c4 : List ℕ) (mc ma mb : MayEach) (xc xa xb : Reads → Values → ℕ → ℕ)
+      → MakesEach c0 c1 places scope own k mc xc
       → MakesEach c1 c2 places scope own (k + 1) ma xa → MakesEach c2 c3 places scope own (k + 2) mb xb → Chooses c3 c4 own.group k
       → MakesEach c0 c4 places scope own k (λ w m reads values i. mc w m reads values i × (ma w m reads values i × mb w m reads values i))
       (λ reads values i. if xc reads values i == 0 then xb reads values i else xa reads values i)
@@ -284,14 +307,16 @@ module _ (places : Places) (scope : List Held) (own : Lanes) (k : ℕ) (in-stack
         let hq = lanes-under w m l own.group n (k + 2) p.after q.after q.keeps hp in
         let up : (u : ℕ) → IsUnder own.group (k + 1) u → IsUnder own.group (k + 2) u = (λ u h. under-two own.group k u in-next h) in
         let ec : (i : ℕ) → i < n → q.after (lane (slot own.group k) i) ≡ xc reads values i =
-        (λ i b. let h = slot-under own.group k i n in-stack few b in q.keeps (lane (slot own.group k) i) (up (lane (slot own.group k) i) h) ∙ p.keeps (lane (slot own.group k) i) h ∙ s.value i b) in
+        (λ i b. let h = slot-under own.group k i n in-stack few b in q.keeps (lane (slot own.group k) i) (up (lane (slot own.group k) i) h) ∙ p.keeps
+        (lane (slot own.group k) i) h ∙ s.value i b) in
         let ex : (i : ℕ) → i < n → q.after (lane (slot own.group (k + 1)) i) ≡ xa reads values i =
         (λ i b. q.keeps (lane (slot own.group (k + 1)) i) (slot-under-two own.group k i n in-next few b) ∙ p.value i b) in
         let t = z.does w m n q.after (xc reads values) (xa reads values) (xb reads values) l hq ec ex q.value p.small q.small in
         record {
           after = t.after;
           line = line-then w o.insns (x.insns ++ (y.insns ++ z.insns)) f s.after t.after m m m s.line
-              (line-then w x.insns (y.insns ++ z.insns) s.after p.after t.after m m m p.line (line-then w y.insns z.insns p.after q.after t.after m m m q.line t.line));
+              (line-then w x.insns (y.insns ++ z.insns) s.after p.after t.after m m m p.line (line-then w y.insns z.insns p.after q.after t.after m m m
+              q.line t.line));
           value = t.value;
           small = t.small;
           keeps = λ u h. let h1 = under-next own.group k u in-stack h in t.keeps u h ∙ q.keeps u (up u h1) ∙ p.keeps u h1 ∙ s.keeps u h;

@@ -51,7 +51,8 @@ module _ (w : World) (m : List ℕ) (l : length m ≡ w.size) (group : Group) (n
   signs-spared f x has few hx lx =
       spared w m l group n k lies (λ i. sign_word (nat_lt (x i) (2 ^ 31))) (λ i. lanes.shift_right_arithmetic 32 (held f r i) 31) has few
       (firsts.shift-vi w f m l g has.configured shifts.Vsra u r 31 (spare-is group) slot-is)
-      (λ i b. ap (λ z. lanes.shift_right_arithmetic 32 z 31) (rows.slot-held w m l group n k lies f i ∙ hx i b) ∙ sign-is (x i) (lx i b)) (λ i b. sign-below (nat_lt (x i) (2 ^ 31)))
+      (λ i b. ap (λ z. lanes.shift_right_arithmetic 32 z 31) (rows.slot-held w m l group n k lies f i ∙ hx i b) ∙ sign-is (x i) (lx i b))
+      (λ i b. sign-below (nat_lt (x i) (2 ^ 31)))
 
   -- lanes become their complements where signs say so
   turned-writes : (f x : ℕ → ℕ) (t : ℕ → Bool) → HasLanes group n f → ((i : ℕ) → i < n → f (lane r i) ≡ x i) → ((i : ℕ) → i < n → held f u i ≡ sign_word (t i))
@@ -59,12 +60,14 @@ module _ (w : World) (m : List ℕ) (l : length m ≡ w.size) (group : Group) (n
   turned-writes f x t has hx hu lx =
       rows.slot-writes w m l group n k lies (λ i. turned (t i) (x i)) (λ i. bit_xor (held f r i) (held f u i)) has
       (firsts.arithmetic-vv w f m l g has.configured vvs.Vxor r r u slot-is slot-is (spare-is group))
-      (λ i b. ap (λ z. bit_xor z (held f u i)) (rows.slot-held w m l group n k lies f i ∙ hx i b) ∙ ap (bit_xor (x i)) (hu i b) ∙ turned-is (t i) (x i) (lx i b))
+      (λ i b. ap (λ z. bit_xor z (held f u i)) (rows.slot-held w m l group n k lies f i ∙ hx i b) ∙ ap (bit_xor (x i)) (hu i b) ∙ turned-is (t i) (x i)
+      (lx i b))
 
   abbrev quotient_code : ℕ → List Insn
   quotient_code s = lanes_sign r u ++ (lanes_turned r u ++ ((Vector (v.MultiplyVx multiplies.Vdivu r r s true) ∷ []) ++ lanes_turned r u))
 
-  quotient-left : (s c : ℕ) (f x : ℕ → ℕ) → s < 32 → HasLanes group n f → ((i : ℕ) → i < n → f (lane r i) ≡ x i) → ((i : ℕ) → i < n → x i < 2 ^ 32) → f s ≡ c → 0 < c → c < 2 ^ 32
+  quotient-left : (s c : ℕ) (f x : ℕ → ℕ) → s < 32 → HasLanes group n f → ((i : ℕ) → i < n → f (lane r i) ≡ x i) → ((i : ℕ) → i < n → x i < 2 ^ 32)
+      → f s ≡ c → 0 < c → c < 2 ^ 32
       → LeavesLanes w m (quotient_code s) f group k n (λ i. word.divide (x i) c)
   quotient-left s c f x ls has hx lx es lc hc =
       let few = rows.few-rounds w m l group n f has in
@@ -101,7 +104,13 @@ module _ (w : World) (m : List ℕ) (l : length m ≡ w.size) (group : Group) (n
         small = λ i b. subst (λ z. z < 2 ^ 32) (quotient-is (x i) c lc) (turned-below (t i) (y i / c) (small i b));
         keeps = λ q h.
             let below : q < lane r 0 = elim (under-sorts group k q h) [ inl o ↦ omega (arith, o) | inr o ↦ o.1 ] in
-            d.below q below ∙ e3.below q below ∙ b2.below q below ∙ a.keeps q (elim (under-sorts group k q h) [ inl o ↦ inl o | inr o ↦ inr (o.0, (let z = o.1 in omega (arith, z, high))) ]);
+            d.below q below ∙ e3.below q below ∙ b2.below q below ∙ a.keeps q (elim (under-sorts group k q h) [
+              | inl o ↦ inl o
+              | inr o ↦ inr (
+                o.0,
+                (let z = o.1 in omega (arith, z, high)),
+              )
+            ]);
       }
 
   abbrev remainder_code : ℕ → List Insn
@@ -125,8 +134,10 @@ module _ (w : World) (m : List ℕ) (l : length m ≡ w.size) (group : Group) (n
   below-slot : (q : ℕ) → IsUnder group k q → q < lane r 0
   below-slot q h = elim (under-sorts group k q h) [ inl o ↦ omega (arith, o) | inr o ↦ o.1 ]
 
-  rests-left : (s c : ℕ) (f x : ℕ → ℕ) → s < 32 → HasLanes group n f → ((i : ℕ) → i < n → f (lane r i) ≡ x i) → ((i : ℕ) → i < n → x i < 2 ^ 32) → f s ≡ c → 0 < c → c < 2 ^ 32
-      → Rests (lanes_sign r u ++ (lanes_turned r u ++ ((Vector (v.MultiplyVx multiplies.Vremu r r s true) ∷ []) ++ lanes_turned r u))) s c (λ i. nat_lt (x i) (2 ^ 31)) f
+  rests-left : (s c : ℕ) (f x : ℕ → ℕ) → s < 32 → HasLanes group n f → ((i : ℕ) → i < n → f (lane r i) ≡ x i) → ((i : ℕ) → i < n → x i < 2 ^ 32)
+      → f s ≡ c → 0 < c → c < 2 ^ 32
+      → Rests (lanes_sign r u ++ (lanes_turned r u ++ ((Vector (v.MultiplyVx multiplies.Vremu r r s true) ∷ []) ++ lanes_turned r u))) s c (λ i. nat_lt
+      (x i) (2 ^ 31)) f
       (λ i. turned (nat_lt (x i) (2 ^ 31)) (turned (nat_lt (x i) (2 ^ 31)) (x i) % c))
   rests-left s c f x ls has hx lx es lc hc =
       let few = rows.few-rounds w m l group n f has in
@@ -166,7 +177,8 @@ module _ (w : World) (m : List ℕ) (l : length m ≡ w.size) (group : Group) (n
         keeps = λ q h. d.below q (below-slot q h) ∙ e3.below q (below-slot q h) ∙ b2.below q (below-slot q h) ∙ a.keeps q (beside-spare q h);
       }
 
-  remainder-left : (s c : ℕ) (f x : ℕ → ℕ) → s < 32 → HasLanes group n f → ((i : ℕ) → i < n → f (lane r i) ≡ x i) → ((i : ℕ) → i < n → x i < 2 ^ 32) → f s ≡ c → 0 < c → c < 2 ^ 32
+  remainder-left : (s c : ℕ) (f x : ℕ → ℕ) → s < 32 → HasLanes group n f → ((i : ℕ) → i < n → f (lane r i) ≡ x i) → ((i : ℕ) → i < n → x i < 2 ^ 32)
+      → f s ≡ c → 0 < c → c < 2 ^ 32
       → LeavesLanes w m (remainder_code s) f group k n (λ i. word.remainder (x i) c)
   remainder-left s c f x ls has hx lx es lc hc =
       let few = rows.few-rounds w m l group n f has in
@@ -179,13 +191,19 @@ module _ (w : World) (m : List ℕ) (l : length m ≡ w.size) (group : Group) (n
       let a : Spared w m l group n k lies (Vector (v.ArithmeticVx vxs.Vand u u s true) ∷ []) d.after (λ i. lacking (t i) c) =
       spared w m l group n k lies (λ i. lacking (t i) c) (λ i. bit_and (held d.after u i) (d.after s % 2 ^ 32)) d.has few
       (firsts.arithmetic-vx w d.after m l g d.has.configured vxs.Vand u u s (spare-is group) (spare-is group) ls)
-      (λ i b. ap (λ z. bit_and z (d.after s % 2 ^ 32)) (d.signed i b) ∙ ap (bit_and (sign_word (t i))) ed ∙ lacking-is (t i) c hc) (λ i b. lacking-below (t i) c hc) in
+      (λ i b. ap (λ z. bit_and z (d.after s % 2 ^ 32)) (d.signed i b) ∙ ap (bit_and (sign_word (t i))) ed ∙ lacking-is (t i) c hc) (λ i b. lacking-below
+      (t i) c hc) in
       let has6 = rows.lanes-kept w m l group n d.after a.after (a.keeps vl_number (inl (omega arith))) (a.keeps vtype_number (inl (omega arith))) d.has in
-      let hx6 : (i : ℕ) → i < n → a.after (lane r i) ≡ turned (t i) (rest i) = (λ i b. a.keeps (lane r i) (inr (omega (arith, low), omega (arith, high, few, b))) ∙ d.value i b) in
+      let hx6 : (i : ℕ) → i < n → a.after (lane r i) ≡ turned (t i) (rest i) = (λ i b. a.keeps (lane r i) (inr (
+        omega (arith, low),
+        omega
+            (arith, high, few, b),
+      )) ∙ d.value i b) in
       let z : rows.Writes w m l group n (Vector (v.ArithmeticVv vvs.Vadd r r u true) ∷ []) a.after r (λ i. word.remainder (x i) c) =
       rows.slot-writes w m l group n k lies (λ i. word.remainder (x i) c) (λ i. lanes.add 32 (held a.after r i) (held a.after u i)) has6
       (firsts.arithmetic-vv w a.after m l g has6.configured vvs.Vadd r r u slot-is slot-is (spare-is group))
-      (λ i b. ap (λ q. lanes.add 32 q (held a.after u i)) (rows.slot-held w m l group n k lies a.after i ∙ hx6 i b) ∙ ap (lanes.add 32 (turned (t i) (rest i))) (a.value i b)
+      (λ i b. ap (λ q. lanes.add 32 q (held a.after u i)) (rows.slot-held w m l group n k lies a.after i ∙ hx6 i b) ∙ ap (lanes.add 32 (turned (t i)
+      (rest i))) (a.value i b)
       ∙ filled-is (t i) (rest i) c (mod-lt (turned (t i) (x i)) lc) hc ∙ remainder-is (x i) c lc) in
       let n1 = lanes_sign r u ++ (lanes_turned r u ++ ((Vector (v.MultiplyVx multiplies.Vremu r r s true) ∷ []) ++ lanes_turned r u)) in
       let n2 = Vector (v.ArithmeticVx vxs.Vand u u s true) ∷ [] in
@@ -198,17 +216,20 @@ module _ (w : World) (m : List ℕ) (l : length m ≡ w.size) (group : Group) (n
         keeps = λ q h. z.below q (below-slot q h) ∙ a.keeps q (beside-spare q h) ∙ d.keeps q h;
       }
 
-pub quotient-made : (group : Group) (k : ℕ) → k < slots group → (s divisor : ℕ) (c0 c1 c2 c3 c4 : List ℕ) → s < 32 → 0 < divisor → Emits c0 c1 (lanes_sign (slot group k) (spare group))
+pub quotient-made : (group : Group) (k : ℕ) → k < slots group → (s divisor : ℕ) (c0 c1 c2 c3 c4 : List ℕ) → s < 32 → 0 < divisor → Emits c0 c1 (lanes_sign
+    (slot group k) (spare group))
     → Emits c1 c2 (lanes_turned (slot group k) (spare group)) → Emits c2 c3 (Vector (v.MultiplyVx multiplies.Vdivu (slot group k) (slot group k) s true) ∷ [])
     → Emits c3 c4 (lanes_turned (slot group k) (spare group)) → TurnsBy c0 c4 group k s (λ c. c ≡ divisor) (λ x c. word.divide x divisor)
 quotient-made group k in-stack s divisor c0 c1 c2 c3 c4 ls some p q t z = record {
-  insns = lanes_sign (slot group k) (spare group) ++ (lanes_turned (slot group k) (spare group) ++ ((Vector (v.MultiplyVx multiplies.Vdivu (slot group k) (slot group k) s true) ∷ []) ++ lanes_turned (slot group k) (spare group)));
+  insns = lanes_sign (slot group k) (spare group) ++ (lanes_turned (slot group k) (spare group) ++ ((Vector (v.MultiplyVx multiplies.Vdivu (slot group k)
+      (slot group k) s true) ∷ []) ++ lanes_turned (slot group k) (spare group)));
   emits = emits_then p (emits_then q (emits_then t z));
   does = λ w m n f x c l has hx lx es lc is.
       quotient-left w m l group n k (slot-lies group k in-stack) s divisor f x ls has hx lx (es ∙ is) some (subst (λ y. y < 2 ^ 32) is lc);
 }
 
-pub quotient-as : (group : Group) (k : ℕ) → k < slots group → (s divisor a u : ℕ) → a ≡ slot group k → u ≡ spare group → (c0 c1 c2 c3 c4 : List ℕ) → s < 32 → 0 < divisor
+pub quotient-as : (group : Group) (k : ℕ) → k < slots group → (s divisor a u : ℕ) → a ≡ slot group k → u ≡ spare group → (c0 c1 c2 c3 c4 : List ℕ)
+    → s < 32 → 0 < divisor
     → Emits c0 c1 (Vector (v.ShiftVi shifts.Vsra u a 31 true) ∷ []) → Emits c1 c2 (Vector (v.ArithmeticVv vvs.Vxor a a u true) ∷ [])
     → Emits c2 c3 (Vector (v.MultiplyVx multiplies.Vdivu a a s true) ∷ []) → Emits c3 c4 (Vector (v.ArithmeticVv vvs.Vxor a a u true) ∷ [])
     → TurnsBy c0 c4 group k s (λ c. c ≡ divisor) (λ x c. word.divide x divisor)
@@ -219,7 +240,8 @@ quotient-as group k in-stack s divisor a u ea eu c0 c1 c2 c3 c4 ls some p q t z 
     (subst (λ y. Emits c2 c3 (Vector (v.MultiplyVx multiplies.Vdivu y y s true) ∷ [])) ea t)
     (subst (λ y. Emits c3 c4 (lanes_turned (slot group k) y)) eu (subst (λ y. Emits c3 c4 (lanes_turned y u)) ea z))
 
-pub remainder-as : (group : Group) (k : ℕ) → k < slots group → (s divisor a u : ℕ) → a ≡ slot group k → u ≡ spare group → (c0 c1 c2 c3 c4 c5 c6 : List ℕ) → s < 32 → 0 < divisor
+pub remainder-as : (group : Group) (k : ℕ) → k < slots group → (s divisor a u : ℕ) → a ≡ slot group k → u ≡ spare group → (c0 c1 c2 c3 c4 c5 c6 : List ℕ)
+    → s < 32 → 0 < divisor
     → Emits c0 c1 (Vector (v.ShiftVi shifts.Vsra u a 31 true) ∷ []) → Emits c1 c2 (Vector (v.ArithmeticVv vvs.Vxor a a u true) ∷ [])
     → Emits c2 c3 (Vector (v.MultiplyVx multiplies.Vremu a a s true) ∷ []) → Emits c3 c4 (Vector (v.ArithmeticVv vvs.Vxor a a u true) ∷ [])
     → Emits c4 c5 (Vector (v.ArithmeticVx vxs.Vand u u s true) ∷ []) → Emits c5 c6 (Vector (v.ArithmeticVv vvs.Vadd a a u true) ∷ [])
@@ -237,7 +259,8 @@ remainder-as group k in-stack s divisor a u ea eu c0 c1 c2 c3 c4 c5 c6 ls some z
           (emits_then (subst (λ y. Emits c2 c3 (Vector (v.MultiplyVx multiplies.Vremu y y s true) ∷ [])) ea z3)
           (subst (λ y. Emits c3 c4 (lanes_turned r y)) eu (subst (λ y. Emits c3 c4 (lanes_turned y u)) ea z4)))))
           (emits_then (subst (λ y. Emits c4 c5 (Vector (v.ArithmeticVx vxs.Vand y y s true) ∷ [])) eu z5)
-          (subst (λ y. Emits c5 c6 (Vector (v.ArithmeticVv vvs.Vadd r r y true) ∷ [])) eu (subst (λ y. Emits c5 c6 (Vector (v.ArithmeticVv vvs.Vadd y y u true) ∷ [])) ea z6)));
+          (subst (λ y. Emits c5 c6 (Vector (v.ArithmeticVv vvs.Vadd r r y true) ∷ [])) eu (subst (λ y. Emits c5 c6 (Vector
+          (v.ArithmeticVv vvs.Vadd y y u true) ∷ [])) ea z6)));
       does = λ w m n f x c l has hx lx es lc is.
           remainder-left w m l group n k (slot-lies group k in-stack) s divisor f x ls has hx lx (es ∙ is) some (subst (λ y. y < 2 ^ 32) is lc);
     }

@@ -49,7 +49,8 @@ use Rattle.task_code_lanes.proofs.Slots.{slot-lies}
 use Rattle.task_code_lanes.proofs.Rows as rows
 use Rattle.task_code_lane_values.specs.declared.vectorized.Lanes.{Lanes}
 use Rattle.task_code_lane_values.specs.Leaving.{MakesLanes}
-use Rattle.task_code_lane_values.specs.inner.Parts.{IsSteady, LoadsAlong, LoadsFrom, MakesScalar, MakesSteady, Nothing, AnyWord, TurnsOne, TurnsBy, TurnsTwo, MakesRowPointer}
+use Rattle.task_code_lane_values.specs.inner.Parts.{IsSteady, LoadsAlong, LoadsFrom, MakesScalar, MakesSteady}
+use Rattle.task_code_lane_values.specs.inner.Parts.{Nothing, AnyWord, TurnsOne, TurnsBy, TurnsTwo, MakesRowPointer}
 use Rattle.task_code_lane_values.proofs.Arms.{May, each-of, lanes-of, load-has, load-first, load-second, load-value}
 use Rattle.task_code_lane_values.proofs.Composing.{each-one, each-by, each-two, left-of, scalar-as}
 use Rattle.task_code_lane_values.proofs.Loading.{pointer-scalar, each-dense, each-gathered}
@@ -68,7 +69,8 @@ row-number place b x y hart p eb =
     let a = b * (y * w) in
     let c = b * x in
     let g : ((s + c) % 2 ^ 32 + a % 2 ^ 32) % 2 ^ 32 ≡ (s + (a + c)) % 2 ^ 32 = omega arith in
-    ap (λ k. ((s + k * (0 * w + x)) % 2 ^ 32 + (y * ((b * w) % 2 ^ 32)) % 2 ^ 32) % 2 ^ 32) eb ∙ ap (λ k. ((s + b * k) % 2 ^ 32 + (y * ((b * w) % 2 ^ 32)) % 2 ^ 32) % 2 ^ 32) z
+    ap (λ k. ((s + k * (0 * w + x)) % 2 ^ 32 + (y * ((b * w) % 2 ^ 32)) % 2 ^ 32) % 2 ^ 32) eb ∙ ap (λ k. ((s + b * k) % 2 ^ 32 + (y *
+    ((b * w) % 2 ^ 32)) % 2 ^ 32) % 2 ^ 32) z
     ∙ ap (λ k. ((s + c) % 2 ^ 32 + k) % 2 ^ 32) (e1 ∙ ap (λ n. n % 2 ^ 32) e2) ∙ g ∙ ap (λ k. (s + k) % 2 ^ 32) (sym e3)
     ∙ ap (λ k. (s + k * (y * w + x)) % 2 ^ 32) (sym eb)
 
@@ -129,7 +131,8 @@ module _ (places : Places) (scope : List Held) (own : Lanes) (place : Place) (x 
         does = λ w m values reads f l holders knows may. a.does w m values reads f l holders knows tt;
       }
 
-  pub pointer-register : (zero : Linear) (form start : Form) (bytes row most t b : ℕ) (c0 c1 c2 c3 c4 : List ℕ) → ((values : Values) → linear_value values zero ≡ 0) → bytes ≡ pixel_bytes place.pixels
+  pub pointer-register : (zero : Linear) (form start : Form) (bytes row most t b : ℕ) (c0 c1 c2 c3 c4 : List ℕ) → ((values : Values)
+      → linear_value values zero ≡ 0) → bytes ≡ pixel_bytes place.pixels
       → row ≡ word.multiply bytes place.width → IsPoint place x zero form → IsAt own.counter 0 form start → MakesSteady c0 c1 places scope own t y
       → Makes c1 c2 3 first_value (λ f. (f t * row) % 2 ^ 32) → MakesHeld c2 c3 most scope address_register b (λ hart values. form_value hart values start)
       → Emits c3 c4 (Alu alus.Add address_register b first_value ∷ []) → MakesRowPointer c0 c4 places scope own address_register place x y
@@ -144,20 +147,26 @@ module _ (places : Places) (scope : List Held) (own : Lanes) (place : Place) (x 
         let i1 = s.does w m values reads f l holders knows may in
         let k1 = knows-still w.hart scope first f i1.after (λ n h. i1.keeps n (kept-below scope n 20 (omega arith) holders h)) knows in
         let i2 = p.does w m i1.after l (knows-zero w.hart scope first i1.after k1) in
-        let same2 : (n : ℕ) → IsBelow first_value n → i2.after n ≡ i1.after n = (λ n h. let d = below-apart first_value first_value n (inr (refl, omega arith)) h in i2.others n d.0 d.1.0 d.1.1) in
+        let same2 : (n : ℕ) → IsBelow first_value n → i2.after n ≡ i1.after n = (λ n h. let d = below-apart first_value first_value n (inr
+        (refl, omega arith)) h in i2.others n d.0 d.1.0 d.1.1) in
         let k2 = knows-still w.hart scope first i1.after i2.after (λ n h. same2 n (kept-below scope n 20 (omega arith) holders h)) k1 in
         let i3 = q.does w m w.hart first i2.after l holders (working-free scope address_register holders (inl (omega arith, omega arith))) k2 in
-        let e20 : i3.after first_value ≡ (i1.after t * row) % 2 ^ 32 = i3.others first_value (λ g. omega (arith, g)) (λ g. omega (arith, g)) (λ g. omega (arith, g)) ∙ i2.value in
-        let i4 = alu-sets w m l alus.Add i3.after address_register b first_value (i3.after b) (i3.after first_value) (omega arith) (omega arith) q.source.0 (omega arith) refl refl in
+        let e20 : i3.after first_value ≡ (i1.after t * row) % 2 ^ 32 = i3.others first_value (λ g. omega (arith, g)) (λ g. omega (arith, g)) (λ g. omega
+        (arith, g)) ∙ i2.value in
+        let i4 = alu-sets w m l alus.Add i3.after address_register b first_value (i3.after b) (i3.after first_value) (omega arith)
+        (omega arith) q.source.0 (omega arith) refl refl in
         let xv = linear_value first x in
         let yv = value reads first y in
-        let efv : form_value w.hart first start ≡ address place w.hart xv 0 % 2 ^ 32 = at.value w.hart 0 values ∙ point.value w.hart first ∙ ap (λ n. address place w.hart xv n % 2 ^ 32) (none first) in
+        let efv : form_value w.hart first start ≡ address place w.hart xv 0 % 2 ^ 32 = at.value w.hart 0 values ∙ point.value w.hart first ∙ ap
+        (λ n. address place w.hart xv n % 2 ^ 32) (none first) in
         let is : (i3.after b + i3.after first_value) % 2 ^ 32 ≡ spot w.hart reads values =
-        ap (λ n. (n + i3.after first_value) % 2 ^ 32) (i3.value ∙ efv) ∙ ap (λ n. (address place w.hart xv 0 % 2 ^ 32 + n) % 2 ^ 32) (e20 ∙ ap (λ n. (n * row) % 2 ^ 32) i1.value ∙ ap (λ n. (yv * n) % 2 ^ 32) er)
+        ap (λ n. (n + i3.after first_value) % 2 ^ 32) (i3.value ∙ efv) ∙ ap (λ n. (address place w.hart xv 0 % 2 ^ 32 + n) % 2 ^ 32) (e20 ∙ ap (λ n.
+        (n * row) % 2 ^ 32) i1.value ∙ ap (λ n. (yv * n) % 2 ^ 32) er)
         ∙ row-number 0 bytes xv yv w.hart place (sym eb) in
         record {
           after = i4.after;
-          line = line-then w s.insns (p.insns ++ (q.insns ++ add)) f i1.after i4.after m m m i1.line (line-then w p.insns (q.insns ++ add) i1.after i2.after i4.after m m m i2.line
+          line = line-then w s.insns (p.insns ++ (q.insns ++ add)) f i1.after i4.after m m m i1.line (line-then w p.insns
+              (q.insns ++ add) i1.after i2.after i4.after m m m i2.line
               (line-then w q.insns add i2.after i3.after i4.after m m m i3.line i4.line));
           value = i4.value ∙ is;
           small = let g : spot w.hart reads values < 2 ^ 32 = omega arith in g;
@@ -169,7 +178,8 @@ module _ (places : Places) (scope : List Held) (own : Lanes) (place : Place) (x 
 
 -- ---- lanes
 
-pub times-four-made : (group : Group) (k : ℕ) → k < slots group → (c0 c1 : List ℕ) → Emits c0 c1 (Vector (v.ShiftVi shifts.Vsll (slot group k) (slot group k) 2 true) ∷ [])
+pub times-four-made : (group : Group) (k : ℕ) → k < slots group → (c0 c1 : List ℕ) → Emits c0 c1 (Vector (v.ShiftVi shifts.Vsll (slot group k)
+    (slot group k) 2 true) ∷ [])
     → TurnsOne c0 c1 group k (λ x. (x * 4) % 2 ^ 32)
 times-four-made group k in-stack c0 c1 z = record {
   insns = Vector (v.ShiftVi shifts.Vsll (slot group k) (slot group k) 2 true) ∷ [];
@@ -178,7 +188,8 @@ times-four-made group k in-stack c0 c1 z = record {
       let lies = slot-lies group k in-stack in
       left-of w m l group n (Vector (v.ShiftVi shifts.Vsll (slot group k) (slot group k) 2 true) ∷ []) f k (λ i. (x i * 4) % 2 ^ 32) (λ i b. omega arith)
       (rows.last w m l group n k lies (rows.writes w m l group n (λ i. (x i * 4) % 2 ^ 32) (λ i. lanes.shift_left 32 (f (lane (slot group k) i)) 2) has
-      (vector.shift-vi w f m l (registers group) has.configured shifts.Vsll (slot group k) (slot group k) 2 lies.is_group lies.is_group) (λ i b. ap (λ y. (y * 4) % 2 ^ 32) (hx i b))));
+      (vector.shift-vi w f m l (registers group) has.configured shifts.Vsll (slot group k) (slot group k) 2 lies.is_group lies.is_group) (λ i b. ap (λ y.
+      (y * 4) % 2 ^ 32) (hx i b))));
 }
 
 pub offsets-words : (group : Group) (k : ℕ) → k < slots group → (own : Pixels) (a : ℕ) (c0 c1 : List ℕ) → own ≡ pixels.Words → a ≡ slot group k
@@ -201,7 +212,8 @@ offsets-bytes group k own c is = subst (λ p. TurnsOne c c group k (λ x. (x * p
       };
 })
 
-module _ (places : Places) (scope : List Held) (own : Lanes) (k : ℕ) (in-stack : k < slots own.group) (source : Source) (place : Place) (ep : place ≡ place_of places source)
+module _ (places : Places) (scope : List Held) (own : Lanes) (k : ℕ) (in-stack : k < slots own.group) (source : Source) (place : Place)
+    (ep : place ≡ place_of places source)
   where
     abbrev Left : List ℕ → List ℕ → ℕ → Expr → Type 0
     Left c0 c1 j x = MakesLanes c0 c1 places scope own j x
@@ -220,35 +232,49 @@ module _ (places : Places) (scope : List Held) (own : Lanes) (k : ℕ) (in-stack
         → LoadsFrom c3 c4 own.group k b place.pixels
         → (c0 : List ℕ) (x : Expr) → Left c0 c1 k x → Left c0 c4 k (e.Load source x y)
     gather-made zero b c1 c2 c3 c4 y none steady t p z c0 x first =
-        let pointer : ℕ → Reads → Values → ℕ = (λ hart reads values. address place hart (linear_value (with own.counter 0 values) zero) (value reads (with own.counter 0 values) y) % 2 ^ 32) in
-        let mb : World → List ℕ → Reads → Values → Type 0 = (λ w m reads values. AllByRecursion (Loads w places m reads) (loads reads (with own.counter 0 values) y)) in
+        let pointer : ℕ → Reads → Values → ℕ = (λ hart reads values. address place hart (linear_value (with own.counter 0 values) zero) (value reads
+        (with own.counter 0 values) y) % 2 ^ 32) in
+        let mb : World → List ℕ → Reads → Values → Type 0 = (λ w m reads values. AllByRecursion (Loads w places m reads) (loads reads
+        (with own.counter 0 values) y)) in
         lanes-of places scope own k in-stack c0 c4 (e.Load source x y)
         (λ w m reads values i. May places scope own k in-stack x w m reads values i × (mb w m reads values × HasPoint x y w m reads values i))
         (λ reads values i. reads source (value reads (with own.counter i values) x) (value reads (with own.counter i values) y))
         (λ w m reads values n some all i lt. (
           load-first places scope own k in-stack source x y w m reads values i (all i lt),
-          (load-second places scope own k in-stack source x y w m reads values 0 (all 0 (omega (arith, some))), load-has places scope own k in-stack source x y w m reads values i (all i lt)),
+          (
+            load-second places scope own k in-stack source x y w m reads values 0 (all 0 (omega (arith, some))),
+            load-has places scope own k in-stack source
+                x y w m reads values i (all i lt),
+          ),
         ))
         (λ reads values i. sym (load-value places scope own k in-stack source x y reads values i))
-        (each-gathered places scope own k in-stack source place ep (λ reads values i. value reads (with own.counter i values) x) (λ reads values i. value reads (with own.counter i values) y)
-        b c0 c2 c3 c4 (May places scope own k in-stack x) mb (λ reads values i. (value reads (with own.counter i values) x * pixel_bytes place.pixels) % 2 ^ 32) pointer
+        (each-gathered places scope own k in-stack source place ep (λ reads values i. value reads (with own.counter i values) x)
+        (λ reads values i. value reads (with own.counter i values) y)
+        b c0 c2 c3 c4 (May places scope own k in-stack x) mb (λ reads values i. (value reads (with own.counter i values) x * pixel_bytes place.pixels) % 2
+        ^ 32) pointer
         (λ hart reads values i low.
         let xv = value reads (with own.counter i values) x in
-        ap (λ c. (address place hart c (value reads (with own.counter 0 values) y) % 2 ^ 32 + (xv * pixel_bytes place.pixels) % 2 ^ 32) % 2 ^ 32) (none (with own.counter 0 values))
+        ap (λ c. (address place hart c (value reads (with own.counter 0 values) y) % 2 ^ 32 + (xv * pixel_bytes place.pixels) % 2 ^ 32) % 2 ^ 32) (none
+        (with own.counter 0 values))
         ∙ ap (λ r. (address place hart 0 r % 2 ^ 32 + (xv * pixel_bytes place.pixels) % 2 ^ 32) % 2 ^ 32) (sym (steady reads values i))
         ∙ column-reaches place hart xv (value reads (with own.counter i values) y) low)
-        (each-one places scope own k in-stack c0 c1 c2 (May places scope own k in-stack x) (λ reads values i. value reads (with own.counter i values) x) (λ n. (n * pixel_bytes place.pixels) % 2 ^ 32)
+        (each-one places scope own k in-stack c0 c1 c2 (May places scope own k in-stack x) (λ reads values i. value reads (with own.counter i values) x)
+        (λ n. (n * pixel_bytes place.pixels) % 2 ^ 32)
         (each-of places scope own k in-stack c0 c1 k x first) t) p z)
 
     -- columns that go on by one, of such a row
-    pub row-made : (column : Linear) (b stride : ℕ) (c0 c1 c2 : List ℕ) (x y : Expr) → IsSum x column → stride ≡ strides own.counter column.terms % 2 ^ 32 → stride ≡ 1 → IsSteady own.counter y
+    pub row-made : (column : Linear) (b stride : ℕ) (c0 c1 c2 : List ℕ) (x y : Expr) → IsSum x column
+        → stride ≡ strides own.counter column.terms % 2 ^ 32 → stride ≡ 1 → IsSteady own.counter y
         → MakesRowPointer c0 c1 places scope own b place column y → LoadsAlong c1 c2 own.group k b place.pixels
         → Left c0 c2 k (e.Load source x y)
     row-made column b stride c0 c1 c2 x y sum es one steady p z =
-        let pointer : ℕ → Reads → Values → ℕ = (λ hart reads values. address place hart (linear_value (with own.counter 0 values) column) (value reads (with own.counter 0 values) y) % 2 ^ 32) in
-        let mb : World → List ℕ → Reads → Values → Type 0 = (λ w m reads values. AllByRecursion (Loads w places m reads) (loads reads (with own.counter 0 values) y)) in
+        let pointer : ℕ → Reads → Values → ℕ = (λ hart reads values. address place hart (linear_value (with own.counter 0 values) column) (value reads
+        (with own.counter 0 values) y) % 2 ^ 32) in
+        let mb : World → List ℕ → Reads → Values → Type 0 = (λ w m reads values. AllByRecursion (Loads w places m reads) (loads reads
+        (with own.counter 0 values) y)) in
         let e1 : 1 ≡ strides own.counter column.terms % 2 ^ 32 = sym one ∙ es in
-        let goes : (values : Values) (i : ℕ) → linear_value (with own.counter i values) column ≡ (linear_value (with own.counter 0 values) column + i) % 2 ^ 32 =
+        let goes : (values : Values) (i : ℕ) → linear_value (with own.counter i values) column ≡ (linear_value
+        (with own.counter 0 values) column + i) % 2 ^ 32 =
         (λ values i.
         let a = column.number + sum_of values (others_of own.counter column.terms) in
         let g : (a + i * 1) % 2 ^ 32 ≡ ((a + 0 * 1) % 2 ^ 32 + i) % 2 ^ 32 = omega arith in
@@ -256,20 +282,28 @@ module _ (places : Places) (scope : List Held) (own : Lanes) (k : ℕ) (in-stack
         lanes-of places scope own k in-stack c0 c2 (e.Load source x y)
         (λ w m reads values i. mb w m reads values × HasPoint x y w m reads values i)
         (λ reads values i. reads source (value reads (with own.counter i values) x) (value reads (with own.counter i values) y))
-        (λ w m reads values n some all i lt.
-        (load-second places scope own k in-stack source x y w m reads values 0 (all 0 (omega (arith, some))), load-has places scope own k in-stack source x y w m reads values i (all i lt)))
+        (λ w m reads values n some all i lt. (
+          load-second places scope own k in-stack source x y w m reads values 0 (all 0 (omega (arith, some))),
+          load-has places scope own k in-stack source x
+              y w m reads values i (all i lt),
+        ))
         (λ reads values i. sym (load-value places scope own k in-stack source x y reads values i))
-        (each-dense places scope own k in-stack source place ep (λ reads values i. value reads (with own.counter i values) x) (λ reads values i. value reads (with own.counter i values) y)
+        (each-dense places scope own k in-stack source place ep (λ reads values i. value reads (with own.counter i values) x)
+        (λ reads values i. value reads (with own.counter i values) y)
         b c0 c1 c2 mb pointer
         (λ hart reads values i low.
-        ap (λ r. (address place hart (linear_value (with own.counter 0 values) column) r % 2 ^ 32 + i * pixel_bytes place.pixels) % 2 ^ 32) (sym (steady reads values i))
-        ∙ row-reaches place hart (linear_value (with own.counter 0 values) column) (value reads (with own.counter i values) x) (value reads (with own.counter i values) y) i
+        ap (λ r. (address place hart (linear_value (with own.counter 0 values) column) r % 2 ^ 32 + i * pixel_bytes place.pixels) % 2 ^ 32) (sym
+        (steady reads values i))
+        ∙ row-reaches place hart (linear_value (with own.counter 0 values) column) (value reads (with own.counter i values) x) (value reads
+        (with own.counter i values) y) i
         (sum.value_is reads (with own.counter i values) ∙ goes values i) low) p z)
 
     -- columns and rows in lanes
-    pub scattered-made : (zero : Linear) (form start : Form) (most s b : ℕ) (c2 c3 c4 c5 c6 c7 c8 : List ℕ) → k + 1 < slots own.group → ((values : Values) → linear_value values zero ≡ 0)
+    pub scattered-made : (zero : Linear) (form start : Form) (most s b : ℕ) (c2 c3 c4 c5 c6 c7 c8 : List ℕ) → k + 1 < slots own.group →
+        ((values : Values) → linear_value values zero ≡ 0)
         → IsPoint place zero zero form → IsAt own.counter 0 form start → MakesScalar c2 c3 scope own s Nothing (λ hart reads values. place.width)
-        → TurnsBy c3 c4 own.group (k + 1) s AnyWord (word.applied op.Multiply) → TurnsTwo c4 c5 own.group k (word.applied op.Add) → TurnsOne c5 c6 own.group k (λ x. (x * pixel_bytes place.pixels) % 2 ^ 32)
+        → TurnsBy c3 c4 own.group (k + 1) s AnyWord (word.applied op.Multiply) → TurnsTwo c4 c5 own.group k (word.applied op.Add)
+        → TurnsOne c5 c6 own.group k (λ x. (x * pixel_bytes place.pixels) % 2 ^ 32)
         → MakesHeld c6 c7 most scope address_register b (λ hart values. form_value hart values start)
         → LoadsFrom c7 c8 own.group k b place.pixels
         → (c0 c1 : List ℕ) (x y : Expr) → Left c0 c1 k x → Left c1 c2 (k + 1) y → Left c0 c8 k (e.Load source x y)
@@ -281,15 +315,27 @@ module _ (places : Places) (scope : List Held) (own : Lanes) (k : ℕ) (in-stack
         let vy : Reads → Values → ℕ → ℕ = (λ reads values i. value reads (with own.counter i values) y) in
         let scaled = each-by places scope own (k + 1) next s c1 c2 c3 c4 (MayOf y) Nothing vy (λ reads values. place.width) AnyWord (word.applied op.Multiply)
         (each-of places scope own k in-stack c1 c2 (k + 1) y second) width product (λ reads values small. tt) in
-        let numbers = each-two places scope own k in-stack c0 c1 c4 c5 (MayOf x) (λ w m reads values i. MayOf y w m reads values i × Nothing w m reads values) vx
-        (λ reads values i. word.applied op.Multiply (vy reads values i) place.width) (word.applied op.Add) (each-of places scope own k in-stack c0 c1 k x first) scaled plus in
-        let offsets = each-one places scope own k in-stack c0 c5 c6 (λ w m reads values i. MayOf x w m reads values i × (MayOf y w m reads values i × Nothing w m reads values))
-        (λ reads values i. word.applied op.Add (vx reads values i) (word.applied op.Multiply (vy reads values i) place.width)) (λ n. (n * pixel_bytes place.pixels) % 2 ^ 32) numbers four in
+        let numbers = each-two places scope own k in-stack c0 c1 c4 c5 (MayOf x) (λ w m reads values i. MayOf y w m reads values i × Nothing w m reads
+        values) vx
+        (λ reads values i. word.applied op.Multiply (vy reads values i) place.width) (word.applied op.Add)
+        (each-of places scope own k in-stack c0 c1 k x first) scaled plus in
+        let offsets = each-one places scope own k in-stack c0 c5 c6 (λ w m reads values i. MayOf x w m reads values i ×
+        (MayOf y w m reads values i × Nothing w m reads values))
+        (λ reads values i. word.applied op.Add (vx reads values i) (word.applied op.Multiply (vy reads values i) place.width)) (λ n.
+        (n * pixel_bytes place.pixels) % 2 ^ 32) numbers four in
         lanes-of places scope own k in-stack c0 c8 (e.Load source x y)
-        (λ w m reads values i. (MayOf x w m reads values i × (MayOf y w m reads values i × Nothing w m reads values)) × (Nothing w m reads values × HasPoint x y w m reads values i))
+        (λ w m reads values i. (MayOf x w m reads values i × (MayOf y w m reads values i × Nothing w m reads values)) ×
+        (Nothing w m reads values × HasPoint x y w m reads values i))
         (λ reads values i. reads source (value reads (with own.counter i values) x) (value reads (with own.counter i values) y))
         (λ w m reads values n some all i lt. (
-          (load-first places scope own k in-stack source x y w m reads values i (all i lt), (load-second places scope own k in-stack source x y w m reads values i (all i lt), tt)),
+          (
+            load-first places scope own k in-stack source x y w m reads values i (all i lt),
+            (
+              load-second places scope own k in-stack source x y w m reads
+                  values i (all i lt),
+              tt,
+            ),
+          ),
           (tt, load-has places scope own k in-stack source x y w m reads values i (all i lt)),
         ))
         (λ reads values i. sym (load-value places scope own k in-stack source x y reads values i))
@@ -305,17 +351,22 @@ module _ (places : Places) (scope : List Held) (own : Lanes) (k : ℕ) (in-stack
         offsets (pointer-scalar scope own form start most b c6 c7 at p) z)
 
     -- as the emitters call them
-    pub row-as : (column : Linear) (b : ℕ) (c0 c1 c2 : List ℕ) (x y : Expr) → IsSum x column → strides own.counter column.terms % 2 ^ 32 ≡ 1 → IsSteady own.counter y
+    pub row-as : (column : Linear) (b : ℕ) (c0 c1 c2 : List ℕ) (x y : Expr) → IsSum x column → strides own.counter column.terms % 2 ^ 32 ≡ 1
+        → IsSteady own.counter y
         → MakesRowPointer c0 c1 places scope own b place column y → LoadsAlong c1 c2 own.group k b place.pixels → Left c0 c2 k (e.Load source x y)
     row-as column b c0 c1 c2 x y sum one steady p z = row-made column b (strides own.counter column.terms % 2 ^ 32) c0 c1 c2 x y sum refl one steady p z
 
-pub scattered-as : (places : Places) (scope : List Held) (own : Lanes) (k : ℕ) → k + 1 < slots own.group → (source : Source) (place : Place) → place ≡ place_of places source
+pub scattered-as : (places : Places) (scope : List Held) (own : Lanes) (k : ℕ) → k + 1 < slots own.group → (source : Source) (place : Place)
+    → place ≡ place_of places source
     → (zero : Linear) (form start : Form) (most s b : ℕ) (c2 c3 c4 c5 c6 c7 c8 : List ℕ) → ((values : Values) → linear_value values zero ≡ 0)
     → IsPoint place zero zero form → IsAt own.counter 0 form start → MakesScalar c2 c3 scope own s Nothing (λ hart reads values. place.width)
     → TurnsBy c3 c4 own.group (k + 1) s AnyWord (word.applied op.Multiply) → TurnsTwo c4 c5 own.group k (word.applied op.Add)
     → TurnsOne c5 c6 own.group k (λ x. (x * pixel_bytes place.pixels) % 2 ^ 32)
     → MakesHeld c6 c7 most scope address_register b (λ hart values. form_value hart values start) → LoadsFrom c7 c8 own.group k b place.pixels
-    → (c0 c1 : List ℕ) (x y : Expr) → MakesLanes c0 c1 places scope own k x → MakesLanes c1 c2 places scope own (k + 1) y → MakesLanes c0 c8 places scope own k (e.Load source x y)
-scattered-as places scope own k next source place ep zero form start most s b c2 c3 c4 c5 c6 c7 c8 none point at width product plus four p z c0 c1 x y first second =
+    → (c0 c1 : List ℕ) (x y : Expr) → MakesLanes c0 c1 places scope own k x → MakesLanes c1 c2 places scope own (k + 1) y
+    → MakesLanes c0 c8 places scope own k (e.Load source x y)
+scattered-as places scope own k next source place ep zero form start most s b c2 c3 c4 c5 c6 c7 c8 none point at width product plus four p z c0 c1 x y
+    first second =
     let in-stack : k < slots own.group = omega (arith, next) in
-    scattered-made places scope own k in-stack source place ep zero form start most s b c2 c3 c4 c5 c6 c7 c8 next none point at width product plus four p z c0 c1 x y first second
+    scattered-made places scope own k in-stack source place ep zero form start most s b c2 c3 c4 c5 c6 c7 c8 next none point at width product plus four p z
+    c0 c1 x y first second

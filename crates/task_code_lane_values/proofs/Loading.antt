@@ -50,13 +50,15 @@ pub pointer-scalar : (scope : List Held) (own : Lanes) (form start : Form) (most
     → MakesHeld c0 c1 most scope address_register s (λ hart values. form_value hart values start)
     → MakesScalar c0 c1 scope own s Nothing (λ hart reads values. form_value hart (with own.counter 0 values) form)
 pointer-scalar scope own form start most s c0 c1 at x =
-    scalar-as scope own s c0 c1 Nothing (λ hart reads values. form_value hart (with own.counter 0 values) start) (λ hart reads values. form_value hart (with own.counter 0 values) form)
+    scalar-as scope own s c0 c1 Nothing (λ hart reads values. form_value hart (with own.counter 0 values) start) (λ hart reads values. form_value hart
+    (with own.counter 0 values) form)
     (λ hart reads values. at.value hart 0 values)
     (scalar-held scope own most s c0 c1 (λ hart values. form_value hart values start) (λ hart values. form-small hart values start) x)
 
 -- ---- pixels from a pointer on
 
-module _ (places : Places) (scope : List Held) (own : Lanes) (k : ℕ) (in-stack : k < slots own.group) (source : Source) (place : Place) (ep : place ≡ place_of places source)
+module _ (places : Places) (scope : List Held) (own : Lanes) (k : ℕ) (in-stack : k < slots own.group) (source : Source) (place : Place)
+    (ep : place ≡ place_of places source)
     (xs ys : Reads → Values → ℕ → ℕ) where
   abbrev pixel : Reads → Values → ℕ → ℕ
   pixel reads values i = reads source (xs reads values i) (ys reads values i)
@@ -65,7 +67,8 @@ module _ (places : Places) (scope : List Held) (own : Lanes) (k : ℕ) (in-stack
   abbrev Has : World → List ℕ → Reads → Values → ℕ → Type 0
   Has w m reads values i = LoadsAt w (place_of places source) m (xs reads values i) (ys reads values i) (pixel reads values i)
 
-  has-as : (w : World) (m : List ℕ) (reads : Reads) (values : Values) (i : ℕ) → Has w m reads values i → LoadsAt w place m (xs reads values i) (ys reads values i) (pixel reads values i)
+  has-as : (w : World) (m : List ℕ) (reads : Reads) (values : Values) (i : ℕ) → Has w m reads values i → LoadsAt w place m (xs reads values i)
+      (ys reads values i) (pixel reads values i)
   has-as w m reads values i a = subst (λ q. LoadsAt w q m (xs reads values i) (ys reads values i) (pixel reads values i)) (sym ep) a
 
   abbrev Reaches : (ℕ → Reads → Values → ℕ) → (Reads → Values → ℕ → ℕ) → Type 0
@@ -75,7 +78,8 @@ module _ (places : Places) (scope : List Held) (own : Lanes) (k : ℕ) (in-stack
 
   -- one behind the other
   pub each-dense : (b : ℕ) (c0 c1 c2 : List ℕ) (mb : World → List ℕ → Reads → Values → Type 0) (pointer : ℕ → Reads → Values → ℕ)
-      → Reaches pointer (λ reads values i. i * pixel_bytes place.pixels) → MakesScalar c0 c1 scope own b mb pointer → LoadsAlong c1 c2 own.group k b place.pixels
+      → Reaches pointer (λ reads values i. i * pixel_bytes place.pixels) → MakesScalar c0 c1 scope own b mb pointer
+      → LoadsAlong c1 c2 own.group k b place.pixels
       → MakesEach c0 c2 places scope own k (λ w m reads values i. mb w m reads values × Has w m reads values i) pixel
   each-dense b c0 c1 c2 mb pointer reach p z = record {
     insns = p.insns ++ z.insns;
@@ -83,7 +87,8 @@ module _ (places : Places) (scope : List Held) (own : Lanes) (k : ℕ) (in-stack
     does = λ w m values reads n f l are holders knows has some few may.
         let t = p.does w m values reads f l holders knows (may 0 (omega (arith, some))).0 in
         let ht = lanes-scalar w m l own.group n f t.after t.keeps has in
-        let can : (i : ℕ) → i < n → LoadsAt w place m (xs reads values i) (ys reads values i) (pixel reads values i) = (λ i lt. has-as w m reads values i (may i lt).1) in
+        let can : (i : ℕ) → i < n → LoadsAt w place m (xs reads values i) (ys reads values i) (pixel reads values i) = (λ i lt. has-as w m reads values i
+        (may i lt).1) in
         let u = z.does w m n t.after (xs reads values) (ys reads values) (pixel reads values) place l ht refl can
         (λ i lt. ap (λ q. (q + i * pixel_bytes place.pixels) % 2 ^ 32) t.value ∙ reach w.hart reads values i (can i lt).low) in
         record {
@@ -97,7 +102,8 @@ module _ (places : Places) (scope : List Held) (own : Lanes) (k : ℕ) (in-stack
 
   -- at distances
   pub each-gathered : (b : ℕ) (c0 c1 c2 c3 : List ℕ) (ma : World → List ℕ → Reads → Values → ℕ → Type 0) (mb : World → List ℕ → Reads → Values → Type 0)
-      (offset : Reads → Values → ℕ → ℕ) (pointer : ℕ → Reads → Values → ℕ) → Reaches pointer offset → MakesEach c0 c1 places scope own k ma offset → MakesScalar c1 c2 scope own b mb pointer
+      (offset : Reads → Values → ℕ → ℕ) (pointer : ℕ → Reads → Values → ℕ) → Reaches pointer offset → MakesEach c0 c1 places scope own k ma offset
+      → MakesScalar c1 c2 scope own b mb pointer
       → LoadsFrom c2 c3 own.group k b place.pixels
       → MakesEach c0 c3 places scope own k (λ w m reads values i. ma w m reads values i × (mb w m reads values × Has w m reads values i)) pixel
   each-gathered b c0 c1 c2 c3 ma mb offset pointer reach a p z = record {
@@ -111,13 +117,16 @@ module _ (places : Places) (scope : List Held) (own : Lanes) (k : ℕ) (in-stack
         let t = p.does w m values reads s.after l holders ks (may 0 (omega (arith, some))).1.0 in
         let kt = knows-still w.hart scope first s.after t.after (λ q h. t.keeps q (under-below own.group 0 q (kept-under own.group 0 scope q holders h))) ks in
         let ht = lanes-scalar w m l own.group n s.after t.after t.keeps hs in
-        let can : (i : ℕ) → i < n → LoadsAt w place m (xs reads values i) (ys reads values i) (pixel reads values i) = (λ i lt. has-as w m reads values i (may i lt).1.1) in
-        let u = z.does w m n t.after (xs reads values) (ys reads values) (pixel reads values) (offset reads values) place l ht (knows-zero w.hart scope first t.after kt) refl can
+        let can : (i : ℕ) → i < n → LoadsAt w place m (xs reads values i) (ys reads values i) (pixel reads values i) = (λ i lt. has-as w m reads values i
+        (may i lt).1.1) in
+        let u = z.does w m n t.after (xs reads values) (ys reads values) (pixel reads values) (offset reads values) place l ht
+        (knows-zero w.hart scope first t.after kt) refl can
         (λ i lt. t.keeps (lane (slot own.group k) i) (lane-below (slot own.group k) i) ∙ s.value i lt)
         (λ i lt. ap (λ q. (q + offset reads values i) % 2 ^ 32) t.value ∙ reach w.hart reads values i (can i lt).low) in
         record {
           after = u.after;
-          line = line-then w a.insns (p.insns ++ z.insns) f s.after u.after m m m s.line (line-then w p.insns z.insns s.after t.after u.after m m m t.line u.line);
+          line = line-then w a.insns (p.insns ++ z.insns) f s.after u.after m m m s.line (line-then w p.insns z.insns s.after t.after u.after m m m t.line
+              u.line);
           value = u.value;
           small = u.small;
           keeps = λ q h. u.keeps q h ∙ t.keeps q (under-below own.group k q h) ∙ s.keeps q h;
@@ -126,7 +135,8 @@ module _ (places : Places) (scope : List Held) (own : Lanes) (k : ℕ) (in-stack
 
 -- ---- the point at two sums
 
-module _ (places : Places) (scope : List Held) (own : Lanes) (k : ℕ) (in-stack : k < slots own.group) (source : Source) (x y : Linear) (place : Place) (ep : place ≡ place_of places source)
+module _ (places : Places) (scope : List Held) (own : Lanes) (k : ℕ) (in-stack : k < slots own.group) (source : Source) (x y : Linear) (place : Place)
+    (ep : place ≡ place_of places source)
     (form : Form) (point : IsPoint place x y form) (stride : ℕ) (es : stride ≡ strides own.counter form.sum.terms % 2 ^ 32) where
   abbrev xs : Reads → Values → ℕ → ℕ
   xs reads values i = linear_value (with own.counter i values) x
@@ -135,17 +145,21 @@ module _ (places : Places) (scope : List Held) (own : Lanes) (k : ℕ) (in-stack
   ys reads values i = linear_value (with own.counter i values) y
 
   -- where an iteration's pixel lies
-  spot-is : (hart i : ℕ) (values : Values) → address place hart (linear_value (with own.counter i values) x) (linear_value (with own.counter i values) y) < 2 ^ 32
-      → (form_value hart (with own.counter 0 values) form + i * stride) % 2 ^ 32 ≡ address place hart (linear_value (with own.counter i values) x) (linear_value (with own.counter i values) y)
+  spot-is : (hart i : ℕ) (values : Values) → address place hart (linear_value (with own.counter i values) x) (linear_value
+      (with own.counter i values) y) < 2 ^ 32
+      → (form_value hart (with own.counter 0 values) form + i * stride) % 2 ^ 32 ≡ address place hart (linear_value (with own.counter i values) x)
+      (linear_value (with own.counter i values) y)
   spot-is hart i values low =
       let a = address place hart (linear_value (with own.counter i values) x) (linear_value (with own.counter i values) y) in
       let g : a % 2 ^ 32 ≡ a = omega (arith, low) in
       form-goes own.counter i stride hart values form es ∙ point.value hart (with own.counter i values) ∙ g
 
   pub dense-made : (most b : ℕ) (start : Form) (c0 c1 c2 : List ℕ) → stride ≡ pixel_bytes place.pixels → IsAt own.counter 0 form start
-      → MakesHeld c0 c1 most scope address_register b (λ hart values. form_value hart values start) → LoadsAlong c1 c2 own.group k b place.pixels → MakesPoint c0 c2 places scope own k source x y
+      → MakesHeld c0 c1 most scope address_register b (λ hart values. form_value hart values start) → LoadsAlong c1 c2 own.group k b place.pixels
+      → MakesPoint c0 c2 places scope own k source x y
   dense-made most b start c0 c1 c2 is at p z =
-      each-as places scope own k c0 c2 (λ w m reads values i. Nothing w m reads values × LoadsPoint places source own.counter x y w m reads values i) (LoadsPoint places source own.counter x y)
+      each-as places scope own k c0 c2 (λ w m reads values i. Nothing w m reads values × LoadsPoint places source own.counter x y w m reads values i)
+      (LoadsPoint places source own.counter x y)
       (λ reads values i. reads source (xs reads values i) (ys reads values i)) (λ w m reads values n some all i lt. (tt, all i lt))
       (each-dense places scope own k in-stack source place ep xs ys b c0 c1 c2 Nothing (λ hart reads values. form_value hart (with own.counter 0 values) form)
       (λ hart reads values i low. ap (λ q. (form_value hart (with own.counter 0 values) form + i * q) % 2 ^ 32) (sym is) ∙ spot-is hart i values low)

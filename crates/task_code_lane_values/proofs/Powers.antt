@@ -96,7 +96,8 @@ remainder-low x k l few =
         let dy : 2 ^ k * (y / 2 ^ k) + t ≡ y = omega (arith, p) in
         let both : (x / 2 ^ k + y / 2 ^ k) * 2 ^ k + (s + t + 1) ≡ 2 ^ 32 = omega (arith, dx, dy, l) in
         let n : 32 - k + k ≡ 32 = omega (arith, few) in
-        let whole : 2 ^ 32 ≡ 2 ^ (32 - k) * 2 ^ k + 0 = ap (λ j. 2 ^ j) (sym n) ∙ pow-add 2 (32 - k) k ∙ (let g : 2 ^ (32 - k) * 2 ^ k ≡ 2 ^ (32 - k) * 2 ^ k + 0 =
+        let whole : 2 ^ 32 ≡ 2 ^ (32 - k) * 2 ^ k + 0 = ap (λ j. 2 ^ j) (sym n) ∙ pow-add 2 (32 - k) k ∙ (let g : 2 ^ (32 - k) * 2 ^ k ≡ 2 ^
+        (32 - k) * 2 ^ k + 0 =
         omega arith in g) in
         let e = ap (λ j. j % 2 ^ k) (both ∙ whole) ∙ low (2 ^ (32 - k)) k p in
         let g = low-parts k (x / 2 ^ k + y / 2 ^ k) s t ls lt e in
@@ -128,7 +129,8 @@ module _ (group : Group) (k : ℕ) (in-stack : k < slots group) (c e : ℕ) (few
   }
 
   -- a register has all bits of a remainder
-  pub remainder-masked : (s : ℕ) → s < 32 → c < 2 ^ 32 → Emits c0 c1 (Vector (v.ArithmeticVx vxs.Vand r r s true) ∷ []) → TurnsBy c0 c1 group k s (λ d. d ≡ c - 1) (λ x d. word.remainder x c)
+  pub remainder-masked : (s : ℕ) → s < 32 → c < 2 ^ 32 → Emits c0 c1 (Vector (v.ArithmeticVx vxs.Vand r r s true) ∷ []) → TurnsBy c0 c1 group k s
+      (λ d. d ≡ c - 1) (λ x d. word.remainder x c)
   remainder-masked s low lc z = record {
     insns = Vector (v.ArithmeticVx vxs.Vand r r s true) ∷ [];
     emits = z;
@@ -138,13 +140,16 @@ module _ (group : Group) (k : ℕ) (in-stack : k < slots group) (c e : ℕ) (few
         left-of w m l group n (Vector (v.ArithmeticVx vxs.Vand r r s true) ∷ []) f k (λ i. word.remainder (x i) c) (λ i b. remainder-below (x i) c some lc)
         (rows.last w m l group n k lies (rows.writes w m l group n (λ i. word.remainder (x i) c) (λ i. bit_and (f (lane r i)) (f s % 2 ^ 32)) has
         (vector.arithmetic-vx w f m l (registers group) has.configured vxs.Vand r r s lies.is_group lies.is_group low)
-        (λ i b. ap (λ z. bit_and z (f s % 2 ^ 32)) (hx i b) ∙ ap (bit_and (x i)) (ed ∙ same ∙ ap (λ n. n - 1) is) ∙ and_mask (x i) e ∙ sym (remainder-low (x i) e (lx i b) few)
+        (λ i b. ap (λ z. bit_and z (f s % 2 ^ 32)) (hx i b) ∙ ap (bit_and (x i)) (ed ∙ same ∙ ap (λ n. n - 1) is) ∙ and_mask (x i) e ∙ sym (remainder-low
+        (x i) e (lx i b) few)
         ∙ ap (word.remainder (x i)) (sym is))));
   }
 
-pub shifted-as : (group : Group) (k : ℕ) → k < slots group → (c e : ℕ) → e < 32 → c ≡ 2 ^ e → (a : ℕ) (c0 c1 : List ℕ) → a ≡ slot group k → Emits c0 c1 (Vector (v.ShiftVi shifts.Vsra a a e true) ∷ [])
+pub shifted-as : (group : Group) (k : ℕ) → k < slots group → (c e : ℕ) → e < 32 → c ≡ 2 ^ e → (a : ℕ) (c0 c1 : List ℕ) → a ≡ slot group k → Emits c0 c1
+    (Vector (v.ShiftVi shifts.Vsra a a e true) ∷ [])
     → TurnsOne c0 c1 group k (λ x. word.divide x c)
-shifted-as group k in-stack c e few is a c0 c1 ea z = quotient-shifted group k in-stack c e few is c0 c1 (subst (λ y. Emits c0 c1 (Vector (v.ShiftVi shifts.Vsra y y e true) ∷ [])) ea z)
+shifted-as group k in-stack c e few is a c0 c1 ea z = quotient-shifted group k in-stack c e few is c0 c1 (subst (λ y. Emits c0 c1 (Vector
+    (v.ShiftVi shifts.Vsra y y e true) ∷ [])) ea z)
 
 pub masked-as : (group : Group) (k : ℕ) → k < slots group → (c e s : ℕ) → e < 32 → c ≡ 2 ^ e → c < 2 ^ 32 → s < 32 → (a : ℕ) (c0 c1 : List ℕ) → a ≡ slot group k
     → Emits c0 c1 (Vector (v.ArithmeticVx vxs.Vand a a s true) ∷ []) → TurnsBy c0 c1 group k s (λ d. d ≡ c - 1) (λ x d. word.remainder x c)

@@ -43,7 +43,8 @@ xor-none x = same_from_bits (bit_xor x 0) x (λ i. bit_at_xor x 0 i ∙ ap (λ z
 xor-ones : (x : ℕ) → x < 2 ^ 32 → bit_xor x (2 ^ 32 - 1) ≡ 2 ^ 32 - 1 - x
 xor-ones x l =
     same_from_bits_below 32 (bit_xor x (2 ^ 32 - 1)) (2 ^ 32 - 1 - x) (xor_of_32 x (2 ^ 32 - 1) l (omega arith)) (omega arith)
-    (λ i few. bit_at_xor x (2 ^ 32 - 1) i ∙ ap (λ z. (bit_at x i + z) % 2) (bit_at_ones 32 i few) ∙ one-more (bit_at x i) (bit_at-lt x i) ∙ sym (bit_at_not w32 x i l few))
+    (λ i few. bit_at_xor x (2 ^ 32 - 1) i ∙ ap (λ z. (bit_at x i + z) % 2) (bit_at_ones 32 i few) ∙ one-more (bit_at x i) (bit_at-lt x i) ∙ sym
+    (bit_at_not w32 x i l few))
 
 -- a lane, or its complement where it is negative
 abbrev pub turned : Bool → ℕ → ℕ
@@ -85,12 +86,15 @@ by-sign false x c = refl
 
 pub quotient-is : (x c : ℕ) → 0 < c → turned (nat_lt x (2 ^ 31)) (turned (nat_lt x (2 ^ 31)) x / c) ≡ word.divide x c
 unfolding word.divide
-quotient-is x c lc = by-sign (nat_lt x (2 ^ 31)) x c ∙ sym (ap (λ b. if b then 0 else (if nat_lt x (2 ^ 31) then x / c else 2 ^ 32 - 1 - (2 ^ 32 - 1 - x) / c)) (not-zero c lc))
+quotient-is x c lc = by-sign (nat_lt x (2 ^ 31)) x c ∙ sym (ap (λ b. if b then 0 else (if nat_lt x (2 ^ 31) then x / c else 2 ^ 32 - 1 -
+    (2 ^ 32 - 1 - x) / c)) (not-zero c lc))
 
 by-remainder : (t : Bool) (x c : ℕ) → (if t then turned t x % c else c - 1 - turned t x % c) ≡ (if t then x % c else c - 1 - (2 ^ 32 - 1 - x) % c)
 by-remainder true x c = refl
 by-remainder false x c = refl
 
-pub remainder-is : (x c : ℕ) → 0 < c → (if nat_lt x (2 ^ 31) then turned (nat_lt x (2 ^ 31)) x % c else c - 1 - turned (nat_lt x (2 ^ 31)) x % c) ≡ word.remainder x c
+pub remainder-is : (x c : ℕ) → 0 < c → (if nat_lt x (2 ^ 31) then turned (nat_lt x (2 ^ 31)) x % c else c - 1 - turned (nat_lt x
+    (2 ^ 31)) x % c) ≡ word.remainder x c
 unfolding word.remainder
-remainder-is x c lc = by-remainder (nat_lt x (2 ^ 31)) x c ∙ sym (ap (λ b. if b then 0 else (if nat_lt x (2 ^ 31) then x % c else c - 1 - (2 ^ 32 - 1 - x) % c)) (not-zero c lc))
+remainder-is x c lc = by-remainder (nat_lt x (2 ^ 31)) x c ∙ sym (ap (λ b. if b then 0 else (if nat_lt x (2 ^ 31) then x % c else c - 1 -
+    (2 ^ 32 - 1 - x) % c)) (not-zero c lc))

@@ -31,7 +31,8 @@ module _ (w : World) (m : List ℕ) (l : length m ≡ w.size) (group : Group) (n
     pub value : (i : ℕ) → i < n → held after (spare group) i ≡ x i
     pub keeps : (q : ℕ) → (q < 34) ⊎ ((lane (slot group 0) 0 ≤ q) × (q < bit 0)) → after q ≡ f q
 
-  pub spared : {is : List Insn} {f : ℕ → ℕ} (x new : ℕ → ℕ) → HasLanes group n f → n ≤ 4 * registers group → Line w is f m (write_group f (spare group) (f vl_number) new) m
+  pub spared : {is : List Insn} {f : ℕ → ℕ} (x new : ℕ → ℕ) → HasLanes group n f → n ≤ 4 * registers group → Line w is f m (write_group f (spare group)
+      (f vl_number) new) m
       → ((i : ℕ) → i < n → new i ≡ x i) → ((i : ℕ) → i < n → x i < 2 ^ 32) → Spared is f x
   spared {is} {f} x new has few line same small =
       let e = has.count in
@@ -39,6 +40,7 @@ module _ (w : World) (m : List ℕ) (l : length m ≡ w.size) (group : Group) (n
       record {
         after = write_group f (spare group) (f vl_number) new;
         line = line;
-        value = λ i b. groups-hold f (spare group) (f vl_number) new i (omega (arith, e, few, most)) (omega (arith, e, b)) (subst (λ z. z < 2 ^ 32) (sym (same i b)) (small i b)) ∙ same i b;
+        value = λ i b. groups-hold f (spare group) (f vl_number) new i (omega (arith, e, few, most)) (omega (arith, e, b)) (subst (λ z. z < 2 ^ 32) (sym
+            (same i b)) (small i b)) ∙ same i b;
         keeps = λ q o. ap (λ z. write_group f (spare group) z new q) e ∙ spare-keeps group f n new q few o;
       }

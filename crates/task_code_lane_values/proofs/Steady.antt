@@ -37,10 +37,12 @@ module _ (counter : Counter) where
       (λ reads values i.
       let a = sum.number + sum_of values (others_of counter sum.terms) in
       let g : a + i * 0 ≡ a + 0 * 0 = omega arith in
-      value_linear reads (with counter i values) sum ∙ linear-with counter i 0 values sum e0 ∙ ap (λ n. n % 2 ^ 32) g ∙ sym (linear-with counter 0 0 values sum e0)
+      value_linear reads (with counter i values) sum ∙ linear-with counter i 0 values sum e0 ∙ ap (λ n. n % 2 ^ 32) g ∙ sym
+      (linear-with counter 0 0 values sum e0)
       ∙ sym (value_linear reads (with counter 0 values) sum))
 
-  pub steady-binary : (own : Expr) (o : Operation) (a b x y : Expr) → own ≡ e.Binary o a b → x ≡ a → y ≡ b → IsSteady counter x → IsSteady counter y → IsSteady counter own
+  pub steady-binary : (own : Expr) (o : Operation) (a b x y : Expr) → own ≡ e.Binary o a b → x ≡ a → y ≡ b → IsSteady counter x → IsSteady counter y
+      → IsSteady counter own
   steady-binary own o a b x y eo ex ey sx sy =
       let ia = part-as a x ex sx in
       let ib = part-as b y ey sy in
@@ -53,16 +55,19 @@ module _ (counter : Counter) where
   steady-divide own a x c eo ex sx =
       let ia = part-as a x ex sx in
       steady-as own (e.Divide a c) eo
-      (λ reads values i. value_divide reads (with counter i values) a c ∙ ap (λ n. word.divide n c) (ia reads values i) ∙ sym (value_divide reads (with counter 0 values) a c))
+      (λ reads values i. value_divide reads (with counter i values) a c ∙ ap (λ n. word.divide n c) (ia reads values i) ∙ sym (value_divide reads
+      (with counter 0 values) a c))
 
   pub steady-remainder : (own a x : Expr) (c : ℕ) → own ≡ e.Remainder a c → x ≡ a → IsSteady counter x → IsSteady counter own
   steady-remainder own a x c eo ex sx =
       let ia = part-as a x ex sx in
       steady-as own (e.Remainder a c) eo
       (λ reads values i.
-      value_remainder reads (with counter i values) a c ∙ ap (λ n. word.remainder n c) (ia reads values i) ∙ sym (value_remainder reads (with counter 0 values) a c))
+      value_remainder reads (with counter i values) a c ∙ ap (λ n. word.remainder n c) (ia reads values i) ∙ sym (value_remainder reads
+      (with counter 0 values) a c))
 
-  pub steady-select : (own c a b z x y : Expr) → own ≡ e.Select c a b → z ≡ c → x ≡ a → y ≡ b → IsSteady counter z → IsSteady counter x → IsSteady counter y → IsSteady counter own
+  pub steady-select : (own c a b z x y : Expr) → own ≡ e.Select c a b → z ≡ c → x ≡ a → y ≡ b → IsSteady counter z → IsSteady counter x
+      → IsSteady counter y → IsSteady counter own
   steady-select own c a b z x y eo ez ex ey sz sx sy =
       let ic = part-as c z ez sz in
       let ia = part-as a x ex sx in
@@ -75,7 +80,8 @@ module _ (counter : Counter) where
       ∙ ap (λ n. if value reads first c == 0 then n else value reads at a) (ib reads values i)
       ∙ ap (λ n. if value reads first c == 0 then value reads first b else n) (ia reads values i) ∙ sym (value_select reads first c a b))
 
-  pub steady-load : (own : Expr) (source : Source) (a b x y : Expr) → own ≡ e.Load source a b → x ≡ a → y ≡ b → IsSteady counter x → IsSteady counter y → IsSteady counter own
+  pub steady-load : (own : Expr) (source : Source) (a b x y : Expr) → own ≡ e.Load source a b → x ≡ a → y ≡ b → IsSteady counter x → IsSteady counter y
+      → IsSteady counter own
   steady-load own source a b x y eo ex ey sx sy =
       let ia = part-as a x ex sx in
       let ib = part-as b y ey sy in

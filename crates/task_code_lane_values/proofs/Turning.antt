@@ -64,21 +64,26 @@ module _ (group : Group) (k : ℕ) (in-stack : k < slots group) where
   abbrev lies : SlotLies group k
   lies = slot-lies group k in-stack
 
-  pub two-made : (o : Operation) (c0 c1 : List ℕ) → k + 1 < slots group → Emits c0 c1 (lanes_operation o (slot group k) (slot group (k + 1))) → TurnsTwo c0 c1 group k (word.applied o)
+  pub two-made : (o : Operation) (c0 c1 : List ℕ) → k + 1 < slots group → Emits c0 c1 (lanes_operation o (slot group k) (slot group (k + 1)))
+      → TurnsTwo c0 c1 group k (word.applied o)
   two-made o c0 c1 next x = record {
     insns = lanes_operation o (slot group k) (slot group (k + 1));
     emits = x;
     does = λ w m n f u t l has hu ht lu lt.
-        left-of w m l group n (lanes_operation o (slot group k) (slot group (k + 1))) f k (λ i. word.applied o (u i) (t i)) (λ i b. applied-below o (u i) (t i) (lu i b) (lt i b))
+        left-of w m l group n (lanes_operation o (slot group k) (slot group (k + 1))) f k (λ i. word.applied o (u i) (t i)) (λ i b. applied-below o (u i)
+        (t i) (lu i b) (lt i b))
         (operation-leaves w m l group n k lies (slot group (k + 1)) (slot-lies group (k + 1) next).is_group f u t has hu ht lu lt o);
   }
 
-  pub two-as : (o : Operation) (a b : ℕ) (c0 c1 : List ℕ) → k + 1 < slots group → a ≡ slot group k → b ≡ slot group (k + 1) → Emits c0 c1 (lanes_operation o a b)
+  pub two-as : (o : Operation) (a b : ℕ) (c0 c1 : List ℕ) → k + 1 < slots group → a ≡ slot group k → b ≡ slot group (k + 1) → Emits c0 c1
+      (lanes_operation o a b)
       → TurnsTwo c0 c1 group k (word.applied o)
-  two-as o a b c0 c1 next ea eb x = two-made o c0 c1 next (subst (λ z. Emits c0 c1 (lanes_operation o (slot group k) z)) eb (subst (λ z. Emits c0 c1 (lanes_operation o z b)) ea x))
+  two-as o a b c0 c1 next ea eb x = two-made o c0 c1 next (subst (λ z. Emits c0 c1 (lanes_operation o (slot group k) z)) eb (subst (λ z. Emits c0 c1
+      (lanes_operation o z b)) ea x))
 
   module _ (s : ℕ) (low : s < 32) (c0 c1 : List ℕ) (says : ℕ → ℕ → ℕ) (small : (x c : ℕ) → x < 2 ^ 32 → c < 2 ^ 32 → says x c < 2 ^ 32) where
-    pub by-arithmetic : (o : ArithmeticVxOp) → ((x c : ℕ) → x < 2 ^ 32 → c < 2 ^ 32 → arithmetic_vx o 32 x c ≡ says x c) → Emits c0 c1 (Vector (v.ArithmeticVx o r r s true) ∷ [])
+    pub by-arithmetic : (o : ArithmeticVxOp) → ((x c : ℕ) → x < 2 ^ 32 → c < 2 ^ 32 → arithmetic_vx o 32 x c ≡ says x c) → Emits c0 c1 (Vector
+        (v.ArithmeticVx o r r s true) ∷ [])
         → TurnsBy c0 c1 group k s AnyWord says
     by-arithmetic o same x = record {
       insns = Vector (v.ArithmeticVx o r r s true) ∷ [];
@@ -91,7 +96,8 @@ module _ (group : Group) (k : ℕ) (in-stack : k < slots group) where
           (λ i b. ap (λ z. arithmetic_vx o 32 z (f s % 2 ^ 32)) (hu i b) ∙ ap (arithmetic_vx o 32 (u i)) ec ∙ same (u i) c (lu i b) lc)));
     }
 
-    pub by-product : ((x c : ℕ) → x < 2 ^ 32 → c < 2 ^ 32 → lanes.multiply 32 x c ≡ says x c) → Emits c0 c1 (Vector (v.MultiplyVx multiplies.Vmul r r s true) ∷ [])
+    pub by-product : ((x c : ℕ) → x < 2 ^ 32 → c < 2 ^ 32 → lanes.multiply 32 x c ≡ says x c) → Emits c0 c1 (Vector
+        (v.MultiplyVx multiplies.Vmul r r s true) ∷ [])
         → TurnsBy c0 c1 group k s AnyWord says
     by-product same x = record {
       insns = Vector (v.MultiplyVx multiplies.Vmul r r s true) ∷ [];
@@ -105,20 +111,23 @@ module _ (group : Group) (k : ℕ) (in-stack : k < slots group) where
     }
 
   module _ (o : Operation) (s : ℕ) (low : s < 32) (c0 c1 : List ℕ) where
-    pub second-arithmetic : (own : ArithmeticVxOp) → IsBy o own → Emits c0 c1 (Vector (v.ArithmeticVx own r r s true) ∷ []) → TurnsBy c0 c1 group k s AnyWord (word.applied o)
+    pub second-arithmetic : (own : ArithmeticVxOp) → IsBy o own → Emits c0 c1 (Vector (v.ArithmeticVx own r r s true) ∷ [])
+        → TurnsBy c0 c1 group k s AnyWord (word.applied o)
     second-arithmetic own is x = by-arithmetic s low c0 c1 (word.applied o) (λ x c lx lc. applied-below o x c lx lc) own is x
 
     pub first-arithmetic : (own : ArithmeticVxOp) → IsTurnedBy o own → Emits c0 c1 (Vector (v.ArithmeticVx own r r s true) ∷ [])
         → TurnsBy c0 c1 group k s AnyWord (λ x c. word.applied o c x)
     first-arithmetic own is x = by-arithmetic s low c0 c1 (λ x c. word.applied o c x) (λ x c lx lc. applied-below o c x lc lx) own is x
 
-    pub second-product : o ≡ op.Multiply → Emits c0 c1 (Vector (v.MultiplyVx multiplies.Vmul r r s true) ∷ []) → TurnsBy c0 c1 group k s AnyWord (word.applied o)
+    pub second-product : o ≡ op.Multiply → Emits c0 c1 (Vector (v.MultiplyVx multiplies.Vmul r r s true) ∷ []) → TurnsBy c0 c1 group k s AnyWord
+        (word.applied o)
     unfolding word.multiply
     second-product e x =
         subst (λ z. TurnsBy c0 c1 group k s AnyWord (word.applied z)) (sym e)
         (by-product s low c0 c1 (word.applied op.Multiply) (λ x c lx lc. applied-below op.Multiply x c lx lc) (λ x c lx lc. refl) x)
 
-    pub first-product : o ≡ op.Multiply → Emits c0 c1 (Vector (v.MultiplyVx multiplies.Vmul r r s true) ∷ []) → TurnsBy c0 c1 group k s AnyWord (λ x c. word.applied o c x)
+    pub first-product : o ≡ op.Multiply → Emits c0 c1 (Vector (v.MultiplyVx multiplies.Vmul r r s true) ∷ []) → TurnsBy c0 c1 group k s AnyWord
+        (λ x c. word.applied o c x)
     unfolding word.multiply
     first-product e x =
         subst (λ z. TurnsBy c0 c1 group k s AnyWord (λ x c. word.applied z c x)) (sym e)
@@ -126,15 +135,18 @@ module _ (group : Group) (k : ℕ) (in-stack : k < slots group) where
         (λ x c lx lc. let g : x * c ≡ c * x = omega arith in ap (λ n. n % 2 ^ 32) g) x)
 
     -- as the emitters call them
-    pub second-by : (a : ℕ) → a ≡ r → (own : ArithmeticVxOp) → IsBy o own → Emits c0 c1 (Vector (v.ArithmeticVx own a a s true) ∷ []) → TurnsBy c0 c1 group k s AnyWord (word.applied o)
+    pub second-by : (a : ℕ) → a ≡ r → (own : ArithmeticVxOp) → IsBy o own → Emits c0 c1 (Vector (v.ArithmeticVx own a a s true) ∷ [])
+        → TurnsBy c0 c1 group k s AnyWord (word.applied o)
     second-by a ea own is x = second-arithmetic own is (subst (λ z. Emits c0 c1 (Vector (v.ArithmeticVx own z z s true) ∷ [])) ea x)
 
     pub first-by : (a : ℕ) → a ≡ r → (own : ArithmeticVxOp) → IsTurnedBy o own → Emits c0 c1 (Vector (v.ArithmeticVx own a a s true) ∷ [])
         → TurnsBy c0 c1 group k s AnyWord (λ x c. word.applied o c x)
     first-by a ea own is x = first-arithmetic own is (subst (λ z. Emits c0 c1 (Vector (v.ArithmeticVx own z z s true) ∷ [])) ea x)
 
-    pub second-times : (a : ℕ) → a ≡ r → o ≡ op.Multiply → Emits c0 c1 (Vector (v.MultiplyVx multiplies.Vmul a a s true) ∷ []) → TurnsBy c0 c1 group k s AnyWord (word.applied o)
+    pub second-times : (a : ℕ) → a ≡ r → o ≡ op.Multiply → Emits c0 c1 (Vector (v.MultiplyVx multiplies.Vmul a a s true) ∷ [])
+        → TurnsBy c0 c1 group k s AnyWord (word.applied o)
     second-times a ea e x = second-product e (subst (λ z. Emits c0 c1 (Vector (v.MultiplyVx multiplies.Vmul z z s true) ∷ [])) ea x)
 
-    pub first-times : (a : ℕ) → a ≡ r → o ≡ op.Multiply → Emits c0 c1 (Vector (v.MultiplyVx multiplies.Vmul a a s true) ∷ []) → TurnsBy c0 c1 group k s AnyWord (λ x c. word.applied o c x)
+    pub first-times : (a : ℕ) → a ≡ r → o ≡ op.Multiply → Emits c0 c1 (Vector (v.MultiplyVx multiplies.Vmul a a s true) ∷ [])
+        → TurnsBy c0 c1 group k s AnyWord (λ x c. word.applied o c x)
     first-times a ea e x = first-product e (subst (λ z. Emits c0 c1 (Vector (v.MultiplyVx multiplies.Vmul z z s true) ∷ [])) ea x)

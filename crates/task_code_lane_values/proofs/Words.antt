@@ -29,7 +29,8 @@ use Rattle.task_code_lane_values.proofs.Composing.{left-of}
 
 -- ---- words from a register on
 
-module _ (w : World) (m : List ℕ) (l : length m ≡ w.size) (group : Group) (n k : ℕ) (lies : SlotLies group k) (place : Place) (words : place.pixels ≡ pixels.Words) (x y pixel : ℕ → ℕ)
+module _ (w : World) (m : List ℕ) (l : length m ≡ w.size) (group : Group) (n k : ℕ) (lies : SlotLies group k) (place : Place)
+    (words : place.pixels ≡ pixels.Words) (x y pixel : ℕ → ℕ)
     (can : (i : ℕ) → i < n → LoadsAt w place m (x i) (y i) (pixel i)) where
   abbrev spot : ℕ → ℕ
   spot i = address place w.hart (x i) (y i)
@@ -62,11 +63,13 @@ module _ (w : World) (m : List ℕ) (l : length m ≡ w.size) (group : Group) (n
       left-of w m l group n (Vector (v.LoadElements Bits32 (slot group k) b addressing true) ∷ []) f k pixel (λ i lt. (can i lt).is_word)
       (rows.last w m l group n k lies
       (rows.writes w m l group n pixel (λ i. number_in w.text m Word (spot i) % 2 ^ 32) has
-      (memory.loads w f m l (registers group) has.configured addressing (slot group k) b spot lies.is_group lb fit (λ i lt. e i (omega (arith, lt, q))) (all-readable f has)) pixel-is))
+      (memory.loads w f m l (registers group) has.configured addressing (slot group k) b spot lies.is_group lb fit (λ i lt. e i (omega (arith, lt, q)))
+      (all-readable f has)) pixel-is))
 
 -- ---- as the emitters call it
 
-pub words-along : (group : Group) (k b a : ℕ) (c0 c1 : List ℕ) → k < slots group → b < 32 → a ≡ slot group k → Emits c0 c1 (Vector (v.LoadElements Bits32 a b addressings.UnitStride true) ∷ [])
+pub words-along : (group : Group) (k b a : ℕ) (c0 c1 : List ℕ) → k < slots group → b < 32 → a ≡ slot group k → Emits c0 c1 (Vector
+    (v.LoadElements Bits32 a b addressings.UnitStride true) ∷ [])
     → LoadsAlong c0 c1 group k b pixels.Words
 words-along group k b a c0 c1 in-stack lb ea z = record {
   insns = Vector (v.LoadElements Bits32 (slot group k) b addressings.UnitStride true) ∷ [];
@@ -75,7 +78,8 @@ words-along group k b a c0 c1 in-stack lb ea z = record {
       words-loaded w m l group n k (slot-lies group k in-stack) place words x y pixel can f addressings.UnitStride b has lb tt reach;
 }
 
-pub words-from : (group : Group) (k b a : ℕ) (c0 c1 : List ℕ) → k < slots group → b < 32 → a ≡ slot group k → Emits c0 c1 (Vector (v.LoadElements Bits32 a b (addressings.Indexed a) true) ∷ [])
+pub words-from : (group : Group) (k b a : ℕ) (c0 c1 : List ℕ) → k < slots group → b < 32 → a ≡ slot group k → Emits c0 c1 (Vector
+    (v.LoadElements Bits32 a b (addressings.Indexed a) true) ∷ [])
     → LoadsFrom c0 c1 group k b pixels.Words
 words-from group k b a c0 c1 in-stack lb ea z = record {
   insns = Vector (v.LoadElements Bits32 (slot group k) b (addressings.Indexed (slot group k)) true) ∷ [];

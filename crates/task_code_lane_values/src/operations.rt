@@ -8,7 +8,8 @@ ghost use Rattle.halide_pipeline.specs.Words as word;
 ghost use Rattle.task_code_scalar.specs.Words.{Emits};
 ghost use Rattle.task_code_lanes.specs.Groups.{slots};
 ghost use Rattle.task_code_lanes.specs.Lanes.{compared, flagged, lanes_operation};
-ghost use Rattle.task_code_lane_values.specs.inner.Parts.{AnyWord, Chooses, IsBy, IsComparedBy, IsTurnedBy, TurnsBy, TurnsOne, TurnsTwo};
+ghost use Rattle.task_code_lane_values.specs.inner.Parts.{AnyWord, Chooses, IsBy, IsComparedBy};
+ghost use Rattle.task_code_lane_values.specs.inner.Parts.{IsTurnedBy, TurnsBy, TurnsOne, TurnsTwo};
 
 use halide_pipeline::Operation;
 use rv_insn::{
@@ -237,8 +238,8 @@ pub(crate) fn emit_turned(
 
 // ---- quotients
 
-/// Appends what leaves quotients by the literal in a register, rounded to minus infinity: a negative lane's complement is
-/// divided, and the quotient's complement taken.
+/// Appends what leaves quotients by the literal in a register, rounded to minus infinity: a negative lane's
+/// complement is divided, and the quotient's complement taken.
 pub(crate) fn emit_quotient(
     code: &mut Vec<u32>,
     group: Group,
@@ -247,7 +248,8 @@ pub(crate) fn emit_quotient(
     s: u8,
 ) -> Result<(), AllocError>
     requires { (k < slots group) × ((s < 32) × (0 < divisor)) }
-    ensures { OnOk result (TurnsBy code.old.items code.new.items group k s (λ c. c ≡ divisor) (λ x c. word.divide x divisor)) }
+    ensures { OnOk result (TurnsBy code.old.items code.new.items group k s (λ c. c ≡ divisor)
+        (λ x c. word.divide x divisor)) }
 {
     let r = group.slot(k);
     let u = group.spare();
@@ -304,15 +306,16 @@ pub(crate) fn emit_masked(
     s: u8,
 ) -> Result<(), AllocError>
     requires { (k < slots group) × ((s < 32) × ((bits < 32) × (divisor ≡ 2 ^ bits))) }
-    ensures { OnOk result (TurnsBy code.old.items code.new.items group k s (λ c. c ≡ divisor - 1) (λ x c. word.remainder x divisor)) }
+    ensures { OnOk result (TurnsBy code.old.items code.new.items group k s (λ c. c ≡ divisor - 1)
+        (λ x c. word.remainder x divisor)) }
 {
     let r = group.slot(k);
     arithmetic_by(code, ArithmeticVxOp::Vand, r, r, s)?;
     Ok(())
 }
 
-/// Appends what leaves remainders by the literal in a register, which are not negative: of a negative lane's complement the
-/// remainder is taken away from the divisor less 1.
+/// Appends what leaves remainders by the literal in a register, which are not negative: of a negative lane's
+/// complement the remainder is taken away from the divisor less 1.
 pub(crate) fn emit_remainder(
     code: &mut Vec<u32>,
     group: Group,
@@ -321,7 +324,8 @@ pub(crate) fn emit_remainder(
     s: u8,
 ) -> Result<(), AllocError>
     requires { (k < slots group) × ((s < 32) × (0 < divisor)) }
-    ensures { OnOk result (TurnsBy code.old.items code.new.items group k s (λ c. c ≡ divisor) (λ x c. word.remainder x divisor)) }
+    ensures { OnOk result (TurnsBy code.old.items code.new.items group k s (λ c. c ≡ divisor)
+        (λ x c. word.remainder x divisor)) }
 {
     let r = group.slot(k);
     let u = group.spare();
@@ -336,7 +340,8 @@ pub(crate) fn emit_remainder(
 
 // ---- choices
 
-/// Appends a choice by the lanes of a group: of those of the next one where they are not 0, else of those of the one behind it.
+/// Appends a choice by the lanes of a group: of those of the next one where they are not 0, else of those of the
+/// one behind it.
 pub(crate) fn emit_choice(code: &mut Vec<u32>, group: Group, k: u8) -> Result<(), AllocError>
     requires { k + 2 < slots group }
     ensures { OnOk result (Chooses code.old.items code.new.items group k) }

@@ -85,7 +85,8 @@ fn emit_row_pointer(
     x: &Linear,
     y: &Expr,
 ) -> Result<u8, CodeFault>
-    ensures { IfOk result (λ s. MakesRowPointer code.old.items code.new.items places.now scope.now own s place.now x.now y.now) }
+    ensures { IfOk result (λ s. MakesRowPointer code.old.items code.new.items places.now
+        scope.now own s place.now x.now y.now) }
 {
     match sum_of(alloc, y)? {
         Some(row) => {
@@ -189,7 +190,9 @@ pub(crate) fn emit_scattered(
     k: u8,
 ) -> Result<(), CodeFault>
     requires { k + 1 < slots own.group }
-    ensures { OnOk result ((before middle : List ℕ) (x y : Exprs) → MakesLanes before middle places.now scope.now own k x
+
+    ensures { OnOk result ((before middle : List ℕ) (x y : Exprs)
+        → MakesLanes before middle places.now scope.now own k x
         → MakesLanes middle code.old.items places.now scope.now own (k + 1) y
         → MakesLanes before code.new.items places.now scope.now own k (loaded source x y)) }
 {

@@ -41,7 +41,8 @@ pub fn is_steady(e: &Expr, counter: Counter) -> bool
     }
 }
 
-/// Appends what leaves an expression's value of the first iteration in a register, where none holds it; which one it is.
+/// Appends what leaves an expression's value of the first iteration in a register, where none holds it; which one
+/// it is.
 pub(crate) fn emit_steady(
     alloc: Global,
     code: &mut Vec<u32>,
@@ -67,7 +68,8 @@ pub(crate) fn emit_literal(
     own: Lanes,
     number: u32,
 ) -> Result<u8, AllocError>
-    ensures { IfOk result (λ s. MakesScalar code.old.items code.new.items scope.now own s Nothing (λ hart reads values. number)) }
+    ensures { IfOk result (λ s. MakesScalar code.old.items code.new.items
+        scope.now own s Nothing (λ hart reads values. number)) }
 {
     let s = emit_number_operand(alloc, code, scope, number, ADDRESS)?;
     Ok(s)

@@ -3,8 +3,10 @@ use Rattle.task_code_lane_values.proofs.operations.emit_by.Goals as goal
 
 pub returns-in_ok-multiplication_by-in-Multiply : goal.returns-in_ok-multiplication_by-in-Multiply
 returns-in_ok-multiplication_by-in-Multiply c =
-    second-times c.args.group c.args.k c.requires.0 c.args.op c.args.s c.requires.1 _ _ _ c.slot-r.ensures.0 c.in-Multiply.is c.in_ok-multiplication_by-in-Multiply.ensures
+    second-times c.args.group c.args.k c.requires.0 c.args.op c.args.s c.requires.1 _ _ _ c.slot-r.ensures.0 c.in-Multiply.is
+    c.in_ok-multiplication_by-in-Multiply.ensures
 
 pub returns-in_ok-arithmetic_by-in-Some : goal.returns-in_ok-arithmetic_by-in-Some
 returns-in_ok-arithmetic_by-in-Some c =
-    second-by c.args.group c.args.k c.requires.0 c.args.op c.args.s c.requires.1 _ _ _ c.slot-r.ensures.0 c.in-Some.own c.in-Some.ensures c.in_ok-arithmetic_by-in-Some.ensures
+    second-by c.args.group c.args.k c.requires.0 c.args.op c.args.s c.requires.1 _ _ _ c.slot-r.ensures.0 c.in-Some.own c.in-Some.ensures
+    c.in_ok-arithmetic_by-in-Some.ensures

@@ -3,5 +3,6 @@ use Rattle.task_code_lane_values.proofs.points.emit_row.Goals as goal
 
 pub returns : goal.returns
 returns c =
-    λ x sum. row-as c.args.places.now c.args.scope.now c.args.own c.args.k c.requires.slot c.args.source c.place_of-place.result c.place_of-place.ensures c.args.column.now
+    λ x sum. row-as c.args.places.now c.args.scope.now c.args.own c.args.k c.requires.slot c.args.source c.place_of-place.result c.place_of-place.ensures
+    c.args.column.now
     c.in_ok-b.b _ _ _ x c.args.y.now sum c.requires.stride c.requires.row c.in_ok-b.ensures c.in_ok-emit_along.ensures

@@ -6,8 +6,10 @@ use Rattle.task_code_lane_values.proofs.points.emit_row_pointer.Goals as goal
 
 pub returns-in_ok-s-in-Some : goal.returns-in_ok-s-in-Some
 returns-in_ok-s-in-Some c =
-    pointer-sum c.args.places.now c.args.scope.now c.args.own c.args.place.now c.args.x.now c.args.y.now c.in-Some.row c.in_ok-form-in-Some.form c.in_ok-start-in-Some.start _
-    c.in_ok-s-in-Some.s _ _ (subst (λ o. IfSome o (IsSum c.args.y.now)) c.in-Some.is c.in_ok-row.ensures.some) c.in_ok-form-in-Some.ensures c.in_ok-start-in-Some.ensures c.in_ok-s-in-Some.ensures
+    pointer-sum c.args.places.now c.args.scope.now c.args.own c.args.place.now c.args.x.now c.args.y.now c.in-Some.row c.in_ok-form-in-Some.form
+    c.in_ok-start-in-Some.start _
+    c.in_ok-s-in-Some.s _ _ (subst (λ o. IfSome o (IsSum c.args.y.now)) c.in-Some.is c.in_ok-row.ensures.some) c.in_ok-form-in-Some.ensures
+    c.in_ok-start-in-Some.ensures c.in_ok-s-in-Some.ensures
 
 pub returns-in_ok-alu-in-None : goal.returns-in_ok-alu-in-None
 returns-in_ok-alu-in-None c =

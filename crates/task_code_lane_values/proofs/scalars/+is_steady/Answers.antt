@@ -7,7 +7,8 @@ returns-in-Number t c = λ u. steady-number c.args.counter c.args.e.now _ c.in-N
 
 pub returns-in-Linear : goal.returns-in-Linear
 returns-in-Linear t c =
-    λ u. steady-linear c.args.counter c.args.e.now c.in-Linear.own c.as_slice.result.now c.stride_of.result _ c.in-Linear.is c.as_slice.ensures c.stride_of.ensures
+    λ u. steady-linear c.args.counter c.args.e.now c.in-Linear.own c.as_slice.result.now c.stride_of.result _ c.in-Linear.is c.as_slice.ensures
+    c.stride_of.ensures
     refl u
 
 pub returns-then-is_steady : goal.returns-then-is_steady
