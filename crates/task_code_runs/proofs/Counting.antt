@@ -1,0 +1,122 @@
+-- Lanes that are configured.
+use Rattle.std.proofs.Common.{◌≡◌, ℕ, ◌*◌, ◌<◌, List, [], ◌∷◌, ◌++◌, true, refl, ap, ◌∙◌, subst, arith, inl, inr}
+use Rattle.std.specs.Prelude.{min, ◌==◌, if◌then◌else◌, Bool, false, Option, Some, None}
+use Rattle.std.proofs.lemmas.Bool.Decides.{nat_tests}
+use Rattle.std.proofs.lemmas.Bool.{and_parts}
+use Rattle.rv_insn.specs.declared.instructions.Insn.TheVariants.{Vector}
+use Rattle.rv_insn.specs.declared.vector_instructions.VectorInsn.TheVariants as v
+use Rattle.vector_unit.specs.VectorState.{most_elements}
+use Rattle.loop_ir.specs.declared.expressions.Linear.{Linear}
+use Rattle.loop_ir.specs.Counters.{with}
+use Rattle.multi_hart_logic.specs.Paths.{configure}
+use Rattle.multi_hart_logic.proofs.Configurations.{configure-at, configure-by}
+use Rattle.multi_hart_logic.proofs.Paths.{line-then}
+use Rattle.task_code_scalar.specs.Words.{Emits}
+use Rattle.task_code_scalar.proofs.Spelling.{emits_then}
+use Rattle.task_code_registers.specs.declared.scopes.Held.{Held}
+use Rattle.task_code_registers.specs.Registers.{may_hold}
+use Rattle.task_code_registers.specs.Scopes.{IsKept}
+use Rattle.task_code_registers.proofs.Knowing.{kept-apart, may-hold}
+use Rattle.task_code_values.proofs.Standing.{form-alone}
+use Rattle.task_code_lanes.specs.declared.groups.Group.{Group}
+use Rattle.task_code_lanes.specs.declared.groups.Group.TheVariants as groups
+use Rattle.task_code_lanes.specs.Groups.{registers, slots, vtype_of, group_of_rounds}
+use Rattle.task_code_lanes.specs.Leaving.{HasLanes}
+use Rattle.task_code_lane_values.specs.declared.vectorized.Lanes.{Lanes}
+use Rattle.task_code_vector.proofs.RowCode.{supported, most, has-lanes, configured-others}
+use Rattle.task_code_runs.proofs.Pointing.{address-free}
+use Rattle.task_code_runs.specs.Runs.{all_lanes, left_lanes}
+use Rattle.task_code_runs.specs.inner.Making.{are_registers, group_lanes, Configures, MakesPointer}
+
+-- registers that are kept
+pub kept-low : (scope : List Held) (q : ℕ) → are_registers scope ≡ true → IsKept scope q → q < 32
+kept-low [] q all kept = omega (arith, kept)
+kept-low (own ∷ others) q all (inl e) =
+    let m = may-hold own.register (and_parts (may_hold own.register) (are_registers others) all).0 in
+    let high = m.high in
+    omega (arith, e, high)
+kept-low (own ∷ others) q all (inr h) = kept-low others q (and_parts (may_hold own.register) (are_registers others) all).1 h
+
+all-of : (group : Group) → min (group_lanes group) (most_elements (vtype_of group)) ≡ 4 * registers group
+all-of groups.One = refl
+all-of groups.Two = refl
+all-of groups.Four = refl
+
+pub all-configured : (scope : List Held) (own : Lanes) (c0 c1 : List ℕ) → are_registers scope ≡ true
+    → Emits c0 c1 (Vector (v.Vsetivli 0 (group_lanes own.group) (vtype_of own.group)) ∷ []) → Configures c0 c1 scope own (λ values. all_lanes own)
+all-configured scope own c0 c1 all z = record {
+  insns = Vector (v.Vsetivli 0 (group_lanes own.group) (vtype_of own.group)) ∷ [];
+  emits = z;
+  does = λ w m values f l holders knows.
+      let n = min (group_lanes own.group) (most_elements (vtype_of own.group)) in
+      let e = all-of own.group in
+      record {
+        after = configure f n (vtype_of own.group);
+        line = configure-at w f m l (group_lanes own.group) (vtype_of own.group) (supported own.group);
+        has = subst (λ k. HasLanes own.group k (configure f n (vtype_of own.group))) e (has-lanes own.group f n (omega (arith, e)));
+        keeps = λ q kept. configured-others f n (vtype_of own.group) q (kept-low scope q all kept);
+      };
+}
+
+pub left-configured : (scope : List Held) (own : Lanes) (left sum : Linear) (b : ℕ) (c0 c1 c2 : List ℕ) → are_registers scope ≡ true → sum ≡ left
+    → MakesPointer c0 c1 scope own.counter b (record { sum = sum; per_hart = 0 }) → Emits c1 c2 (Vector (v.Vsetvli 0 b (vtype_of own.group)) ∷ [])
+    → Configures c0 c2 scope own (left_lanes own left)
+left-configured scope own left sum b c0 c1 c2 all es p z = record {
+  insns = p.insns ++ (Vector (v.Vsetvli 0 b (vtype_of own.group)) ∷ []);
+  emits = emits_then p.emits z;
+  does = λ w m values f l holders knows.
+      let a = p.does w m w.hart values f l holders knows in
+      let n = min (a.after b) (most_elements (vtype_of own.group)) in
+      let is = most own.group in
+      let e : n ≡ left_lanes own left values =
+      ap (λ k. min (a.after b) k) is
+      ∙ ap (λ k. min k (all_lanes own)) (a.value ∙ form-alone w.hart (with own.counter 0 values) (record { sum = sum; per_hart = 0 }) left refl es) in
+      record {
+        after = configure a.after n (vtype_of own.group);
+        line = line-then w p.insns (Vector (v.Vsetvli 0 b (vtype_of own.group)) ∷ []) f a.after (configure a.after n (vtype_of own.group)) m m m a.line
+            (configure-by w a.after m l b (vtype_of own.group) p.some p.low (supported own.group));
+        has = subst (λ k. HasLanes own.group k (configure a.after n (vtype_of own.group))) e (has-lanes own.group a.after n (omega (arith, is)));
+        keeps = λ q kept.
+            let u = kept-apart scope q holders kept in
+            configured-others a.after n (vtype_of own.group) q (kept-low scope q all kept) ∙ a.others q (address-free scope holders q kept) u.0 u.1;
+      };
+}
+
+-- ---- groups
+
+pub some-slots : (group : Group) → 0 < slots group
+some-slots groups.One = omega arith
+some-slots groups.Two = omega arith
+some-slots groups.Four = omega arith
+
+equal : (n k : ℕ) → (n == k) ≡ true → n ≡ k
+equal n k t = grind (arith, nat_tests)
+
+none-some : {own : Group} → None ≡ Some own → ⊥
+none-some e = absurd (cc e)
+
+abbrev or-this : Group → Option Group → Group
+or-this other None = other
+or-this other (Some own) = own
+
+lanes-are : (count : ℕ) (a group : Group) → count ≡ 4 * registers a → Some a ≡ Some group → count ≡ 4 * registers group
+lanes-are count a group n e = subst (λ g. count ≡ 4 * registers g) (ap (or-this group) e) n
+
+-- a group has as many lanes as a loop that it is for has iterations
+pub group-count : (count : ℕ) (group : Group) → group_of_rounds count ≡ Some group → count ≡ 4 * registers group
+group-count count group e = by-four (count == 4) refl e
+  where
+    by-sixteen : (t : Bool) → (count == 16) ≡ t → (if t then Some groups.Four else None) ≡ Some group → count ≡ 4 * registers group
+    by-sixteen true is k = lanes-are count groups.Four group (equal count 16 is) k
+    by-sixteen false is k = absurd (none-some k)
+
+    by-eight : (t : Bool) → (count == 8) ≡ t → (if t then Some groups.Two else (if count == 16 then Some groups.Four else None)) ≡ Some group
+        → count ≡ 4 * registers group
+    by-eight true is k = lanes-are count groups.Two group (equal count 8 is) k
+    by-eight false is k = by-sixteen (count == 16) refl k
+
+    by-four : (t : Bool) → (count == 4) ≡ t
+        → (if t then Some groups.One else (if count == 8 then Some groups.Two else (if count == 16 then Some groups.Four else None))) ≡ Some group
+        → count ≡ 4 * registers group
+    by-four true is k = lanes-are count groups.One group (equal count 4 is) k
+    by-four false is k = by-eight (count == 8) refl k

@@ -1,0 +1,4 @@
+pub mod Counting
+pub mod Pointing
+pub mod Running
+pub mod Storing

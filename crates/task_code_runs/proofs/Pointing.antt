@@ -1,0 +1,59 @@
+-- A register points where lanes begin.
+use Rattle.std.proofs.Common.{◌≡◌, ℕ, ◌+◌, ◌*◌, ◌%◌, ◌^◌, List, refl, ap, ◌∙◌, sym, arith, inl}
+use Rattle.loop_ir.specs.declared.expressions.Counter.{Counter}
+use Rattle.loop_ir.specs.Counters.{Values, with}
+use Rattle.loop_ir.specs.Expressions.{sum_of}
+use Rattle.task_code_registers.specs.declared.scopes.Form.{Form}
+use Rattle.task_code_registers.specs.declared.scopes.Held.{Held}
+use Rattle.task_code_registers.specs.Emitting.{IsNear, MakesValue}
+use Rattle.task_code_registers.specs.Holding.{IsAt}
+use Rattle.task_code_registers.specs.Registers.{address_register}
+use Rattle.task_code_registers.specs.Scopes.{AreHolders, IsFree, form_value}
+use Rattle.task_code_registers.specs.Strides.{strides, others_of}
+use Rattle.task_code_registers.proofs.Knowing.{may-hold, working-free}
+use Rattle.task_code_registers.proofs.Striding.{linear-with}
+use Rattle.task_code_values.proofs.Standing.{held-near}
+use Rattle.task_code_runs.specs.inner.Making.{MakesPointer}
+
+-- where addresses are made, no form is held
+pub address-free : (scope : List Held) → AreHolders scope → IsFree scope address_register
+address-free scope holders = working-free scope address_register holders (inl (omega arith, omega arith))
+
+module _ (scope : List Held) (counter : Counter) (form start : Form) (law : IsAt counter 0 form start) where
+  -- a register of the scope does so
+  pub pointer-near : (s d : ℕ) (c : List ℕ) → IsNear scope start s d → d ≡ 0 → MakesPointer c c scope counter s form
+  pointer-near s d c near none =
+      let x = held-near scope start address_register s d 0 c (λ hart values. form_value hart values start) near none (λ hart values. refl) in
+      record {
+        insns = x.insns;
+        emits = x.emits;
+        some = let m = may-hold s near.may in m.low;
+        low = x.source.0;
+        does = λ w m hart values f l holders knows.
+            let a = x.does w m hart (with counter 0 values) f l holders (address-free scope holders) knows in
+            record { after = a.after; line = a.line; value = a.value ∙ law.value hart 0 values; others = a.others };
+      }
+
+  -- or one is made to do so
+  pub pointer-made : (c0 c1 : List ℕ) → MakesValue c0 c1 scope start address_register → MakesPointer c0 c1 scope counter address_register form
+  pointer-made c0 c1 x = record {
+    insns = x.insns;
+    emits = x.emits;
+    some = omega arith;
+    low = omega arith;
+    does = λ w m hart values f l holders knows.
+        let a = x.does w m hart (with counter 0 values) f l holders (address-free scope holders) knows in
+        record { after = a.after; line = a.line; value = a.value ∙ law.value hart 0 values; others = a.others };
+  }
+
+-- so many iterations further, where each goes on by 4
+pub four-further : (counter : Counter) (i stride hart : ℕ) (values : Values) (form : Form) → stride ≡ strides counter form.sum.terms % 2 ^ 32 → stride ≡ 4
+    → (form_value hart (with counter 0 values) form + i * 4) % 2 ^ 32 ≡ form_value hart (with counter i values) form
+unfolding form_value
+four-further counter i stride hart values form e four =
+    let a = form.sum.number + sum_of values (others_of counter form.sum.terms) in
+    let h = hart * form.per_hart in
+    let e4 : 4 ≡ strides counter form.sum.terms % 2 ^ 32 = sym four ∙ e in
+    let g : (((a + 0 * 4) % 2 ^ 32 + h) % 2 ^ 32 + i * 4) % 2 ^ 32 ≡ ((a + i * 4) % 2 ^ 32 + h) % 2 ^ 32 = omega arith in
+    ap (λ n. ((n + h) % 2 ^ 32 + i * 4) % 2 ^ 32) (linear-with counter 0 4 values form.sum e4) ∙ g
+    ∙ sym (ap (λ n. (n + h) % 2 ^ 32) (linear-with counter i 4 values form.sum e4))

@@ -1,0 +1,331 @@
+-- What a vectorized loop's code does is what its iterations do in turn.
+use Rattle.std.proofs.Common.{◌≡◌, ℕ, ◌+◌, ◌*◌, ◌%◌, ◌^◌, ◌<◌, ◌≤◌, ◌-◌, List, [], ◌∷◌, ◌++◌, length, Bool, true, refl, ap, ◌∙◌, sym, subst, arith, inl, inr, length-append}
+use Rattle.std.specs.Prelude.{◌≢◌, ◌⊎◌, ◌&&◌, Option, Some, None}
+use Rattle.std.specs.List.{AllByRecursion, list_all}
+use Rattle.std.proofs.lemmas.Bool.{and_parts}
+use Rattle.std.proofs.lemmas.List.Folds.{list_all-append}
+use Rattle.rv_insn.specs.declared.instructions.Insn.{Insn}
+use Rattle.rv_insn.specs.declared.instructions.Insn.TheVariants.{Vector}
+use Rattle.rv_insn.specs.declared.vector_instructions.VectorInsn.TheVariants as v
+use Rattle.rv_insn.specs.declared.vector_instructions.Addressing.TheVariants as addressings
+use Rattle.rv_insn.specs.declared.vector_operations.ElementWidth.TheVariants.{Bits32}
+use Rattle.halide_pipeline.specs.declared.expressions.Source.TheVariants as sources
+use Rattle.halide_pipeline.specs.Pixel.{Planes, Reads, reads_of}
+use Rattle.loop_ir.specs.declared.expressions.Linear.{Linear}
+use Rattle.loop_ir.specs.declared.statements.LoopKind.TheVariants.{Vectorized}
+use Rattle.loop_ir.specs.declared.statements.Store.{Store}
+use Rattle.loop_ir.specs.declared.statements.Stmt.{Stmt}
+use Rattle.loop_ir.specs.declared.statements.Stmt.TheVariants as s
+use Rattle.loop_ir.specs.AtOnce.{Effect, effect}
+use Rattle.loop_ir.specs.Counters.{Values, with}
+use Rattle.loop_ir.specs.Expressions.{value, loads, linear_value}
+use Rattle.loop_ir.specs.Rounds.{is_round_count, are_apart, all_step_up, rounds, Rounds}
+use Rattle.loop_ir.specs.Running.{run}
+use Rattle.loop_ir.specs.Soundness.{is_sound, store_loads}
+use Rattle.loop_ir.proofs.AtOnce.{effect_store, in_turn}
+use Rattle.loop_ir.proofs.Rounds.{rounds_for}
+use Rattle.loop_ir.proofs.Sound.{sound_for, sound_store}
+use Rattle.loop_ir.proofs.Trees.{run_for}
+use Rattle.multi_hart_logic.specs.Paths.{end, lane, vl_number, vtype_number}
+use Rattle.multi_hart_logic.proofs.Paths.{stand-front, stand-back, end-append}
+use Rattle.task_code_scalar.specs.declared.places.Place.{Place}
+use Rattle.task_code_scalar.specs.declared.places.Places.{Places}
+use Rattle.task_code_scalar.specs.Code.{place_of, address}
+use Rattle.task_code_scalar.specs.Evaluation.{ArePlaces, Loads}
+use Rattle.task_code_scalar.specs.Doing.{Setting, IsSetting, AreRun, HoldsFuncs, stored_points}
+use Rattle.task_code_scalar.specs.Words.{Emits}
+use Rattle.task_code_scalar.proofs.Looping.{each-turn}
+use Rattle.task_code_scalar.proofs.Spelling.{emits_then}
+use Rattle.task_code_scalar.proofs.Spilling.{all-loaded}
+use Rattle.task_code_scalar.proofs.Tracing.{hit-for}
+use Rattle.task_code_registers.specs.declared.scopes.Form.{Form}
+use Rattle.task_code_registers.specs.declared.scopes.Held.{Held}
+use Rattle.task_code_registers.specs.Doing.{Did}
+use Rattle.task_code_registers.specs.Points.{IsPoint}
+use Rattle.task_code_registers.specs.Registers.{address_register, first_value, scratch}
+use Rattle.task_code_registers.specs.Scopes.{AreHolders, IsHolder, IsKept}
+use Rattle.task_code_registers.specs.Strides.{strides}
+use Rattle.task_code_registers.proofs.Going.{Hits, no_hits, Went, Does, within, went-then, went-hits, went-is, still}
+use Rattle.task_code_registers.proofs.Knowing.{may-hold, kept-apart, knows-still}
+use Rattle.task_code_registers.proofs.Looping.{did-went}
+use Rattle.task_code_values.specs.Operands.{IsSum}
+use Rattle.task_code_values.proofs.Pointing.{own-word}
+use Rattle.task_code_lanes.specs.declared.groups.Group.{Group}
+use Rattle.task_code_lanes.specs.Groups.{slot}
+use Rattle.task_code_lanes.proofs.Rows as rows
+use Rattle.task_code_lane_values.specs.declared.vectorized.Lanes.{Lanes}
+use Rattle.task_code_lane_values.specs.Leaving.{IsUnder, MakesLanes}
+use Rattle.task_code_vector.proofs.Effects.{HitBy, laid, laid-same, laid-cut}
+use Rattle.task_code_vector.proofs.RowCode.{few-lanes}
+use Rattle.task_code_vector.proofs.Runs.{same-runs, pixels-are-run, loop-runs}
+use Rattle.task_code_vector.proofs.Storing.{hits-at-once}
+use Rattle.task_code_runs.specs.AtOnce.{MayRun}
+use Rattle.task_code_runs.specs.Runs.{all_lanes, run_of, StoresAs, EmitsRun}
+use Rattle.task_code_runs.specs.inner.Making.{Configures, MakesPointer, StoresLanes}
+use Rattle.task_code_runs.proofs.Pointing.{address-free, four-further}
+use Rattle.task_code_runs.proofs.Storing.{row-saved}
+
+-- ---- parts of code, one behind the other
+
+does-then : (own : Setting) {is js : List Insn} {f : ℕ → ℕ} {memory : List ℕ} {keeps_it : ℕ → Type 0} {n k : ℕ} {middle funcs : Planes} {hits : Hits}
+    → (a : Does own is n f memory keeps_it middle no_hits) → Does own js k a.after a.left keeps_it funcs hits
+    → Does own (is ++ js) (n + k) f memory keeps_it funcs hits
+does-then own {is} {js} {f} {memory} {keeps_it} {n} {k} {middle} {funcs} {hits} a b =
+    let first : Went own (is ++ js) (λ at. at) (λ at. end at is) n f memory keeps_it middle no_hits =
+    within own (λ at. at) (λ at. end at is) (λ at s. stand-front own.world.text at is js s) (λ at. refl) a in
+    let second : Went own (is ++ js) (λ at. end at is) (λ at. end at (is ++ js)) k a.after a.left keeps_it funcs hits =
+    within own (λ at. end at is) (λ at. end at (is ++ js)) (λ at s. stand-back own.world.text at is js s) (λ at. sym (end-append at is js)) b in
+    went-hits own (λ func x y h. inr h) (went-then own first second)
+
+-- what was done, as parts know it
+went-of : {own : Setting} {code : List Insn} {n : ℕ} {f : ℕ → ℕ} {memory : List ℕ} {keeps_it : ℕ → Type 0} {funcs : Planes} {stored : ℕ → ℕ → ℕ → Bool}
+    → Did own code n f memory keeps_it funcs stored → Does own code n f memory keeps_it funcs (λ func x y. stored func x y ≡ true)
+went-of a = record {
+  after = a.after;
+  left = a.left;
+  path = a.block;
+  keeps = a.keeps;
+  holds = a.holds;
+  elsewhere = a.elsewhere;
+  are_bytes = a.are_bytes;
+  writes = λ func x y byte at hit of s. a.writes func x y byte at hit of s;
+}
+
+-- ---- what stays
+
+kept-side : (scope : List Held) (q : ℕ) → AreHolders scope → IsKept scope q → (q < first_value) ⊎ ((q ≡ vl_number) ⊎ (q ≡ vtype_number))
+kept-side [] q holders o = inl (omega (arith, o))
+kept-side (own ∷ others) q holders (inl e) = by holders.0
+  where
+    by : IsHolder own.register → (q < first_value) ⊎ ((q ≡ vl_number) ⊎ (q ≡ vtype_number))
+    by (inl may) = let m = may-hold own.register may in let high = m.high in inl (omega (arith, e, high))
+    by (inr o) = inr (elim o [ inl a ↦ inl (e ∙ a) | inr a ↦ inr (e ∙ a) ])
+kept-side (own ∷ others) q holders (inr h) = kept-side others q holders.1.1 h
+
+pub kept-under : (group : Group) (k : ℕ) (scope : List Held) (q : ℕ) → AreHolders scope → IsKept scope q → IsUnder group k q
+kept-under group k scope q holders h =
+    let a = kept-apart scope q holders h in
+    elim (kept-side scope q holders h) [ inl b ↦ inl (b, apart (side q) a.0 a.1 (address-free scope holders q h)) | inr o ↦ inr (inl o) ]
+  where
+    side : (n : ℕ) → (n < 13) ⊎ (13 ≤ n)
+    side n = grind arith
+
+    apart : (q < 13) ⊎ (13 ≤ q) → q ≢ 13 → q ≢ 14 → q ≢ 15 → (q < scratch) ⊎ (address_register < q)
+    apart (inl l) a b c = inl l
+    apart (inr l) a b c = inr (omega (arith, l, a, b, c))
+
+-- ---- what is asked of iterations
+
+module _ (own : Setting) (good : IsSetting own) (lanes_of : Lanes) (body : Stmt) (store : Store) (values : Values) (n : ℕ)
+    (agrees : StoresAs lanes_of body store values n) (may : MayRun own (run_of lanes_of body) values) (funcs : Planes) (memory : List ℕ)
+    (holds : HoldsFuncs own memory funcs) where
+  abbrev pub all : ℕ
+  all = all_lanes lanes_of
+
+  abbrev pub at : ℕ → Values
+  at k = with lanes_of.counter k values
+
+  abbrev pub reads : Reads
+  reads = reads_of own.inputs funcs
+
+  record Apart : Type 0 where
+    one : (rounds reads body).is_one_store ≡ true
+    apart : are_apart (rounds reads body) at all ≡ true
+
+  apart-parts : Apart
+  apart-parts =
+      let r = rounds reads body in
+      let e = sym (ap (λ (o : Rounds). o.may_be_at_once values) (rounds_for reads lanes_of.counter all Vectorized body)) ∙ may.at_once funcs holds.are_words in
+      let a = and_parts (is_round_count all && (r.is_one_store && (are_apart r at all && all_step_up r at all))) _ e in
+      let b = and_parts (is_round_count all) _ a.0 in
+      let d = and_parts r.is_one_store (are_apart r at all && all_step_up r at all) b.1 in
+      let g = and_parts (are_apart r at all) (all_step_up r at all) d.1 in
+      record { one = d.0; apart = g.0 }
+
+  abbrev pub xs : ℕ → ℕ
+  xs k = value reads (at k) store.x
+
+  abbrev pub ys : ℕ → ℕ
+  ys k = value reads (at k) store.y
+
+  abbrev pub pixel : ℕ → ℕ
+  pixel k = value reads (at k) store.value
+
+  -- what an iteration may store and load
+  pub record MayStore (k : ℕ) : Type 0 where
+    pub writes : own.written store.func (xs k) (ys k) ≡ true
+    pub of_value : list_all own.loaded (loads reads (at k) store.value) ≡ true
+
+  pub may-store : (k : ℕ) → k < n → MayStore k
+  may-store k few =
+      let less : k < all = let l = agrees.few in omega (arith, few, l) in
+      let whole = each-turn all (λ turn. is_sound reads own.written own.loaded body (at turn))
+      (sym (sound_for reads own.written own.loaded lanes_of.counter all Vectorized body values) ∙ may.sound funcs holds.are_words) k less in
+      let is = agrees.sound reads own.written own.loaded k few whole in
+      let t = and_parts (own.written store.func (xs k) (ys k)) (list_all own.loaded (store_loads reads (at k) store))
+      (sym (sound_store reads own.written own.loaded store (at k)) ∙ is) in
+      let p = and_parts (list_all own.loaded (loads reads (at k) store.x)) _
+      (sym (list_all-append own.loaded (loads reads (at k) store.x) (loads reads (at k) store.y ++ loads reads (at k) store.value)) ∙ t.1) in
+      let q = and_parts (list_all own.loaded (loads reads (at k) store.y)) (list_all own.loaded (loads reads (at k) store.value))
+      (sym (list_all-append own.loaded (loads reads (at k) store.y) (loads reads (at k) store.value)) ∙ p.1) in
+      record { writes = t.0; of_value = q.1 }
+
+  abbrev effects : ℕ → Option Effect
+  effects k = effect reads body (at k)
+
+  abbrev stores_at : ℕ → Option Effect
+  stores_at k = effect reads (s.Store store) (at k)
+
+  abbrev pub pixels : ℕ → Option Effect
+  pixels k = Some (record { func = store.func; x = xs k; y = ys k; pixel = pixel k })
+
+  absent : (e : Effect) → None ≡ Some e → ⊥
+  absent e is = cc is
+
+  cut : (k : ℕ) → k < all → (e : Effect) → effects k ≡ Some e → k < n
+  cut k less e is = by (side k n)
+    where
+      side : (a b : ℕ) → (a < b) ⊎ (b ≤ a)
+      side a b = grind arith
+
+      by : (k < n) ⊎ (n ≤ k) → k < n
+      by (inl l) = l
+      by (inr l) = absurd (absent e (sym (agrees.none reads k l less) ∙ is))
+
+  hit-fewer : (func x y : ℕ) → HitBy effects all func x y → HitBy stores_at n func x y
+  hit-fewer func x y hit =
+      let few = cut hit.round hit.below hit.stored hit.is in
+      record {
+        round = hit.round;
+        below = few;
+        stored = hit.stored;
+        is = sym (agrees.stores reads hit.round few) ∙ hit.is;
+        func_is = hit.func_is;
+        x_is = hit.x_is;
+        y_is = hit.y_is;
+      }
+
+  hit-more : (func x y : ℕ) → HitBy stores_at n func x y → HitBy effects all func x y
+  hit-more func x y hit = record {
+    round = hit.round;
+    below = let a = hit.below in let b = agrees.few in omega (arith, a, b);
+    stored = hit.stored;
+    is = agrees.stores reads hit.round hit.below ∙ hit.is;
+    func_is = hit.func_is;
+    x_is = hit.x_is;
+    y_is = hit.y_is;
+  }
+
+  hit-pixel : (func x y : ℕ) → HitBy stores_at n func x y → HitBy pixels n func x y
+  hit-pixel func x y hit = record {
+    round = hit.round;
+    below = hit.below;
+    stored = hit.stored;
+    is = sym (effect_store reads store (at hit.round)) ∙ hit.is;
+    func_is = hit.func_is;
+    x_is = hit.x_is;
+    y_is = hit.y_is;
+  }
+
+  -- a run of the Func is stored, or none
+  pub are-run : own.in_runs store.func ≡ true → AreRun own n store.func xs ys
+  are-run =
+      pixels-are-run own values reads store at n agrees.some
+      (same-runs own values effects stores_at all n hit-more hit-fewer
+      (loop-runs own lanes_of.counter all body values may.in_runs reads apart-parts.one funcs holds.are_words))
+
+  -- what is stored at once is what is stored in turn
+  pub laid-is : laid own.points pixels n funcs ≡ run own.points own.inputs (run_of lanes_of body) values funcs
+  laid-is =
+      let b = agrees.few in
+      let whole : (all - n) + n ≡ all = omega (arith, b) in
+      laid-same own.points pixels effects n (λ k few. sym (effect_store reads store (at k)) ∙ sym (agrees.stores reads k few)) funcs
+      ∙ sym (laid-cut own.points effects (all - n) n (λ j low high. agrees.none reads j low (omega (arith, whole, high))) funcs)
+      ∙ ap (λ k. laid own.points effects k funcs) whole
+      ∙ sym (run_for own.points own.inputs lanes_of.counter all Vectorized body values funcs
+      ∙ in_turn own.points own.inputs body at funcs all apart-parts.one apart-parts.apart)
+
+  pub all-hit : (func x y : ℕ) → stored_points own (run_of lanes_of body) values funcs func x y ≡ true → HitBy pixels n func x y
+  all-hit func x y h =
+      hit-pixel func x y (hit-fewer func x y (hits-at-once own.points own.inputs body at funcs apart-parts.one all apart-parts.apart func x y
+      (sym (hit-for own.points own.inputs func x y lanes_of.counter all Vectorized body values funcs) ∙ h)))
+
+-- ---- values and a store
+
+pub row-stored : (places : Places) (scope : List Held) (lanes_of : Lanes) (store : Store) (x y : Linear) (form : Form) (place : Place) (b u stride : ℕ)
+    (c0 c1 c2 c3 : List ℕ) → IsSum store.x x → IsSum store.y y → place ≡ place_of places (sources.Func store.func) → IsPoint place x y form
+    → stride ≡ strides lanes_of.counter form.sum.terms % 2 ^ 32 → stride ≡ 4 → u ≡ slot lanes_of.group 0
+    → MakesLanes c0 c1 places scope lanes_of 0 store.value → MakesPointer c1 c2 scope lanes_of.counter b form
+    → Emits c2 c3 (Vector (v.StoreElements Bits32 u b addressings.UnitStride true) ∷ []) → StoresLanes c0 c3 places scope lanes_of store
+row-stored places scope lanes_of store x y form place b u stride c0 c1 c2 c3 ex ey ep point es four eu p t z =
+    let last_code : List Insn = Vector (v.StoreElements Bits32 (slot lanes_of.group 0) b addressings.UnitStride true) ∷ [] in
+    record {
+      insns = p.insns ++ (t.insns ++ last_code);
+      emits = emits_then p.emits (emits_then t.emits
+          (subst (λ r. Emits c2 c3 (Vector (v.StoreElements Bits32 r b addressings.UnitStride true) ∷ [])) eu z));
+      does = λ own good at-places values body n holders agrees may f memory funcs holds knows has.
+          let w = own.world in
+          let group = lanes_of.group in
+          let reads_now : Reads = reads_of own.inputs funcs in
+          let at : ℕ → Values = (λ k. with lanes_of.counter k values) in
+          let xv : ℕ → ℕ = (λ k. value reads_now (at k) store.x) in
+          let yv : ℕ → ℕ = (λ k. value reads_now (at k) store.y) in
+          let pv : ℕ → ℕ = (λ k. value reads_now (at k) store.value) in
+          let each = may-store own good lanes_of body store values n agrees may funcs memory holds in
+          let loaded = λ (k : ℕ) (few : k < n). let q = each k few in
+          subst (λ ps. AllByRecursion (Loads w ps memory reads_now) (loads reads_now (at k) store.value)) at-places
+          (all-loaded own good [] (at k) funcs memory holds (loads reads_now (at k) store.value) q.of_value) in
+          let a = p.does w memory values reads_now n f holds.size (subst ArePlaces at-places good.are_places) holders knows has agrees.some agrees.few loaded in
+          let kept = λ (q : ℕ) (h : IsKept scope q). a.keeps q (kept-under group 0 scope q holders h) in
+          let ka = knows-still w.hart scope (at 0) f a.after kept knows in
+          let has1 = rows.lanes-kept w memory holds.size group n f a.after (a.keeps vl_number (inr (inl (inl refl)))) (a.keeps vtype_number (inr (inl (inr refl)))) has in
+          let c = t.does w memory w.hart values a.after holds.size holders ka in
+          let has2 = rows.lanes-kept w memory holds.size group n a.after c.after
+          (c.others vl_number (λ e. omega (arith, e)) (λ e. omega (arith, e)) (λ e. omega (arith, e)))
+          (c.others vtype_number (λ e. omega (arith, e)) (λ e. omega (arith, e)) (λ e. omega (arith, e))) has1 in
+          let here = λ (k : ℕ).
+          ap (λ ps. address (place_of ps (sources.Func store.func)) w.hart (xv k) (yv k)) at-places ∙ ap (λ pl. address pl w.hart (xv k) (yv k)) (sym ep)
+          ∙ ap (λ i. address place w.hart i (yv k)) (ex.value_is reads_now (at k)) ∙ ap (λ j. address place w.hart (linear_value (at k) x) j) (ey.value_is reads_now (at k)) in
+          let where-is = λ (k : ℕ) (few : k < n).
+          let q = each k few in
+          let m = good.laid.stores store.func (xv k) (yv k) q.writes in
+          ap (λ i. (i + k * 4) % 2 ^ 32) c.value ∙ four-further lanes_of.counter k stride w.hart values form es four ∙ point.value w.hart (at k)
+          ∙ own-word (address place w.hart (linear_value (at k) x) (linear_value (at k) y)) (subst (λ i. i < 2 ^ 32) (here k) m.low) ∙ sym (here k) in
+          let first : Does own p.insns (length p.insns) f memory (IsKept scope) funcs no_hits =
+          still own (λ i. i) (λ i. end i p.insns) (length p.insns) a.after holds kept (λ i st. a.line i st) in
+          let second : Does own t.insns (length t.insns) a.after memory (IsKept scope) funcs no_hits =
+          still own (λ i. i) (λ i. end i t.insns) (length t.insns) c.after holds
+          (λ q h. let u = kept-apart scope q holders h in c.others q (address-free scope holders q h) u.0 u.1) (λ i st. c.line i st) in
+          let last = row-saved own good (IsKept scope) group store.func n (let e = agrees.few in let l = few-lanes group in omega (arith, e, l)) xv yv pv
+          (λ k few. let q = each k few in q.writes) a.small (are-run own good lanes_of body store values n agrees may funcs memory holds) b c.after memory funcs t.low
+          holds has2 where-is
+          (λ k few. c.others (lane (slot group 0) k) (λ e. omega (arith, e)) (λ e. omega (arith, e)) (λ e. omega (arith, e)) ∙ a.value k few) in
+          let e = length-both p.insns t.insns (Vector (v.StoreElements Bits32 (slot group 0) b addressings.UnitStride true)) in
+          did-went (went-hits own (all-hit own good lanes_of body store values n agrees may funcs memory holds)
+          (went-is own (sym e) (laid-is own good lanes_of body store values n agrees may funcs memory holds)
+          (does-then own first (does-then own second last))));
+    }
+  where
+    length-both : (is js : List Insn) (k : Insn) → length (is ++ (js ++ (k ∷ []))) ≡ length is + (length js + 1)
+    length-both is js k =
+        let a = length-append is (js ++ (k ∷ [])) in
+        let b = length-append js (k ∷ []) in
+        omega (arith, a, b)
+
+-- ---- with lanes configured in front
+
+pub run-emitted : (places : Places) (scope : List Held) (lanes_of : Lanes) (count : Values → ℕ) (store : Store) (c0 c1 c2 : List ℕ)
+    → Configures c0 c1 scope lanes_of count → StoresLanes c1 c2 places scope lanes_of store → EmitsRun c0 c2 places scope lanes_of count store
+run-emitted places scope lanes_of count store c0 c1 c2 x y = record {
+  insns = x.insns ++ y.insns;
+  emits = emits_then x.emits y.emits;
+  does = λ own good at-places values body holders agrees may f memory funcs holds knows.
+      let w = own.world in
+      let at0 = with lanes_of.counter 0 values in
+      let a = x.does w memory values f holds.size holders knows in
+      let first : Does own x.insns (length x.insns) f memory (IsKept scope) funcs no_hits =
+      still own (λ i. i) (λ i. end i x.insns) (length x.insns) a.after holds a.keeps (λ i st. a.line i st) in
+      let ka = knows-still w.hart scope at0 f a.after a.keeps knows in
+      let b = y.does own good at-places values body (count values) holders agrees may a.after memory funcs holds ka a.has in
+      did-went (went-is own (sym (length-append x.insns y.insns)) refl (does-then own first (went-of b)));
+}

@@ -1,0 +1,3 @@
+pub mod AtOnce
+pub mod Runs
+pub mod inner

@@ -1,0 +1,61 @@
+-- What appended code does of a vectorized loop, whatever its instructions are: all iterations at once. This project's own.
+use Rattle.std.specs.Prelude.{◌≡◌, ◌<◌, ◌≤◌, ℕ, ◌*◌, min, true, List, length, None}
+use Rattle.rv_insn.specs.declared.instructions.Insn.{Insn}
+use Rattle.halide_pipeline.specs.Pixel.{Planes, Reads}
+use Rattle.halide_pipeline.specs.Points.{Point}
+use Rattle.std.specs.Prelude.{Bool}
+use Rattle.loop_ir.specs.declared.expressions.Linear.{Linear}
+use Rattle.loop_ir.specs.declared.statements.LoopKind.TheVariants.{Vectorized}
+use Rattle.loop_ir.specs.declared.statements.Stmt.{Stmt}
+use Rattle.loop_ir.specs.declared.statements.Stmt.TheVariants as statements
+use Rattle.loop_ir.specs.declared.statements.Store.{Store}
+use Rattle.loop_ir.specs.AtOnce.{effect}
+use Rattle.loop_ir.specs.Buffers.{Points}
+use Rattle.loop_ir.specs.Counters.{Values, with}
+use Rattle.loop_ir.specs.Expressions.{linear_value}
+use Rattle.loop_ir.specs.Running.{run}
+use Rattle.loop_ir.specs.Soundness.{is_sound}
+use Rattle.task_code_scalar.specs.declared.places.Places.{Places}
+use Rattle.task_code_scalar.specs.Doing.{Setting, IsSetting, HoldsFuncs, stored_points}
+use Rattle.task_code_scalar.specs.Words.{Emits}
+use Rattle.task_code_registers.specs.declared.scopes.Held.{Held}
+use Rattle.task_code_registers.specs.Doing.{Did}
+use Rattle.task_code_registers.specs.Scopes.{Knows, AreHolders, IsKept}
+use Rattle.task_code_lanes.specs.Groups.{registers}
+use Rattle.task_code_lane_values.specs.declared.vectorized.Lanes.{Lanes}
+use Rattle.task_code_runs.specs.AtOnce.{MayRun}
+
+-- how many iterations there are lanes for
+abbrev pub all_lanes : Lanes → ℕ
+all_lanes own = 4 * registers own.group
+
+-- as many of them as a sum says in the first one
+abbrev pub left_lanes : Lanes → Linear → Values → ℕ
+left_lanes own left values = min (linear_value (with own.counter 0 values) left) (all_lanes own)
+
+-- the vectorized loop of so many
+abbrev pub run_of : Lanes → Stmt → Stmt
+run_of own body = statements.For own.counter (all_lanes own) Vectorized body
+
+-- In each of the first so many iterations, of which there is one, a body stores what a store stores and is sound only if that is. In the others
+-- it stores nothing.
+pub record StoresAs (own : Lanes) (body : Stmt) (store : Store) (values : Values) (count : ℕ) : Type 0 where
+  pub some : 1 ≤ count
+  pub few : count ≤ all_lanes own
+  pub stores : (reads : Reads) (i : ℕ) → i < count
+      → effect reads body (with own.counter i values) ≡ effect reads (statements.Store store) (with own.counter i values)
+  pub sound : (reads : Reads) (written : Points) (loaded : Point → Bool) (i : ℕ) → i < count
+      → is_sound reads written loaded body (with own.counter i values) ≡ true
+      → is_sound reads written loaded (statements.Store store) (with own.counter i values) ≡ true
+  pub none : (reads : Reads) (i : ℕ) → count ≤ i → i < all_lanes own → effect reads body (with own.counter i values) ≡ None
+
+-- Appended code does a vectorized loop whose body stores as a store does in so many iterations, wherever registers hold the scope's forms in the first
+-- of them, and keeps these registers.
+pub record EmitsRun (old new : List ℕ) (places : Places) (scope : List Held) (own : Lanes) (count : Values → ℕ) (store : Store) : Type 0 where
+  pub insns : List Insn
+  pub emits : Emits old new insns
+  pub does : (setting : Setting) → IsSetting setting → setting.places ≡ places → (values : Values) (body : Stmt) → AreHolders scope
+      → StoresAs own body store values (count values) → MayRun setting (run_of own body) values
+      → (f : ℕ → ℕ) (memory : List ℕ) (funcs : Planes) → HoldsFuncs setting memory funcs → Knows setting.world.hart scope (with own.counter 0 values) f
+      → Did setting insns (length insns) f memory (IsKept scope) (run setting.points setting.inputs (run_of own body) values funcs)
+      (stored_points setting (run_of own body) values funcs)

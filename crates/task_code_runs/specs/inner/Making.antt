@@ -1,0 +1,82 @@
+-- What parts of a run's code do. This project's own.
+use Rattle.std.specs.Prelude.{◌≡◌, ◌≢◌, ◌<◌, ◌≤◌, ℕ, ◌&&◌, Bool, true, List, [], ◌∷◌, length}
+use Rattle.rv_insn.specs.declared.instructions.Insn.{Insn}
+use Rattle.halide_pipeline.specs.Pixel.{Planes}
+use Rattle.loop_ir.specs.declared.expressions.Counter.{Counter}
+use Rattle.loop_ir.specs.declared.statements.Stmt.{Stmt}
+use Rattle.loop_ir.specs.declared.statements.Store.{Store}
+use Rattle.loop_ir.specs.Counters.{Values, with}
+use Rattle.loop_ir.specs.Running.{run}
+use Rattle.multi_hart_logic.specs.Alone.{World}
+use Rattle.multi_hart_logic.specs.Paths.{Line}
+use Rattle.task_code_scalar.specs.declared.places.Places.{Places}
+use Rattle.task_code_scalar.specs.Doing.{Setting, IsSetting, HoldsFuncs, stored_points}
+use Rattle.task_code_scalar.specs.Words.{Emits}
+use Rattle.task_code_registers.specs.declared.scopes.Form.{Form}
+use Rattle.task_code_registers.specs.declared.scopes.Held.{Held}
+use Rattle.task_code_registers.specs.Doing.{Did}
+use Rattle.task_code_registers.specs.Registers.{scratch, second_scratch, address_register, may_hold}
+use Rattle.task_code_registers.specs.Scopes.{Knows, AreHolders, IsKept, form_value}
+use Rattle.task_code_lanes.specs.declared.groups.Group.{Group}
+use Rattle.task_code_lanes.specs.declared.groups.Group.TheVariants as groups
+use Rattle.task_code_lanes.specs.Leaving.{HasLanes}
+use Rattle.task_code_lane_values.specs.declared.vectorized.Lanes.{Lanes}
+use Rattle.task_code_runs.specs.AtOnce.{MayRun}
+use Rattle.task_code_runs.specs.Runs.{StoresAs, run_of}
+
+abbrev pub group_lanes : Group → ℕ
+group_lanes groups.One = 4
+group_lanes groups.Two = 8
+group_lanes groups.Four = 16
+
+-- registers hold all forms of a scope, and neither the number of lanes nor their configuration does
+abbrev pub are_registers : List Held → Bool
+are_registers [] = true
+are_registers (own ∷ others) = may_hold own.register && are_registers others
+
+-- ---- how many lanes
+
+-- straight code that configures so many lanes; of registers the scratch registers and that of addresses may change
+pub record Configured (world : World) (memory : List ℕ) (insns : List Insn) (scope : List Held) (f : ℕ → ℕ) (group : Group) (count : ℕ) : Type 0 where
+  pub after : ℕ → ℕ
+  pub line : Line world insns f memory after memory
+  pub has : HasLanes group count after
+  pub keeps : (q : ℕ) → IsKept scope q → after q ≡ f q
+
+-- appended code does so, from what registers hold in the first iteration
+pub record Configures (old new : List ℕ) (scope : List Held) (own : Lanes) (count : Values → ℕ) : Type 0 where
+  pub insns : List Insn
+  pub emits : Emits old new insns
+  pub does : (world : World) (memory : List ℕ) (values : Values) (f : ℕ → ℕ) → length memory ≡ world.size → AreHolders scope
+      → Knows world.hart scope (with own.counter 0 values) f → Configured world memory insns scope f own.group (count values)
+
+-- ---- where lanes begin
+
+-- straight code behind which a register points at v
+pub record Points (world : World) (memory : List ℕ) (insns : List Insn) (f : ℕ → ℕ) (b v : ℕ) : Type 0 where
+  pub after : ℕ → ℕ
+  pub line : Line world insns f memory after memory
+  pub value : after b ≡ v
+  pub others : (q : ℕ) → q ≢ address_register → q ≢ scratch → q ≢ second_scratch → after q ≡ f q
+
+-- appended code makes a register point where a form stands in the first iteration
+pub record MakesPointer (old new : List ℕ) (scope : List Held) (counter : Counter) (b : ℕ) (form : Form) : Type 0 where
+  pub insns : List Insn
+  pub emits : Emits old new insns
+  pub some : 1 ≤ b
+  pub low : b < 32
+  pub does : (world : World) (memory : List ℕ) (hart : ℕ) (values : Values) (f : ℕ → ℕ) → length memory ≡ world.size → AreHolders scope
+      → Knows hart scope (with counter 0 values) f → Points world memory insns f b (form_value hart (with counter 0 values) form)
+
+-- ---- values and a store
+
+-- Appended code does what a vectorized loop does, with as many lanes as iterations store.
+pub record StoresLanes (old new : List ℕ) (places : Places) (scope : List Held) (own : Lanes) (store : Store) : Type 0 where
+  pub insns : List Insn
+  pub emits : Emits old new insns
+  pub does : (setting : Setting) → IsSetting setting → setting.places ≡ places → (values : Values) (body : Stmt) (count : ℕ) → AreHolders scope
+      → StoresAs own body store values count → MayRun setting (run_of own body) values
+      → (f : ℕ → ℕ) (memory : List ℕ) (funcs : Planes) → HoldsFuncs setting memory funcs → Knows setting.world.hart scope (with own.counter 0 values) f
+      → HasLanes own.group count f
+      → Did setting insns (length insns) f memory (IsKept scope) (run setting.points setting.inputs (run_of own body) values funcs)
+      (stored_points setting (run_of own body) values funcs)

@@ -1,0 +1,97 @@
+//! How many lanes a run has.
+
+ghost use Rattle.std.specs.Prelude.{◌≡◌, [], ◌∷◌, OnOk, true};
+ghost use Rattle.rv_insn.specs.declared.instructions.Insn.TheVariants.{Vector as vector_row};
+ghost use Rattle.rv_insn.specs.declared.vector_instructions.VectorInsn.TheVariants as v;
+ghost use Rattle.task_code_lanes.specs.Groups as groups;
+ghost use Rattle.task_code_scalar.specs.Words.{Emits};
+ghost use Rattle.task_code_runs.specs.Runs.{all_lanes, left_lanes};
+ghost use Rattle.task_code_runs.specs.inner.Making as spec;
+ghost use Rattle.task_code_runs.specs.inner.Making.{Configures};
+
+use crate::pointers::emit_pointer;
+use loop_ir::expressions::Linear;
+use rv_insn::{Insn, Length5, VectorInsn, Vtype10};
+use std::alloc::{AllocError, Global};
+use task_code_lane_values::vectorized::Lanes;
+use task_code_lanes::groups::Group;
+use task_code_lanes::vectors::configure;
+use task_code_registers::registers::may_hold;
+use task_code_registers::scopes::{Form, Held};
+use task_code_scalar::CodeFault;
+use task_code_scalar::instructions::{put, register};
+
+/// Whether registers hold all forms of a scope, and neither the number of lanes nor their configuration does.
+pub fn are_registers(scope: &[Held]) -> bool
+    ensures { result ≡ spec.are_registers scope.now }
+{
+    match scope {
+        [] => true,
+        [first, others @ ..] => may_hold(first.register) && are_registers(others),
+    }
+}
+
+/// The configuration of lanes of 32 bits in such groups.
+fn vtype(group: Group) -> Vtype10
+    ensures { result ≡ groups.vtype_of group }
+{
+    let bits = match group {
+        Group::One => 16,
+        Group::Two => 17,
+        Group::Four => 18,
+    };
+    Vtype10::new(bits).unwrap()
+}
+
+/// As many lanes as groups have.
+fn lane_count(group: Group) -> Length5
+    ensures { result ≡ spec.group_lanes group }
+{
+    let count = match group {
+        Group::One => 4,
+        Group::Two => 8,
+        Group::Four => 16,
+    };
+    Length5::new(count).unwrap()
+}
+
+/// Appends the instruction that configures as many lanes as groups have.
+fn put_all(code: &mut Vec<u32>, group: Group) -> Result<(), AllocError>
+    ensures { OnOk result (Emits code.old.items code.new.items
+        (vector_row (v.Vsetivli 0 (spec.group_lanes group) (groups.vtype_of group)) ∷ [])) }
+{
+    let insn = VectorInsn::Vsetivli {
+        rd: register(0),
+        length: lane_count(group),
+        vtype: vtype(group),
+    };
+    put(code, &Insn::Vector(insn))?;
+    Ok(())
+}
+
+/// Appends what configures a lane for each iteration.
+pub fn emit_all_lanes(code: &mut Vec<u32>, scope: &[Held], own: Lanes) -> Result<(), AllocError>
+    requires { spec.are_registers scope.now ≡ true }
+    ensures { OnOk result (Configures code.old.items code.new.items scope.now own (λ values. all_lanes own)) }
+{
+    put_all(code, own.group)?;
+    Ok(())
+}
+
+/// Appends what configures a lane for each of as many iterations as a sum says in the first one, or for each.
+pub fn emit_left_lanes(
+    alloc: Global,
+    code: &mut Vec<u32>,
+    scope: &[Held],
+    own: Lanes,
+    left: &Linear,
+) -> Result<(), CodeFault>
+    requires { spec.are_registers scope.now ≡ true }
+    ensures { OnOk result (Configures code.old.items code.new.items scope.now own (left_lanes own left.now)) }
+{
+    let sum = left.copy(alloc)?;
+    let form = Form { sum, per_hart: 0 };
+    let register = emit_pointer(alloc, code, scope, own.counter, &form)?;
+    configure(code, own.group, register)?;
+    Ok(())
+}

@@ -1,0 +1,9 @@
+//! Vectorized loops whose iterations store all at once, each in a lane. Contracts say what the appended code does, and
+//! not which instructions it has.
+//!
+//! - [`runs`]: appends what does such a loop (`specs/Runs.antt`).
+#![tactic(auto)]
+
+mod configuring;
+mod pointers;
+pub mod runs;
