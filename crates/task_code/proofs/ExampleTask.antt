@@ -34,7 +34,7 @@ use Rattle.task_code_scalar.specs.Fitting.{has_room, is_word}
 use Rattle.task_code.specs.inner.Fitting.{fits_task, task_turns}
 use Rattle.task_code_scalar.specs.Layout.{func_point, address_of, size_of, IsAt, MayStore, MayLoad, Laid}
 use Rattle.task_code_scalar.specs.Doing.{IsSetting, MayBeWrittenAtOnce, SoundIn, HoldsFuncs}
-use Rattle.task_code_statements.specs.Tasks.{AtOnceIn}
+use Rattle.task_code_runs.specs.AtOnce.{AtOnceIn}
 use Rattle.task_code.specs.Example.{example_counter, counted, example_store, example_phase, example_place, example_places, example_ticket, example_text, example_data, example_world, nothing, its_points, is_its_point, example_setting, ExampleIsDone}
 use Rattle.task_code_scalar.proofs.Spelling.{stand-spelled}
 use Rattle.task_code.proofs.Unrolled.{code-store, fits-store, turns-store}

@@ -34,7 +34,7 @@ use Rattle.task_code.specs.inner.Code.{stmt_turns}
 use Rattle.task_code.specs.inner.Fitting.{fits}
 use Rattle.task_code_scalar.specs.Layout.{AreWords}
 use Rattle.task_code_scalar.specs.Doing.{Setting, IsSetting, SoundIn, RunsIn, HoldsFuncs, stored_points}
-use Rattle.task_code_statements.specs.Tasks.{AtOnceIn}
+use Rattle.task_code_runs.specs.AtOnce.{AtOnceIn}
 use Rattle.task_code.specs.inner.Doing.{StatementsAreDone}
 use Rattle.task_code_scalar.proofs.Keeping.{knows-still}
 use Rattle.task_code_scalar.proofs.Going.{Hits, hits_if, Does, went-hits, went-is, does-then}

@@ -1,6 +1,6 @@
 -- What is asked of a statement is asked of its parts, and what its parts do is what it does.
 use Rattle.std.proofs.Common.{◌≡◌, ℕ, ◌<◌, List, true, false, ap, ◌∙◌, sym, subst}
-use Rattle.std.specs.Prelude.{◌==◌, ◌&&◌, not, if◌then◌else◌, nat_lt}
+use Rattle.std.specs.Prelude.{◌==◌, ◌&&◌, ◌||◌, not, if◌then◌else◌, nat_lt}
 use Rattle.std.proofs.lemmas.Bool.{and_parts}
 use Rattle.rv_insn.specs.declared.instructions.Insn.{Insn}
 use Rattle.halide_pipeline.specs.Pixel.{Planes, reads_of}
@@ -11,16 +11,18 @@ use Rattle.loop_ir.specs.declared.statements.Stmt.TheVariants as s
 use Rattle.loop_ir.specs.declared.statements.Whole.{Whole}
 use Rattle.loop_ir.specs.Buffers.{Points}
 use Rattle.loop_ir.specs.Counters.{Values, with}
-use Rattle.loop_ir.specs.Rounds.{is_vectorized}
+use Rattle.loop_ir.specs.Rounds.{Rounds, rounds, is_vectorized, is_round_count, are_apart, all_step_up, may_be_at_once}
 use Rattle.loop_ir.specs.Runs.{Runs, runs, are_same, stores_in_runs}
 use Rattle.loop_ir.specs.Running.{whole_value}
 use Rattle.loop_ir.specs.Soundness.{every, is_sound}
+use Rattle.loop_ir.proofs.Rounds.{rounds_sequence, rounds_for, rounds_bind}
 use Rattle.loop_ir.proofs.Runs.{runs_sequence, runs_for, runs_bind}
 use Rattle.loop_ir.proofs.Sound.{sound_sequence, sound_for, sound_bind}
 use Rattle.task_code_scalar.specs.Doing.{Setting, SoundIn, RunsIn}
 use Rattle.task_code_scalar.specs.Layout.{AreWords}
 use Rattle.task_code_scalar.proofs.Looping.{each-turn}
 use Rattle.task_code_registers.specs.Doing.{Did}
+use Rattle.task_code_runs.specs.AtOnce.{AtOnceIn, MayRun}
 
 -- ---- code that did something
 
@@ -46,12 +48,12 @@ module _ {own : Setting} {code : List Insn} {f : ℕ → ℕ} {memory : List ℕ
 
 module _ (own : Setting) where
   module _ (first second : Stmt) (values : Values) where
-    pub sound-first : SoundIn own (s.Sequence first second) values → SoundIn own first values
+    sound-first : SoundIn own (s.Sequence first second) values → SoundIn own first values
     sound-first sound p words =
         (and_parts (is_sound (reads_of own.inputs p) own.written own.loaded first values) (is_sound (reads_of own.inputs p) own.written own.loaded second values)
         (sym (sound_sequence (reads_of own.inputs p) own.written own.loaded first second values) ∙ sound p words)).0
 
-    pub sound-second : SoundIn own (s.Sequence first second) values → SoundIn own second values
+    sound-second : SoundIn own (s.Sequence first second) values → SoundIn own second values
     sound-second sound p words =
         (and_parts (is_sound (reads_of own.inputs p) own.written own.loaded first values) (is_sound (reads_of own.inputs p) own.written own.loaded second values)
         (sym (sound_sequence (reads_of own.inputs p) own.written own.loaded first second values) ∙ sound p words)).1
@@ -65,20 +67,40 @@ module _ (own : Setting) where
         (sym (ap (λ (r : Runs). r.are_runs values) (runs_sequence (reads_of own.inputs p) func x y (own.run func x y) first second))
         ∙ sure p words func in_runs x y)
 
-    pub runs-first : RunsIn own (s.Sequence first second) values → RunsIn own first values
+    runs-first : RunsIn own (s.Sequence first second) values → RunsIn own first values
     runs-first sure p words func in_runs x y = (runs-both sure p words func in_runs x y).0
 
-    pub runs-second : RunsIn own (s.Sequence first second) values → RunsIn own second values
+    runs-second : RunsIn own (s.Sequence first second) values → RunsIn own second values
     runs-second sure p words func in_runs x y = (runs-both sure p words func in_runs x y).1
 
+    once-both : AtOnceIn own (s.Sequence first second) values → (p : Planes) → AreWords p
+        → (may_be_at_once (reads_of own.inputs p) first values ≡ true) × (may_be_at_once (reads_of own.inputs p) second values ≡ true)
+    once-both once p words =
+        and_parts (may_be_at_once (reads_of own.inputs p) first values) (may_be_at_once (reads_of own.inputs p) second values)
+        (sym (ap (λ (r : Rounds). r.may_be_at_once values) (rounds_sequence (reads_of own.inputs p) first second)) ∙ once p words)
+
+    pub may-first : MayRun own (s.Sequence first second) values → MayRun own first values
+    may-first may = record {
+      sound = sound-first may.sound;
+      at_once = λ p words. (once-both may.at_once p words).0;
+      in_runs = runs-first may.in_runs;
+    }
+
+    pub may-second : MayRun own (s.Sequence first second) values → MayRun own second values
+    may-second may = record {
+      sound = sound-second may.sound;
+      at_once = λ p words. (once-both may.at_once p words).1;
+      in_runs = runs-second may.in_runs;
+    }
+
   module _ (counter : Counter) (count : ℕ) (kind : LoopKind) (body : Stmt) (values : Values) where
-    pub sound-each : SoundIn own (s.For counter count kind body) values → (i : ℕ) → i < count → SoundIn own body (with counter i values)
+    sound-each : SoundIn own (s.For counter count kind body) values → (i : ℕ) → i < count → SoundIn own body (with counter i values)
     sound-each sound i less p words =
         each-turn count (λ turn. is_sound (reads_of own.inputs p) own.written own.loaded body (with counter turn values))
         (sym (sound_for (reads_of own.inputs p) own.written own.loaded counter count kind body values) ∙ sound p words) i less
 
     -- iterations of a loop that is not vectorized store in runs as it does
-    pub runs-each : RunsIn own (s.For counter count kind body) values → is_vectorized kind ≡ false → (i : ℕ) → i < count
+    runs-each : RunsIn own (s.For counter count kind body) values → is_vectorized kind ≡ false → (i : ℕ) → i < count
         → RunsIn own body (with counter i values)
     runs-each sure plain i less p words func in_runs x y =
         let r = runs (reads_of own.inputs p) func x y (own.run func x y) body in
@@ -88,18 +110,44 @@ module _ (own : Setting) where
         ∙ sym (ap (λ (a : Runs). a.are_runs values) (runs_for (reads_of own.inputs p) func x y (own.run func x y) counter count kind body))
         ∙ sure p words func in_runs x y) i less
 
+    once-each : AtOnceIn own (s.For counter count kind body) values → (i : ℕ) → i < count → AtOnceIn own body (with counter i values)
+    once-each once i less p words =
+        let reads = reads_of own.inputs p in
+        let at : ℕ → Values = (λ turn. with counter turn values) in
+        let r = rounds reads body in
+        each-turn count (λ turn. may_be_at_once reads body (at turn))
+        (and_parts (not (is_vectorized kind) || (is_round_count count && (r.is_one_store && (are_apart r at count && all_step_up r at count))))
+        (every count (λ turn. may_be_at_once reads body (at turn)))
+        (sym (ap (λ (r : Rounds). r.may_be_at_once values) (rounds_for reads counter count kind body)) ∙ once p words)).1 i less
+
+    pub may-each : MayRun own (s.For counter count kind body) values → is_vectorized kind ≡ false → (i : ℕ) → i < count
+        → MayRun own body (with counter i values)
+    may-each may plain i less = record {
+      sound = sound-each may.sound i less;
+      at_once = once-each may.at_once i less;
+      in_runs = runs-each may.in_runs plain i less;
+    }
+
   module _ (counter : Counter) (whole : Whole) (extent : ℕ) (body : Stmt) (values : Values)
       (passes : nat_lt (whole_value whole values) extent ≡ true) where
     abbrev entered : Values
     entered = with counter (whole_value whole values) values
 
-    pub sound-split : SoundIn own (s.Bind counter whole extent body) values → SoundIn own body entered
+    sound-split : SoundIn own (s.Bind counter whole extent body) values → SoundIn own body entered
     sound-split sound p words =
         sym (ap (λ b. if b then is_sound (reads_of own.inputs p) own.written own.loaded body entered else true) passes)
         ∙ sym (sound_bind (reads_of own.inputs p) own.written own.loaded counter whole extent body values) ∙ sound p words
 
-    pub runs-split : RunsIn own (s.Bind counter whole extent body) values → RunsIn own body entered
+    runs-split : RunsIn own (s.Bind counter whole extent body) values → RunsIn own body entered
     runs-split sure p words func in_runs x y =
         sym (ap (λ b. if b then stores_in_runs (reads_of own.inputs p) func x y (own.run func x y) body entered else true) passes)
         ∙ sym (ap (λ (r : Runs). r.are_runs values) (runs_bind (reads_of own.inputs p) func x y (own.run func x y) counter whole extent body))
         ∙ sure p words func in_runs x y
+
+    once-split : AtOnceIn own (s.Bind counter whole extent body) values → AtOnceIn own body entered
+    once-split once p words =
+        sym (ap (λ b. if b then may_be_at_once (reads_of own.inputs p) body entered else true) passes)
+        ∙ sym (ap (λ (r : Rounds). r.may_be_at_once values) (rounds_bind (reads_of own.inputs p) counter whole extent body)) ∙ once p words
+
+    pub may-split : MayRun own (s.Bind counter whole extent body) values → MayRun own body entered
+    may-split may = record { sound = sound-split may.sound; at_once = once-split may.at_once; in_runs = runs-split may.in_runs }

@@ -19,7 +19,7 @@ use Rattle.task_code_statements.specs.declared.contexts.Context.{Context}
 use Rattle.task_code_statements.specs.Contexts.{Meets, MeetsSum}
 use Rattle.task_code_statements.specs.Laying.{LaysOut}
 use Rattle.task_code_statements.specs.Statements.{EmitsStatement}
-use Rattle.task_code_statements.proofs.Following.{did-is, sound-each, runs-each}
+use Rattle.task_code_statements.proofs.Following.{did-is, may-each}
 use Rattle.task_code_statements.proofs.Nesting.{one, body_stored, all_stored, stores-all}
 
 module _ (places : Places) (scope : List Held) (is_so : Values → Type 0) (counter : Counter) (body : Stmt) where
@@ -28,7 +28,7 @@ module _ (places : Places) (scope : List Held) (is_so : Values → Type 0) (coun
     insns = [];
     emits = emits-none c;
     turns = λ values. 0;
-    does = λ own good at-places values holders meets sound sure.
+    does = λ own good at-places values holders meets may.
         none-are-laid-out own own.world.hart scope values (one own counter body values) (body_stored own counter body values) (all_stored own counter body
         values) (stores-all own counter body values);
   }
@@ -41,14 +41,14 @@ module _ (places : Places) (scope : List Held) (is_so : Values → Type 0) (coun
     insns = x.insns ++ y.insns;
     emits = emits_then x.emits y.emits;
     turns = λ values. x.turns values + y.turns (with counter k values);
-    does = λ own good at-places values holders meets sound sure.
+    does = λ own good at-places values holders meets may.
         one-more-is-laid-out own own.world.hart scope counter values k (x.turns values) (y.turns (with counter k values)) x.insns y.insns
         (one own counter body values) (body_stored own counter body values) (all_stored own counter body values) none (stores-all own counter body values)
-        (x.does own good at-places values holders meets (λ i less. sound i (omega (arith, less))) (λ i less. sure i (omega (arith, less))))
+        (x.does own good at-places values holders meets (λ i less. may i (omega (arith, less))))
         (λ f memory funcs holds known.
         y.does own good at-places (with counter k values) holders
         (enters values meets)
-        (sound k (omega arith)) (sure k (omega arith)) f memory funcs holds known);
+        (may k (omega arith)) f memory funcs holds known);
   }
 
   pub laid-emits : (count : ℕ) (kind : LoopKind) (c0 c1 : List ℕ) → is_vectorized kind ≡ false → LaysOut c0 c1 places scope is_so counter body count
@@ -57,11 +57,10 @@ module _ (places : Places) (scope : List Held) (is_so : Values → Type 0) (coun
     insns = x.insns;
     emits = x.emits;
     turns = x.turns;
-    does = λ own good at-places values holders meets sound sure f memory funcs holds knows.
+    does = λ own good at-places values holders meets may f memory funcs holds knows.
         did-is refl (sym (run_for own.points own.inputs counter count kind body values funcs))
         (λ func i j h. sym (hit-for own.points own.inputs func i j counter count kind body values funcs) ∙ h)
-        ((x.does own good at-places values holders meets (sound-each own counter count kind body values sound)
-        (runs-each own counter count kind body values sure plain)).does f memory funcs holds knows);
+        ((x.does own good at-places values holders meets (may-each own counter count kind body values may plain)).does f memory funcs holds knows);
   }
 
 -- a variable that stands at a number is as known

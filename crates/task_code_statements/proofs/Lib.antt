@@ -6,3 +6,5 @@ pub mod Same
 pub mod Splitting
 pub mod Storing
 pub mod Tasking
+pub mod AtOnce
+pub mod Without

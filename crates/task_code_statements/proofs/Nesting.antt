@@ -29,7 +29,7 @@ use Rattle.task_code_loops.specs.Ending.{EndsLoop, MakesLoop}
 use Rattle.task_code_loops.proofs.Following.{code-follows}
 use Rattle.task_code_loops.proofs.Looped.{loops-are-made}
 use Rattle.task_code_statements.specs.Statements.{EmitsStatement}
-use Rattle.task_code_statements.proofs.Following.{did-is, sound-first, sound-second, runs-first, runs-second, sound-each, runs-each}
+use Rattle.task_code_statements.proofs.Following.{did-is, may-first, may-second, may-each}
 
 -- ---- one behind the other
 
@@ -40,15 +40,15 @@ sequence-emits places scope is_so first second c0 c1 c2 x y = record {
   insns = x.insns ++ y.insns;
   emits = emits_then x.emits y.emits;
   turns = λ values. x.turns values + y.turns values;
-  does = λ own good at values holders meets sound sure f memory funcs holds knows.
+  does = λ own good at values holders meets may f memory funcs holds knows.
       let middle = run own.points own.inputs first values funcs in
       did-is refl (sym (run_sequence own.points own.inputs first second values funcs)) (λ func i j hit. hit)
       (code-follows own own.world.hart scope values x.insns y.insns (x.turns values) (y.turns values) f memory middle
       (run own.points own.inputs second values middle) (stored_points own (s.Sequence first second) values funcs) (stored_points own first values funcs)
       (stored_points own second values middle) knows
-      (x.does own good at values holders meets (sound-first own first second values sound) (runs-first own first second values sure) f memory funcs holds knows)
+      (x.does own good at values holders meets (may-first own first second values may) f memory funcs holds knows)
       (λ g left holding known.
-      y.does own good at values holders meets (sound-second own first second values sound) (runs-second own first second values sure) g left middle holding known)
+      y.does own good at values holders meets (may-second own first second values may) g left middle holding known)
       (λ func i j h. or_cases (hit own.points own.inputs func i j first values funcs) (hit own.points own.inputs func i j second values middle)
       (sym (hit-sequence own.points own.inputs func i j first second values funcs) ∙ h)));
 }
@@ -93,7 +93,7 @@ none-emits places scope is_so counter count kind body c none =
       insns = [];
       emits = emits-none c;
       turns = λ values. 0;
-      does = λ own good at-places values holders meets sound sure f memory funcs holds knows.
+      does = λ own good at-places values holders meets may f memory funcs holds knows.
           did-is refl (sym (run_for own.points own.inputs counter zero kind body values funcs))
           (λ func i j h. sym (hit-for own.points own.inputs func i j counter zero kind body values funcs) ∙ h)
           (did-went (went-hits own (λ func i j h. (stores-all own counter body values).none funcs func i j h)
@@ -108,7 +108,7 @@ module _ (places : Places) (scope inner : List Held) (is_so within_so : Values �
     insns = loop.insns;
     emits = loop.emits;
     turns = λ values. loop.before + total count (λ i. x.turns (with counter i values) + loop.cost i);
-    does = λ own good at-places values holders meets sound sure f memory funcs holds knows.
+    does = λ own good at-places values holders meets may f memory funcs holds knows.
         did-is refl (sym (run_for own.points own.inputs counter count kind body values funcs))
         (λ func i j h. sym (hit-for own.points own.inputs func i j counter count kind body values funcs) ∙ h)
         (loop.does own own.world.hart values (λ i. x.turns (with counter i values)) (one own counter body values) (body_stored own counter body values)
@@ -116,7 +116,7 @@ module _ (places : Places) (scope inner : List Held) (is_so within_so : Values �
         (record {
           does = λ i g m p less o known.
               x.does own good at-places (with counter i values) (loop.holders holders) (within-meets values i less meets)
-              (sound-each own counter count kind body values sound i less) (runs-each own counter count kind body values sure plain i less) g m p o known;
+              (may-each own counter count kind body values may plain i less) g m p o known;
         })
         (stores-all own counter body values) f memory funcs holds knows);
   }

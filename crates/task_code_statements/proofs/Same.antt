@@ -51,11 +51,11 @@ same-sum known own form made is x = record {
 abbrev point : Source → ℕ → ℕ → Point
 point source x y = record { source = source; x = x; y = y }
 
-loads_number : (reads : Reads) (values : Values) (n : ℕ) → loads reads values (e.Number n) ≡ []
+pub loads_number : (reads : Reads) (values : Values) (n : ℕ) → loads reads values (e.Number n) ≡ []
 unfolding seen
 loads_number reads values n = ap (λ (s : Seen). s.points) (at_number Seen (seen_at reads values) n)
 
-loads_linear : (reads : Reads) (values : Values) (own : Linear) → loads reads values (e.Linear own) ≡ []
+pub loads_linear : (reads : Reads) (values : Values) (own : Linear) → loads reads values (e.Linear own) ≡ []
 unfolding seen
 loads_linear reads values own = ap (λ (s : Seen). s.points) (at_linear Seen (seen_at reads values) own)
 

@@ -31,7 +31,7 @@ use Rattle.task_code_statements.specs.Contexts.{MeetsSum, Meets}
 use Rattle.task_code_statements.specs.Rewriting.{IsSameSum}
 use Rattle.task_code_statements.specs.Splits.{IsSplitSum}
 use Rattle.task_code_statements.specs.Statements.{EmitsStatement}
-use Rattle.task_code_statements.proofs.Following.{did-is, sound-split, runs-split}
+use Rattle.task_code_statements.proofs.Following.{did-is, may-split}
 use Rattle.task_code_statements.proofs.Same.{form-sum}
 
 -- ---- values
@@ -56,13 +56,13 @@ split-is context known whole own made ek es none same = record {
       same.value_is values (subst (λ k. AreKnown k values) (sym ek) are) ∙ ap (linear_value values) es ∙ whole-split whole values none;
 }
 
-whole-word : (whole : Whole) (values : Values) → whole_value whole values % 2 ^ 32 ≡ whole_value whole values
+pub whole-word : (whole : Whole) (values : Values) → whole_value whole values % 2 ^ 32 ≡ whole_value whole values
 unfolding word.add
 whole-word whole values = omega arith
 
 -- ---- bodies
 
-is-below : (a b : ℕ) → a < b → nat_lt a b ≡ true
+pub is-below : (a b : ℕ) → a < b → nat_lt a b ≡ true
 is-below a b l = grind (arith, nat_tests)
 
 module _ (places : Places) (scope : List Held) (context within : Context) (counter : Counter) (whole : Whole) (extent : ℕ) (body : Stmt) (sum : Linear)
@@ -88,7 +88,7 @@ module _ (places : Places) (scope : List Held) (context within : Context) (count
     insns = x.insns;
     emits = x.emits;
     turns = λ values. x.turns (entered values);
-    does = λ own good at-places values holders meets sound sure f memory funcs holds knows.
+    does = λ own good at-places values holders meets may f memory funcs holds knows.
         let l : whole_value whole values < extent = subst (λ n. n < extent) (form-is own.world.hart values meets) (below own.world.hart values meets.below) in
         let passes : nat_lt (whole_value whole values) extent ≡ true = is-below (whole_value whole values) extent l in
         did-is refl
@@ -97,7 +97,7 @@ module _ (places : Places) (scope : List Held) (context within : Context) (count
         (λ func i j h. sym (hit-bind own.points own.inputs func i j counter whole extent body values funcs
         ∙ ap (λ t. if t then hit own.points own.inputs func i j body (entered values) funcs else false) passes) ∙ h)
         (x.does own good at-places (entered values) holders (meets-entered values meets)
-        (sound-split own counter whole extent body values passes sound) (runs-split own counter whole extent body values passes sure) f memory funcs holds
+        (may-split own counter whole extent body values passes may) f memory funcs holds
         (knows-with counter (whole_value whole values) own.world.hart scope values f none knows));
   }
 
@@ -109,7 +109,7 @@ module _ (places : Places) (scope : List Held) (context within : Context) (count
         insns = g.insns;
         emits = g.emits;
         turns = λ values. if nat_lt (whole_value whole values) extent then g.before + x.turns (entered values) else g.past;
-        does = λ own good at-places values holders meets sound sure f memory funcs holds knows.
+        does = λ own good at-places values holders meets may f memory funcs holds knows.
             let hart = own.world.hart in
             let e = form-is hart values meets in
             let done = g.does own hart values (x.turns (entered values)) (run own.points own.inputs body (entered values) funcs)
@@ -117,7 +117,7 @@ module _ (places : Places) (scope : List Held) (context within : Context) (count
             (λ l h known.
             let passes : nat_lt (whole_value whole values) extent ≡ true = is-below (whole_value whole values) extent (subst (λ n. n < extent) e l) in
             x.does own good at-places (entered values) holders (meets-entered values meets)
-            (sound-split own counter whole extent body values passes sound) (runs-split own counter whole extent body values passes sure) h memory funcs holds
+            (may-split own counter whole extent body values passes may) h memory funcs holds
             (knows-with counter (whole_value whole values) hart scope values h none known)) in
             did-is (ap (λ n. if nat_lt n extent then g.before + x.turns (entered values) else g.past) e)
             (ap (λ n. if nat_lt n extent then run own.points own.inputs body (entered values) funcs else funcs) e

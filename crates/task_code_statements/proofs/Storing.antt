@@ -30,7 +30,7 @@ use Rattle.task_code_statements.specs.Statements.{EmitsStatement}
 use Rattle.task_code_statements.proofs.Following.{did-is}
 
 module _ (known : List Known) (store made : Store) (is : IsSameStore known store made) (values : Values) (are : AreKnown known values) where
-  same-sound : (reads : Reads) (written : Points) (loaded : Point → Bool)
+  pub same-sound : (reads : Reads) (written : Points) (loaded : Point → Bool)
       → is_sound_store reads written loaded made values ≡ is_sound_store reads written loaded store values
   same-sound reads written loaded =
       let x = value reads values store.x in
@@ -89,11 +89,11 @@ store-emits places scope context known store made c0 c1 ek is x = record {
   insns = x.insns;
   emits = x.emits;
   turns = λ values. length x.insns;
-  does = λ own good at values holders meets sound sure f memory funcs holds knows.
+  does = λ own good at values holders meets may f memory funcs holds knows.
       let are = subst (λ k. AreKnown k values) (sym ek) meets.known in
       did-is refl (run-made known store made is values are own funcs)
       (λ func i j hit. stored-made known store made is values are own funcs func i j ∙ hit)
-      (x.does own good at values (sound-made known store made is values are own sound) (runs-made known store made is values are own sure) holders f
+      (x.does own good at values (sound-made known store made is values are own may.sound) (runs-made known store made is values are own may.in_runs) holders f
       memory funcs holds knows);
 }
 

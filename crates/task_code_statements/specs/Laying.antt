@@ -9,11 +9,12 @@ use Rattle.loop_ir.specs.Counters.{Values, with}
 use Rattle.loop_ir.specs.Running.{run, turns as iterated}
 use Rattle.loop_ir.specs.Stores.{trace}
 use Rattle.task_code_scalar.specs.declared.places.Places.{Places}
-use Rattle.task_code_scalar.specs.Doing.{Setting, IsSetting, SoundIn, RunsIn}
+use Rattle.task_code_scalar.specs.Doing.{Setting, IsSetting}
 use Rattle.task_code_scalar.specs.Words.{Emits}
 use Rattle.task_code_registers.specs.declared.scopes.Held.{Held}
 use Rattle.task_code_registers.specs.Scopes.{AreHolders}
 use Rattle.task_code_loops.specs.Guarding.{DoesFirst}
+use Rattle.task_code_runs.specs.AtOnce.{MayRun}
 
 -- the points at which the first so many iterations store
 abbrev pub stored_before : Setting → Counter → Stmt → Values → ℕ → Planes → Points
@@ -26,6 +27,6 @@ pub record LaysOut (old new : List ℕ) (places : Places) (scope : List Held) (i
   pub emits : Emits old new insns
   pub turns : Values → ℕ
   pub does : (own : Setting) → IsSetting own → own.places ≡ places → (values : Values) → AreHolders scope → is_so values
-      → ((i : ℕ) → i < count → SoundIn own body (with counter i values)) → ((i : ℕ) → i < count → RunsIn own body (with counter i values))
+      → ((i : ℕ) → i < count → MayRun own body (with counter i values))
       → DoesFirst own own.world.hart scope values count insns (turns values)
       (λ i p. run own.points own.inputs body (with counter i values) p) (stored_before own counter body values)

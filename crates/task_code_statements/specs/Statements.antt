@@ -10,11 +10,12 @@ use Rattle.loop_ir.specs.Counters.{Values}
 use Rattle.loop_ir.specs.Rounds.{is_vectorized}
 use Rattle.loop_ir.specs.Running.{run}
 use Rattle.task_code_scalar.specs.declared.places.Places.{Places}
-use Rattle.task_code_scalar.specs.Doing.{Setting, IsSetting, SoundIn, RunsIn, HoldsFuncs, stored_points}
+use Rattle.task_code_scalar.specs.Doing.{Setting, IsSetting, HoldsFuncs, stored_points}
 use Rattle.task_code_scalar.specs.Words.{Emits}
 use Rattle.task_code_registers.specs.declared.scopes.Held.{Held}
 use Rattle.task_code_registers.specs.Doing.{Did}
 use Rattle.task_code_registers.specs.Scopes.{Knows, AreHolders, IsKept}
+use Rattle.task_code_runs.specs.AtOnce.{MayRun}
 
 -- Appended code does a statement, wherever registers hold the scope's forms and something is so of loop variables, and keeps these registers. In how
 -- many turns hangs on the values of loop variables alone.
@@ -23,7 +24,7 @@ pub record EmitsStatement (old new : List ℕ) (places : Places) (scope : List H
   pub emits : Emits old new insns
   pub turns : Values → ℕ
   pub does : (own : Setting) → IsSetting own → own.places ≡ places → (values : Values) → AreHolders scope → is_so values
-      → SoundIn own statement values → RunsIn own statement values
+      → MayRun own statement values
       → (f : ℕ → ℕ) (memory : List ℕ) (funcs : Planes) → HoldsFuncs own memory funcs → Knows own.world.hart scope values f
       → Did own insns (turns values) f memory (IsKept scope) (run own.points own.inputs statement values funcs) (stored_points own statement values funcs)
 

@@ -3,30 +3,25 @@
 use Rattle.std.specs.Prelude.{◌≡◌, ◌<◌, ℕ, ◌+◌, true, List, [], ◌∷◌, ◌++◌, Bool, false, Option, Some, None}
 use Rattle.rv_insn.specs.declared.instructions.Insn.{Insn}
 use Rattle.memory.specs.Addresses.{byte_at, AreBytes}
-use Rattle.halide_pipeline.specs.Pixel.{Planes, reads_of}
+use Rattle.halide_pipeline.specs.Pixel.{Planes}
 use Rattle.loop_ir.specs.declared.expressions.Counter.{Counter}
 use Rattle.loop_ir.specs.declared.statements.Phase.{Phase}
-use Rattle.loop_ir.specs.declared.statements.Stmt.{Stmt}
 use Rattle.loop_ir.specs.Counters.{Values, same_counter}
-use Rattle.loop_ir.specs.Rounds.{may_be_at_once}
 use Rattle.loop_ir.specs.Running.{run_task, task_values}
 use Rattle.loop_ir.specs.Stores.{is_stored_by_task}
 use Rattle.multi_hart_logic.specs.Paths.{Stand, Block, Writes}
 use Rattle.task_code_scalar.specs.declared.places.Places.{Places}
 use Rattle.task_code_scalar.specs.Code.{literal}
-use Rattle.task_code_scalar.specs.Layout.{AreWords, IsOf, IsElsewhere}
+use Rattle.task_code_scalar.specs.Layout.{IsOf, IsElsewhere}
 use Rattle.task_code_scalar.specs.Doing.{Setting, IsSetting, SoundIn, RunsIn, HoldsFuncs}
 use Rattle.task_code_scalar.specs.Words.{Emits}
 use Rattle.task_code_registers.specs.declared.scopes.Held.{Held}
 use Rattle.task_code_registers.specs.Registers.{zero_register, hart_number}
 use Rattle.task_code_registers.specs.Scopes.{Knows, AreHolders}
 use Rattle.task_code_loops.specs.Beginning.{variable}
+use Rattle.task_code_runs.specs.AtOnce.{AtOnceIn}
 use Rattle.task_code_statements.specs.declared.contexts.Context.{Context}
 use Rattle.task_code_statements.specs.Contexts.{Meets}
-
--- the iterations of its vectorized loops may be done at once, whatever words buffers hold
-abbrev pub AtOnceIn : Setting → Stmt → Values → Type 0
-AtOnceIn own statement values = (funcs : Planes) → AreWords funcs → may_be_at_once (reads_of own.inputs funcs) statement values ≡ true
 
 -- where a task begins: its number was drawn
 pub record HasDrawn (own : Setting) (task : ℕ) (f : ℕ → ℕ) : Type 0 where

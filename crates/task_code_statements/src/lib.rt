@@ -8,7 +8,9 @@
 #![tactic(auto)]
 
 pub mod contexts;
+mod lacking;
 mod mentions;
 pub mod rewriting;
 pub mod statements;
 pub mod tasks;
+mod vectorizing;

@@ -11,6 +11,7 @@ ghost use Rattle.task_code_statements.specs.Statements.{EmitsLoop, EmitsStatemen
 
 use crate::contexts::{Context, has_term, in_loop, with_sum};
 use crate::rewriting::{store_by_others, sum_by_others};
+use crate::vectorizing::{emit_vectorized, is_at_once};
 use loop_ir::expressions::{Counter, Linear, Term};
 use loop_ir::statements::{LoopKind, Stmt, Store, Whole};
 use sqlite_items::Items;
@@ -67,7 +68,7 @@ fn emit_known_store(
 // ---- loops
 
 /// Whether a form that some register holds has a term of a loop variable.
-fn mentions(scope: &[Held], counter: Counter) -> bool
+pub(crate) fn mentions(scope: &[Held], counter: Counter) -> bool
     ensures { result ≡ holding.mentions counter scope.now }
 {
     match scope {
@@ -82,8 +83,8 @@ fn mentions(scope: &[Held], counter: Counter) -> bool
     }
 }
 
-/// How many registers the loops of a statement ask for at once: one each, but for those that are laid out and for split
-/// loops whose values are sums.
+/// How many registers the loops of a statement ask for at once: one each, but for those that are laid out or done at once
+/// and for split loops whose values are sums.
 fn depth(statement: &Stmt) -> usize {
     match statement {
         Stmt::Store(_) => 0,
@@ -93,7 +94,7 @@ fn depth(statement: &Stmt) -> usize {
             if one < other { other } else { one }
         }
         Stmt::For(_, count, kind, body) => {
-            let own = usize::from(!is_laid_out(*kind, *count));
+            let own = usize::from(!is_at_once(*kind) && !is_laid_out(*kind, *count));
             depth(body.get()).saturating_add(own)
         }
         Stmt::Bind(_, whole, _, body) => {
@@ -193,7 +194,11 @@ fn is_serial(kind: LoopKind) -> bool
 // ---- split loops
 
 /// The value of a split loop as a sum of those of its two loops, unless a shift bounds it.
-fn split_sum(alloc: Global, context: &Context, whole: &Whole) -> Result<Option<Linear>, AllocError>
+pub(crate) fn split_sum(
+    alloc: Global,
+    context: &Context,
+    whole: &Whole,
+) -> Result<Option<Linear>, AllocError>
     ensures { IfOk result (λ found. IfSome found (IsSplitSum context.now whole.now)) }
 {
     if whole.last.is_some() {
@@ -308,7 +313,7 @@ fn emit_split(
 ///
 /// # Errors
 ///
-/// Memory ran out, the code is too long, a loop is vectorized, registers do not suffice for this way of making code, or
+/// Memory ran out, the code is too long, registers do not suffice for this way of making code, or
 /// one loop variable stands for two loops.
 #[cycle(statements)]
 pub fn emit_statement(
@@ -336,6 +341,10 @@ pub fn emit_statement(
                 counter: *counter,
                 count: *count,
             };
+            if is_at_once(*kind) {
+                emit_vectorized(alloc, code, places, scope, context, own, body.get())?;
+                return Ok(());
+            }
             if is_laid_out(*kind, *count) {
                 emit_laid_out(alloc, code, places, scope, context, own, body.get())?;
                 return Ok(());

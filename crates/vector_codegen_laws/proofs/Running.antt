@@ -36,7 +36,8 @@ use Rattle.lowering.specs.Touching.{is_listed, is_root_at, may_write, may_load_a
 use Rattle.lowering.proofs.RunLists.{runs_are_listed}
 use Rattle.task_code_scalar.specs.Doing.{Setting, IsSetting, SoundIn, RunsIn, HoldsFuncs}
 use Rattle.task_code_scalar.specs.Layout.{AreWords, func_point}
-use Rattle.task_code_statements.specs.Tasks.{AtOnceIn, EachTaskEnds, HasDrawn, TaskEnds}
+use Rattle.task_code_runs.specs.AtOnce.{AtOnceIn}
+use Rattle.task_code_statements.specs.Tasks.{EachTaskEnds, HasDrawn, TaskEnds}
 use Rattle.vector_codegen_laws.specs.Held.{funcs_in, HasInputs, setting, IsTask}
 use Rattle.vector_codegen_laws.specs.Points.{RootPoint}
 use Rattle.vector_codegen_laws.specs.RunBytes.{RunsAreNamed}

@@ -10,7 +10,8 @@ use Rattle.loop_ir.specs.Counters.{Values}
 use Rattle.loop_ir.specs.Running.{run, task_values}
 use Rattle.task_code_scalar.specs.Doing.{Setting, IsSetting, SoundIn, RunsIn, HoldsFuncs, Done, stored_points}
 use Rattle.task_code_scalar.specs.Evaluation.{Knows}
-use Rattle.task_code_statements.specs.Tasks.{AtOnceIn, HasDrawn, TaskEnds}
+use Rattle.task_code_runs.specs.AtOnce.{AtOnceIn}
+use Rattle.task_code_statements.specs.Tasks.{HasDrawn, TaskEnds}
 use Rattle.task_code.specs.inner.Code.{stmt_code, stmt_turns, task_code}
 use Rattle.task_code.specs.inner.Fitting.{fits, fits_task, task_turns}
 

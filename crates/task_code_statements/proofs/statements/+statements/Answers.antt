@@ -10,6 +10,7 @@ use Rattle.task_code_statements.proofs.Laying.{none-laid, one-laid, laid-emits, 
 use Rattle.task_code_statements.proofs.Nesting.{sequence-arm, none-emits, loop-arm, for-arm}
 use Rattle.task_code_statements.proofs.Splitting.{found-sum, split-emits, guarded-emits, bind-arm}
 use Rattle.task_code_statements.proofs.Storing.{arm}
+use Rattle.task_code_statements.proofs.AtOnce.{vector-arm}
 use Rattle.task_code_statements.proofs.statements.+statements.Goals as goal
 
 pub emit_statement-returns-in_ok-emit_known_store-in-Store : goal.emit_statement-returns-in_ok-emit_known_store-in-Store
@@ -22,6 +23,12 @@ emit_statement-returns-in_ok-emit_statement-in-Sequence-2 t c =
     sequence-arm c.args.places.now c.args.scope.now (Meets c.args.context.now) c.args.statement.now c.in-Sequence.first c.in-Sequence.second c.get.result.now
     c.get-in-Sequence.result.now _ _ _ c.in-Sequence.is c.get.ensures c.get-in-Sequence.ensures c.in_ok-emit_statement-in-Sequence.ensures
     c.in_ok-emit_statement-in-Sequence-2.ensures
+
+pub emit_statement-returns-then-is_at_once : goal.emit_statement-returns-then-is_at_once
+emit_statement-returns-then-is_at_once t c =
+    vector-arm c.args.places.now c.args.scope.now c.args.context.now c.args.statement.now c.in-For.counter c.in-For.count c.in-For.kind c.in-For.body
+    c.get-then-is_at_once.result.now _ _ c.in-For.is c.get-then-is_at_once.ensures (c.is_at_once.ensures c.if-is_at_once.true)
+    c.in_ok-emit_vectorized-in-For.ensures
 
 pub emit_statement-returns-then-is_laid_out : goal.emit_statement-returns-then-is_laid_out
 emit_statement-returns-then-is_laid_out t c =
