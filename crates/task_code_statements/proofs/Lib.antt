@@ -8,3 +8,4 @@ pub mod Storing
 pub mod Tasking
 pub mod AtOnce
 pub mod Without
+pub mod Unclamping

@@ -48,13 +48,13 @@ module _ (known : List Known) (store made : Store) (is : IsSameStore known store
       values are)
 
   module _ (own : Setting) where
-    sound-made : SoundIn own (s.Store store) values → SoundIn own (s.Store made) values
+    pub sound-made : SoundIn own (s.Store store) values → SoundIn own (s.Store made) values
     sound-made sound p words =
         let reads = reads_of own.inputs p in
         sound_store reads own.written own.loaded made values ∙ same-sound reads own.written own.loaded
         ∙ sym (sound_store reads own.written own.loaded store values) ∙ sound p words
 
-    runs-made : RunsIn own (s.Store store) values → RunsIn own (s.Store made) values
+    pub runs-made : RunsIn own (s.Store store) values → RunsIn own (s.Store made) values
     runs-made sure p words func in_runs x y =
         let reads = reads_of own.inputs p in
         ap (λ (r : Runs). r.are_runs values) (runs_store reads func x y (own.run func x y) made)
@@ -62,7 +62,7 @@ module _ (known : List Known) (store made : Store) (is : IsSameStore known store
         ∙ sym (ap (λ (r : Runs). r.are_runs values) (runs_store reads func x y (own.run func x y) store))
         ∙ sure p words func in_runs x y
 
-    run-made : (funcs : Planes) → run own.points own.inputs (s.Store made) values funcs ≡ run own.points own.inputs (s.Store store) values funcs
+    pub run-made : (funcs : Planes) → run own.points own.inputs (s.Store made) values funcs ≡ run own.points own.inputs (s.Store store) values funcs
     run-made funcs =
         let reads = reads_of own.inputs funcs in
         run_store own.points own.inputs made values funcs
@@ -72,7 +72,7 @@ module _ (known : List Known) (store made : Store) (is : IsSameStore known store
         ∙ ap (λ k. put own.points store.func (value reads values store.x) (value reads values store.y) k funcs) (is.pixel.value_is reads values are)
         ∙ sym (run_store own.points own.inputs store values funcs)
 
-    stored-made : (funcs : Planes) (func x y : ℕ)
+    pub stored-made : (funcs : Planes) (func x y : ℕ)
         → stored_points own (s.Store made) values funcs func x y ≡ stored_points own (s.Store store) values funcs func x y
     stored-made funcs func x y =
         let reads = reads_of own.inputs funcs in

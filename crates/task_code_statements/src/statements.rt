@@ -16,6 +16,7 @@ use loop_ir::expressions::{Counter, Linear, Term};
 use loop_ir::statements::{LoopKind, Stmt, Store, Whole};
 use sqlite_items::Items;
 use std::alloc::{AllocError, Global};
+use task_code_clamps::clamps::unclamped_store;
 use task_code_loops::beginning::{Begun, begin_loop};
 use task_code_loops::bounds::{Bound, is_below};
 use task_code_loops::ending::end_loop;
@@ -48,7 +49,7 @@ pub struct Split {
 
 // ---- stores
 
-/// Appends a store by the loop variables that aren't known.
+/// Appends a store by the loop variables that aren't known, without clamps that cut nothing off.
 fn emit_known_store(
     alloc: Global,
     code: &mut Vec<u32>,
@@ -61,7 +62,8 @@ fn emit_known_store(
         (stmts.Store store.now)) }
 {
     let made = store_by_others(alloc, store, context.known.as_slice())?;
-    emit_store(alloc, code, places, scope, &made)?;
+    let plain = unclamped_store(alloc, places, context.bounds.as_slice(), &made)?;
+    emit_store(alloc, code, places, scope, &plain)?;
     Ok(())
 }
 

@@ -1,0 +1,193 @@
+-- A store without clamps that cut nothing off does what the store with them does.
+use Rattle.std.proofs.Common.{◌≡◌, ℕ, ◌-◌, ◌<◌, List, [], ◌∷◌, ◌++◌, Bool, true, false, length, refl, ap, ◌∙◌, sym, subst, arith}
+use Rattle.std.specs.Prelude.{◌==◌, ◌&&◌, not, nat_lt}
+use Rattle.std.specs.List.{list_all}
+use Rattle.std.proofs.lemmas.Bool.{and_parts}
+use Rattle.std.proofs.lemmas.List.Folds.{list_all-append}
+use Rattle.memory.specs.Access.{Byte, number_in}
+use Rattle.memory.specs.Addresses.{AreBytes, byte_at, data_start}
+use Rattle.hart_core.specs.Alu.{load_size}
+use Rattle.halide_pipeline.specs.declared.expressions.Source.{Source}
+use Rattle.halide_pipeline.specs.declared.expressions.Source.TheVariants as sources
+use Rattle.halide_pipeline.specs.Pixel.{Planes, Reads, reads_of}
+use Rattle.halide_pipeline.specs.Points.{Point}
+use Rattle.loop_ir.specs.Buffers.{Points, put}
+use Rattle.loop_ir.specs.Counters.{Values}
+use Rattle.loop_ir.specs.Expressions.{value, loads}
+use Rattle.loop_ir.specs.Running.{run}
+use Rattle.loop_ir.specs.Runs.{Runs}
+use Rattle.loop_ir.specs.Soundness.{is_sound_store, store_loads}
+use Rattle.loop_ir.proofs.Runs.{runs_store}
+use Rattle.loop_ir.proofs.Sound.{sound_store}
+use Rattle.loop_ir.proofs.Trees.{run_store}
+use Rattle.loop_ir.specs.declared.statements.Store.{Store}
+use Rattle.loop_ir.specs.declared.statements.Stmt.TheVariants as s
+use Rattle.task_code_scalar.specs.declared.places.Pixels.TheVariants as pixels
+use Rattle.task_code_scalar.specs.declared.places.Places.{Places}
+use Rattle.task_code_scalar.specs.Code.{place_of}
+use Rattle.task_code_scalar.specs.Doing.{Setting, SoundIn, RunsIn, HoldsFuncs, stored_points}
+use Rattle.task_code_scalar.specs.Evaluation.{load_op}
+use Rattle.task_code_scalar.specs.Layout.{AreWords, address_of}
+use Rattle.task_code_scalar.proofs.Tracing.{hit-store}
+use Rattle.task_code_registers.specs.declared.scopes.Held.{Held}
+use Rattle.task_code_loops.specs.declared.bounds.Bound.{Bound}
+use Rattle.task_code_loops.specs.declared.known.Known.{Known}
+use Rattle.task_code_loops.specs.Bounds.{AreBelow}
+use Rattle.task_code_loops.specs.Known.{AreKnown}
+use Rattle.task_code_clamps.specs.Clamps.{AreBytesAt, IsSame}
+use Rattle.task_code_clamps.specs.Clamps as clamps
+use Rattle.task_code_clamps.specs.Ranges.{IsByte}
+use Rattle.task_code_values.specs.Storing.{MakesStore}
+use Rattle.task_code_statements.specs.declared.contexts.Context.{Context}
+use Rattle.task_code_statements.specs.Contexts.{Meets}
+use Rattle.task_code_statements.specs.Rewriting.{IsSameStore}
+use Rattle.task_code_statements.specs.Statements.{EmitsStatement}
+use Rattle.task_code_statements.proofs.Following.{did-is}
+use Rattle.task_code_statements.proofs.Storing.{sound-made, runs-made, run-made, stored-made}
+
+-- ---- bytes
+
+byte-below : (text memory : List ℕ) → AreBytes memory → (a : ℕ) → byte_at text memory a < 256
+byte-below text memory are a = by-test (nat_lt a data_start) refl
+  where
+    by-test : (t : Bool) → nat_lt a data_start ≡ t → byte_at text memory a < 256
+    by-test true is = rw is (omega arith)
+    by-test false is = rw is (are (a - data_start))
+
+number-below : (text memory : List ℕ) → AreBytes memory → (a : ℕ) → number_in text memory Byte a < 256
+number-below text memory are a = let b = byte-below text memory are a in omega (arith, b)
+
+module _ (own : Setting) (memory : List ℕ) (funcs : Planes) (holds : HoldsFuncs own memory funcs) where
+  -- what memory holds of an input of bytes is a byte
+  input-byte : (k x y : ℕ) → own.loaded (record { source = sources.Input k; x = x; y = y }) ≡ true
+      → IsByte own.places (sources.Input k) (own.inputs k x y)
+  input-byte k x y is bytes =
+      let a = address_of own.world own.places (record { source = sources.Input k; x = x; y = y }) in
+      let h = holds.holds (record { source = sources.Input k; x = x; y = y }) is in
+      let n : number_in own.world.text memory Byte a ≡ own.inputs k x y =
+      subst (λ p. number_in own.world.text memory (load_size (load_op p)) a ≡ own.inputs k x y) bytes h in
+      subst (λ v. v < 256) n (number-below own.world.text memory holds.are_bytes a)
+
+  point-byte : (p : Planes) (x y : ℕ) (source : Source) → own.loaded (record { source = source; x = x; y = y }) ≡ true
+      → IsByte own.places source (reads_of own.inputs p source x y)
+  point-byte p x y (sources.Input k) is = input-byte k x y is
+  point-byte p x y (sources.Func k) is = tt
+
+  -- whatever Funcs' buffers hold
+  all-bytes : (p : Planes) (points : List Point) → list_all own.loaded points ≡ true → AreBytesAt own.places (reads_of own.inputs p) points
+  all-bytes p [] is = tt
+  all-bytes p (point ∷ points) is =
+      let k = and_parts (own.loaded point) (list_all own.loaded points) is in
+      (point-byte p point.x point.y point.source k.0, all-bytes p points k.1)
+
+-- ---- two stores that are the same where buffers hold this
+
+record AreSame (reads : Reads) (values : Values) (store made : Store) : Type 0 where
+  pub func_is : made.func ≡ store.func
+  pub x_is : value reads values made.x ≡ value reads values store.x
+  pub y_is : value reads values made.y ≡ value reads values store.y
+  pub value_is : value reads values made.value ≡ value reads values store.value
+  pub x_loads : loads reads values made.x ≡ loads reads values store.x
+  pub y_loads : loads reads values made.y ≡ loads reads values store.y
+  pub value_loads : loads reads values made.value ≡ loads reads values store.value
+
+sound-same : (reads : Reads) (values : Values) (store made : Store) (written : Points) (loaded : Point → Bool) → AreSame reads values store made
+    → is_sound_store reads written loaded made values ≡ is_sound_store reads written loaded store values
+sound-same reads values store made written loaded same =
+    let x = value reads values store.x in
+    let y = value reads values store.y in
+    let one : written made.func (value reads values made.x) (value reads values made.y) ≡ written store.func x y =
+    ap (λ k. written k (value reads values made.x) (value reads values made.y)) same.func_is
+    ∙ ap (λ k. written store.func k (value reads values made.y)) same.x_is ∙ ap (written store.func x) same.y_is in
+    ap (λ b. b && list_all loaded (loads reads values made.x ++ (loads reads values made.y ++ loads reads values made.value))) one
+    ∙ ap (λ l. written store.func x y && list_all loaded (l ++ (loads reads values made.y ++ loads reads values made.value))) same.x_loads
+    ∙ ap (λ l. written store.func x y && list_all loaded (loads reads values store.x ++ (l ++ loads reads values made.value))) same.y_loads
+    ∙ ap (λ l. written store.func x y && list_all loaded (loads reads values store.x ++ (loads reads values store.y ++ l))) same.value_loads
+
+module _ (own : Setting) (values : Values) (store made : Store) where
+  run-same : (funcs : Planes) → AreSame (reads_of own.inputs funcs) values store made
+      → run own.points own.inputs (s.Store made) values funcs ≡ run own.points own.inputs (s.Store store) values funcs
+  run-same funcs same =
+      let reads = reads_of own.inputs funcs in
+      run_store own.points own.inputs made values funcs
+      ∙ ap (λ k. put own.points k (value reads values made.x) (value reads values made.y) (value reads values made.value) funcs) same.func_is
+      ∙ ap (λ k. put own.points store.func k (value reads values made.y) (value reads values made.value) funcs) same.x_is
+      ∙ ap (λ k. put own.points store.func (value reads values store.x) k (value reads values made.value) funcs) same.y_is
+      ∙ ap (λ k. put own.points store.func (value reads values store.x) (value reads values store.y) k funcs) same.value_is
+      ∙ sym (run_store own.points own.inputs store values funcs)
+
+  stored-same : (funcs : Planes) (func x y : ℕ) → AreSame (reads_of own.inputs funcs) values store made
+      → stored_points own (s.Store made) values funcs func x y ≡ stored_points own (s.Store store) values funcs func x y
+  stored-same funcs func x y same =
+      let reads = reads_of own.inputs funcs in
+      hit-store own.points own.inputs func x y made values funcs
+      ∙ ap (λ k. k == func && (value reads values made.x == x && value reads values made.y == y)) same.func_is
+      ∙ ap (λ k. store.func == func && (k == x && value reads values made.y == y)) same.x_is
+      ∙ ap (λ k. store.func == func && (value reads values store.x == x && k == y)) same.y_is
+      ∙ sym (hit-store own.points own.inputs func x y store values funcs)
+
+  runs-same : made.func ≡ store.func → RunsIn own (s.Store store) values → RunsIn own (s.Store made) values
+  runs-same func_is sure p words func in_runs x y =
+      let reads = reads_of own.inputs p in
+      ap (λ (r : Runs). r.are_runs values) (runs_store reads func x y (own.run func x y) made)
+      ∙ ap (λ k. not (k == func)) func_is
+      ∙ sym (ap (λ (r : Runs). r.are_runs values) (runs_store reads func x y (own.run func x y) store))
+      ∙ sure p words func in_runs x y
+
+-- ---- without clamps
+
+module _ (own : Setting) (values : Values) (bounds : List Bound) (below : AreBelow bounds values) (memory : List ℕ) (funcs : Planes)
+    (holds : HoldsFuncs own memory funcs) (store made : Store) (is : clamps.IsSameStore own.places bounds store made) where
+  are-same : (p : Planes) → is_sound_store (reads_of own.inputs p) own.written own.loaded store values ≡ true
+      → AreSame (reads_of own.inputs p) values store made
+  are-same p sound =
+      let reads = reads_of own.inputs p in
+      let k = and_parts (own.written store.func (value reads values store.x) (value reads values store.y))
+      (list_all own.loaded (store_loads reads values store)) sound in
+      let u = and_parts (list_all own.loaded (loads reads values store.x)) _
+      (sym (list_all-append own.loaded (loads reads values store.x) (loads reads values store.y ++ loads reads values store.value)) ∙ k.1) in
+      let v = and_parts (list_all own.loaded (loads reads values store.y)) (list_all own.loaded (loads reads values store.value))
+      (sym (list_all-append own.loaded (loads reads values store.y) (loads reads values store.value)) ∙ u.1) in
+      let bx = all-bytes own memory funcs holds p (loads reads values store.x) u.0 in
+      let by = all-bytes own memory funcs holds p (loads reads values store.y) v.0 in
+      let bv = all-bytes own memory funcs holds p (loads reads values store.value) v.1 in
+      record {
+        func_is = is.func_is;
+        x_is = is.column.value_is reads values below bx;
+        y_is = is.row.value_is reads values below by;
+        value_is = is.pixel.value_is reads values below bv;
+        x_loads = is.column.loads_are reads values below bx;
+        y_loads = is.row.loads_are reads values below by;
+        value_loads = is.pixel.loads_are reads values below bv;
+      }
+
+  sound-unclamped : SoundIn own (s.Store store) values → SoundIn own (s.Store made) values
+  sound-unclamped sound p words =
+      let reads = reads_of own.inputs p in
+      let e = sym (sound_store reads own.written own.loaded store values) ∙ sound p words in
+      sound_store reads own.written own.loaded made values ∙ sound-same reads values store made own.written own.loaded (are-same p e) ∙ e
+
+  here-same : SoundIn own (s.Store store) values → AreSame (reads_of own.inputs funcs) values store made
+  here-same sound =
+      are-same funcs (sym (sound_store (reads_of own.inputs funcs) own.written own.loaded store values) ∙ sound funcs holds.are_words)
+
+pub unclamped-emits : (places : Places) (scope : List Held) (context : Context) (known : List Known) (bounds : List Bound) (store made last : Store)
+    (c0 c1 : List ℕ) → known ≡ context.known.items → bounds ≡ context.bounds.items → IsSameStore known store made
+    → clamps.IsSameStore places bounds made last → MakesStore c0 c1 places scope last
+    → EmitsStatement c0 c1 places scope (Meets context) (s.Store store)
+unclamped-emits places scope context known bounds store made last c0 c1 ek eb is plain x = record {
+  insns = x.insns;
+  emits = x.emits;
+  turns = λ values. length x.insns;
+  does = λ own good at values holders meets may f memory funcs holds knows.
+      let are = subst (λ k. AreKnown k values) (sym ek) meets.known in
+      let below = subst (λ k. AreBelow k values) (sym eb) meets.below in
+      let plain-here = subst (λ ps. clamps.IsSameStore ps bounds made last) (sym at) plain in
+      let sound = sound-made known store made is values are own may.sound in
+      let sure = runs-made known store made is values are own may.in_runs in
+      let same = here-same own values bounds below memory funcs holds made last plain-here sound in
+      did-is refl (run-same own values made last funcs same ∙ run-made known store made is values are own funcs)
+      (λ func i j hit. stored-same own values made last funcs func i j same ∙ stored-made known store made is values are own funcs func i j ∙ hit)
+      (x.does own good at values (sound-unclamped own values bounds below memory funcs holds made last plain-here sound)
+      (runs-same own values made last plain.func_is sure) holders f memory funcs holds knows);
+}
