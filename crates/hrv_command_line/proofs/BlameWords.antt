@@ -1,6 +1,6 @@
 -- The words that `clap` takes for blame: two files, the numbers of a pixel, an address, and a flag.
-use Rattle.std.proofs.Common.{◌≡◌, ◌∙◌, ◌&&◌, ◌||◌, ◌==◌, ◌⊎◌, ◌≤◌, ◌+◌, ℕ, arith, Bool, cond, codes, true, false, true≢false, ne_eqb, length, suc, refl, sym, ap, subst, List, [], ◌∷◌, ◌++◌, Option, Some, None, inl, inr}
-use Rattle.std.specs.Prelude.{find, fold, if◌then◌else◌, min, not, is_some, option_and_then, option_map, slice_get, unwrap_or}
+use Rattle.std.proofs.Common.{◌≡◌, ◌∙◌, ◌&&◌, ◌||◌, ◌==◌, ◌⊎◌, ◌+◌, ℕ, arith, Bool, cond, codes, true, false, true≢false, ne_eqb, length, suc, refl, sym, ap, subst, List, [], ◌∷◌, ◌++◌, Option, Some, None, inl, inr}
+use Rattle.std.specs.Prelude.{find, fold, if◌then◌else◌, min, not, is_some, option_and_then, option_map, slice_get}
 use Rattle.std.specs.List.{AllByRecursion}
 use Rattle.std.specs.Option.{option_map_or}
 use Rattle.std.specs.Str.{bytes_eq}
@@ -11,7 +11,7 @@ use Rattle.clap.specs.Facts.{explicit_source}
 use Rattle.clap.specs.Words.{new_rule}
 use Rattle.clap.specs.Simple.{Shape, built_leaf, filled, help_rule, inherited, marked_built, with_index, with_leaf_noted}
 use Rattle.clap.specs.Takes.{is_given}
-use Rattle.clap.specs.Kinds.{or_else, range_kinds}
+use Rattle.clap.specs.Kinds.{range_kinds}
 use Rattle.clap.specs.Faults.{defaults_fault, flag_word_fault, level_fault, long_fault, positional_fault, react_fault, repeat_fault, settle_fault, stray_fault, step_fault, turn_fault, use_fault, walk_fault, word_fault}
 use Rattle.clap.specs.declared.builder.value_parser.Reading.TheVariants.{AsWritten}
 use Rattle.clap.specs.declared.parser.matches.ValueSource.TheVariants.{CommandLine, DefaultValue}

@@ -4,13 +4,12 @@ use Rattle.std.specs.Prelude.{fold}
 use Rattle.std.specs.Str.{bytes_eq}
 use Rattle.clap.proofs.OnLiterals.{clap_on_literals}
 use Rattle.clap.specs.Lexer.{long_of, short_of}
-use Rattle.clap.specs.Walk.{Held, Row, Rule, Step, Text, Walk, after_flag, after_step, arg_by_index, arg_by_long, finished, idle, long_met, long_or_other, long_word, next, nothing_held, reacted, rows_after, to_positional, value, walk_from, walked, word_met}
+use Rattle.clap.specs.Walk.{Held, Row, Rule, Step, Text, Walk, after_flag, after_step, arg_by_index, arg_by_long, finished, idle, long_met, long_or_other, long_word, nothing_held, reacted, rows_after, to_positional, value, walk_from, walked, word_met}
 use Rattle.clap.specs.Simple.{Shape, built_leaf, filled, help_rule, inherited, marked_built, with_leaf_noted}
 use Rattle.clap.specs.Kinds.{or_else}
 use Rattle.clap.specs.Faults.{flag_word_fault, level_fault, long_fault, react_fault, step_fault, turn_fault, walk_fault, word_fault}
 use Rattle.clap.specs.declared.builder.value_parser.Reading.TheVariants.{AsWritten}
 use Rattle.clap.specs.declared.parser.matches.ValueSource.TheVariants.{CommandLine}
-use Rattle.clap.specs.declared.error.ErrorKind.TheVariants as kind
 use Rattle.hrv_command_line.specs.CommandLine.{Asked, IsPlainWord, IsSpelled, IsWithinLimits, Lists, ListsAddresses, dis_app, dis_of, flag_rule, hrv_app, unmarked}
 use Rattle.hrv_command_line.proofs.HelpOnly.{both_pass, held, help_called, is_idle, mark_met, plain_met, short_met_plain, some_fault}
 use Rattle.hrv_command_line.proofs.Positionals.{at, end_fault}

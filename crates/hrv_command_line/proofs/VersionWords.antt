@@ -1,13 +1,12 @@
 -- The words that `clap` takes for a question for the version: there are none but its name.
-use Rattle.std.proofs.Common.{◌≡◌, ℕ, Bool, codes, true, false, true≢false, refl, sym, List, [], ◌∷◌, ◌++◌, Option, Some, None}
+use Rattle.std.proofs.Common.{◌≡◌, Bool, codes, true, false, true≢false, refl, sym, List, [], ◌∷◌, ◌++◌, Option, Some, None}
 use Rattle.clap.proofs.OnLiterals.{clap_on_literals}
-use Rattle.clap.specs.Walk.{Held, Text, arg_by_index, idle, to_positional, value}
+use Rattle.clap.specs.Walk.{Held, Text, idle, value}
 use Rattle.clap.specs.Simple.{Shape, built_leaf, inherited, marked_built, with_leaf_noted}
 use Rattle.clap.specs.Faults.{step_fault}
-use Rattle.clap.specs.declared.error.ErrorKind.TheVariants as kind
 use Rattle.hrv_command_line.specs.CommandLine.{hrv_app, version_app}
 use Rattle.hrv_command_line.proofs.HelpOnly.{held, is_idle, some_fault}
-use Rattle.hrv_command_line.proofs.Positionals.{TakesValues, at, end_fault}
+use Rattle.hrv_command_line.proofs.Positionals.{TakesValues, end_fault}
 use Rattle.hrv_command_line.proofs.Subcommands.{IsSubcommand}
 
 -- `version` as it is built below the program's command

@@ -263,7 +263,9 @@ fn marks_arg<'a>(alloc: Global) -> Arg<'a>
 {
     Arg::new(alloc, "turns")
         .long("turns")
-        .help("Gives for each pixel the number of the turn, modulo 2147483648, in place of its hart")
+        .help(
+            "Gives for each pixel the number of the turn, modulo 2147483648, in place of its hart",
+        )
         .action(ArgAction::SetTrue)
 }
 
