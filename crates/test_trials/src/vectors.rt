@@ -1,8 +1,8 @@
 //! Which vectorized loops are vector code.
 //!
-//! Code of a loop whose rounds are done at once, or collect their pixels, configures lanes by a register once, and no other code does; that of
-//! rounds which collect their pixels configures no lanes at first, by a literal. So an image has as many instructions of the one kind as there are
-//! vectorized loops, and as many of the other as collect their pixels, a loop in copies of an unrolled one once for each copy.
+//! Code of a vectorized loop configures lanes once, by a register or a literal, and no other code does. That of a loop which collects its pixels
+//! configures no lanes first, by the literal 0, and lanes by a register in each iteration. So an image has as many instructions of the one kind as
+//! there are vectorized loops, and as many of the other as collect their pixels, a loop in copies of an unrolled one once for each copy.
 
 ghost use Rattle.schedule.specs.Accepted.{IsAccepted};
 
@@ -74,20 +74,24 @@ fn marked_in(statement: &Stmt) -> u64 {
     }
 }
 
-/// How many words of an image configure lanes by a register, and how many by a literal.
+/// How many words of an image configure lanes, and how many configure none.
 fn configurations(image: &Image) -> (u64, u64) {
-    let mut by_register: u64 = 0;
-    let mut by_literal: u64 = 0;
+    let mut lanes: u64 = 0;
+    let mut none: u64 = 0;
     for word in image.words() {
         match decode(*word) {
             Some(Insn::Vector(VectorInsn::Vsetvli { .. })) => {
-                by_register = by_register.wrapping_add(1);
+                lanes = lanes.wrapping_add(1);
             }
-            Some(Insn::Vector(VectorInsn::Vsetivli { .. })) => {
-                by_literal = by_literal.wrapping_add(1);
+            Some(Insn::Vector(VectorInsn::Vsetivli { length, .. })) => {
+                if length.value() == 0 {
+                    none = none.wrapping_add(1);
+                } else {
+                    lanes = lanes.wrapping_add(1);
+                }
             }
             _ => {}
         }
     }
-    (by_register, by_literal)
+    (lanes, none)
 }
