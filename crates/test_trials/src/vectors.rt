@@ -74,23 +74,32 @@ fn marked_in(statement: &Stmt) -> u64 {
     }
 }
 
+/// How many lanes an instruction configures, if it configures some or none; by a register it counts as one.
+fn lanes_of(insn: VectorInsn) -> Option<u32> {
+    match insn {
+        VectorInsn::Vsetvli { .. } => Some(1),
+        VectorInsn::Vsetivli { length, .. } => Some(length.value()),
+        _ => None,
+    }
+}
+
+/// The same of a word.
+fn lanes_by(word: u32) -> Option<u32> {
+    match decode(word) {
+        Some(Insn::Vector(insn)) => lanes_of(insn),
+        _ => None,
+    }
+}
+
 /// How many words of an image configure lanes, and how many configure none.
 fn configurations(image: &Image) -> (u64, u64) {
     let mut lanes: u64 = 0;
     let mut none: u64 = 0;
     for word in image.words() {
-        match decode(*word) {
-            Some(Insn::Vector(VectorInsn::Vsetvli { .. })) => {
-                lanes = lanes.wrapping_add(1);
-            }
-            Some(Insn::Vector(VectorInsn::Vsetivli { length, .. })) => {
-                if length.value() == 0 {
-                    none = none.wrapping_add(1);
-                } else {
-                    lanes = lanes.wrapping_add(1);
-                }
-            }
-            _ => {}
+        match lanes_by(*word) {
+            Some(0) => none = none.wrapping_add(1),
+            Some(_) => lanes = lanes.wrapping_add(1),
+            None => {}
         }
     }
     (lanes, none)
