@@ -14,3 +14,4 @@ mod operands;
 
 pub use crate::lines::write_line;
 pub use crate::listings::{write_addressed_lines, write_lines};
+pub use crate::numbers::push_hexadecimal;

@@ -1,0 +1,5 @@
+pub mod Areas
+pub mod Lines
+pub mod Maps
+pub mod Names
+pub mod Phases

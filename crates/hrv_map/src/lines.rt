@@ -1,0 +1,306 @@
+//! The lines of phases' words of control, of inputs, of Funcs and of frames.
+
+ghost use Rattle.std.specs.Prelude.{◌≡◌, ◌+◌, ◌*◌, ◌<◌, ◌≤◌, ◌^◌, ◌++◌, IfOk, IfSome, OnOk, length, slice_get};
+ghost use Rattle.std.specs.String.{string_bytes};
+ghost use Rattle.bounds.specs.Boxes.{AreBoxes, IsBox, box_in};
+ghost use Rattle.hrv_map.specs.Lines as spec;
+
+use crate::areas::{area_text, func_area, input_area};
+use crate::names::name_at;
+use bounds::boxes::points;
+use bounds::layout::{DATA_START, FRAME};
+use bounds::{Boxes, Layout, SourceBox};
+use disassembler::push_hexadecimal;
+use halide_pipeline::{Func, Input};
+use schedule::{LoopPlace, Place, Schedule};
+use schedule_lines::stages::{Loop, LoopId, same_id};
+use sqlite_items::Items;
+use std::alloc::{AllocError, Global};
+
+/// `control PHASE ticket A gate A`
+#[tactic(auto, unfolding(crate::specs::Lines::control_line))]
+pub(crate) fn control_line(alloc: Global, phase: u64) -> Result<String, AllocError>
+    requires { phase < 2 ^ 32 }
+    ensures { IfOk result (λ text. string_bytes text ≡ spec.control_line phase) }
+{
+    let ticket = DATA_START + 8 * phase;
+    let mut text = String::new(alloc);
+    write!(text, "control {phase} ticket ")?;
+    push_hexadecimal(&mut text, 8, ticket)?;
+    text.push_str(" gate ")?;
+    push_hexadecimal(&mut text, 8, ticket + 4)?;
+    text.push_str("\n")?;
+    Ok(text)
+}
+
+/// Appends how an input holds its pixels.
+fn push_kind(out: &mut Vec<u8>, is_bytes: bool) -> Result<(), AllocError>
+    ensures { OnOk result (out.new.items ≡ out.old.items ++ spec.kind_text is_bytes) }
+{
+    if is_bytes {
+        out.extend_from_slice(b" bytes")?;
+    } else {
+        out.extend_from_slice(b" words")?;
+    }
+    Ok(())
+}
+
+/// `input NAME words` or `input NAME bytes`, and where it lies.
+#[tactic(auto, unfolding(crate::specs::Lines::input_line))]
+fn push_input_line(
+    alloc: Global,
+    out: &mut Vec<u8>,
+    name: &[u8],
+    at: u64,
+    input: &Input,
+) -> Result<(), AllocError>
+    ensures { OnOk result (out.new.items ≡ out.old.items ++ spec.input_line name.now at input.now) }
+{
+    let area = area_text(alloc, input_area(at, input))?;
+    out.extend_from_slice(b"input ")?;
+    out.extend_from_slice(name)?;
+    push_kind(out, input.is_bytes)?;
+    out.extend_from_slice(area.as_bytes())?;
+    out.extend_from_slice(b"\n")?;
+    Ok(())
+}
+
+/// The address at a place.
+fn address_at(ats: &Items<u64>, place: usize) -> u64
+    ensures { result ≡ spec.address_at ats.now place }
+{
+    match ats.get(place) {
+        Some(at) => *at,
+        None => 0,
+    }
+}
+
+/// The lines of the inputs from a place on.
+#[tactic(auto, unfolding(crate::specs::Lines::input_lines))]
+pub(crate) fn push_input_lines(
+    alloc: Global,
+    out: &mut Vec<u8>,
+    names: &Items<Items<u8>>,
+    ats: &Items<u64>,
+    place: usize,
+    inputs: &[Input],
+) -> Result<(), AllocError>
+    requires { place + length inputs.now < 2 ^ 64 }
+    ensures { OnOk result (out.new.items ≡ out.old.items ++ spec.input_lines names.now ats.now place inputs.now) }
+{
+    let [input, others @ ..] = inputs else {
+        return Ok(());
+    };
+    push_input_line(
+        alloc,
+        out,
+        name_at(names, place),
+        address_at(ats, place),
+        input,
+    )?;
+    push_input_lines(alloc, out, names, ats, place + 1, others)?;
+    Ok(())
+}
+
+/// The name of a loop among those of a stage.
+fn loop_name(id: LoopId, loops: &[Loop]) -> &[u8]
+    ensures { result.now ≡ spec.loop_name id loops.now }
+{
+    match loops {
+        [] => &[],
+        [own, others @ ..] => {
+            if same_id(own.id, id) {
+                own.name.as_slice()
+            } else {
+                loop_name(id, others)
+            }
+        }
+    }
+}
+
+/// The name of a loop of the pure definition of a Func.
+fn loop_name_in(id: LoopId, schedule: &Schedule, func: usize) -> &[u8]
+    ensures { result.now ≡ spec.loop_name_in id (slice_get schedule.now.funcs func) }
+{
+    match schedule.funcs.get(func) {
+        None => &[],
+        Some(plan) => loop_name(id, plan.pure.loops.as_slice()),
+    }
+}
+
+/// `func NAME root`, and where its box lies.
+#[tactic(auto, unfolding(crate::specs::Lines::root_line))]
+fn push_root_line(
+    alloc: Global,
+    out: &mut Vec<u8>,
+    name: &[u8],
+    at: u64,
+    own: &SourceBox,
+) -> Result<(), AllocError>
+    requires { IsBox own.now }
+    ensures { OnOk result (out.new.items ≡ out.old.items ++ spec.root_line name.now at own.now) }
+{
+    let area = area_text(alloc, func_area(at, own))?;
+    out.extend_from_slice(b"func ")?;
+    out.extend_from_slice(name)?;
+    out.extend_from_slice(b" root")?;
+    out.extend_from_slice(area.as_bytes())?;
+    out.extend_from_slice(b"\n")?;
+    Ok(())
+}
+
+/// ` copies 8 distance BYTES`
+#[tactic(auto, unfolding(crate::specs::Lines::copies_text))]
+fn copies_text(alloc: Global, distance: u64) -> Result<String, AllocError>
+    ensures { IfOk result (λ text. string_bytes text ≡ spec.copies_text distance) }
+{
+    let mut text = String::new(alloc);
+    write!(text, " copies 8 distance {distance}\n")?;
+    Ok(text)
+}
+
+/// `func NAME at CONSUMER LOOP`, where the box of hart 0 lies, and how far the others'.
+#[tactic(auto, unfolding(crate::specs::Lines::copies_line))]
+fn push_copies_line(
+    alloc: Global,
+    out: &mut Vec<u8>,
+    name: &[u8],
+    consumer: &[u8],
+    inside: &[u8],
+    at: u64,
+    own: &SourceBox,
+) -> Result<(), AllocError>
+    requires { IsBox own.now }
+    ensures { OnOk result (out.new.items ≡ out.old.items ++ spec.copies_line name.now consumer.now inside.now at own.now) }
+{
+    let area = area_text(alloc, func_area(at, own))?;
+    let copies = copies_text(alloc, 4 * points(own))?;
+    out.extend_from_slice(b"func ")?;
+    out.extend_from_slice(name)?;
+    out.extend_from_slice(b" at ")?;
+    out.extend_from_slice(consumer)?;
+    out.extend_from_slice(b" ")?;
+    out.extend_from_slice(inside)?;
+    out.extend_from_slice(area.as_bytes())?;
+    out.extend_from_slice(copies.as_bytes())?;
+    Ok(())
+}
+
+/// The box at a place.
+pub(crate) fn box_at(boxes: &[Option<SourceBox>], place: usize) -> Option<SourceBox>
+    requires { AreBoxes boxes.now }
+    ensures is { result ≡ box_in (slice_get boxes.now place) }
+    ensures near { IfSome result IsBox }
+{
+    match boxes.get(place) {
+        None => None,
+        Some(own) => *own,
+    }
+}
+
+/// The line of a Func that is computed at root.
+fn push_root(
+    alloc: Global,
+    out: &mut Vec<u8>,
+    names: &Items<Items<u8>>,
+    boxes: &Boxes,
+    place: usize,
+) -> Result<(), AllocError>
+    ensures { OnOk result (out.new.items ≡ out.old.items ++ spec.root_if names.now boxes.now place (box_in (slice_get boxes.now.funcs place))) }
+{
+    let Some(own) = box_at(boxes.funcs.as_slice(), place) else {
+        return Ok(());
+    };
+    let address = address_at(&boxes.layout.roots, place);
+    push_root_line(alloc, out, name_at(names, place), address, &own)?;
+    Ok(())
+}
+
+/// The line of a Func that is computed at a loop.
+fn push_copies(
+    alloc: Global,
+    out: &mut Vec<u8>,
+    names: &Items<Items<u8>>,
+    schedule: &Schedule,
+    boxes: &Boxes,
+    place: usize,
+    at: LoopPlace,
+) -> Result<(), AllocError>
+    ensures { OnOk result (out.new.items ≡ out.old.items ++ spec.copies_if names.now schedule.now boxes.now place at (box_in (slice_get boxes.now.funcs place))) }
+{
+    let Some(own) = box_at(boxes.funcs.as_slice(), place) else {
+        return Ok(());
+    };
+    let inside = loop_name_in(at.inside, schedule, at.func);
+    let address = address_at(&boxes.layout.privates, place);
+    let name = name_at(names, place);
+    let consumer = name_at(names, at.func);
+    push_copies_line(alloc, out, name, consumer, inside, address, &own)?;
+    Ok(())
+}
+
+/// The line of the Func at a place.
+#[tactic(auto, unfolding(crate::specs::Lines::func_line))]
+fn push_func_line(
+    alloc: Global,
+    out: &mut Vec<u8>,
+    names: &Items<Items<u8>>,
+    schedule: &Schedule,
+    boxes: &Boxes,
+    place: usize,
+) -> Result<(), AllocError>
+    ensures { OnOk result (out.new.items ≡ out.old.items ++ spec.func_line names.now schedule.now boxes.now place) }
+{
+    let Some(standing) = schedule.standing(place) else {
+        return Ok(());
+    };
+    match standing.place {
+        Place::Root => push_root(alloc, out, names, boxes, place)?,
+        Place::At(at) => push_copies(alloc, out, names, schedule, boxes, place, at)?,
+        Place::Inlined | Place::Nowhere => {}
+    }
+    Ok(())
+}
+
+/// The lines of the Funcs from a place on.
+#[tactic(auto, unfolding(crate::specs::Lines::func_lines))]
+pub(crate) fn push_func_lines(
+    alloc: Global,
+    out: &mut Vec<u8>,
+    names: &Items<Items<u8>>,
+    schedule: &Schedule,
+    boxes: &Boxes,
+    place: usize,
+    funcs: &[Func],
+) -> Result<(), AllocError>
+    requires { place + length funcs.now < 2 ^ 64 }
+    ensures { OnOk result (out.new.items ≡ out.old.items ++ spec.func_lines names.now schedule.now boxes.now place funcs.now) }
+{
+    let [_, others @ ..] = funcs else {
+        return Ok(());
+    };
+    push_func_line(alloc, out, names, schedule, boxes, place)?;
+    push_func_lines(alloc, out, names, schedule, boxes, place + 1, others)?;
+    Ok(())
+}
+
+/// `frames address A copies 8 distance 4096`, where there are any.
+#[tactic(auto, unfolding(crate::specs::Lines::frames_line))]
+pub(crate) fn push_frames_line(
+    alloc: Global,
+    out: &mut Vec<u8>,
+    layout: &Layout,
+) -> Result<(), AllocError>
+    ensures { OnOk result (out.new.items ≡ out.old.items ++ spec.frames_line layout.now) }
+{
+    if !layout.has_frames {
+        return Ok(());
+    }
+    let mut text = String::new(alloc);
+    text.push_str("frames address ")?;
+    push_hexadecimal(&mut text, 8, layout.frames)?;
+    let copies = copies_text(alloc, FRAME)?;
+    out.extend_from_slice(text.as_bytes())?;
+    out.extend_from_slice(copies.as_bytes())?;
+    Ok(())
+}

@@ -1,0 +1,126 @@
+//! The text that says where everything of a program lies.
+
+ghost use Rattle.std.specs.Prelude.{◌≡◌, ◌<◌, ◌≤◌, ◌^◌, ◌++◌, IfOk, OnOk};
+ghost use Rattle.schedule.specs.Accepted.{IsAccepted};
+ghost use Rattle.hrv_map.specs.Lines as lines;
+ghost use Rattle.hrv_map.specs.Maps as spec;
+
+use crate::lines::{control_line, push_frames_line, push_func_lines, push_input_lines};
+use crate::names::{Names, names_of};
+use crate::phases::{CodePhase, push_phase_lines, push_phases, push_tasks, stages_of};
+use bounds::Boxes;
+use halide_pipeline::Pipeline;
+use schedule::Schedule;
+use std::alloc::{AllocError, Global};
+
+/// Appends the line of a phase's words of control.
+fn push_control_line(alloc: Global, out: &mut Vec<u8>, phase: u64) -> Result<(), AllocError>
+    requires { phase < 2 ^ 32 }
+    ensures { OnOk result (out.new.items ≡ out.old.items ++ lines.control_line phase) }
+{
+    let line = control_line(alloc, phase)?;
+    out.extend_from_slice(line.as_bytes())?;
+    Ok(())
+}
+
+/// Appends the lines of the words of control of the first so many phases.
+fn push_control_lines(alloc: Global, out: &mut Vec<u8>, phases: u64) -> Result<(), AllocError>
+    requires { phases ≤ 4194304 }
+    ensures { OnOk result (out.new.items ≡ out.old.items ++ spec.control_lines phases) }
+{
+    for phase in 0..phases {
+        push_control_line(alloc, out, phase)?;
+    }
+    Ok(())
+}
+
+/// Where the parts of the data lie.
+#[tactic(auto, unfolding(crate::specs::Maps::layout_text))]
+fn push_layout(
+    alloc: Global,
+    out: &mut Vec<u8>,
+    names: &Names,
+    pipeline: &Pipeline,
+    schedule: &Schedule,
+    boxes: &Boxes,
+) -> Result<(), AllocError>
+    requires { boxes.now.layout.phases ≤ 4194304 }
+    ensures { OnOk result (out.new.items ≡ out.old.items ++ spec.layout_text names.now pipeline.now schedule.now boxes.now) }
+{
+    let layout = &boxes.layout;
+    push_control_lines(alloc, out, layout.phases)?;
+    push_input_lines(
+        alloc,
+        out,
+        &names.inputs,
+        &layout.inputs,
+        0,
+        pipeline.inputs(),
+    )?;
+    push_func_lines(
+        alloc,
+        out,
+        &names.funcs,
+        schedule,
+        boxes,
+        0,
+        pipeline.funcs(),
+    )?;
+    push_frames_line(alloc, out, layout)?;
+    Ok(())
+}
+
+/// The phases in the order of their code.
+#[tactic(auto, unfolding(crate::specs::Maps::phases_of))]
+fn phases_of(
+    alloc: Global,
+    pipeline: &Pipeline,
+    schedule: &Schedule,
+    boxes: &Boxes,
+    ends: &[u32],
+) -> Result<Vec<CodePhase>, AllocError>
+    requires { IsAccepted pipeline.now schedule.now }
+    ensures { IfOk result (λ phases. phases.items ≡ spec.phases_of pipeline.now schedule.now boxes.now ends.now) }
+{
+    let stages = stages_of(alloc, pipeline, schedule, boxes)?;
+    let mut tasks = Vec::new(alloc);
+    push_tasks(
+        alloc,
+        &mut tasks,
+        pipeline,
+        schedule,
+        boxes,
+        stages.as_slice(),
+    )?;
+    let mut phases = Vec::new(alloc);
+    push_phases(&mut phases, 0, 0, stages.as_slice(), tasks.as_slice(), ends)?;
+    Ok(phases)
+}
+
+/// The text of a pipeline under a schedule that was accepted for it, with boxes that were inferred for both: where the parts of the data lie, and
+/// which words of the machine's text are the code of each phase. Names are those that the algorithm's text gives; the code of each phase ends at a
+/// word of the machine's text, by its place from 0.
+///
+/// # Errors
+///
+/// Memory ran out.
+#[tactic(auto, unfolding(crate::specs::Maps::text_of))]
+pub fn map_text(
+    alloc: Global,
+    algorithm: &str,
+    pipeline: &Pipeline,
+    schedule: &Schedule,
+    boxes: &Boxes,
+    ends: &[u32],
+) -> Result<Vec<u8>, AllocError>
+    requires accepted { IsAccepted pipeline.now schedule.now }
+    requires phases { boxes.now.layout.phases ≤ 4194304 }
+    ensures { IfOk result (λ text. text.items ≡ spec.map_text algorithm.now pipeline.now schedule.now boxes.now ends.now) }
+{
+    let names = names_of(alloc, algorithm)?;
+    let phases = phases_of(alloc, pipeline, schedule, boxes, ends)?;
+    let mut out = Vec::new(alloc);
+    push_layout(alloc, &mut out, &names, pipeline, schedule, boxes)?;
+    push_phase_lines(alloc, &mut out, &names.funcs, phases.as_slice())?;
+    Ok(out)
+}

@@ -1,0 +1,282 @@
+//! The stages that are phases, and where the code of each lies.
+
+ghost use Rattle.std.specs.Prelude.{◌≡◌, ◌+◌, ◌*◌, ◌<◌, ◌^◌, ◌++◌, IfOk, OnOk, codes, length, slice_get, unwrap_or};
+ghost use Rattle.std.specs.Fmt.{decimal};
+ghost use Rattle.std.specs.String.{string_bytes};
+ghost use Rattle.disassembler.specs.Listing.{hexadecimal_text};
+ghost use Rattle.memory.specs.Addresses.{text_start};
+ghost use Rattle.schedule.specs.Accepted.{IsAccepted};
+ghost use Rattle.bounds.specs.Boxes.{box_in};
+ghost use Rattle.bounds.specs.Tasks as counts;
+ghost use Rattle.hrv_map.specs.Lines.{newline};
+ghost use Rattle.hrv_map.specs.Phases as spec;
+
+use crate::lines::box_at;
+use crate::names::name_at;
+use bounds::Boxes;
+use bounds::tasks::tasks;
+use disassembler::push_hexadecimal;
+use halide_pipeline::{Func, Pipeline, Update};
+use memory::TEXT_START;
+use schedule::{Place, Schedule};
+use schedule_lines::stages::StageName;
+use sqlite_items::Items;
+use std::alloc::{AllocError, Global};
+
+/// A phase, and which words of the text are its code.
+#[derive(Clone, Copy, Debug, PartialEq, Eq)]
+pub struct CodePhase {
+    /// From 0.
+    pub number: u64,
+    pub stage: StageName,
+    /// How many iterations harts share.
+    pub tasks: u32,
+    /// The place of its first word in the text, from 0.
+    pub first: u32,
+    /// The place behind its last word.
+    pub behind: u32,
+}
+
+/// Appends the updates of a Func from a place on.
+#[tactic(auto, unfolding(crate::specs::Phases::updates_from))]
+fn push_updates(
+    stages: &mut Vec<StageName>,
+    func: usize,
+    at: usize,
+    updates: &[Update],
+) -> Result<(), AllocError>
+    requires { at + length updates.now < 2 ^ 64 }
+    ensures { OnOk result (stages.new.items ≡ stages.old.items ++ spec.updates_from func at updates.now) }
+{
+    let [_, others @ ..] = updates else {
+        return Ok(());
+    };
+    stages.push(StageName {
+        func,
+        update: Some(at),
+    })?;
+    push_updates(stages, func, at + 1, others)?;
+    Ok(())
+}
+
+/// Appends the stages of a Func at root, if it has a box.
+fn push_all(
+    stages: &mut Vec<StageName>,
+    boxes: &Boxes,
+    place: usize,
+    func: &Func,
+) -> Result<(), AllocError>
+    ensures { OnOk result (stages.new.items ≡ stages.old.items ++ spec.stages_in place func.now (box_in (slice_get boxes.now.funcs place))) }
+{
+    if let None = box_at(boxes.funcs.as_slice(), place) {
+        return Ok(());
+    }
+    stages.push(StageName {
+        func: place,
+        update: None,
+    })?;
+    push_updates(stages, place, 0, func.updates.as_slice())?;
+    Ok(())
+}
+
+/// Appends the stages of a Func that are phases.
+fn push_stages_of(
+    stages: &mut Vec<StageName>,
+    schedule: &Schedule,
+    boxes: &Boxes,
+    place: usize,
+    func: &Func,
+) -> Result<(), AllocError>
+    ensures { OnOk result (stages.new.items ≡ stages.old.items ++ spec.stages_if place func.now (box_in (slice_get boxes.now.funcs place)) (slice_get schedule.now.standings place)) }
+{
+    let Some(standing) = schedule.standing(place) else {
+        return Ok(());
+    };
+    match standing.place {
+        Place::Root => push_all(stages, boxes, place, func)?,
+        Place::At(_) | Place::Inlined | Place::Nowhere => {}
+    }
+    Ok(())
+}
+
+/// Appends the stages that are phases, of the Funcs from a place on.
+#[tactic(auto, unfolding(crate::specs::Phases::stages_from))]
+fn push_stages(
+    stages: &mut Vec<StageName>,
+    schedule: &Schedule,
+    boxes: &Boxes,
+    place: usize,
+    funcs: &[Func],
+) -> Result<(), AllocError>
+    requires { place + length funcs.now < 2 ^ 64 }
+    ensures { OnOk result (stages.new.items ≡ stages.old.items ++ spec.stages_from schedule.now boxes.now place funcs.now) }
+{
+    let [func, others @ ..] = funcs else {
+        return Ok(());
+    };
+    push_stages_of(stages, schedule, boxes, place, func)?;
+    push_stages(stages, schedule, boxes, place + 1, others)?;
+    Ok(())
+}
+
+/// The stages that are phases, in order.
+pub(crate) fn stages_of(
+    alloc: Global,
+    pipeline: &Pipeline,
+    schedule: &Schedule,
+    boxes: &Boxes,
+) -> Result<Vec<StageName>, AllocError>
+    ensures { IfOk result (λ stages. stages.items ≡ spec.stages_from schedule.now boxes.now 0 pipeline.now.funcs) }
+{
+    let mut stages = Vec::new(alloc);
+    push_stages(&mut stages, schedule, boxes, 0, pipeline.funcs())?;
+    Ok(stages)
+}
+
+/// How many tasks the phase of a stage has.
+fn tasks_of(
+    alloc: Global,
+    pipeline: &Pipeline,
+    schedule: &Schedule,
+    boxes: &Boxes,
+    stage: StageName,
+) -> Result<u32, AllocError>
+    requires { IsAccepted pipeline.now schedule.now }
+    ensures { IfOk result (λ count. count ≡ unwrap_or (counts.tasks pipeline.now schedule.now boxes.now.funcs stage) 0) }
+{
+    let count = tasks(alloc, pipeline, schedule, &boxes.funcs, stage)?;
+    Ok(count.unwrap_or(0))
+}
+
+/// How many tasks the phase of each stage has.
+#[tactic(auto, unfolding(crate::specs::Phases::tasks_each))]
+pub(crate) fn push_tasks(
+    alloc: Global,
+    list: &mut Vec<u32>,
+    pipeline: &Pipeline,
+    schedule: &Schedule,
+    boxes: &Boxes,
+    stages: &[StageName],
+) -> Result<(), AllocError>
+    requires { IsAccepted pipeline.now schedule.now }
+    ensures { OnOk result (list.new.items ≡ list.old.items ++ spec.tasks_each pipeline.now schedule.now boxes.now stages.now) }
+{
+    let [stage, others @ ..] = stages else {
+        return Ok(());
+    };
+    let count = tasks_of(alloc, pipeline, schedule, boxes, *stage)?;
+    list.push(count)?;
+    push_tasks(alloc, list, pipeline, schedule, boxes, others)?;
+    Ok(())
+}
+
+/// Appends the phases with these stages and numbers of tasks, each of which ends at a word of the text where the next one begins.
+#[tactic(auto, unfolding(crate::specs::Phases::phases_from))]
+pub(crate) fn push_phases(
+    phases: &mut Vec<CodePhase>,
+    number: u64,
+    first: u32,
+    stages: &[StageName],
+    tasks: &[u32],
+    ends: &[u32],
+) -> Result<(), AllocError>
+    requires { number + length stages.now < 2 ^ 64 }
+    ensures { OnOk result (phases.new.items ≡ phases.old.items ++ spec.phases_from number first stages.now tasks.now ends.now) }
+{
+    let [stage, stages @ ..] = stages else {
+        return Ok(());
+    };
+    let [count, tasks @ ..] = tasks else {
+        return Ok(());
+    };
+    let [end, ends @ ..] = ends else {
+        return Ok(());
+    };
+    phases.push(CodePhase {
+        number,
+        stage: *stage,
+        tasks: *count,
+        first,
+        behind: *end,
+    })?;
+    push_phases(phases, number + 1, *end, stages, tasks, ends)?;
+    Ok(())
+}
+
+/// Appends `.PLACE` of an update.
+fn push_update(text: &mut String, update: Option<usize>) -> Result<(), AllocError>
+    ensures { OnOk result (string_bytes text.new ≡ string_bytes text.old ++ spec.update_text update) }
+{
+    if let Some(at) = update {
+        write!(text, ".{at}")?;
+    }
+    Ok(())
+}
+
+/// The address of a word of the text.
+fn address_of(place: u32) -> u64
+    ensures { result ≡ text_start + 4 * place }
+{
+    u64::from(TEXT_START) + 4 * u64::from(place)
+}
+
+/// What stands behind the name of a phase's stage: ` tasks N code FIRST BEHIND`.
+#[tactic(auto, unfolding(crate::specs::Phases::code_text))]
+fn code_text(alloc: Global, phase: &CodePhase) -> Result<String, AllocError>
+    ensures { IfOk result (λ text. string_bytes text ≡ spec.code_text phase.now) }
+{
+    let tasks = phase.tasks;
+    let mut text = String::new(alloc);
+    push_update(&mut text, phase.stage.update)?;
+    write!(text, " tasks {tasks} code ")?;
+    push_hexadecimal(&mut text, 8, address_of(phase.first))?;
+    text.push_str(" ")?;
+    push_hexadecimal(&mut text, 8, address_of(phase.behind))?;
+    text.push_str("\n")?;
+    Ok(text)
+}
+
+/// What stands before the name of a phase's stage.
+fn number_text(alloc: Global, number: u64) -> Result<String, AllocError>
+    ensures { IfOk result (λ text. string_bytes text ≡ codes "phase " ++ decimal number ++ codes " stage ") }
+{
+    let mut text = String::new(alloc);
+    write!(text, "phase {number} stage ")?;
+    Ok(text)
+}
+
+/// `phase PHASE stage NAME tasks N code FIRST BEHIND`
+#[tactic(auto, unfolding(crate::specs::Phases::phase_line))]
+fn push_phase_line(
+    alloc: Global,
+    out: &mut Vec<u8>,
+    names: &Items<Items<u8>>,
+    phase: &CodePhase,
+) -> Result<(), AllocError>
+    ensures { OnOk result (out.new.items ≡ out.old.items ++ spec.phase_line names.now phase.now) }
+{
+    let number = number_text(alloc, phase.number)?;
+    let code = code_text(alloc, phase)?;
+    out.extend_from_slice(number.as_bytes())?;
+    out.extend_from_slice(name_at(names, phase.stage.func))?;
+    out.extend_from_slice(code.as_bytes())?;
+    Ok(())
+}
+
+/// The lines of phases.
+#[tactic(auto, unfolding(crate::specs::Phases::phase_lines))]
+pub(crate) fn push_phase_lines(
+    alloc: Global,
+    out: &mut Vec<u8>,
+    names: &Items<Items<u8>>,
+    phases: &[CodePhase],
+) -> Result<(), AllocError>
+    ensures { OnOk result (out.new.items ≡ out.old.items ++ spec.phase_lines names.now phases.now) }
+{
+    let [phase, others @ ..] = phases else {
+        return Ok(());
+    };
+    push_phase_line(alloc, out, names, phase)?;
+    push_phase_lines(alloc, out, names, others)?;
+    Ok(())
+}
