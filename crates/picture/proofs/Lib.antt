@@ -12,3 +12,4 @@ pub mod Fills
 pub mod Agrees
 pub mod Forward
 pub mod Joined
+pub mod AlongUpdates

@@ -10,9 +10,10 @@ ghost use Rattle.picture.specs.inner.Evaluation.{plane_of, IsNumberedRow, AreNum
 use crate::boxes::{Bounds, Slices, Wanted, bounds_of, find, slices_of};
 use crate::faults::EvalError;
 use crate::pictures::Picture;
-use crate::plain::{func_at, is_forward, run_forward};
+use crate::plain::{func_at, is_forward};
 use crate::row_values::pixel_row;
 use crate::scenes::{Known, Scene, Slice, Table};
+use crate::update_runs::run_rows;
 use halide_pipeline::{Func, Input, Pipeline, Update, words};
 use rayon::prelude::*;
 use std::alloc::{AllocError, Global};
@@ -178,7 +179,7 @@ fn numbered_slice(
     let step = (number % (1 << 32)) as u32;
     let x = words::add(wanted.left, step);
     let y = words::add(wanted.top, step);
-    let slice = run_forward(alloc, scene, own, func, updates, update, x, y)?;
+    let slice = run_rows(alloc, scene, own, func, updates, update, x, y)?;
     Ok(slice)
 }
 

@@ -9,8 +9,8 @@
 //! [`evaluate`] answers: the output's pixels, or why the pictures aren't those that are asked for.
 //! Each Func gets a table of the pixels that are wanted of it (`boxes`), filled by as many threads
 //! as there are processors (`evaluation`); what no table has is computed as it is defined (`plain`).
-//! An update is run forward over its reduction box, beforehand and once where at most one argument
-//! stands in place.
+//! An update is run forward over its reduction box, row by row (`update_rows`, `update_runs`), beforehand and once
+//! where at most one argument stands in place.
 #![tactic(auto)]
 
 mod boxes;
@@ -23,6 +23,8 @@ mod row_reads;
 mod row_values;
 mod scenes;
 pub mod spellings;
+mod update_rows;
+mod update_runs;
 mod writes;
 
 pub use crate::evaluation::{evaluate, judge};

@@ -87,7 +87,7 @@ fn reduction_value(minimum: u32, step: u64) -> u32
 }
 
 /// The point with this number of a reduction box, for a wanted point.
-fn at_reduction(update: &Update, number: u64, x: u32, y: u32) -> Environment
+pub(crate) fn at_reduction(update: &Update, number: u64, x: u32, y: u32) -> Environment
     ensures { result ≡ spec.at_reduction update.now number x y }
 {
     let extent = u64::from(update.first.extent);
@@ -197,7 +197,7 @@ pub(crate) fn is_forward(update: &Update) -> bool
 /// The value of an expression in a definition of the Func at a place.
 #[cycle(pixel)]
 #[tactic(auto, unfolding(halide_pipeline::specs::Pixel::value, halide_pipeline::specs::Expressions::nodes))]
-fn value(
+pub(crate) fn value(
     alloc: Global,
     scene: &Scene,
     own: usize,
@@ -291,7 +291,7 @@ pub(crate) fn read(
 /// A pixel of the Func at a place after so many whole updates and so many points of the next one, of
 /// which a slice is known.
 #[cycle(pixel)]
-fn forward_pixel(
+pub(crate) fn forward_pixel(
     alloc: Global,
     scene: &Scene,
     own: usize,
@@ -462,7 +462,7 @@ fn over_slice(
 
 /// The slice of a point, when an update has run on it.
 #[cycle(pixel)]
-pub(crate) fn run_forward(
+fn run_forward(
     alloc: Global,
     scene: &Scene,
     own: usize,
@@ -499,7 +499,7 @@ pub(crate) fn run_forward(
 
 /// The value of an index on the left of an update, 0 where it isn't written.
 #[cycle(pixel)]
-fn index_value(
+pub(crate) fn index_value(
     alloc: Global,
     scene: &Scene,
     own: usize,
