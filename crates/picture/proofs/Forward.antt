@@ -39,6 +39,29 @@ forward_none scene own updates slice none = record {
       (sym (after_of-zero own (slice_get scene.funcs.now own) (inputs_of scene) (earlier_of scene own) updates x y));
 }
 
+by_place : (test : Bool) (pixel now before : ℕ) → (test ≡ true → pixel ≡ now) → before ≡ now → Holds (cond test (Some pixel) None) now before
+by_place true pixel now before own same = own refl
+by_place false pixel now before own same = same
+
+-- what was there before is written down
+pub forward_seeded : (scene : Scene) (own updates : ℕ) (func : Func) (blank slice : Slice) (x y pixel : ℕ) → slice_get scene.funcs.now own ≡ Some func → IsNone blank.writes → Sets blank.writes slice.writes x y pixel
+    → pixel ≡ stage own func (inputs_of scene) (earlier_of scene own) updates x y → IsForward scene own updates 0 slice
+forward_seeded scene own updates func blank slice x y pixel is none sets pixel_is = record {
+  each = λ i j fits_i fits_j on.
+      let now = after_of own (slice_get scene.funcs.now own) (inputs_of scene) (earlier_of scene own) updates 0 i j in
+      let before = stage_of scene own updates i j in
+      let same : before ≡ now = sym (after_of-zero own (slice_get scene.funcs.now own) (inputs_of scene) (earlier_of scene own) updates i j) in
+      let there : stage_of scene own updates x y ≡ stage own func (inputs_of scene) (earlier_of scene own) updates x y = ap (λ (f : Option Func). stage_some own f (inputs_of scene) (earlier_of scene own) updates x y) is in
+      subst (λ (o : Option ℕ). Holds o now before) (sym (sets.each i j fits_i fits_j ∙ ap (cond (i == x && j == y) (Some pixel)) (none.each i j)))
+      (by_place (i == x && j == y) pixel now before
+      (λ hit.
+      let parts = and_parts (i == x) (j == y) hit in
+      let at_i : i ≡ x = grind (arith, nat_tests, parts.0) in
+      let at_j : j ≡ y = grind (arith, nat_tests, parts.1) in
+      pixel_is ∙ sym there ∙ ap (λ (n : ℕ). stage_of scene own updates n y) (sym at_i) ∙ ap (λ (n : ℕ). stage_of scene own updates i n) (sym at_j) ∙ same)
+      same);
+}
+
 -- ---- points of one slice have the same left sides and right sides
 
 -- the arguments that are used have the same values

@@ -12,4 +12,5 @@ pub mod Fills
 pub mod Agrees
 pub mod Forward
 pub mod Joined
+pub mod Kept
 pub mod AlongUpdates

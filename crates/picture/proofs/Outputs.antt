@@ -6,13 +6,12 @@ use Rattle.std.proofs.lemmas.Option.{slice_get_past}
 use Rattle.halide_pipeline.specs.Words as word
 use Rattle.halide_pipeline.specs.declared.definitions.Func.{Func}
 use Rattle.halide_pipeline.specs.Pipelines.{Pipeline}
-use Rattle.picture.specs.declared.scenes.Scene.{Scene}
 use Rattle.picture.specs.declared.scenes.Table.{Table}
 use Rattle.halide_pipeline.specs.Picture.{IsPicture, picture_if, is_picture}
 use Rattle.halide_pipeline.specs.Contents.{PictureContents}
 use Rattle.halide_pipeline.specs.Pixel.{Planes, func_plane, pixels, input_planes}
 use Rattle.picture.specs.Evaluated.{IsOutput}
-use Rattle.picture.specs.inner.Evaluation.{plane_of, IsTable}
+use Rattle.picture.specs.inner.Evaluation.{plane_in, IsTable}
 use Rattle.picture.proofs.Levels.{pixels-before, pixels-past}
 use Rattle.picture.proofs.Tables.{pixel_at_place}
 use Rattle.picture.proofs.SpelledBack.{limits_of}
@@ -25,12 +24,12 @@ subtract-zero x fits = omega arith
 func_plane-past : (place : ℕ) (func : Option Func) (inputs earlier : Planes) (x y : ℕ) → func ≡ None → func_plane place func inputs earlier x y ≡ 0
 func_plane-past place func inputs earlier x y e = rw e refl
 
-pub plane_of-all : (scene : Scene) (place x y : ℕ) → plane_of scene place x y ≡ pixels scene.funcs.now (input_planes scene.pictures.now) (length scene.funcs.now) place x y
-plane_of-all scene place x y = elim (cases_lt place (length scene.funcs.now)) [
-  | inl before ↦ sym (pixels-before scene.funcs.now (input_planes scene.pictures.now) (length scene.funcs.now) place x y before)
+pub plane_of-all : (funcs : List Func) (given : List PictureContents) (place x y : ℕ) → plane_in funcs given place x y ≡ pixels funcs (input_planes given) (length funcs) place x y
+plane_of-all funcs given place x y = elim (cases_lt place (length funcs)) [
+  | inl before ↦ sym (pixels-before funcs (input_planes given) (length funcs) place x y before)
   | inr past ↦
-      func_plane-past place (slice_get scene.funcs.now place) (input_planes scene.pictures.now) (pixels scene.funcs.now (input_planes scene.pictures.now) place) x y (slice_get_past scene.funcs.now place past)
-      ∙ sym (pixels-past scene.funcs.now (input_planes scene.pictures.now) (length scene.funcs.now) place x y past)
+      func_plane-past place (slice_get funcs place) (input_planes given) (pixels funcs (input_planes given) place) x y (slice_get_past funcs place past)
+      ∙ sym (pixels-past funcs (input_planes given) (length funcs) place x y past)
 ]
 
 -- parts that were accepted
@@ -38,10 +37,10 @@ accepted : (test : Bool) (parts picture : PictureContents) → cond test (Some p
 accepted true parts picture e = (refl, cc)
 accepted false parts picture e = absurd cc
 
-pub output_from_table : (pipeline : Pipeline) (pictures : List PictureContents) (scene : Scene) (table : Table) (picture : PictureContents) → scene.funcs.now ≡ pipeline.funcs → scene.pictures.now ≡ pictures
-    → IsTable (plane_of scene pipeline.output.func) table → table.left ≡ 0 → table.top ≡ 0 → table.width ≡ pipeline.output.width → table.height ≡ pipeline.output.height
+pub output_from_table : (pipeline : Pipeline) (pictures : List PictureContents) (funcs : List Func) (given : List PictureContents) (table : Table) (picture : PictureContents) → funcs ≡ pipeline.funcs → given ≡ pictures
+    → IsTable (plane_in funcs given pipeline.output.func) table → table.left ≡ 0 → table.top ≡ 0 → table.width ≡ pipeline.output.width → table.height ≡ pipeline.output.height
     → picture_if (record { width = pipeline.output.width; height = pipeline.output.height; pixels = table.pixels.items }) ≡ Some picture → IsPicture picture → IsOutput pipeline pictures picture
-output_from_table pipeline pictures scene table picture funcs_are pictures_are is left top width height made rules =
+output_from_table pipeline pictures funcs given table picture funcs_are pictures_are is left top width height made rules =
     let parts : PictureContents = record { width = pipeline.output.width; height = pipeline.output.height; pixels = table.pixels.items } in
     let same = accepted (is_picture parts) parts picture made in
     let limits = limits_of parts same.0 in
@@ -53,9 +52,9 @@ output_from_table pipeline pictures scene table picture funcs_are pictures_are i
           let fits_y : y < 2 ^ 32 = omega (arith, limits.most_height, high) in
           let column : x ≡ word.subtract x table.left = sym (ap (word.subtract x) left ∙ subtract-zero x fits_x) in
           let row : y ≡ word.subtract y table.top = sym (ap (word.subtract y) top ∙ subtract-zero y fits_y) in
-          let there = pixel_at_place table (plane_of scene pipeline.output.func) x y x y (y * table.width + x) is fits_x fits_y (omega (arith, left)) (omega (arith, top)) column row (omega (arith, width, wide)) (omega (arith, height, high)) refl in
-          ap (λ (n : ℕ). get_or table.pixels.items (y * n + x) 0) (sym width) ∙ there.1 ∙ plane_of-all scene pipeline.output.func x y
-          ∙ ap (λ (funcs : List Func). pixels funcs (input_planes scene.pictures.now) (length funcs) pipeline.output.func x y) funcs_are
-          ∙ ap (λ (given : List PictureContents). pixels pipeline.funcs (input_planes given) (length pipeline.funcs) pipeline.output.func x y) pictures_are;
+          let there = pixel_at_place table (plane_in funcs given pipeline.output.func) x y x y (y * table.width + x) is fits_x fits_y (omega (arith, left)) (omega (arith, top)) column row (omega (arith, width, wide)) (omega (arith, height, high)) refl in
+          ap (λ (n : ℕ). get_or table.pixels.items (y * n + x) 0) (sym width) ∙ there.1 ∙ plane_of-all funcs given pipeline.output.func x y
+          ∙ ap (λ (all : List Func). pixels all (input_planes given) (length all) pipeline.output.func x y) funcs_are
+          ∙ ap (λ (all : List PictureContents). pixels pipeline.funcs (input_planes all) (length pipeline.funcs) pipeline.output.func x y) pictures_are;
       rules = kept;
     }) rules

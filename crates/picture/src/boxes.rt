@@ -311,7 +311,7 @@ fn reduction_range(reduction: &Reduction) -> Range {
 }
 
 /// How many points an update's reduction box has.
-fn box_points(update: &Update) -> u64 {
+pub(crate) fn box_points(update: &Update) -> u64 {
     let second = update
         .second
         .as_ref()

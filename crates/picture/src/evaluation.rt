@@ -5,10 +5,13 @@ ghost use Rattle.std.specs.List.{AllZip, list_all, range_with_len};
 ghost use Rattle.halide_pipeline.specs.Pixel.{Plane};
 ghost use Rattle.picture.specs.Slices.{is_forward};
 ghost use Rattle.picture.specs.Evaluated.{is_size, are_sizes, holds_bytes, hold_bytes, judged, Evaluates};
-ghost use Rattle.picture.specs.inner.Evaluation.{plane_of, IsNumberedRow, AreNumberedRows, AreNumbered, AreTables, AreTablesOf, AreKnownOf, AreSlicesOf, IsSliceOf, IsTable, IsAt};
+ghost use Rattle.picture.specs.inner.Evaluation.{plane_of, IsNumberedRow, AreNumberedRows, AreNumbered, AreTables, AreTablesOf, AreKnownOf, AreSlicesOf, IsMemo, IsSliceOf, IsTable, IsAt};
 
+use crate::asking::{prepare_box, prepare_slices};
 use crate::boxes::{Bounds, Slices, Wanted, bounds_of, find, slices_of};
 use crate::faults::EvalError;
+use crate::keeping::{Cost, costs_of};
+use crate::memos::Memo;
 use crate::pictures::Picture;
 use crate::plain::{func_at, is_forward};
 use crate::row_values::pixel_row;
@@ -219,23 +222,32 @@ fn know_update(
     rt: &(impl Threads + Sync),
     alloc: Global,
     scene: &Scene,
+    costs: &[Cost],
     own: usize,
     func: &Func,
     updates: usize,
     update: &Update,
-    wanted: Wanted,
+    wanted: Slices,
     known: &mut Vec<Known>,
+    memo: &mut Memo,
 ) -> Result<(), AllocError>
     requires tables { AreTablesOf scene.now.funcs.now scene.now.pictures.now scene.now.tables.now }
     requires known { AreKnownOf scene.now.funcs.now scene.now.pictures.now known.old.items }
+    requires memo { IsMemo scene.now.funcs.now scene.now.pictures.now memo.old }
     requires is { slice_get scene.now.funcs.now own ≡ Some func.now }
     requires next { slice_get func.now.updates updates ≡ Some update.now }
     requires forward { is_forward update.now ≡ true }
-    ensures { OnOk result (AreKnownOf scene.now.funcs.now scene.now.pictures.now known.new.items) }
+    ensures known { OnOk result (AreKnownOf scene.now.funcs.now scene.now.pictures.now known.new.items) }
+    ensures memo { OnOk result (IsMemo scene.now.funcs.now scene.now.pictures.now memo.new) }
 {
-    let wanted = slices_of(wanted, updates, update);
+    let before = Scene {
+        known: known.as_slice(),
+        ..*scene
+    };
+    prepare_slices(alloc, &before, costs, own, func, wanted, memo)?;
     let now = Scene {
         known: known.as_slice(),
+        memo,
         ..*scene
     };
     let slices = run_slices(rt, alloc, &now, own, func, updates, update, wanted)?;
@@ -252,61 +264,139 @@ fn know_all(
     rt: &(impl Threads + Sync),
     alloc: Global,
     scene: &Scene,
+    costs: &[Cost],
     own: usize,
     func: &Func,
     wanted: Wanted,
     known: &mut Vec<Known>,
+    memo: &mut Memo,
 ) -> Result<(), AllocError>
     requires tables { AreTablesOf scene.now.funcs.now scene.now.pictures.now scene.now.tables.now }
     requires known { AreKnownOf scene.now.funcs.now scene.now.pictures.now known.old.items }
+    requires memo { IsMemo scene.now.funcs.now scene.now.pictures.now memo.old }
     requires is { slice_get scene.now.funcs.now own ≡ Some func.now }
-    ensures { OnOk result (AreKnownOf scene.now.funcs.now scene.now.pictures.now known.new.items) }
+    ensures known { OnOk result (AreKnownOf scene.now.funcs.now scene.now.pictures.now known.new.items) }
+    ensures memo { OnOk result (IsMemo scene.now.funcs.now scene.now.pictures.now memo.new) }
 {
     for (updates, update) in func.updates.as_slice().iter().enumerate() {
         if is_forward(update) {
-            know_update(rt, alloc, scene, own, func, updates, update, wanted, known)?;
+            let slices = slices_of(wanted, updates, update);
+            know_update(
+                rt, alloc, scene, costs, own, func, updates, update, slices, known, memo,
+            )?;
         }
     }
     Ok(())
 }
 
-/// The tables of the Funcs, one after the other, each where its pixels are wanted, and what updates
-/// come to on the whole plane.
+/// Adds what the updates of the Func at a place come to on slices, if it is wanted.
+fn know_wanted(
+    rt: &(impl Threads + Sync),
+    alloc: Global,
+    scene: &Scene,
+    costs: &[Cost],
+    own: usize,
+    wanted: Wanted,
+    known: &mut Vec<Known>,
+    memo: &mut Memo,
+) -> Result<(), AllocError>
+    requires tables { AreTablesOf scene.now.funcs.now scene.now.pictures.now scene.now.tables.now }
+    requires known { AreKnownOf scene.now.funcs.now scene.now.pictures.now known.old.items }
+    requires memo { IsMemo scene.now.funcs.now scene.now.pictures.now memo.old }
+    ensures known { OnOk result (AreKnownOf scene.now.funcs.now scene.now.pictures.now known.new.items) }
+    ensures memo { OnOk result (IsMemo scene.now.funcs.now scene.now.pictures.now memo.new) }
+{
+    if !wanted.is_wanted() {
+        return Ok(());
+    }
+    match func_at(scene.funcs, own) {
+        None => Ok(()),
+        Some(func) => {
+            know_all(rt, alloc, scene, costs, own, func, wanted, known, memo)?;
+            Ok(())
+        }
+    }
+}
+
+/// The table of the next Func where its pixels are wanted; what its updates come to and what it reads is known before.
+fn tabulate_next(
+    rt: &(impl Threads + Sync),
+    alloc: Global,
+    scene: &Scene,
+    costs: &[Cost],
+    own: usize,
+    wanted: Wanted,
+    known: &mut Vec<Known>,
+    memo: &mut Memo,
+) -> Result<Table, AllocError>
+    requires tables { AreTablesOf scene.now.funcs.now scene.now.pictures.now scene.now.tables.now }
+    requires known { AreKnownOf scene.now.funcs.now scene.now.pictures.now known.old.items }
+    requires memo { IsMemo scene.now.funcs.now scene.now.pictures.now memo.old }
+    ensures table { IfOk result (IsTable (plane_of scene.now own)) }
+    ensures known { OnOk result (AreKnownOf scene.now.funcs.now scene.now.pictures.now known.new.items) }
+    ensures memo { OnOk result (IsMemo scene.now.funcs.now scene.now.pictures.now memo.new) }
+{
+    know_wanted(rt, alloc, scene, costs, own, wanted, known, memo)?;
+    let bounds = bounds_of(wanted);
+    let before = Scene {
+        known: known.as_slice(),
+        ..*scene
+    };
+    prepare_box(alloc, &before, costs, own, bounds, memo)?;
+    let now = Scene {
+        known: known.as_slice(),
+        memo,
+        ..*scene
+    };
+    let table = tabulate(rt, alloc, &now, own, bounds)?;
+    Ok(table)
+}
+
+/// What was made of the Funcs before the output is drawn.
+#[derive(Drop)]
+struct Made {
+    tables: Vec<Table>,
+    known: Vec<Known>,
+    memo: Memo,
+}
+
+/// The tables of the Funcs, one after the other, each where its pixels are wanted, what updates come to on the whole
+/// plane, and the pixels that no table has.
 fn tabulate_all(
     rt: &(impl Threads + Sync),
     alloc: Global,
     funcs: &[Func],
     pictures: &[Picture],
     wanted: &[Wanted],
-) -> Result<(Vec<Table>, Vec<Known>), AllocError>
-    ensures tables { IfOk result (λ all. AreTablesOf funcs.now pictures.now all.0.items) }
-    ensures known { IfOk result (λ all. AreKnownOf funcs.now pictures.now all.1.items) }
+) -> Result<Made, AllocError>
+    ensures tables { IfOk result (λ made. AreTablesOf funcs.now pictures.now made.tables.items) }
+    ensures known { IfOk result (λ made. AreKnownOf funcs.now pictures.now made.known.items) }
+    ensures memo { IfOk result (λ made. IsMemo funcs.now pictures.now made.memo) }
 {
+    let costs = costs_of(alloc, funcs, wanted)?;
+    let nothing = Memo::new(alloc);
     let mut tables = Vec::new(alloc);
     let mut known = Vec::new(alloc);
+    let mut memo = Memo::new(alloc);
     for own in wanted {
-        let bounds = bounds_of(*own);
-        if own.is_wanted()
-            && let Some(func) = func_at(funcs, tables.len())
-        {
-            let scene = Scene {
-                funcs,
-                pictures,
-                tables: &tables,
-                known: &[],
-            };
-            know_all(rt, alloc, &scene, tables.len(), func, *own, &mut known)?;
-        }
+        let place = tables.len();
         let scene = Scene {
             funcs,
             pictures,
             tables: &tables,
-            known: &known,
+            known: &[],
+            memo: &nothing,
         };
-        let table = tabulate(rt, alloc, &scene, tables.len(), bounds)?;
+        let table = tabulate_next(
+            rt, alloc, &scene, &costs, place, *own, &mut known, &mut memo,
+        )?;
         tables.push(table)?;
     }
-    Ok((tables, known))
+    Ok(Made {
+        tables,
+        known,
+        memo,
+    })
 }
 
 /// The picture of a pipeline's output, from the pictures that its inputs ask for. Each pixel is the
@@ -327,12 +417,13 @@ pub fn evaluate(
     let output = pipeline.output();
     let funcs = pipeline.funcs();
     let wanted = find(alloc, funcs, pictures, output)?;
-    let (tables, known) = tabulate_all(rt, alloc, funcs, pictures, &wanted)?;
+    let made = tabulate_all(rt, alloc, funcs, pictures, &wanted)?;
     let scene = Scene {
         funcs,
         pictures,
-        tables: &tables,
-        known: &known,
+        tables: &made.tables,
+        known: &made.known,
+        memo: &made.memo,
     };
     let bounds = Bounds {
         left: 0,

@@ -8,14 +8,18 @@
 //! `halide_pipeline` has what the pixels of a pipeline are, and `specs/Evaluated.antt` what
 //! [`evaluate`] answers: the output's pixels, or why the pictures aren't those that are asked for.
 //! Each Func gets a table of the pixels that are wanted of it (`boxes`), filled by as many threads
-//! as there are processors (`evaluation`); what no table has is computed as it is defined (`plain`).
+//! as there are processors (`evaluation`); what no table has is kept pixel by pixel (`asking`), or computed as it is
+//! defined (`plain`).
 //! An update is run forward over its reduction box, row by row (`update_rows`, `update_runs`), beforehand and once
 //! where at most one argument stands in place.
 #![tactic(auto)]
 
+mod asking;
 mod boxes;
 pub mod evaluation;
 pub mod faults;
+mod keeping;
+mod memos;
 pub mod pictures;
 mod plain;
 pub mod readings;

@@ -5,13 +5,15 @@ ghost use Rattle.std.specs.Option.{option_copied};
 ghost use Rattle.halide_pipeline.specs.Expressions.{nodes};
 ghost use Rattle.halide_pipeline.specs.Pixel as spec;
 ghost use Rattle.halide_pipeline.specs.Words as word;
-ghost use Rattle.picture.specs.inner.Evaluation.{inputs_of, earlier_of, plane_of, after_of, funcs_in, reads_in, stage_of, stage_in, IsForward, IsState, AreTables, AreKnownOf, AreSlicesOf, IsSliceOf, IsTable, all_nodes, index_nodes, update_nodes};
+ghost use Rattle.picture.specs.inner.Evaluation.{inputs_of, earlier_of, plane_in, plane_of, after_of, funcs_in, reads_in, stage_of, stage_in, IsBegun, IsForward, IsState, AreTables, AreKnownOf, AreSlicesOf, IsMemo, IsSliceOf, IsTable, all_nodes, index_nodes, update_nodes};
 ghost use Rattle.picture.specs.Slices.{is_on, is_forward, mentions};
+ghost use Rattle.picture.specs.Writes.{IsNone};
 ghost use Rattle.picture.specs.declared.scenes.State.TheVariants as states;
 ghost use Rattle.picture.specs.declared.scenes.Table.{Table};
 ghost use Rattle.halide_pipeline.specs.declared.definitions.Func.{Func};
 ghost use Rattle.halide_pipeline.specs.Contents.{PictureContents};
 
+use crate::memos::Memo;
 use crate::pictures::Picture;
 use crate::scenes::{Known, Scene, Slice, State, Table};
 use crate::writes::Writes;
@@ -19,7 +21,7 @@ use halide_pipeline::{Environment, Expr, Func, Reduction, Source, Update, Variab
 use std::alloc::{AllocError, Global};
 
 /// What a variable stands for.
-fn variable(environment: &Environment, variable: Variable) -> u32
+pub(crate) fn variable(environment: &Environment, variable: Variable) -> u32
     ensures { result ≡ spec.variable environment.now variable }
 {
     match variable {
@@ -31,7 +33,7 @@ fn variable(environment: &Environment, variable: Variable) -> u32
 }
 
 /// A point, with no reduction.
-fn at_point(x: u32, y: u32) -> Environment
+pub(crate) fn at_point(x: u32, y: u32) -> Environment
     ensures { result ≡ spec.at_point x y }
 {
     Environment {
@@ -43,7 +45,7 @@ fn at_point(x: u32, y: u32) -> Environment
 }
 
 /// An input's pixel, 0 outside its extents.
-fn input_pixel(pictures: &[Picture], place: usize, x: u32, y: u32) -> u32
+pub(crate) fn input_pixel(pictures: &[Picture], place: usize, x: u32, y: u32) -> u32
     ensures { result ≡ spec.input_planes pictures.now place x y }
 {
     match pictures.get(place) {
@@ -67,7 +69,7 @@ pub(crate) fn product(a: u32, b: u32) -> u64
 }
 
 /// How many points a reduction box has.
-fn points(update: &Update) -> u64
+pub(crate) fn points(update: &Update) -> u64
     ensures value { result ≡ spec.points update.now }
     ensures few { result < 2 ^ 64 - 1 }
 {
@@ -147,6 +149,24 @@ fn tabled(tables: &[Table], place: usize, x: u32, y: u32) -> Option<u32>
     }
 }
 
+/// A pixel of the Func at a place that is kept by itself.
+fn kept(memo: &Memo, place: usize, x: u32, y: u32) -> Option<u32>
+    ensures { (funcs : List Func) (pictures : List PictureContents) → IsMemo funcs pictures memo.now → IfSome result (λ pixel. pixel ≡ plane_in funcs pictures place x y) }
+{
+    memo.get(place, x, y)
+}
+
+/// A pixel of the Func at a place, where a table has it or it is kept by itself.
+pub(crate) fn known_pixel(scene: &Scene, place: usize, x: u32, y: u32) -> Option<u32>
+    requires tables { AreTables scene.now }
+    ensures { IfSome result (λ pixel. pixel ≡ plane_of scene.now place x y) }
+{
+    match tabled(scene.tables, place, x, y) {
+        Some(pixel) => Some(pixel),
+        None => kept(scene.memo, place, x, y),
+    }
+}
+
 /// The slice with a point, of slices each one further than the one before it.
 fn slice_at(slices: &[Slice], x: u32, y: u32) -> Option<&Slice>
     ensures { (funcs : List Func) (pictures : List PictureContents) (own updates : ℕ) → AreSlicesOf funcs pictures own updates slices.now → IfSome result (λ slice. IsSliceOf funcs pictures own updates slice.now × (is_on slice.now x y ≡ true)) }
@@ -162,7 +182,13 @@ fn slice_at(slices: &[Slice], x: u32, y: u32) -> Option<&Slice>
 }
 
 /// The slice with a point on which an update has run.
-fn known_slice(known: &[Known], own: usize, updates: usize, x: u32, y: u32) -> Option<&Slice>
+pub(crate) fn known_slice(
+    known: &[Known],
+    own: usize,
+    updates: usize,
+    x: u32,
+    y: u32,
+) -> Option<&Slice>
     ensures { (funcs : List Func) (pictures : List PictureContents) → AreKnownOf funcs pictures known.now → IfSome result (λ slice. IsSliceOf funcs pictures own updates slice.now × (is_on slice.now x y ≡ true)) }
 {
     for one in known {
@@ -372,7 +398,7 @@ pub(crate) fn pixel(
     requires tables { AreTables scene.now }
     ensures { IfOk result (λ v. v ≡ plane_of scene.now place x y) }
 {
-    if let Some(pixel) = tabled(scene.tables, place, x, y) {
+    if let Some(pixel) = known_pixel(scene, place, x, y) {
         return Ok(pixel);
     }
     match func_at(scene.funcs, place) {
@@ -460,6 +486,47 @@ fn over_slice(
     }
 }
 
+/// The slice of a point, with no writes.
+fn blank(alloc: Global, update: &Update, x: u32, y: u32) -> Slice
+    ensures place { IsBegun update.now x y result }
+    ensures none { IsNone result.writes }
+{
+    Slice {
+        x,
+        y,
+        is_first_in_place: update.is_first_in_place(),
+        is_second_in_place: update.is_second_in_place(),
+        writes: Writes::new(alloc),
+    }
+}
+
+/// The slice of a point, when an update begins to run on it. Where both arguments are in place its one pixel is written
+/// down, since each read of the own Func is one of it.
+#[cycle(pixel)]
+pub(crate) fn begun(
+    alloc: Global,
+    scene: &Scene,
+    own: usize,
+    func: &Func,
+    updates: usize,
+    update: &Update,
+    x: u32,
+    y: u32,
+) -> Result<Slice, AllocError>
+    requires tables { AreTables scene.now }
+    requires is { slice_get scene.now.funcs.now own ≡ Some func.now }
+    ensures run { IfOk result (IsForward scene.now own updates 0) }
+    ensures place { IfOk result (IsBegun update.now x y) }
+{
+    let mut slice = blank(alloc, update, x, y);
+    if !slice.is_first_in_place || !slice.is_second_in_place {
+        return Ok(slice);
+    }
+    let pixel = stage(alloc, scene, own, func, updates, x, y)?;
+    slice.writes.set(x, y, pixel)?;
+    Ok(slice)
+}
+
 /// The slice of a point, when an update has run on it.
 #[cycle(pixel)]
 fn run_forward(
@@ -479,13 +546,7 @@ fn run_forward(
     ensures run { IfOk result (IsSliceOf scene.now.funcs.now scene.now.pictures.now own updates) }
     ensures on { IfOk result (λ slice. is_on slice x y ≡ true) }
 {
-    let mut slice = Slice {
-        x,
-        y,
-        is_first_in_place: update.is_first_in_place(),
-        is_second_in_place: update.is_second_in_place(),
-        writes: Writes::new(alloc),
-    };
+    let mut slice = begun(alloc, scene, own, func, updates, update, x, y)?;
     for number in 0..points(update) {
         let point = at_reduction(update, number, x, y);
         let left_x = value(alloc, scene, own, State::Earlier, &point, &update.left_x)?;

@@ -2,6 +2,7 @@
 
 ghost use Rattle.std.specs.Prelude.{◌≡◌};
 
+use crate::memos::Memo;
 use crate::pictures::Picture;
 use crate::writes::Writes;
 use halide_pipeline::Func;
@@ -59,13 +60,14 @@ pub(crate) struct Known {
     pub slices: Vec<Slice>,
 }
 
-/// The Funcs and inputs, the tables of the first Funcs, and what updates have come to.
+/// The Funcs and inputs, the tables of the first Funcs, what updates have come to, and pixels that no table has.
 #[derive(Clone, Copy)]
 pub(crate) struct Scene<'a> {
     pub funcs: &'a [Func],
     pub pictures: &'a [Picture],
     pub tables: &'a [Table],
     pub known: &'a [Known],
+    pub memo: &'a Memo,
 }
 
 /// What reads of its own Func find in a definition.

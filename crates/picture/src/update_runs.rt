@@ -6,10 +6,9 @@ ghost use Rattle.picture.specs.Slices.{is_forward};
 ghost use Rattle.picture.specs.inner.Evaluation.{after_of, inputs_of, earlier_of, AreTables, IsForward, IsSliceOf};
 ghost use Rattle.picture.specs.inner.UpdateRows.{row_point, right_long, right_says, IsOfUpdate, IsStore, IsUpdateRow, Puts};
 
-use crate::plain::{at_reduction, forward_pixel, index_value, product, value};
+use crate::plain::{at_reduction, begun, forward_pixel, index_value, product, value};
 use crate::scenes::{Scene, Slice, State};
 use crate::update_rows::{Right, UpdateRow, update_row};
-use crate::writes::Writes;
 use halide_pipeline::{Environment, Func, Update};
 use std::alloc::{AllocError, Global};
 
@@ -258,13 +257,7 @@ pub(crate) fn run_rows(
     requires forward { is_forward update.now ≡ true }
     ensures { IfOk result (IsSliceOf scene.now.funcs.now scene.now.pictures.now own updates) }
 {
-    let mut slice = Slice {
-        x,
-        y,
-        is_first_in_place: update.is_first_in_place(),
-        is_second_in_place: update.is_second_in_place(),
-        writes: Writes::new(alloc),
-    };
+    let mut slice = begun(alloc, scene, own, func, updates, update, x, y)?;
     for row in 0..rows(update) {
         run_row(alloc, scene, own, func, updates, update, row, &mut slice)?;
     }

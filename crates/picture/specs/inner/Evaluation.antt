@@ -5,9 +5,11 @@ use Rattle.std.specs.Prelude.{◌≡◌, ℕ, ◌+◌, ◌*◌, ◌/◌, ◌%◌
 use Rattle.halide_pipeline.specs.declared.expressions.Expr.{Expr}
 use Rattle.halide_pipeline.specs.declared.definitions.Update.{Update}
 use Rattle.halide_pipeline.specs.declared.definitions.Func.{Func}
+use Rattle.halide_pipeline.specs.Definitions.{is_first_in_place, is_second_in_place}
 use Rattle.halide_pipeline.specs.Expressions.{nodes}
 use Rattle.halide_pipeline.specs.Words as word
 use Rattle.picture.specs.declared.scenes.Scene.{Scene}
+use Rattle.picture.specs.declared.memos.Memo.{Memo}
 use Rattle.picture.specs.declared.scenes.Known.{Known}
 use Rattle.picture.specs.declared.scenes.Slice.{Slice}
 use Rattle.picture.specs.declared.scenes.Table.{Table}
@@ -16,6 +18,7 @@ use Rattle.picture.specs.declared.scenes.State.TheVariants as states
 use Rattle.halide_pipeline.specs.Contents.{PictureContents}
 use Rattle.picture.specs.Slices.{is_on}
 use Rattle.picture.specs.Writes.{written}
+use Rattle.picture.specs.inner.Memos.{remembered}
 use Rattle.picture_rows.specs.Rows.{AreValues}
 use Rattle.std.specs.declared.alloc.Global.{Global}
 use Rattle.halide_pipeline.specs.Pixel.{Plane, Planes, Reads, input_planes, reads_of, with_plane, after, stage, func_plane, pixels}
@@ -78,6 +81,13 @@ pub record IsForward (scene : Scene) (own updates number : ℕ) (slice : Slice) 
   pub each : (x y : ℕ) → x < 2 ^ 32 → y < 2 ^ 32 → is_on slice x y ≡ true
       → Holds (written slice.writes x y) (after_of own (slice_get scene.funcs.now own) (inputs_of scene) (earlier_of scene own) updates number x y) (stage_of scene own updates x y)
 
+-- the slice of this point for an update
+pub record IsBegun (update : Update) (x y : ℕ) (slice : Slice) : Type 0 where
+  pub x_is : slice.x ≡ x
+  pub y_is : slice.y ≡ y
+  pub first : slice.is_first_in_place ≡ is_first_in_place update
+  pub second : slice.is_second_in_place ≡ is_second_in_place update
+
 -- what a state says is so
 abbrev pub IsState : Scene → ℕ → State → Type 0
 IsState scene own states.Earlier = Unit {0}
@@ -138,10 +148,15 @@ IsKnown funcs pictures known = AreSlicesOf funcs pictures known.own known.update
 pub record AreKnownOf (funcs : List Func) (pictures : List PictureContents) (known : List Known) : Type 0 where
   pub each : (at : ℕ) (k : Known) → slice_get known at ≡ Some k → IsKnown funcs pictures k
 
--- tables and slices are what they should be
+-- each pixel that is kept is the Func's
+pub record IsMemo (funcs : List Func) (pictures : List PictureContents) (memo : Memo) : Type 0 where
+  pub each : (place x y pixel : ℕ) → x < 2 ^ 32 → y < 2 ^ 32 → remembered memo place x y ≡ Some pixel → pixel ≡ plane_in funcs pictures place x y
+
+-- tables, slices and pixels are what they should be
 pub record AreTables (scene : Scene) : Type 0 where
   pub tables : AreTablesOf scene.funcs.now scene.pictures.now scene.tables.now
   pub known : AreKnownOf scene.funcs.now scene.pictures.now scene.known.now
+  pub memo : IsMemo scene.funcs.now scene.pictures.now scene.memo.now
 
 -- ---- sizes, by which the recursion ends
 

@@ -2,10 +2,10 @@ use Rattle.std.proofs.Common.{◌≡◌, ◌<◌, ◌+◌, ◌-◌, ◌^◌, Som
 use Rattle.std.specs.Prelude.{slice_get}
 use Rattle.halide_pipeline.specs.Expressions.{nodes}
 use Rattle.halide_pipeline.specs.Pixel.{value, points, index_value, at_reduction, is_hit, reads_of, with_plane, after, stage}
-use Rattle.picture.specs.inner.Evaluation.{inputs_of, earlier_of, plane_of, all_updates, all_nodes, index_nodes, reads_in, stage_in, Holds, IsForward, IsState}
+use Rattle.picture.specs.inner.Evaluation.{inputs_of, earlier_of, all_updates, all_nodes, index_nodes, reads_in, stage_in, Holds, IsForward, IsState}
 use Rattle.picture.specs.declared.scenes.State.TheVariants as states
 use Rattle.picture.proofs.Measures.{measure, state_measure, less_in_state, less_size, less_number, less_updates, less_own, pure_nodes, in_updates, length-updates, nodes-Binary, nodes-Divide, nodes-Remainder, nodes-Select, nodes-Call1, nodes-Call2}
-use Rattle.picture.proofs.Forward.{forward_none, forward_more, slice_from_run, stage_in-known}
+use Rattle.picture.proofs.Forward.{forward_none, forward_seeded, forward_more, slice_from_run, stage_in-known}
 use Rattle.picture.proofs.Levels.{pixels-past, pixels-before, after-hit, reads-after}
 use Rattle.picture.proofs.plain.+pixel.Goals as goal
 use Rattle.picture.proofs.plain.+pixel.Goals.{value-then-condition-eq0, value-else-condition-eq0}
@@ -120,9 +120,6 @@ earlier_pixel-returns t c =
     c.in_ok-pixel.ensures ∙ sym (pixels-before c.args.scene.now.funcs.now (inputs_of c.args.scene.now) c.args.own c.args.place c.args.x c.args.y (omega arith))
 
 -- ---- pixel
-
-pub pixel-returns-in-Some : goal.pixel-returns-in-Some
-pixel-returns-in-Some t c = rw c.in-Some.is at (c.tabled.ensures (plane_of c.args.scene.now c.args.place) (c.requires.tables.tables.each c.args.place))
 
 pub pixel-stage-requires : goal.pixel-stage-requires
 pixel-stage-requires t c =
@@ -290,15 +287,26 @@ over_slice-returns-in_ok-pixel-in-None t c =
     let same = subst (λ found. Holds found now before) (sym c.get.ensures ∙ c.in-None.is) (c.requires.run.each c.args.x c.args.y (omega arith) (omega arith) c.requires.on) in
     c.in_ok-pixel-in-None.ensures ∙ sym (stage_in-known c.args.scene.now c.args.own c.args.func.now c.args.updates c.args.x c.args.y c.requires.is) ∙ same
 
-pub run_forward-loop-number-init : goal.run_forward-loop-number-init
-run_forward-loop-number-init t c = record {
-  run = forward_none c.args.scene.now c.args.own c.args.updates
-      (record { x = c.args.x; y = c.args.y; is_first_in_place = c.is_first_in_place.result; is_second_in_place = c.is_second_in_place.result; writes = c.new.result }) c.new.ensures;
-  x = refl;
-  y = refl;
-  first = c.is_first_in_place.ensures;
-  second = c.is_second_in_place.ensures;
-}
+-- ---- begun
+
+pub run_forward-begun-requires : goal.run_forward-begun-requires
+run_forward-begun-requires t c =
+    let less = less_number c.args.scene.now c.args.own (c.args.updates + 1) (2 ^ 64 - 2) (2 ^ 64 - 1) 0 0 (omega arith) (omega arith) in
+    (rw c.decreases at less, (c.requires.tables, c.requires.is))
+
+pub begun-returns-then-not-slice-clause-run : goal.begun-returns-then-not-slice-clause-run
+begun-returns-then-not-slice-clause-run t c = forward_none c.args.scene.now c.args.own c.args.updates c.blank-slice.result c.blank-slice.ensures.none
+
+pub begun-returns-clause-run : goal.begun-returns-clause-run
+begun-returns-clause-run t c =
+    forward_seeded c.args.scene.now c.args.own c.args.updates c.args.func.now c.blank-slice.result
+    (record { x = c.blank-slice.result.x; y = c.blank-slice.result.y; is_first_in_place = c.blank-slice.result.is_first_in_place; is_second_in_place = c.blank-slice.result.is_second_in_place; writes = c.set.new.self })
+    c.args.x c.args.y c.in_ok-pixel.pixel c.requires.is c.blank-slice.ensures.none c.in_ok-set.ensures c.in_ok-pixel.ensures
+
+pub begun-stage-requires : goal.begun-stage-requires
+begun-stage-requires t c =
+    let less = less_updates c.args.scene.now c.args.own c.args.updates (c.args.updates + 1) (2 ^ 64) (2 ^ 64 - 2) 0 0 (omega arith) (omega arith) (omega arith) in
+    (rw c.decreases at less, (c.requires.tables, c.requires.is))
 
 pub run_forward-loop-number-preserved : goal.run_forward-loop-number-preserved
 run_forward-loop-number-preserved t c =

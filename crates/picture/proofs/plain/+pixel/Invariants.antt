@@ -39,6 +39,9 @@ decreases-stage_of l = measure l.scene.now l.own l.updates (2 ^ 64) 1
 abbrev pub decreases-run_forward : goal.decreases-run_forward
 decreases-run_forward l = measure l.scene.now l.own (l.updates + 1) (2 ^ 64 - 1) 0
 
+abbrev pub decreases-begun : goal.decreases-begun
+decreases-begun l = measure l.scene.now l.own (l.updates + 1) (2 ^ 64 - 2) 0
+
 abbrev pub decreases-index_value : goal.decreases-index_value
 decreases-index_value l = measure l.scene.now l.own 0 0 (all_nodes l.scene.now.funcs.now + 7)
 

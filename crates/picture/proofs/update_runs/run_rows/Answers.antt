@@ -1,17 +1,15 @@
 use Rattle.std.proofs.Common.{◌≡◌, ◌∙◌, ℕ, ◌*◌, ap, subst, arith}
 use Rattle.halide_pipeline.specs.Pixel.{points}
-use Rattle.picture.specs.declared.scenes.Slice.{Slice}
 use Rattle.picture.specs.inner.Evaluation.{IsForward}
-use Rattle.picture.proofs.Forward.{forward_none, slice_from_run}
+use Rattle.picture.proofs.Forward.{slice_from_run}
 use Rattle.picture.proofs.update_runs.run_rows.Goals as goal
 
 pub loop-row-init : goal.loop-row-init
 loop-row-init c =
-    let blank : Slice = record { x = c.args.x; y = c.args.y; is_first_in_place = c.is_first_in_place.result; is_second_in_place = c.is_second_in_place.result; writes = c.new.result } in
     let none : 0 ≡ 0 * c.args.update.now.first.extent = omega arith in
     record {
-      of = record { first = c.is_first_in_place.ensures; second = c.is_second_in_place.ensures };
-      run = subst (λ (n : ℕ). IsForward c.args.scene.now c.args.own c.args.updates n blank) none (forward_none c.args.scene.now c.args.own c.args.updates blank c.new.ensures);
+      of = record { first = c.in_ok-slice.ensures.place.first; second = c.in_ok-slice.ensures.place.second };
+      run = subst (λ (n : ℕ). IsForward c.args.scene.now c.args.own c.args.updates n c.in_ok-slice.slice) none c.in_ok-slice.ensures.run;
     }
 
 pub returns : goal.returns

@@ -1,0 +1,439 @@
+//! Pixels that are kept one by one, found before they are needed: a definition is computed as far as what it reads is
+//! known; what isn't is asked for, and computed so before it. Each pixel is computed once, however often it is read.
+
+ghost use Rattle.std.specs.Prelude.{◌≡◌, [], Some, IfOk, IfSome, OnOk, slice_get};
+ghost use Rattle.halide_pipeline.specs.Pixel as spec;
+ghost use Rattle.picture.specs.inner.Evaluation.{plane_of, reads_in, AreTables, AreTablesOf, AreKnownOf, IsMemo};
+ghost use Rattle.picture.specs.declared.scenes.State.TheVariants as states;
+
+use crate::boxes::{Bounds, Slices};
+use crate::keeping::{Cost, is_kept, needs_kept};
+use crate::memos::Memo;
+use crate::plain::{
+    at_point, at_reduction, func_at, known_pixel, known_slice, pixel, points, read, variable,
+};
+use crate::scenes::{Scene, State};
+use halide_pipeline::{Environment, Expr, Func, Source, Update, words};
+use std::alloc::{AllocError, Global};
+
+/// A pixel that is asked for.
+#[derive(Clone, Copy)]
+struct Asked {
+    place: usize,
+    x: u32,
+    y: u32,
+}
+
+/// Reads stand in the indices of others at most so deep.
+const MOST_DEPTH: usize = 512;
+
+/// Whether a pixel has to be kept before it is read.
+fn is_missing(scene: &Scene, costs: &[Cost], place: usize, x: u32, y: u32) -> bool
+    requires tables { AreTables scene.now }
+{
+    is_kept(costs, place) && known_pixel(scene, place, x, y).is_none()
+}
+
+/// What a read answers in the pure definition of the Func at a place; none where that is asked for.
+fn ask(
+    alloc: Global,
+    scene: &Scene,
+    costs: &[Cost],
+    own: usize,
+    source: Source,
+    x: u32,
+    y: u32,
+    asked: &mut Vec<Asked>,
+) -> Result<Option<u32>, AllocError>
+    requires tables { AreTables scene.now }
+    ensures { IfOk result (λ found. IfSome found (λ pixel. pixel ≡ reads_in scene.now own states.Earlier source x y)) }
+{
+    if let Source::Func(place) = source {
+        if place >= own {
+            return Ok(None);
+        }
+        if is_missing(scene, costs, place, x, y) {
+            asked.push(Asked { place, x, y })?;
+            return Ok(None);
+        }
+    }
+    let pixel = read(alloc, scene, own, State::Earlier, source, x, y)?;
+    Ok(Some(pixel))
+}
+
+/// The value of an expression in the pure definition of the Func at a place; none where it reads what isn't known, all
+/// of which is asked for, as far as it can be told.
+#[tactic(auto, unfolding(halide_pipeline::specs::Pixel::value))]
+fn attempt(
+    alloc: Global,
+    scene: &Scene,
+    costs: &[Cost],
+    own: usize,
+    environment: &Environment,
+    expr: &Expr,
+    asked: &mut Vec<Asked>,
+) -> Result<Option<u32>, AllocError>
+    requires tables { AreTables scene.now }
+    ensures { IfOk result (λ found. IfSome found (λ v. v ≡ spec.value (reads_in scene.now own states.Earlier) environment.now expr.now)) }
+{
+    match expr {
+        Expr::Number(number) => Ok(Some(*number)),
+        Expr::Variable(own_variable) => Ok(Some(variable(environment, *own_variable))),
+        Expr::Binary(operation, a, b) => {
+            let a = attempt(alloc, scene, costs, own, environment, a.get(), asked)?;
+            let b = attempt(alloc, scene, costs, own, environment, b.get(), asked)?;
+            let Some(a) = a else {
+                return Ok(None);
+            };
+            let Some(b) = b else {
+                return Ok(None);
+            };
+            Ok(Some(operation.apply(a, b)))
+        }
+        Expr::Divide(a, divisor) => {
+            let a = attempt(alloc, scene, costs, own, environment, a.get(), asked)?;
+            let Some(a) = a else {
+                return Ok(None);
+            };
+            Ok(Some(words::divide(a, *divisor)))
+        }
+        Expr::Remainder(a, divisor) => {
+            let a = attempt(alloc, scene, costs, own, environment, a.get(), asked)?;
+            let Some(a) = a else {
+                return Ok(None);
+            };
+            Ok(Some(words::remainder(a, *divisor)))
+        }
+        Expr::Select(condition, a, b) => {
+            let condition = attempt(
+                alloc,
+                scene,
+                costs,
+                own,
+                environment,
+                condition.get(),
+                asked,
+            )?;
+            let Some(condition) = condition else {
+                return Ok(None);
+            };
+            let chosen = if condition == 0 { b } else { a };
+            let chosen = attempt(alloc, scene, costs, own, environment, chosen.get(), asked)?;
+            Ok(chosen)
+        }
+        Expr::Call1(source, x) => {
+            let x = attempt(alloc, scene, costs, own, environment, x.get(), asked)?;
+            let Some(x) = x else {
+                return Ok(None);
+            };
+            let pixel = ask(alloc, scene, costs, own, *source, x, 0, asked)?;
+            Ok(pixel)
+        }
+        Expr::Call2(source, x, y) => {
+            let x = attempt(alloc, scene, costs, own, environment, x.get(), asked)?;
+            let y = attempt(alloc, scene, costs, own, environment, y.get(), asked)?;
+            let Some(x) = x else {
+                return Ok(None);
+            };
+            let Some(y) = y else {
+                return Ok(None);
+            };
+            let pixel = ask(alloc, scene, costs, own, *source, x, y, asked)?;
+            Ok(pixel)
+        }
+    }
+}
+
+/// Asks for what a point of an update reads.
+fn ask_point(
+    alloc: Global,
+    scene: &Scene,
+    costs: &[Cost],
+    own: usize,
+    update: &Update,
+    point: &Environment,
+    asked: &mut Vec<Asked>,
+) -> Result<(), AllocError>
+    requires tables { AreTables scene.now }
+{
+    attempt(alloc, scene, costs, own, point, &update.left_x, asked)?;
+    if let Some(left_y) = &update.left_y {
+        attempt(alloc, scene, costs, own, point, left_y, asked)?;
+    }
+    attempt(alloc, scene, costs, own, point, &update.right, asked)?;
+    Ok(())
+}
+
+/// Asks for what an update reads where it runs for a point, unless it has run there.
+fn ask_update(
+    alloc: Global,
+    scene: &Scene,
+    costs: &[Cost],
+    updates: usize,
+    update: &Update,
+    top: Asked,
+    asked: &mut Vec<Asked>,
+) -> Result<(), AllocError>
+    requires tables { AreTables scene.now }
+{
+    if known_slice(scene.known, top.place, updates, top.x, top.y).is_some() {
+        return Ok(());
+    }
+    for number in 0..points(update) {
+        let point = at_reduction(update, number, top.x, top.y);
+        ask_point(alloc, scene, costs, top.place, update, &point, asked)?;
+    }
+    Ok(())
+}
+
+/// Asks for what the updates of a Func read where they run for a point.
+fn ask_updates(
+    alloc: Global,
+    scene: &Scene,
+    costs: &[Cost],
+    func: &Func,
+    top: Asked,
+    asked: &mut Vec<Asked>,
+) -> Result<(), AllocError>
+    requires tables { AreTables scene.now }
+{
+    for (updates, update) in func.updates.as_slice().iter().enumerate() {
+        ask_update(alloc, scene, costs, updates, update, top, asked)?;
+    }
+    Ok(())
+}
+
+/// Asks for all that a pixel of a Func hangs on.
+fn ask_all(
+    alloc: Global,
+    scene: &Scene,
+    costs: &[Cost],
+    func: &Func,
+    top: Asked,
+    asked: &mut Vec<Asked>,
+) -> Result<(), AllocError>
+    requires tables { AreTables scene.now }
+{
+    let point = at_point(top.x, top.y);
+    attempt(alloc, scene, costs, top.place, &point, &func.pure, asked)?;
+    ask_updates(alloc, scene, costs, func, top, asked)?;
+    Ok(())
+}
+
+/// A pixel of a Func without updates; none where it reads what isn't known, which is asked for.
+#[tactic(auto, unfolding(halide_pipeline::specs::Pixel::stage))]
+fn attempt_pixel(
+    alloc: Global,
+    scene: &Scene,
+    costs: &[Cost],
+    func: &Func,
+    top: Asked,
+    asked: &mut Vec<Asked>,
+) -> Result<Option<u32>, AllocError>
+    requires tables { AreTables scene.now }
+    requires is { slice_get scene.now.funcs.now top.place ≡ Some func.now }
+    requires pure { func.now.updates ≡ [] }
+    ensures { IfOk result (λ found. IfSome found (λ v. v ≡ plane_of scene.now top.place top.x top.y)) }
+{
+    let point = at_point(top.x, top.y);
+    let pixel = attempt(alloc, scene, costs, top.place, &point, &func.pure, asked)?;
+    Ok(pixel)
+}
+
+/// A pixel that is asked for; none where it hangs on what isn't known, which is asked for.
+fn computed(
+    alloc: Global,
+    scene: &Scene,
+    costs: &[Cost],
+    top: Asked,
+    asked: &mut Vec<Asked>,
+) -> Result<Option<u32>, AllocError>
+    requires tables { AreTables scene.now }
+    ensures { IfOk result (λ found. IfSome found (λ v. v ≡ plane_of scene.now top.place top.x top.y)) }
+{
+    let Some(func) = func_at(scene.funcs, top.place) else {
+        return Ok(None);
+    };
+    if func.updates.is_empty() {
+        let pixel = attempt_pixel(alloc, scene, costs, func, top, asked)?;
+        return Ok(pixel);
+    }
+    let before = asked.len();
+    ask_all(alloc, scene, costs, func, top, asked)?;
+    if asked.len() > before {
+        return Ok(None);
+    }
+    let pixel = pixel(alloc, scene, top.place, top.x, top.y)?;
+    Ok(Some(pixel))
+}
+
+/// Goes on with the pixel that was asked for last: it is kept, or what it hangs on is asked for.
+#[tactic(auto, using(crate::proofs::Kept::one_more_kept))]
+fn settle_one(
+    alloc: Global,
+    scene: &Scene,
+    costs: &[Cost],
+    top: Asked,
+    asked: &mut Vec<Asked>,
+    memo: &mut Memo,
+) -> Result<(), AllocError>
+    requires tables { AreTablesOf scene.now.funcs.now scene.now.pictures.now scene.now.tables.now }
+    requires known { AreKnownOf scene.now.funcs.now scene.now.pictures.now scene.now.known.now }
+    requires memo { IsMemo scene.now.funcs.now scene.now.pictures.now memo.old }
+    ensures { OnOk result (IsMemo scene.now.funcs.now scene.now.pictures.now memo.new) }
+{
+    let now = Scene { memo, ..*scene };
+    if !is_missing(&now, costs, top.place, top.x, top.y) {
+        asked.pop();
+        return Ok(());
+    }
+    let before = asked.len();
+    match computed(alloc, &now, costs, top, asked)? {
+        Some(pixel) => {
+            asked.pop();
+            memo.set(top.place, top.x, top.y, pixel)?;
+            Ok(())
+        }
+        None => {
+            if asked.len() == before {
+                asked.pop();
+            }
+            Ok(())
+        }
+    }
+}
+
+/// Keeps all pixels that are asked for, as far as they can be kept.
+fn settle(
+    alloc: Global,
+    scene: &Scene,
+    costs: &[Cost],
+    asked: &mut Vec<Asked>,
+    memo: &mut Memo,
+) -> Result<(), AllocError>
+    requires tables { AreTablesOf scene.now.funcs.now scene.now.pictures.now scene.now.tables.now }
+    requires known { AreKnownOf scene.now.funcs.now scene.now.pictures.now scene.now.known.now }
+    requires memo { IsMemo scene.now.funcs.now scene.now.pictures.now memo.old }
+    ensures { OnOk result (IsMemo scene.now.funcs.now scene.now.pictures.now memo.new) }
+{
+    for _ in 0..u64::MAX {
+        match asked.last().copied() {
+            Some(top) if !memo.is_full() => {
+                settle_one(alloc, scene, costs, top, asked, memo)?;
+            }
+            _ => break,
+        }
+    }
+    asked.clear();
+    Ok(())
+}
+
+/// Keeps what a pixel of a Func hangs on. Reads that stand in indices of others are asked for one after the other.
+fn prepare_point(
+    alloc: Global,
+    scene: &Scene,
+    costs: &[Cost],
+    func: &Func,
+    top: Asked,
+    memo: &mut Memo,
+) -> Result<(), AllocError>
+    requires tables { AreTablesOf scene.now.funcs.now scene.now.pictures.now scene.now.tables.now }
+    requires known { AreKnownOf scene.now.funcs.now scene.now.pictures.now scene.now.known.now }
+    requires memo { IsMemo scene.now.funcs.now scene.now.pictures.now memo.old }
+    ensures { OnOk result (IsMemo scene.now.funcs.now scene.now.pictures.now memo.new) }
+{
+    let mut asked = Vec::new(alloc);
+    for _ in 0..MOST_DEPTH {
+        let now = Scene { memo, ..*scene };
+        ask_all(alloc, &now, costs, func, top, &mut asked)?;
+        if asked.is_empty() || memo.is_full() {
+            break;
+        }
+        settle(alloc, scene, costs, &mut asked, memo)?;
+    }
+    Ok(())
+}
+
+/// Keeps what the pixels of a Func in a row hang on.
+fn prepare_row(
+    alloc: Global,
+    scene: &Scene,
+    costs: &[Cost],
+    func: &Func,
+    first: Asked,
+    width: u32,
+    memo: &mut Memo,
+) -> Result<(), AllocError>
+    requires tables { AreTablesOf scene.now.funcs.now scene.now.pictures.now scene.now.tables.now }
+    requires known { AreKnownOf scene.now.funcs.now scene.now.pictures.now scene.now.known.now }
+    requires memo { IsMemo scene.now.funcs.now scene.now.pictures.now memo.old }
+    ensures { OnOk result (IsMemo scene.now.funcs.now scene.now.pictures.now memo.new) }
+{
+    for at in 0..width {
+        let x = words::add(first.x, at);
+        let top = Asked { x, ..first };
+        prepare_point(alloc, scene, costs, func, top, memo)?;
+    }
+    Ok(())
+}
+
+/// Keeps what the pixels of the Func at a place in a box hang on.
+pub(crate) fn prepare_box(
+    alloc: Global,
+    scene: &Scene,
+    costs: &[Cost],
+    place: usize,
+    bounds: Bounds,
+    memo: &mut Memo,
+) -> Result<(), AllocError>
+    requires tables { AreTablesOf scene.now.funcs.now scene.now.pictures.now scene.now.tables.now }
+    requires known { AreKnownOf scene.now.funcs.now scene.now.pictures.now scene.now.known.now }
+    requires memo { IsMemo scene.now.funcs.now scene.now.pictures.now memo.old }
+    ensures { OnOk result (IsMemo scene.now.funcs.now scene.now.pictures.now memo.new) }
+{
+    let Some(func) = func_at(scene.funcs, place) else {
+        return Ok(());
+    };
+    if !needs_kept(costs, place) {
+        return Ok(());
+    }
+    for row in 0..bounds.height {
+        let y = words::add(bounds.top, row);
+        let first = Asked {
+            place,
+            x: bounds.left,
+            y,
+        };
+        prepare_row(alloc, scene, costs, func, first, bounds.width, memo)?;
+    }
+    Ok(())
+}
+
+/// Keeps what an update of the Func at a place reads on the slices on which it is to run.
+pub(crate) fn prepare_slices(
+    alloc: Global,
+    scene: &Scene,
+    costs: &[Cost],
+    place: usize,
+    func: &Func,
+    wanted: Slices,
+    memo: &mut Memo,
+) -> Result<(), AllocError>
+    requires tables { AreTablesOf scene.now.funcs.now scene.now.pictures.now scene.now.tables.now }
+    requires known { AreKnownOf scene.now.funcs.now scene.now.pictures.now scene.now.known.now }
+    requires memo { IsMemo scene.now.funcs.now scene.now.pictures.now memo.old }
+    ensures { OnOk result (IsMemo scene.now.funcs.now scene.now.pictures.now memo.new) }
+{
+    if !needs_kept(costs, place) {
+        return Ok(());
+    }
+    for number in 0..wanted.count {
+        let top = Asked {
+            place,
+            x: words::add(wanted.left, number),
+            y: words::add(wanted.top, number),
+        };
+        prepare_point(alloc, scene, costs, func, top, memo)?;
+    }
+    Ok(())
+}
