@@ -14,6 +14,7 @@ use crate::locked::Locked;
 use crate::origins::Origin;
 use crate::refusals::Refusal;
 use crate::seats::Batch;
+use crate::waiting::Stance;
 use multi_hart::Machine;
 use rv_insn::Outcome;
 use turn_log::TurnLog;
@@ -24,6 +25,8 @@ use turn_log::TurnLog;
 pub(crate) struct Guarded<O: Origin, F: Ledgers> {
     locked: Locked<O>,
     books: Books<F>,
+    /// How often turns were made behind which their hart did not wait.
+    worked: u64,
     ghost numbers: { numbers_of books ≡ each (count_of locked.log.turns) },
     ghost tallies: { tallies_of books ≡ each (tally O.image O.harts locked.log.turns) },
 }
@@ -34,7 +37,11 @@ impl<O: Origin, F: Ledgers> Guarded<O, F> {
         requires numbers { numbers_of books ≡ each (count_of locked.log.turns) }
         requires tallies { tallies_of books ≡ each (tally O.image O.harts locked.log.turns) }
     {
-        Guarded { locked, books }
+        Guarded {
+            locked,
+            books,
+            worked: 0,
+        }
     }
 
     /// Turns of the hart whose shares these are, one after the other, until one doesn't step, so many are made, or the hart has
@@ -56,11 +63,30 @@ impl<O: Origin, F: Ledgers> Guarded<O, F> {
         ensures spent { (result ≡ Err TurnsSpent) ↔ (most_turns ≤ number_in shares.old) }
         ensures refused { IfErr result (λ why. number_of why ≤ 2) }
     {
-        let Guarded { locked, books } = self;
+        let Guarded { locked, books, .. } = self;
         books.agree(shares);
         let batch = locked.turns(shares.hart(), most)?;
         books.count(shares, batch.made, 16 * (batch.made - 1) + code(batch.last));
         Ok(batch)
+    }
+
+    /// Looks at the hart of these shares behind its turns, of which the last came to this. Whether its thread is to give way.
+    pub(crate) fn gives_way(
+        &mut self,
+        shares: &Shares<F>,
+        stance: &mut Stance,
+        last: Outcome,
+    ) -> bool
+        requires { hart_of shares.now < O.harts }
+    {
+        let Outcome::Stepped = last else {
+            return false;
+        };
+        if stance.stays(self.locked.machine(), shares.hart()) {
+            return stance.gives_way(self.worked);
+        }
+        self.worked = self.worked.wrapping_add(1);
+        false
     }
 
     /// What a seat was told is what the log says of its hart.
@@ -81,7 +107,7 @@ impl<O: Origin, F: Ledgers> Guarded<O, F> {
         ensures log { IsLog result.1 }
         ensures same { (result.0 ≡ self.locked.machine) × (result.1 ≡ self.locked.log) }
     {
-        let Guarded { locked, books: _ } = self;
+        let Guarded { locked, .. } = self;
         locked.into_parts()
     }
 }

@@ -25,6 +25,7 @@ mod replaying;
 pub mod running;
 pub mod seats;
 pub mod shared;
+mod waiting;
 
 pub use crate::books::Blanks;
 pub use crate::driving::{drive, drive_batched};

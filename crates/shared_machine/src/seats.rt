@@ -8,6 +8,7 @@ use crate::books::Shares;
 use crate::ledgers::Ledgers;
 use crate::origins::Origin;
 use crate::refusals::Refusal;
+use crate::waiting::Stance;
 use board::{BoardSeat, Glance};
 use rv_insn::Outcome;
 use std::marker::PhantomData;
@@ -19,6 +20,7 @@ pub struct Seat<O: Origin, F: Ledgers> {
     pub(crate) place: BoardSeat,
     pub(crate) glance: Glance,
     pub(crate) ended: Option<Ended>,
+    pub(crate) stance: Stance,
     origin: PhantomData<O>,
     ghost hart: { place.hart ≡ hart_of shares },
     ghost below: { hart_of shares < O.harts },
@@ -71,6 +73,7 @@ impl<O: Origin, F: Ledgers> Seat<O, F> {
             place,
             glance,
             ended: None,
+            stance: Stance::new(),
             origin: PhantomData,
         }
     }

@@ -66,7 +66,6 @@ impl<O: Origin, F: Ledgers> Shared<O, F> {
     /// A thread that finds the lock held naps, and does not queue: the one that has it then takes it again without a call of the system, which
     /// would cost more than a batch of turns. So that none waits for ever where others always come first, it queues after so many naps.
     fn locked<R: Wait>(&self, rt: &R) -> MutexGuard<'_, Guarded<O, F>> {
-        let never = AtomicU64::new(0);
         for _nap in 0..NAPS {
             for _look in 0..LOOKS {
                 if let Some(guard) = self.guarded.try_lock() {
@@ -74,7 +73,7 @@ impl<O: Origin, F: Ledgers> Shared<O, F> {
                 }
                 hint::spin_loop();
             }
-            never.park_timeout(rt, 0, Duration::from_micros(NAP));
+            nap(rt);
         }
         self.guarded.lock(rt)
     }
@@ -132,6 +131,7 @@ impl<O: Origin, F: Ledgers> Shared<O, F> {
             shares,
             place,
             glance,
+            stance,
             ..
         } = seat;
         if self.board.own(place) >= MOST_TURNS {
@@ -140,8 +140,20 @@ impl<O: Origin, F: Ledgers> Shared<O, F> {
         if self.board.stop_asked(glance) {
             return Err(Refusal::StopAsked);
         }
-        let batch = self.locked(rt).turns(shares, most)?;
+        let mut guarded = self.locked(rt);
+        let batch = guarded.turns(shares, most)?;
+        let gives_way = guarded.gives_way(shares, stance, batch.last);
+        drop(guarded);
         self.board.add(place, batch.made);
+        if gives_way {
+            nap(rt);
+        }
         Ok(batch)
     }
+}
+
+/// Sleeps for a nap.
+fn nap<R: Wait>(rt: &R) {
+    let never = AtomicU64::new(0);
+    never.park_timeout(rt, 0, Duration::from_micros(NAP));
 }
