@@ -8,6 +8,7 @@ pub mod Gathering
 pub mod Loading
 pub mod Moving
 pub mod Powers
+pub mod Keeping
 pub mod Signs
 pub mod Sparing
 pub mod Steady

@@ -7,6 +7,7 @@
 //! - [`scalars`]: which expressions all iterations have in common; appends what leaves one, or
 //!   an address.
 //! - [`points`]: appends loads of pixels: one behind the other, in one row, or anywhere.
+//! - [`sharing`]: appends what leaves an expression's values in the first group, with what it loads twice loaded once.
 //! - [`sums`]: appends what leaves a sum's values where it goes along with the iterations.
 //! - [`values`]: appends what leaves an expression's values in a group (`specs/Leaving.antt`).
 #![tactic(auto)]
@@ -15,6 +16,7 @@ pub mod loads;
 pub mod operations;
 pub mod points;
 pub mod scalars;
+pub mod sharing;
 pub mod sums;
 pub mod values;
 pub mod vectorized;

@@ -11,7 +11,7 @@ use halide_pipeline::Source;
 use loop_ir::expressions::{Expr, Linear};
 use loop_ir::statements::Store;
 use std::alloc::Global;
-use task_code_lane_values::values::emit_lanes;
+use task_code_lane_values::sharing::emit_values;
 use task_code_lane_values::vectorized::Lanes;
 use task_code_lanes::vectors::store_row;
 use task_code_registers::holding::stride_of;
@@ -52,7 +52,7 @@ fn emit_row(
     let form = point_form(alloc, &place, &column, &row)?;
     let stride = stride_of(form.sum.terms.as_slice(), own.counter);
     if stride == WORD_BYTES {
-        emit_lanes(alloc, code, places, scope, own, &store.value, 0)?;
+        emit_values(alloc, code, places, scope, own, &store.value)?;
         let pointer = emit_pointer(alloc, code, scope, own.counter, &form)?;
         store_row(code, own.group.slot(0), pointer)?;
         return Ok(());

@@ -71,7 +71,7 @@ fn same_source(a: Source, b: Source) -> bool
 }
 
 /// Whether two indexes are the same number, sum, or load at such indexes.
-fn same_index(a: &Expr, b: &Expr) -> bool
+pub fn same_index(a: &Expr, b: &Expr) -> bool
     ensures { result ≡ true → a.now ≡ b.now }
 {
     match a {
