@@ -85,13 +85,7 @@ fn other_load<'a>(e: &'a Expr, first: &Expr) -> Option<&'a Expr>
             Some(own) => Some(own),
             None => other_load(b.get(), first),
         },
-        Expr::Load(_, _, _) => {
-            if same_index(e, first) {
-                None
-            } else {
-                Some(e)
-            }
-        }
+        Expr::Load(_, _, _) => { if same_index(e, first) { None } else { Some(e) } }
         _ => None,
     }
 }
@@ -228,12 +222,7 @@ fn emit_operand(
 }
 
 /// Appends what leaves an expression's values in the first group, in which the first load stays until then.
-fn emit_shared(
-    alloc: Global,
-    code: &mut Vec<u32>,
-    own: &Sharing,
-    e: &Expr,
-) -> Result<(), CodeFault>
+fn emit_shared(alloc: Global, code: &mut Vec<u32>, own: &Sharing, e: &Expr) -> Result<(), CodeFault>
     ensures { OnOk result (MakesShared code.old.items code.new.items own.now e.now) }
 {
     match e {

@@ -6,11 +6,11 @@ use crate::known::{Known, by_others};
 use crate::sums::combined;
 use crate::tests::number;
 use halide_pipeline::{Operation, Source, words};
-use loop_ir::expressions::{Counter, Expr, Linear, Term};
-use loop_ir::statements::{Stmt, Store, Whole};
+use loop_ir::expressions::{Counter, Expr, Linear, Term, same_counter};
+use loop_ir::statements::{LoopKind, Stmt, Store, Whole};
 use sqlite_items::Items;
 use std::alloc::{AllocError, Global};
-use task_code_registers::holding::at_value;
+use task_code_registers::holding::{at_value, stride_of};
 use task_code_registers::numbers::fits;
 use task_code_registers::points::point_form;
 use task_code_registers::scopes::Form;
@@ -280,11 +280,21 @@ fn count_by_others(
     Ok(())
 }
 
-/// Counts the value of a split loop that is tested, where it isn't known to pass.
+/// Whether a sum goes up by 1 from one lane to the next.
+fn goes_along(sum: &Linear, lanes: Option<Counter>) -> bool {
+    match lanes {
+        Some(counter) => stride_of(sum.terms.as_slice(), counter) == 1,
+        None => false,
+    }
+}
+
+/// Counts the value of a split loop that is tested, where it isn't known to pass; of one that goes along with lanes, how
+/// far it is from the extent: so many lanes are left.
 fn count_tested(
     alloc: Global,
     known: &[Known],
     bounds: &[Bound],
+    lanes: Option<Counter>,
     extent: u32,
     found: &mut Vec<Use>,
 ) -> Result<(), AllocError> {
@@ -292,16 +302,44 @@ fn count_tested(
         let sum = own.sum.copy(alloc)?;
         let form = Form { sum, per_hart: 0 };
         if !is_below(&form, bounds, extent) {
-            count(alloc, found, form, VALUE_USES)?;
+            if goes_along(&own.sum, lanes) {
+                let left = Linear::of_number(alloc, extent).minus(&own.sum)?;
+                let form = Form {
+                    sum: left,
+                    per_hart: 0,
+                };
+                count(alloc, found, form, VALUE_USES)?;
+            } else {
+                count(alloc, found, form, VALUE_USES)?;
+            }
         }
     }
     Ok(())
 }
 
+/// The variable of a loop whose iterations are lanes.
+fn lanes_of(counter: Counter, kind: LoopKind) -> Option<Counter> {
+    match kind {
+        LoopKind::Serial => None,
+        LoopKind::Unrolled => None,
+        LoopKind::Vectorized => Some(counter),
+    }
+}
+
+/// The variable that goes along with lanes inside a split loop: that of the split loop, where its inner one does.
+fn along(counter: Counter, whole: &Whole, lanes: Option<Counter>) -> Option<Counter> {
+    match lanes {
+        Some(own) if same_counter(own, whole.inner) => Some(counter),
+        _ => lanes,
+    }
+}
+
+/// Counts what a statement wants, whose nearest loop may have lanes.
 fn gather(
     alloc: Global,
     places: &Places,
     bounds: &[Bound],
+    lanes: Option<Counter>,
     statement: &Stmt,
     found: &mut Vec<Use>,
 ) -> Result<(), AllocError> {
@@ -311,27 +349,36 @@ fn gather(
             Ok(())
         }
         Stmt::Sequence(first, second) => {
-            gather(alloc, places, bounds, first.get(), found)?;
-            gather(alloc, places, bounds, second.get(), found)?;
+            gather(alloc, places, bounds, lanes, first.get(), found)?;
+            gather(alloc, places, bounds, lanes, second.get(), found)?;
             Ok(())
         }
-        Stmt::For(counter, count, _, body) => {
+        Stmt::For(counter, count, kind, body) => {
             let mut within = bounds.to_vec(alloc)?;
             within.push(Bound {
                 counter: *counter,
                 count: *count,
             })?;
             let mut inner = Vec::new(alloc);
-            gather(alloc, places, within.as_slice(), body.get(), &mut inner)?;
+            let lanes = lanes_of(*counter, *kind);
+            gather(
+                alloc,
+                places,
+                within.as_slice(),
+                lanes,
+                body.get(),
+                &mut inner,
+            )?;
             count_at_zero(alloc, inner.as_slice(), *counter, found)?;
             Ok(())
         }
         Stmt::Bind(counter, whole, extent, body) => {
             let mut inner = Vec::new(alloc);
-            gather(alloc, places, bounds, body.get(), &mut inner)?;
+            let along = along(*counter, whole, lanes);
+            gather(alloc, places, bounds, along, body.get(), &mut inner)?;
             let known = split_sum(alloc, *counter, whole)?;
             count_by_others(alloc, inner.as_slice(), known.as_slice(), found)?;
-            count_tested(alloc, known.as_slice(), bounds, *extent, found)?;
+            count_tested(alloc, known.as_slice(), bounds, lanes, *extent, found)?;
             Ok(())
         }
     }
@@ -362,7 +409,7 @@ pub fn wanted_forms(
     body: &Stmt,
 ) -> Result<Vec<Form>, AllocError> {
     let mut found = Vec::new(alloc);
-    gather(alloc, places, bounds, body, &mut found)?;
+    gather(alloc, places, bounds, None, body, &mut found)?;
     let mut wanted = Vec::new(alloc);
     for _ in 0..found.len() {
         match most_used(found.as_slice()) {

@@ -1,4 +1,5 @@
 pub mod Counting
+pub mod Idling
 pub mod Pointing
 pub mod Running
 pub mod Storing

@@ -1,9 +1,10 @@
 -- A vectorized loop whose body is a single store, behind the values of split loops.
-use Rattle.std.proofs.Common.{◌≡◌, ℕ, ◌+◌, ◌*◌, ◌<◌, ◌≤◌, List, ◌++◌, length, Bool, true, false, refl, ap, ◌∙◌, sym, subst, arith, cond}
-use Rattle.std.specs.Prelude.{◌-◌, ◌%◌, ◌^◌, ◌==◌, ◌&&◌, if◌then◌else◌, nat_lt, Option, Some, None}
+use Rattle.std.proofs.Common.{◌≡◌, ℕ, ◌+◌, ◌*◌, ◌<◌, ◌≤◌, List, [], ◌++◌, length, Bool, true, false, refl, ap, ◌∙◌, sym, subst, arith, cond}
+use Rattle.std.specs.Prelude.{◌-◌, ◌&&◌, if◌then◌else◌, nat_lt, Option, Some, None}
+use Rattle.std.proofs.lemmas.Bool.{true≢false}
 use Rattle.std.proofs.lemmas.Bool.Decides.{nat_tests}
 use Rattle.std.specs.List.{list_all}
-use Rattle.halide_pipeline.specs.Pixel.{Reads}
+use Rattle.halide_pipeline.specs.Pixel.{Planes, Reads}
 use Rattle.halide_pipeline.specs.Points.{Point}
 use Rattle.halide_pipeline.specs.Words as word
 use Rattle.loop_ir.specs.declared.expressions.Counter.{Counter}
@@ -18,18 +19,20 @@ use Rattle.loop_ir.specs.AtOnce.{Effect, effect}
 use Rattle.loop_ir.specs.Buffers.{Points}
 use Rattle.loop_ir.specs.Counters.{Values, with}
 use Rattle.loop_ir.specs.Expressions.{value, loads, linear_value, sum_of}
-use Rattle.loop_ir.specs.Running.{whole_value}
-use Rattle.loop_ir.specs.Soundness.{is_sound, is_sound_store}
+use Rattle.loop_ir.specs.Running.{run, whole_value}
+use Rattle.loop_ir.specs.Soundness.{is_sound}
 use Rattle.loop_ir.proofs.AtOnce.{effect_store, effect_bind}
 use Rattle.loop_ir.proofs.Sound.{sound_store, sound_bind}
 use Rattle.task_code_scalar.specs.declared.places.Places.{Places}
-use Rattle.task_code_registers.specs.declared.scopes.Form.{Form}
+use Rattle.task_code_scalar.specs.Doing.{stored_points}
+use Rattle.task_code_scalar.specs.Words.{Emits}
 use Rattle.task_code_registers.specs.declared.scopes.Held.{Held}
-use Rattle.task_code_registers.specs.Holding.{IsAt, mentions}
-use Rattle.task_code_registers.specs.Strides.{has_counter, strides, others_of}
-use Rattle.task_code_registers.proofs.Striding.{linear-steady, linear-with}
+use Rattle.task_code_registers.specs.Holding.{mentions}
+use Rattle.task_code_registers.specs.Strides.{others_of}
+use Rattle.task_code_registers.proofs.Striding.{linear-with}
 use Rattle.task_code_loops.specs.declared.bounds.Bound.{Bound}
 use Rattle.task_code_loops.specs.Bounds.{AreBelow, IsBelow}
+use Rattle.task_code_loops.specs.Guarding.{stored_if}
 use Rattle.task_code_loops.specs.declared.known.Known.{Known}
 use Rattle.task_code_loops.specs.Known.{AreKnown}
 use Rattle.task_code_loops.proofs.Knowledge.{knows-with}
@@ -37,9 +40,11 @@ use Rattle.task_code_lanes.specs.declared.groups.Group.{Group}
 use Rattle.task_code_lanes.specs.declared.groups.Group.TheVariants as groups
 use Rattle.task_code_lanes.specs.Groups.{registers}
 use Rattle.task_code_lane_values.specs.declared.vectorized.Lanes.{Lanes}
-use Rattle.task_code_runs.specs.Runs.{EmitsRun, StoresAs, all_lanes, left_lanes}
+use Rattle.task_code_runs.specs.Runs.{EmitsRun, StoresAs, all_lanes, left_lanes, run_of}
+use Rattle.task_code_runs.proofs.Idling.{none-hit, none-run}
 use Rattle.task_code_statements.specs.declared.contexts.Context.{Context}
-use Rattle.task_code_statements.specs.declared.vectorizing.Guard.{Guard}
+use Rattle.task_code_statements.specs.declared.guards.Guard.{Guard}
+use Rattle.task_code_statements.specs.declared.guards.Parted.{Parted}
 use Rattle.task_code_statements.specs.declared.vectorizing.Guarded.{Guarded}
 use Rattle.task_code_statements.specs.declared.vectorizing.Run.{Run}
 use Rattle.task_code_statements.specs.Contexts.{Meets, MeetsLoop, MeetsSum}
@@ -47,16 +52,18 @@ use Rattle.task_code_statements.specs.Lacking.{StoreLacks}
 use Rattle.task_code_statements.specs.Rewriting.{IsSameStore}
 use Rattle.task_code_statements.specs.Splits.{IsSplitSum}
 use Rattle.task_code_statements.specs.Statements.{EmitsStatement}
-use Rattle.task_code_statements.specs.Vectorizing.{AreLanes, GuardLacks, IsLeft, IsLeftIf, IsRunOf, IsStoreOf, lane_count, passes, with_guard}
+use Rattle.task_code_statements.specs.Vectorizing.{AreLanes, GuardsLack, IsLeft, IsLeftIf, IsParted, IsRunOf, IsStoreOf, OneMore, TestFirst, WordsBehind}
+use Rattle.task_code_statements.specs.Vectorizing.{is_passed, lane_count, passes, passes_if}
+use Rattle.task_code_statements.proofs.Following.{did-is}
 use Rattle.task_code_statements.proofs.Same.{form-sum}
 use Rattle.task_code_statements.proofs.Splitting.{is-below, whole-word}
 use Rattle.task_code_statements.proofs.Storing.{same-sound}
 
 -- ---- stores
 
-pub store-of : (context : Context) (known : List Known) (body : Stmt) (store made : Store) → known ≡ context.known.items → body ≡ s.Store store
-    → IsSameStore known store made → IsStoreOf context body (record { store = made; guard = None })
-store-of context known body store made ek eb is = subst (λ b. IsStoreOf context b (record { store = made; guard = None })) (sym eb) (record {
+pub store-of : (context : Context) (known : List Known) (body : Stmt) (store made : Store) (own : Guarded) → known ≡ context.known.items
+    → body ≡ s.Store store → IsSameStore known store made → own.store ≡ made → own.guards.items ≡ [] → IsStoreOf context body own
+store-of context known body store made own ek eb is es eg = subst (λ b. IsStoreOf context b own) (sym eb) (record {
   stores = λ reads values meets.
       let are = subst (λ k. AreKnown k values) (sym ek) meets.known in
       effect_store reads store values
@@ -68,10 +75,12 @@ store-of context known body store made ek eb is = subst (λ b. IsStoreOf context
       (is.row.value_is reads values are))
       ∙ ap (λ k. Some (record { func = made.func; x = value reads values made.x; y = value reads values made.y; pixel = k })) (sym
       (is.pixel.value_is reads values are))
-      ∙ sym (effect_store reads made values);
+      ∙ sym (effect_store reads made values)
+      ∙ sym (ap (λ l. cond (passes l values) (effect reads (s.Store own.store) values) None) eg ∙ ap (λ t. effect reads (s.Store t) values) es);
   sound = λ reads written loaded values meets passed so.
       let are = subst (λ k. AreKnown k values) (sym ek) meets.known in
-      sound_store reads written loaded made values ∙ same-sound known store made is values are reads written loaded
+      ap (λ t. is_sound reads written loaded (s.Store t) values) es
+      ∙ sound_store reads written loaded made values ∙ same-sound known store made is values are reads written loaded
       ∙ sym (sound_store reads written loaded store values) ∙ so;
 })
 
@@ -110,6 +119,14 @@ module _ (counter : Counter) (made : Store) (lacks : StoreLacks counter made) (v
       ∙ ap (λ k. written made.func x y && list_all loaded (lx ++ (ly ++ k))) (lacks.pixel.loads_are reads values v)
       ∙ sym (sound_store reads written loaded made values)
 
+one-test : (a b : Bool) (own : Option Effect) → cond a (cond b own None) None ≡ cond (cond a b false) own None
+one-test true b own = refl
+one-test false b own = refl
+
+both-pass : (a b : Bool) → cond a b false ≡ true → (a ≡ true) × (b ≡ true)
+both-pass true b is = (refl, is)
+both-pass false b is = absurd (true≢false (sym is))
+
 module _ (context within : Context) (counter : Counter) (whole : Whole) (extent : ℕ) (statement inside body : Stmt) (sum : Linear) (made : Guarded)
     (es : statement ≡ s.Bind counter whole extent inside) (eb : body ≡ inside) (is : IsSplitSum context whole sum)
     (meets-sum : MeetsSum context counter sum within) (inner : IsStoreOf within body made) (lacks : StoreLacks counter made.store) where
@@ -127,7 +144,7 @@ module _ (context within : Context) (counter : Counter) (whole : Whole) (extent 
   statement-is = sym (es ∙ ap (s.Bind counter whole extent) (sym eb))
 
   inside-sound : (reads : Reads) (written : Points) (loaded : Point → Bool) (values : Values) → Meets context values
-      → nat_lt (whole_value whole values) extent ≡ true → passes made.guard (at values) ≡ true
+      → nat_lt (whole_value whole values) extent ≡ true → passes made.guards.items (at values) ≡ true
       → is_sound reads written loaded (s.Bind counter whole extent body) values ≡ true → is_sound reads written loaded (s.Store made.store) values ≡ true
   inside-sound reads written loaded values meets passed guarded so =
       sym (sound-left counter made.store lacks values (whole_value whole values) reads written loaded)
@@ -135,39 +152,50 @@ module _ (context within : Context) (counter : Counter) (whole : Whole) (extent 
       (sym (ap (λ t. if t then is_sound reads written loaded body (at values) else true) passed)
       ∙ sym (sound_bind reads written loaded counter whole extent body values) ∙ so)
 
-  -- a test that always passes is none
-  pub split-of : (bounds : List Bound) → bounds ≡ context.bounds.items → IsBelow bounds (record { sum = sum; per_hart = 0 }) extent
-      → GuardLacks counter made.guard → IsStoreOf context statement made
-  split-of bounds ebs below same = subst (λ b. IsStoreOf context b made) statement-is (record {
-    stores = λ reads values meets.
-        effect_bind reads counter whole extent body values ∙ ap (λ t. cond t (effect reads body (at values)) None) (passed values meets)
-        ∙ inner.stores reads (at values) (inside-meets values meets)
+  module _ (same : GuardsLack counter made.guards.items) where
+    -- what the store stores where the tests inside pass, and else nothing
+    inside-stores : (reads : Reads) (values : Values) → Meets context values
+        → effect reads body (at values) ≡ cond (passes made.guards.items values) (effect reads (s.Store made.store) values) None
+    inside-stores reads values meets =
+        inner.stores reads (at values) (inside-meets values meets)
         ∙ ap (λ t. cond t (effect reads (s.Store made.store) (at values)) None) (same values (whole_value whole values))
-        ∙ ap (λ k. cond (passes made.guard values) k None) (effect-left counter made.store lacks values (whole_value whole values) reads);
-    sound = λ reads written loaded values meets guarded so.
-        inside-sound reads written loaded values meets (passed values meets) (same values (whole_value whole values) ∙ guarded) so;
-  })
-    where
-      passed : (values : Values) → Meets context values → nat_lt (whole_value whole values) extent ≡ true
-      passed values meets =
-          is-below (whole_value whole values) extent
-          (subst (λ n. n < extent) (form-sum 0 values sum ∙ is.value_is values meets.known)
-          (subst (λ b. IsBelow b (record { sum = sum; per_hart = 0 }) extent) ebs below 0 values meets.below))
+        ∙ ap (λ k. cond (passes made.guards.items values) k None) (effect-left counter made.store lacks values (whole_value whole values) reads)
 
-  -- another one is the store's
-  pub split-guarded : made.guard ≡ None → IsStoreOf context statement (with_guard made.store sum extent)
-  split-guarded none = subst (λ b. IsStoreOf context b (with_guard made.store sum extent)) statement-is (record {
-    stores = λ reads values meets.
-        let tested = nat_lt (linear_value values sum) extent in
-        effect_bind reads counter whole extent body values
-        ∙ ap (λ n. cond (nat_lt n extent) (effect reads body (at values)) None) (whole-is values meets)
-        ∙ ap (λ k. cond tested k None) (inner.stores reads (at values) (inside-meets values meets))
-        ∙ ap (λ g. cond tested (cond (passes g (at values)) (effect reads (s.Store made.store) (at values)) None) None) none
-        ∙ ap (λ k. cond tested k None) (effect-left counter made.store lacks values (whole_value whole values) reads);
-    sound = λ reads written loaded values meets guarded so.
-        inside-sound reads written loaded values meets (ap (λ n. nat_lt n extent) (whole-is values meets) ∙ guarded)
-        (ap (λ g. passes g (at values)) none) so;
-  })
+    -- a test that always passes is none
+    pub split-of : (bounds : List Bound) → bounds ≡ context.bounds.items → IsBelow bounds (record { sum = sum; per_hart = 0 }) extent
+        → IsStoreOf context statement made
+    split-of bounds ebs below = subst (λ b. IsStoreOf context b made) statement-is (record {
+      stores = λ reads values meets.
+          effect_bind reads counter whole extent body values ∙ ap (λ t. cond t (effect reads body (at values)) None) (passed values meets)
+          ∙ inside-stores reads values meets;
+      sound = λ reads written loaded values meets guarded so.
+          inside-sound reads written loaded values meets (passed values meets) (same values (whole_value whole values) ∙ guarded) so;
+    })
+      where
+        passed : (values : Values) → Meets context values → nat_lt (whole_value whole values) extent ≡ true
+        passed values meets =
+            is-below (whole_value whole values) extent
+            (subst (λ n. n < extent) (form-sum 0 values sum ∙ is.value_is values meets.known)
+            (subst (λ b. IsBelow b (record { sum = sum; per_hart = 0 }) extent) ebs below 0 values meets.below))
+
+    -- another one is one of the store's
+    pub split-guarded : (own : Guarded) → own.store ≡ made.store → OneMore made.guards.items (record { sum = sum; extent = extent }) own.guards.items
+        → IsStoreOf context statement own
+    split-guarded own es more = subst (λ b. IsStoreOf context b own) statement-is (record {
+      stores = λ reads values meets.
+          let tested = nat_lt (linear_value values sum) extent in
+          effect_bind reads counter whole extent body values
+          ∙ ap (λ n. cond (nat_lt n extent) (effect reads body (at values)) None) (whole-is values meets)
+          ∙ ap (λ k. cond tested k None) (inside-stores reads values meets)
+          ∙ one-test tested (passes made.guards.items values) (effect reads (s.Store made.store) values)
+          ∙ sym (ap (λ t. cond t (effect reads (s.Store own.store) values) None) (more values)
+          ∙ ap (λ t. cond (cond tested (passes made.guards.items values) false) (effect reads (s.Store t) values) None) es);
+      sound = λ reads written loaded values meets guarded so.
+          let both = both-pass (nat_lt (linear_value values sum) extent) (passes made.guards.items values) (sym (more values) ∙ guarded) in
+          ap (λ t. is_sound reads written loaded (s.Store t) values) es
+          ∙ inside-sound reads written loaded values meets (ap (λ n. nat_lt n extent) (whole-is values meets) ∙ both.0)
+          (same values (whole_value whole values) ∙ both.1) so;
+    })
 
 -- ---- the loop
 
@@ -184,160 +212,243 @@ few-lanes groups.Four = omega arith
 is-past : (a b : ℕ) → b ≤ a → nat_lt a b ≡ false
 is-past a b l = grind (arith, nat_tests)
 
-module _ (context inner : Context) (counter : Counter) (count : ℕ) (group : Group) (body : Stmt) (made : Guarded)
-    (ec : count ≡ 4 * registers group) (loop : MeetsLoop context counter count inner) (of : IsStoreOf inner body made) where
+below-so : (a b : ℕ) → nat_lt a b ≡ true → a < b
+below-so a b t = grind (arith, nat_tests)
+
+not-below : (a b : ℕ) → nat_lt a b ≡ false → b ≤ a
+not-below a b t = grind (arith, nat_tests)
+
+still-fails : (fixed : Bool) (a b c : ℕ) → a ≤ b → cond fixed (nat_lt a c) false ≡ false → cond fixed (nat_lt b c) false ≡ false
+still-fails false a b c l fails = refl
+still-fails true a b c l fails = let e = not-below a c fails in is-past b c (omega (arith, l, e))
+
+and-true : (a : Bool) → cond a true false ≡ a
+and-true true = refl
+and-true false = refl
+
+module _ (context inner : Context) (counter : Counter) (count : ℕ) (group : Group) (body : Stmt) (made : Guarded) (parts : Parted)
+    (ec : count ≡ 4 * registers group) (loop : MeetsLoop context counter count inner) (of : IsStoreOf inner body made)
+    (parted : IsParted counter made.guards.items parts) (values : Values) (meets : Meets context values) where
   abbrev lanes : Lanes
   lanes = record { counter = counter; group = group }
 
-  within : (values : Values) → Meets context values → (i : ℕ) → i < 4 * registers group → Meets inner (with counter i values)
-  within values meets i few = loop.meets values i (omega (arith, few, ec)) meets
+  abbrev lane_at : ℕ → Values
+  lane_at i = with counter i values
 
-  -- all iterations store
-  stored-all : made.guard ≡ None → (values : Values) → Meets context values → StoresAs lanes body made.store values (all_lanes lanes)
-  stored-all eg values meets = record {
-    some = some-lanes group;
-    few = omega arith;
-    stores = λ reads i few.
-        of.stores reads (with counter i values) (within values meets i few)
-        ∙ ap (λ g. cond (passes g (with counter i values)) (effect reads (s.Store made.store) (with counter i values)) None) eg;
-    sound = λ reads written loaded i few so.
-        of.sound reads written loaded (with counter i values) (within values meets i few) (ap (λ g. passes g (with counter i values)) eg) so;
-    none = λ reads i high few. absurd (omega (arith, high, few));
-  }
+  within : (i : ℕ) → i < 4 * registers group → Meets inner (lane_at i)
+  within i few = loop.meets values i (omega (arith, few, ec)) meets
 
-  -- some of the first ones do
-  module _ (guard : Guard) (left : Linear) (bounds : List Bound) (eg : made.guard ≡ Some guard) (ebs : bounds ≡ inner.bounds.items)
-      (is : IsLeft bounds counter guard left) (values : Values) (meets : Meets context values) where
-    abbrev lane_at : ℕ → Values
-    lane_at i = with counter i values
+  -- tests in an iteration, by those of the first one
+  tests-are : (i : ℕ) → passes made.guards.items (lane_at i) ≡ cond (passes parts.fixed.items (lane_at 0)) (passes_if parts.lane (lane_at i)) false
+  tests-are i =
+      parted.passes_is (lane_at i)
+      ∙ ap (λ t. cond t (passes_if parts.lane (lane_at i)) false) (parted.lack values i ∙ sym (parted.lack values 0))
 
+  stops : (i : ℕ) → passes made.guards.items (lane_at i) ≡ false → i < 4 * registers group → (reads : Reads) → effect reads body (lane_at i) ≡ None
+  stops i stopped few reads =
+      of.stores reads (lane_at i) (within i few) ∙ ap (λ t. cond t (effect reads (s.Store made.store) (lane_at i)) None) stopped
+
+  goes : (i : ℕ) → passes made.guards.items (lane_at i) ≡ true → i < 4 * registers group → (reads : Reads)
+      → effect reads body (lane_at i) ≡ effect reads (s.Store made.store) (lane_at i)
+  goes i passed few reads =
+      of.stores reads (lane_at i) (within i few) ∙ ap (λ t. cond t (effect reads (s.Store made.store) (lane_at i)) None) passed
+
+  -- where no test hangs on lanes, all iterations store or none does
+  module _ (none : parts.lane ≡ None) where
+    all-as : (i : ℕ) → passes made.guards.items (lane_at i) ≡ passes parts.fixed.items (lane_at 0)
+    all-as i =
+        tests-are i ∙ ap (λ o. cond (passes parts.fixed.items (lane_at 0)) (passes_if o (lane_at i)) false) none
+        ∙ and-true (passes parts.fixed.items (lane_at 0))
+
+    pub stored-all : passes parts.fixed.items (lane_at 0) ≡ true → StoresAs lanes body made.store values (all_lanes lanes)
+    stored-all passed = record {
+      some = some-lanes group;
+      few = omega arith;
+      stores = λ reads i few. goes i (all-as i ∙ passed) few reads;
+      sound = λ reads written loaded i few so. of.sound reads written loaded (lane_at i) (within i few) (all-as i ∙ passed) so;
+      none = λ reads i high few. absurd (omega (arith, high, few));
+    }
+
+    pub stored-none : passes parts.fixed.items (lane_at 0) ≡ false → (reads : Reads) (i : ℕ) → i < 4 * registers group
+        → effect reads body (lane_at i) ≡ None
+    stored-none stopped reads i few = stops i (all-as i ∙ stopped) few reads
+
+  -- where one does, the first iterations store, or none does
+  module _ (guard : Guard) (left : Linear) (bounds : List Bound) (eg : parts.lane ≡ Some guard) (ebs : bounds ≡ inner.bounds.items)
+      (is : IsLeft bounds counter guard left) where
     abbrev sum_at : ℕ → ℕ
     sum_at i = linear_value (lane_at i) guard.sum
 
-    begins : sum_at 0 < guard.extent
-    begins =
-        is.begins values (subst (λ b. AreBelow b (lane_at 0)) (sym ebs) (let m = within values meets 0 (some-lanes group) in m.below))
+    pub below-at : AreBelow bounds (lane_at 0)
+    below-at = subst (λ b. AreBelow b (lane_at 0)) (sym ebs) (let m = within 0 (some-lanes group) in m.below)
 
-    goes : (i : ℕ) → i < 16 → sum_at i ≡ sum_at 0 + i
-    goes i few =
+    further : (i : ℕ) → i < 16 → sum_at i ≡ sum_at 0 + i
+    further i few =
         let a = guard.sum.number + sum_of values (others_of counter guard.sum.terms) in
         let e0 = linear-with counter 0 1 values guard.sum (sym is.stride) in
         let ei = linear-with counter i 1 values guard.sum (sym is.stride) in
-        let small = is.small in
-        let low = begins in
-        omega (arith, e0, ei, small, low, few)
+        let low = is.begins values below-at in
+        omega (arith, e0, ei, low, few)
 
-    left-is : linear_value (lane_at 0) left ≡ guard.extent - sum_at 0
-    unfolding word.subtract
-    left-is =
-        let small = is.small in
-        let low = begins in
-        let g : word.subtract guard.extent (sum_at 0) ≡ guard.extent - sum_at 0 = omega (arith, small, low) in
-        is.value_is (lane_at 0) ∙ g
+    tested : (i : ℕ) → passes made.guards.items (lane_at i) ≡ cond (passes parts.fixed.items (lane_at 0)) (nat_lt (sum_at i) guard.extent) false
+    tested i = tests-are i ∙ ap (λ o. cond (passes parts.fixed.items (lane_at 0)) (passes_if o (lane_at i)) false) eg
 
-    tested : (i : ℕ) → passes made.guard (lane_at i) ≡ nat_lt (sum_at i) guard.extent
-    tested i = ap (λ g. passes g (lane_at i)) eg
+    module _ (fixed : passes parts.fixed.items (lane_at 0) ≡ true) (begins : sum_at 0 < guard.extent) where
+      left-is : linear_value (lane_at 0) left ≡ guard.extent - sum_at 0
+      unfolding word.subtract
+      left-is =
+          let small = is.small in
+          let low = begins in
+          let g : word.subtract guard.extent (sum_at 0) ≡ guard.extent - sum_at 0 = omega (arith, small, low) in
+          is.value_is (lane_at 0) ∙ g
 
-    passed : (i : ℕ) → i < left_lanes lanes left values → passes made.guard (lane_at i) ≡ true
-    passed i less =
-        let e = left-is in
+      as-tested : (i : ℕ) → passes made.guards.items (lane_at i) ≡ nat_lt (sum_at i) guard.extent
+      as-tested i = tested i ∙ ap (λ t. cond t (nat_lt (sum_at i) guard.extent) false) fixed
+
+      passed : (i : ℕ) → i < left_lanes lanes left values → passes made.guards.items (lane_at i) ≡ true
+      passed i less =
+          let e = left-is in
+          let room = few-lanes group in
+          let step = further i (omega (arith, less, room)) in
+          as-tested i ∙ is-below (sum_at i) guard.extent (omega (arith, step, less, e))
+
+      stopped : (i : ℕ) → left_lanes lanes left values ≤ i → i < 4 * registers group → passes made.guards.items (lane_at i) ≡ false
+      stopped i high few =
+          let e = left-is in
+          let room = few-lanes group in
+          let step = further i (omega (arith, few, room)) in
+          as-tested i ∙ is-past (sum_at i) guard.extent (omega (arith, step, high, few, e))
+
+      pub stored-left : StoresAs lanes body made.store values (left_lanes lanes left values)
+      stored-left =
+          let e = left-is in
+          let low = begins in
+          let some = some-lanes group in
+          record {
+            some = omega (arith, e, low, some);
+            few = omega arith;
+            stores = λ reads i few. goes i (passed i few) (omega (arith, few)) reads;
+            sound = λ reads written loaded i few so. of.sound reads written loaded (lane_at i) (within i (omega (arith, few))) (passed i few) so;
+            none = λ reads i high few. stops i (stopped i high few) few reads;
+          }
+
+    -- it fails from the first one on
+    pub stored-no : cond (passes parts.fixed.items (lane_at 0)) (nat_lt (sum_at 0) guard.extent) false ≡ false
+        → (reads : Reads) (i : ℕ) → i < 4 * registers group → effect reads body (lane_at i) ≡ None
+    stored-no fails reads i few =
         let room = few-lanes group in
-        let step = goes i (omega (arith, less, room)) in
-        tested i ∙ is-below (sum_at i) guard.extent (omega (arith, step, less, e))
-
-    stopped : (i : ℕ) → left_lanes lanes left values ≤ i → i < 4 * registers group → passes made.guard (lane_at i) ≡ false
-    stopped i high few =
-        let e = left-is in
-        let room = few-lanes group in
-        let step = goes i (omega (arith, few, room)) in
-        tested i ∙ is-past (sum_at i) guard.extent (omega (arith, step, high, few, e))
-
-    stored-left : StoresAs lanes body made.store values (left_lanes lanes left values)
-    stored-left =
-        let e = left-is in
-        let low = begins in
-        let some = some-lanes group in
-        record {
-          some = omega (arith, e, low, some);
-          few = omega arith;
-          stores = λ reads i few.
-              of.stores reads (lane_at i) (within values meets i (omega (arith, few)))
-              ∙ ap (λ t. cond t (effect reads (s.Store made.store) (lane_at i)) None) (passed i few);
-          sound = λ reads written loaded i few so.
-              of.sound reads written loaded (lane_at i) (within values meets i (omega (arith, few))) (passed i few) so;
-          none = λ reads i high few.
-              of.stores reads (lane_at i) (within values meets i few)
-              ∙ ap (λ t. cond t (effect reads (s.Store made.store) (lane_at i)) None) (stopped i high few);
-        }
+        let step = further i (omega (arith, few, room)) in
+        stops i (tested i ∙ still-fails (passes parts.fixed.items (lane_at 0)) (sum_at 0) (sum_at i) guard.extent (omega (arith, step)) fails) few reads
 
 -- ---- runs
 
-pub run-is : (context inner : Context) (lanes : Lanes) (count : ℕ) (body : Stmt) (made : Guarded) (left : Option Linear) (bounds : List Bound)
+pub run-is : (context inner : Context) (lanes : Lanes) (count : ℕ) (body : Stmt) (made : Guarded) (parts : Parted) (run : Run) (bounds : List Bound)
     → count ≡ all_lanes lanes → MeetsLoop context lanes.counter count inner → IsStoreOf inner body made → bounds ≡ inner.bounds.items
-    → IsLeftIf bounds lanes.counter made.guard left → IsRunOf context lanes body (record { store = made.store; left = left })
-run-is context inner lanes count body made left bounds ec loop of ebs is = record {
-  does = λ values meets. by made.guard left refl is values meets;
+    → IsParted lanes.counter made.guards.items parts → IsLeftIf bounds lanes.counter parts.lane run.left
+    → TestFirst bounds lanes.counter parts.fixed.items parts.lane run.fixed.items → run.store ≡ made.store → IsRunOf context lanes body run
+run-is context inner lanes count body made parts run bounds ec loop of ebs parted is first es = record {
+  does = λ values meets passed.
+      subst (λ t. StoresAs lanes body t values (lane_count lanes run.left values)) (sym es) (does parts.lane run.left refl refl is values meets passed);
+  none = λ values meets failed. none parts.lane run.left refl refl is values meets failed;
 }
   where
-    by : (guard : Option Guard) (sum : Option Linear) → made.guard ≡ guard → IsLeftIf bounds lanes.counter guard sum → (values : Values)
-        → Meets context values → StoresAs lanes body made.store values (lane_count lanes sum values)
-    by None None eg k values meets = stored-all context inner lanes.counter count lanes.group body made ec loop of eg values meets
-    by None (Some sum) eg k values meets = absurd k
-    by (Some guard) None eg k values meets = absurd k
-    by (Some guard) (Some sum) eg k values meets =
-        stored-left context inner lanes.counter count lanes.group body made ec loop of guard sum bounds eg ebs k values meets
+    tests : (values : Values) → Meets context values → passes run.fixed.items (with lanes.counter 0 values)
+        ≡ cond (passes parts.fixed.items (with lanes.counter 0 values)) (passes_if parts.lane (with lanes.counter 0 values)) false
+    tests values meets =
+        first values (subst (λ b. AreBelow b (with lanes.counter 0 values)) (sym ebs)
+        (let m = loop.meets values 0 (let l = some-lanes lanes.group in omega (arith, l, ec)) meets in m.below))
 
-pub vector-emits : (places : Places) (scope : List Held) (context : Context) (own : Bound) (lanes : Lanes) (body : Stmt) (made : Run) (c0 c1 : List ℕ)
-    → AreLanes scope own lanes → IsRunOf context lanes body made → EmitsRun c0 c1 places scope lanes (lane_count lanes made.left) made.store
+    does : (lane : Option Guard) (left : Option Linear) → parts.lane ≡ lane → run.left ≡ left → IsLeftIf bounds lanes.counter lane left → (values : Values)
+        → Meets context values → passes run.fixed.items (with lanes.counter 0 values) ≡ true
+        → StoresAs lanes body made.store values (lane_count lanes left values)
+    does None None el er k values meets passed =
+        stored-all context inner lanes.counter count lanes.group body made parts ec loop of parted values meets el
+        (and-both el (tests values meets) passed).0
+      where
+        and-both : parts.lane ≡ None → passes run.fixed.items (with lanes.counter 0 values)
+            ≡ cond (passes parts.fixed.items (with lanes.counter 0 values)) (passes_if parts.lane (with lanes.counter 0 values)) false
+            → passes run.fixed.items (with lanes.counter 0 values) ≡ true
+            → (passes parts.fixed.items (with lanes.counter 0 values) ≡ true) × (passes_if parts.lane (with lanes.counter 0 values) ≡ true)
+        and-both e t p = both-pass (passes parts.fixed.items (with lanes.counter 0 values)) (passes_if parts.lane (with lanes.counter 0 values)) (sym t ∙ p)
+    does None (Some sum) el er k values meets passed = absurd k
+    does (Some guard) None el er k values meets passed = absurd k
+    does (Some guard) (Some sum) el er k values meets passed =
+        let both = both-pass (passes parts.fixed.items (with lanes.counter 0 values)) (is_passed guard (with lanes.counter 0 values))
+        (sym (tests values meets ∙ ap (λ o. cond (passes parts.fixed.items (with lanes.counter 0 values)) (passes_if o (with lanes.counter 0 values)) false) el)
+        ∙ passed) in
+        stored-left context inner lanes.counter count lanes.group body made parts ec loop of parted values meets guard sum bounds el ebs k both.0
+        (below-so (linear_value (with lanes.counter 0 values) guard.sum) guard.extent both.1)
+
+    none : (lane : Option Guard) (left : Option Linear) → parts.lane ≡ lane → run.left ≡ left → IsLeftIf bounds lanes.counter lane left → (values : Values)
+        → Meets context values → passes run.fixed.items (with lanes.counter 0 values) ≡ false
+        → (reads : Reads) (i : ℕ) → i < all_lanes lanes → effect reads body (with lanes.counter i values) ≡ None
+    none None None el er k values meets failed reads i few =
+        stored-none context inner lanes.counter count lanes.group body made parts ec loop of parted values meets el
+        (sym (and-true (passes parts.fixed.items (with lanes.counter 0 values)))
+        ∙ sym (ap (λ o. cond (passes parts.fixed.items (with lanes.counter 0 values)) (passes_if o (with lanes.counter 0 values)) false) el)
+        ∙ sym (tests values meets) ∙ failed) reads i few
+    none None (Some sum) el er k values meets failed reads i few = absurd k
+    none (Some guard) None el er k values meets failed reads i few = absurd k
+    none (Some guard) (Some sum) el er k values meets failed reads i few =
+        stored-no context inner lanes.counter count lanes.group body made parts ec loop of parted values meets guard sum bounds el ebs k
+        (sym (ap (λ o. cond (passes parts.fixed.items (with lanes.counter 0 values)) (passes_if o (with lanes.counter 0 values)) false) el)
+        ∙ sym (tests values meets) ∙ failed) reads i few
+
+-- ---- code
+
+pub vector-emits : (places : Places) (scope : List Held) (context : Context) (own : Bound) (lanes : Lanes) (body : Stmt) (made : Run)
+    (c0 c1 none words : List ℕ) → none ≡ [] → AreLanes scope own lanes → IsRunOf context lanes body made
+    → EmitsRun none words places scope lanes (lane_count lanes made.left) made.store → WordsBehind c0 c1 scope made.fixed.items words
     → EmitsStatement c0 c1 places scope (Meets context) (s.For own.counter own.count Vectorized body)
-vector-emits places scope context own lanes body made c0 c1 are is x =
+vector-emits places scope context own lanes body made c0 c1 none words en are is x tests =
+    let g = tests x.insns (subst (λ c. Emits c words x.insns) en x.emits) in
     subst (λ k. EmitsStatement c0 c1 places scope (Meets context) (s.For k own.count Vectorized body)) are.counter_is
     (subst (λ n. EmitsStatement c0 c1 places scope (Meets context) (s.For lanes.counter n Vectorized body)) (sym are.count_is) (record {
-      insns = x.insns;
-      emits = x.emits;
-      turns = λ values. length x.insns;
+      insns = g.insns;
+      emits = g.emits;
+      turns = λ values. g.turns (length x.insns) (with lanes.counter 0 values);
       does = λ own good at-places values holders meets may f memory funcs holds knows.
-          x.does own good at-places values body holders (is.does values meets) may f memory funcs holds
-          (knows-with lanes.counter 0 own.world.hart scope values f none-is knows);
+          let at0 = with lanes.counter 0 values in
+          let k0 = knows-with lanes.counter 0 own.world.hart scope values f none-is knows in
+          let left = run own.points own.inputs (run_of lanes body) values funcs in
+          let stored = stored_points own (run_of lanes body) values funcs in
+          did-is refl
+          (left-as (passes made.fixed.items at0) left funcs (λ failed. none-run own lanes body values may funcs holds.are_words (is.none values meets failed)))
+          (λ func x y hit.
+          stored-as (passes made.fixed.items at0) stored func x y
+          (λ failed h. none-hit own lanes body values may funcs holds.are_words (is.none values meets failed) func x y h) hit)
+          (g.does own at0 (length x.insns) left stored f memory funcs holders holds k0
+          (λ passed h known.
+          x.does own good at-places values body holders (is.does values meets passed) may h memory funcs holds known));
     }))
   where
     none-is : mentions lanes.counter scope ≡ false
     none-is = ap (λ k. mentions k scope) are.counter_is ∙ are.steady
 
--- ---- how many iterations are left
+    left-as : (t : Bool) (left funcs : Planes) → (t ≡ false → funcs ≡ left) → (if t then left else funcs) ≡ left
+    left-as true left funcs same = refl
+    left-as false left funcs same = same refl
 
-pub left-is-of : (bounds : List Bound) (counter : Counter) (guard : Guard) (sum left extent : Linear) (start : Form) (stride : ℕ) → sum ≡ guard.sum
-    → ((values : Values) → linear_value values extent ≡ guard.extent)
-    → ((values : Values) → linear_value values left ≡ word.subtract (linear_value values extent) (linear_value values guard.sum))
-    → stride ≡ strides counter guard.sum.terms % 2 ^ 32 → stride ≡ 1 → guard.extent ≤ 2 ^ 31
-    → IsAt counter 0 (record { sum = sum; per_hart = 0 }) start → IsBelow bounds start guard.extent → IsLeft bounds counter guard left
-left-is-of bounds counter guard sum left extent start stride es ex is est one small law below = record {
-  value_is = λ values. is values ∙ ap (λ n. word.subtract n (linear_value values guard.sum)) (ex values);
-  stride = sym est ∙ one;
-  small = small;
-  begins = λ values are.
-      subst (λ n. n < guard.extent)
-      (law.value 0 0 values ∙ form-sum 0 (with counter 0 values) sum ∙ ap (linear_value (with counter 0 values)) es)
-      (below 0 (with counter 0 values) are);
-}
+    stored-as : (t : Bool) (stored : Points) (func x y : ℕ) → (t ≡ false → stored func x y ≡ true → ⊥) → stored func x y ≡ true
+        → stored_if t stored func x y ≡ true
+    stored-as true stored func x y absent h = h
+    stored-as false stored func x y absent h = absurd (absent refl h)
 
 -- as the emitters call it
+pub vector-behind : (places : Places) (scope : List Held) (context : Context) (own : Bound) (lanes : Lanes) (body : Stmt) (made : Run)
+    (c0 c1 none words : List ℕ) (fixed : List Guard) (seen : List ℕ) → none ≡ [] → AreLanes scope own lanes → IsRunOf context lanes body made
+    → EmitsRun none words places scope lanes (lane_count lanes made.left) made.store → fixed ≡ made.fixed.items → seen ≡ words
+    → WordsBehind c0 c1 scope fixed seen → EmitsStatement c0 c1 places scope (Meets context) (s.For own.counter own.count Vectorized body)
+vector-behind places scope context own lanes body made c0 c1 none words fixed seen en are is x ef es tests =
+    vector-emits places scope context own lanes body made c0 c1 none words en are is x
+    (subst (λ l. WordsBehind c0 c1 scope l words) ef (subst (λ l. WordsBehind c0 c1 scope fixed l) es tests))
+
 pub vector-arm : (places : Places) (scope : List Held) (context : Context) (own : Stmt) (counter : Counter) (count : ℕ) (kind : LoopKind) (body x : Stmt)
     (c0 c1 : List ℕ) → own ≡ s.For counter count kind body → x ≡ body → kind ≡ Vectorized
     → EmitsStatement c0 c1 places scope (Meets context) (s.For counter count Vectorized x) → EmitsStatement c0 c1 places scope (Meets context) own
 vector-arm places scope context own counter count kind body x c0 c1 is ex ek made =
     subst (λ y. EmitsStatement c0 c1 places scope (Meets context) y)
     (sym (is ∙ ap (λ k. s.For counter count k body) ek ∙ ap (s.For counter count Vectorized) (sym ex))) made
-
--- ---- tests without a variable
-
-pub none-lacks : (counter : Counter) (guard : Option Guard) → guard ≡ None → GuardLacks counter guard
-none-lacks counter guard is = subst (GuardLacks counter) (sym is) (λ values v. refl)
-
-pub guard-lacks : (counter : Counter) (guard : Option Guard) (own : Guard) → guard ≡ Some own → has_counter counter own.sum.terms ≡ false
-    → GuardLacks counter guard
-guard-lacks counter guard own is none =
-    subst (GuardLacks counter) (sym is) (λ values v. ap (λ n. nat_lt n own.extent) (linear-steady counter v values own.sum none))
 
 -- ---- how many lanes
 

@@ -1,4 +1,5 @@
 pub mod Following
+pub mod Guarding
 pub mod Meeting
 pub mod Nesting
 pub mod Laying

@@ -32,7 +32,7 @@ form-sum hart values own =
     let g : (linear_value values own + hart * 0) % 2 ^ 32 ≡ linear_value values own = omega (arith, l) in
     g
 
-first-form : (values : Values) (form : Form) → form_value 0 values form ≡ linear_value values form.sum
+pub first-form : (values : Values) (form : Form) → form_value 0 values form ≡ linear_value values form.sum
 unfolding form_value
 first-form values form =
     let l = linear-small values form.sum in

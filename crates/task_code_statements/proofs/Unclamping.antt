@@ -22,12 +22,10 @@ use Rattle.loop_ir.proofs.Sound.{sound_store}
 use Rattle.loop_ir.proofs.Trees.{run_store}
 use Rattle.loop_ir.specs.declared.statements.Store.{Store}
 use Rattle.loop_ir.specs.declared.statements.Stmt.TheVariants as s
-use Rattle.task_code_scalar.specs.declared.places.Pixels.TheVariants as pixels
 use Rattle.task_code_scalar.specs.declared.places.Places.{Places}
-use Rattle.task_code_scalar.specs.Code.{place_of}
 use Rattle.task_code_scalar.specs.Doing.{Setting, SoundIn, RunsIn, HoldsFuncs, stored_points}
 use Rattle.task_code_scalar.specs.Evaluation.{load_op}
-use Rattle.task_code_scalar.specs.Layout.{AreWords, address_of}
+use Rattle.task_code_scalar.specs.Layout.{address_of}
 use Rattle.task_code_scalar.proofs.Tracing.{hit-store}
 use Rattle.task_code_registers.specs.declared.scopes.Held.{Held}
 use Rattle.task_code_loops.specs.declared.bounds.Bound.{Bound}

@@ -6,7 +6,7 @@ use Rattle.memory.specs.Addresses.{byte_at, AreBytes}
 use Rattle.halide_pipeline.specs.Pixel.{Planes}
 use Rattle.loop_ir.specs.declared.expressions.Counter.{Counter}
 use Rattle.loop_ir.specs.declared.statements.Phase.{Phase}
-use Rattle.loop_ir.specs.Counters.{Values, same_counter}
+use Rattle.loop_ir.specs.Counters.{same_counter}
 use Rattle.loop_ir.specs.Running.{run_task, task_values}
 use Rattle.loop_ir.specs.Stores.{is_stored_by_task}
 use Rattle.multi_hart_logic.specs.Paths.{Stand, Block, Writes}

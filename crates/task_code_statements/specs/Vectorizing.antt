@@ -1,64 +1,80 @@
--- Bodies of vectorized loops as single stores, behind a test or not. This project's own.
-use Rattle.std.specs.Prelude.{◌≡◌, ◌<◌, ◌≤◌, ℕ, ◌%◌, ◌^◌, true, false, Bool, nat_lt, cond, List, Option, Some, None}
-use Rattle.halide_pipeline.specs.Pixel.{Reads}
+-- Bodies of vectorized loops as single stores, behind tests or not. This project's own.
+use Rattle.std.specs.Prelude.{◌≡◌, ◌<◌, ◌≤◌, ℕ, ◌%◌, ◌^◌, true, false, Bool, nat_lt, cond, if◌then◌else◌, List, [], ◌∷◌, Option, Some, None}
+use Rattle.rv_insn.specs.declared.instructions.Insn.{Insn}
+use Rattle.halide_pipeline.specs.Pixel.{Planes, Reads}
 use Rattle.halide_pipeline.specs.Points.{Point}
 use Rattle.halide_pipeline.specs.Words as word
 use Rattle.loop_ir.specs.declared.expressions.Counter.{Counter}
 use Rattle.loop_ir.specs.declared.expressions.Linear.{Linear}
 use Rattle.loop_ir.specs.declared.statements.Stmt.{Stmt}
 use Rattle.loop_ir.specs.declared.statements.Stmt.TheVariants as statements
-use Rattle.loop_ir.specs.declared.statements.Store.{Store}
 use Rattle.loop_ir.specs.AtOnce.{effect}
 use Rattle.loop_ir.specs.Buffers.{Points}
 use Rattle.loop_ir.specs.Counters.{Values, with}
 use Rattle.loop_ir.specs.Expressions.{linear_value}
 use Rattle.loop_ir.specs.Soundness.{is_sound}
+use Rattle.task_code_scalar.specs.Doing.{Setting, HoldsFuncs}
+use Rattle.task_code_scalar.specs.Words.{Emits}
 use Rattle.task_code_registers.specs.declared.scopes.Held.{Held}
+use Rattle.task_code_registers.specs.Doing.{Did}
 use Rattle.task_code_registers.specs.Holding.{mentions}
+use Rattle.task_code_registers.specs.Scopes.{Knows, AreHolders, IsKept}
 use Rattle.task_code_registers.specs.Strides.{strides}
 use Rattle.task_code_loops.specs.declared.bounds.Bound.{Bound}
 use Rattle.task_code_loops.specs.Bounds.{AreBelow}
+use Rattle.task_code_loops.specs.Guarding.{stored_if}
 use Rattle.task_code_lane_values.specs.declared.vectorized.Lanes.{Lanes}
 use Rattle.task_code_runs.specs.Runs.{StoresAs, all_lanes, left_lanes}
 use Rattle.task_code_statements.specs.declared.contexts.Context.{Context}
-use Rattle.task_code_statements.specs.declared.vectorizing.Guard.{Guard}
+use Rattle.task_code_statements.specs.declared.guards.Guard.{Guard}
+use Rattle.task_code_statements.specs.declared.guards.Parted.{Parted}
 use Rattle.task_code_statements.specs.declared.vectorizing.Guarded.{Guarded}
 use Rattle.task_code_statements.specs.declared.vectorizing.Run.{Run}
 use Rattle.task_code_statements.specs.Contexts.{Meets}
 
--- whether a sum is below its extent, where that is asked
-abbrev pub passes : Option Guard → Values → Bool
-passes None values = true
-passes (Some guard) values = nat_lt (linear_value values guard.sum) guard.extent
+-- whether a sum is below its extent
+abbrev pub is_passed : Guard → Values → Bool
+is_passed guard values = nat_lt (linear_value values guard.sum) guard.extent
 
--- a test says the same wherever a variable stands
-abbrev pub GuardLacks : Counter → Option Guard → Type 0
-GuardLacks counter guard = (values : Values) (v : ℕ) → passes guard (with counter v values) ≡ passes guard values
+-- whether all are, and whether one is, where there is one
+abbrev pub passes : List Guard → Values → Bool
+passes [] values = true
+passes (guard ∷ others) values = cond (is_passed guard values) (passes others values) false
 
--- Where the test passes, a statement stores what the store stores, wherever loop variables are as known, and is sound there only if that is; else it
+abbrev pub passes_if : Option Guard → Values → Bool
+passes_if None values = true
+passes_if (Some guard) values = is_passed guard values
+
+-- tests say the same wherever a variable stands
+abbrev pub GuardsLack : Counter → List Guard → Type 0
+GuardsLack counter guards = (values : Values) (v : ℕ) → passes guards (with counter v values) ≡ passes guards values
+
+-- one more test
+abbrev pub OneMore : List Guard → Guard → List Guard → Type 0
+OneMore guards own made = (values : Values) → passes made values ≡ cond (is_passed own values) (passes guards values) false
+
+-- Where all tests pass, a statement stores what the store stores, wherever loop variables are as known, and is sound there only if that is; else it
 -- stores nothing.
 pub record IsStoreOf (context : Context) (body : Stmt) (made : Guarded) : Type 0 where
   pub stores : (reads : Reads) (values : Values) → Meets context values
-      → effect reads body values ≡ cond (passes made.guard values) (effect reads (statements.Store made.store) values) None
-  pub sound : (reads : Reads) (written : Points) (loaded : Point → Bool) (values : Values) → Meets context values → passes made.guard values ≡ true
-      → is_sound reads written loaded body values ≡ true → is_sound reads written loaded (statements.Store made.store) values ≡ true
+      → effect reads body values ≡ cond (passes made.guards.items values) (effect reads (statements.Store made.store) values) None
+  pub sound : (reads : Reads) (written : Points) (loaded : Point → Bool) (values : Values) → Meets context values
+      → passes made.guards.items values ≡ true → is_sound reads written loaded body values ≡ true
+      → is_sound reads written loaded (statements.Store made.store) values ≡ true
 
--- a statement behind the test on a sum as well
-abbrev pub with_guard : Store → Linear → ℕ → Guarded
-with_guard store sum extent = record { store = store; guard = Some (record { sum = sum; extent = extent }) }
+-- ---- tests of lanes
 
--- A sum says how many iterations of a loop pass a test from one on: all before some number, of which the first is one.
+-- Of tests some hang on no lane, and one at most does.
+pub record IsParted (counter : Counter) (guards : List Guard) (made : Parted) : Type 0 where
+  pub passes_is : (values : Values) → passes guards values ≡ cond (passes made.fixed.items values) (passes_if made.lane values) false
+  pub lack : GuardsLack counter made.fixed.items
+
+-- A sum says how many iterations of a loop pass a test from one on, where the first one does: all before some number.
 pub record IsLeft (bounds : List Bound) (counter : Counter) (guard : Guard) (left : Linear) : Type 0 where
   pub value_is : (values : Values) → linear_value values left ≡ word.subtract guard.extent (linear_value values guard.sum)
   pub stride : strides counter guard.sum.terms % 2 ^ 32 ≡ 1
   pub small : guard.extent ≤ 2 ^ 31
-  pub begins : (values : Values) → AreBelow bounds (with counter 0 values) → linear_value (with counter 0 values) guard.sum < guard.extent
-
--- there is a lane for each iteration of a loop, whose variable no held form has
-pub record AreLanes (scope : List Held) (own : Bound) (lanes : Lanes) : Type 0 where
-  pub counter_is : lanes.counter ≡ own.counter
-  pub count_is : own.count ≡ all_lanes lanes
-  pub steady : mentions own.counter scope ≡ false
+  pub begins : (values : Values) → AreBelow bounds (with counter 0 values) → linear_value (with counter 0 values) guard.sum < 2 ^ 31
 
 -- so it is where there is a test
 abbrev pub IsLeftIf : List Bound → Counter → Option Guard → Option Linear → Type 0
@@ -67,11 +83,42 @@ IsLeftIf bounds counter None (Some left) = ⊥
 IsLeftIf bounds counter (Some guard) None = ⊥
 IsLeftIf bounds counter (Some guard) (Some left) = IsLeft bounds counter guard left
 
+-- tests with that of the first iteration
+abbrev pub TestFirst : List Bound → Counter → List Guard → Option Guard → List Guard → Type 0
+TestFirst bounds counter fixed lane made =
+    (values : Values) → AreBelow bounds (with counter 0 values)
+    → passes made (with counter 0 values) ≡ cond (passes fixed (with counter 0 values)) (passes_if lane (with counter 0 values)) false
+
+-- ---- runs
+
+-- there is a lane for each iteration of a loop, whose variable no held form has
+pub record AreLanes (scope : List Held) (own : Bound) (lanes : Lanes) : Type 0 where
+  pub counter_is : lanes.counter ≡ own.counter
+  pub count_is : own.count ≡ all_lanes lanes
+  pub steady : mentions own.counter scope ≡ false
+
 -- as many lanes as iterations store
 abbrev pub lane_count : Lanes → Option Linear → Values → ℕ
 lane_count own None values = all_lanes own
 lane_count own (Some left) values = left_lanes own left values
 
--- a body does a run's store in as many iterations
+-- Where all tests pass in the first iteration, a body does a run's store in as many iterations; else it stores nothing.
 pub record IsRunOf (context : Context) (lanes : Lanes) (body : Stmt) (made : Run) : Type 0 where
-  pub does : (values : Values) → Meets context values → StoresAs lanes body made.store values (lane_count lanes made.left values)
+  pub does : (values : Values) → Meets context values → passes made.fixed.items (with lanes.counter 0 values) ≡ true
+      → StoresAs lanes body made.store values (lane_count lanes made.left values)
+  pub none : (values : Values) → Meets context values → passes made.fixed.items (with lanes.counter 0 values) ≡ false
+      → (reads : Reads) (i : ℕ) → i < all_lanes lanes → effect reads body (with lanes.counter i values) ≡ None
+
+-- Appended code does what a body does where all tests pass, and else nothing. Its turns hang on that alone.
+pub record StandsBehind (old new : List ℕ) (scope : List Held) (guards : List Guard) (body : List Insn) : Type 0 where
+  pub insns : List Insn
+  pub emits : Emits old new insns
+  pub turns : ℕ → Values → ℕ
+  pub does : (own : Setting) (values : Values) (t : ℕ) (left : Planes) (stored : Points) (f : ℕ → ℕ) (memory : List ℕ) (funcs : Planes)
+      → AreHolders scope → HoldsFuncs own memory funcs → Knows own.world.hart scope values f
+      → (passes guards values ≡ true → (g : ℕ → ℕ) → Knows own.world.hart scope values g → Did own body t g memory (IsKept scope) left stored)
+      → Did own insns (turns t values) f memory (IsKept scope) (if passes guards values then left else funcs) (stored_if (passes guards values) stored)
+
+-- so it is of a body whose words were made apart
+abbrev pub WordsBehind : List ℕ → List ℕ → List Held → List Guard → List ℕ → Type 0
+WordsBehind old new scope guards words = (body : List Insn) → Emits [] words body → StandsBehind old new scope guards body

@@ -8,6 +8,7 @@
 #![tactic(auto)]
 
 pub mod contexts;
+mod guards;
 mod lacking;
 mod mentions;
 pub mod rewriting;

@@ -1,7 +1,7 @@
 use Rattle.std.proofs.Common.{sym, subst}
 use Rattle.std.specs.Prelude.{Some, None}
 use Rattle.task_code_statements.specs.Vectorizing.{IsLeftIf}
-use Rattle.task_code_statements.proofs.vectorizing.left_if.Goals as goal
+use Rattle.task_code_statements.proofs.guards.left_if.Goals as goal
 
 pub returns-in-None : goal.returns-in-None
 returns-in-None c = subst (λ g. IsLeftIf c.args.bounds.now c.args.counter g None) (sym c.in-None.is) tt

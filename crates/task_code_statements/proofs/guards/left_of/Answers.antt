@@ -1,7 +1,7 @@
 use Rattle.std.proofs.Common.{◌∙◌, ap, ◌%◌, ◌^◌}
 use Rattle.task_code_registers.specs.Strides.{strides}
-use Rattle.task_code_statements.proofs.AtOnce.{left-is-of}
-use Rattle.task_code_statements.proofs.vectorizing.left_of.Goals as goal
+use Rattle.task_code_statements.proofs.Guarding.{left-is-of}
+use Rattle.task_code_statements.proofs.guards.left_of.Goals as goal
 
 pub returns-then-is_below : goal.returns-then-is_below
 returns-then-is_below c =
