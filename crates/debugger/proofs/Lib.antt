@@ -1,7 +1,7 @@
-pub mod Copies
 pub mod Counting
+pub mod Holding
+pub mod Keeping
 pub mod Passes
 pub mod Places
 pub mod Refusing
-pub mod Returning
 pub mod Stopping

@@ -27,10 +27,17 @@ same-itself : (word : Option ℕ) → option_eq ◌==◌ word word ≡ true
 same-itself None = refl
 same-itself (Some n) = eq-eqb n n refl
 
-differs-itself : (state : State) (watches : List ℕ) → list_any (differs state state) watches ≡ false
+pub differs-itself : (state : State) (watches : List ℕ) → list_any (differs state state) watches ≡ false
 differs-itself state [] = refl
 differs-itself state (address ∷ watches) =
     ap (λ b. not b || list_any (differs state state) watches) (same-itself (word_in state address)) ∙ differs-itself state watches
+
+-- where text and data are the same
+pub differs-none : (before after : State) (watches : List ℕ) → after.text ≡ before.text → after.memory ≡ before.memory → list_any (differs before after) watches ≡ false
+differs-none before after watches text memory =
+    ap (λ (t : List ℕ). list_any (differs before (record { text = t; memory = after.memory; harts = after.harts })) watches) text
+    ∙ ap (λ (m : List ℕ). list_any (differs before (record { text = before.text; memory = m; harts = after.harts })) watches) memory
+    ∙ differs-itself before watches
 
 -- behind the last of some turns, of which those before it changed nothing
 pub watches-behind : (session : SessionState) (place turns : ℕ) → 1 ≤ turns → state_at session (place + (turns - 1)) ≡ state_at session place → list_any (watch_stops session (place + turns)) session.watches ≡ list_any (differs (state_at session place) (state_at session (place + turns))) session.watches
@@ -45,7 +52,7 @@ watches-behind session place turns some still =
 pub watches-start : (session : SessionState) → list_any (watch_stops session 0) session.watches ≡ false
 watches-start session = any-none session.watches
 
-or-false : (b : Bool) → (b || false) ≡ b
+pub or-false : (b : Bool) → (b || false) ≡ b
 or-false true = refl
 or-false false = refl
 

@@ -1,59 +1,221 @@
-//! Copies of states on the way, to go back to.
+//! States on the way that are kept, to go back to.
+//!
+//! A kept place holds what the state there has over the one that was kept before it: all harts, and the pages of data that turns wrote
+//! since. The first one has them over the image's data, and leaves them to the next one when it is let go.
 
-ghost use Rattle.std.specs.Prelude.{◌≡◌, ◌≤◌, ◌∷◌, IfSome};
-ghost use Rattle.debugger.specs.inner.Held.{AreKept, IsKept};
-ghost use Rattle.turn_log.specs.TurnLog.{LogState};
+ghost use Rattle.std.specs.Prelude.{◌≡◌, ◌+◌, ◌/◌, ◌^◌, ◌<◌, ◌≤◌, ℕ, List, All, false, Some, IfOk, IfSome, length, option_map, slice_get, take};
+ghost use Rattle.memory.specs.Addresses.{most_bytes};
+ghost use Rattle.multi_hart.specs.Parts.{with_data, with_harts};
+ghost use Rattle.multi_hart.specs.Run.{run};
 ghost use Rattle.loader.specs.Image.{ImageContents};
+ghost use Rattle.loader.specs.Loading.{machine_of};
+ghost use Rattle.turn_log.specs.TurnLog.{LogState};
+ghost use Rattle.debugger_pages.specs.Pages.{Holds, Marked, is_written, pages_of};
+ghost use Rattle.debugger.specs.inner.Kept.{AreFree, ArePages, CanPutBack, IsCopy, IsKept, KeptFits, last_kept, last_of};
 
-use multi_hart::Snapshot;
+use debugger_pages::{
+    PAGE, PageCopy, changed_pages, mark_below, mark_pages, put_below, put_pages, settle,
+};
+use hart_core::Hart;
+use loader::Image;
+use multi_hart::Machine;
+use std::alloc::{AllocError, Global};
 
-/// How many turns lie between two places at which the state is copied.
+/// How many turns lie between two places that are kept.
 pub(crate) const KEPT_EVERY: u64 = 4096;
 
-/// The most copies that are kept.
+/// The most places that are kept.
 pub(crate) const MOST_KEPT: usize = 16;
 
-/// Bytes of data that are copied in less time than the turns between two copies take.
-pub(crate) const CHEAP_COPY: usize = 262_144;
-
-/// The state at a place.
+/// The state at a place, over the one that was kept before it.
 #[derive(Drop)]
 pub(crate) struct KeptPlace {
     pub place: u64,
-    pub snapshot: Snapshot,
+    pub harts: Vec<Hart>,
+    /// The pages of data that may be others than they were.
+    pub pages: Vec<PageCopy>,
 }
 
-/// The copy of the last place up to this one.
-pub(crate) fn nearest(kept: &[KeptPlace], place: u64) -> Option<&KeptPlace>
-    ensures before { IfSome result (λ found. found.now.place ≤ place) }
-    ensures kept { (image : ImageContents) (log : LogState) → AreKept image log kept.now → IfSome result (λ found. IsKept image log found.now) }
+/// The last places that were kept.
+#[derive(Drop)]
+pub(crate) struct Kept {
+    /// For each page of data its last copy among those that were let go.
+    pub below: Vec<Option<PageCopy>>,
+    /// The places, in the order in which they were kept.
+    pub places: Vec<KeptPlace>,
+    /// The pages of data in which a machine may be another than it was at the last of them.
+    pub written: Vec<bool>,
+}
+
+/// No place is kept, over so many bytes of data.
+pub(crate) fn keep_none(alloc: Global, size: usize) -> Result<Kept, AllocError>
+    requires { size < 2 ^ 63 }
+    ensures none { IfOk result (λ kept. AreFree (pages_of size) kept) }
+{
+    let pages = (size + (PAGE - 1)) / PAGE;
+    let mut below = Vec::new(alloc);
+    let mut written = Vec::new(alloc);
+    for _page in 0..pages {
+        below.push(None)?;
+        written.push(false)?;
+    }
+    Ok(Kept {
+        below,
+        places: Vec::new(alloc),
+        written,
+    })
+}
+
+/// The last kept place up to this one: which of those that are kept it is, and its number.
+pub(crate) fn nearest(kept: &[KeptPlace], place: u64) -> Option<(usize, u64)>
+    ensures before { IfSome result (λ found. found.1 ≤ place) }
+    ensures kept { IfSome result (λ found. option_map (λ copy. copy.place) (slice_get kept.now found.0) ≡ Some found.1) }
+    ensures there { IfSome result (λ found. found.0 < length kept.now) }
 {
     let [first, others @ ..] = kept else {
         return None;
     };
     let found = nearest(others, place);
-    if first.place > place {
-        return found;
-    }
     match found {
-        Some(other) if other.place > first.place => Some(other),
-        _ => Some(first),
+        Some((at, other)) if first.place > place || other > first.place => Some((at + 1, other)),
+        _ if first.place > place => None,
+        _ => Some((0, first.place)),
     }
 }
 
-/// Whether there is a copy of the state at the place.
+/// Whether the place is kept.
 pub(crate) fn is_kept(kept: &[KeptPlace], place: u64) -> bool {
     kept.iter().any(|copy| copy.place == place)
 }
 
-/// Keeps one more copy, and lets the one that was made first go where there are too many.
-#[tactic(auto, using(crate::proofs::Copies::kept_without_the_first, crate::proofs::Copies::kept_with_one_more))]
-pub(crate) fn keep_last(kept: &mut Vec<KeptPlace>, copy: KeptPlace)
-    ensures { (image : ImageContents) (log : LogState) → AreKept image log kept.old.items → IsKept image log copy → AreKept image log kept.new.items }
+/// What there is to keep of a machine at a place, where these pages were written.
+pub(crate) fn copy_of(
+    alloc: Global,
+    place: u64,
+    machine: &Machine,
+    written: &[bool],
+) -> Result<KeptPlace, AllocError>
+    requires { length written.now ≡ pages_of (length machine.now.memory) }
+    ensures { IfOk result (λ copy. IsCopy place machine.now written.now copy) }
 {
-    if kept.len() >= MOST_KEPT {
-        let _first = kept.remove(0);
+    let pages = changed_pages(alloc, machine.data(), written)?;
+    let harts = machine.copy_harts(alloc)?;
+    Ok(KeptPlace {
+        place,
+        harts,
+        pages,
+    })
+}
+
+/// Keeps one more place, and lets the one that was kept first go where there are too many.
+pub(crate) fn keep_last(kept: &mut Kept, copy: KeptPlace)
+    ensures { (image : ImageContents) (log : LogState) (memory : List ℕ) → KeptFits image log kept.old memory → IsKept image log (last_kept image kept.old) copy
+        → memory ≡ (run (machine_of image log.harts) (take copy.place log.turns)).memory → KeptFits image log kept.new memory }
+{
+    make_room(kept);
+    push_last(kept, copy);
+}
+
+/// Lets the place go that was kept first where there are as many as may be.
+fn make_room(kept: &mut Kept)
+    ensures fits { (image : ImageContents) (log : LogState) (memory : List ℕ) → KeptFits image log kept.old memory → KeptFits image log kept.new memory }
+    ensures last { (image : ImageContents) (log : LogState) (memory : List ℕ) → KeptFits image log kept.old memory → (i : ℕ) → last_kept image kept.old i ≡ last_kept image kept.new i }
+{
+    if kept.places.len() < MOST_KEPT {
+        return;
     }
-    // A copy for which there is no memory isn't kept.
-    let _ = kept.push(copy);
+    let_go(kept);
+}
+
+/// Keeps one more place. One for which there is no memory isn't kept.
+fn push_last(kept: &mut Kept, copy: KeptPlace)
+    ensures { (image : ImageContents) (log : LogState) (memory : List ℕ) → KeptFits image log kept.old memory → IsKept image log (last_kept image kept.old) copy
+        → memory ≡ (run (machine_of image log.harts) (take copy.place log.turns)).memory → KeptFits image log kept.new memory }
+{
+    match kept.places.push(copy) {
+        Ok(()) => kept.written.fill(false),
+        Err(_) => {}
+    }
+}
+
+/// Lets the place go that was kept first, which leaves its pages to the next one.
+fn let_go(kept: &mut Kept)
+    requires { 1 ≤ length kept.old.places.items }
+    ensures fits { (image : ImageContents) (log : LogState) (memory : List ℕ) → KeptFits image log kept.old memory → KeptFits image log kept.new memory }
+    ensures last { (image : ImageContents) (log : LogState) (memory : List ℕ) → KeptFits image log kept.old memory → (i : ℕ) → last_kept image kept.old i ≡ last_kept image kept.new i }
+{
+    let first = kept.places.remove(0);
+    settle(&mut kept.below, first.pages);
+}
+
+/// Puts a machine back to the state at the one of the kept places that stands there. Takes no memory.
+pub(crate) fn put_back(kept: &mut Kept, image: &Image, at: usize, machine: &mut Machine)
+    requires there { at < length kept.old.places.items }
+    requires can { CanPutBack (length machine.old.memory) (length machine.old.harts) kept.old }
+    requires size { length image.now.bytes ≡ length machine.old.memory }
+    ensures state { (log : LogState) (memory : List ℕ) (place : ℕ) → KeptFits image.now log kept.old memory → option_map (λ copy. copy.place) (slice_get kept.old.places.items at) ≡ Some place
+        → machine.old.text ≡ image.now.words → machine.new ≡ run (machine_of image.now log.harts) (take place log.turns) }
+    ensures fits { (log : LogState) (memory : List ℕ) → KeptFits image.now log kept.old memory → KeptFits image.now log kept.new machine.new.memory }
+{
+    machine.set_data(image.data());
+    put_below(machine, &kept.below);
+    put_places(machine, &kept.places, at + 1);
+    put_harts(machine, &kept.places, at);
+    kept.written.fill(false);
+    mark_behind(&mut kept.written, &kept.places, at + 1);
+}
+
+/// Puts a machine back to the start of the log, where its harts were these. Takes no memory.
+pub(crate) fn put_at_start(kept: &mut Kept, image: &Image, opening: &[Hart], machine: &mut Machine)
+    requires size { length image.now.bytes ≡ length machine.old.memory }
+    requires harts { length opening.now ≡ length machine.old.harts }
+    ensures state { machine.new ≡ record { text = machine.old.text; memory = image.now.bytes; harts = opening.now } }
+    ensures fits { (log : LogState) (memory : List ℕ) → KeptFits image.now log kept.old memory → KeptFits image.now log kept.new machine.new.memory }
+{
+    machine.set_data(image.data());
+    machine.set_harts(opening);
+    kept.written.fill(false);
+    mark_below(&mut kept.written, &kept.below);
+    mark_behind(&mut kept.written, &kept.places, 0);
+}
+
+/// Puts the pages of so many places back, one place after the other.
+fn put_places(machine: &mut Machine, places: &[KeptPlace], count: usize)
+    requires few { length machine.old.memory ≤ most_bytes }
+    requires pages { All (ArePages (length machine.old.memory)) places.now }
+    ensures state { machine.new ≡ with_data machine.old machine.new.memory }
+    ensures as_many { length machine.new.memory ≡ length machine.old.memory }
+    ensures holds { (f : ℕ → ℕ) → Holds machine.old.memory f → Holds machine.new.memory (last_of f (take count places.now)) }
+{
+    if count == 0 {
+        return;
+    }
+    if let [first, others @ ..] = places {
+        put_pages(machine, &first.pages);
+        put_places(machine, others, count - 1);
+    }
+}
+
+/// Puts the harts of one of the places back.
+fn put_harts(machine: &mut Machine, places: &[KeptPlace], at: usize)
+    requires there { at < length places.now }
+    requires harts { All (λ copy. length copy.harts.items ≡ length machine.old.harts) places.now }
+    ensures { (copy : KeptPlace) → slice_get places.now at ≡ Some copy → machine.new ≡ with_harts machine.old copy.harts.items }
+{
+    machine.set_harts(&places[at].harts);
+}
+
+/// Marks the pages of all places behind so many.
+fn mark_behind(written: &mut [bool], places: &[KeptPlace], count: usize)
+    ensures marked { Marked written.old written.new }
+    ensures others { (f : ℕ → ℕ) (i : ℕ) → is_written written.new (i / 4096) ≡ false → last_of f places.now i ≡ last_of f (take count places.now) i }
+{
+    if let [first, others @ ..] = places {
+        if count == 0 {
+            mark_pages(written, &first.pages);
+            mark_behind(written, others, 0);
+        } else {
+            mark_behind(written, others, count - 1);
+        }
+    }
 }

@@ -1,13 +1,21 @@
 //! Turns that are passed on the way to a stop.
 
-ghost use Rattle.std.specs.Prelude.{◌≡◌, ℕ, ◌+◌, ◌^◌, ◌<◌, ◌≤◌, length};
+ghost use Rattle.std.specs.Prelude.{◌≡◌, ◌≢◌, ℕ, List, Some, ◌||◌, ◌+◌, ◌^◌, ◌<◌, ◌≤◌, length, map};
 ghost use Rattle.std.specs.List.{list_any};
+ghost use Rattle.memory.specs.Addresses.{most_words};
+ghost use Rattle.multi_hart.specs.Run.{KeepsShape, hart_at};
+ghost use Rattle.turn_log.specs.RunAt.{run_at};
+ghost use Rattle.turn_log.specs.TurnLog.{IsLog};
+ghost use Rattle.debugger_pages.specs.Pages.{Marks};
+ghost use Rattle.debugger_stores.specs.Stored.{store_in};
 ghost use Rattle.debugger.specs.inner.Passing.{First, Fits, IsPassed, Latest};
 ghost use Rattle.debugger.specs.Places.{SessionState, state_at};
 ghost use Rattle.debugger.specs.Stops.{break_stops};
 
-use crate::turns::{at_once, make_watched};
+use crate::turns::{Made, Way, make_until, up_to_kept};
+use hart_core::Status;
 use multi_hart::Machine;
+use rv_insn::Insn;
 use turn_log::TurnLog;
 
 /// What some turns came to that were passed at once.
@@ -24,6 +32,14 @@ pub(crate) struct Passed {
 }
 
 impl Passed {
+    /// The turns, as what was made of them.
+    pub(crate) fn made(self) -> Made {
+        Made {
+            turns: self.turns,
+            steps: self.steps,
+        }
+    }
+
     /// The first stop behind the place, among those that the turns lead to.
     pub(crate) fn first(self, place: u64) -> Option<u64>
         requires fits { place + self.turns < 2 ^ 64 }
@@ -54,38 +70,78 @@ impl Passed {
     }
 }
 
-/// Passes at least one turn and at most those up to the limit, on a machine that stands at the place:
-/// one turn of a hart that runs, or all of one that doesn't, which change nothing.
+/// Passes at least one turn and at most those up to the limit, on a machine that stands at the place: those of a hart that runs up to one
+/// behind which a mark may stop or the state may have to be kept, or all of one that doesn't run, which change nothing.
 pub(crate) fn pass(
     log: &TurnLog,
     breaks: &[u32],
     watches: &[u32],
     machine: &mut Machine,
-    place: u64,
-    limit: u64,
+    insns: &[Option<Insn>],
+    written: &mut [bool],
+    way: Way,
 ) -> Passed
     requires harts { length machine.old.harts ≡ log.now.harts }
-    requires before { place < limit }
-    requires within { limit ≤ length log.now.turns }
-    ensures passed { (session : SessionState) → Fits session log.now breaks.now watches.now machine.old place → IsPassed session place result }
-    ensures state { (session : SessionState) → Fits session log.now breaks.now watches.now machine.old place → machine.new ≡ state_at session (place + result.turns) }
+    requires meant { insns.now ≡ map store_in machine.old.text }
+    requires few { length insns.now ≤ most_words }
+    requires before { way.place < way.limit }
+    requires within { way.limit ≤ length log.now.turns }
+    ensures passed { (session : SessionState) → Fits session log.now breaks.now watches.now machine.old way.place → IsPassed session way.place result }
+    ensures state { (session : SessionState) → Fits session log.now breaks.now watches.now machine.old way.place → machine.new ≡ state_at session (way.place + result.turns) }
     ensures some { 1 ≤ result.turns }
-    ensures within { place + result.turns ≤ limit }
-    ensures harts { length machine.new.harts ≡ log.now.harts }
+    ensures within { way.place + result.turns ≤ way.limit }
+    ensures shape { KeepsShape machine.old machine.new }
+    ensures marks { Marks machine.old.memory machine.new.memory written.old written.new }
 {
     // What this ensures says that every turn is of one of these harts.
     let _harts = log.harts();
-    let Some((hart, count)) = log.run_at(place) else {
+    let Some((hart, count)) = log.run_at(way.place) else {
         unreachable!()
     };
-    let turns = at_once(machine, hart, count.min(limit - place));
-    let between = breaks.contains(&machine.pc(hart));
-    let watched = make_watched(machine, hart, turns, watches);
-    let behind = is_on_break(log, breaks, machine, place + turns) || watched.changed;
+    let all = count.min(way.limit - way.place);
+    let Status::Running = machine.status(hart) else {
+        return pass_rest(log, breaks, machine, hart, all, way.place);
+    };
+    let most = all.min(up_to_kept(way.place));
+    let until = make_until(machine, insns, written, hart, most, breaks, watches);
+    let on_break = is_on_break(log, breaks, machine, way.place + until.turns);
+    Passed {
+        turns: until.turns,
+        steps: until.turns,
+        between: false,
+        behind: either(on_break, until.changed),
+    }
+}
+
+/// Whether one of the two holds.
+fn either(a: bool, b: bool) -> bool
+    ensures { result ≡ a || b }
+{
+    a || b
+}
+
+/// Passes so many turns of a hart that doesn't run, all at once.
+fn pass_rest(
+    log: &TurnLog,
+    breaks: &[u32],
+    machine: &Machine,
+    hart: usize,
+    turns: u64,
+    place: u64,
+) -> Passed
+    requires harts { length machine.now.harts ≡ log.now.harts }
+    requires there { hart < log.now.harts }
+    requires rests { (hart_at machine.now hart).status ≢ Status.Running }
+    requires fits { place + turns < 2 ^ 64 }
+    ensures turns { result.turns ≡ turns }
+    ensures passed { (session : SessionState) (watches : List ℕ) (count : ℕ) → Fits session log.now breaks.now watches machine.now place → run_at log.now.turns place ≡ Some (hart, count)
+        → 1 ≤ turns → turns ≤ count → IsLog log.now → IsPassed session place result }
+{
+    let behind = is_on_break(log, breaks, machine, place + turns);
     Passed {
         turns,
-        steps: watched.steps,
-        between,
+        steps: 0,
+        between: breaks.contains(&machine.pc(hart)),
         behind,
     }
 }

@@ -4,10 +4,13 @@ ghost use Rattle.std.specs.Prelude.{◌≡◌, ◌≢◌, ◌+◌, ◌-◌, ◌<
 ghost use Rattle.debugger.specs.Places.{opened, moved};
 ghost use Rattle.debugger.specs.Refusals.{UnlessMemory};
 
-use crate::kept::KeptPlace;
+use crate::kept::{Kept, keep_none};
 use crate::refusals::Refusal;
+use debugger_stores::stores_of;
+use hart_core::Hart;
 use loader::Image;
-use multi_hart::{Machine, Snapshot};
+use multi_hart::Machine;
+use rv_insn::Insn;
 use std::alloc::{AllocError, Global};
 use std::marker::Model;
 use turn_log::TurnLog;
@@ -23,10 +26,12 @@ pub struct Session {
     pub(crate) watches: Vec<u32>,
     /// The machine after the turns before the place.
     pub(crate) machine: Machine,
-    /// The state at the start of the log.
-    pub(crate) opening: Snapshot,
-    /// The last copies that were made on the way, the first one first.
-    pub(crate) kept: Vec<KeptPlace>,
+    /// The instructions of the text that store.
+    pub(crate) insns: Vec<Option<Insn>>,
+    /// The harts at the start of the log.
+    pub(crate) opening: Vec<Hart>,
+    /// The last states that were kept on the way.
+    pub(crate) kept: Kept,
     pub(crate) steps: u64,
 }
 
@@ -38,16 +43,18 @@ impl Model for Session {
 
     ghost view = { λ s. record { image = s.image; log = s.log; place = s.place; breaks = s.breaks.items; watches = s.watches.items } };
 
-    ghost invariant = { λ s. Held (record { image = s.image; log = s.log; place = s.place; breaks = s.breaks.items; watches = s.watches.items }) s.machine s.opening s.kept.items };
+    ghost invariant = { λ s. Held (record { image = s.image; log = s.log; place = s.place; breaks = s.breaks.items; watches = s.watches.items }) s.machine s.opening.items s.insns.items s.kept };
 }
 
 impl Session {
-    /// A session at the start of a log, with no mark. A machine of the log's harts is made, and a copy of its state.
+    /// A session at the start of a log, with no mark. A machine of the log's harts is made, and a copy of them.
     pub fn open(alloc: Global, image: Image, log: TurnLog) -> Result<Session, AllocError>
         ensures { IfOk result (λ session. session ≡ opened image log) }
     {
         let machine = image.machine(alloc, log.harts())?;
-        let opening = Snapshot::of(alloc, &machine)?;
+        let insns = stores_of(alloc, image.words())?;
+        let opening = machine.copy_harts(alloc)?;
+        let kept = keep_none(alloc, image.data().len())?;
         Ok(Session {
             image,
             log,
@@ -55,14 +62,15 @@ impl Session {
             breaks: Vec::new(alloc),
             watches: Vec::new(alloc),
             machine,
+            insns,
             opening,
-            kept: Vec::new(alloc),
+            kept,
             steps: 0,
         })
     }
 
-    /// Goes to a place, refused where the log has fewer turns. Backwards the turns are made again from the nearest copy before the
-    /// place. It needs no memory: a copy for which there is none isn't kept.
+    /// Goes to a place, refused where the log has fewer turns. Backwards the turns are made again from the nearest kept place
+    /// before it. It needs no memory: a place for which there is none isn't kept.
     pub fn goto(&mut self, alloc: Global, k: u64) -> Result<(), Refusal>
         ensures ok { OnOk result (self.new ≡ moved self.old k) }
         ensures within { OnOk result (k ≤ length self.old.log.turns) }

@@ -1,15 +1,28 @@
-//! Turns of a hart, made on a machine.
+//! Turns of a hart, made on a machine. Each marks the pages of data that it may write.
 
-ghost use Rattle.std.specs.Prelude.{◌≡◌, ◌≢◌, ◌+◌, ◌<◌, ◌≤◌, length, take, replicate};
+ghost use Rattle.std.specs.Prelude.{◌≡◌, ◌+◌, ◌-◌, ◌<◌, ◌≤◌, ◌==◌, true, false, length, map, take, replicate};
 ghost use Rattle.std.specs.List.{list_any};
-ghost use Rattle.multi_hart.specs.Run.{State, run, hart_at};
-ghost use Rattle.debugger.specs.inner.Steps.{steps_of};
+ghost use Rattle.memory.specs.Addresses.{most_words};
+ghost use Rattle.multi_hart.specs.Run.{KeepsShape, State, run, turn};
+ghost use Rattle.debugger_pages.specs.Pages.{Marks};
+ghost use Rattle.debugger_stores.specs.Stored.{store_in};
+ghost use Rattle.debugger.specs.inner.Steps.{IsQuietUntil, steps_of};
 ghost use Rattle.debugger.specs.Stops.{differs};
 
 use crate::kept::KEPT_EVERY;
+use debugger_pages::turn_marking;
+use debugger_stores::store_at;
 use hart_core::Status;
 use multi_hart::Machine;
+use rv_insn::{Insn, Outcome};
 use turn_log::TurnLog;
+
+/// A place of a log, and a later one up to which turns may be made.
+#[derive(Clone, Copy, Debug)]
+pub(crate) struct Way {
+    pub place: u64,
+    pub limit: u64,
+}
 
 /// Turns that were made.
 #[derive(Clone, Copy, Debug)]
@@ -29,43 +42,61 @@ impl Made {
 
 /// Makes so many turns of a hart, and says how many it made one by one: once it isn't running the rest are passed, since they
 /// change nothing. It takes no memory.
-pub(crate) fn make_counted(machine: &mut Machine, hart: usize, turns: u64) -> u64
+pub(crate) fn make_counted(
+    machine: &mut Machine,
+    insns: &[Option<Insn>],
+    written: &mut [bool],
+    hart: usize,
+    turns: u64,
+) -> u64
     requires there { hart < length machine.old.harts }
+    requires meant { insns.now ≡ map store_in machine.old.text }
+    requires few { length insns.now ≤ most_words }
     ensures state { machine.new ≡ run machine.old (replicate turns hart) }
     ensures steps { result ≡ steps_of machine.old hart turns }
-    ensures harts { length machine.new.harts ≡ length machine.old.harts }
+    ensures shape { KeepsShape machine.old machine.new }
+    ensures marks { Marks machine.old.memory machine.new.memory written.old written.new }
 {
     for made in 0..turns {
         let Status::Running = machine.status(hart) else {
             return made;
         };
-        let _stepped = machine.turn(hart);
+        let _told = turn_marking(machine, insns, hart, written);
     }
     turns
 }
 
 /// Makes turns of the hart whose turn is next in a log, at least one and at most those up to the limit: those up to the next place at
-/// which the state is copied where it runs, else all of them. It takes no memory.
-pub(crate) fn make_some(log: &TurnLog, machine: &mut Machine, place: u64, limit: u64) -> Made
+/// which the state is kept where it runs, else all of them. It takes no memory.
+pub(crate) fn make_some(
+    log: &TurnLog,
+    machine: &mut Machine,
+    insns: &[Option<Insn>],
+    written: &mut [bool],
+    way: Way,
+) -> Made
     requires harts { length machine.old.harts ≡ log.now.harts }
-    requires before { place < limit }
-    requires within { limit ≤ length log.now.turns }
-    ensures state { (start : State) → machine.old ≡ run start (take place log.now.turns) → machine.new ≡ run start (take (place + result.turns) log.now.turns) }
+    requires meant { insns.now ≡ map store_in machine.old.text }
+    requires few { length insns.now ≤ most_words }
+    requires before { way.place < way.limit }
+    requires within { way.limit ≤ length log.now.turns }
+    ensures state { (start : State) → machine.old ≡ run start (take way.place log.now.turns) → machine.new ≡ run start (take (way.place + result.turns) log.now.turns) }
     ensures some { 1 ≤ result.turns }
-    ensures within { place + result.turns ≤ limit }
-    ensures harts { length machine.new.harts ≡ log.now.harts }
+    ensures within { way.place + result.turns ≤ way.limit }
+    ensures shape { KeepsShape machine.old machine.new }
+    ensures marks { Marks machine.old.memory machine.new.memory written.old written.new }
 {
     // What this ensures says that every turn is of one of these harts.
     let _harts = log.harts();
-    let Some((hart, count)) = log.run_at(place) else {
+    let Some((hart, count)) = log.run_at(way.place) else {
         unreachable!()
     };
-    let turns = at_most(machine, hart, place, count.min(limit - place));
-    let steps = make_counted(machine, hart, turns);
+    let turns = at_most(machine, hart, way.place, count.min(way.limit - way.place));
+    let steps = make_counted(machine, insns, written, hart, turns);
     Made { turns, steps }
 }
 
-/// How many of a hart's next turns are made before the state may have to be copied: those up to the next place at which it is copied
+/// How many of a hart's next turns are made before the state may have to be kept: those up to the next place at which it is kept
 /// where the hart runs, and all of them where it doesn't.
 fn at_most(machine: &Machine, hart: usize, place: u64, all: u64) -> u64
     requires there { hart < length machine.now.harts }
@@ -76,57 +107,131 @@ fn at_most(machine: &Machine, hart: usize, place: u64, all: u64) -> u64
     let Status::Running = machine.status(hart) else {
         return all;
     };
-    all.min(KEPT_EVERY - place % KEPT_EVERY)
+    all.min(up_to_kept(place))
 }
 
-/// How many of a hart's next turns can be passed at once: one where it runs, and all of them where it
-/// doesn't, since they change nothing.
-pub(crate) fn at_once(machine: &Machine, hart: usize, all: u64) -> u64
-    requires there { hart < length machine.now.harts }
-    requires some { 1 ≤ all }
-    ensures some { 1 ≤ result }
-    ensures most { result ≤ all }
-    ensures rests { 1 < result → (hart_at machine.now hart).status ≢ Status.Running }
+/// How many turns lie between a place and the next one at which the state is kept.
+pub(crate) fn up_to_kept(place: u64) -> u64
+    ensures { 1 ≤ result }
 {
-    let Status::Running = machine.status(hart) else {
-        return all;
-    };
-    1
+    KEPT_EVERY - place % KEPT_EVERY
 }
 
-/// What some turns of a hart came to.
+/// Turns that were made up to one behind which a mark may stop.
 #[derive(Clone, Copy, Debug)]
-pub(crate) struct Watched {
-    /// How many of them were made one by one.
-    pub steps: u64,
-    /// A word that is watched is another than before.
+pub(crate) struct Until {
+    /// How many they are.
+    pub turns: u64,
+    /// A word that is watched is another behind the last of them than before it.
     pub changed: bool,
 }
 
-/// Makes so many turns of a hart, and says whether a word at one of the addresses is then another than
-/// before. Each word is read before and after. It takes no memory.
-pub(crate) fn make_watched(
+/// Makes turns of a hart, at least one and at most so many: up to the first behind which it stands on a break, which changes a word at
+/// one of the watched addresses, or which doesn't step. It takes no memory.
+pub(crate) fn make_until(
     machine: &mut Machine,
+    insns: &[Option<Insn>],
+    written: &mut [bool],
     hart: usize,
-    turns: u64,
+    most: u64,
+    breaks: &[u32],
+    watches: &[u32],
+) -> Until
+    requires there { hart < length machine.old.harts }
+    requires meant { insns.now ≡ map store_in machine.old.text }
+    requires few { length insns.now ≤ most_words }
+    requires some { 1 ≤ most }
+    ensures state { machine.new ≡ run machine.old (replicate result.turns hart) }
+    ensures some { (1 ≤ result.turns) × (result.turns ≤ most) }
+    ensures quiet { IsQuietUntil machine.old hart breaks.now watches.now result.turns }
+    ensures changed { result.changed ≡ list_any (differs (run machine.old (replicate (result.turns - 1) hart)) machine.new) watches.now }
+    ensures shape { KeepsShape machine.old machine.new }
+    ensures marks { Marks machine.old.memory machine.new.memory written.old written.new }
+{
+    let mut turns = 1;
+    let mut told = turn_watched(machine, insns, written, hart, watches);
+    while turns < most && goes_on(told, machine.pc(hart), breaks) {
+        told = turn_watched(machine, insns, written, hart, watches);
+        turns += 1;
+    }
+    Until {
+        turns,
+        changed: told.changed,
+    }
+}
+
+/// Whether no mark stops behind a turn that stepped, where the hart now stands at this address and its turn is the next one.
+fn goes_on(told: Watched, pc: u32, breaks: &[u32]) -> bool
+    ensures { result ≡ true → (told.changed ≡ false) × (list_any (λ mark. mark == pc) breaks.now ≡ false) }
+{
+    let Outcome::Stepped = told.outcome else {
+        return false;
+    };
+    !told.changed && !breaks.contains(&pc)
+}
+
+/// What a turn came to.
+#[derive(Clone, Copy, Debug)]
+struct Watched {
+    outcome: Outcome,
+    /// A word that is watched is another than before.
+    changed: bool,
+}
+
+/// Makes a turn of a hart, and says whether a word at one of the addresses is then another than before. Words are read where the
+/// instruction stores, and no other turn changes any. It takes no memory.
+fn turn_watched(
+    machine: &mut Machine,
+    insns: &[Option<Insn>],
+    written: &mut [bool],
+    hart: usize,
     watches: &[u32],
 ) -> Watched
     requires there { hart < length machine.old.harts }
-    ensures state { machine.new ≡ run machine.old (replicate turns hart) }
-    ensures steps { result.steps ≡ steps_of machine.old hart turns }
-    ensures harts { length machine.new.harts ≡ length machine.old.harts }
+    requires meant { insns.now ≡ map store_in machine.old.text }
+    requires few { length insns.now ≤ most_words }
+    ensures state { machine.new ≡ turn machine.old hart }
     ensures changed { result.changed ≡ list_any (differs machine.old machine.new) watches.now }
+    ensures marks { Marks machine.old.memory machine.new.memory written.old written.new }
+{
+    if !watches.is_empty() && store_at(insns, machine.pc(hart)).is_some() {
+        return turn_compared(machine, insns, written, hart, watches);
+    }
+    let told = turn_marking(machine, insns, hart, written);
+    Watched {
+        outcome: told.outcome,
+        changed: false,
+    }
+}
+
+/// The same of any turn: each word is read before and after.
+fn turn_compared(
+    machine: &mut Machine,
+    insns: &[Option<Insn>],
+    written: &mut [bool],
+    hart: usize,
+    watches: &[u32],
+) -> Watched
+    requires there { hart < length machine.old.harts }
+    requires meant { insns.now ≡ map store_in machine.old.text }
+    requires few { length insns.now ≤ most_words }
+    ensures state { machine.new ≡ turn machine.old hart }
+    ensures changed { result.changed ≡ list_any (differs machine.old machine.new) watches.now }
+    ensures marks { Marks machine.old.memory machine.new.memory written.old written.new }
 {
     match watches {
-        [] => Watched {
-            steps: make_counted(machine, hart, turns),
-            changed: false,
-        },
+        [] => {
+            let told = turn_marking(machine, insns, hart, written);
+            Watched {
+                outcome: told.outcome,
+                changed: false,
+            }
+        }
         [address, others @ ..] => {
             let before = machine.word(*address);
-            let watched = make_watched(machine, hart, turns, others);
+            let watched = turn_compared(machine, insns, written, hart, others);
             Watched {
-                steps: watched.steps,
+                outcome: watched.outcome,
                 changed: machine.word(*address) != before || watched.changed,
             }
         }

@@ -7,7 +7,7 @@ use Rattle.multi_hart.proofs.Resting.{run-append, turn-resting}
 use Rattle.vector_codegen_sharing.specs.Turns.{is_word_in, written_next}
 use Rattle.debugger_blame.specs.LastWrites.{last_turn, last_turn_of_word}
 use Rattle.debugger_blame.specs.Marks.{AreMarks, mark_of}
-use Rattle.debugger_blame.specs.inner.Stored.{Marked}
+use Rattle.debugger_blame.specs.inner.Marked.{Marked}
 use Rattle.debugger_blame.specs.declared.marks.Marking.{Marking}
 use Rattle.debugger_blame.specs.declared.marks.Marking.TheVariants.{Harts, Turns}
 use Rattle.debugger_blame.proofs.LastTurns.{got_behind, last-append}

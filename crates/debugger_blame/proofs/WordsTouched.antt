@@ -8,7 +8,7 @@ use Rattle.rv_insn.specs.declared.vector_operations.ElementWidth.{ElementWidth}
 use Rattle.hart_core.specs.VectorRows.{accesses_at, size_of}
 use Rattle.multi_hart.specs.Frame.{is_in}
 use Rattle.vector_codegen_sharing.specs.Turns.{is_word_in}
-use Rattle.debugger_blame.specs.inner.Stored.{Marked, is_byte_of_word}
+use Rattle.debugger_blame.specs.inner.Marked.{Marked, is_byte_of_word}
 use Rattle.debugger_blame.proofs.Storing.{in_both}
 
 -- ---- tests

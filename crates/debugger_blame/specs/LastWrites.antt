@@ -1,10 +1,6 @@
 -- The last of a list of turns that writes a word, beside the last writer of a byte that the theorem on assignments names.
 -- This project's own.
 use Rattle.std.specs.Prelude.{◌≡◌, ℕ, ◌+◌, Bool, if◌then◌else◌, option_and_then, slice_get, take, unwrap_or, List, [], ◌∷◌, Option, Some, None}
-use Rattle.memory.specs.Access.{touched, written_by}
-use Rattle.rv_insn.specs.declared.instructions.Insn.{Insn}
-use Rattle.hart_core.specs.HartState.{HartState}
-use Rattle.hart_core.specs.Scalar.{accesses, kind_of}
 use Rattle.multi_hart.specs.Run.{State, hart_at, run, turn, word_in}
 use Rattle.multi_hart.specs.Frame.{is_in}
 use Rattle.vector_codegen_sharing.specs.Turns.{is_word_in, last_writer, written_next}
@@ -28,10 +24,6 @@ last_turn_of_word word state turns = last_turn (is_word_in word) 0 None state tu
 abbrev pub HartsAreLastWriters : Type 0
 HartsAreLastWriters =
     (place : ℕ) (state : State) (turns : List ℕ) → last_writer place None state turns ≡ option_and_then (slice_get turns) (last_turn_of_byte place state turns)
-
--- the places that an instruction writes in a hart's state, if it makes no trap
-abbrev pub places_stored : Insn → HartState → List ℕ
-places_stored insn hart = touched (written_by (kind_of insn) (accesses insn hart))
 
 -- what a word holds, and 0 where there is none
 abbrev pub held : State → ℕ → ℕ

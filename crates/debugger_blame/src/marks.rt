@@ -7,10 +7,11 @@ ghost use Rattle.memory.specs.Addresses.{fetched, most_words};
 ghost use Rattle.multi_hart.specs.Run.{State, hart_at, run, turn};
 ghost use Rattle.vector_codegen_sharing.specs.Turns.{is_word_in, written_next};
 ghost use Rattle.debugger_blame.specs.Marks.{AreMarks};
-ghost use Rattle.debugger_blame.specs.inner.Stored.{Marked, is_byte_of_word, places_in, store_in};
+ghost use Rattle.debugger_stores.specs.Stored.{places_in, store_in};
+ghost use Rattle.debugger_blame.specs.inner.Marked.{Marked, is_byte_of_word};
 
-use crate::passes::{Stretch, store_at, stores_of};
-use crate::stores::{Stored, numbers_stored};
+use crate::passes::Stretch;
+use debugger_stores::{Stored, numbers_stored, store_at, stores_of};
 use hart_core::Status;
 use multi_hart::Machine;
 use rv_insn::{ElementWidth, Insn, Outcome};

@@ -7,14 +7,14 @@ ghost use Rattle.rv_encoding.specs.Decoding.{decoded};
 ghost use Rattle.hart_core.specs.Scalar.{illegal_fault};
 ghost use Rattle.multi_hart.specs.Run.{State, hart_at, run, turn, word_in};
 ghost use Rattle.vector_codegen_sharing.specs.Turns.{is_word_in};
-ghost use Rattle.debugger_blame.specs.LastWrites.{Blames, held, places_stored};
-ghost use Rattle.debugger_blame.specs.inner.Stored.{store_in};
+ghost use Rattle.debugger_stores.specs.Stored.{places_stored, store_in};
+ghost use Rattle.debugger_blame.specs.LastWrites.{Blames, held};
 ghost use Rattle.rv_insn.specs.declared.instructions.Insn.{Insn};
 
-use crate::stores::{store_of, stores_to};
+use crate::stores::stores_to;
 use crate::writes::Write;
+use debugger_stores::{store_at, stores_of};
 use hart_core::Status;
-use memory::TEXT_START;
 use multi_hart::Machine;
 use rv_insn::{Insn, Outcome};
 use std::alloc::{AllocError, Global};
@@ -36,13 +36,6 @@ pub fn last_write(
 {
     let insns = stores_of(alloc, words)?;
     Ok(pass(machine, &insns, log, address))
-}
-
-/// The instruction that each of the words means, if that stores.
-pub(crate) fn stores_of(alloc: Global, words: &[u32]) -> Result<Vec<Option<Insn>>, AllocError>
-    ensures { IfOk result (λ insns. insns.items ≡ map store_in words.now) }
-{
-    words.iter().map(|word| store_of(*word)).collect(alloc)
 }
 
 /// The same, where it is known which words of text store.
@@ -152,20 +145,6 @@ fn would_write(machine: &Machine, insns: &[Option<Insn>], hart: usize, address: 
     match store_at(insns, machine.pc(hart)) {
         Some(insn) => stores_to(machine.hart(hart), insn, address),
         None => false,
-    }
-}
-
-/// The instruction at an address, if that stores.
-pub(crate) fn store_at(insns: &[Option<Insn>], pc: u32) -> Option<&Insn>
-    requires { length insns.now ≤ most_words }
-    ensures { (text : List ℕ) → insns.now ≡ map store_in text → option_copied result ≡ option_and_then store_in (fetched text pc) }
-{
-    if pc < TEXT_START || pc % 4 != 0 {
-        return None;
-    }
-    match insns.get(((pc - TEXT_START) / 4) as usize) {
-        Some(Some(insn)) => Some(insn),
-        _ => None,
     }
 }
 

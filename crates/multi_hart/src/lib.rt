@@ -4,13 +4,14 @@
 //! run is the turns one after the other, as `specs/Run.antt` defines them over the instruction table.
 //!
 //! - [`machines`]: the machine, its turns and runs, and what can be read of it.
-//! - [`snapshots`]: copies of what turns change, to go back to.
+//! - [`snapshots`]: copies of what turns change, to go back to; [`parts`]: the same part by part.
 //! - [`laws`]: a turn depends on what it reads alone, turns that don't conflict commute, and what a
 //!   turn leaves (`specs/Frame.antt`).
 #![tactic(auto)]
 
 pub mod laws;
 pub mod machines;
+pub mod parts;
 pub mod snapshots;
 
 pub use crate::laws::{commute, frame, frame_within, turns_put_back};

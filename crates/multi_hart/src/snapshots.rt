@@ -45,14 +45,14 @@ impl Snapshot {
 }
 
 /// The same harts once more.
-fn copies(alloc: Global, harts: &[Hart]) -> Result<Vec<Hart>, AllocError>
+pub(crate) fn copies(alloc: Global, harts: &[Hart]) -> Result<Vec<Hart>, AllocError>
     ensures { IfOk result (λ copies. copies.items ≡ harts.now) }
 {
     harts.iter().map(|hart| hart.duplicate()).collect(alloc)
 }
 
 /// Puts harts in the place of as many others.
-fn put_copies(places: &mut [Hart], harts: &[Hart])
+pub(crate) fn put_copies(places: &mut [Hart], harts: &[Hart])
     requires { length harts.now ≡ length places.old }
     ensures { places.new ≡ harts.now }
 {

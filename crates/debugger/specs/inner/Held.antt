@@ -1,28 +1,22 @@
--- What every session keeps: the machine that it holds is the one at its place, which lies within the log, its copies are of the
--- states at their places, and there are no more marks than there may be. This project's own.
-use Rattle.std.specs.Prelude.{◌≡◌, ◌≤◌, List, [], ◌∷◌, length, take}
-use Rattle.multi_hart.specs.Run.{State, run}
-use Rattle.multi_hart.specs.Snapshots.{Snapped, snapped}
-use Rattle.turn_log.specs.TurnLog.{LogState}
-use Rattle.loader.specs.Image.{ImageContents}
-use Rattle.loader.specs.Loading.{machine_of}
-use Rattle.debugger.specs.declared.kept.KeptPlace.{KeptPlace}
+-- What every session keeps: the machine that it holds is the one at its place, which lies within the log, what it knows of the text and of
+-- kept places is right, and there are no more marks than there may be. This project's own.
+use Rattle.std.specs.Prelude.{◌≡◌, ◌≤◌, List, length, map, Option}
+use Rattle.memory.specs.Addresses.{most_words}
+use Rattle.rv_insn.specs.declared.instructions.Insn.{Insn}
+use Rattle.hart_core.specs.HartState.{HartState}
+use Rattle.multi_hart.specs.Run.{State}
+use Rattle.debugger_stores.specs.Stored.{store_in}
+use Rattle.debugger.specs.declared.kept.Kept.{Kept}
 use Rattle.debugger.specs.Places.{SessionState, state_at, state_here}
 use Rattle.debugger.specs.Marks.{marks, most_marks}
+use Rattle.debugger.specs.inner.Kept.{KeptFits}
 
--- a copy is of the state at its place, which hangs on the image and on the log alone
-pub record IsKept (image : ImageContents) (log : LogState) (copy : KeptPlace) : Type 0 where
-  pub within : copy.place ≤ length log.turns
-  pub as_there : copy.snapshot ≡ snapped (run (machine_of image log.harts) (take copy.place log.turns))
-
-abbrev pub AreKept : ImageContents → LogState → List KeptPlace → Type 0
-AreKept image log [] = Unit {0}
-AreKept image log (copy ∷ copies) = IsKept image log copy × AreKept image log copies
-
-pub record Held (session : SessionState) (machine : State) (first : Snapped) (copies : List KeptPlace) : Type 0 where
+pub record Held (session : SessionState) (machine : State) (first : List HartState) (stores : List (Option Insn)) (places : Kept) : Type 0 where
   pub state : machine ≡ state_here session
   pub harts : length machine.harts ≡ session.log.harts
   pub within : session.place ≤ length session.log.turns
   pub few_marks : marks session ≤ most_marks
-  pub opening : first ≡ snapped (state_at session 0)
-  pub kept : AreKept session.image session.log copies
+  pub opening : first ≡ (state_at session 0).harts
+  pub insns : stores ≡ map store_in session.image.words
+  pub few_words : length stores ≤ most_words
+  pub kept : KeptFits session.image session.log places machine.memory

@@ -1,9 +1,11 @@
 -- How many turns a session makes one by one: a hart that has stopped passes the rest of its turns at once, and these are none.
 -- This project's own.
-use Rattle.std.specs.Prelude.{ℕ, zero, suc, ◌+◌, replicate}
+use Rattle.std.specs.Prelude.{◌≡◌, ℕ, zero, suc, ◌+◌, ◌-◌, ◌<◌, ◌≤◌, ◌==◌, false, List, replicate}
+use Rattle.std.specs.List.{list_any}
 use Rattle.hart_core.specs.declared.harts.Status.{Status}
 use Rattle.hart_core.specs.declared.harts.Status.TheVariants.{Running, Finished, Trapped}
 use Rattle.multi_hart.specs.Run.{State, run, hart_at}
+use Rattle.debugger.specs.Stops.{differs}
 
 abbrev pub one_if_running : Status → ℕ
 one_if_running Running = 1
@@ -14,3 +16,8 @@ one_if_running (Trapped trap) = 0
 abbrev pub steps_of : State → ℕ → ℕ → ℕ
 steps_of state hart zero = 0
 steps_of state hart (suc n) = steps_of state hart n + one_if_running (hart_at (run state (replicate n hart)) hart).status
+
+-- of so many turns of a hart the hart stands on no break behind each but the last, and no watched word is changed by any but the last
+pub record IsQuietUntil (state : State) (hart : ℕ) (breaks watches : List ℕ) (turns : ℕ) : Type 0 where
+  pub on_none : (k : ℕ) → 1 ≤ k → k < turns → list_any (λ mark. mark == (hart_at (run state (replicate k hart)) hart).pc) breaks ≡ false
+  pub changes_none : (k : ℕ) → 1 ≤ k → k < turns → list_any (differs (run state (replicate (k - 1) hart)) (run state (replicate k hart))) watches ≡ false

@@ -1,88 +1,102 @@
-use Rattle.std.proofs.Common.{ℕ, ◌==◌, ◌||◌, Bool, replicate, sym, ap, ◌∙◌, arith}
-use Rattle.std.specs.List.{list_any}
-use Rattle.multi_hart.specs.Run.{State, run, hart_at}
+use Rattle.std.proofs.Common.{◌+◌, ◌≤◌, ℕ, refl, sym, ap, subst, ◌∙◌, arith}
+use Rattle.std.specs.Prelude.{◌≢◌}
+use Rattle.hart_core.specs.declared.harts.Status.TheVariants.{Running}
+use Rattle.multi_hart.specs.Run.{State, hart_at}
 use Rattle.turn_log.specs.TurnLog.{LogState}
+use Rattle.debugger_pages.proofs.Marking.{marks_none}
 use Rattle.debugger.specs.Places.{state_at}
-use Rattle.debugger.specs.Stops.{differs}
 use Rattle.debugger.proofs.Places.{next-is, none-is}
-use Rattle.debugger.proofs.Passes.{at-once, state-behind, stops-inside, stops-at-end}
+use Rattle.debugger.proofs.Passes.{at-once, rest-state, stands-behind, until-behind, until-between, until-of}
 use Rattle.debugger.proofs.passing.pass.Goals as goal
 
 pub unreachable-requires : goal.unreachable-requires
 unreachable-requires c =
-    let ended = none-is c.args.log.now c.args.place (sym c.run_at.ensures ∙ c.in_default.is) in
+    let ended = none-is c.args.log.now c.args.way.place (sym c.run_at.ensures ∙ c.in_default.is) in
     let before = c.requires.before in
     let within = c.requires.within in
     omega arith
 
-pub at_once-turns-requires-clause-there : goal.at_once-turns-requires-clause-there
-at_once-turns-requires-clause-there c =
-    let next = next-is c.args.log.now c.args.place c.in-Some.hart c.in-Some.count c.harts-harts.ensures.log (sym c.run_at.ensures ∙ c.in-Some.is) in
+pub status-requires : goal.status-requires
+status-requires c =
+    let next = next-is c.args.log.now c.args.way.place c.in-Some.hart c.in-Some.count c.harts-harts.ensures.log (sym c.run_at.ensures ∙ c.in-Some.is) in
     omega (arith, next.below, c.requires.harts)
 
-pub at_once-turns-requires-clause-some : goal.at_once-turns-requires-clause-some
-at_once-turns-requires-clause-some c =
-    let next = next-is c.args.log.now c.args.place c.in-Some.hart c.in-Some.count c.harts-harts.ensures.log (sym c.run_at.ensures ∙ c.in-Some.is) in
-    let some = next.stand.some in
-    let least = c.min.ensures in
+pub returns-in_default-status : goal.returns-in_default-status
+returns-in_default-status c =
+    let log = c.args.log.now in
+    let machine = c.args.machine.now in
+    let place = c.args.way.place in
+    let hart = c.in-Some.hart in
+    let turns = c.min-all.result in
+    let run = sym c.run_at.ensures ∙ c.in-Some.is in
+    let is = c.harts-harts.ensures.log in
+    let next = next-is log place hart c.in-Some.count is run in
+    let start = next.stand.some in
+    let least = c.min-all.ensures in
+    let before = c.requires.before in
+    let made = c.pass_rest.ensures.turns in
+    let some : 1 ≤ turns = omega arith in
+    let most : turns ≤ c.in-Some.count = omega arith in
+    let rests : (hart_at machine hart).status ≢ Running = λ runs. c.in_default-status.not-Running (c.status.ensures ∙ runs) in
+    record {
+      passed = λ session fits. c.pass_rest.ensures.passed session c.args.watches.now c.in-Some.count fits run some most is;
+      state = λ session fits.
+          (let once = at-once session log machine place hart c.in-Some.count turns fits.same_log is run fits.state (c.requires.harts ∙ ap (λ (l : LogState). l.harts) fits.same_log) some most (λ two. rests) in
+          let still = subst (λ (s : State). (hart_at s hart).status ≢ Running) fits.state rests in
+          fits.state ∙ sym (rest-state session place hart c.in-Some.count turns once still) ∙ ap (λ (n : ℕ). state_at session (place + n)) (sym made));
+      some = omega arith;
+      within = omega arith;
+      shape = record { text = refl; bytes = refl; harts = refl };
+      marks = marks_none machine.memory c.args.written.now;
+    }
+
+pub make_until-until-requires-clause-there : goal.make_until-until-requires-clause-there
+make_until-until-requires-clause-there c =
+    let next = next-is c.args.log.now c.args.way.place c.in-Some.hart c.in-Some.count c.harts-harts.ensures.log (sym c.run_at.ensures ∙ c.in-Some.is) in
+    omega (arith, next.below, c.requires.harts)
+
+pub make_until-until-requires-clause-some : goal.make_until-until-requires-clause-some
+make_until-until-requires-clause-some c =
+    let next = next-is c.args.log.now c.args.way.place c.in-Some.hart c.in-Some.count c.harts-harts.ensures.log (sym c.run_at.ensures ∙ c.in-Some.is) in
+    let start = next.stand.some in
+    let least = c.min-all.ensures in
+    let before = c.requires.before in
+    let up_to = c.up_to_kept.ensures in
+    let most = c.min-most.ensures in
     omega arith
 
-pub pc-requires : goal.pc-requires
-pc-requires c =
-    let next = next-is c.args.log.now c.args.place c.in-Some.hart c.in-Some.count c.harts-harts.ensures.log (sym c.run_at.ensures ∙ c.in-Some.is) in
-    omega (arith, next.below, c.requires.harts)
-
-pub make_watched-watched-requires : goal.make_watched-watched-requires
-make_watched-watched-requires c =
-    let next = next-is c.args.log.now c.args.place c.in-Some.hart c.in-Some.count c.harts-harts.ensures.log (sym c.run_at.ensures ∙ c.in-Some.is) in
-    omega (arith, next.below, c.requires.harts)
-
-pub returns-then-is_on_break-clause-state : goal.returns-then-is_on_break-clause-state
-returns-then-is_on_break-clause-state c = λ session fits.
+pub returns-clause-passed : goal.returns-clause-passed
+returns-clause-passed c = λ session fits.
+    let log = c.args.log.now in
+    let machine = c.args.machine.now in
+    let place = c.args.way.place in
     let hart = c.in-Some.hart in
-    let turns = c.at_once-turns.result in
-    let least = c.min.ensures in
-    let once = at-once session c.args.log.now c.args.machine.now c.args.place hart c.in-Some.count turns fits.same_log c.harts-harts.ensures.log (sym c.run_at.ensures ∙ c.in-Some.is) fits.state (c.requires.harts ∙ ap (λ (l : LogState). l.harts) fits.same_log) c.at_once-turns.ensures.some (omega (arith, c.at_once-turns.ensures.most)) c.at_once-turns.ensures.rests in
-    let state = c.make_watched-watched.ensures.state ∙ ap (λ (s : State). run s (replicate turns hart)) fits.state ∙ state-behind session c.args.place hart c.in-Some.count turns once in
-    state
-
-pub returns-else-is_on_break-clause-state : goal.returns-else-is_on_break-clause-state
-returns-else-is_on_break-clause-state c = λ session fits.
-    let hart = c.in-Some.hart in
-    let turns = c.at_once-turns.result in
-    let least = c.min.ensures in
-    let once = at-once session c.args.log.now c.args.machine.now c.args.place hart c.in-Some.count turns fits.same_log c.harts-harts.ensures.log (sym c.run_at.ensures ∙ c.in-Some.is) fits.state (c.requires.harts ∙ ap (λ (l : LogState). l.harts) fits.same_log) c.at_once-turns.ensures.some (omega (arith, c.at_once-turns.ensures.most)) c.at_once-turns.ensures.rests in
-    let state = c.make_watched-watched.ensures.state ∙ ap (λ (s : State). run s (replicate turns hart)) fits.state ∙ state-behind session c.args.place hart c.in-Some.count turns once in
-    state
-
-pub returns-then-is_on_break-clause-passed : goal.returns-then-is_on_break-clause-passed
-returns-then-is_on_break-clause-passed c = λ session fits.
-    let hart = c.in-Some.hart in
-    let turns = c.at_once-turns.result in
-    let least = c.min.ensures in
-    let once = at-once session c.args.log.now c.args.machine.now c.args.place hart c.in-Some.count turns fits.same_log c.harts-harts.ensures.log (sym c.run_at.ensures ∙ c.in-Some.is) fits.state (c.requires.harts ∙ ap (λ (l : LogState). l.harts) fits.same_log) c.at_once-turns.ensures.some (omega (arith, c.at_once-turns.ensures.most)) c.at_once-turns.ensures.rests in
-    let state = c.make_watched-watched.ensures.state ∙ ap (λ (s : State). run s (replicate turns hart)) fits.state ∙ state-behind session c.args.place hart c.in-Some.count turns once in
-    let between = c.contains-between.ensures.value ∙ ap (list_any (λ mark. mark == c.pc.result)) fits.same_breaks ∙ ap (λ (pc : ℕ). list_any (λ mark. mark == pc) session.breaks) (c.pc.ensures ∙ ap (λ (s : State). (hart_at s hart).pc) fits.state) in
-    let changed = c.make_watched-watched.ensures.changed ∙ ap (list_any (differs c.args.machine.now c.make_watched-watched.new.machine)) fits.same_watches ∙ ap (λ (s : State). list_any (differs s c.make_watched-watched.new.machine) session.watches) fits.state ∙ ap (λ (s : State). list_any (differs (state_at session c.args.place) s) session.watches) state in
-    let on_break = c.is_on_break.ensures session fits.same_log fits.same_breaks state in
+    let count = c.in-Some.count in
+    let turns = c.make_until-until.result.turns in
+    let changed = c.make_until-until.result.changed in
+    let run = sym c.run_at.ensures ∙ c.in-Some.is in
+    let is = c.harts-harts.ensures.log in
+    let least = c.min-all.ensures in
+    let most = c.min-most.ensures in
+    let some : 1 ≤ turns = c.make_until-until.ensures.some.0 in
+    let bound = c.make_until-until.ensures.some.1 in
+    let within : turns ≤ count = omega arith in
+    let state = c.make_until-until.ensures.state in
+    let behind = stands-behind session log c.args.breaks.now c.args.watches.now machine c.make_until-until.new.machine place hart count turns fits is run within state in
+    let stands = c.is_on_break-on_break.ensures session fits.same_log fits.same_breaks behind in
+    let on_break = c.is_on_break-on_break.result in
+    let until = until-of session log c.args.breaks.now c.args.watches.now machine c.make_until-until.new.machine place hart count turns changed on_break fits is run some within state c.make_until-until.ensures.quiet c.make_until-until.ensures.changed stands in
     record {
-      some = c.at_once-turns.ensures.some;
-      between = λ k after before. stops-inside session c.args.place hart c.in-Some.count turns k once after before ∙ sym between;
-      behind = stops-at-end session c.args.place hart c.in-Some.count turns c.is_on_break.result c.make_watched-watched.result.changed once on_break changed ∙ ap (λ (b : Bool). b || c.make_watched-watched.result.changed) c.if-is_on_break.true ∙ sym c.if-is_on_break.true;
+      some = some;
+      between = λ k after before. until-between session place hart count turns k changed on_break until after before;
+      behind = until-behind session place hart count turns changed on_break until ∙ sym c.either.ensures;
     }
 
-pub returns-else-is_on_break-clause-passed : goal.returns-else-is_on_break-clause-passed
-returns-else-is_on_break-clause-passed c = λ session fits.
-    let hart = c.in-Some.hart in
-    let turns = c.at_once-turns.result in
-    let least = c.min.ensures in
-    let once = at-once session c.args.log.now c.args.machine.now c.args.place hart c.in-Some.count turns fits.same_log c.harts-harts.ensures.log (sym c.run_at.ensures ∙ c.in-Some.is) fits.state (c.requires.harts ∙ ap (λ (l : LogState). l.harts) fits.same_log) c.at_once-turns.ensures.some (omega (arith, c.at_once-turns.ensures.most)) c.at_once-turns.ensures.rests in
-    let state = c.make_watched-watched.ensures.state ∙ ap (λ (s : State). run s (replicate turns hart)) fits.state ∙ state-behind session c.args.place hart c.in-Some.count turns once in
-    let between = c.contains-between.ensures.value ∙ ap (list_any (λ mark. mark == c.pc.result)) fits.same_breaks ∙ ap (λ (pc : ℕ). list_any (λ mark. mark == pc) session.breaks) (c.pc.ensures ∙ ap (λ (s : State). (hart_at s hart).pc) fits.state) in
-    let changed = c.make_watched-watched.ensures.changed ∙ ap (list_any (differs c.args.machine.now c.make_watched-watched.new.machine)) fits.same_watches ∙ ap (λ (s : State). list_any (differs s c.make_watched-watched.new.machine) session.watches) fits.state ∙ ap (λ (s : State). list_any (differs (state_at session c.args.place) s) session.watches) state in
-    let on_break = c.is_on_break.ensures session fits.same_log fits.same_breaks state in
-    record {
-      some = c.at_once-turns.ensures.some;
-      between = λ k after before. stops-inside session c.args.place hart c.in-Some.count turns k once after before ∙ sym between;
-      behind = stops-at-end session c.args.place hart c.in-Some.count turns c.is_on_break.result c.make_watched-watched.result.changed once on_break changed ∙ ap (λ (b : Bool). b || c.make_watched-watched.result.changed) c.if-is_on_break.false;
-    }
+pub returns-clause-state : goal.returns-clause-state
+returns-clause-state c = λ session fits.
+    let least = c.min-all.ensures in
+    let most = c.min-most.ensures in
+    let bound = c.make_until-until.ensures.some.1 in
+    let within : c.make_until-until.result.turns ≤ c.in-Some.count = omega arith in
+    stands-behind session c.args.log.now c.args.breaks.now c.args.watches.now c.args.machine.now c.make_until-until.new.machine c.args.way.place c.in-Some.hart c.in-Some.count c.make_until-until.result.turns fits
+    c.harts-harts.ensures.log (sym c.run_at.ensures ∙ c.in-Some.is) within c.make_until-until.ensures.state

@@ -1,5 +1,6 @@
-use Rattle.std.proofs.Common.{◌≡◌, length, replicate}
-use Rattle.multi_hart.specs.Run.{run}
+use Rattle.std.proofs.Common.{◌≡◌, replicate}
+use Rattle.multi_hart.specs.Run.{KeepsShape, run}
+use Rattle.debugger_pages.specs.Pages.{Marks}
 use Rattle.debugger.specs.inner.Steps.{steps_of}
 use Rattle.debugger.proofs.turns.make_counted.Given as goal
 
@@ -7,5 +8,6 @@ abbrev pub invariant-loop-made : goal.invariant-loop-made
 invariant-loop-made l = record {
   state : l.machine ≡ run l.fn.machine (replicate l.made l.hart);
   steps : l.made ≡ steps_of l.fn.machine l.hart l.made;
-  harts : length l.machine.harts ≡ length l.fn.machine.harts;
+  shape : KeepsShape l.fn.machine l.machine;
+  marks : Marks l.fn.machine.memory l.machine.memory l.fn.written l.written;
 }

@@ -5,32 +5,32 @@ use Rattle.debugger.proofs.turns.make_some.Goals as goal
 
 pub unreachable-requires : goal.unreachable-requires
 unreachable-requires c =
-    let ended = none-is c.args.log.now c.args.place (sym c.run_at.ensures ∙ c.in_default.is) in
+    let ended = none-is c.args.log.now c.args.way.place (sym c.run_at.ensures ∙ c.in_default.is) in
     let before = c.requires.before in
     let inside = c.requires.within in
     omega arith
 
 pub at_most-turns-requires-clause-there : goal.at_most-turns-requires-clause-there
 at_most-turns-requires-clause-there c =
-    let next = next-is c.args.log.now c.args.place c.in-Some.hart c.in-Some.count c.harts-harts.ensures.log (sym c.run_at.ensures ∙ c.in-Some.is) in
+    let next = next-is c.args.log.now c.args.way.place c.in-Some.hart c.in-Some.count c.harts-harts.ensures.log (sym c.run_at.ensures ∙ c.in-Some.is) in
     omega (arith, next.below, c.requires.harts)
 
 pub at_most-turns-requires-clause-some : goal.at_most-turns-requires-clause-some
 at_most-turns-requires-clause-some c =
-    let next = next-is c.args.log.now c.args.place c.in-Some.hart c.in-Some.count c.harts-harts.ensures.log (sym c.run_at.ensures ∙ c.in-Some.is) in
+    let next = next-is c.args.log.now c.args.way.place c.in-Some.hart c.in-Some.count c.harts-harts.ensures.log (sym c.run_at.ensures ∙ c.in-Some.is) in
     let some = next.stand.some in
     let least = c.min.ensures in
     omega arith
 
-pub make_counted-steps-requires : goal.make_counted-steps-requires
-make_counted-steps-requires c =
-    let next = next-is c.args.log.now c.args.place c.in-Some.hart c.in-Some.count c.harts-harts.ensures.log (sym c.run_at.ensures ∙ c.in-Some.is) in
-    record { there = omega (arith, next.below, c.requires.harts) }
+pub make_counted-steps-requires-clause-there : goal.make_counted-steps-requires-clause-there
+make_counted-steps-requires-clause-there c =
+    let next = next-is c.args.log.now c.args.way.place c.in-Some.hart c.in-Some.count c.harts-harts.ensures.log (sym c.run_at.ensures ∙ c.in-Some.is) in
+    omega (arith, next.below, c.requires.harts)
 
 pub returns-clause-state : goal.returns-clause-state
 returns-clause-state c = λ start from.
-    let next = next-is c.args.log.now c.args.place c.in-Some.hart c.in-Some.count c.harts-harts.ensures.log (sym c.run_at.ensures ∙ c.in-Some.is) in
+    let next = next-is c.args.log.now c.args.way.place c.in-Some.hart c.in-Some.count c.harts-harts.ensures.log (sym c.run_at.ensures ∙ c.in-Some.is) in
     let least = c.min.ensures in
     c.make_counted-steps.ensures.state
     ∙ ap (λ (s : State). run s (replicate c.at_most-turns.result c.in-Some.hart)) from
-    ∙ sym (run-standing start c.args.log.now.turns c.args.place c.in-Some.hart c.in-Some.count c.at_most-turns.result next.stand (omega (arith, c.at_most-turns.ensures.most)))
+    ∙ sym (run-standing start c.args.log.now.turns c.args.way.place c.in-Some.hart c.in-Some.count c.at_most-turns.result next.stand (omega (arith, c.at_most-turns.ensures.most)))

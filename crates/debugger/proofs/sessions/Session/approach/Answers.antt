@@ -1,63 +1,50 @@
-use Rattle.std.proofs.Common.{List, length, ap, sym, subst, ◌∙◌, arith}
-use Rattle.multi_hart.specs.Run.{State}
+use Rattle.std.proofs.Common.{◌≡◌, ◌∙◌, List, Some, length, refl, sym, ap, arith}
+use Rattle.std.specs.Prelude.{option_map, slice_get}
+use Rattle.hart_core.specs.HartState.{HartState}
 use Rattle.debugger.specs.declared.kept.KeptPlace.{KeptPlace}
-use Rattle.debugger.specs.Places.{SessionState}
-use Rattle.debugger.specs.inner.Held.{AreKept}
-use Rattle.debugger.proofs.Returning.{stands-again, as-many-bytes, as-many-harts}
+use Rattle.debugger.specs.Places.{SessionState, state_at}
+use Rattle.debugger.proofs.Holding.{as-many-bytes, as-many-harts, can-go-back, held-there, same-text, start-again}
+use Rattle.debugger.proofs.Keeping.{kept-within}
 use Rattle.debugger.proofs.sessions.Session.approach.Goals as goal
 
-pub restore-requires-clause-bytes : goal.restore-requires-clause-bytes
-restore-requires-clause-bytes c =
+pub put_back-requires-clause-can : goal.put_back-requires-clause-can
+put_back-requires-clause-can c =
     let session : SessionState = record { image = c.self.inside.image; log = c.self.inside.log; place = c.self.inside.place; breaks = c.self.inside.breaks.items; watches = c.self.inside.watches.items } in
-    let image = c.self.inside.image in
-    let log = c.self.inside.log in
-    let copy = c.in-Some.copy.now in
-    let is = c.in-Some.ensures.kept image log (subst (λ (copies : List KeptPlace). AreKept image log copies) (sym c.deref.ensures.value) c.self.invariant.kept) in
-    as-many-bytes session session.place copy.place c.self.inside.machine copy.snapshot c.self.invariant.state is.as_there
+    can-go-back session session.place c.self.inside.machine c.self.inside.kept c.self.invariant.state c.self.invariant.kept
 
-pub restore-requires-clause-harts : goal.restore-requires-clause-harts
-restore-requires-clause-harts c =
+pub put_back-requires-clause-size : goal.put_back-requires-clause-size
+put_back-requires-clause-size c =
     let session : SessionState = record { image = c.self.inside.image; log = c.self.inside.log; place = c.self.inside.place; breaks = c.self.inside.breaks.items; watches = c.self.inside.watches.items } in
-    let image = c.self.inside.image in
-    let log = c.self.inside.log in
-    let copy = c.in-Some.copy.now in
-    let is = c.in-Some.ensures.kept image log (subst (λ (copies : List KeptPlace). AreKept image log copies) (sym c.deref.ensures.value) c.self.invariant.kept) in
-    as-many-harts session session.place copy.place c.self.inside.machine copy.snapshot c.self.invariant.state is.as_there
+    as-many-bytes session session.place c.self.inside.machine c.self.invariant.state
 
 pub invariant_of-self : goal.invariant_of-self
 invariant_of-self c =
     let session : SessionState = record { image = c.self.inside.image; log = c.self.inside.log; place = c.self.inside.place; breaks = c.self.inside.breaks.items; watches = c.self.inside.watches.items } in
-    let image = c.self.inside.image in
-    let log = c.self.inside.log in
-    let copy = c.in-Some.copy.now in
-    let is = c.in-Some.ensures.kept image log (subst (λ (copies : List KeptPlace). AreKept image log copies) (sym c.deref.ensures.value) c.self.invariant.kept) in
-    record {
-      state = c.restore.ensures ∙ stands-again session session.place copy.place c.self.inside.machine copy.snapshot c.self.invariant.state is.as_there;
-      harts = ap (λ (s : State). length s.harts) c.restore.ensures ∙ as-many-harts session session.place copy.place c.self.inside.machine copy.snapshot c.self.invariant.state is.as_there ∙ c.self.invariant.harts;
-      within = is.within;
-      few_marks = c.self.invariant.few_marks;
-      opening = c.self.invariant.opening;
-      kept = c.self.invariant.kept;
-    }
+    let machine = c.self.inside.machine in
+    let kept = c.self.inside.kept in
+    let place = c.in-Some.kept in
+    let fits = c.self.invariant.kept in
+    let found : option_map (λ (copy : KeptPlace). copy.place) (slice_get kept.places.items c.in-Some.at) ≡ Some place =
+    ap (λ (cs : List KeptPlace). option_map (λ (copy : KeptPlace). copy.place) (slice_get cs c.in-Some.at)) (sym c.deref.ensures.value) ∙ c.in-Some.ensures.kept in
+    let text = same-text session session.place machine c.self.invariant.state in
+    let state = c.put_back.ensures.state session.log machine.memory place fits found text in
+    let within = kept-within session.image session.log kept c.in-Some.at place machine.memory fits found in
+    held-there session machine c.put_back.new.machine c.self.inside.opening.items c.self.inside.insns.items kept c.put_back.new.kept place c.self.invariant state within (c.put_back.ensures.fits session.log machine.memory fits)
 
-pub restore-requires-in-None-clause-bytes : goal.restore-requires-in-None-clause-bytes
-restore-requires-in-None-clause-bytes c =
+pub put_at_start-requires-clause-size : goal.put_at_start-requires-clause-size
+put_at_start-requires-clause-size c =
     let session : SessionState = record { image = c.self.inside.image; log = c.self.inside.log; place = c.self.inside.place; breaks = c.self.inside.breaks.items; watches = c.self.inside.watches.items } in
-    as-many-bytes session session.place 0 c.self.inside.machine c.self.inside.opening c.self.invariant.state c.self.invariant.opening
+    as-many-bytes session session.place c.self.inside.machine c.self.invariant.state
 
-pub restore-requires-in-None-clause-harts : goal.restore-requires-in-None-clause-harts
-restore-requires-in-None-clause-harts c =
+pub put_at_start-requires-clause-harts : goal.put_at_start-requires-clause-harts
+put_at_start-requires-clause-harts c =
     let session : SessionState = record { image = c.self.inside.image; log = c.self.inside.log; place = c.self.inside.place; breaks = c.self.inside.breaks.items; watches = c.self.inside.watches.items } in
-    as-many-harts session session.place 0 c.self.inside.machine c.self.inside.opening c.self.invariant.state c.self.invariant.opening
+    ap (λ (hs : List HartState). length hs) (c.deref-in-None.ensures.value ∙ c.self.invariant.opening) ∙ as-many-harts session 0 (state_at session 0) refl ∙ sym c.self.invariant.harts
 
 pub invariant_of-self-then-place-self-2 : goal.invariant_of-self-then-place-self-2
 invariant_of-self-then-place-self-2 c =
     let session : SessionState = record { image = c.self.inside.image; log = c.self.inside.log; place = c.self.inside.place; breaks = c.self.inside.breaks.items; watches = c.self.inside.watches.items } in
-    record {
-      state = c.restore-in-None.ensures ∙ stands-again session session.place 0 c.self.inside.machine c.self.inside.opening c.self.invariant.state c.self.invariant.opening;
-      harts = ap (λ (s : State). length s.harts) c.restore-in-None.ensures ∙ as-many-harts session session.place 0 c.self.inside.machine c.self.inside.opening c.self.invariant.state c.self.invariant.opening ∙ c.self.invariant.harts;
-      within = omega arith;
-      few_marks = c.self.invariant.few_marks;
-      opening = c.self.invariant.opening;
-      kept = c.self.invariant.kept;
-    }
+    let machine = c.self.inside.machine in
+    let text = same-text session session.place machine c.self.invariant.state in
+    let state = start-again session machine c.put_at_start.new.machine c.deref-in-None.result.now c.self.inside.opening.items c.put_at_start.ensures.state text c.deref-in-None.ensures.value c.self.invariant.opening in
+    held-there session machine c.put_at_start.new.machine c.self.inside.opening.items c.self.inside.insns.items c.self.inside.kept c.put_at_start.new.kept 0 c.self.invariant state (omega arith) (c.put_at_start.ensures.fits session.log machine.memory c.self.invariant.kept)
