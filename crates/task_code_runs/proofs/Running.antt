@@ -116,14 +116,18 @@ kept-under group k scope q holders h =
 
 -- ---- what is asked of iterations
 
-module _ (own : Setting) (good : IsSetting own) (lanes_of : Lanes) (body : Stmt) (store : Store) (values : Values) (n : ℕ)
-    (agrees : StoresAs lanes_of body store values n) (may : MayRun own (run_of lanes_of body) values) (funcs : Planes) (memory : List ℕ)
+module _ (own : Setting) (good : IsSetting own) (lanes_of : Lanes) (body : Stmt) (store : Store) (values named : Values) (n : ℕ)
+    (agrees : StoresAs lanes_of body store values named n) (may : MayRun own (run_of lanes_of body) values) (funcs : Planes) (memory : List ℕ)
     (holds : HoldsFuncs own memory funcs) where
   abbrev pub all : ℕ
   all = all_lanes lanes_of
 
   abbrev pub at : ℕ → Values
   at k = with lanes_of.counter k values
+
+  -- with values of names
+  abbrev pub at_named : ℕ → Values
+  at_named k = with lanes_of.counter k named
 
   abbrev pub reads : Reads
   reads = reads_of own.inputs funcs
@@ -143,18 +147,18 @@ module _ (own : Setting) (good : IsSetting own) (lanes_of : Lanes) (body : Stmt)
       record { one = d.0; apart = g.0 }
 
   abbrev pub xs : ℕ → ℕ
-  xs k = value reads (at k) store.x
+  xs k = value reads (at_named k) store.x
 
   abbrev pub ys : ℕ → ℕ
-  ys k = value reads (at k) store.y
+  ys k = value reads (at_named k) store.y
 
   abbrev pub pixel : ℕ → ℕ
-  pixel k = value reads (at k) store.value
+  pixel k = value reads (at_named k) store.value
 
   -- what an iteration may store and load
   pub record MayStore (k : ℕ) : Type 0 where
     pub writes : own.written store.func (xs k) (ys k) ≡ true
-    pub of_value : list_all own.loaded (loads reads (at k) store.value) ≡ true
+    pub of_value : list_all own.loaded (loads reads (at_named k) store.value) ≡ true
 
   pub may-store : (k : ℕ) → k < n → MayStore k
   may-store k few =
@@ -162,19 +166,19 @@ module _ (own : Setting) (good : IsSetting own) (lanes_of : Lanes) (body : Stmt)
       let whole = each-turn all (λ turn. is_sound reads own.written own.loaded body (at turn))
       (sym (sound_for reads own.written own.loaded lanes_of.counter all Vectorized body values) ∙ may.sound funcs holds.are_words) k less in
       let is = agrees.sound reads own.written own.loaded k few whole in
-      let t = and_parts (own.written store.func (xs k) (ys k)) (list_all own.loaded (store_loads reads (at k) store))
-      (sym (sound_store reads own.written own.loaded store (at k)) ∙ is) in
-      let p = and_parts (list_all own.loaded (loads reads (at k) store.x)) _
-      (sym (list_all-append own.loaded (loads reads (at k) store.x) (loads reads (at k) store.y ++ loads reads (at k) store.value)) ∙ t.1) in
-      let q = and_parts (list_all own.loaded (loads reads (at k) store.y)) (list_all own.loaded (loads reads (at k) store.value))
-      (sym (list_all-append own.loaded (loads reads (at k) store.y) (loads reads (at k) store.value)) ∙ p.1) in
+      let t = and_parts (own.written store.func (xs k) (ys k)) (list_all own.loaded (store_loads reads (at_named k) store))
+      (sym (sound_store reads own.written own.loaded store (at_named k)) ∙ is) in
+      let p = and_parts (list_all own.loaded (loads reads (at_named k) store.x)) _
+      (sym (list_all-append own.loaded (loads reads (at_named k) store.x) (loads reads (at_named k) store.y ++ loads reads (at_named k) store.value)) ∙ t.1) in
+      let q = and_parts (list_all own.loaded (loads reads (at_named k) store.y)) (list_all own.loaded (loads reads (at_named k) store.value))
+      (sym (list_all-append own.loaded (loads reads (at_named k) store.y) (loads reads (at_named k) store.value)) ∙ p.1) in
       record { writes = t.0; of_value = q.1 }
 
   abbrev effects : ℕ → Option Effect
   effects k = effect reads body (at k)
 
   abbrev stores_at : ℕ → Option Effect
-  stores_at k = effect reads (s.Store store) (at k)
+  stores_at k = effect reads (s.Store store) (at_named k)
 
   abbrev pub pixels : ℕ → Option Effect
   pixels k = Some (record { func = store.func; x = xs k; y = ys k; pixel = pixel k })
@@ -221,7 +225,7 @@ module _ (own : Setting) (good : IsSetting own) (lanes_of : Lanes) (body : Stmt)
     round = hit.round;
     below = hit.below;
     stored = hit.stored;
-    is = sym (effect_store reads store (at hit.round)) ∙ hit.is;
+    is = sym (effect_store reads store (at_named hit.round)) ∙ hit.is;
     func_is = hit.func_is;
     x_is = hit.x_is;
     y_is = hit.y_is;
@@ -230,7 +234,7 @@ module _ (own : Setting) (good : IsSetting own) (lanes_of : Lanes) (body : Stmt)
   -- a run of the Func is stored, or none
   pub are-run : own.in_runs store.func ≡ true → AreRun own n store.func xs ys
   are-run =
-      pixels-are-run own values reads store at n agrees.some
+      pixels-are-run own values reads store at_named n agrees.some
       (same-runs own values effects stores_at all n hit-more hit-fewer
       (loop-runs own lanes_of.counter all body values may.in_runs reads apart-parts.one funcs holds.are_words))
 
@@ -239,7 +243,7 @@ module _ (own : Setting) (good : IsSetting own) (lanes_of : Lanes) (body : Stmt)
   laid-is =
       let b = agrees.few in
       let whole : (all - n) + n ≡ all = omega (arith, b) in
-      laid-same own.points pixels effects n (λ k few. sym (effect_store reads store (at k)) ∙ sym (agrees.stores reads k few)) funcs
+      laid-same own.points pixels effects n (λ k few. sym (effect_store reads store (at_named k)) ∙ sym (agrees.stores reads k few)) funcs
       ∙ sym (laid-cut own.points effects (all - n) n (λ j low high. agrees.none reads j low (omega (arith, whole, high))) funcs)
       ∙ ap (λ k. laid own.points effects k funcs) whole
       ∙ sym (run_for own.points own.inputs lanes_of.counter all Vectorized body values funcs
@@ -263,23 +267,23 @@ row-stored places scope lanes_of store x y form place b u stride c0 c1 c2 c3 ex 
       insns = p.insns ++ (t.insns ++ last_code);
       emits = emits_then p.emits (emits_then t.emits
           (subst (λ r. Emits c2 c3 (Vector (v.StoreElements Bits32 r b addressings.UnitStride true) ∷ [])) eu z));
-      does = λ own good at-places values body n holders agrees may f memory funcs holds knows has.
+      does = λ own good at-places values named body n holders agrees may f memory funcs holds knows has.
           let w = own.world in
           let group = lanes_of.group in
           let reads_now : Reads = reads_of own.inputs funcs in
-          let at : ℕ → Values = (λ k. with lanes_of.counter k values) in
+          let at : ℕ → Values = (λ k. with lanes_of.counter k named) in
           let xv : ℕ → ℕ = (λ k. value reads_now (at k) store.x) in
           let yv : ℕ → ℕ = (λ k. value reads_now (at k) store.y) in
           let pv : ℕ → ℕ = (λ k. value reads_now (at k) store.value) in
-          let each = may-store own good lanes_of body store values n agrees may funcs memory holds in
+          let each = may-store own good lanes_of body store values named n agrees may funcs memory holds in
           let loaded = λ (k : ℕ) (few : k < n). let q = each k few in
           subst (λ ps. AllByRecursion (Loads w ps memory reads_now) (loads reads_now (at k) store.value)) at-places
           (all-loaded own good [] (at k) funcs memory holds (loads reads_now (at k) store.value) q.of_value) in
-          let a = p.does w memory values reads_now n f holds.size (subst ArePlaces at-places good.are_places) holders knows has agrees.some agrees.few loaded in
+          let a = p.does w memory named reads_now n f holds.size (subst ArePlaces at-places good.are_places) holders knows has agrees.some agrees.few loaded in
           let kept = λ (q : ℕ) (h : IsKept scope q). a.keeps q (kept-under group 0 scope q holders h) in
           let ka = knows-still w.hart scope (at 0) f a.after kept knows in
           let has1 = rows.lanes-kept w memory holds.size group n f a.after (a.keeps vl_number (inr (inl (inl refl)))) (a.keeps vtype_number (inr (inl (inr refl)))) has in
-          let c = t.does w memory w.hart values a.after holds.size holders ka in
+          let c = t.does w memory w.hart named a.after holds.size holders ka in
           let has2 = rows.lanes-kept w memory holds.size group n a.after c.after
           (c.others vl_number (λ e. omega (arith, e)) (λ e. omega (arith, e)) (λ e. omega (arith, e)))
           (c.others vtype_number (λ e. omega (arith, e)) (λ e. omega (arith, e)) (λ e. omega (arith, e))) has1 in
@@ -289,7 +293,7 @@ row-stored places scope lanes_of store x y form place b u stride c0 c1 c2 c3 ex 
           let where-is = λ (k : ℕ) (few : k < n).
           let q = each k few in
           let m = good.laid.stores store.func (xv k) (yv k) q.writes in
-          ap (λ i. (i + k * 4) % 2 ^ 32) c.value ∙ four-further lanes_of.counter k stride w.hart values form es four ∙ point.value w.hart (at k)
+          ap (λ i. (i + k * 4) % 2 ^ 32) c.value ∙ four-further lanes_of.counter k stride w.hart named form es four ∙ point.value w.hart (at k)
           ∙ own-word (address place w.hart (linear_value (at k) x) (linear_value (at k) y)) (subst (λ i. i < 2 ^ 32) (here k) m.low) ∙ sym (here k) in
           let first : Does own p.insns (length p.insns) f memory (IsKept scope) funcs no_hits =
           still own (λ i. i) (λ i. end i p.insns) (length p.insns) a.after holds kept (λ i st. a.line i st) in
@@ -297,12 +301,12 @@ row-stored places scope lanes_of store x y form place b u stride c0 c1 c2 c3 ex 
           still own (λ i. i) (λ i. end i t.insns) (length t.insns) c.after holds
           (λ q h. let u = kept-apart scope q holders h in c.others q (address-free scope holders q h) u.0 u.1) (λ i st. c.line i st) in
           let last = row-saved own good (IsKept scope) group store.func n (let e = agrees.few in let l = few-lanes group in omega (arith, e, l)) xv yv pv
-          (λ k few. let q = each k few in q.writes) a.small (are-run own good lanes_of body store values n agrees may funcs memory holds) b c.after memory funcs t.low
+          (λ k few. let q = each k few in q.writes) a.small (are-run own good lanes_of body store values named n agrees may funcs memory holds) b c.after memory funcs t.low
           holds has2 where-is
           (λ k few. c.others (lane (slot group 0) k) (λ e. omega (arith, e)) (λ e. omega (arith, e)) (λ e. omega (arith, e)) ∙ a.value k few) in
           let e = length-both p.insns t.insns (Vector (v.StoreElements Bits32 (slot group 0) b addressings.UnitStride true)) in
-          did-went (went-hits own (all-hit own good lanes_of body store values n agrees may funcs memory holds)
-          (went-is own (sym e) (laid-is own good lanes_of body store values n agrees may funcs memory holds)
+          did-went (went-hits own (all-hit own good lanes_of body store values named n agrees may funcs memory holds)
+          (went-is own (sym e) (laid-is own good lanes_of body store values named n agrees may funcs memory holds)
           (does-then own first (does-then own second last))));
     }
   where
@@ -319,13 +323,13 @@ pub run-emitted : (places : Places) (scope : List Held) (lanes_of : Lanes) (coun
 run-emitted places scope lanes_of count store c0 c1 c2 x y = record {
   insns = x.insns ++ y.insns;
   emits = emits_then x.emits y.emits;
-  does = λ own good at-places values body holders agrees may f memory funcs holds knows.
+  does = λ own good at-places values named body holders agrees may f memory funcs holds knows.
       let w = own.world in
-      let at0 = with lanes_of.counter 0 values in
-      let a = x.does w memory values f holds.size holders knows in
+      let at0 = with lanes_of.counter 0 named in
+      let a = x.does w memory named f holds.size holders knows in
       let first : Does own x.insns (length x.insns) f memory (IsKept scope) funcs no_hits =
       still own (λ i. i) (λ i. end i x.insns) (length x.insns) a.after holds a.keeps (λ i st. a.line i st) in
       let ka = knows-still w.hart scope at0 f a.after a.keeps knows in
-      let b = y.does own good at-places values body (count values) holders agrees may a.after memory funcs holds ka a.has in
+      let b = y.does own good at-places values named body (count named) holders agrees may a.after memory funcs holds ka a.has in
       did-went (went-is own (sym (length-append x.insns y.insns)) refl (does-then own first (went-of b)));
 }

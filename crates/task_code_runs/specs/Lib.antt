@@ -1,3 +1,4 @@
 pub mod AtOnce
+pub mod Naming
 pub mod Runs
 pub mod inner

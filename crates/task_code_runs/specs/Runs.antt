@@ -37,16 +37,16 @@ left_lanes own left values = min (linear_value (with own.counter 0 values) left)
 abbrev pub run_of : Lanes → Stmt → Stmt
 run_of own body = statements.For own.counter (all_lanes own) Vectorized body
 
--- In each of the first so many iterations, of which there is one, a body stores what a store stores and is sound only if that is. In the others
--- it stores nothing.
-pub record StoresAs (own : Lanes) (body : Stmt) (store : Store) (values : Values) (count : ℕ) : Type 0 where
+-- In each of the first so many iterations, of which there is one, a body stores what a store stores where names have values too, and is sound only
+-- if that is. In the others it stores nothing.
+pub record StoresAs (own : Lanes) (body : Stmt) (store : Store) (values named : Values) (count : ℕ) : Type 0 where
   pub some : 1 ≤ count
   pub few : count ≤ all_lanes own
   pub stores : (reads : Reads) (i : ℕ) → i < count
-      → effect reads body (with own.counter i values) ≡ effect reads (statements.Store store) (with own.counter i values)
+      → effect reads body (with own.counter i values) ≡ effect reads (statements.Store store) (with own.counter i named)
   pub sound : (reads : Reads) (written : Points) (loaded : Point → Bool) (i : ℕ) → i < count
       → is_sound reads written loaded body (with own.counter i values) ≡ true
-      → is_sound reads written loaded (statements.Store store) (with own.counter i values) ≡ true
+      → is_sound reads written loaded (statements.Store store) (with own.counter i named) ≡ true
   pub none : (reads : Reads) (i : ℕ) → count ≤ i → i < all_lanes own → effect reads body (with own.counter i values) ≡ None
 
 -- Appended code does a vectorized loop whose body stores as a store does in so many iterations, wherever registers hold the scope's forms in the first
@@ -54,8 +54,8 @@ pub record StoresAs (own : Lanes) (body : Stmt) (store : Store) (values : Values
 pub record EmitsRun (old new : List ℕ) (places : Places) (scope : List Held) (own : Lanes) (count : Values → ℕ) (store : Store) : Type 0 where
   pub insns : List Insn
   pub emits : Emits old new insns
-  pub does : (setting : Setting) → IsSetting setting → setting.places ≡ places → (values : Values) (body : Stmt) → AreHolders scope
-      → StoresAs own body store values (count values) → MayRun setting (run_of own body) values
-      → (f : ℕ → ℕ) (memory : List ℕ) (funcs : Planes) → HoldsFuncs setting memory funcs → Knows setting.world.hart scope (with own.counter 0 values) f
+  pub does : (setting : Setting) → IsSetting setting → setting.places ≡ places → (values named : Values) (body : Stmt) → AreHolders scope
+      → StoresAs own body store values named (count named) → MayRun setting (run_of own body) values
+      → (f : ℕ → ℕ) (memory : List ℕ) (funcs : Planes) → HoldsFuncs setting memory funcs → Knows setting.world.hart scope (with own.counter 0 named) f
       → Did setting insns (length insns) f memory (IsKept scope) (run setting.points setting.inputs (run_of own body) values funcs)
       (stored_points setting (run_of own body) values funcs)

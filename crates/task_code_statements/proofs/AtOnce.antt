@@ -40,6 +40,7 @@ use Rattle.task_code_lanes.specs.declared.groups.Group.{Group}
 use Rattle.task_code_lanes.specs.declared.groups.Group.TheVariants as groups
 use Rattle.task_code_lanes.specs.Groups.{registers}
 use Rattle.task_code_lane_values.specs.declared.vectorized.Lanes.{Lanes}
+use Rattle.task_code_runs.specs.Naming.{AreNamed}
 use Rattle.task_code_runs.specs.Runs.{EmitsRun, StoresAs, all_lanes, left_lanes, run_of}
 use Rattle.task_code_runs.proofs.Idling.{none-hit, none-run}
 use Rattle.task_code_statements.specs.declared.contexts.Context.{Context}
@@ -49,39 +50,42 @@ use Rattle.task_code_statements.specs.declared.vectorizing.Guarded.{Guarded}
 use Rattle.task_code_statements.specs.declared.vectorizing.Run.{Run}
 use Rattle.task_code_statements.specs.Contexts.{Meets, MeetsLoop, MeetsSum}
 use Rattle.task_code_statements.specs.Lacking.{StoreLacks}
+use Rattle.task_code_statements.specs.Plain.{IsPlainStore}
 use Rattle.task_code_statements.specs.Rewriting.{IsSameStore}
 use Rattle.task_code_statements.specs.Splits.{IsSplitSum}
 use Rattle.task_code_statements.specs.Statements.{EmitsStatement}
 use Rattle.task_code_statements.specs.Vectorizing.{AreLanes, GuardsLack, IsLeft, IsLeftIf, IsParted, IsRunOf, IsStoreOf, OneMore, TestFirst, WordsBehind}
 use Rattle.task_code_statements.specs.Vectorizing.{is_passed, lane_count, passes, passes_if}
 use Rattle.task_code_statements.proofs.Following.{did-is}
+use Rattle.task_code_statements.proofs.Naming.{plain-sound}
+use Rattle.task_code_statements.proofs.Plainness.{named-with}
 use Rattle.task_code_statements.proofs.Same.{form-sum}
 use Rattle.task_code_statements.proofs.Splitting.{is-below, whole-word}
 use Rattle.task_code_statements.proofs.Storing.{same-sound}
 
 -- ---- stores
 
-pub store-of : (context : Context) (known : List Known) (body : Stmt) (store made : Store) (own : Guarded) → known ≡ context.known.items
-    → body ≡ s.Store store → IsSameStore known store made → own.store ≡ made → own.guards.items ≡ [] → IsStoreOf context body own
-store-of context known body store made own ek eb is es eg = subst (λ b. IsStoreOf context b own) (sym eb) (record {
-  stores = λ reads values meets.
-      let are = subst (λ k. AreKnown k values) (sym ek) meets.known in
+pub store-of : (context : Context) (known : List Known) (body : Stmt) (store made : Store) (own : Guarded) → IsPlainStore store
+    → known ≡ context.known.items → body ≡ s.Store store → IsSameStore known store made → own.store ≡ made → own.guards.items ≡ [] → IsStoreOf context body own
+store-of context known body store made own plain ek eb is es eg = subst (λ b. IsStoreOf context b own) (sym eb) (record {
+  stores = λ reads values named same meets.
+      let are = subst (λ k. AreKnown k named) (sym ek) meets.known in
       effect_store reads store values
       ∙ ap (λ k. Some (record { func = k; x = value reads values store.x; y = value reads values store.y; pixel = value reads values store.value })) (sym
       is.func_is)
-      ∙ ap (λ k. Some (record { func = made.func; x = k; y = value reads values store.y; pixel = value reads values store.value })) (sym
-      (is.column.value_is reads values are))
-      ∙ ap (λ k. Some (record { func = made.func; x = value reads values made.x; y = k; pixel = value reads values store.value })) (sym
-      (is.row.value_is reads values are))
-      ∙ ap (λ k. Some (record { func = made.func; x = value reads values made.x; y = value reads values made.y; pixel = k })) (sym
-      (is.pixel.value_is reads values are))
-      ∙ sym (effect_store reads made values)
-      ∙ sym (ap (λ l. cond (passes l values) (effect reads (s.Store own.store) values) None) eg ∙ ap (λ t. effect reads (s.Store t) values) es);
-  sound = λ reads written loaded values meets passed so.
-      let are = subst (λ k. AreKnown k values) (sym ek) meets.known in
-      ap (λ t. is_sound reads written loaded (s.Store t) values) es
-      ∙ sound_store reads written loaded made values ∙ same-sound known store made is values are reads written loaded
-      ∙ sym (sound_store reads written loaded store values) ∙ so;
+      ∙ ap (λ k. Some (record { func = made.func; x = k; y = value reads values store.y; pixel = value reads values store.value }))
+      (sym (plain.column.value_is reads values named same) ∙ sym (is.column.value_is reads named are))
+      ∙ ap (λ k. Some (record { func = made.func; x = value reads named made.x; y = k; pixel = value reads values store.value }))
+      (sym (plain.row.value_is reads values named same) ∙ sym (is.row.value_is reads named are))
+      ∙ ap (λ k. Some (record { func = made.func; x = value reads named made.x; y = value reads named made.y; pixel = k }))
+      (sym (plain.pixel.value_is reads values named same) ∙ sym (is.pixel.value_is reads named are))
+      ∙ sym (effect_store reads made named)
+      ∙ sym (ap (λ l. cond (passes l named) (effect reads (s.Store own.store) named) None) eg ∙ ap (λ t. effect reads (s.Store t) named) es);
+  sound = λ reads written loaded values named same meets passed so.
+      let are = subst (λ k. AreKnown k named) (sym ek) meets.known in
+      ap (λ t. is_sound reads written loaded (s.Store t) named) es
+      ∙ sound_store reads written loaded made named ∙ same-sound known store made is named are reads written loaded
+      ∙ plain-sound store plain values named same reads written loaded ∙ sym (sound_store reads written loaded store values) ∙ so;
 })
 
 -- ---- values of split loops
@@ -140,61 +144,66 @@ module _ (context within : Context) (counter : Counter) (whole : Whole) (extent 
   whole-is : (values : Values) → Meets context values → whole_value whole values ≡ linear_value values sum
   whole-is values meets = sym (is.value_is values meets.known)
 
+  -- with values of names
+  at-named : (values named : Values) → AreNamed values named → AreNamed (at values) (at named)
+  at-named values named same =
+      subst (λ n. AreNamed (at values) (with counter n named)) (sym (is.plain values named same)) (named-with values named counter (whole_value whole values) same)
+
   statement-is : s.Bind counter whole extent body ≡ statement
   statement-is = sym (es ∙ ap (s.Bind counter whole extent) (sym eb))
 
-  inside-sound : (reads : Reads) (written : Points) (loaded : Point → Bool) (values : Values) → Meets context values
-      → nat_lt (whole_value whole values) extent ≡ true → passes made.guards.items (at values) ≡ true
-      → is_sound reads written loaded (s.Bind counter whole extent body) values ≡ true → is_sound reads written loaded (s.Store made.store) values ≡ true
-  inside-sound reads written loaded values meets passed guarded so =
-      sym (sound-left counter made.store lacks values (whole_value whole values) reads written loaded)
-      ∙ inner.sound reads written loaded (at values) (inside-meets values meets) guarded
+  inside-sound : (reads : Reads) (written : Points) (loaded : Point → Bool) (values named : Values) → AreNamed values named → Meets context named
+      → nat_lt (whole_value whole values) extent ≡ true → passes made.guards.items (at named) ≡ true
+      → is_sound reads written loaded (s.Bind counter whole extent body) values ≡ true → is_sound reads written loaded (s.Store made.store) named ≡ true
+  inside-sound reads written loaded values named same meets passed guarded so =
+      sym (sound-left counter made.store lacks named (whole_value whole named) reads written loaded)
+      ∙ inner.sound reads written loaded (at values) (at named) (at-named values named same) (inside-meets named meets) guarded
       (sym (ap (λ t. if t then is_sound reads written loaded body (at values) else true) passed)
       ∙ sym (sound_bind reads written loaded counter whole extent body values) ∙ so)
 
-  module _ (same : GuardsLack counter made.guards.items) where
+  module _ (lack : GuardsLack counter made.guards.items) where
     -- what the store stores where the tests inside pass, and else nothing
-    inside-stores : (reads : Reads) (values : Values) → Meets context values
-        → effect reads body (at values) ≡ cond (passes made.guards.items values) (effect reads (s.Store made.store) values) None
-    inside-stores reads values meets =
-        inner.stores reads (at values) (inside-meets values meets)
-        ∙ ap (λ t. cond t (effect reads (s.Store made.store) (at values)) None) (same values (whole_value whole values))
-        ∙ ap (λ k. cond (passes made.guards.items values) k None) (effect-left counter made.store lacks values (whole_value whole values) reads)
+    inside-stores : (reads : Reads) (values named : Values) → AreNamed values named → Meets context named
+        → effect reads body (at values) ≡ cond (passes made.guards.items named) (effect reads (s.Store made.store) named) None
+    inside-stores reads values named same meets =
+        inner.stores reads (at values) (at named) (at-named values named same) (inside-meets named meets)
+        ∙ ap (λ t. cond t (effect reads (s.Store made.store) (at named)) None) (lack named (whole_value whole named))
+        ∙ ap (λ k. cond (passes made.guards.items named) k None) (effect-left counter made.store lacks named (whole_value whole named) reads)
 
     -- a test that always passes is none
     pub split-of : (bounds : List Bound) → bounds ≡ context.bounds.items → IsBelow bounds (record { sum = sum; per_hart = 0 }) extent
         → IsStoreOf context statement made
     split-of bounds ebs below = subst (λ b. IsStoreOf context b made) statement-is (record {
-      stores = λ reads values meets.
-          effect_bind reads counter whole extent body values ∙ ap (λ t. cond t (effect reads body (at values)) None) (passed values meets)
-          ∙ inside-stores reads values meets;
-      sound = λ reads written loaded values meets guarded so.
-          inside-sound reads written loaded values meets (passed values meets) (same values (whole_value whole values) ∙ guarded) so;
+      stores = λ reads values named same meets.
+          effect_bind reads counter whole extent body values ∙ ap (λ t. cond t (effect reads body (at values)) None) (passed values named same meets)
+          ∙ inside-stores reads values named same meets;
+      sound = λ reads written loaded values named same meets guarded so.
+          inside-sound reads written loaded values named same meets (passed values named same meets) (lack named (whole_value whole named) ∙ guarded) so;
     })
       where
-        passed : (values : Values) → Meets context values → nat_lt (whole_value whole values) extent ≡ true
-        passed values meets =
+        passed : (values named : Values) → AreNamed values named → Meets context named → nat_lt (whole_value whole values) extent ≡ true
+        passed values named same meets =
             is-below (whole_value whole values) extent
-            (subst (λ n. n < extent) (form-sum 0 values sum ∙ is.value_is values meets.known)
-            (subst (λ b. IsBelow b (record { sum = sum; per_hart = 0 }) extent) ebs below 0 values meets.below))
+            (subst (λ n. n < extent) (form-sum 0 named sum ∙ is.value_is named meets.known ∙ is.plain values named same)
+            (subst (λ b. IsBelow b (record { sum = sum; per_hart = 0 }) extent) ebs below 0 named meets.below))
 
     -- another one is one of the store's
     pub split-guarded : (own : Guarded) → own.store ≡ made.store → OneMore made.guards.items (record { sum = sum; extent = extent }) own.guards.items
         → IsStoreOf context statement own
     split-guarded own es more = subst (λ b. IsStoreOf context b own) statement-is (record {
-      stores = λ reads values meets.
-          let tested = nat_lt (linear_value values sum) extent in
+      stores = λ reads values named same meets.
+          let tested = nat_lt (linear_value named sum) extent in
           effect_bind reads counter whole extent body values
-          ∙ ap (λ n. cond (nat_lt n extent) (effect reads body (at values)) None) (whole-is values meets)
-          ∙ ap (λ k. cond tested k None) (inside-stores reads values meets)
-          ∙ one-test tested (passes made.guards.items values) (effect reads (s.Store made.store) values)
-          ∙ sym (ap (λ t. cond t (effect reads (s.Store own.store) values) None) (more values)
-          ∙ ap (λ t. cond (cond tested (passes made.guards.items values) false) (effect reads (s.Store t) values) None) es);
-      sound = λ reads written loaded values meets guarded so.
-          let both = both-pass (nat_lt (linear_value values sum) extent) (passes made.guards.items values) (sym (more values) ∙ guarded) in
-          ap (λ t. is_sound reads written loaded (s.Store t) values) es
-          ∙ inside-sound reads written loaded values meets (ap (λ n. nat_lt n extent) (whole-is values meets) ∙ both.0)
-          (same values (whole_value whole values) ∙ both.1) so;
+          ∙ ap (λ n. cond (nat_lt n extent) (effect reads body (at values)) None) (sym (is.plain values named same) ∙ whole-is named meets)
+          ∙ ap (λ k. cond tested k None) (inside-stores reads values named same meets)
+          ∙ one-test tested (passes made.guards.items named) (effect reads (s.Store made.store) named)
+          ∙ sym (ap (λ t. cond t (effect reads (s.Store own.store) named) None) (more named)
+          ∙ ap (λ t. cond (cond tested (passes made.guards.items named) false) (effect reads (s.Store t) named) None) es);
+      sound = λ reads written loaded values named same meets guarded so.
+          let both = both-pass (nat_lt (linear_value named sum) extent) (passes made.guards.items named) (sym (more named) ∙ guarded) in
+          ap (λ t. is_sound reads written loaded (s.Store t) named) es
+          ∙ inside-sound reads written loaded values named same meets
+          (ap (λ n. nat_lt n extent) (sym (is.plain values named same) ∙ whole-is named meets) ∙ both.0) (lack named (whole_value whole named) ∙ both.1) so;
     })
 
 -- ---- the loop
@@ -228,30 +237,37 @@ and-true false = refl
 
 module _ (context inner : Context) (counter : Counter) (count : ℕ) (group : Group) (body : Stmt) (made : Guarded) (parts : Parted)
     (ec : count ≡ 4 * registers group) (loop : MeetsLoop context counter count inner) (of : IsStoreOf inner body made)
-    (parted : IsParted counter made.guards.items parts) (values : Values) (meets : Meets context values) where
+    (parted : IsParted counter made.guards.items parts) (values named : Values) (same : AreNamed values named) (meets : Meets context named) where
   abbrev lanes : Lanes
   lanes = record { counter = counter; group = group }
 
+  abbrev body_at : ℕ → Values
+  body_at i = with counter i values
+
+  -- with values of names
   abbrev lane_at : ℕ → Values
-  lane_at i = with counter i values
+  lane_at i = with counter i named
+
+  same-at : (i : ℕ) → AreNamed (body_at i) (lane_at i)
+  same-at i = named-with values named counter i same
 
   within : (i : ℕ) → i < 4 * registers group → Meets inner (lane_at i)
-  within i few = loop.meets values i (omega (arith, few, ec)) meets
+  within i few = loop.meets named i (omega (arith, few, ec)) meets
 
   -- tests in an iteration, by those of the first one
   tests-are : (i : ℕ) → passes made.guards.items (lane_at i) ≡ cond (passes parts.fixed.items (lane_at 0)) (passes_if parts.lane (lane_at i)) false
   tests-are i =
       parted.passes_is (lane_at i)
-      ∙ ap (λ t. cond t (passes_if parts.lane (lane_at i)) false) (parted.lack values i ∙ sym (parted.lack values 0))
+      ∙ ap (λ t. cond t (passes_if parts.lane (lane_at i)) false) (parted.lack named i ∙ sym (parted.lack named 0))
 
-  stops : (i : ℕ) → passes made.guards.items (lane_at i) ≡ false → i < 4 * registers group → (reads : Reads) → effect reads body (lane_at i) ≡ None
+  stops : (i : ℕ) → passes made.guards.items (lane_at i) ≡ false → i < 4 * registers group → (reads : Reads) → effect reads body (body_at i) ≡ None
   stops i stopped few reads =
-      of.stores reads (lane_at i) (within i few) ∙ ap (λ t. cond t (effect reads (s.Store made.store) (lane_at i)) None) stopped
+      of.stores reads (body_at i) (lane_at i) (same-at i) (within i few) ∙ ap (λ t. cond t (effect reads (s.Store made.store) (lane_at i)) None) stopped
 
   goes : (i : ℕ) → passes made.guards.items (lane_at i) ≡ true → i < 4 * registers group → (reads : Reads)
-      → effect reads body (lane_at i) ≡ effect reads (s.Store made.store) (lane_at i)
+      → effect reads body (body_at i) ≡ effect reads (s.Store made.store) (lane_at i)
   goes i passed few reads =
-      of.stores reads (lane_at i) (within i few) ∙ ap (λ t. cond t (effect reads (s.Store made.store) (lane_at i)) None) passed
+      of.stores reads (body_at i) (lane_at i) (same-at i) (within i few) ∙ ap (λ t. cond t (effect reads (s.Store made.store) (lane_at i)) None) passed
 
   -- where no test hangs on lanes, all iterations store or none does
   module _ (none : parts.lane ≡ None) where
@@ -260,17 +276,17 @@ module _ (context inner : Context) (counter : Counter) (count : ℕ) (group : Gr
         tests-are i ∙ ap (λ o. cond (passes parts.fixed.items (lane_at 0)) (passes_if o (lane_at i)) false) none
         ∙ and-true (passes parts.fixed.items (lane_at 0))
 
-    pub stored-all : passes parts.fixed.items (lane_at 0) ≡ true → StoresAs lanes body made.store values (all_lanes lanes)
+    pub stored-all : passes parts.fixed.items (lane_at 0) ≡ true → StoresAs lanes body made.store values named (all_lanes lanes)
     stored-all passed = record {
       some = some-lanes group;
       few = omega arith;
       stores = λ reads i few. goes i (all-as i ∙ passed) few reads;
-      sound = λ reads written loaded i few so. of.sound reads written loaded (lane_at i) (within i few) (all-as i ∙ passed) so;
+      sound = λ reads written loaded i few so. of.sound reads written loaded (body_at i) (lane_at i) (same-at i) (within i few) (all-as i ∙ passed) so;
       none = λ reads i high few. absurd (omega (arith, high, few));
     }
 
     pub stored-none : passes parts.fixed.items (lane_at 0) ≡ false → (reads : Reads) (i : ℕ) → i < 4 * registers group
-        → effect reads body (lane_at i) ≡ None
+        → effect reads body (body_at i) ≡ None
     stored-none stopped reads i few = stops i (all-as i ∙ stopped) few reads
 
   -- where one does, the first iterations store, or none does
@@ -284,10 +300,10 @@ module _ (context inner : Context) (counter : Counter) (count : ℕ) (group : Gr
 
     further : (i : ℕ) → i < 16 → sum_at i ≡ sum_at 0 + i
     further i few =
-        let a = guard.sum.number + sum_of values (others_of counter guard.sum.terms) in
-        let e0 = linear-with counter 0 1 values guard.sum (sym is.stride) in
-        let ei = linear-with counter i 1 values guard.sum (sym is.stride) in
-        let low = is.begins values below-at in
+        let a = guard.sum.number + sum_of named (others_of counter guard.sum.terms) in
+        let e0 = linear-with counter 0 1 named guard.sum (sym is.stride) in
+        let ei = linear-with counter i 1 named guard.sum (sym is.stride) in
+        let low = is.begins named below-at in
         omega (arith, e0, ei, low, few)
 
     tested : (i : ℕ) → passes made.guards.items (lane_at i) ≡ cond (passes parts.fixed.items (lane_at 0)) (nat_lt (sum_at i) guard.extent) false
@@ -305,21 +321,21 @@ module _ (context inner : Context) (counter : Counter) (count : ℕ) (group : Gr
       as-tested : (i : ℕ) → passes made.guards.items (lane_at i) ≡ nat_lt (sum_at i) guard.extent
       as-tested i = tested i ∙ ap (λ t. cond t (nat_lt (sum_at i) guard.extent) false) fixed
 
-      passed : (i : ℕ) → i < left_lanes lanes left values → passes made.guards.items (lane_at i) ≡ true
+      passed : (i : ℕ) → i < left_lanes lanes left named → passes made.guards.items (lane_at i) ≡ true
       passed i less =
           let e = left-is in
           let room = few-lanes group in
           let step = further i (omega (arith, less, room)) in
           as-tested i ∙ is-below (sum_at i) guard.extent (omega (arith, step, less, e))
 
-      stopped : (i : ℕ) → left_lanes lanes left values ≤ i → i < 4 * registers group → passes made.guards.items (lane_at i) ≡ false
+      stopped : (i : ℕ) → left_lanes lanes left named ≤ i → i < 4 * registers group → passes made.guards.items (lane_at i) ≡ false
       stopped i high few =
           let e = left-is in
           let room = few-lanes group in
           let step = further i (omega (arith, few, room)) in
           as-tested i ∙ is-past (sum_at i) guard.extent (omega (arith, step, high, few, e))
 
-      pub stored-left : StoresAs lanes body made.store values (left_lanes lanes left values)
+      pub stored-left : StoresAs lanes body made.store values named (left_lanes lanes left named)
       stored-left =
           let e = left-is in
           let low = begins in
@@ -328,13 +344,13 @@ module _ (context inner : Context) (counter : Counter) (count : ℕ) (group : Gr
             some = omega (arith, e, low, some);
             few = omega arith;
             stores = λ reads i few. goes i (passed i few) (omega (arith, few)) reads;
-            sound = λ reads written loaded i few so. of.sound reads written loaded (lane_at i) (within i (omega (arith, few))) (passed i few) so;
+            sound = λ reads written loaded i few so. of.sound reads written loaded (body_at i) (lane_at i) (same-at i) (within i (omega (arith, few))) (passed i few) so;
             none = λ reads i high few. stops i (stopped i high few) few reads;
           }
 
     -- it fails from the first one on
     pub stored-no : cond (passes parts.fixed.items (lane_at 0)) (nat_lt (sum_at 0) guard.extent) false ≡ false
-        → (reads : Reads) (i : ℕ) → i < 4 * registers group → effect reads body (lane_at i) ≡ None
+        → (reads : Reads) (i : ℕ) → i < 4 * registers group → effect reads body (body_at i) ≡ None
     stored-no fails reads i few =
         let room = few-lanes group in
         let step = further i (omega (arith, few, room)) in
@@ -347,52 +363,53 @@ pub run-is : (context inner : Context) (lanes : Lanes) (count : ℕ) (body : Stm
     → IsParted lanes.counter made.guards.items parts → IsLeftIf bounds lanes.counter parts.lane run.left
     → TestFirst bounds lanes.counter parts.fixed.items parts.lane run.fixed.items → run.store ≡ made.store → IsRunOf context lanes body run
 run-is context inner lanes count body made parts run bounds ec loop of ebs parted is first es = record {
-  does = λ values meets passed.
-      subst (λ t. StoresAs lanes body t values (lane_count lanes run.left values)) (sym es) (does parts.lane run.left refl refl is values meets passed);
-  none = λ values meets failed. none parts.lane run.left refl refl is values meets failed;
+  does = λ values named same meets passed.
+      subst (λ t. StoresAs lanes body t values named (lane_count lanes run.left named)) (sym es)
+      (does parts.lane run.left refl refl is values named same meets passed);
+  none = λ values named same meets failed. none parts.lane run.left refl refl is values named same meets failed;
 }
   where
-    tests : (values : Values) → Meets context values → passes run.fixed.items (with lanes.counter 0 values)
-        ≡ cond (passes parts.fixed.items (with lanes.counter 0 values)) (passes_if parts.lane (with lanes.counter 0 values)) false
-    tests values meets =
-        first values (subst (λ b. AreBelow b (with lanes.counter 0 values)) (sym ebs)
-        (let m = loop.meets values 0 (let l = some-lanes lanes.group in omega (arith, l, ec)) meets in m.below))
+    tests : (named : Values) → Meets context named → passes run.fixed.items (with lanes.counter 0 named)
+        ≡ cond (passes parts.fixed.items (with lanes.counter 0 named)) (passes_if parts.lane (with lanes.counter 0 named)) false
+    tests named meets =
+        first named (subst (λ b. AreBelow b (with lanes.counter 0 named)) (sym ebs)
+        (let m = loop.meets named 0 (let l = some-lanes lanes.group in omega (arith, l, ec)) meets in m.below))
 
-    does : (lane : Option Guard) (left : Option Linear) → parts.lane ≡ lane → run.left ≡ left → IsLeftIf bounds lanes.counter lane left → (values : Values)
-        → Meets context values → passes run.fixed.items (with lanes.counter 0 values) ≡ true
-        → StoresAs lanes body made.store values (lane_count lanes left values)
-    does None None el er k values meets passed =
-        stored-all context inner lanes.counter count lanes.group body made parts ec loop of parted values meets el
-        (and-both el (tests values meets) passed).0
+    does : (lane : Option Guard) (left : Option Linear) → parts.lane ≡ lane → run.left ≡ left → IsLeftIf bounds lanes.counter lane left
+        → (values named : Values) → AreNamed values named → Meets context named → passes run.fixed.items (with lanes.counter 0 named) ≡ true
+        → StoresAs lanes body made.store values named (lane_count lanes left named)
+    does None None el er k values named same meets passed =
+        stored-all context inner lanes.counter count lanes.group body made parts ec loop of parted values named same meets el
+        (and-both el (tests named meets) passed).0
       where
-        and-both : parts.lane ≡ None → passes run.fixed.items (with lanes.counter 0 values)
-            ≡ cond (passes parts.fixed.items (with lanes.counter 0 values)) (passes_if parts.lane (with lanes.counter 0 values)) false
-            → passes run.fixed.items (with lanes.counter 0 values) ≡ true
-            → (passes parts.fixed.items (with lanes.counter 0 values) ≡ true) × (passes_if parts.lane (with lanes.counter 0 values) ≡ true)
-        and-both e t p = both-pass (passes parts.fixed.items (with lanes.counter 0 values)) (passes_if parts.lane (with lanes.counter 0 values)) (sym t ∙ p)
-    does None (Some sum) el er k values meets passed = absurd k
-    does (Some guard) None el er k values meets passed = absurd k
-    does (Some guard) (Some sum) el er k values meets passed =
-        let both = both-pass (passes parts.fixed.items (with lanes.counter 0 values)) (is_passed guard (with lanes.counter 0 values))
-        (sym (tests values meets ∙ ap (λ o. cond (passes parts.fixed.items (with lanes.counter 0 values)) (passes_if o (with lanes.counter 0 values)) false) el)
+        and-both : parts.lane ≡ None → passes run.fixed.items (with lanes.counter 0 named)
+            ≡ cond (passes parts.fixed.items (with lanes.counter 0 named)) (passes_if parts.lane (with lanes.counter 0 named)) false
+            → passes run.fixed.items (with lanes.counter 0 named) ≡ true
+            → (passes parts.fixed.items (with lanes.counter 0 named) ≡ true) × (passes_if parts.lane (with lanes.counter 0 named) ≡ true)
+        and-both e t p = both-pass (passes parts.fixed.items (with lanes.counter 0 named)) (passes_if parts.lane (with lanes.counter 0 named)) (sym t ∙ p)
+    does None (Some sum) el er k values named same meets passed = absurd k
+    does (Some guard) None el er k values named same meets passed = absurd k
+    does (Some guard) (Some sum) el er k values named same meets passed =
+        let both = both-pass (passes parts.fixed.items (with lanes.counter 0 named)) (is_passed guard (with lanes.counter 0 named))
+        (sym (tests named meets ∙ ap (λ o. cond (passes parts.fixed.items (with lanes.counter 0 named)) (passes_if o (with lanes.counter 0 named)) false) el)
         ∙ passed) in
-        stored-left context inner lanes.counter count lanes.group body made parts ec loop of parted values meets guard sum bounds el ebs k both.0
-        (below-so (linear_value (with lanes.counter 0 values) guard.sum) guard.extent both.1)
+        stored-left context inner lanes.counter count lanes.group body made parts ec loop of parted values named same meets guard sum bounds el ebs k both.0
+        (below-so (linear_value (with lanes.counter 0 named) guard.sum) guard.extent both.1)
 
-    none : (lane : Option Guard) (left : Option Linear) → parts.lane ≡ lane → run.left ≡ left → IsLeftIf bounds lanes.counter lane left → (values : Values)
-        → Meets context values → passes run.fixed.items (with lanes.counter 0 values) ≡ false
+    none : (lane : Option Guard) (left : Option Linear) → parts.lane ≡ lane → run.left ≡ left → IsLeftIf bounds lanes.counter lane left
+        → (values named : Values) → AreNamed values named → Meets context named → passes run.fixed.items (with lanes.counter 0 named) ≡ false
         → (reads : Reads) (i : ℕ) → i < all_lanes lanes → effect reads body (with lanes.counter i values) ≡ None
-    none None None el er k values meets failed reads i few =
-        stored-none context inner lanes.counter count lanes.group body made parts ec loop of parted values meets el
-        (sym (and-true (passes parts.fixed.items (with lanes.counter 0 values)))
-        ∙ sym (ap (λ o. cond (passes parts.fixed.items (with lanes.counter 0 values)) (passes_if o (with lanes.counter 0 values)) false) el)
-        ∙ sym (tests values meets) ∙ failed) reads i few
-    none None (Some sum) el er k values meets failed reads i few = absurd k
-    none (Some guard) None el er k values meets failed reads i few = absurd k
-    none (Some guard) (Some sum) el er k values meets failed reads i few =
-        stored-no context inner lanes.counter count lanes.group body made parts ec loop of parted values meets guard sum bounds el ebs k
-        (sym (ap (λ o. cond (passes parts.fixed.items (with lanes.counter 0 values)) (passes_if o (with lanes.counter 0 values)) false) el)
-        ∙ sym (tests values meets) ∙ failed) reads i few
+    none None None el er k values named same meets failed reads i few =
+        stored-none context inner lanes.counter count lanes.group body made parts ec loop of parted values named same meets el
+        (sym (and-true (passes parts.fixed.items (with lanes.counter 0 named)))
+        ∙ sym (ap (λ o. cond (passes parts.fixed.items (with lanes.counter 0 named)) (passes_if o (with lanes.counter 0 named)) false) el)
+        ∙ sym (tests named meets) ∙ failed) reads i few
+    none None (Some sum) el er k values named same meets failed reads i few = absurd k
+    none (Some guard) None el er k values named same meets failed reads i few = absurd k
+    none (Some guard) (Some sum) el er k values named same meets failed reads i few =
+        stored-no context inner lanes.counter count lanes.group body made parts ec loop of parted values named same meets guard sum bounds el ebs k
+        (sym (ap (λ o. cond (passes parts.fixed.items (with lanes.counter 0 named)) (passes_if o (with lanes.counter 0 named)) false) el)
+        ∙ sym (tests named meets) ∙ failed) reads i few
 
 -- ---- code
 
@@ -406,20 +423,20 @@ vector-emits places scope context own lanes body made c0 c1 none words en are is
     (subst (λ n. EmitsStatement c0 c1 places scope (Meets context) (s.For lanes.counter n Vectorized body)) (sym are.count_is) (record {
       insns = g.insns;
       emits = g.emits;
-      turns = λ values. g.turns (length x.insns) (with lanes.counter 0 values);
-      does = λ own good at-places values holders meets may f memory funcs holds knows.
-          let at0 = with lanes.counter 0 values in
-          let k0 = knows-with lanes.counter 0 own.world.hart scope values f none-is knows in
+      turns = λ named. g.turns (length x.insns) (with lanes.counter 0 named);
+      does = λ own good at-places values named same holders meets may f memory funcs holds knows.
+          let at0 = with lanes.counter 0 named in
+          let k0 = knows-with lanes.counter 0 own.world.hart scope named f none-is knows in
           let left = run own.points own.inputs (run_of lanes body) values funcs in
           let stored = stored_points own (run_of lanes body) values funcs in
           did-is refl
-          (left-as (passes made.fixed.items at0) left funcs (λ failed. none-run own lanes body values may funcs holds.are_words (is.none values meets failed)))
+          (left-as (passes made.fixed.items at0) left funcs (λ failed. none-run own lanes body values may funcs holds.are_words (is.none values named same meets failed)))
           (λ func x y hit.
           stored-as (passes made.fixed.items at0) stored func x y
-          (λ failed h. none-hit own lanes body values may funcs holds.are_words (is.none values meets failed) func x y h) hit)
+          (λ failed h. none-hit own lanes body values may funcs holds.are_words (is.none values named same meets failed) func x y h) hit)
           (g.does own at0 (length x.insns) left stored f memory funcs holders holds k0
           (λ passed h known.
-          x.does own good at-places values body holders (is.does values meets passed) may h memory funcs holds known));
+          x.does own good at-places values named body holders (is.does values named same meets passed) may h memory funcs holds known));
     }))
   where
     none-is : mentions lanes.counter scope ≡ false

@@ -21,15 +21,16 @@ use Rattle.task_code_statements.specs.Laying.{LaysOut}
 use Rattle.task_code_statements.specs.Statements.{EmitsStatement}
 use Rattle.task_code_statements.proofs.Following.{did-is, may-each}
 use Rattle.task_code_statements.proofs.Nesting.{one, body_stored, all_stored, stores-all}
+use Rattle.task_code_statements.proofs.Plainness.{named-with}
 
 module _ (places : Places) (scope : List Held) (is_so : Values → Type 0) (counter : Counter) (body : Stmt) where
   pub none-laid : (c : List ℕ) → LaysOut c c places scope is_so counter body 0
   none-laid c = record {
     insns = [];
     emits = emits-none c;
-    turns = λ values. 0;
-    does = λ own good at-places values holders meets may.
-        none-are-laid-out own own.world.hart scope values (one own counter body values) (body_stored own counter body values) (all_stored own counter body
+    turns = λ named. 0;
+    does = λ own good at-places values named are holders meets may.
+        none-are-laid-out own own.world.hart scope named (one own counter body values) (body_stored own counter body values) (all_stored own counter body
         values) (stores-all own counter body values);
   }
 
@@ -40,14 +41,14 @@ module _ (places : Places) (scope : List Held) (is_so : Values → Type 0) (coun
   one-laid k within_so c0 c1 c2 none enters x y = record {
     insns = x.insns ++ y.insns;
     emits = emits_then x.emits y.emits;
-    turns = λ values. x.turns values + y.turns (with counter k values);
-    does = λ own good at-places values holders meets may.
-        one-more-is-laid-out own own.world.hart scope counter values k (x.turns values) (y.turns (with counter k values)) x.insns y.insns
+    turns = λ named. x.turns named + y.turns (with counter k named);
+    does = λ own good at-places values named are holders meets may.
+        one-more-is-laid-out own own.world.hart scope counter named k (x.turns named) (y.turns (with counter k named)) x.insns y.insns
         (one own counter body values) (body_stored own counter body values) (all_stored own counter body values) none (stores-all own counter body values)
-        (x.does own good at-places values holders meets (λ i less. may i (omega (arith, less))))
+        (x.does own good at-places values named are holders meets (λ i less. may i (omega (arith, less))))
         (λ f memory funcs holds known.
-        y.does own good at-places (with counter k values) holders
-        (enters values meets)
+        y.does own good at-places (with counter k values) (with counter k named) (named-with values named counter k are) holders
+        (enters named meets)
         (may k (omega arith)) f memory funcs holds known);
   }
 
@@ -57,10 +58,10 @@ module _ (places : Places) (scope : List Held) (is_so : Values → Type 0) (coun
     insns = x.insns;
     emits = x.emits;
     turns = x.turns;
-    does = λ own good at-places values holders meets may f memory funcs holds knows.
+    does = λ own good at-places values named are holders meets may f memory funcs holds knows.
         did-is refl (sym (run_for own.points own.inputs counter count kind body values funcs))
         (λ func i j h. sym (hit-for own.points own.inputs func i j counter count kind body values funcs) ∙ h)
-        ((x.does own good at-places values holders meets (may-each own counter count kind body values may plain)).does f memory funcs holds knows);
+        ((x.does own good at-places values named are holders meets (may-each own counter count kind body values may plain)).does f memory funcs holds knows);
   }
 
 -- a variable that stands at a number is as known

@@ -1,7 +1,9 @@
 pub mod Following
 pub mod Guarding
 pub mod Meeting
+pub mod Naming
 pub mod Nesting
+pub mod Plainness
 pub mod Laying
 pub mod Same
 pub mod Splitting

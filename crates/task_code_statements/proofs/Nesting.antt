@@ -30,6 +30,7 @@ use Rattle.task_code_loops.proofs.Following.{code-follows}
 use Rattle.task_code_loops.proofs.Looped.{loops-are-made}
 use Rattle.task_code_statements.specs.Statements.{EmitsStatement}
 use Rattle.task_code_statements.proofs.Following.{did-is, may-first, may-second, may-each}
+use Rattle.task_code_statements.proofs.Plainness.{named-with}
 
 -- ---- one behind the other
 
@@ -39,16 +40,16 @@ pub sequence-emits : (places : Places) (scope : List Held) (is_so : Values → T
 sequence-emits places scope is_so first second c0 c1 c2 x y = record {
   insns = x.insns ++ y.insns;
   emits = emits_then x.emits y.emits;
-  turns = λ values. x.turns values + y.turns values;
-  does = λ own good at values holders meets may f memory funcs holds knows.
+  turns = λ named. x.turns named + y.turns named;
+  does = λ own good at values named are holders meets may f memory funcs holds knows.
       let middle = run own.points own.inputs first values funcs in
       did-is refl (sym (run_sequence own.points own.inputs first second values funcs)) (λ func i j hit. hit)
-      (code-follows own own.world.hart scope values x.insns y.insns (x.turns values) (y.turns values) f memory middle
+      (code-follows own own.world.hart scope named x.insns y.insns (x.turns named) (y.turns named) f memory middle
       (run own.points own.inputs second values middle) (stored_points own (s.Sequence first second) values funcs) (stored_points own first values funcs)
       (stored_points own second values middle) knows
-      (x.does own good at values holders meets (may-first own first second values may) f memory funcs holds knows)
+      (x.does own good at values named are holders meets (may-first own first second values may) f memory funcs holds knows)
       (λ g left holding known.
-      y.does own good at values holders meets (may-second own first second values may) g left middle holding known)
+      y.does own good at values named are holders meets (may-second own first second values may) g left middle holding known)
       (λ func i j h. or_cases (hit own.points own.inputs func i j first values funcs) (hit own.points own.inputs func i j second values middle)
       (sym (hit-sequence own.points own.inputs func i j first second values funcs) ∙ h)));
 }
@@ -92,8 +93,8 @@ none-emits places scope is_so counter count kind body c none =
     subst (λ n. EmitsStatement c c places scope is_so (s.For counter n kind body)) (sym none) (record {
       insns = [];
       emits = emits-none c;
-      turns = λ values. 0;
-      does = λ own good at-places values holders meets may f memory funcs holds knows.
+      turns = λ named. 0;
+      does = λ own good at-places values named are holders meets may f memory funcs holds knows.
           did-is refl (sym (run_for own.points own.inputs counter zero kind body values funcs))
           (λ func i j h. sym (hit-for own.points own.inputs func i j counter zero kind body values funcs) ∙ h)
           (did-went (went-hits own (λ func i j h. (stores-all own counter body values).none funcs func i j h)
@@ -107,15 +108,16 @@ module _ (places : Places) (scope inner : List Held) (is_so within_so : Values �
   loop-emits plain within-meets x loop = record {
     insns = loop.insns;
     emits = loop.emits;
-    turns = λ values. loop.before + total count (λ i. x.turns (with counter i values) + loop.cost i);
-    does = λ own good at-places values holders meets may f memory funcs holds knows.
+    turns = λ named. loop.before + total count (λ i. x.turns (with counter i named) + loop.cost i);
+    does = λ own good at-places values named are holders meets may f memory funcs holds knows.
         did-is refl (sym (run_for own.points own.inputs counter count kind body values funcs))
         (λ func i j h. sym (hit-for own.points own.inputs func i j counter count kind body values funcs) ∙ h)
-        (loop.does own own.world.hart values (λ i. x.turns (with counter i values)) (one own counter body values) (body_stored own counter body values)
+        (loop.does own own.world.hart named (λ i. x.turns (with counter i named)) (one own counter body values) (body_stored own counter body values)
         (all_stored own counter body values) holders
         (record {
           does = λ i g m p less o known.
-              x.does own good at-places (with counter i values) (loop.holders holders) (within-meets values i less meets)
+              x.does own good at-places (with counter i values) (with counter i named) (named-with values named counter i are) (loop.holders holders)
+              (within-meets named i less meets)
               (may-each own counter count kind body values may plain i less) g m p o known;
         })
         (stores-all own counter body values) f memory funcs holds knows);

@@ -32,6 +32,8 @@ use Rattle.task_code_statements.specs.Rewriting.{IsSameSum}
 use Rattle.task_code_statements.specs.Splits.{IsSplitSum}
 use Rattle.task_code_statements.specs.Statements.{EmitsStatement}
 use Rattle.task_code_statements.proofs.Following.{did-is, may-split}
+use Rattle.task_code_runs.specs.Naming.{AreNamed, is_name}
+use Rattle.task_code_statements.proofs.Plainness.{named-with}
 use Rattle.task_code_statements.proofs.Same.{form-sum}
 
 -- ---- values
@@ -42,6 +44,13 @@ split_sum whole = record {
   terms = (record { counter = whole.outer; stride = whole.factor }) ∷ (record { counter = whole.inner; stride = 1 }) ∷ [];
 }
 
+-- no name is in a split loop
+whole-plain : (whole : Whole) → is_name whole.outer ≡ false → is_name whole.inner ≡ false → (values named : Values) → AreNamed values named
+    → whole_value whole named ≡ whole_value whole values
+whole-plain whole outer inner values named are =
+    ap (λ n. word.add (at_most whole.last (word.multiply n whole.factor)) (named whole.inner)) (are whole.outer outer)
+    ∙ ap (word.add (at_most whole.last (word.multiply (values whole.outer) whole.factor))) (are whole.inner inner)
+
 whole-split : (whole : Whole) (values : Values) → whole.last ≡ None → linear_value values (split_sum whole) ≡ whole_value whole values
 unfolding linear_value word.add word.multiply
 whole-split whole values none =
@@ -50,8 +59,9 @@ whole-split whole values none =
     g ∙ ap (λ o. (at_most o (product % 2 ^ 32) + values whole.inner) % 2 ^ 32) (sym none)
 
 pub split-is : (context : Context) (known : List Known) (whole : Whole) (own made : Linear) → known ≡ context.known.items → own ≡ split_sum whole
-    → whole.last ≡ None → IsSameSum known own made → IsSplitSum context whole made
-split-is context known whole own made ek es none same = record {
+    → whole.last ≡ None → is_name whole.outer ≡ false → is_name whole.inner ≡ false → IsSameSum known own made → IsSplitSum context whole made
+split-is context known whole own made ek es none outer inner same = record {
+  plain = whole-plain whole outer inner;
   value_is = λ values are.
       same.value_is values (subst (λ k. AreKnown k values) (sym ek) are) ∙ ap (linear_value values) es ∙ whole-split whole values none;
 }
@@ -77,6 +87,12 @@ module _ (places : Places) (scope : List Held) (context within : Context) (count
   abbrev entered : Values → Values
   entered values = with counter (whole_value whole values) values
 
+  -- with values of names
+  entered-named : (values named : Values) → AreNamed values named → AreNamed (entered values) (entered named)
+  entered-named values named are =
+      subst (λ n. AreNamed (entered values) (with counter n named)) (sym (is.plain values named are))
+      (named-with values named counter (whole_value whole values) are)
+
   -- with the variable at that value all is as known
   meets-entered : (values : Values) → Meets context values → Meets within (entered values)
   meets-entered values meets =
@@ -87,18 +103,20 @@ module _ (places : Places) (scope : List Held) (context within : Context) (count
   split-emits c0 c1 below x = record {
     insns = x.insns;
     emits = x.emits;
-    turns = λ values. x.turns (entered values);
-    does = λ own good at-places values holders meets may f memory funcs holds knows.
-        let l : whole_value whole values < extent = subst (λ n. n < extent) (form-is own.world.hart values meets) (below own.world.hart values meets.below) in
+    turns = λ named. x.turns (entered named);
+    does = λ own good at-places values named are holders meets may f memory funcs holds knows.
+        let e = is.plain values named are in
+        let l : whole_value whole values < extent =
+        subst (λ n. n < extent) (form-is own.world.hart named meets ∙ e) (below own.world.hart named meets.below) in
         let passes : nat_lt (whole_value whole values) extent ≡ true = is-below (whole_value whole values) extent l in
         did-is refl
         (sym (run_bind own.points own.inputs counter whole extent body values funcs
         ∙ ap (λ t. if t then run own.points own.inputs body (entered values) funcs else funcs) passes))
         (λ func i j h. sym (hit-bind own.points own.inputs func i j counter whole extent body values funcs
         ∙ ap (λ t. if t then hit own.points own.inputs func i j body (entered values) funcs else false) passes) ∙ h)
-        (x.does own good at-places (entered values) holders (meets-entered values meets)
+        (x.does own good at-places (entered values) (entered named) (entered-named values named are) holders (meets-entered named meets)
         (may-split own counter whole extent body values passes may) f memory funcs holds
-        (knows-with counter (whole_value whole values) own.world.hart scope values f none knows));
+        (knows-with counter (whole_value whole named) own.world.hart scope named f none knows));
   }
 
   pub guarded-emits : (c0 c1 words : List ℕ) → (x : EmitsStatement [] words places scope (Meets within) body) → GuardsWords c0 c1 scope own_form extent words
@@ -108,22 +126,24 @@ module _ (places : Places) (scope : List Held) (context within : Context) (count
       record {
         insns = g.insns;
         emits = g.emits;
-        turns = λ values. if nat_lt (whole_value whole values) extent then g.before + x.turns (entered values) else g.past;
-        does = λ own good at-places values holders meets may f memory funcs holds knows.
+        turns = λ named. if nat_lt (whole_value whole named) extent then g.before + x.turns (entered named) else g.past;
+        does = λ own good at-places values named are holders meets may f memory funcs holds knows.
             let hart = own.world.hart in
-            let e = form-is hart values meets in
-            let done = g.does own hart values (x.turns (entered values)) (run own.points own.inputs body (entered values) funcs)
+            let e = form-is hart named meets in
+            let same = e ∙ is.plain values named are in
+            let done = g.does own hart named (x.turns (entered named)) (run own.points own.inputs body (entered values) funcs)
             (stored_points own body (entered values) funcs) f memory funcs holders holds knows
             (λ l h known.
-            let passes : nat_lt (whole_value whole values) extent ≡ true = is-below (whole_value whole values) extent (subst (λ n. n < extent) e l) in
-            x.does own good at-places (entered values) holders (meets-entered values meets)
+            let passes : nat_lt (whole_value whole values) extent ≡ true =
+            is-below (whole_value whole values) extent (subst (λ n. n < extent) same l) in
+            x.does own good at-places (entered values) (entered named) (entered-named values named are) holders (meets-entered named meets)
             (may-split own counter whole extent body values passes may) h memory funcs holds
-            (knows-with counter (whole_value whole values) hart scope values h none known)) in
-            did-is (ap (λ n. if nat_lt n extent then g.before + x.turns (entered values) else g.past) e)
-            (ap (λ n. if nat_lt n extent then run own.points own.inputs body (entered values) funcs else funcs) e
+            (knows-with counter (whole_value whole named) hart scope named h none known)) in
+            did-is (ap (λ n. if nat_lt n extent then g.before + x.turns (entered named) else g.past) e)
+            (ap (λ n. if nat_lt n extent then run own.points own.inputs body (entered values) funcs else funcs) same
             ∙ sym (run_bind own.points own.inputs counter whole extent body values funcs))
             (λ func i j h.
-            ap (λ n. stored_if (nat_lt n extent) (stored_points own body (entered values) funcs) func i j) e
+            ap (λ n. stored_if (nat_lt n extent) (stored_points own body (entered values) funcs) func i j) same
             ∙ sym (hit-bind own.points own.inputs func i j counter whole extent body values funcs) ∙ h)
             done;
       }
@@ -142,13 +162,14 @@ abbrev with_terms : List Term → Linear
 with_terms terms = record { number = 0; terms = terms }
 
 pub split-of : (context : Context) (known : List Known) (whole : Whole) (none one both : List Term) (made : Linear) (t : Bool)
+    → is_name whole.outer ≡ false → is_name whole.inner ≡ false
     → known ≡ context.known.items → none ≡ [] → one ≡ none ++ (record { counter = whole.outer; stride = whole.factor } ∷ [])
     → both ≡ one ++ (record { counter = whole.inner; stride = 1 } ∷ []) → t ≡ is_some whole.last → t ≡ false
     → IsSameSum known (record { number = 0; terms = both }) made → IsSplitSum context whole made
-split-of context known whole none one both made t ek e0 e1 e2 et ef same =
+split-of context known whole none one both made t outer inner ek e0 e1 e2 et ef same =
     split-is context known whole (record { number = 0; terms = both }) made ek
     (ap with_terms (two-terms (record { counter = whole.outer; stride = whole.factor }) (record { counter = whole.inner; stride = 1 }) none one both e0 e1 e2))
-    (is-none whole.last t et ef) same
+    (is-none whole.last t et ef) outer inner same
 
 pub found-sum : (context : Context) (whole : Whole) (sum : Linear) (found : Option Linear) → found ≡ Some sum → IfSome found (IsSplitSum context whole)
     → IsSplitSum context whole sum

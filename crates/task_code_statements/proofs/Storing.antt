@@ -82,21 +82,6 @@ module _ (known : List Known) (store made : Store) (is : IsSameStore known store
         ∙ ap (λ k. store.func == func && (value reads values store.x == x && k == y)) (is.row.value_is reads values are)
         ∙ sym (hit-store own.points own.inputs func x y store values funcs)
 
-pub store-emits : (places : Places) (scope : List Held) (context : Context) (known : List Known) (store made : Store) (c0 c1 : List ℕ)
-    → known ≡ context.known.items → IsSameStore known store made → MakesStore c0 c1 places scope made
-    → EmitsStatement c0 c1 places scope (Meets context) (s.Store store)
-store-emits places scope context known store made c0 c1 ek is x = record {
-  insns = x.insns;
-  emits = x.emits;
-  turns = λ values. length x.insns;
-  does = λ own good at values holders meets may f memory funcs holds knows.
-      let are = subst (λ k. AreKnown k values) (sym ek) meets.known in
-      did-is refl (run-made known store made is values are own funcs)
-      (λ func i j hit. stored-made known store made is values are own funcs func i j ∙ hit)
-      (x.does own good at values (sound-made known store made is values are own may.sound) (runs-made known store made is values are own may.in_runs) holders f
-      memory funcs holds knows);
-}
-
 pub arm : (places : Places) (scope : List Held) (is_so : Values → Type 0) (own x : Stmt) (c0 c1 : List ℕ) → own ≡ x
     → EmitsStatement c0 c1 places scope is_so x → EmitsStatement c0 c1 places scope is_so own
 arm places scope is_so own x c0 c1 is e = subst (λ y. EmitsStatement c0 c1 places scope is_so y) (sym is) e

@@ -21,6 +21,7 @@ use Rattle.task_code_loops.specs.Known.{AreKnown}
 use Rattle.task_code_statements.specs.declared.contexts.Context.{Context}
 use Rattle.task_code_statements.specs.Contexts.{Meets, MeetsLoop, MeetsZero, IsEmpty}
 use Rattle.task_code_statements.specs.Statements.{EmitsStatement}
+use Rattle.task_code_statements.proofs.Plainness.{named-same}
 use Rattle.task_code_statements.specs.Tasks.{AppendsTask, Begins, StaysMet, drawn, is_own, restored}
 
 -- ---- the beginning
@@ -104,7 +105,7 @@ task-emits phase places ticket scope context c0 c1 c2 lt ls begins x z =
         does = λ own good at-places task less sound once sure f memory funcs holds is.
             let values = task_values phase.counter task in
             let knows = begins.knows own.world.hart task f less is.none is.number is.drawn in
-            let a = x.does own good at-places values begins.holders (begins.meets task less) (record { sound = sound; at_once = once; in_runs = sure }) f memory funcs holds knows in
+            let a = x.does own good at-places values values (named-same values) begins.holders (begins.meets task less) (record { sound = sound; at_once = once; in_runs = sure }) f memory funcs holds knows in
             let b = restores own.world a.left a.holds.size a.after ticket phase.tasks lt ls in
             let k = kept-harts scope in
             record {

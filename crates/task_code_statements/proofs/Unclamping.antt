@@ -41,6 +41,8 @@ use Rattle.task_code_statements.specs.Contexts.{Meets}
 use Rattle.task_code_statements.specs.Rewriting.{IsSameStore}
 use Rattle.task_code_statements.specs.Statements.{EmitsStatement}
 use Rattle.task_code_statements.proofs.Following.{did-is}
+use Rattle.task_code_statements.specs.Plain.{IsPlainStore}
+use Rattle.task_code_statements.proofs.Naming.{run-plain, runs-plain, sound-plain, stored-plain}
 use Rattle.task_code_statements.proofs.Storing.{sound-made, runs-made, run-made, stored-made}
 
 -- ---- bytes
@@ -170,22 +172,25 @@ module _ (own : Setting) (values : Values) (bounds : List Bound) (below : AreBel
       are-same funcs (sym (sound_store (reads_of own.inputs funcs) own.written own.loaded store values) ∙ sound funcs holds.are_words)
 
 pub unclamped-emits : (places : Places) (scope : List Held) (context : Context) (known : List Known) (bounds : List Bound) (store made last : Store)
-    (c0 c1 : List ℕ) → known ≡ context.known.items → bounds ≡ context.bounds.items → IsSameStore known store made
+    (c0 c1 : List ℕ) → IsPlainStore store → known ≡ context.known.items → bounds ≡ context.bounds.items → IsSameStore known store made
     → clamps.IsSameStore places bounds made last → MakesStore c0 c1 places scope last
     → EmitsStatement c0 c1 places scope (Meets context) (s.Store store)
-unclamped-emits places scope context known bounds store made last c0 c1 ek eb is plain x = record {
+unclamped-emits places scope context known bounds store made last c0 c1 simple ek eb is plain x = record {
   insns = x.insns;
   emits = x.emits;
-  turns = λ values. length x.insns;
-  does = λ own good at values holders meets may f memory funcs holds knows.
-      let are = subst (λ k. AreKnown k values) (sym ek) meets.known in
-      let below = subst (λ k. AreBelow k values) (sym eb) meets.below in
+  turns = λ named. length x.insns;
+  does = λ own good at values named named-are holders meets may f memory funcs holds knows.
+      let are = subst (λ k. AreKnown k named) (sym ek) meets.known in
+      let below = subst (λ k. AreBelow k named) (sym eb) meets.below in
       let plain-here = subst (λ ps. clamps.IsSameStore ps bounds made last) (sym at) plain in
-      let sound = sound-made known store made is values are own may.sound in
-      let sure = runs-made known store made is values are own may.in_runs in
-      let same = here-same own values bounds below memory funcs holds made last plain-here sound in
-      did-is refl (run-same own values made last funcs same ∙ run-made known store made is values are own funcs)
-      (λ func i j hit. stored-same own values made last funcs func i j same ∙ stored-made known store made is values are own funcs func i j ∙ hit)
-      (x.does own good at values (sound-unclamped own values bounds below memory funcs holds made last plain-here sound)
-      (runs-same own values made last plain.func_is sure) holders f memory funcs holds knows);
+      let sound = sound-made known store made is named are own (sound-plain store simple values named named-are own may.sound) in
+      let sure = runs-made known store made is named are own (runs-plain store simple values named named-are own may.in_runs) in
+      let same = here-same own named bounds below memory funcs holds made last plain-here sound in
+      did-is refl
+      (run-same own named made last funcs same ∙ run-made known store made is named are own funcs ∙ run-plain store simple values named named-are own funcs)
+      (λ func i j hit.
+      stored-same own named made last funcs func i j same ∙ stored-made known store made is named are own funcs func i j
+      ∙ stored-plain store simple values named named-are own funcs func i j ∙ hit)
+      (x.does own good at named (sound-unclamped own named bounds below memory funcs holds made last plain-here sound)
+      (runs-same own named made last plain.func_is sure) holders f memory funcs holds knows);
 }

@@ -15,6 +15,7 @@ use Rattle.task_code_registers.specs.declared.scopes.Held.{Held}
 use Rattle.task_code_registers.specs.Scopes.{AreHolders}
 use Rattle.task_code_loops.specs.Guarding.{DoesFirst}
 use Rattle.task_code_runs.specs.AtOnce.{MayRun}
+use Rattle.task_code_runs.specs.Naming.{AreNamed}
 
 -- the points at which the first so many iterations store
 abbrev pub stored_before : Setting → Counter → Stmt → Values → ℕ → Planes → Points
@@ -26,7 +27,7 @@ pub record LaysOut (old new : List ℕ) (places : Places) (scope : List Held) (i
   pub insns : List Insn
   pub emits : Emits old new insns
   pub turns : Values → ℕ
-  pub does : (own : Setting) → IsSetting own → own.places ≡ places → (values : Values) → AreHolders scope → is_so values
-      → ((i : ℕ) → i < count → MayRun own body (with counter i values))
-      → DoesFirst own own.world.hart scope values count insns (turns values)
+  pub does : (own : Setting) → IsSetting own → own.places ≡ places → (values named : Values) → AreNamed values named → AreHolders scope
+      → is_so named → ((i : ℕ) → i < count → MayRun own body (with counter i values))
+      → DoesFirst own own.world.hart scope named count insns (turns named)
       (λ i p. run own.points own.inputs body (with counter i values) p) (stored_before own counter body values)

@@ -1,6 +1,8 @@
 pub mod Contexts
 pub mod Lacking
 pub mod Laying
+pub mod Naming
+pub mod Plain
 pub mod Rewriting
 pub mod Splits
 pub mod Statements

@@ -16,17 +16,18 @@ use Rattle.task_code_registers.specs.declared.scopes.Held.{Held}
 use Rattle.task_code_registers.specs.Doing.{Did}
 use Rattle.task_code_registers.specs.Scopes.{Knows, AreHolders, IsKept}
 use Rattle.task_code_runs.specs.AtOnce.{MayRun}
+use Rattle.task_code_runs.specs.Naming.{AreNamed}
 
--- Appended code does a statement, wherever registers hold the scope's forms and something is so of loop variables, and keeps these registers. In how
--- many turns hangs on the values of loop variables alone.
+-- Appended code does a statement, wherever registers hold the scope's forms and something is so of loop variables and names, and keeps these
+-- registers. What the statement does hangs on no name. In how many turns hangs on the values of loop variables and names alone.
 pub record EmitsStatement (old new : List ℕ) (places : Places) (scope : List Held) (is_so : Values → Type 0) (statement : Stmt) : Type 0 where
   pub insns : List Insn
   pub emits : Emits old new insns
   pub turns : Values → ℕ
-  pub does : (own : Setting) → IsSetting own → own.places ≡ places → (values : Values) → AreHolders scope → is_so values
-      → MayRun own statement values
-      → (f : ℕ → ℕ) (memory : List ℕ) (funcs : Planes) → HoldsFuncs own memory funcs → Knows own.world.hart scope values f
-      → Did own insns (turns values) f memory (IsKept scope) (run own.points own.inputs statement values funcs) (stored_points own statement values funcs)
+  pub does : (own : Setting) → IsSetting own → own.places ≡ places → (values named : Values) → AreNamed values named → AreHolders scope
+      → is_so named → MayRun own statement values
+      → (f : ℕ → ℕ) (memory : List ℕ) (funcs : Planes) → HoldsFuncs own memory funcs → Knows own.world.hart scope named f
+      → Did own insns (turns named) f memory (IsKept scope) (run own.points own.inputs statement values funcs) (stored_points own statement values funcs)
 
 -- so it is of a loop that isn't vectorized, of whichever kind it is
 abbrev pub EmitsLoop : List ℕ → List ℕ → Places → List Held → (Values → Type 0) → Counter → ℕ → Stmt → Type 0

@@ -24,6 +24,7 @@ use Rattle.task_code_loops.specs.declared.bounds.Bound.{Bound}
 use Rattle.task_code_loops.specs.Bounds.{AreBelow}
 use Rattle.task_code_loops.specs.Guarding.{stored_if}
 use Rattle.task_code_lane_values.specs.declared.vectorized.Lanes.{Lanes}
+use Rattle.task_code_runs.specs.Naming.{AreNamed}
 use Rattle.task_code_runs.specs.Runs.{StoresAs, all_lanes, left_lanes}
 use Rattle.task_code_statements.specs.declared.contexts.Context.{Context}
 use Rattle.task_code_statements.specs.declared.guards.Guard.{Guard}
@@ -53,14 +54,14 @@ GuardsLack counter guards = (values : Values) (v : ℕ) → passes guards (with 
 abbrev pub OneMore : List Guard → Guard → List Guard → Type 0
 OneMore guards own made = (values : Values) → passes made values ≡ cond (is_passed own values) (passes guards values) false
 
--- Where all tests pass, a statement stores what the store stores, wherever loop variables are as known, and is sound there only if that is; else it
--- stores nothing.
+-- Where all tests pass, a statement stores what the store stores, wherever loop variables and names are as known, and is sound there only if that is;
+-- else it stores nothing.
 pub record IsStoreOf (context : Context) (body : Stmt) (made : Guarded) : Type 0 where
-  pub stores : (reads : Reads) (values : Values) → Meets context values
-      → effect reads body values ≡ cond (passes made.guards.items values) (effect reads (statements.Store made.store) values) None
-  pub sound : (reads : Reads) (written : Points) (loaded : Point → Bool) (values : Values) → Meets context values
-      → passes made.guards.items values ≡ true → is_sound reads written loaded body values ≡ true
-      → is_sound reads written loaded (statements.Store made.store) values ≡ true
+  pub stores : (reads : Reads) (values named : Values) → AreNamed values named → Meets context named
+      → effect reads body values ≡ cond (passes made.guards.items named) (effect reads (statements.Store made.store) named) None
+  pub sound : (reads : Reads) (written : Points) (loaded : Point → Bool) (values named : Values) → AreNamed values named → Meets context named
+      → passes made.guards.items named ≡ true → is_sound reads written loaded body values ≡ true
+      → is_sound reads written loaded (statements.Store made.store) named ≡ true
 
 -- ---- tests of lanes
 
@@ -104,9 +105,9 @@ lane_count own (Some left) values = left_lanes own left values
 
 -- Where all tests pass in the first iteration, a body does a run's store in as many iterations; else it stores nothing.
 pub record IsRunOf (context : Context) (lanes : Lanes) (body : Stmt) (made : Run) : Type 0 where
-  pub does : (values : Values) → Meets context values → passes made.fixed.items (with lanes.counter 0 values) ≡ true
-      → StoresAs lanes body made.store values (lane_count lanes made.left values)
-  pub none : (values : Values) → Meets context values → passes made.fixed.items (with lanes.counter 0 values) ≡ false
+  pub does : (values named : Values) → AreNamed values named → Meets context named → passes made.fixed.items (with lanes.counter 0 named) ≡ true
+      → StoresAs lanes body made.store values named (lane_count lanes made.left named)
+  pub none : (values named : Values) → AreNamed values named → Meets context named → passes made.fixed.items (with lanes.counter 0 named) ≡ false
       → (reads : Reads) (i : ℕ) → i < all_lanes lanes → effect reads body (with lanes.counter i values) ≡ None
 
 -- Appended code does what a body does where all tests pass, and else nothing. Its turns hang on that alone.

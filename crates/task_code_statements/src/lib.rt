@@ -11,6 +11,7 @@ pub mod contexts;
 mod guards;
 mod lacking;
 mod mentions;
+mod plain;
 pub mod rewriting;
 pub mod statements;
 pub mod tasks;

@@ -10,6 +10,7 @@ ghost use Rattle.task_code_statements.specs.Splits.{IsSplitSum};
 ghost use Rattle.task_code_statements.specs.Statements.{EmitsLoop, EmitsStatement};
 
 use crate::contexts::{Context, has_term, in_loop, with_sum};
+use crate::plain::{is_name, is_plain_store};
 use crate::rewriting::{store_by_others, sum_by_others};
 use crate::vectorizing::{emit_vectorized, is_at_once};
 use loop_ir::expressions::{Counter, Linear, Term};
@@ -61,6 +62,9 @@ fn emit_known_store(
     ensures { OnOk result (EmitsStatement code.old.items code.new.items places.now scope.now (Meets context.now)
         (stmts.Store store.now)) }
 {
+    if !is_plain_store(store) {
+        return Err(CodeFault::TooDeep);
+    }
     let made = store_by_others(alloc, store, context.known.as_slice())?;
     let plain = unclamped_store(alloc, places, context.bounds.as_slice(), &made)?;
     emit_store(alloc, code, places, scope, &plain)?;
@@ -204,6 +208,12 @@ pub(crate) fn split_sum(
     ensures { IfOk result (λ found. IfSome found (IsSplitSum context.now whole.now)) }
 {
     if whole.last.is_some() {
+        return Ok(None);
+    }
+    if is_name(whole.outer) {
+        return Ok(None);
+    }
+    if is_name(whole.inner) {
         return Ok(None);
     }
     let mut terms = Items::new(alloc);

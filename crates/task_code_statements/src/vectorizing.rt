@@ -14,6 +14,7 @@ use crate::guards::{
     Guard, Parted, by_lanes, emit_behind, guards_lack, left_if, with_first, with_guard,
 };
 use crate::lacking::store_lacks;
+use crate::plain::is_plain_store;
 use crate::rewriting::store_by_others;
 use crate::statements::{mentions, split_sum};
 use loop_ir::expressions::{Counter, Linear};
@@ -51,6 +52,9 @@ fn stored_by(alloc: Global, context: &Context, body: &Stmt) -> Result<Guarded, C
 {
     match body {
         Stmt::Store(store) => {
+            if !is_plain_store(store) {
+                return Err(CodeFault::TooDeep);
+            }
             let made = store_by_others(alloc, store, context.known.as_slice())?;
             Ok(Guarded {
                 store: made,

@@ -74,9 +74,9 @@ pub record MakesPointer (old new : List ℕ) (scope : List Held) (counter : Coun
 pub record StoresLanes (old new : List ℕ) (places : Places) (scope : List Held) (own : Lanes) (store : Store) : Type 0 where
   pub insns : List Insn
   pub emits : Emits old new insns
-  pub does : (setting : Setting) → IsSetting setting → setting.places ≡ places → (values : Values) (body : Stmt) (count : ℕ) → AreHolders scope
-      → StoresAs own body store values count → MayRun setting (run_of own body) values
-      → (f : ℕ → ℕ) (memory : List ℕ) (funcs : Planes) → HoldsFuncs setting memory funcs → Knows setting.world.hart scope (with own.counter 0 values) f
+  pub does : (setting : Setting) → IsSetting setting → setting.places ≡ places → (values named : Values) (body : Stmt) (count : ℕ) → AreHolders scope
+      → StoresAs own body store values named count → MayRun setting (run_of own body) values
+      → (f : ℕ → ℕ) (memory : List ℕ) (funcs : Planes) → HoldsFuncs setting memory funcs → Knows setting.world.hart scope (with own.counter 0 named) f
       → HasLanes own.group count f
       → Did setting insns (length insns) f memory (IsKept scope) (run setting.points setting.inputs (run_of own body) values funcs)
       (stored_points setting (run_of own body) values funcs)

@@ -16,7 +16,8 @@ returns-then-is_below t c =
 
 pub returns-in_ok-made-in-Store : goal.returns-in_ok-made-in-Store
 returns-in_ok-made-in-Store t c =
-    store-of c.args.context.now c.as_slice.result.now c.args.body.now c.in-Store.store c.in_ok-made-in-Store.made _ c.as_slice.ensures.value c.in-Store.is
+    store-of c.args.context.now c.as_slice.result.now c.args.body.now c.in-Store.store c.in_ok-made-in-Store.made _
+    (c.is_plain_store.ensures c.if-not-is_plain_store.false) c.as_slice.ensures.value c.in-Store.is
     c.in_ok-made-in-Store.ensures refl c.new.ensures.items
 
 pub returns-then-guards_lack : goal.returns-then-guards_lack
