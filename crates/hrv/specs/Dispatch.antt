@@ -12,12 +12,13 @@ use Rattle.hrv_engines.specs.Devices.{both, bytes_of, pieces_of, sink_of, text_o
 use Rattle.hrv_engines.specs.Dis.{IsAddressedListing, IsListing, IsRefusedImage}
 use Rattle.hrv_engines.specs.Drawing.{IsDrawing, IsRefusedDrawing}
 use Rattle.hrv_engines.specs.Engine.{Performs, Writes}
+use Rattle.hrv_engines.specs.Map.{IsMap, IsRefusedMap}
 use Rattle.hrv_engines.specs.Renew.{IsRenewal}
 use Rattle.hrv_engines.specs.Replay.{IsRefusedReplay, IsReplay}
 use Rattle.hrv_engines.specs.Run as run
 use Rattle.hrv_engines.specs.declared.explain.TheConstants.{VERSION}
 use Rattle.hrv_refusals.specs.Explanations.{explanation}
-use Rattle.hrv_command_line.specs.CommandLine.{Asked, Replays, Debugs, Blames, Assembles, Lists, ListsAddresses, Renews, Draws, Compiles, Runs, Resumes, Explains, TellsVersion}
+use Rattle.hrv_command_line.specs.CommandLine.{Asked, Replays, Debugs, Blames, Assembles, Lists, ListsAddresses, Renews, Draws, Compiles, Maps, Runs, Resumes, Explains, TellsVersion}
 
 -- a fact of some device at this place, by its state before and after
 abbrev pub At : {S : Type 0} → (S → List ℕ) → List ℕ → (S → S → Type 0) → Type 0
@@ -81,6 +82,11 @@ module _ {R W T P : Type 0}
       Performs (IsCompilation alloc) (IsRefusedCompilation alloc)
       (both (both (text_of read_at read_failed gave ended s t) (text_of read_at read_failed gave ended u v)) (texts_of read_at read_failed gave ended x y))
       (sink_of written_at write_failed stored o p) result)))))
+  Does alloc (Maps algorithm schedule) result =
+      At read_at algorithm (λ s t. At read_at schedule (λ u v. At printed_at dash (λ o p.
+      Performs (IsMap alloc) (IsRefusedMap alloc)
+      (both (text_of read_at read_failed gave ended s t) (text_of read_at read_failed gave ended u v))
+      (sink_of printed_at print_failed printed o p) result)))
   Does alloc (Runs image log harts turns) result =
       At read_at image (λ s t. At written_at log (λ u v. At printed_at dash (λ o p.
       run.Runs (run.IsRun harts turns) IsRefusedImage (bytes_of read_at read_failed gave ended s t) (sink_of written_at write_failed stored u v)

@@ -3,14 +3,14 @@
 ghost use Rattle.std.specs.Prelude.{◌≡◌, codes, map, option_map, IfOk};
 ghost use Rattle.std.specs.List.{All};
 ghost use Rattle.clap.specs.Walk.{texts};
-ghost use Rattle.hrv_command_line.specs.CommandLine.{AreWithinLimits, Assembles, Blames, Compiles, Debugs, Draws, Explains, IsWithinLimits, Lists, ListsAddresses, Renews, Replays, Resumes, Runs, TellsVersion, asked_by};
+ghost use Rattle.hrv_command_line.specs.CommandLine.{AreWithinLimits, Assembles, Blames, Compiles, Debugs, Draws, Explains, IsWithinLimits, Lists, ListsAddresses, Maps, Renews, Replays, Resumes, Runs, TellsVersion, asked_by};
 ghost use Rattle.hrv.specs.Dispatch.{Does};
 
 use hrv_command_line::Invocation;
 use hrv_engines::{
     Fault, Question, Sink, Source, asm_bytes, blame_bytes, compile_bytes, debug_bytes,
-    dis_addresses_bytes, dis_bytes, explain_bytes, picture_bytes, renew_bytes, replay_bytes,
-    resume_bytes, run_bytes, version_bytes,
+    dis_addresses_bytes, dis_bytes, explain_bytes, map_bytes, picture_bytes, renew_bytes,
+    replay_bytes, resume_bytes, run_bytes, version_bytes,
 };
 use std::alloc::{AllocError, Global};
 use std::sync::Wait;
@@ -93,6 +93,10 @@ pub fn obey<'a, R: Threads + Wait + Sync, D: Devices<'a>>(
             image,
             inputs,
         } => compile(alloc, devices, algorithm, schedule, image, inputs),
+        Invocation::Map {
+            algorithm,
+            schedule,
+        } => show_map(alloc, devices, algorithm, schedule),
         Invocation::Run {
             image,
             log,
@@ -282,6 +286,23 @@ fn compile<'a, D: Devices<'a>>(
         sources.as_mut_slice(),
         &mut devices.written(image),
     )
+}
+
+/// `map ALGORITHM SCHEDULE`
+fn show_map<'a, D: Devices<'a>>(
+    alloc: Global,
+    devices: &D,
+    algorithm: &'a str,
+    schedule: &'a str,
+) -> Result<(), Fault>
+    ensures { Does D.Read.place D.Read.failed D.Read.gave D.Read.ended
+        D.Written.place D.Written.failed D.Written.took
+        D.Typed.place D.Typed.failed D.Typed.gave D.Typed.ended
+        D.Printed.place D.Printed.failed D.Printed.took alloc (Maps algorithm.entry.now schedule.entry.now) result }
+{
+    let mut text = devices.read(algorithm);
+    let mut plan = devices.read(schedule);
+    map_bytes(alloc, &mut text, &mut plan, &mut devices.printed())
 }
 
 /// `run IMAGE LOG --harts N --turns L`

@@ -9,9 +9,9 @@ use Rattle.clap.specs.Walk.{Row, Text, rows_after, first_of}
 use Rattle.clap.specs.Simple.{subcommand_of}
 use Rattle.clap.specs.Kinds.{Kinds}
 use Rattle.clap.specs.Faults.{fault_of}
-use Rattle.hrv_command_line.specs.CommandLine.{Asked, Assembles, Blames, Compiles, Debugs, Draws, Explains, IsPlainWord, IsSpelled, IsWithinLimits, Lists, ListsAddresses, Renews, Replays, TellsVersion, asked_in, asked_of, asm_of, compile_of, debug_of, explain_of, hrv_app, if_known, named, picture_of, renew_of, replay_of, run_from, unless_fault, unmarked}
+use Rattle.hrv_command_line.specs.CommandLine.{Asked, Assembles, Blames, Compiles, Debugs, Draws, Explains, IsPlainWord, IsSpelled, IsWithinLimits, Lists, ListsAddresses, Maps, Renews, Replays, TellsVersion, asked_in, asked_of, asm_of, compile_of, debug_of, explain_of, hrv_app, if_known, map_of, named, picture_of, renew_of, replay_of, run_from, unless_fault, unmarked}
 use Rattle.hrv_command_line.proofs.Positionals.{ArePlain, marked, none, passes_all, plain, takes_all, unmarked-plain}
-use Rattle.hrv_command_line.proofs.Subcommands.{IsName, first_is_name, is_asm, is_blame, is_compile, is_debug, is_dis, is_explain, is_picture, is_renew, is_replay, is_run, is_version, name_free, name_given, name_passes}
+use Rattle.hrv_command_line.proofs.Subcommands.{IsName, first_is_name, is_asm, is_blame, is_compile, is_debug, is_dis, is_explain, is_map, is_picture, is_renew, is_replay, is_run, is_version, name_free, name_given, name_passes}
 use Rattle.hrv_command_line.proofs.ReplayWords as replay
 use Rattle.hrv_command_line.proofs.DebugWords as debug
 use Rattle.hrv_command_line.proofs.AsmWords as asm
@@ -20,6 +20,7 @@ use Rattle.hrv_command_line.proofs.DisWords as dis
 use Rattle.hrv_command_line.proofs.RenewWords as renew
 use Rattle.hrv_command_line.proofs.PictureWords as picture
 use Rattle.hrv_command_line.proofs.CompileWords as compile
+use Rattle.hrv_command_line.proofs.MapWords as map
 use Rattle.hrv_command_line.proofs.RunWords as run
 use Rattle.hrv_command_line.proofs.ExplainWords as explain
 use Rattle.hrv_command_line.proofs.VersionWords as version
@@ -151,6 +152,21 @@ asks_compile words rest e split =
       limits = tt;
     }
 
+asks_map : (words rest : List Text) → fault_of hrv_app words ≡ [] → words ≡ codes "map" ∷ rest → Asks words
+unfolding map.takes_two
+asks_map words rest e split =
+    let all = takes_all map.takes_two rest (name_passes map.map_command rest (subst (λ ws. fault_of hrv_app ws ≡ []) split e)) in
+    let both = map.two_values (unmarked rest) all.1 in
+    record {
+      asked = Maps both.0 both.1;
+      name = codes "map";
+      rows = rows_after map.leaf.rules [] rest;
+      met = ap (subcommand_of hrv_app) split ∙ name_given map.map_command rest;
+      asks = ap map_of all.0 ∙ both.3;
+      spelled = ap unmarked split ∙ ap (λ ws. codes "map" ∷ ws) both.2;
+      limits = tt;
+    }
+
 asks_run : (words rest : List Text) → fault_of hrv_app words ≡ [] → words ≡ codes "run" ∷ rest → Asks words
 asks_run words rest e split =
     let own = run.run_asked rest (name_passes run.run_command rest (subst (λ ws. fault_of hrv_app ws ≡ []) split e)) in
@@ -212,6 +228,7 @@ words_ask words e =
     by_name _ is_renew rest split = asks_renew words rest e split
     by_name _ is_picture rest split = asks_picture words rest e split
     by_name _ is_compile rest split = asks_compile words rest e split
+    by_name _ is_map rest split = asks_map words rest e split
     by_name _ is_run rest split = asks_run words rest e split
     by_name _ is_explain rest split = asks_explain words rest e split
     by_name _ is_version rest split = asks_version words rest e split

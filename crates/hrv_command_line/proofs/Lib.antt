@@ -7,6 +7,8 @@ mod DebugWords
 mod DisWords
 mod ExplainWords
 mod HelpOnly
+mod MapAsked
+mod MapWords
 mod Parses
 mod PictureWords
 mod Positionals

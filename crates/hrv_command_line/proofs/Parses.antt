@@ -33,7 +33,7 @@ use Rattle.hrv_command_line.specs.Faults.{fault_for}
 use Rattle.hrv_command_line.specs.declared.command_lines.Invocation.{Invocation}
 use Rattle.hrv_command_line.specs.declared.faults.CommandLineFault.{CommandLineFault}
 use Rattle.hrv_command_line.specs.declared.faults.CommandLineFault.TheVariants.{Refused, Memory, Unexplained}
-use Rattle.hrv_command_line.specs.CommandLine.{Asked, Assembles, Blames, Compiles, Debugs, Draws, Explains, IsRefusal, IsSpelled, IsWithinLimits, Makes, Renews, Replays, asked_in, asked_of, asm_of, blame_of, compile_of, debug_of, dis_of, explain_of, hrv_app, if_known, is_given_by, listing_of, most_harts, most_turns, named, number_or, picture_of, renew_of, replay_of, run_from, run_of}
+use Rattle.hrv_command_line.specs.CommandLine.{Asked, Assembles, Blames, Compiles, Debugs, Draws, Explains, IsRefusal, IsSpelled, IsWithinLimits, Makes, Maps, Renews, Replays, asked_in, asked_of, asm_of, blame_of, compile_of, debug_of, dis_of, explain_of, hrv_app, if_known, is_given_by, listing_of, map_of, most_harts, most_turns, named, number_or, picture_of, renew_of, replay_of, run_from, run_of}
 use Rattle.hrv_command_line.proofs.AskedWords.{Asks, asked_named, fault_of-named, words_ask}
 use Rattle.hrv_command_line.proofs.BlameWords.{blame_needs}
 use Rattle.hrv_command_line.proofs.RunWords.{run_needs}
@@ -113,6 +113,14 @@ renew_given rows some = both_given Renews (first_of (codes "OLD") rows) (first_o
 pub renew_read : (rows : List Row) (old new : Text) → first_of (codes "OLD") rows ≡ Some old
     → first_of (codes "NEW") rows ≡ Some new → renew_of rows ≡ Some (Renews old new)
 renew_read rows old new first second = ap₂ (λ o n. option_and_then (λ x. option_map (λ y. Renews x y) n) o) first second
+
+-- and those of a map
+pub map_given : (rows : List Row) → IsSome (map_of rows) → IsSome (first_of (codes "ALGORITHM") rows) × IsSome (first_of (codes "SCHEDULE") rows)
+map_given rows some = both_given Maps (first_of (codes "ALGORITHM") rows) (first_of (codes "SCHEDULE") rows) some
+
+pub map_read : (rows : List Row) (algorithm schedule : Text) → first_of (codes "ALGORITHM") rows ≡ Some algorithm
+    → first_of (codes "SCHEDULE") rows ≡ Some schedule → map_of rows ≡ Some (Maps algorithm schedule)
+map_read rows algorithm schedule first second = ap₂ (λ o n. option_and_then (λ x. option_map (λ y. Maps x y) n) o) first second
 
 -- the image of a listing is there, and whether its flag is
 listing_given : (image : Option Text) (flag : Option Bool) → IsSome (option_and_then (λ i. option_map (λ b. listing_of i b) flag) image) → IsSome image × IsSome flag

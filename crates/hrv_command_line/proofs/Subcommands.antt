@@ -25,6 +25,7 @@ pub data IsName : Text → Type 0 where
   is_renew : IsName (codes "renew")
   is_picture : IsName (codes "picture")
   is_compile : IsName (codes "compile")
+  is_map : IsName (codes "map")
   is_run : IsName (codes "run")
   is_explain : IsName (codes "explain")
   is_version : IsName (codes "version")
@@ -98,13 +99,14 @@ first_is_name (word ∷ rest) e =
     tell (bytes_eq (codes "renew") word) (λ same. begins word rest (codes "renew") is_renew same) (λ no_renew.
     tell (bytes_eq (codes "picture") word) (λ same. begins word rest (codes "picture") is_picture same) (λ no_picture.
     tell (bytes_eq (codes "compile") word) (λ same. begins word rest (codes "compile") is_compile same) (λ no_compile.
+    tell (bytes_eq (codes "map") word) (λ same. begins word rest (codes "map") is_map same) (λ no_map.
     tell (bytes_eq (codes "run") word) (λ same. begins word rest (codes "run") is_run same) (λ no_run.
     tell (bytes_eq (codes "explain") word) (λ same. begins word rest (codes "explain") is_explain same) (λ no_explain.
     tell (bytes_eq (codes "version") word) (λ same. begins word rest (codes "version") is_version same) (λ no_version.
-    tell (bytes_eq (codes "help") word) (λ help. absurd (some_fault _ _ (rw (no_replay, no_debug, no_blame, no_asm, no_dis, no_renew, no_picture, no_compile, no_run, no_explain, no_version, help) at first))) (λ no_help.
-    let unnamed : subcommand_met (names_of app) idle word ≡ None = rw (no_replay, no_debug, no_blame, no_asm, no_dis, no_renew, no_picture, no_compile, no_run, no_explain, no_version, no_help) refl in
+    tell (bytes_eq (codes "help") word) (λ help. absurd (some_fault _ _ (rw (no_replay, no_debug, no_blame, no_asm, no_dis, no_renew, no_picture, no_compile, no_map, no_run, no_explain, no_version, help) at first))) (λ no_help.
+    let unnamed : subcommand_met (names_of app) idle word ≡ None = rw (no_replay, no_debug, no_blame, no_asm, no_dis, no_renew, no_picture, no_compile, no_map, no_run, no_explain, no_version, no_help) refl in
     tell (bytes_eq word (codes "--")) (λ mark. absurd (fault_marked rest (subst (λ w. fault_of hrv_app (w ∷ rest) ≡ []) ((bytes_eq-Decides word (codes "--")).0 mark) e)))
-    (λ other. absurd (stray word unnamed other first))))))))))))))
+    (λ other. absurd (stray word unnamed other first)))))))))))))))
   where
     first : top_fault word ≡ []
     first = (both_pass (top_fault word) _ (both_pass (walk_fault app.top (names_of app) (walk_from nothing_held) (word ∷ rest)) _ e).0).0

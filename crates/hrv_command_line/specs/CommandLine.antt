@@ -16,7 +16,7 @@ use Rattle.clap.specs.declared.builder.command.Command.TheViews.{out-Command}
 use Rattle.clap.specs.declared.builder.value_parser.ValueParser.TheVariants.{Unsigned}
 use Rattle.clap.specs.declared.error.Error.{Error}
 use Rattle.hrv_command_line.specs.declared.command_lines.Invocation.{Invocation}
-use Rattle.hrv_command_line.specs.declared.command_lines.Invocation.TheVariants.{Asm, Blame, Compile, Debug, Dis, DisAddresses, Explain, Picture, Renew, Replay, Resume, Run, Version}
+use Rattle.hrv_command_line.specs.declared.command_lines.Invocation.TheVariants.{Asm, Blame, Compile, Debug, Dis, DisAddresses, Explain, Map, Picture, Renew, Replay, Resume, Run, Version}
 use Rattle.hrv_command_line.specs.declared.faults.CommandLineFault.{CommandLineFault}
 use Rattle.hrv_command_line.specs.declared.faults.CommandLineFault.TheVariants.{Refused, Memory, Unexplained}
 
@@ -31,6 +31,7 @@ pub data Asked : Type 0 where
   Renews : (old new : List ℕ) → Asked
   Draws : (algorithm : List ℕ) → (inputs : List (List ℕ)) → Asked
   Compiles : (algorithm schedule image : List ℕ) → (inputs : List (List ℕ)) → Asked
+  Maps : (algorithm schedule : List ℕ) → Asked
   Runs : (image log : List ℕ) → (harts turns : ℕ) → Asked
   Resumes : (image log old : List ℕ) → (turns : ℕ) → Asked
   Explains : (family code : List ℕ) → Asked
@@ -47,6 +48,7 @@ asked_by (DisAddresses image) = ListsAddresses image.now
 asked_by (Renew old new) = Renews old.now new.now
 asked_by (Picture algorithm inputs) = Draws algorithm.now (texts inputs.items)
 asked_by (Compile algorithm schedule image inputs) = Compiles algorithm.now schedule.now image.now (texts inputs.items)
+asked_by (Map algorithm schedule) = Maps algorithm.now schedule.now
 asked_by (Run image log harts turns) = Runs image.now log.now harts turns
 asked_by (Resume image log old turns) = Resumes image.now log.now old.now turns
 asked_by (Explain family code) = Explains family.now code.now
@@ -143,6 +145,11 @@ compile_texts_app = with_rule (with_rule (new_app (codes "compile")) (required_r
 abbrev pub compile_app : App
 compile_app = with_rule (with_rule compile_texts_app (required_rule (codes "IMAGE"))) (rest_rule (codes "INPUT"))
 
+-- `map ALGORITHM SCHEDULE`
+abbrev pub map_app : App
+map_app = with_rule (with_rule (new_app (codes "map")) (required_rule (codes "ALGORITHM")))
+    (required_rule (codes "SCHEDULE"))
+
 -- the files of `run`
 abbrev pub run_files_app : App
 run_files_app = with_rule (with_rule (new_app (codes "run")) (required_rule (codes "IMAGE"))) (required_rule (codes "LOG"))
@@ -181,7 +188,7 @@ text_app = with_subcommand (with_subcommand (with_subcommand telling_app asm_app
 
 -- with those that take an algorithm
 abbrev pub algorithm_app : App
-algorithm_app = with_subcommand (with_subcommand text_app picture_app.top) compile_app.top
+algorithm_app = with_subcommand (with_subcommand (with_subcommand text_app picture_app.top) compile_app.top) map_app.top
 
 -- with the one that runs
 abbrev pub running_app : App
@@ -244,6 +251,10 @@ compile_of given = option_and_then (λ algorithm. option_and_then (λ schedule. 
     Compiles algorithm schedule image (unwrap_or (all_of (codes "INPUT") given) []))
     (first_of (codes "IMAGE") given)) (first_of (codes "SCHEDULE") given)) (first_of (codes "ALGORITHM") given)
 
+abbrev pub map_of : List Row → Option Asked
+map_of given = option_and_then (λ algorithm. option_map (λ schedule. Maps algorithm schedule)
+    (first_of (codes "SCHEDULE") given)) (first_of (codes "ALGORITHM") given)
+
 -- the number that an option's text means, where that is one from 1 to a greatest one; where there is no text, the number that stands for
 -- none
 abbrev pub number_or : ℕ → ℕ → Option Text → Option ℕ
@@ -276,9 +287,10 @@ asked_of met = if bytes_eq met.0 (codes "replay") then replay_of met.1
     else (if bytes_eq met.0 (codes "renew") then renew_of met.1
     else (if bytes_eq met.0 (codes "picture") then picture_of met.1
     else (if bytes_eq met.0 (codes "compile") then compile_of met.1
+    else (if bytes_eq met.0 (codes "map") then map_of met.1
     else (if bytes_eq met.0 (codes "run") then run_of met.1
     else (if bytes_eq met.0 (codes "explain") then explain_of met.1
-    else (if bytes_eq met.0 (codes "version") then Some TellsVersion else None))))))))))
+    else (if bytes_eq met.0 (codes "version") then Some TellsVersion else None)))))))))))
 
 -- nothing, where there is a fault
 abbrev pub unless_fault : Kinds → Option Asked → Option Asked
@@ -329,6 +341,7 @@ IsSpelled words TellsVersion = unmarked words ≡ codes "version" ∷ []
 IsSpelled words (Renews old new) = unmarked words ≡ codes "renew" ∷ old ∷ new ∷ []
 IsSpelled words (Draws algorithm inputs) = unmarked words ≡ codes "picture" ∷ algorithm ∷ inputs
 IsSpelled words (Compiles algorithm schedule image inputs) = unmarked words ≡ codes "compile" ∷ algorithm ∷ schedule ∷ image ∷ inputs
+IsSpelled words (Maps algorithm schedule) = unmarked words ≡ codes "map" ∷ algorithm ∷ schedule ∷ []
 -- options may stand anywhere: what they are, `named` alone says
 IsSpelled words (Blames image log x y address with_turns) = (rest : List Text) × (words ≡ codes "blame" ∷ rest)
 IsSpelled words (ListsAddresses image) = (rest : List Text) × (words ≡ codes "dis" ∷ rest)

@@ -2,7 +2,7 @@
 ghost use Rattle.std.specs.Prelude.{◌≡◌, ℕ, None, [], codes, true, false, unwrap_or, IfOk, IfErr, Some, IsSome};
 ghost use Rattle.clap.specs.Words.{all_of, found_of, one_of, rows_of};
 ghost use Rattle.clap.specs.Walk.{texts};
-ghost use Rattle.hrv_command_line.specs.CommandLine.{IsRefusal, IsSpelled, IsWithinLimits, asked_by, asked_of, asm_of, blame_of, compile_of, debug_of, dis_of, explain_of, if_known, listing_of, named, number_or, picture_of, renew_of, replay_of, run_of};
+ghost use Rattle.hrv_command_line.specs.CommandLine.{IsRefusal, IsSpelled, IsWithinLimits, asked_by, asked_of, asm_of, blame_of, compile_of, debug_of, dis_of, explain_of, if_known, listing_of, map_of, named, number_or, picture_of, renew_of, replay_of, run_of};
 
 use crate::faults::CommandLineFault;
 use crate::programs::program;
@@ -61,6 +61,11 @@ pub enum Invocation<'a> {
         schedule: &'a str,
         image: &'a str,
         inputs: Vec<&'a str>,
+    },
+    /// `map ALGORITHM SCHEDULE`
+    Map {
+        algorithm: &'a str,
+        schedule: &'a str,
     },
     /// `run IMAGE LOG --harts N --turns L`
     Run {
@@ -134,6 +139,7 @@ fn asked_for<'a>(
         "renew" => Ok(renew_asked(given)),
         "picture" => picture_asked(alloc, given),
         "compile" => compile_asked(alloc, given),
+        "map" => Ok(map_asked(given)),
         "run" => Ok(run_asked(given)),
         "explain" => Ok(explain_asked(given)),
         "version" => Ok(Invocation::Version),
@@ -248,6 +254,19 @@ fn compile_asked<'a>(alloc: Global, given: &ArgMatches<'a>) -> Result<Invocation
         image,
         inputs,
     })
+}
+
+// What the arguments of `map` ask for.
+fn map_asked<'a>(given: &ArgMatches<'a>) -> Invocation<'a>
+    requires { IsSome (map_of (rows_of (found_of given.now))) }
+    ensures { map_of (rows_of (found_of given.now)) ≡ Some (asked_by result) }
+{
+    let algorithm = given.get_str("ALGORITHM").unwrap();
+    let schedule = given.get_str("SCHEDULE").unwrap();
+    Invocation::Map {
+        algorithm,
+        schedule,
+    }
 }
 
 // What the arguments of `run` ask for: one hart, and all turns that a log may have, where no option says another number; with a log that it

@@ -2,7 +2,7 @@
 ghost use Rattle.std.specs.Prelude.{◌≡◌, ◌≤◌, ℕ, List, None, [], ◌∷◌, codes, false, true, length, Some};
 ghost use Rattle.std.specs.List.{AllByRecursion};
 ghost use Rattle.clap.specs.Lexer.{usize_max};
-ghost use Rattle.hrv_command_line.specs.CommandLine.{Asked, Assembles, Blames, Compiles, Debugs, Draws, Explains, IsPlainWord, IsSpelled, Lists, ListsAddresses, Renews, Replays, Resumes, Runs, TellsVersion};
+ghost use Rattle.hrv_command_line.specs.CommandLine.{Asked, Assembles, Blames, Compiles, Debugs, Draws, Explains, IsPlainWord, IsSpelled, Lists, ListsAddresses, Maps, Renews, Replays, Resumes, Runs, TellsVersion};
 ghost use Rattle.hrv_command_line.specs.CommandLine.{most_harts, most_turns, named, number_or};
 ghost use Rattle.hrv_refusals.specs.Explanations.{is_explained};
 
@@ -77,6 +77,14 @@ pub fn renew_is_named()
         → named (codes "renew" ∷ old ∷ new ∷ []) ≡ Some (Renews old new) }
     ensures marked { (old new : List ℕ)
         → named (codes "renew" ∷ codes "--" ∷ old ∷ new ∷ []) ≡ Some (Renews old new) }
+{}
+
+/// Which words name a map: `map` and two names, after `--` where one begins with `-`.
+pub fn map_is_named()
+    ensures plain { (algorithm schedule : List ℕ) → IsPlainWord algorithm → IsPlainWord schedule
+        → named (codes "map" ∷ algorithm ∷ schedule ∷ []) ≡ Some (Maps algorithm schedule) }
+    ensures marked { (algorithm schedule : List ℕ)
+        → named (codes "map" ∷ codes "--" ∷ algorithm ∷ schedule ∷ []) ≡ Some (Maps algorithm schedule) }
 {}
 
 /// Which words name a picture: `picture`, an algorithm and any number of inputs, after `--` where one begins with `-`.

@@ -1,7 +1,7 @@
 //! The program's command, with its subcommands and their arguments.
 ghost use Rattle.std.specs.Prelude.{◌≡◌, codes, false, IfOk};
 ghost use Rattle.clap.specs.Words.{new_rule, rule_of};
-ghost use Rattle.hrv_command_line.specs.CommandLine.{Makes, algorithm_app, asm_app, blame_app, blame_files_app, blame_pixel_app, compile_app, compile_texts_app, debug_app, dis_app, explain_app, flag_rule, hrv_app, log_app, most_harts, most_turns, number_rule, picture_app, renew_app, replay_app, required_rule, rest_rule, run_app, run_files_app, run_numbers_app, running_app, telling_app, text_app, version_app, word_rule};
+ghost use Rattle.hrv_command_line.specs.CommandLine.{Makes, algorithm_app, asm_app, blame_app, blame_files_app, blame_pixel_app, compile_app, compile_texts_app, debug_app, dis_app, explain_app, flag_rule, hrv_app, log_app, map_app, most_harts, most_turns, number_rule, picture_app, renew_app, replay_app, required_rule, rest_rule, run_app, run_files_app, run_numbers_app, running_app, telling_app, text_app, version_app, word_rule};
 
 use clap::{Arg, ArgAction, Command};
 use std::alloc::{AllocError, Global};
@@ -28,7 +28,8 @@ fn algorithm_program<'a>(alloc: Global) -> Result<Command<'a>, AllocError>
 {
     text_program(alloc)?
         .subcommand(picture_command(alloc)?)?
-        .subcommand(compile_command(alloc)?)
+        .subcommand(compile_command(alloc)?)?
+        .subcommand(map_command(alloc)?)
 }
 
 // The program's command with the subcommands that take a log, an assembly text or an image alone.
@@ -174,6 +175,16 @@ fn compile_texts_command<'a>(alloc: Global) -> Result<Command<'a>, AllocError>
             "SCHEDULE",
             "The schedule's text, which changes speed and never pixels",
         ))
+}
+
+// `map ALGORITHM SCHEDULE`
+fn map_command<'a>(alloc: Global) -> Result<Command<'a>, AllocError>
+    ensures { IfOk result (Makes map_app) }
+{
+    Command::new(alloc, "map")
+        .about("Says where the data and the code of a compiled image lie, a fact a line")
+        .arg(file_arg(alloc, "ALGORITHM", "The algorithm's text"))?
+        .arg(file_arg(alloc, "SCHEDULE", "The schedule's text"))
 }
 
 // `run IMAGE LOG --harts N --turns L --from OLD`

@@ -11,3 +11,4 @@ pub mod Shown
 pub mod Correct
 pub mod Counted
 pub mod Runs
+pub mod Map

@@ -21,6 +21,8 @@ pub record CompiledContents : Type 0 where
   pub boxes : Boxes
   -- the machine's text, whose first word is the entry
   pub words : List ℕ
+  -- where the code of each phase ends in it: the place behind its last word, from 0 (Map.antt)
+  pub ends : List ℕ
 
 -- The schedule was accepted for the pipeline, and the boxes were inferred for both.
 pub record IsCompiled (own : CompiledContents) : Type 0 where

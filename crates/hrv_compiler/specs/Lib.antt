@@ -5,6 +5,7 @@ pub mod Correct
 pub mod Data
 pub mod Faults
 pub mod Images
+pub mod Map
 pub mod Outputs
 pub mod Runs
 pub mod Verdict

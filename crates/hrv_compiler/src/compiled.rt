@@ -13,6 +13,8 @@ ghost use Rattle.hrv_compiler.specs.Assigned.{IsAssigned};
 ghost use Rattle.hrv_compiler.specs.Compiled.{output_in, output_of};
 ghost use Rattle.hrv_compiler.specs.Correct.{Correct};
 ghost use Rattle.vector_codegen_sharing.specs.Turns.{control_words};
+ghost use Rattle.hrv_compiler.specs.Map.{ArePhases};
+ghost use Rattle.hrv_map.specs.Maps.{map_text};
 ghost use Rattle.hrv_compiler.specs.Images.{ArePictures, IsRefusedInput, image_of};
 ghost use Rattle.hrv_compiler.specs.Outputs.{Holds};
 ghost use Rattle.hrv_compiler.specs.Runs.{WritesWholeRuns};
@@ -30,8 +32,8 @@ use schedule::Schedule;
 use std::alloc::{AllocError, Global};
 use std::marker::Model;
 
-/// A pipeline under a schedule that was accepted for it, with the words of its phases. Contracts see a
-/// `CompiledContents` that is an `IsCompiled` (`specs/Compiled.antt`); what its words do, [`Compiled::image`] promises
+/// A pipeline under a schedule that was accepted for it, with the words of its phases and where each ends. Contracts see
+/// a `CompiledContents` that is an `IsCompiled` (`specs/Compiled.antt`); what its words do, [`Compiled::image`] promises
 /// of the images that it makes.
 #[derive(Drop)]
 pub struct Compiled {
@@ -39,6 +41,7 @@ pub struct Compiled {
     pub(crate) schedule: Schedule,
     pub(crate) boxes: Boxes,
     pub(crate) words: Vec<u32>,
+    pub(crate) ends: Vec<u32>,
 }
 
 impl Model for Compiled {
@@ -51,9 +54,9 @@ impl Model for Compiled {
 
     ghost coded = { Prim.hlevel (codes, e.the_row.coded) };
 
-    ghost view = { λ c. record { pipeline = c.pipeline; schedule = c.schedule; boxes = c.boxes; words = c.words.items } };
+    ghost view = { λ c. record { pipeline = c.pipeline; schedule = c.schedule; boxes = c.boxes; words = c.words.items; ends = c.ends.items } };
 
-    ghost invariant = { λ c. IsHeld (record { pipeline = c.pipeline; schedule = c.schedule; boxes = c.boxes; words = c.words.items }) };
+    ghost invariant = { λ c. IsHeld (record { pipeline = c.pipeline; schedule = c.schedule; boxes = c.boxes; words = c.words.items; ends = c.ends.items }) };
 }
 
 /// The output's picture in a box that begins at an address.
@@ -143,5 +146,26 @@ impl Compiled {
             words.push(ticket + 4)?;
         }
         Ok(words)
+    }
+
+    /// Where the data and the code of every image lie, as a text: a fact a line, with the names that the algorithm's
+    /// text gives (`specs/Map.antt`, and `hrv_map`).
+    ///
+    /// # Errors
+    ///
+    /// Memory ran out.
+    pub fn map(&self, alloc: Global, algorithm: &str) -> Result<Vec<u8>, AllocError>
+        ensures is { IfOk result (λ text. text.items ≡ map_text algorithm.now self.now.pipeline self.now.schedule self.now.boxes self.now.ends) }
+        ensures phases { IfOk result (λ text. ArePhases self.now) }
+    {
+        let text = hrv_map::map_text(
+            alloc,
+            algorithm,
+            &self.pipeline,
+            &self.schedule,
+            &self.boxes,
+            self.ends.as_slice(),
+        )?;
+        Ok(text)
     }
 }

@@ -8,7 +8,7 @@ ghost use Rattle.bounds_weights.specs.Weight.{most_weight, weight};
 ghost use Rattle.bounds.specs.Verdict.{inferred};
 ghost use Rattle.memory.specs.Addresses.{most_words};
 ghost use Rattle.task_code_scalar.specs.Faults.{LieLow};
-ghost use Rattle.vector_codegen.specs.Programs.{HasFewTasks, HasRegisters, IsProgram, words_asked};
+ghost use Rattle.vector_codegen.specs.Programs.{HasFewTasks, HasRegisters, IsProgramTo, words_asked};
 ghost use Rattle.hrv_compiler.specs.declared.faults.CompileFault.TheVariants as faults;
 ghost use Rattle.hrv_compiler.specs.Compiled.{IsCompiled, Means};
 ghost use Rattle.hrv_compiler.specs.inner.Held.{AreWordsOf};
@@ -27,7 +27,7 @@ use schedule::{Schedule, read};
 use std::alloc::Global;
 use task_code_scalar::CodeFault;
 use task_code_scalar::places::Places;
-use vector_codegen::generate;
+use vector_codegen::{Program, generate};
 
 /// The boxes of a pipeline under a schedule, or the first fault that stands.
 fn judged(alloc: Global, pipeline: &Pipeline, schedule: &Schedule) -> Result<Boxes, CompileFault>
@@ -46,42 +46,43 @@ fn judged(alloc: Global, pipeline: &Pipeline, schedule: &Schedule) -> Result<Box
     Ok(boxes)
 }
 
-/// The words of phases that there are registers for, and that ask for no more words than a text may have.
+/// The program of phases that there are registers for, and that ask for no more words than a text may have.
 #[tactic(auto, using(crate::proofs::Rooms::not_long))]
-fn generated(alloc: Global, phases: &[Phase], places: &Places) -> Result<Vec<u32>, CompileFault>
+fn generated(alloc: Global, phases: &[Phase], places: &Places) -> Result<Program, CompileFault>
     requires low { LieLow places.now.frames }
     requires registers { AllByRecursion (HasRegisters places.now) phases.now }
     requires tasks { AllByRecursion HasFewTasks phases.now }
     requires short { words_asked phases.now ≤ most_words }
-    ensures ok { IfOk result (λ words. IsProgram places.now phases.now words.items) }
+    ensures ok { IfOk result (λ program. IsProgramTo places.now phases.now program.words.items program.ends.items) }
     ensures err { IfErr result (λ fault. fault ≡ faults.Memory) }
 {
     match generate(alloc, phases, places) {
-        Ok(words) => Ok(words),
+        Ok(program) => Ok(program),
         Err(CodeFault::OutOfMemory(_)) => Err(CompileFault::Memory),
         Err(CodeFault::TooLong) => unreachable!(),
         Err(CodeFault::TooDeep) => unreachable!(),
     }
 }
 
-/// The words of the phases of a pipeline under a schedule whose expressions need no more registers than code is made for.
+/// The program of the phases of a pipeline under a schedule whose expressions need no more registers than code is made
+/// for.
 fn words_of(
     alloc: Global,
     pipeline: &Pipeline,
     schedule: &Schedule,
     boxes: &Boxes,
-) -> Result<Vec<u32>, CompileFault>
+) -> Result<Program, CompileFault>
     requires accepted { IsAccepted pipeline.now schedule.now }
     requires boxes { inferred pipeline.now schedule.now ≡ Ok boxes.now }
     requires light { weight pipeline.now schedule.now ≤ most_weight }
     requires shallow { is_too_deep (needed pipeline.now schedule.now) ≡ false }
-    ensures ok { IfOk result (λ words. AreWordsOf pipeline.now schedule.now boxes.now words.items) }
+    ensures ok { IfOk result (λ program. AreWordsOf pipeline.now schedule.now boxes.now program.words.items program.ends.items) }
     ensures err { IfErr result (λ fault. fault ≡ faults.Memory) }
 {
     let phases = lower(alloc, pipeline, schedule, boxes)?;
     let places = places(alloc, pipeline, schedule, boxes)?;
-    let words = generated(alloc, phases.as_slice(), &places)?;
-    Ok(words)
+    let program = generated(alloc, phases.as_slice(), &places)?;
+    Ok(program)
 }
 
 /// The program of a pipeline under a schedule, or the first fault that stands.
@@ -93,12 +94,13 @@ fn built(alloc: Global, pipeline: Pipeline, schedule: Schedule) -> Result<Compil
     ensures err { IfErr result (spec.IsFirst (spec.by_weight pipeline schedule (weight pipeline schedule))) }
 {
     let boxes = judged(alloc, &pipeline, &schedule)?;
-    let words = words_of(alloc, &pipeline, &schedule, &boxes)?;
+    let Program { words, ends } = words_of(alloc, &pipeline, &schedule, &boxes)?;
     Ok(Compiled {
         pipeline,
         schedule,
         boxes,
         words,
+        ends,
     })
 }
 

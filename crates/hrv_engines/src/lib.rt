@@ -12,6 +12,8 @@
 //!   what [`questions`] ask, over `specs/BlameQuestions.antt`.
 //! - [`drawing`]: an algorithm and input pictures become the reference picture; [`picture_bytes`], over `specs/Drawing.antt`.
 //! - [`compiling`]: an algorithm, a schedule and input pictures become an image; [`compile_bytes`], over `specs/Compile.antt`.
+//! - [`mapping`]: an algorithm and a schedule become the text of where their images' data and code lie; [`map_bytes`],
+//!   over `specs/Map.antt`.
 //! - [`explain`]: a refusal is explained; [`explain_bytes`], and the version is told; [`version_bytes`].
 //! - [`devices`]: what is read from and written to ([`Source`], [`Sink`]).
 //! - [`faults`]: why an engine gives no answer ([`Fault`]).
@@ -33,6 +35,7 @@ pub mod drawing;
 mod dumps;
 pub mod explain;
 pub mod faults;
+pub mod mapping;
 mod pictures;
 pub mod questions;
 pub mod renew;
@@ -49,6 +52,7 @@ pub use crate::dis::{dis_addresses_bytes, dis_bytes};
 pub use crate::drawing::picture_bytes;
 pub use crate::explain::{explain_bytes, version_bytes};
 pub use crate::faults::{Fault, Refusal};
+pub use crate::mapping::map_bytes;
 pub use crate::questions::{BlameFault, Question};
 pub use crate::renew::renew_bytes;
 pub use crate::replay::replay_bytes;

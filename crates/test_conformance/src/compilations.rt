@@ -1,11 +1,11 @@
 //! Compiled images: what the rules say of their bytes, and the pictures that they leave.
 
 use crate::algorithms::push_bytes;
-use crate::commands::{pictures_of, push_digits, push_stored, texts_of};
+use crate::commands::{pictures_of, push_answer, push_digits, push_stored, texts_of};
 use crate::devices::devices_of;
 use crate::failures::Failure;
 use disassembler::write_lines;
-use hrv_engines::{Fault, compile_bytes, replay_bytes};
+use hrv_engines::{Fault, compile_bytes, map_bytes, replay_bytes};
 use loader::{Image, read_image};
 use std::alloc::{AllocError, Global};
 use test_cases::Part;
@@ -62,6 +62,41 @@ pub fn push_accesses(alloc: Global, parts: &[Part], out: &mut String) -> Result<
     push_count(listing, "vse32.v", out)?;
     push_count(listing, "vsuxei32.v", out)?;
     push_lanes(alloc, &page.bytes, out)
+}
+
+/// The map of an algorithm under a schedule, but for where the code of phases lies.
+pub fn push_map(alloc: Global, parts: &[Part], out: &mut String) -> Result<(), Failure> {
+    let (parts, devices) = devices_of(parts);
+    let [algorithm, schedule] = parts else {
+        return Err(Failure::Malformed("not two parts"));
+    };
+    let algorithm = algorithm.bytes(alloc, "algorithm")?;
+    let schedule = schedule.bytes(alloc, "schedule")?;
+    let mut page = devices.page(alloc)?;
+    let answered = map_bytes(
+        alloc,
+        &mut devices.tape("algorithm", &algorithm)?,
+        &mut devices.tape("schedule", &schedule)?,
+        &mut page,
+    );
+    if answered.is_err() {
+        return push_answer(answered, &page, out);
+    }
+    let Ok(map) = str::from_utf8(&page.bytes) else {
+        return Err(Failure::Malformed("the map is no text"));
+    };
+    for line in map.lines() {
+        writeln!(out, "{}", without_code(line))?;
+    }
+    Ok(())
+}
+
+/// A line up to where it says code lies.
+fn without_code(line: &str) -> &str {
+    match line.split_once(" code ") {
+        Some((front, _)) => front,
+        None => line,
+    }
 }
 
 /// A mnemonic, and how many lines begin with it.

@@ -71,6 +71,10 @@ fn push_asked(invocation: &Invocation, out: &mut String) -> Result<(), AllocErro
             write!(out, "compile {algorithm} by {schedule} to {image} with")?;
             push_inputs(inputs, out)
         }
+        Invocation::Map {
+            algorithm,
+            schedule,
+        } => writeln!(out, "map of {algorithm} by {schedule}"),
         Invocation::Run {
             image,
             log,

@@ -26,6 +26,7 @@
 //! | `run` | `image`; `turns`: how many a hart makes at most | the log of one hart, in hexadecimal, and the dump |
 //! | `resume` | `image`, `log`; `turns` | the same, from where a log of one hart ends |
 //! | `compile` | `algorithm`, `schedule`, any number of `picture` | the image but for its words, one hart's picture |
+//! | `map` | `algorithm`, `schedule` | the map, but for where the code of phases lies |
 //! | `accesses` | as `compile` | how many vector loads and stores are listed, and one hart's lanes at its end |
 //! | `threads` | `image`, `harts`, `turns` | of a run by threads the lines of the harts and of the picture |
 //! | `share` | `harts`, `turns`, and those of `compile` | the same of the compiled image |
@@ -70,7 +71,7 @@ use crate::commands::{
     push_addresses, push_blame, push_drawing, push_explained, push_image, push_lines, push_renewal,
     push_replay, push_talk,
 };
-use crate::compilations::{push_accesses, push_compilation};
+use crate::compilations::{push_accesses, push_compilation, push_map};
 use crate::failures::Failure;
 use crate::invocations::push_invocation;
 use crate::runs::{push_resumption, push_run};
@@ -161,6 +162,7 @@ fn push_answer(
         "run" => push_run(rt, alloc, parts, out),
         "resume" => push_resumption(rt, alloc, parts, out),
         "compile" => push_compilation(alloc, parts, out),
+        "map" => push_map(alloc, parts, out),
         "accesses" => push_accesses(alloc, parts, out),
         "threads" => push_threads(rt, alloc, parts, out),
         "share" => push_shared(rt, alloc, parts, out),

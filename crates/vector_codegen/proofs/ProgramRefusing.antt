@@ -65,11 +65,11 @@ asked-some (phase ∷ others) = let r = asked-some others in omega (arith, r)
 pub many-phases : (phases : List Phase) → 16384 < length phases → AllByRecursion HasFewTasks phases → most_words < words_asked phases
 many-phases phases many few = let s = asked-some phases in omega (arith, many, s)
 
-pub many-words : (places : Places) (phases : List Phase) (start words : List ℕ) → start ≡ [] → EmitsPhases start words places 0 phases
+pub many-words : (places : Places) (phases : List Phase) (start words begin ends : List ℕ) → start ≡ [] → EmitsPhases start words begin ends places 0 phases
     → 262144 < length words → AllByRecursion HasFewTasks phases
     → most_words < words_asked phases
-many-words places phases start words e0 x many few =
-    let made = subst (λ (z : List ℕ). EmitsPhases z words places 0 phases) e0 x in
+many-words places phases start words begin ends e0 x many few =
+    let made = subst (λ (z : List ℕ). EmitsPhases z words begin ends places 0 phases) e0 x in
     let n = emits-length words (program 0 made.parts) made.emits in
     let s = parts-short places 0 phases made.parts made.are_parts in
     omega (arith, many, n, s)

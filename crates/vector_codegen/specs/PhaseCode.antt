@@ -8,7 +8,7 @@
 --                     bgeu x12, x16, door          no task has it
 --                     ..                           the task's code
 --                     jal x0, draw
-use Rattle.std.specs.Prelude.{ℕ, zero, suc, ◌+◌, ◌*◌, Bool, true, false, List, [], ◌∷◌, ◌++◌, length, ℤ, pos, negsuc}
+use Rattle.std.specs.Prelude.{ℕ, zero, suc, ◌+◌, ◌*◌, ◌==◌, Bool, true, false, List, [], ◌∷◌, ◌++◌, length, ℤ, pos, negsuc}
 use Rattle.rv_insn.specs.declared.instructions.Insn.{Insn}
 use Rattle.rv_insn.specs.declared.instructions.Insn.TheVariants.{AmoaddW, Branch, Load, Jal, Ecall}
 use Rattle.rv_insn.specs.declared.operations.BranchOp.TheVariants.{Bgeu, Bne}
@@ -54,6 +54,13 @@ abbrev pub program : ℕ → List Part → List Insn
 program number [] = []
 program number (part ∷ []) = phase_code true (ticket_word number) part
 program number (part ∷ other ∷ others) = phase_code false (ticket_word number) part ++ program (suc number) (other ∷ others)
+
+-- where the code of each ends in words, where the first of them has this number and begins behind so many words
+unfoldable pub ends_from : ℕ → ℕ → List Part → List ℕ
+ends_from number first [] = []
+ends_from number first (part ∷ parts) =
+    (first + length (phase_code (length parts == 0) (ticket_word number) part))
+    ∷ ends_from (suc number) (first + length (phase_code (length parts == 0) (ticket_word number) part)) parts
 
 -- ---- addresses
 

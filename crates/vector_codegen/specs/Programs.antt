@@ -15,7 +15,7 @@ use Rattle.task_code_scalar.specs.Faults.{IsFault, LieLow, HasRoom}
 use Rattle.task_code_scalar.specs.Words.{Emits}
 use Rattle.task_code.specs.Tasks.{task_size}
 use Rattle.task_code_statements.specs.Tasks.{DoesTask}
-use Rattle.vector_codegen.specs.PhaseCode.{Part, program}
+use Rattle.vector_codegen.specs.PhaseCode.{Part, ends_from, program}
 
 -- It has the phase's tasks, and its instructions do each of them, where buffers lie so, with the ticket of the phase's number; they are no more than
 -- a task asks for.
@@ -42,6 +42,11 @@ pub record IsProgram (places : Places) (phases : List Phase) (words : List ℕ) 
   pub emits : Emits [] words (program 0 parts)
   pub few_tasks : AllByRecursion HasFewTasks phases
   pub few : length words ≤ most_words
+
+-- such words, with where the code of each phase ends in them
+pub record IsProgramTo (places : Places) (phases : List Phase) (words ends : List ℕ) : Type 0 where
+  pub program : IsProgram places phases words
+  pub ends_are : ends ≡ ends_from 0 0 program.parts
 
 -- ---- how long it is
 

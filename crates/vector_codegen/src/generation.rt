@@ -1,15 +1,15 @@
 //! The words of phases, one behind the other.
 
-ghost use Rattle.std.specs.Prelude.{◌≡◌, ◌+◌, ◌<◌, ◌≤◌, OnOk, IfErr, IfOk, length};
+ghost use Rattle.std.specs.Prelude.{◌≡◌, ◌+◌, ◌<◌, ◌≤◌, ◌++◌, ◌∷◌, [], OnOk, IfErr, IfOk, length};
 ghost use Rattle.std.specs.List.{AllByRecursion};
 ghost use Rattle.vector_codegen_sharing.specs.Turns.{ticket_word};
 ghost use Rattle.vector_codegen.specs.Programs as spec;
-ghost use Rattle.vector_codegen.specs.inner.Emitting.{EmitsPhase, EmitsPhases, IsPhaseAtFault};
+ghost use Rattle.vector_codegen.specs.inner.Emitting.{EmitsPhase, EmitsPhases, IsEnd, IsPhaseAtFault};
 
 use crate::emit_phase;
 use loop_ir::statements::Phase;
 use memory::{DATA_START, MOST_WORDS};
-use std::alloc::Global;
+use std::alloc::{AllocError, Global};
 use task_code::emit;
 use task_code_scalar::CodeFault;
 use task_code_scalar::places::Places;
@@ -53,16 +53,25 @@ fn push_phase(
     Ok(())
 }
 
-/// Appends the words of phases, the first of which has this number.
+/// Appends where the code of a phase ends.
+fn push_end(ends: &mut Vec<usize>, end: usize) -> Result<(), AllocError>
+    ensures { OnOk result (ends.new.items ≡ ends.old.items ++ end ∷ []) }
+{
+    ends.push(end)?;
+    Ok(())
+}
+
+/// Appends the words of phases, the first of which has this number, and where the code of each ends.
 fn push_phases(
     alloc: Global,
     code: &mut Vec<u32>,
+    ends: &mut Vec<usize>,
     places: &Places,
     number: u32,
     phases: &[Phase],
 ) -> Result<(), CodeFault>
     requires { number + length phases.now ≤ 16384 }
-    ensures emits { OnOk result (EmitsPhases code.old.items code.new.items places.now number phases.now) }
+    ensures emits { OnOk result (EmitsPhases code.old.items code.new.items ends.old.items ends.new.items places.now number phases.now) }
     ensures few { OnOk result (AllByRecursion spec.HasFewTasks phases.now) }
     ensures err { IfErr result (spec.ArePhasesAtFault places.now phases.now) }
 {
@@ -70,28 +79,53 @@ fn push_phases(
         return Ok(());
     };
     push_phase(alloc, code, places, number, phase, others.is_empty())?;
-    push_phases(alloc, code, places, number + 1, others)?;
+    push_end(ends, code.len())?;
+    push_phases(alloc, code, ends, places, number + 1, others)?;
     Ok(())
 }
 
-/// The words of the program that phases make, where buffers lie so: whichever instructions stand for a task, they do it
-/// (`specs/Programs.antt`).
+/// Appends numbers that fit words.
+fn push_ends(narrow: &mut Vec<u32>, ends: &[usize]) -> Result<(), AllocError>
+    requires { AllByRecursion IsEnd ends.now }
+    ensures { OnOk result (narrow.new.items ≡ narrow.old.items ++ ends.now) }
+{
+    let [end, others @ ..] = ends else {
+        return Ok(());
+    };
+    narrow.push(*end as u32)?;
+    push_ends(narrow, others)?;
+    Ok(())
+}
+
+/// The words of a program, and where the code of each phase ends in them.
+#[derive(Drop)]
+pub struct Program {
+    pub words: Vec<u32>,
+    /// The place behind the last word of each phase, from 0.
+    pub ends: Vec<u32>,
+}
+
+/// The words of the program that phases make, where buffers lie so, and where the code of each phase ends: whichever
+/// instructions stand for a task, they do it (`specs/Programs.antt`).
 ///
 /// # Errors
 ///
 /// Memory ran out; the phases ask for more words than a text may have, or one has more than 2^31 tasks; or an expression
 /// or a nest of loops has no registers left.
-pub fn generate(alloc: Global, phases: &[Phase], places: &Places) -> Result<Vec<u32>, CodeFault>
-    ensures ok { IfOk result (λ words. spec.IsProgram places.now phases.now words.items) }
+pub fn generate(alloc: Global, phases: &[Phase], places: &Places) -> Result<Program, CodeFault>
+    ensures ok { IfOk result (λ program. spec.IsProgramTo places.now phases.now program.words.items program.ends.items) }
     ensures err { IfErr result (spec.ArePhasesAtFault places.now phases.now) }
 {
     if phases.len() > MOST_PHASES {
         return Err(CodeFault::TooLong);
     }
     let mut code = Vec::new(alloc);
-    push_phases(alloc, &mut code, places, 0, phases)?;
+    let mut places_of_ends = Vec::new(alloc);
+    push_phases(alloc, &mut code, &mut places_of_ends, places, 0, phases)?;
     if code.len() > MOST_WORDS {
         return Err(CodeFault::TooLong);
     }
-    Ok(code)
+    let mut ends = Vec::new(alloc);
+    push_ends(&mut ends, places_of_ends.as_slice())?;
+    Ok(Program { words: code, ends })
 }

@@ -1,7 +1,7 @@
 //! The words of a program that computes a pipeline's phases, one behind the other: the code around that of their tasks.
 //!
-//! - [`generate`]: the words of a program (`specs/Programs.antt`), and [`program_laws`]: they have the program at the beginning of the
-//!   text, and how many they are.
+//! - [`generate`]: the words of a program, with where the code of each phase ends (`specs/Programs.antt`), and
+//!   [`program_laws`]: they have the program at the beginning of the text, and how many they are.
 //! - [`emit_phase`]: appends the words of a phase (`specs/PhaseCode.antt`).
 //! - [`phase_laws`]: where each task's code does its task, such a program shares its work as the promises of
 //!   `vector_codegen_sharing` on every list of turns ask (`specs/Sharing.antt`).
@@ -12,7 +12,7 @@ pub mod phase_laws;
 mod phases;
 pub mod program_laws;
 
-pub use crate::generation::generate;
+pub use crate::generation::{Program, generate};
 pub use crate::phase_laws::programs_share;
 pub use crate::phases::emit_phase;
 pub use crate::program_laws::{programs_are_short, programs_stand};

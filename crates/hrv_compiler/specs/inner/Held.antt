@@ -1,20 +1,22 @@
 -- What a compiled program keeps beside what is promised of it: its words are those of its phases. This project's own.
-use Rattle.std.specs.Prelude.{ℕ, List, length}
+use Rattle.std.specs.Prelude.{◌≡◌, ℕ, List, length}
 use Rattle.halide_pipeline.specs.Pipelines.{Pipeline}
 use Rattle.schedule.specs.declared.schedules.Schedule.{Schedule}
 use Rattle.bounds.specs.declared.verdict.Boxes.{Boxes}
 use Rattle.loop_ir.specs.declared.statements.Phase.{Phase}
 use Rattle.lowering.specs.Lowered.{AreLowered}
 use Rattle.vector_codegen_laws.specs.Places.{places_of}
+use Rattle.vector_codegen.specs.PhaseCode.{ends_from}
 use Rattle.vector_codegen.specs.Programs.{IsProgram}
 use Rattle.hrv_compiler.specs.Compiled.{CompiledContents, IsCompiled}
 
--- The words are of a program that does the phases of a pipeline under a schedule, where the layout has the buffers.
-pub record AreWordsOf (pipeline : Pipeline) (schedule : Schedule) (boxes : Boxes) (words : List ℕ) : Type 0 where
+-- The words are of a program that does the phases of a pipeline under a schedule, where the layout has the buffers, and the code of each ends here.
+pub record AreWordsOf (pipeline : Pipeline) (schedule : Schedule) (boxes : Boxes) (words ends : List ℕ) : Type 0 where
   pub phases : List Phase
   pub are_lowered : AreLowered pipeline schedule boxes (length pipeline.funcs) phases
   pub is_program : IsProgram (places_of pipeline schedule boxes.funcs boxes.layout) phases words
+  pub ends_are : ends ≡ ends_from 0 0 is_program.parts
 
 pub record IsHeld (own : CompiledContents) : Type 0 where
   pub compiled : IsCompiled own
-  pub words_are : AreWordsOf own.pipeline own.schedule own.boxes own.words
+  pub words_are : AreWordsOf own.pipeline own.schedule own.boxes own.words own.ends

@@ -1,5 +1,5 @@
 -- Words of phases that are appended, and why those of one aren't. This project's own.
-use Rattle.std.specs.Prelude.{◌<◌, ℕ, Bool, List}
+use Rattle.std.specs.Prelude.{◌≡◌, ◌<◌, ◌≤◌, ◌++◌, ℕ, Bool, List, length}
 use Rattle.memory.specs.Addresses.{most_words}
 use Rattle.loop_ir.specs.declared.statements.Phase.{Phase}
 use Rattle.vector_codegen_sharing.specs.Turns.{ticket_word}
@@ -7,7 +7,7 @@ use Rattle.task_code_scalar.specs.declared.CodeFault.{CodeFault}
 use Rattle.task_code_scalar.specs.declared.places.Places.{Places}
 use Rattle.task_code_scalar.specs.Faults.{IsFault, LieLow}
 use Rattle.task_code_scalar.specs.Words.{Emits}
-use Rattle.vector_codegen.specs.PhaseCode.{Part, phase_code, program}
+use Rattle.vector_codegen.specs.PhaseCode.{Part, ends_from, phase_code, program}
 use Rattle.vector_codegen.specs.Programs.{ArePartsOf, HasFewTasks, HasRegisters, IsPartOf, phase_size}
 
 -- of the phase with this number
@@ -16,11 +16,16 @@ pub record EmitsPhase (old new : List ℕ) (places : Places) (number : ℕ) (is_
   pub is_part : IsPartOf places number phase part
   pub emits : Emits old new (phase_code is_last (ticket_word number) part)
 
--- of phases, the first of which has this number
-pub record EmitsPhases (old new : List ℕ) (places : Places) (number : ℕ) (phases : List Phase) : Type 0 where
+-- of phases, the first of which has this number; and to a list is added where the code of each ends
+pub record EmitsPhases (old new ends later : List ℕ) (places : Places) (number : ℕ) (phases : List Phase) : Type 0 where
   pub parts : List Part
   pub are_parts : ArePartsOf places number phases parts
   pub emits : Emits old new (program number parts)
+  pub ends_are : later ≡ ends ++ ends_from number (length old) parts
+
+-- It fits a word: no text has more words.
+abbrev pub IsEnd : ℕ → Type 0
+IsEnd end = end ≤ most_words
 
 -- the phase asks for more words than a text may have, or has too many tasks; or it has no registers
 abbrev pub IsPhaseAtFault : Places → Phase → CodeFault → Type 0

@@ -1,6 +1,9 @@
-use Rattle.std.proofs.Common.{◌<◌, ◌≤◌, ◌∙◌, subst}
+use Rattle.std.proofs.Common.{◌<◌, ◌≤◌, ◌++◌, ◌∙◌, ℕ, List, ap, sym, subst}
+use Rattle.std.specs.List.{AllByRecursion}
+use Rattle.vector_codegen.specs.Programs.{IsProgramTo}
+use Rattle.vector_codegen.specs.inner.Emitting.{IsEnd}
 use Rattle.vector_codegen.proofs.ProgramRefusing.{many-phases, many-words}
-use Rattle.vector_codegen.proofs.ProgramStanding.{program-made}
+use Rattle.vector_codegen.proofs.ProgramStanding.{ends-fit, program-made}
 use Rattle.vector_codegen.proofs.generation.generate.Goals as goal
 
 pub returns-then-phases-gt-MOST_PHASES-clause-err : goal.returns-then-phases-gt-MOST_PHASES-clause-err
@@ -8,12 +11,22 @@ returns-then-phases-gt-MOST_PHASES-clause-err c = many-phases c.args.phases.now 
 
 pub returns-then-len-gt-MOST_WORDS-clause-err : goal.returns-then-len-gt-MOST_WORDS-clause-err
 returns-then-len-gt-MOST_WORDS-clause-err c =
-    many-words c.args.places.now c.args.phases.now c.new-code.result.items c.push_phases.new.code.items c.new-code.ensures.items
+    many-words c.args.places.now c.args.phases.now c.new-code.result.items c.push_phases.new.code.items c.new-places_of_ends.result.items c.push_phases.new.ends.items c.new-code.ensures.items
     c.in_ok-push_phases.ensures.emits
     (subst (λ n. 262144 < n) (c.len.ensures ∙ c.push_phases.new.code.ok.0) c.if-len-gt-MOST_WORDS.true)
 
+pub push_ends-requires : goal.push_ends-requires
+push_ends-requires c =
+    subst (λ (l : List ℕ). AllByRecursion IsEnd l) (sym c.as_slice.ensures.value)
+    (ends-fit c.args.places.now c.args.phases.now c.new-code.result.items c.push_phases.new.code.items c.new-places_of_ends.result.items
+    c.push_phases.new.ends.items c.new-code.ensures.items c.new-places_of_ends.ensures.items c.in_ok-push_phases.ensures.emits
+    (subst (λ n. n ≤ 262144) (c.len.ensures ∙ c.push_phases.new.code.ok.0) c.if-len-gt-MOST_WORDS.false))
+
 pub returns-clause-ok : goal.returns-clause-ok
 returns-clause-ok c =
-    program-made c.args.places.now c.args.phases.now c.new-code.result.items c.push_phases.new.code.items c.new-code.ensures.items
+    subst (λ (l : List ℕ). IsProgramTo c.args.places.now c.args.phases.now c.push_phases.new.code.items l)
+    (sym (c.in_ok-push_ends.ensures ∙ ap (λ (l : List ℕ). l ++ c.as_slice.result.now) c.new-ends.ensures.items ∙ c.as_slice.ensures.value))
+    (program-made c.args.places.now c.args.phases.now c.new-code.result.items c.push_phases.new.code.items c.new-places_of_ends.result.items
+    c.push_phases.new.ends.items c.new-code.ensures.items c.new-places_of_ends.ensures.items
     c.in_ok-push_phases.ensures.emits c.in_ok-push_phases.ensures.few
-    (subst (λ n. n ≤ 262144) (c.len.ensures ∙ c.push_phases.new.code.ok.0) c.if-len-gt-MOST_WORDS.false)
+    (subst (λ n. n ≤ 262144) (c.len.ensures ∙ c.push_phases.new.code.ok.0) c.if-len-gt-MOST_WORDS.false))

@@ -1,0 +1,23 @@
+use Rattle.std.proofs.Common.{◌≡◌, ◌∙◌, ℕ, List, ap, arith, subst}
+use Rattle.hrv_map.specs.Maps.{map_text}
+use Rattle.hrv_compiler.specs.Compiled.{CompiledContents}
+use Rattle.hrv_compiler.specs.inner.Held.{IsHeld}
+use Rattle.hrv_compiler.proofs.Low.{few_phases}
+use Rattle.hrv_compiler.proofs.Map.{are-phases}
+use Rattle.hrv_compiler.proofs.compiled.Compiled.map.Goals as goal
+
+pub map_text-requires-clause-accepted : goal.map_text-requires-clause-accepted
+map_text-requires-clause-accepted c = c.self.invariant.compiled.accepted
+
+pub map_text-requires-clause-phases : goal.map_text-requires-clause-phases
+map_text-requires-clause-phases c =
+    let l = few_phases c.self.inside.pipeline c.self.inside.schedule c.self.inside.boxes c.self.invariant.compiled.inferred_is in omega (arith, l)
+
+pub returns-clause-is : goal.returns-clause-is
+returns-clause-is c =
+    subst (λ (own : CompiledContents). c.in_ok-text.text.items ≡ map_text c.args.algorithm.now own.pipeline own.schedule own.boxes own.ends) c.self.view_is
+    (c.in_ok-text.ensures
+    ∙ ap (λ (ends : List ℕ). map_text c.args.algorithm.now c.self.inside.pipeline c.self.inside.schedule c.self.inside.boxes ends) c.as_slice.ensures.value)
+
+pub returns-clause-phases : goal.returns-clause-phases
+returns-clause-phases c = are-phases c.args.self.now (subst IsHeld c.self.view_is c.self.invariant)
