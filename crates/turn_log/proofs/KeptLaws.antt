@@ -14,7 +14,7 @@ use Rattle.turn_log.specs.LogSpelling.{begins_with, expanded, runs_of, run_bytes
 use Rattle.turn_log.specs.inner.Kept.{runs_from, turns_of, is_of, with_run, IsRun, AreRuns, IsKept}
 use Rattle.turn_log.specs.RunAt.{ahead, first_run, run_at}
 use Rattle.turn_log.specs.declared.runs.Run.{Run}
-use Rattle.turn_log.specs.declared.stretches.Stretch.{Stretch}
+use Rattle.turn_log.specs.inner.Stretches.{Stretch}
 use Rattle.turn_log.proofs.RunAtLaws.{first_run-within}
 use Rattle.turn_log.proofs.RunLaws.{runs_of-expanded, IsLog-push_run, count_of-push_run, count_of-none}
 
@@ -80,6 +80,28 @@ run_at-found harts place i runs are point =
     let n : place ≡ place - 0 = omega arith in
     ap (λ (k : ℕ). first_run (drop k (turns_of runs))) n
     ∙ found harts 0 place i runs none are (omega arith) (λ j lt. point.0 j none (omega arith) lt) (λ j ge lt. point.1 j none ge lt)
+
+-- ---- where a search ends
+
+pub same_at : (runs : List Stretch) (place : ℕ) (d e : Stretch) → place < length runs → get_or runs place d ≡ get_or runs place e
+same_at [] place d e lt = absurd (omega arith)
+same_at (run ∷ runs) zero d e lt = refl
+same_at (run ∷ runs) (suc place) d e lt = same_at runs place d e (omega arith)
+
+-- a run that ends behind a place, where the one before it, if there is one, ends there or before
+pub point-at : (runs : List Stretch) (k place : ℕ) (d : Stretch) → IsNonDecreasingBy (λ (run : Stretch). run.end) runs → place < length runs → k < (get_or runs place d).end
+    → ((j : ℕ) → j < place → (get_or runs (place - 1) d).end ≤ k) → IsPartitionPoint (λ (run : Stretch). run.end ≤ k) (λ (run : Stretch). k < run.end) runs place
+point-at runs k place d rise within behind before = (
+  λ j e _ lt.
+      let same = ap (λ (run : Stretch). run.end) (same_at runs j e d (omega (arith, lt, within))) in
+      let up = rise j (place - 1) d (omega (arith, lt)) (omega (arith, lt, within)) in
+      let ends = before j lt in
+      omega (arith, same, up, ends),
+  λ j e ge lt.
+      let same = ap (λ (run : Stretch). run.end) (same_at runs j e d lt) in
+      let up = rise place j d ge lt in
+      omega (arith, same, up, behind),
+)
 
 -- ---- where the runs end
 

@@ -1,2 +1,3 @@
 pub mod SoFar
 pub mod Kept
+pub mod Stretches

@@ -9,6 +9,7 @@
 //! - [`laws`]: what the spellings and the runs of a log say, for callers ([`one_spelling`], [`runs_stand`]).
 #![tactic(auto)]
 
+mod finding;
 pub mod laws;
 pub mod log_faults;
 mod log_reading;

@@ -30,12 +30,13 @@ pub fn push_runs(out: &mut Vec<u8>, runs: &[Stretch])
     let mut start = 0;
     let mut rest = runs;
     while let [stretch, others @ ..] = rest {
+        let end = stretch.end();
         let run = Run {
-            hart: stretch.hart,
-            length: stretch.end - start,
+            hart: stretch.hart(),
+            length: end - start,
         };
         out.extend_from_slice(&run.to_bytes()).unwrap();
-        start = stretch.end;
+        start = end;
         rest = others;
     }
 }

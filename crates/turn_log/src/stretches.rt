@@ -1,37 +1,58 @@
 //! Runs as a log keeps them.
 
-ghost use Rattle.std.specs.Prelude.{◌≡◌, ℕ, ◌-◌, ◌<◌, ◌≤◌, length, slice_get, false, OnOk, OnErr};
-ghost use Rattle.std.specs.List.Sorted.{IsNonDecreasingBy, IsPartitionPoint};
-ghost use Rattle.turn_log.specs.inner.Kept.{AreRuns, is_of, runs_from, turns_of, with_run};
-ghost use Rattle.turn_log.specs.RunAt.{run_at};
-ghost use Rattle.turn_log.specs.declared.stretches.Stretch.{Stretch as StretchState};
+ghost use Rattle.std.specs.Prelude.{◌≡◌, ℕ, ◌-◌, ◌<◌, ◌^◌, length, slice_get, false, OnOk, OnErr};
+ghost use Rattle.turn_log.specs.inner.Kept.{is_of, with_run};
 
 use std::alloc::AllocError;
+use std::marker::Model;
 
-/// A run of turns by its hart and by where it ends, so that the run of a turn is found by a search.
+/// A run of turns by its hart and by where it ends, so that the run of a turn is found by a search. Both stand in one
+/// word, the hart above the end, since a log can have a run for each of its turns.
 #[derive(Clone, Copy, Debug)]
 pub struct Stretch {
+    word: u64,
+}
+
+/// An end is below this. (All harts together have at most 2^43 turns.)
+const ENDS: u64 = 1 << 56;
+
+impl Model for Stretch {
+    ghost use Rattle.std.specs.Prelude.{◌+◌, ◌*◌, ◌/◌, ◌%◌, ◌^◌};
+    ghost use Rattle.turn_log.specs.inner.Stretches.{Stretch as StretchState, word_again};
+
+    ghost Value = { StretchState };
+
+    ghost view = { λ s. record { hart = s.word / 2 ^ 56; end = s.word % 2 ^ 56 } };
+
+    ghost inverse = { λ s. record { word = s.hart * 2 ^ 56 + s.end } };
+
+    ghost inverse_ok = { λ s h i. record { word = word_again s.word i } };
+}
+
+impl Stretch {
+    /// The run of a hart up to this end.
+    pub fn new(hart: u8, end: u64) -> Stretch
+        requires { end < 2 ^ 56 }
+        ensures { result ≡ record { hart = hart; end = end } }
+    {
+        Stretch {
+            word: u64::from(hart) * ENDS + end,
+        }
+    }
+
     /// The hart of each of the run's turns.
-    pub hart: u8,
+    pub fn hart(self) -> u8
+        ensures { result ≡ self.hart }
+    {
+        (self.word / ENDS) as u8
+    }
+
     /// How many turns there are up to the run's end, those of the runs before it with them.
-    pub end: u64,
-}
-
-/// The hart of the turn at an index, and how many turns there are from there to its run's end.
-pub fn find_run(runs: &[Stretch], k: u64) -> Option<(usize, u64)>
-    requires { (harts : ℕ) × AreRuns harts (runs_from 0 runs.now) }
-    ensures { result ≡ run_at (turns_of runs.now) k }
-{
-    let run = runs.get(place_of(runs, k))?;
-    Some((run.hart as usize, run.end - k))
-}
-
-/// How many of the runs end at an index or before it, where the ends rise.
-fn place_of(runs: &[Stretch], k: u64) -> usize
-    requires { IsNonDecreasingBy (λ (run : StretchState). run.end) runs.now }
-    ensures { IsPartitionPoint (λ (run : StretchState). run.end ≤ k) (λ run. k < run.end) runs.now result }
-{
-    runs.partition_point(|run| run.end <= k)
+    pub fn end(self) -> u64
+        ensures { result ≡ self.end }
+    {
+        self.word % ENDS
+    }
 }
 
 /// Whether the last of the runs is of the hart.
@@ -39,7 +60,7 @@ fn ends_with(runs: &[Stretch], hart: u8) -> bool
     ensures { result ≡ is_of (slice_get runs.now (length runs.now - 1)) hart }
 {
     match runs.last() {
-        Some(last) => last.hart == hart,
+        Some(last) => last.hart() == hart,
         None => false,
     }
 }
@@ -50,7 +71,7 @@ pub fn push_stretch(runs: &mut Vec<Stretch>, run: Stretch) -> Result<(), AllocEr
     ensures err { OnErr result (runs.new.items ≡ runs.old.items) }
     ensures opens { OnErr result (is_of (slice_get runs.old.items (length runs.old.items - 1)) run.hart ≡ false) }
 {
-    if ends_with(runs, run.hart) {
+    if ends_with(runs, run.hart()) {
         let last = runs.len() - 1;
         runs[last] = run;
         return Ok(());

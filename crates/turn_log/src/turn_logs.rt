@@ -10,10 +10,11 @@ ghost use Rattle.turn_log.specs.LogSpelling.{spelled, log_of, Answers};
 ghost use Rattle.turn_log.specs.RunAt.{run_at};
 ghost use Rattle.turn_log.specs.TurnLog.{LogState, IsLog, count_of, most_turns};
 
+use crate::finding::{Near, find_run};
 use crate::log_faults::LogFault;
 use crate::log_reading::read_log;
 use crate::log_writing::{header_bytes, push_runs};
-use crate::stretches::{Stretch, find_run, push_stretch};
+use crate::stretches::{Stretch, push_stretch};
 use std::alloc::{AllocError, Global};
 use std::marker::Model;
 
@@ -22,12 +23,13 @@ pub const MOST_TURNS: u64 = 1 << 40;
 
 /// A number of harts, from 1 to 8, and the turns that they made, each the number of its hart.
 ///
-/// A log takes memory by the run, 16 bytes for each stretch of turns of one hart, however long it is.
+/// A log takes memory by the run, 8 bytes for each stretch of turns of one hart, however long it is.
 #[derive(Debug, Drop)]
 pub struct TurnLog {
     harts: u8,
     totals: [u64; 8],
     runs: Vec<Stretch>,
+    near: Near,
 }
 
 impl Model for TurnLog {
@@ -52,6 +54,7 @@ impl TurnLog {
             harts: harts as u8,
             totals: [0; 8],
             runs: Vec::new(alloc),
+            near: Near::new(),
         }
     }
 
@@ -66,6 +69,7 @@ impl TurnLog {
             harts,
             totals: [0; 8],
             runs,
+            near: Near::new(),
         })
     }
 
@@ -82,7 +86,7 @@ impl TurnLog {
         ensures { result ≡ length self.now.turns }
     {
         match self.runs.last() {
-            Some(run) => run.end,
+            Some(run) => run.end(),
             None => 0,
         }
     }
@@ -107,7 +111,7 @@ impl TurnLog {
     pub fn run_at(&self, k: u64) -> Option<(usize, u64)>
         ensures { result ≡ run_at self.now.turns k }
     {
-        find_run(&self.runs, k)
+        find_run(&self.runs, k, &self.near)
     }
 
     /// How many of the turns are the hart's.
@@ -122,7 +126,7 @@ impl TurnLog {
         ensures { result ≡ slice_get self.now.turns (length self.now.turns - 1) }
     {
         let run = self.runs.last()?;
-        Some(run.hart as usize)
+        Some(run.hart() as usize)
     }
 
     /// Adds a turn at the end.
@@ -148,11 +152,7 @@ impl TurnLog {
         ensures opens { OnErr result (slice_get self.old.turns (length self.old.turns - 1) ≢ Some hart) }
     {
         let end = self.len() + k;
-        let run = Stretch {
-            hart: hart as u8,
-            end,
-        };
-        push_stretch(&mut self.runs, run)?;
+        push_stretch(&mut self.runs, Stretch::new(hart as u8, end))?;
         self.totals[hart] += k;
         Ok(())
     }

@@ -4,7 +4,7 @@ use Rattle.std.specs.Prelude.{◌≡◌, ℕ, ◌-◌, ◌<◌, ◌==◌, Bool, 
 use Rattle.turn_log.specs.TurnLog.{LogState, IsLog, count_of}
 use Rattle.turn_log.specs.LogSpelling.{begins_with, expanded}
 use Rattle.turn_log.specs.declared.runs.Run.{Run}
-use Rattle.turn_log.specs.declared.stretches.Stretch.{Stretch}
+use Rattle.turn_log.specs.inner.Stretches.{Stretch}
 
 -- the runs of the stretches behind so many turns
 abbrev pub runs_from : ℕ → List Stretch → List Run

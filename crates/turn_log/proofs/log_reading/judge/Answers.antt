@@ -1,9 +1,8 @@
-use Rattle.std.proofs.Common.{◌≡◌, ℕ, ◌+◌, ◌<◌, ◌≤◌, ◌-◌, false, eqb, List, length, Option, Some, ap, sym, ◌∙◌, arith}
+use Rattle.std.proofs.Common.{◌≡◌, ℕ, ◌-◌, false, eqb, List, length, Option, Some, ap, sym, ◌∙◌, arith}
 use Rattle.std.specs.Prelude.{slice_get}
 use Rattle.std.specs.Option.{option_eq}
 use Rattle.turn_log.specs.TurnLog.{count_of}
-use Rattle.turn_log.specs.LogSpelling.{begins_with, total_of}
-use Rattle.turn_log.proofs.RunLaws.{Follows}
+use Rattle.turn_log.specs.LogSpelling.{begins_with}
 use Rattle.turn_log.proofs.LogFields.{judged_again}
 use Rattle.turn_log.proofs.Judging.{begins_with-last, total_of-before, judged_too_many}
 use Rattle.turn_log.proofs.log_reading.judge.Goals as goal

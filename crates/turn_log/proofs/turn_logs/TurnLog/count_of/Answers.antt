@@ -1,4 +1,4 @@
-use Rattle.std.proofs.Common.{◌≡◌, ℕ, ap, sym, ◌∙◌, get_or, arith}
+use Rattle.std.proofs.Common.{◌≡◌, ap, ◌∙◌, get_or, arith}
 use Rattle.std.specs.Option.{unwrap_or}
 use Rattle.turn_log.specs.TurnLog.{LogState, count_of}
 use Rattle.turn_log.proofs.KeptLaws.{counted_at}

@@ -1,7 +1,6 @@
-use Rattle.std.proofs.Common.{◌≡◌, ℕ, ◌-◌, List, length, Some, None, slice_get, ap, sym, ◌∙◌, arith}
+use Rattle.std.proofs.Common.{◌≡◌, ℕ, ◌-◌, List, length, Some, None, slice_get, ap, sym, ◌∙◌}
 use Rattle.turn_log.specs.TurnLog.{LogState}
-use Rattle.turn_log.specs.inner.Kept.{turns_of}
-use Rattle.turn_log.specs.declared.stretches.Stretch.{Stretch}
+use Rattle.turn_log.specs.inner.Stretches.{Stretch}
 use Rattle.turn_log.proofs.KeptLaws.{last_of, last_at, last_hart-none, last_hart-some}
 use Rattle.turn_log.proofs.turn_logs.TurnLog.last_hart.Goals as goal
 
@@ -17,4 +16,4 @@ returns c =
     let runs = c.self.inside.runs.items in
     let value = c.in_ok-run.ensures.value ∙ ap (λ (rs : List Stretch). slice_get rs (length rs - 1)) c.deref.ensures.value in
     let some : last_of runs ≡ Some c.in_ok-run.run'.now = sym (last_at runs) ∙ sym value in
-    sym (last_hart-some c.self.inside.harts runs c.in_ok-run.run'.now c.self.invariant.runs some) ∙ ap (λ (l : LogState). slice_get l.turns (length l.turns - 1)) c.self.view_is
+    ap (λ (h : ℕ). Some h) c.hart.ensures ∙ sym (last_hart-some c.self.inside.harts runs c.in_ok-run.run'.now c.self.invariant.runs some) ∙ ap (λ (l : LogState). slice_get l.turns (length l.turns - 1)) c.self.view_is

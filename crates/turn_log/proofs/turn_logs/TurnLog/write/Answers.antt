@@ -4,7 +4,7 @@ use Rattle.std.proofs.lemmas.Result.{err_from_is_err_and}
 use Rattle.turn_log.specs.TurnLog.{LogState}
 use Rattle.turn_log.specs.inner.Kept.{turns_of, runs_from}
 use Rattle.turn_log.specs.LogSpelling.{runs_of, spelled, run_bytes, header}
-use Rattle.turn_log.specs.declared.stretches.Stretch.{Stretch}
+use Rattle.turn_log.specs.inner.Stretches.{Stretch}
 use Rattle.turn_log.proofs.RunLaws.{few_runs}
 use Rattle.turn_log.proofs.KeptLaws.{length-runs_from, runs_of-kept, spelled-kept}
 use Rattle.turn_log.proofs.LogLaws.{length-spelled}

@@ -1,7 +1,7 @@
 use Rattle.std.proofs.Common.{leb, leb-true, leb-false, rules}
 use Rattle.std.proofs.lemmas.List.Sorted.{IsPartitionPoint-from_clause, IsPartitionedBy-leb}
-use Rattle.turn_log.specs.declared.stretches.Stretch.{Stretch}
-use Rattle.turn_log.proofs.stretches.place_of.Goals as goal
+use Rattle.turn_log.specs.inner.Stretches.{Stretch}
+use Rattle.turn_log.proofs.finding.place_of.Goals as goal
 
 pub returns : goal.returns
 returns c =
