@@ -1,7 +1,8 @@
 //! One pass over the tokens of an expression, which judges it on the way. Nothing is called in itself, so
-//! a line may have any number of brackets.
+//! a line may have any number of brackets. Where the pass stands is changed in place, since moving it costs more than
+//! a token does.
 
-ghost use Rattle.std.specs.Prelude.{◌≡◌, ◌<◌, ◌≤◌, ◌+◌, ◌^◌, length, IfOk, IfSome, option_map};
+ghost use Rattle.std.specs.Prelude.{◌≡◌, ◌<◌, ◌≤◌, ◌+◌, ◌^◌, length, IfOk, IfSome, OnOk, None, Some, if◌then◌else◌, option_map};
 ghost use Rattle.line_text.specs.Reading.{Gives};
 ghost use Rattle.halide_parser_syntax.specs.declared.states.Bracket.TheVariants as brackets;
 ghost use Rattle.halide_parser_syntax.specs.inner.Machine as machine;
@@ -18,6 +19,7 @@ use halide_parser_syntax::{
 use line_text::ReadError;
 use sqlite_items::Items;
 use std::alloc::AllocError;
+use std::mem;
 
 fn nothing() -> Pending<Judged>
     ensures { result ≡ machine.nothing }
@@ -88,156 +90,92 @@ fn comparison_of(
     }
 }
 
-/// The whole of a bracket behind its last product.
+/// The whole of a bracket behind its last product; nothing stays pending.
 fn whole(
     reader: &Reader,
     scope: &Scope,
-    pending: Pending<Judged>,
+    pending: &mut Pending<Judged>,
     term: Judged,
 ) -> Result<Judged, AllocError>
-    ensures { IfOk result (λ judged. judged ≡ machine.whole (judging reader.now scope.now) pending term) }
+    ensures { IfOk result (λ judged. judged ≡ machine.whole (judging reader.now scope.now) pending.old term) }
 {
-    let Pending {
-        sum,
-        comparison,
-        ..
-    } = pending;
-    let value = sum_of(reader, scope, sum, term)?;
-    Ok(comparison_of(reader, scope, comparison, value)?)
+    let value = sum_of(reader, scope, pending.sum.take(), term)?;
+    Ok(comparison_of(reader, scope, pending.comparison.take(), value)?)
 }
 
 /// An operand joins the signs and the product before it.
 fn operand(
     reader: &Reader,
     scope: &Scope,
-    stack: Stack<Judged>,
-    pending: Pending<Judged>,
+    state: &mut State<Judged>,
     value: Judged,
-) -> Result<State<Judged>, AllocError>
-    ensures { IfOk result (λ state. state ≡ machine.operand (judging reader.now scope.now) stack pending value) }
+) -> Result<(), AllocError>
+    ensures { OnOk result (state.new ≡ machine.operand (judging reader.now scope.now) state.old.stack state.old.pending value) }
 {
-    let Pending {
-        signs,
-        product,
-        sum,
-        comparison,
-    } = pending;
-    let value = negated(reader, scope, signs, value)?;
-    let term = product_of(reader, scope, product, value)?;
-    Ok(State {
-        stack,
-        pending: Pending {
-            signs: 0,
-            product: None,
-            sum,
-            comparison,
-        },
-        term: Some(term),
-    })
+    let value = negated(reader, scope, state.pending.signs, value)?;
+    let term = product_of(reader, scope, state.pending.product.take(), value)?;
+    state.pending.signs = 0;
+    state.term = Some(term);
+    Ok(())
 }
 
 /// One more bracket.
-fn opened(
-    stack: Stack<Judged>,
-    outer: Pending<Judged>,
-    bracket: Bracket<Judged>,
-) -> Result<State<Judged>, AllocError>
-    ensures { IfOk result (λ state. state ≡ machine.opened stack outer bracket) }
+fn opened(state: &mut State<Judged>, bracket: Bracket<Judged>) -> Result<(), AllocError>
+    ensures { OnOk result (state.new ≡ machine.opened state.old.stack state.old.pending bracket) }
 {
-    let mut stack = stack;
-    stack.push(Frame { bracket, outer })?;
-    Ok(State {
-        stack,
-        pending: nothing(),
-        term: None,
-    })
+    let outer = mem::replace(&mut state.pending, nothing());
+    state.stack.push(Frame { bracket, outer })?;
+    state.term = None;
+    Ok(())
 }
 
 /// A product goes on.
-fn multiplied(
-    stack: Stack<Judged>,
-    pending: Pending<Judged>,
-    term: Judged,
-    operator: ProductOperator,
-) -> State<Judged>
-    ensures { result ≡ machine.multiplied stack pending term operator }
+fn multiplied(state: &mut State<Judged>, term: Judged, operator: ProductOperator)
+    ensures { state.new ≡ machine.multiplied state.old.stack state.old.pending term operator }
 {
-    let Pending {
-        sum,
-        comparison,
-        ..
-    } = pending;
-    State {
-        stack,
-        pending: Pending {
-            signs: 0,
-            product: Some((operator, term)),
-            sum,
-            comparison,
-        },
-        term: None,
-    }
+    state.pending.signs = 0;
+    state.pending.product = Some((operator, term));
+    state.term = None;
 }
 
 /// A sum goes on.
 fn added(
     reader: &Reader,
     scope: &Scope,
-    stack: Stack<Judged>,
-    pending: Pending<Judged>,
+    state: &mut State<Judged>,
     term: Judged,
     operator: SumOperator,
-) -> Result<State<Judged>, AllocError>
-    ensures { IfOk result (λ state. state ≡ machine.added (judging reader.now scope.now) stack pending term operator) }
+) -> Result<(), AllocError>
+    ensures { OnOk result (state.new ≡ machine.added (judging reader.now scope.now) state.old.stack state.old.pending term operator) }
 {
-    let Pending {
-        sum,
-        comparison,
-        ..
-    } = pending;
-    let value = sum_of(reader, scope, sum, term)?;
-    Ok(State {
-        stack,
-        pending: Pending {
-            signs: 0,
-            product: None,
-            sum: Some((operator, value)),
-            comparison,
-        },
-        term: None,
-    })
+    let value = sum_of(reader, scope, state.pending.sum.take(), term)?;
+    state.pending.signs = 0;
+    state.pending.product = None;
+    state.pending.sum = Some((operator, value));
+    state.term = None;
+    Ok(())
 }
 
-/// A comparison, of which a bracket holds one at most.
+/// A comparison, of which a bracket holds one at most; whether it can stand there.
 fn compared(
     reader: &Reader,
     scope: &Scope,
-    stack: Stack<Judged>,
-    pending: Pending<Judged>,
+    state: &mut State<Judged>,
     term: Judged,
     operator: CompareOperator,
-) -> Result<Option<State<Judged>>, AllocError>
-    ensures { IfOk result (λ state. state ≡ machine.compared (judging reader.now scope.now) stack pending term operator) }
+) -> Result<bool, AllocError>
+    ensures { IfOk result (λ stands. (if stands then Some state.new else None) ≡ machine.compared (judging reader.now scope.now) state.old.stack state.old.pending term operator) }
 {
-    let Pending {
-        sum,
-        comparison,
-        ..
-    } = pending;
-    if comparison.is_some() {
-        return Ok(None);
+    if state.pending.comparison.is_some() {
+        drop(term);
+        return Ok(false);
     }
-    let value = sum_of(reader, scope, sum, term)?;
-    Ok(Some(State {
-        stack,
-        pending: Pending {
-            signs: 0,
-            product: None,
-            sum: None,
-            comparison: Some((operator, value)),
-        },
-        term: None,
-    }))
+    let value = sum_of(reader, scope, state.pending.sum.take(), term)?;
+    state.pending.signs = 0;
+    state.pending.product = None;
+    state.pending.comparison = Some((operator, value));
+    state.term = None;
+    Ok(true)
 }
 
 /// The bracket of the next operand.
@@ -253,25 +191,27 @@ fn next_in(bracket: Bracket<Judged>, value: Judged) -> Option<Bracket<Judged>>
     }
 }
 
-/// A comma.
+/// A comma; whether it can stand there.
 fn separated(
     reader: &Reader,
     scope: &Scope,
-    stack: Stack<Judged>,
-    pending: Pending<Judged>,
+    state: &mut State<Judged>,
     term: Judged,
-) -> Result<Option<State<Judged>>, AllocError>
-    ensures { IfOk result (λ state. state ≡ machine.separated (judging reader.now scope.now) stack pending term) }
+) -> Result<bool, AllocError>
+    ensures { IfOk result (λ stands. (if stands then Some state.new else None) ≡ machine.separated (judging reader.now scope.now) state.old.stack state.old.pending term) }
 {
-    let value = whole(reader, scope, pending, term)?;
-    let mut stack = stack;
-    match stack.pop() {
-        None => Ok(None),
+    let value = whole(reader, scope, &mut state.pending, term)?;
+    match state.stack.pop() {
+        None => Ok(false),
         Some(frame) => {
             let Frame { bracket, outer } = frame;
+            state.pending = outer;
             match next_in(bracket, value) {
-                None => Ok(None),
-                Some(bracket) => Ok(Some(opened(stack, outer, bracket)?)),
+                None => Ok(false),
+                Some(bracket) => {
+                    opened(state, bracket)?;
+                    Ok(true)
+                }
             }
         }
     }
@@ -309,25 +249,27 @@ fn closed_by(
     }
 }
 
-/// A closing bracket.
+/// A closing bracket; whether it can stand there.
 fn closed(
     reader: &Reader,
     scope: &Scope,
-    stack: Stack<Judged>,
-    pending: Pending<Judged>,
+    state: &mut State<Judged>,
     term: Judged,
-) -> Result<Option<State<Judged>>, AllocError>
-    ensures { IfOk result (λ state. state ≡ machine.closed (judging reader.now scope.now) stack pending term) }
+) -> Result<bool, AllocError>
+    ensures { IfOk result (λ stands. (if stands then Some state.new else None) ≡ machine.closed (judging reader.now scope.now) state.old.stack state.old.pending term) }
 {
-    let value = whole(reader, scope, pending, term)?;
-    let mut stack = stack;
-    match stack.pop() {
-        None => Ok(None),
+    let value = whole(reader, scope, &mut state.pending, term)?;
+    match state.stack.pop() {
+        None => Ok(false),
         Some(frame) => {
             let Frame { bracket, outer } = frame;
+            state.pending = outer;
             match closed_by(reader, scope, bracket, value)? {
-                None => Ok(None),
-                Some(value) => Ok(Some(operand(reader, scope, stack, outer, value)?)),
+                None => Ok(false),
+                Some(value) => {
+                    operand(reader, scope, state, value)?;
+                    Ok(true)
+                }
             }
         }
     }
@@ -340,141 +282,121 @@ fn copied(reader: &Reader, name: &Items<u8>) -> Result<Items<u8>, AllocError>
 }
 
 /// The bracket of a call.
-fn called(
-    reader: &Reader,
-    stack: Stack<Judged>,
-    pending: Pending<Judged>,
-    name: &Items<u8>,
-) -> Result<State<Judged>, AllocError>
-    ensures { IfOk result (λ state. state ≡ machine.opened stack pending (brackets.CallFirst name.now)) }
+fn called(reader: &Reader, state: &mut State<Judged>, name: &Items<u8>) -> Result<(), AllocError>
+    ensures { OnOk result (state.new ≡ machine.opened state.old.stack state.old.pending (brackets.CallFirst name.now)) }
 {
     let bracket = Bracket::CallFirst(copied(reader, name)?);
-    Ok(opened(stack, pending, bracket)?)
+    opened(state, bracket)?;
+    Ok(())
 }
 
 /// One more sign.
-fn signed(stack: Stack<Judged>, pending: Pending<Judged>) -> State<Judged>
-    requires { pending.signs + 1 < 2 ^ 64 }
-    ensures { result ≡ machine.signed stack pending }
+fn signed(state: &mut State<Judged>)
+    requires { state.old.pending.signs + 1 < 2 ^ 64 }
+    ensures { state.new ≡ machine.signed state.old.stack state.old.pending }
 {
-    let Pending {
-        signs,
-        product,
-        sum,
-        comparison,
-    } = pending;
-    State {
-        stack,
-        pending: Pending {
-            signs: signs + 1,
-            product,
-            sum,
-            comparison,
-        },
-        term: None,
-    }
+    state.pending.signs += 1;
+    state.term = None;
 }
 
-/// Takes the next tokens where an operand is wanted; None where there is none.
+/// Takes the next tokens where an operand is wanted, and gives those behind them; None where there is none.
 fn begun<'a>(
     reader: &Reader,
     scope: &Scope,
-    stack: Stack<Judged>,
-    pending: Pending<Judged>,
+    state: &mut State<Judged>,
     tokens: &'a [Token],
-) -> Result<Option<(State<Judged>, &'a [Token])>, AllocError>
-    requires { pending.signs + length tokens.now < 2 ^ 64 }
-    ensures moved { IfOk result (λ moved. option_map (λ x. (x.0, x.1.now)) moved ≡ machine.begun (judging reader.now scope.now) stack pending tokens.now) }
-    ensures shorter { IfOk result (λ moved. IfSome moved (λ x. length x.1.now < length tokens.now)) }
-    ensures few { IfOk result (λ moved. IfSome moved (λ x. x.0.pending.signs + length x.1.now ≤ pending.signs + length tokens.now)) }
+) -> Result<Option<&'a [Token]>, AllocError>
+    requires { state.old.pending.signs + length tokens.now < 2 ^ 64 }
+    ensures moved { IfOk result (λ rest. option_map (λ r. (state.new, r.now)) rest ≡ machine.begun (judging reader.now scope.now) state.old.stack state.old.pending tokens.now) }
+    ensures shorter { IfOk result (λ rest. IfSome rest (λ r. length r.now < length tokens.now)) }
+    ensures few { IfOk result (λ rest. IfSome rest (λ r. state.new.pending.signs + length r.now ≤ state.old.pending.signs + length tokens.now)) }
 {
     match tokens {
         [Token::Number(number), rest @ ..] => {
-            let value = judging::literal(*number);
-            Ok(Some((operand(reader, scope, stack, pending, value)?, rest)))
+            operand(reader, scope, state, judging::literal(*number))?;
+            Ok(Some(rest))
         }
         [Token::Name(name), Token::Open, rest @ ..] => {
-            Ok(Some((called(reader, stack, pending, name)?, rest)))
+            called(reader, state, name)?;
+            Ok(Some(rest))
         }
         [Token::Name(name), rest @ ..] => {
             let value = judging::bare(reader, scope, name.as_slice());
-            Ok(Some((operand(reader, scope, stack, pending, value)?, rest)))
+            operand(reader, scope, state, value)?;
+            Ok(Some(rest))
         }
         [Token::Two(function), Token::Open, rest @ ..] => {
-            let bracket = Bracket::TwoFirst(*function);
-            Ok(Some((opened(stack, pending, bracket)?, rest)))
+            opened(state, Bracket::TwoFirst(*function))?;
+            Ok(Some(rest))
         }
         [Token::Three(function), Token::Open, rest @ ..] => {
-            let bracket = Bracket::ThreeFirst(*function);
-            Ok(Some((opened(stack, pending, bracket)?, rest)))
+            opened(state, Bracket::ThreeFirst(*function))?;
+            Ok(Some(rest))
         }
-        [Token::Open, rest @ ..] => { Ok(Some((opened(stack, pending, Bracket::Group)?, rest))) }
+        [Token::Open, rest @ ..] => {
+            opened(state, Bracket::Group)?;
+            Ok(Some(rest))
+        }
         [Token::Sum(SumOperator::Subtract), rest @ ..] => {
-            Ok(Some((signed(stack, pending), rest)))
+            signed(state);
+            Ok(Some(rest))
         }
         _ => Ok(None),
     }
 }
 
-/// Takes the next tokens behind an operand; None where none of them can stand there.
+/// Takes the next token behind an operand, and gives those behind it; None where it can't stand there.
 fn followed<'a>(
     reader: &Reader,
     scope: &Scope,
-    stack: Stack<Judged>,
-    pending: Pending<Judged>,
+    state: &mut State<Judged>,
     term: Judged,
     tokens: &'a [Token],
-) -> Result<Option<(State<Judged>, &'a [Token])>, AllocError>
-    ensures moved { IfOk result (λ moved. option_map (λ x. (x.0, x.1.now)) moved ≡ machine.followed (judging reader.now scope.now) stack pending term tokens.now) }
-    ensures shorter { IfOk result (λ moved. IfSome moved (λ x. length x.1.now < length tokens.now)) }
-    ensures few { IfOk result (λ moved. IfSome moved (λ x. x.0.pending.signs ≡ 0)) }
+) -> Result<Option<&'a [Token]>, AllocError>
+    ensures moved { IfOk result (λ rest. option_map (λ r. (state.new, r.now)) rest ≡ machine.followed (judging reader.now scope.now) state.old.stack state.old.pending term tokens.now) }
+    ensures shorter { IfOk result (λ rest. IfSome rest (λ r. length r.now < length tokens.now)) }
+    ensures few { IfOk result (λ rest. IfSome rest (λ r. state.new.pending.signs ≡ 0)) }
 {
     let [token, rest @ ..] = tokens else {
-        drop(stack);
-        drop(pending);
         drop(term);
         return Ok(None);
     };
-    let state = match token {
-        Token::Product(operator) => Some(multiplied(stack, pending, term, *operator)),
-        Token::Sum(operator) => Some(added(reader, scope, stack, pending, term, *operator)?),
-        Token::Compare(operator) => compared(reader, scope, stack, pending, term, *operator)?,
-        Token::Comma => separated(reader, scope, stack, pending, term)?,
-        Token::Close => closed(reader, scope, stack, pending, term)?,
+    let stands = match token {
+        Token::Product(operator) => {
+            multiplied(state, term, *operator);
+            true
+        }
+        Token::Sum(operator) => {
+            added(reader, scope, state, term, *operator)?;
+            true
+        }
+        Token::Compare(operator) => compared(reader, scope, state, term, *operator)?,
+        Token::Comma => separated(reader, scope, state, term)?,
+        Token::Close => closed(reader, scope, state, term)?,
         _ => {
-            drop(stack);
-            drop(pending);
             drop(term);
-            None
+            false
         }
     };
-    match state {
-        None => Ok(None),
-        Some(state) => Ok(Some((state, rest))),
-    }
+    Ok(if stands { Some(rest) } else { None })
 }
 
-/// One step of the pass; None where the tokens are not of the grammar.
+/// One step of the pass, and the tokens behind it; None where the tokens are not of the grammar.
 #[tactic(auto, unfolding(halide_parser_syntax::specs::inner::Machine::step))]
 fn step<'a>(
     reader: &Reader,
     scope: &Scope,
-    state: State<Judged>,
+    state: &mut State<Judged>,
     tokens: &'a [Token],
-) -> Result<Option<(State<Judged>, &'a [Token])>, AllocError>
-    requires { state.pending.signs + length tokens.now < 2 ^ 64 }
-    ensures moved { IfOk result (λ moved. option_map (λ x. (x.0, x.1.now)) moved ≡ machine.step (judging reader.now scope.now) state tokens.now) }
-    ensures shorter { IfOk result (λ moved. IfSome moved (λ x. length x.1.now < length tokens.now)) }
-    ensures few { IfOk result (λ moved. IfSome moved (λ x. x.0.pending.signs + length x.1.now ≤ state.pending.signs + length tokens.now)) }
+) -> Result<Option<&'a [Token]>, AllocError>
+    requires { state.old.pending.signs + length tokens.now < 2 ^ 64 }
+    ensures moved { IfOk result (λ rest. option_map (λ r. (state.new, r.now)) rest ≡ machine.step (judging reader.now scope.now) state.old tokens.now) }
+    ensures shorter { IfOk result (λ rest. IfSome rest (λ r. length r.now < length tokens.now)) }
+    ensures few { IfOk result (λ rest. IfSome rest (λ r. state.new.pending.signs + length r.now ≤ state.old.pending.signs + length tokens.now)) }
 {
-    let State {
-        stack,
-        pending,
-        term,
-    } = state;
-    match term {
-        None => Ok(begun(reader, scope, stack, pending, tokens)?),
-        Some(term) => Ok(followed(reader, scope, stack, pending, term, tokens)?),
+    match state.term.take() {
+        None => Ok(begun(reader, scope, state, tokens)?),
+        Some(term) => Ok(followed(reader, scope, state, term, tokens)?),
     }
 }
 
@@ -505,10 +427,14 @@ fn finished<'a>(
 ) -> Result<(Judged, &'a [Token]), ReadError<ParseFault>>
     ensures { Gives (λ x. (x.0, x.1.now)) result (reading.or_syntax (machine.finished (judging reader.now scope.now) state tokens.now)) }
 {
-    let State { pending, term, .. } = state;
+    let State {
+        mut pending,
+        term,
+        ..
+    } = state;
     match term {
         None => Err(ReadError::Fault(ParseFault::Syntax)),
-        Some(term) => Ok((whole(reader, scope, pending, term)?, tokens)),
+        Some(term) => Ok((whole(reader, scope, &mut pending, term)?, tokens)),
     }
 }
 
@@ -534,10 +460,9 @@ pub fn expression<'a>(
         if is_over(&state, rest) {
             return Ok(finished(reader, scope, state, rest)?);
         }
-        let Some((next, after)) = step(reader, scope, state, rest)? else {
+        let Some(after) = step(reader, scope, &mut state, rest)? else {
             return Err(ReadError::Fault(ParseFault::Syntax));
         };
-        state = next;
         rest = after;
     }
 }
