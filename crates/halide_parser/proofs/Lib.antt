@@ -2,7 +2,6 @@ pub mod Agreement
 pub mod Faultless
 pub mod Growing
 pub mod InPlace
-pub mod Judgement
 pub mod Keeping
 pub mod KeptLines
 pub mod KeptTexts
@@ -10,6 +9,7 @@ pub mod KeptTrees
 pub mod KeptUpdates
 pub mod Marks
 pub mod Numbers
+pub mod Once
 pub mod PassLoop
 pub mod ShortNames
 pub mod Sizes

@@ -3,103 +3,15 @@
 ghost use Rattle.std.specs.Prelude.{◌≡◌, [], ◌∷◌, IfOk, OnOk, None};
 ghost use Rattle.halide_pipeline.specs.Names.{lookup};
 ghost use Rattle.halide_parser.specs.Meaning as spec;
-ghost use Rattle.halide_parser.specs.Scopes as scopes;
 ghost use Rattle.halide_parser.specs.inner.JudgedLines.{tree_of};
 
 use crate::judging::Judged;
-use crate::readers::{Reader, func, func_place};
+use crate::readers::{Reader, func_place};
 use crate::rules::height_of;
-use crate::scopes::Scope;
 use halide_parser_syntax::{Bounds, Change, Definition, Extents, Line};
 use halide_pipeline::{Expr, Func, Input, Output, Reduction, Source, Update};
 use sqlite_items::Items;
-use std::alloc::{AllocError, Global};
-
-fn copied(alloc: Global, name: &Items<u8>) -> Result<Items<u8>, AllocError>
-    ensures { IfOk result (λ copy. copy ≡ name.now) }
-{
-    Items::from_slice(alloc, name.as_slice())
-}
-
-fn copied_second(alloc: Global, name: &Option<Items<u8>>) -> Result<Option<Items<u8>>, AllocError>
-    ensures { IfOk result (λ copy. copy ≡ name.now) }
-{
-    match name {
-        None => Ok(None),
-        Some(name) => Ok(Some(copied(alloc, name)?)),
-    }
-}
-
-fn copied_bounds(alloc: Global, bounds: &Option<Bounds>) -> Result<Option<Items<u8>>, AllocError>
-    ensures { IfOk result (λ name. name ≡ scopes.bounds_name bounds.now) }
-{
-    match bounds {
-        None => Ok(None),
-        Some(bounds) => Ok(Some(copied(alloc, &bounds.name)?)),
-    }
-}
-
-/// The scope of an update of a name that is no Func.
-fn unknown_scope(
-    alloc: Global,
-    own: Option<usize>,
-    change: &Change<Judged>,
-) -> Result<Scope, AllocError>
-    ensures { IfOk result (λ scope. scope ≡ scopes.unknown_scope own change.now) }
-{
-    Ok(Scope {
-        first_argument: None,
-        second_argument: None,
-        first_reduction: Some(copied(alloc, &change.first.name)?),
-        second_reduction: copied_bounds(alloc, &change.second)?,
-        own,
-    })
-}
-
-/// The scope of an update of this Func.
-fn known_scope(
-    alloc: Global,
-    func: &Func,
-    own: Option<usize>,
-    change: &Change<Judged>,
-) -> Result<Scope, AllocError>
-    ensures { IfOk result (λ scope. scope ≡ scopes.known_scope func.now own change.now) }
-{
-    Ok(Scope {
-        first_argument: Some(copied(alloc, &func.first_argument)?),
-        second_argument: copied_second(alloc, &func.second_argument)?,
-        first_reduction: Some(copied(alloc, &change.first.name)?),
-        second_reduction: copied_bounds(alloc, &change.second)?,
-        own,
-    })
-}
-
-/// The scope of an update.
-fn change_scope(reader: &Reader, change: &Change<Judged>) -> Result<Scope, AllocError>
-    ensures { IfOk result (λ scope. scope ≡ scopes.change_scope reader.now change.now) }
-{
-    let name = change.name.as_slice();
-    let own = func_place(reader, name);
-    match func(reader, name) {
-        None => Ok(unknown_scope(reader.alloc, own, change)?),
-        Some(func) => Ok(known_scope(reader.alloc, func, own, change)?),
-    }
-}
-
-/// The variables of a line.
-pub fn scope_of(reader: &Reader, line: &Line<Judged>) -> Result<Scope, AllocError>
-    ensures { IfOk result (λ scope. scope ≡ scopes.scope_of reader.now line.now) }
-{
-    match line {
-        Line::Func(definition) => Ok(Scope {
-            first_argument: Some(copied(reader.alloc, &definition.first_argument)?),
-            second_argument: copied_second(reader.alloc, &definition.second_argument)?,
-            ..Scope::empty()
-        }),
-        Line::Update(change) => Ok(change_scope(reader, change)?),
-        _ => Ok(Scope::empty()),
-    }
-}
+use std::alloc::AllocError;
 
 /// The tree of an expression; one without faults has one.
 fn tree_of(judged: Judged) -> Expr

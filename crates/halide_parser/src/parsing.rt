@@ -10,29 +10,23 @@ ghost use Rattle.halide_parser_syntax.specs.LineGrammar.{FollowsGrammar};
 ghost use Rattle.halide_parser.specs.Parsing as spec;
 ghost use Rattle.halide_parser.specs.inner.JudgedLines as lines;
 
-use crate::applying::{apply, scope_of};
+use crate::ahead::scope_ahead;
+use crate::applying::apply;
 use crate::judging::Judged;
 use crate::line_reading::read_line;
 use crate::readers::Reader;
 use crate::rules::fault_of;
-use crate::scopes::Scope;
 use halide_parser_syntax::{Line, ParseFault, Token, tokens_of};
 use halide_pipeline::{Names, Pipeline};
 use line_text::{LineReader, LocatedError, ReadError, read_lines};
 use sqlite_items::Items;
 use std::alloc::Global;
 
-/// What the tokens of a line say, judged. A line is read twice, since what an update's variables are
-/// stands at its end.
-#[tactic(auto, unfolding(crate::specs::inner::JudgedLines::judged))]
+/// What the tokens of a line say, judged.
 fn judged(reader: &Reader, tokens: &[Token]) -> Result<Line<Judged>, ReadError<ParseFault>>
     ensures { Gives (λ x. x) result (lines.judged reader.now tokens.now) }
 {
-    let plain = read_line(reader, &Scope::empty(), tokens)?;
-    let scope = scope_of(reader, &plain);
-    // Here, so that no way out has to drop it.
-    drop(plain);
-    let scope = scope?;
+    let scope = scope_ahead(reader, tokens)?;
     Ok(read_line(reader, &scope, tokens)?)
 }
 
