@@ -131,7 +131,7 @@ after_of-known scene own func update updates number x y is next =
     ∙ ap (λ (u : Option Update). after_some own u (inputs_of scene) (earlier_of scene own) (stage own func (inputs_of scene) (earlier_of scene own) updates) number x y) next
 
 -- what stands after one more point
-after-suc : (own : ℕ) (update : Update) (inputs earlier : Planes) (before : Plane) (number x y : ℕ) → after own update inputs earlier before (number + 1) x y
+pub after-suc : (own : ℕ) (update : Update) (inputs earlier : Planes) (before : Plane) (number x y : ℕ) → after own update inputs earlier before (number + 1) x y
     ≡ cond (is_hit (reads_of inputs earlier) update (at_reduction update number x y)) (value (reads_of inputs (with_plane own (after own update inputs earlier before number) earlier)) (at_reduction update number x y) update.right) (after own update inputs earlier before number x y)
 unfolding after
 after-suc own update inputs earlier before number x y =

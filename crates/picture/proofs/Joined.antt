@@ -29,9 +29,9 @@ in-row plane left top width number at within =
     ap (λ (n : ℕ). plane (word.add left n) (word.add top ((number * width + at) / width))) remainder
     ∙ ap (λ (n : ℕ). plane (word.add left at) (word.add top n)) quotient
 
-pub one-more-row : (plane : Plane) (left top width number : ℕ) (pixels row next : List ℕ) → AreNumbered plane left top width number pixels
-    → IsNumberedRow plane left top width number row → next ≡ pixels ++ row → AreNumbered plane left top width (number + 1) next
-one-more-row plane left top width number pixels row next are is joined =
+pub one-more-row : (plane : Plane) (left top width number : ℕ) (pixels added next : List ℕ) → AreNumbered plane left top width number pixels
+    → IsNumberedRow plane left top width number added → next ≡ pixels ++ added → AreNumbered plane left top width (number + 1) next
+one-more-row plane left top width number pixels added next are is joined =
     let one : suc number ≡ number + 1 = omega arith in
     subst (λ (n : ℕ). AreNumbered plane left top width n next) one
     (subst (λ (all : List ℕ). AreNumbered plane left top width (suc number) all) (sym joined) (record { len = len; each = each }))
@@ -39,19 +39,19 @@ one-more-row plane left top width number pixels row next are is joined =
     so_many : length pixels ≡ number * width
     so_many = omega (arith, are.len)
 
-    len : length (pixels ++ row) ≡ width * suc number
+    len : length (pixels ++ added) ≡ width * suc number
     len =
         let more : suc number * width ≡ number * width + width = omega arith in
         let turned : width * suc number ≡ suc number * width = omega arith in
-        omega (arith, length-append pixels row, so_many, is.len, more, turned)
+        omega (arith, length-append pixels added, so_many, is.len, more, turned)
 
-    each : (at : ℕ) → at < length (pixels ++ row) → get_or (pixels ++ row) at 0 ≡ numbered_pixel plane left top width at
+    each : (at : ℕ) → at < length (pixels ++ added) → get_or (pixels ++ added) at 0 ≡ numbered_pixel plane left top width at
     each at less = elim (cases_lt at (length pixels)) [
-      | inl before ↦ get_or-append pixels row 0 at before ∙ are.each at before
+      | inl before ↦ get_or-append pixels added 0 at before ∙ are.each at before
       | inr behind ↦
           let place : number * width + (at - length pixels) ≡ at = omega (arith, so_many, behind) in
-          let within : at - length pixels < width = omega (arith, length-append pixels row, is.len, behind, less) in
-          get_or-append_right pixels row (length pixels) at 0 refl behind ∙ is.each (at - length pixels) within
+          let within : at - length pixels < width = omega (arith, length-append pixels added, is.len, behind, less) in
+          get_or-append_right pixels added (length pixels) at 0 refl behind ∙ is.each (at - length pixels) within
           ∙ sym (in-row plane left top width number (at - length pixels) within) ∙ ap (numbered_pixel plane left top width) place
     ]
 

@@ -1,3 +1,4 @@
 pub mod Evaluation
 pub mod Memos
 pub mod UpdateRows
+pub mod PixelRows

@@ -23,11 +23,8 @@ const ALL: Range = Range {
 /// The one number 0.
 const ZERO: Range = Range { low: 0, high: 0 };
 
-/// A table has at most so many pixels.
+/// A table has at most so many pixels, and an update is run beforehand on at most so many slices.
 const MOST_POINTS: u64 = 2_097_152;
-
-/// An update is run beforehand on at most so many slices.
-const MOST_SLICES: u64 = 131_072;
 
 /// A Func has at most so many updates; none past these is run beforehand.
 const MOST_UPDATES: usize = 4;
@@ -392,9 +389,17 @@ pub(crate) fn bounds_of(wanted: Wanted) -> Bounds
     }
 }
 
+/// Whether an update is made for each pixel on its own: both arguments are in place, or the only one and no update
+/// comes behind it, which could read what it comes to at other pixels.
+fn is_each_pixel(func: &Func, updates: usize, update: &Update) -> bool {
+    let is_last = updates.saturating_add(1) == func.updates.len();
+    update.is_first_in_place()
+        && (update.is_second_in_place() || update.left_y.is_none() && is_last)
+}
+
 /// The slices on which an update is run beforehand, all that are wanted. There are none where runs as
-/// the need comes are fewer, and where both arguments are in place: the table has each pixel once.
-pub(crate) fn slices_of(wanted: Wanted, updates: usize, update: &Update) -> Slices {
+/// the need comes are fewer, and where it is made for each pixel: the table has each once.
+pub(crate) fn slices_of(wanted: Wanted, func: &Func, updates: usize, update: &Update) -> Slices {
     let none = Slices {
         left: 0,
         top: 0,
@@ -404,8 +409,7 @@ pub(crate) fn slices_of(wanted: Wanted, updates: usize, update: &Update) -> Slic
         return none;
     };
     let count = area.slices(update);
-    let is_each_pixel = update.is_first_in_place() && update.is_second_in_place();
-    if is_each_pixel || count > area.reads || count > MOST_SLICES {
+    if is_each_pixel(func, updates, update) || count > area.reads || count > MOST_POINTS {
         return none;
     }
     Slices {

@@ -280,7 +280,7 @@ fn know_all(
 {
     for (updates, update) in func.updates.as_slice().iter().enumerate() {
         if is_forward(update) {
-            let slices = slices_of(wanted, updates, update);
+            let slices = slices_of(wanted, func, updates, update);
             know_update(
                 rt, alloc, scene, costs, own, func, updates, update, slices, known, memo,
             )?;

@@ -92,7 +92,13 @@ fn cost_of(costs: &[Cost], expr: &Expr) -> Cost {
 }
 
 /// What an update adds to the cost of a pixel; it is little where the update is run beforehand.
-fn update_cost(costs: &[Cost], wanted: Wanted, updates: usize, update: &Update) -> Cost {
+fn update_cost(
+    costs: &[Cost],
+    wanted: Wanted,
+    func: &Func,
+    updates: usize,
+    update: &Update,
+) -> Cost {
     let left_y = match &update.left_y {
         None => READ,
         Some(left_y) => cost_of(costs, left_y),
@@ -100,7 +106,7 @@ fn update_cost(costs: &[Cost], wanted: Wanted, updates: usize, update: &Update) 
     let point = cost_of(costs, &update.left_x)
         .plus(left_y)
         .plus(cost_of(costs, &update.right));
-    if slices_of(wanted, updates, update).count > 0 {
+    if slices_of(wanted, func, updates, update).count > 0 {
         Cost { steps: 1, ..point }
     } else {
         point.times(box_points(update))
@@ -111,7 +117,7 @@ fn update_cost(costs: &[Cost], wanted: Wanted, updates: usize, update: &Update) 
 fn next_cost(costs: &[Cost], wanted: Wanted, func: &Func) -> Cost {
     let mut own = cost_of(costs, &func.pure);
     for (updates, update) in func.updates.as_slice().iter().enumerate() {
-        own = own.plus(update_cost(costs, wanted, updates, update));
+        own = own.plus(update_cost(costs, wanted, func, updates, update));
     }
     let has_table = bounds_of(wanted).height > 0;
     let is_light = own.steps <= LIGHT && !own.needs_kept;

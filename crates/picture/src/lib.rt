@@ -11,13 +11,14 @@
 //! as there are processors (`evaluation`); what no table has is kept pixel by pixel (`asking`), or computed as it is
 //! defined (`plain`).
 //! An update is run forward over its reduction box, row by row (`update_rows`, `update_runs`), beforehand and once
-//! where at most one argument stands in place.
+//! where at most one argument stands in place. Where all do, it is run along rows of pixels (`in_place`).
 #![tactic(auto)]
 
 mod asking;
 mod boxes;
 pub mod evaluation;
 pub mod faults;
+mod in_place;
 mod keeping;
 mod memos;
 pub mod pictures;

@@ -413,7 +413,7 @@ pub(crate) fn pixel(
 /// A pixel of a Func after so many whole updates.
 #[cycle(pixel)]
 #[tactic(auto, unfolding(halide_pipeline::specs::Pixel::stage))]
-fn stage(
+pub(crate) fn stage(
     alloc: Global,
     scene: &Scene,
     own: usize,

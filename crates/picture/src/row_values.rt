@@ -7,6 +7,7 @@ ghost use Rattle.picture.specs.inner.Evaluation.{plane_of, reads_in, AreTables};
 ghost use Rattle.picture.specs.declared.scenes.State.TheVariants as states;
 ghost use Rattle.picture_rows.specs.Rows.{AreValues, IsRow};
 
+use crate::in_place::{Stretch, is_func_quick, stage_pixels};
 use crate::plain::{func_at, pixel};
 use crate::row_reads::read_row;
 use crate::scenes::{Scene, Table};
@@ -35,7 +36,7 @@ fn variable_row(variable: Variable, left: u32, y: u32) -> Row
 /// The values of an expression in the pure definition of the Func at a place, at so many points of a row from a
 /// column on.
 #[tactic(auto, unfolding(halide_pipeline::specs::Pixel::value))]
-fn row_of(
+pub(crate) fn row_of(
     alloc: Global,
     scene: &Scene,
     own: usize,
@@ -108,42 +109,43 @@ fn pixels_one_by_one(
     Ok(pixels)
 }
 
-/// Whether there is a table of each Func that an expression reads. Where there isn't, only what a point needs is to be
-/// computed: of a choice one side alone, and each pixel once.
-fn reads_tables(tables: &[Table], expr: &Expr) -> bool {
+/// Whether there is a table of each Func but this one that an expression reads. Where there isn't, only what a point
+/// needs is to be computed: of a choice one side alone, and each pixel once.
+pub(crate) fn reads_tables(tables: &[Table], own: usize, expr: &Expr) -> bool {
     match expr {
         Expr::Number(_) => true,
         Expr::Variable(_) => true,
-        Expr::Binary(_, a, b) => reads_tables(tables, a.get()) && reads_tables(tables, b.get()),
-        Expr::Divide(a, _) => reads_tables(tables, a.get()),
-        Expr::Remainder(a, _) => reads_tables(tables, a.get()),
+        Expr::Binary(_, a, b) => reads_tables(tables, own, a.get())
+            && reads_tables(tables, own, b.get()),
+        Expr::Divide(a, _) => reads_tables(tables, own, a.get()),
+        Expr::Remainder(a, _) => reads_tables(tables, own, a.get()),
         Expr::Select(condition, a, b) => {
-            reads_tables(tables, condition.get())
-                && reads_tables(tables, a.get())
-                && reads_tables(tables, b.get())
+            reads_tables(tables, own, condition.get())
+                && reads_tables(tables, own, a.get())
+                && reads_tables(tables, own, b.get())
         }
-        Expr::Call1(source, x) => has_table(tables, *source) && reads_tables(tables, x.get()),
+        Expr::Call1(source, x) => has_table(tables, own, *source)
+            && reads_tables(tables, own, x.get()),
         Expr::Call2(source, x, y) => {
-            has_table(tables, *source)
-                && reads_tables(tables, x.get())
-                && reads_tables(tables, y.get())
+            has_table(tables, own, *source)
+                && reads_tables(tables, own, x.get())
+                && reads_tables(tables, own, y.get())
         }
     }
 }
 
-/// Whether the pixels that are wanted of a source are known.
-fn has_table(tables: &[Table], source: Source) -> bool {
+/// Whether the pixels that are wanted of a source are known, or it is this Func.
+fn has_table(tables: &[Table], own: usize, source: Source) -> bool {
     match source {
         Source::Input(_) => true,
         Source::Func(place) => match tables.get(place) {
-            None => false,
+            None => place == own,
             Some(table) => table.height > 0,
         },
     }
 }
 
 /// So many pixels of the Func at a place in a row from a column on, at once where that is less work.
-#[tactic(auto, unfolding(halide_pipeline::specs::Pixel::stage))]
 fn pixel_stretch(
     alloc: Global,
     scene: &Scene,
@@ -158,11 +160,10 @@ fn pixel_stretch(
 {
     if width >= FEW
         && let Some(func) = func_at(scene.funcs, place)
-        && func.updates.is_empty()
-        && reads_tables(scene.tables, &func.pure)
+        && is_func_quick(scene.tables, place, func, y)
     {
-        let row = row_of(alloc, scene, place, left, y, width, &func.pure)?;
-        let pixels = row.into_values(alloc, width)?;
+        let stretch = Stretch { left, y, width };
+        let pixels = stage_pixels(alloc, scene, place, func, func.updates.len(), stretch)?;
         return Ok(pixels);
     }
     let pixels = pixels_one_by_one(alloc, scene, place, left, y, width)?;

@@ -10,8 +10,8 @@ use crate::stretches::Stretch;
 use std::cell::Cell;
 use std::fmt;
 
-/// The place of the run that was found last, so that who goes over a log finds the next one without a search. It is no part
-/// of what a log is.
+/// The place of the run that was found last, so that who goes over a log finds the next one without a search. It is no
+/// part of what a log is.
 #[derive(Drop)]
 pub struct Near {
     place: Cell<usize>,
