@@ -1,9 +1,12 @@
 #include "pictures.h"
 
 int main(void) {
-    struct picture in = read_picture(), out = blank(in.width, in.height);
-    for (int y = 0; y < in.height; y++)
-        for (int x = 0; x < in.width; x++)
-            for (int r = 0; r < 9; r++) out.pixels[(long)y * in.width + x] += in.pixels[(long)((y + r) % in.height) * in.width + x] % 4 == 1;
+    struct picture in = read_picture(), out = blank(in.width / 2, in.height / 2);
+    long count = (long)out.width * out.height;
+    for (long i = 0; i < count; i++)
+        for (int r = 0; r < 9; r++) {
+            int value = in.pixels[(i / in.width + r) % in.height * in.width + i % in.width] % 4;
+            out.pixels[i] += value < 3 ? value + 1 : 0;
+        }
     write_picture(out);
 }
