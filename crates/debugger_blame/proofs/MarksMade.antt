@@ -4,6 +4,7 @@ use Rattle.std.specs.Prelude.{if◌then◌else◌, slice_get, slice_index, unwra
 use Rattle.hart_core.specs.declared.harts.Status.TheVariants.{Running}
 use Rattle.multi_hart.specs.Run.{KeepsShape, State, hart_at, run, turn}
 use Rattle.multi_hart.proofs.Resting.{run-append, turn-resting}
+use Rattle.multi_hart.proofs.TurnByTurn.{shape-then}
 use Rattle.vector_codegen_sharing.specs.Turns.{is_word_in, written_next}
 use Rattle.debugger_blame.specs.LastWrites.{last_turn, last_turn_of_word}
 use Rattle.debugger_blame.specs.Marks.{AreMarks, mark_of}
@@ -11,7 +12,7 @@ use Rattle.debugger_blame.specs.inner.Marked.{Marked}
 use Rattle.debugger_blame.specs.declared.marks.Marking.{Marking}
 use Rattle.debugger_blame.specs.declared.marks.Marking.TheVariants.{Harts, Turns}
 use Rattle.debugger_blame.proofs.LastTurns.{got_behind, last-append}
-use Rattle.debugger_blame.proofs.Passing.{one_more, writes_nothing}
+use Rattle.debugger_blame.proofs.Passing.{length_added, run_added, steps_added, writes_nothing}
 
 -- ---- the last turn is one of the turns
 
@@ -100,12 +101,6 @@ rests_marked marking first begin done now hart (suc n) marks state below rests a
     let more = rests_marked marking first begin (done ++ hart ∷ []) now hart n marks stays below rests one in
     subst (λ (ts : List ℕ). AreMarks marking first begin ts marks) (append_assoc done (hart ∷ []) (replicate n hart)) more
 
-pub marks_added : (marking : Marking) (first : ℕ) (begin : State) (done : List ℕ) (made hart : ℕ) (marks : List ℕ)
-    → AreMarks marking first begin ((done ++ replicate made hart) ++ hart ∷ []) marks → AreMarks marking first begin (done ++ replicate (made + 1) hart) marks
-marks_added marking first begin done made hart marks are =
-    subst (λ (ts : List ℕ). AreMarks marking first begin ts marks)
-    (append_assoc done (replicate made hart) (hart ∷ []) ∙ ap (λ xs. done ++ xs) (sym (one_more made hart))) are
-
 -- some turns of a hart were made
 pub record MarksSoFar (start now : State) (hart place made count : ℕ) (marking : Marking) (first : ℕ) (old new : List ℕ) : Type 0 where
   pub few : made ≤ count
@@ -113,6 +108,22 @@ pub record MarksSoFar (start now : State) (hart place made count : ℕ) (marking
   pub state : now ≡ run start (replicate made hart)
   pub marks : (begin : State) (done : List ℕ) → start ≡ run begin done → length done ≡ place → AreMarks marking first begin done old
       → AreMarks marking first begin (done ++ replicate made hart) new
+
+-- and some more
+pub more_made : (start now after : State) (hart place made more count : ℕ) (marking : Marking) (first : ℕ) (old marks new : List ℕ)
+    → MarksSoFar start now hart place made count marking first old marks → made + more ≤ count → after ≡ run now (replicate more hart) → KeepsShape now after
+    → ((begin : State) (done : List ℕ) → now ≡ run begin done → length done ≡ place + made → AreMarks marking first begin done marks
+    → AreMarks marking first begin (done ++ replicate more hart) new)
+    → MarksSoFar start after hart place (made + more) count marking first old new
+more_made start now after hart place made more count marking first old marks new so_far below is shape turned = record {
+  few = below;
+  shape = shape-then start now after so_far.shape shape;
+  state = is ∙ ap (λ (s : State). run s (replicate more hart)) so_far.state ∙ sym (run-append start (replicate made hart) (replicate more hart))
+      ∙ ap (run start) (steps_added [] made more hart);
+  marks = λ begin done from at are. subst (λ (ts : List ℕ). AreMarks marking first begin ts new) (steps_added done made more hart)
+      (turned begin (done ++ replicate made hart) (run_added start begin now done made hart so_far.state from) (length_added done made hart place at)
+      (so_far.marks begin done from at are));
+}
 
 -- some stretches of a log were made
 pub record MarksUpTo (start now : State) (turns : List ℕ) (place : ℕ) (marking : Marking) (first : ℕ) (words : List ℕ) : Type 0 where

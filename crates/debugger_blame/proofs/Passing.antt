@@ -71,6 +71,11 @@ rest_added done made count hart few = append_assoc done (replicate made hart) (r
         let same : suc n - suc m ≡ n - m = omega arith in
         ap (λ xs. hart ∷ xs) (ap (λ k. replicate m hart ++ replicate k hart) same ∙ joined m n (omega (arith, few)))
 
+pub steps_added : (done : List ℕ) (made more hart : ℕ) → (done ++ replicate made hart) ++ replicate more hart ≡ done ++ replicate (made + more) hart
+steps_added done made more hart =
+    let same : made + more - made ≡ more = omega arith in
+    ap (λ k. (done ++ replicate made hart) ++ replicate k hart) (sym same) ∙ rest_added done made (made + more) hart (omega arith)
+
 pub run_added : (start begin now : State) (done : List ℕ) (made hart : ℕ) → now ≡ run start (replicate made hart) → start ≡ run begin done
     → now ≡ run begin (done ++ replicate made hart)
 run_added start begin now done made hart is from =

@@ -4,12 +4,14 @@
 //! - [`passes`]: one pass over a log, up to the last such turn ([`last_write`]), over `specs/LastWrites.antt`.
 //! - [`marks`]: one pass over a log for words that stand in a row, each marked with its last turn ([`mark_words`]), over `specs/Marks.antt`.
 //! - `stores`: what an instruction stores.
+//! - `quiets`: words of text that store nothing.
 //! - [`laws`]: the hart of that turn is the last writer of a byte that the theorem on assignments names.
 #![tactic(auto)]
 
 pub mod laws;
 pub mod marks;
 pub mod passes;
+mod quiets;
 mod stores;
 pub mod writes;
 

@@ -4,13 +4,15 @@ ghost use Rattle.std.specs.Prelude.{◌≡◌, ◌+◌, ◌*◌, ◌<◌, ◌≤
 ghost use Rattle.hart_core.specs.VectorRows.{accesses_at, size_of};
 ghost use Rattle.memory.specs.Access.{access_at, places_of, touched};
 ghost use Rattle.memory.specs.Addresses.{fetched, most_words};
-ghost use Rattle.multi_hart.specs.Run.{State, hart_at, run, turn};
+ghost use Rattle.multi_hart.specs.Run.{KeepsShape, State, hart_at, run, turn};
 ghost use Rattle.vector_codegen_sharing.specs.Turns.{is_word_in, written_next};
 ghost use Rattle.debugger_blame.specs.Marks.{AreMarks};
 ghost use Rattle.debugger_stores.specs.Stored.{places_in, store_in};
 ghost use Rattle.debugger_blame.specs.inner.Marked.{Marked, is_byte_of_word};
+ghost use Rattle.debugger_blame.specs.inner.Quiet.{AreCounts};
 
 use crate::passes::Stretch;
+use crate::quiets::{quiet_at, quiets_of};
 use debugger_stores::{Stored, numbers_stored, store_at, stores_of};
 use hart_core::Status;
 use multi_hart::Machine;
@@ -55,21 +57,24 @@ pub fn mark_words(
     ensures count { IfOk result (λ marks. length marks.items ≡ range.count) }
 {
     let insns = stores_of(alloc, words)?;
+    let quiets = quiets_of(alloc, words)?;
     let mut marks = vec![in alloc; UNMARKED; range.count]?;
-    mark_all(machine, &insns, log, range, &mut marks);
+    mark_all(machine, &insns, &quiets, log, range, &mut marks);
     Ok(marks)
 }
 
-/// The same, where it is known which words of text store, and nothing is marked.
+/// The same, where it is known which words of text store and how many don't from each on, and nothing is marked.
 fn mark_all(
     machine: &mut Machine,
     insns: &[Option<Insn>],
+    quiets: &[u32],
     log: &TurnLog,
     range: MarkedRange,
     marks: &mut [u32],
 )
     requires meant { insns.now ≡ map store_in machine.old.text }
     requires few { length insns.now ≤ most_words }
+    requires quiet { AreCounts machine.old.text quiets.now }
     requires harts { length machine.old.harts ≡ log.now.harts }
     requires unmarked { AreMarks range.marking range.first machine.old [] marks.old }
     ensures { AreMarks range.marking range.first machine.old log.now.turns marks.new }
@@ -80,7 +85,7 @@ fn mark_all(
     let mut place = 0;
     'runs: while let Some((hart, count)) = log.run_at(place) {
         let stretch = Stretch { hart, count, place };
-        mark_run(machine, insns, stretch, range, marks);
+        mark_run(machine, insns, quiets, stretch, range, marks);
         place += count;
     }
 }
@@ -89,6 +94,7 @@ fn mark_all(
 fn mark_run(
     machine: &mut Machine,
     insns: &[Option<Insn>],
+    quiets: &[u32],
     stretch: Stretch,
     range: MarkedRange,
     marks: &mut [u32],
@@ -97,6 +103,7 @@ fn mark_run(
     requires eight { length machine.old.harts ≤ 8 }
     requires meant { insns.now ≡ map store_in machine.old.text }
     requires few { length insns.now ≤ most_words }
+    requires quiet { AreCounts machine.old.text quiets.now }
     requires fits { stretch.place + stretch.count < 2 ^ 64 }
     ensures state { machine.new ≡ run machine.old (replicate stretch.count stretch.hart) }
     ensures marks { (begin : State) (done : List ℕ) → machine.old ≡ run begin done → length done ≡ stretch.place
@@ -110,9 +117,47 @@ fn mark_run(
             let _ = machine.run_same(hart, count - made);
             return;
         };
-        mark_turn(machine, insns, hart, place + made, range, marks);
-        made += 1;
+        let rest = Stretch {
+            hart,
+            count: count - made,
+            place: place + made,
+        };
+        made += mark_some(machine, insns, quiets, rest, range, marks);
     }
+}
+
+/// Makes turns of one hart and marks what they write, and says how many it made: all up to a word that stores or behind one that may go on
+/// elsewhere, which mark nothing, or else one.
+#[inline(always)]
+fn mark_some(
+    machine: &mut Machine,
+    insns: &[Option<Insn>],
+    quiets: &[u32],
+    stretch: Stretch,
+    range: MarkedRange,
+    marks: &mut [u32],
+) -> u64
+    requires there { stretch.hart < length machine.old.harts }
+    requires eight { length machine.old.harts ≤ 8 }
+    requires meant { insns.now ≡ map store_in machine.old.text }
+    requires few { length insns.now ≤ most_words }
+    requires quiet { AreCounts machine.old.text quiets.now }
+    requires some { 1 ≤ stretch.count }
+    ensures some { 1 ≤ result }
+    ensures within { result ≤ stretch.count }
+    ensures state { machine.new ≡ run machine.old (replicate result stretch.hart) }
+    ensures shape { KeepsShape machine.old machine.new }
+    ensures marks { (begin : State) (done : List ℕ) → machine.old ≡ run begin done → length done ≡ stretch.place
+        → AreMarks range.marking range.first begin done marks.old
+        → AreMarks range.marking range.first begin (done ++ replicate result stretch.hart) marks.new }
+{
+    let Stretch { hart, count, place } = stretch;
+    let quiet = u64::from(quiet_at(quiets, machine.pc(hart)));
+    if quiet > 0 {
+        return machine.step_on(hart, quiet.min(count)).made;
+    }
+    mark_turn(machine, insns, hart, place, range, marks);
+    1
 }
 
 /// Makes a turn, and marks the words that it writes.
@@ -180,7 +225,7 @@ fn mark_stored(marks: &mut [u32], first: u32, stored: &Stored, mark: u32)
 {
     match stored {
         Stored::Nothing => {}
-        Stored::Number { address, width } => mark_numbers(marks, first, &[*address], *width, mark),
+        Stored::Number { address, width } => mark_number(marks, first, *address, *width, mark),
         Stored::Elements { addresses, width } => {
             mark_numbers(marks, first, addresses.as_slice(), *width, mark);
         }

@@ -1,12 +1,11 @@
 use Rattle.std.proofs.Common.{◌∙◌, ◌<◌, ◌-◌, ◌++◌, List, [], ℕ, ap, arith, length, replicate, subst, sym}
 use Rattle.std.specs.Prelude.{◌≢◌}
 use Rattle.hart_core.specs.declared.harts.Status.TheVariants.{Running}
-use Rattle.multi_hart.specs.Run.{State, hart_at, run, turn}
-use Rattle.multi_hart.proofs.Resting.{run-append, run-same-more}
-use Rattle.multi_hart.proofs.TurnByTurn.{shape-then}
+use Rattle.multi_hart.specs.Run.{State, hart_at, run}
+use Rattle.multi_hart.proofs.Resting.{run-append}
 use Rattle.debugger_blame.specs.Marks.{AreMarks}
-use Rattle.debugger_blame.proofs.MarksMade.{marks_added, rests_marked}
-use Rattle.debugger_blame.proofs.Passing.{length_added, rest_added, run_added, shape_of}
+use Rattle.debugger_blame.proofs.MarksMade.{more_made, rests_marked}
+use Rattle.debugger_blame.proofs.Passing.{rest_added, run_added}
 use Rattle.debugger_blame.proofs.marks.mark_run.Goals as goal
 
 pub returns-in_default : goal.returns-in_default
@@ -32,16 +31,6 @@ returns-in_default c =
 
 pub turns-preserved : goal.turns-preserved
 turns-preserved c =
-    let start = c.args.machine.now in
-    let now = c.turns.machine in
-    let hart = c.args.stretch.hart in
-    let made = c.turns.made in
-    let inv = c.turns.invariant in
-    record {
-      few = omega arith;
-      shape = shape-then start now c.mark_turn.new.machine inv.shape (shape_of now c.mark_turn.new.machine hart c.mark_turn.ensures.state);
-      state = c.mark_turn.ensures.state ∙ ap (λ (s : State). turn s hart) inv.state ∙ sym (run-same-more start hart made);
-      marks = λ begin done from place are. marks_added c.args.range.marking c.args.range.first begin done made hart c.mark_turn.new.marks
-          (c.mark_turn.ensures.marks begin (done ++ replicate made hart) (run_added start begin now done made hart inv.state from)
-          (length_added done made hart c.args.stretch.place place) (inv.marks begin done from place are));
-    }
+    more_made c.args.machine.now c.turns.machine c.mark_some-made.new.machine c.args.stretch.hart c.args.stretch.place c.turns.made c.mark_some-made.result c.args.stretch.count
+    c.args.range.marking c.args.range.first c.args.marks.now c.turns.marks c.mark_some-made.new.marks c.turns.invariant (omega (arith, c.mark_some-made.ensures.within, c.turns.invariant.few))
+    c.mark_some-made.ensures.state c.mark_some-made.ensures.shape c.mark_some-made.ensures.marks

@@ -1,0 +1,16 @@
+use Rattle.std.proofs.Common.{◌∙◌, sym, arith}
+use Rattle.debugger_blame.proofs.Quiet.{fewer_quiet, more_quiet, none_quiet, none_stored, one_quiet}
+use Rattle.debugger_blame.proofs.quiets.count_from.Goals as goal
+
+pub returns-then-is_some : goal.returns-then-is_some
+returns-then-is_some c = λ words place got rest. none_quiet words place
+
+pub returns-then-not-word_goes_on : goal.returns-then-not-word_goes_on
+returns-then-not-word_goes_on c = λ words place got rest.
+    one_quiet words place c.args.word got (none_stored c.args.word c.store_of.result c.store_of.ensures (sym c.is_some.ensures ∙ c.if-is_some.false))
+
+pub returns : goal.returns
+returns c = λ words place got rest.
+    let least = c.min.ensures in
+    more_quiet words place c.args.word c.min.result got (none_stored c.args.word c.store_of.result c.store_of.ensures (sym c.is_some.ensures ∙ c.if-is_some.false))
+    (sym c.word_goes_on.ensures ∙ c.if-not-word_goes_on.false) (fewer_quiet words _ c.args.next c.min.result (omega arith) rest)
