@@ -1,10 +1,10 @@
 -- A hart that isn't running makes no more steps.
-use Rattle.std.proofs.Common.{◌≡◌, ℕ, zero, suc, ◌+◌, ◌-◌, ◌≤◌, replicate, refl, ap, ◌∙◌, arith}
+use Rattle.std.proofs.Common.{◌≡◌, ℕ, zero, suc, ◌+◌, ◌-◌, ◌<◌, ◌≤◌, length, replicate, refl, sym, ap, ◌∙◌, arith, Option, Some, None}
 use Rattle.std.specs.Prelude.{◌≢◌}
 use Rattle.hart_core.specs.declared.harts.Status.{Status}
 use Rattle.hart_core.specs.declared.harts.Status.TheVariants.{Running, Finished, Trapped}
 use Rattle.multi_hart.specs.Run.{State, turn, run, hart_at}
-use Rattle.multi_hart.proofs.Resting.{run-stayed}
+use Rattle.multi_hart.proofs.Resting.{run-stayed, turn-resting}
 use Rattle.debugger.specs.inner.Steps.{one_if_running, steps_of}
 
 resting-makes-none : (status : Status) → status ≢ Running → one_if_running status ≡ 0
@@ -31,3 +31,15 @@ steps-stayed state hart made turns within stays rests =
 
 pub steps-more : (state : State) (hart n : ℕ) → steps_of state hart (n + 1) ≡ steps_of state hart n + one_if_running (hart_at (run state (replicate n hart)) hart).status
 steps-more state hart n = let e : n + 1 ≡ suc n = omega arith in ap (steps_of state hart) e
+
+pub rest-steps : (state : State) (hart turns : ℕ) → hart < length state.harts → (hart_at state hart).status ≢ Running → steps_of state hart turns ≡ 0
+rest-steps state hart turns below rests = steps-stayed state hart 0 turns (omega arith) (turn-resting state hart below rests) rests
+
+-- ---- whose turns they are
+
+abbrev hart_of : Option (ℕ × ℕ) → ℕ
+hart_of None = 0
+hart_of (Some turns) = turns.0
+
+pub same_hart : (turns : Option (ℕ × ℕ)) (hart count other more : ℕ) → turns ≡ Some (hart, count) → turns ≡ Some (other, more) → hart ≡ other
+same_hart turns hart count other more is found = ap hart_of (sym is ∙ found)

@@ -9,6 +9,7 @@ ghost use Rattle.turn_log.specs.TurnLog.{IsLog};
 ghost use Rattle.debugger_pages.specs.Pages.{Marks};
 ghost use Rattle.debugger_stores.specs.Stored.{store_in};
 ghost use Rattle.debugger.specs.inner.Passing.{First, Fits, IsPassed, Latest};
+ghost use Rattle.debugger.specs.inner.Steps.{steps_of};
 ghost use Rattle.debugger.specs.Places.{SessionState, state_at};
 ghost use Rattle.debugger.specs.Stops.{break_stops};
 
@@ -88,6 +89,7 @@ pub(crate) fn pass(
     requires within { way.limit ≤ length log.now.turns }
     ensures passed { (session : SessionState) → Fits session log.now breaks.now watches.now machine.old way.place → IsPassed session way.place result }
     ensures state { (session : SessionState) → Fits session log.now breaks.now watches.now machine.old way.place → machine.new ≡ state_at session (way.place + result.turns) }
+    ensures steps { (hart count : ℕ) → run_at log.now.turns way.place ≡ Some (hart, count) → result.steps ≡ steps_of machine.old hart result.turns }
     ensures some { 1 ≤ result.turns }
     ensures within { way.place + result.turns ≤ way.limit }
     ensures shape { KeepsShape machine.old machine.new }
@@ -134,6 +136,7 @@ fn pass_rest(
     requires rests { (hart_at machine.now hart).status ≢ Status.Running }
     requires fits { place + turns < 2 ^ 64 }
     ensures turns { result.turns ≡ turns }
+    ensures steps { result.steps ≡ 0 }
     ensures passed { (session : SessionState) (watches : List ℕ) (count : ℕ) → Fits session log.now breaks.now watches machine.now place → run_at log.now.turns place ≡ Some (hart, count)
         → 1 ≤ turns → turns ≤ count → IsLog log.now → IsPassed session place result }
 {

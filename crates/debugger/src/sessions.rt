@@ -76,7 +76,7 @@ impl Session {
         ensures within { OnOk result (k ≤ length self.old.log.turns) }
         ensures err { IfErr result (λ refusal. UnlessMemory refusal ((refusal ≡ Refusal.PastEnd) × (length self.old.log.turns < k))) }
         ensures unchanged { OnErr result (self.new ≡ self.old) }
-        ensures onwards { self.old.place ≤ k → result ≢ Err Refusal.OutOfMemory }
+        ensures memory { result ≢ Err Refusal.OutOfMemory }
     {
         if k > self.log.len() {
             return Err(Refusal::PastEnd);
@@ -105,7 +105,7 @@ impl Session {
         ensures behind_start { OnOk result (1 ≤ self.old.place) }
         ensures err { IfErr result (λ refusal. UnlessMemory refusal ((refusal ≡ Refusal.BeforeStart) × (self.old.place ≡ 0))) }
         ensures unchanged { OnErr result (self.new ≡ self.old) }
-        ensures at_start { self.old.place ≡ 0 → result ≢ Err Refusal.OutOfMemory }
+        ensures memory { result ≢ Err Refusal.OutOfMemory }
     {
         if self.place == 0 {
             return Err(Refusal::BeforeStart);

@@ -1,6 +1,6 @@
 //! Going to the next and to the previous stop.
 
-ghost use Rattle.std.specs.Prelude.{◌≡◌, ◌<◌, ◌≤◌, true, false, OnOk, OnErr, IfErr, IfSome, MatchOption, length};
+ghost use Rattle.std.specs.Prelude.{◌≡◌, ◌≢◌, ◌<◌, ◌≤◌, true, false, Err, OnOk, OnErr, IfErr, IfSome, MatchOption, length};
 ghost use Rattle.debugger.specs.Places.{moved};
 ghost use Rattle.debugger.specs.Refusals.{UnlessMemory};
 ghost use Rattle.debugger.specs.Stops.{stops, IsNextStop, NoNextStop, IsPreviousStop, NoPreviousStop};
@@ -18,6 +18,7 @@ impl Session {
         ensures marks_stay { OnOk result (self.new ≡ moved self.old self.new.place) }
         ensures err { IfErr result (λ refusal. UnlessMemory refusal ((refusal ≡ Refusal.NoStop) × NoNextStop self.old)) }
         ensures unchanged { OnErr result (self.new ≡ self.old) }
+        ensures memory { result ≢ Err Refusal.OutOfMemory }
     {
         let from = self.place();
         match self.next_stop(alloc) {
@@ -38,6 +39,7 @@ impl Session {
         ensures marks_stay { OnOk result (self.new ≡ moved self.old self.new.place) }
         ensures err { IfErr result (λ refusal. UnlessMemory refusal ((refusal ≡ Refusal.NoStop) × NoPreviousStop self.old)) }
         ensures unchanged { OnErr result (self.new ≡ self.old) }
+        ensures memory { result ≢ Err Refusal.OutOfMemory }
     {
         let from = self.place();
         match self.previous_stop(alloc) {

@@ -1,9 +1,10 @@
 //! Turns of a hart, made on a machine. Each marks the pages of data that it may write.
 
-ghost use Rattle.std.specs.Prelude.{◌≡◌, ◌+◌, ◌-◌, ◌<◌, ◌≤◌, ◌==◌, true, false, length, map, take, replicate};
+ghost use Rattle.std.specs.Prelude.{◌≡◌, ◌+◌, ◌-◌, ◌<◌, ◌≤◌, ◌==◌, ℕ, Some, true, false, length, map, take, replicate};
 ghost use Rattle.std.specs.List.{list_any};
 ghost use Rattle.memory.specs.Addresses.{most_words};
-ghost use Rattle.multi_hart.specs.Run.{KeepsShape, State, run, turn};
+ghost use Rattle.multi_hart.specs.Run.{KeepsShape, State, hart_at, outcome, run, turn};
+ghost use Rattle.turn_log.specs.RunAt.{run_at};
 ghost use Rattle.debugger_pages.specs.Pages.{Marks};
 ghost use Rattle.debugger_stores.specs.Stored.{store_in};
 ghost use Rattle.debugger.specs.inner.Steps.{IsQuietUntil, steps_of};
@@ -81,6 +82,7 @@ pub(crate) fn make_some(
     requires before { way.place < way.limit }
     requires within { way.limit ≤ length log.now.turns }
     ensures state { (start : State) → machine.old ≡ run start (take way.place log.now.turns) → machine.new ≡ run start (take (way.place + result.turns) log.now.turns) }
+    ensures steps { (hart count : ℕ) → run_at log.now.turns way.place ≡ Some (hart, count) → result.steps ≡ steps_of machine.old hart result.turns }
     ensures some { 1 ≤ result.turns }
     ensures within { way.place + result.turns ≤ way.limit }
     ensures shape { KeepsShape machine.old machine.new }
@@ -126,7 +128,7 @@ pub(crate) struct Until {
     pub changed: bool,
 }
 
-/// Makes turns of a hart, at least one and at most so many: up to the first behind which it stands on a break, which changes a word at
+/// Makes turns of a hart that runs, at least one and at most so many, in each of which it runs: up to the first behind which it stands on a break, which changes a word at
 /// one of the watched addresses, or which doesn't step. It takes no memory.
 pub(crate) fn make_until(
     machine: &mut Machine,
@@ -141,7 +143,9 @@ pub(crate) fn make_until(
     requires meant { insns.now ≡ map store_in machine.old.text }
     requires few { length insns.now ≤ most_words }
     requires some { 1 ≤ most }
+    requires runs { (hart_at machine.old hart).status ≡ Status.Running }
     ensures state { machine.new ≡ run machine.old (replicate result.turns hart) }
+    ensures steps { steps_of machine.old hart result.turns ≡ result.turns }
     ensures some { (1 ≤ result.turns) × (result.turns ≤ most) }
     ensures quiet { IsQuietUntil machine.old hart breaks.now watches.now result.turns }
     ensures changed { result.changed ≡ list_any (differs (run machine.old (replicate (result.turns - 1) hart)) machine.new) watches.now }
@@ -162,7 +166,8 @@ pub(crate) fn make_until(
 
 /// Whether no mark stops behind a turn that stepped, where the hart now stands at this address and its turn is the next one.
 fn goes_on(told: Watched, pc: u32, breaks: &[u32]) -> bool
-    ensures { result ≡ true → (told.changed ≡ false) × (list_any (λ mark. mark == pc) breaks.now ≡ false) }
+    ensures stepped { result ≡ true → told.outcome ≡ Outcome.Stepped }
+    ensures quiet { result ≡ true → (told.changed ≡ false) × (list_any (λ mark. mark == pc) breaks.now ≡ false) }
 {
     let Outcome::Stepped = told.outcome else {
         return false;
@@ -191,6 +196,7 @@ fn turn_watched(
     requires meant { insns.now ≡ map store_in machine.old.text }
     requires few { length insns.now ≤ most_words }
     ensures state { machine.new ≡ turn machine.old hart }
+    ensures outcome { result.outcome ≡ outcome machine.old hart }
     ensures changed { result.changed ≡ list_any (differs machine.old machine.new) watches.now }
     ensures marks { Marks machine.old.memory machine.new.memory written.old written.new }
 {
@@ -216,6 +222,7 @@ fn turn_compared(
     requires meant { insns.now ≡ map store_in machine.old.text }
     requires few { length insns.now ≤ most_words }
     ensures state { machine.new ≡ turn machine.old hart }
+    ensures outcome { result.outcome ≡ outcome machine.old hart }
     ensures changed { result.changed ≡ list_any (differs machine.old machine.new) watches.now }
     ensures marks { Marks machine.old.memory machine.new.memory written.old written.new }
 {

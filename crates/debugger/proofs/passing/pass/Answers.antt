@@ -1,10 +1,12 @@
-use Rattle.std.proofs.Common.{◌+◌, ◌≤◌, ℕ, refl, sym, ap, subst, ◌∙◌, arith}
+use Rattle.std.proofs.Common.{◌+◌, ◌<◌, ◌≤◌, ℕ, length, refl, sym, ap, subst, ◌∙◌, arith}
 use Rattle.std.specs.Prelude.{◌≢◌}
 use Rattle.hart_core.specs.declared.harts.Status.TheVariants.{Running}
 use Rattle.multi_hart.specs.Run.{State, hart_at}
 use Rattle.turn_log.specs.TurnLog.{LogState}
 use Rattle.debugger_pages.proofs.Marking.{marks_none}
 use Rattle.debugger.specs.Places.{state_at}
+use Rattle.debugger.specs.inner.Steps.{steps_of}
+use Rattle.debugger.proofs.Counting.{rest-steps, same_hart}
 use Rattle.debugger.proofs.Places.{next-is, none-is}
 use Rattle.debugger.proofs.Passes.{at-once, rest-state, stands-behind, until-behind, until-between, until-of}
 use Rattle.debugger.proofs.passing.pass.Goals as goal
@@ -38,12 +40,17 @@ returns-in_default-status c =
     let some : 1 ≤ turns = omega arith in
     let most : turns ≤ c.in-Some.count = omega arith in
     let rests : (hart_at machine hart).status ≢ Running = λ runs. c.in_default-status.not-Running (c.status.ensures ∙ runs) in
+    let below : hart < length machine.harts = omega (arith, next.below, c.requires.harts) in
     record {
       passed = λ session fits. c.pass_rest.ensures.passed session c.args.watches.now c.in-Some.count fits run some most is;
       state = λ session fits.
           (let once = at-once session log machine place hart c.in-Some.count turns fits.same_log is run fits.state (c.requires.harts ∙ ap (λ (l : LogState). l.harts) fits.same_log) some most (λ two. rests) in
           let still = subst (λ (s : State). (hart_at s hart).status ≢ Running) fits.state rests in
           fits.state ∙ sym (rest-state session place hart c.in-Some.count turns once still) ∙ ap (λ (n : ℕ). state_at session (place + n)) (sym made));
+      steps = λ other count found.
+          (let same = same_hart _ hart c.in-Some.count other count run found in
+          c.pass_rest.ensures.steps ∙ sym (rest-steps machine hart turns below rests)
+          ∙ ap (λ (n : ℕ). steps_of machine hart n) (sym made) ∙ ap (λ (h : ℕ). steps_of machine h c.pass_rest.result.turns) same);
       some = omega arith;
       within = omega arith;
       shape = record { text = refl; bytes = refl; harts = refl };
@@ -100,3 +107,8 @@ returns-clause-state c = λ session fits.
     let within : c.make_until-until.result.turns ≤ c.in-Some.count = omega arith in
     stands-behind session c.args.log.now c.args.breaks.now c.args.watches.now c.args.machine.now c.make_until-until.new.machine c.args.way.place c.in-Some.hart c.in-Some.count c.make_until-until.result.turns fits
     c.harts-harts.ensures.log (sym c.run_at.ensures ∙ c.in-Some.is) within c.make_until-until.ensures.state
+
+pub returns-clause-steps : goal.returns-clause-steps
+returns-clause-steps c = λ hart count found.
+    let same = same_hart _ c.in-Some.hart c.in-Some.count hart count (sym c.run_at.ensures ∙ c.in-Some.is) found in
+    sym c.make_until-until.ensures.steps ∙ ap (λ (h : ℕ). steps_of c.args.machine.now h c.make_until-until.result.turns) same

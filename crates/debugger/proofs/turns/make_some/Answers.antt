@@ -1,5 +1,7 @@
-use Rattle.std.proofs.Common.{replicate, sym, ap, ◌∙◌, arith}
+use Rattle.std.proofs.Common.{ℕ, replicate, sym, ap, ◌∙◌, arith}
 use Rattle.multi_hart.specs.Run.{State, run}
+use Rattle.debugger.specs.inner.Steps.{steps_of}
+use Rattle.debugger.proofs.Counting.{same_hart}
 use Rattle.debugger.proofs.Places.{next-is, none-is, run-standing}
 use Rattle.debugger.proofs.turns.make_some.Goals as goal
 
@@ -34,3 +36,8 @@ returns-clause-state c = λ start from.
     c.make_counted-steps.ensures.state
     ∙ ap (λ (s : State). run s (replicate c.at_most-turns.result c.in-Some.hart)) from
     ∙ sym (run-standing start c.args.log.now.turns c.args.way.place c.in-Some.hart c.in-Some.count c.at_most-turns.result next.stand (omega (arith, c.at_most-turns.ensures.most)))
+
+pub returns-clause-steps : goal.returns-clause-steps
+returns-clause-steps c = λ hart count is.
+    let same = same_hart _ c.in-Some.hart c.in-Some.count hart count (sym c.run_at.ensures ∙ c.in-Some.is) is in
+    c.make_counted-steps.ensures.steps ∙ ap (λ (h : ℕ). steps_of c.args.machine.now h c.at_most-turns.result) same
