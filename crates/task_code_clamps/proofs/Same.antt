@@ -1,5 +1,5 @@
 -- Expressions without clamps that cut nothing off come to the same.
-use Rattle.std.proofs.Common.{◌≡◌, ℕ, List, [], ◌∷◌, ◌++◌, ap, ◌∙◌, sym, subst, ◌^◌, ◌<◌, Bool, true, false, arith}
+use Rattle.std.proofs.Common.{◌≡◌, ℕ, List, [], ◌∷◌, ◌++◌, refl, ap, ◌∙◌, sym, subst, ◌^◌, ◌<◌, Bool, true, false, arith}
 use Rattle.std.specs.Prelude.{◌==◌, ◌&&◌, if◌then◌else◌}
 use Rattle.std.proofs.lemmas.Bool.{and_parts, true≢false}
 use Rattle.std.proofs.lemmas.List.{append-nil}
@@ -24,6 +24,7 @@ use Rattle.task_code_clamps.specs.declared.clamps.Ranged.{Ranged}
 use Rattle.task_code_clamps.specs.declared.ranges.Range.{Range}
 use Rattle.task_code_clamps.specs.Clamps.{AreBytesAt, IsSame, IsRanged}
 use Rattle.task_code_clamps.specs.Ranges.{IsByte, LiesIn}
+use Rattle.task_code_clamps.specs.Steps.{IsTested}
 use Rattle.task_code_clamps.proofs.Lying.{sum-word}
 
 -- a number and a sum load nothing
@@ -178,6 +179,30 @@ module _ (places : Places) (bounds : List Bound) where
               let both = words-both o x y a b rx ry reads values below bytes k.0 in
               subst (λ n. n < 2 ^ 32) (sym (value_binary reads values o x y)) (choice k.1 (value reads values x) (value reads values y) both.0 both.1);
         })
+
+    -- by a test
+    pub by-test : (made : Expr) (range : Range) (is_word is_choice : Bool) → IsTested o a b made
+        → ((v w : ℕ) → LiesIn a.range v → LiesIn b.range w → LiesIn range (word.applied o v w))
+        → is_word ≡ ((a.is_word && b.is_word) && is_choice)
+        → (is_choice ≡ true → (v w : ℕ) → v < 2 ^ 32 → w < 2 ^ 32 → word.applied o v w < 2 ^ 32)
+        → IsRanged places bounds (e.Binary o x y) (record { e = made; range = range; is_word = is_word })
+    by-test made range is_word is_choice tested l ew choice =
+        let both = taken-both a.e b.e range is_word is_choice refl refl l ew choice in
+        record {
+          same = record {
+            value_is = λ reads values below bytes.
+                let p = parts o x y a b rx ry reads values below bytes in
+                let first = rx.same.value_is reads values below p.0 in
+                tested.value_is reads values (subst (λ n. LiesIn a.range n) (sym first) (lies-x o x y a b rx ry reads values below bytes))
+                ∙ sym (value_binary reads values o a.e b.e) ∙ both-value o x y a b rx ry reads values below bytes;
+            loads_are = λ reads values below bytes.
+                tested.none reads values
+                ∙ sym (loads_binary reads values o a.e b.e ∙ ap (λ k. k ++ loads reads values b.e) (tested.first_none reads values) ∙ tested.second_none
+                reads values) ∙ both-loads o x y a b rx ry reads values below bytes;
+          };
+          lies = both.lies;
+          word = both.word;
+        }
 
   pub ranged-binary : (own x y gx gy : Expr) (o : Operation) (a b made : Ranged) → own ≡ e.Binary o x y → gx ≡ x → gy ≡ y → IsRanged places bounds gx a
       → IsRanged places bounds gy b

@@ -1,2 +1,3 @@
 pub mod Clamps
 pub mod Ranges
+pub mod Steps

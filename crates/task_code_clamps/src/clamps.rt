@@ -13,6 +13,7 @@ ghost use Rattle.loop_ir.specs.declared.expressions.Expr.{Expr};
 ghost use Rattle.task_code_clamps.specs.Ranges.{LiesIn};
 
 use crate::ranges::{Range, ZERO, any, has_bytes, of_greater, of_lesser, of_pixels, of_sum, only};
+use crate::steps::by_test;
 use halide_pipeline::Operation;
 use loop_ir::expressions::Expr;
 use loop_ir::statements::Store;
@@ -155,6 +156,9 @@ fn of_both(alloc: Global, operation: Operation, a: Ranged, b: Ranged) -> Result<
     let range = range_of_both(operation, a.range, b.range);
     let stays = is_choice(operation);
     let is_word = both(are_words, stays);
+    if let Some(e) = by_test(alloc, operation, &a, &b)? {
+        return Ok(Ranged { e, range, is_word });
+    }
     let first = Boxed::new(alloc, a.e)?;
     let second = Boxed::new(alloc, b.e)?;
     Ok(Ranged {

@@ -2,7 +2,9 @@
 //!
 //! - [`ranges`]: between which numbers a word lies (`specs/Ranges.antt`).
 //! - [`clamps`]: expressions and stores without such clamps (`specs/Clamps.antt`).
+//! - [`steps`]: clamps that cut at one number alone, as sums with a test (`specs/Steps.antt`).
 #![tactic(auto)]
 
 pub mod clamps;
 pub mod ranges;
+mod steps;

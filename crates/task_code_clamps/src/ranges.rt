@@ -25,7 +25,7 @@ pub struct Range {
 pub const ZERO: u32 = 1 << 31;
 
 /// How far a word lies above -2^31.
-fn level(word: u32) -> u32
+pub fn level(word: u32) -> u32
     ensures { result ≡ spec.level word }
 {
     word.wrapping_add(ZERO)

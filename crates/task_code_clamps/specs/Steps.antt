@@ -1,0 +1,46 @@
+-- Clamps that cut at one number alone, as sums with a test. This project's own.
+use Rattle.std.specs.Prelude.{◌≡◌, ℕ, List, []}
+use Rattle.halide_pipeline.specs.declared.expressions.Operation.{Operation}
+use Rattle.halide_pipeline.specs.Pixel.{Reads}
+use Rattle.halide_pipeline.specs.Words as word
+use Rattle.loop_ir.specs.declared.expressions.Expr.{Expr}
+use Rattle.loop_ir.specs.declared.expressions.Linear.{Linear}
+use Rattle.loop_ir.specs.Counters.{Values}
+use Rattle.loop_ir.specs.Expressions.{linear_value, value, loads}
+use Rattle.task_code_clamps.specs.declared.clamps.Ranged.{Ranged}
+use Rattle.task_code_clamps.specs.declared.ranges.Range.{Range}
+use Rattle.task_code_clamps.specs.Ranges.{LiesIn}
+
+-- a sum is so much more
+abbrev pub IsMore : Linear → ℕ → Linear → Type 0
+IsMore own more made = (values : Values) → linear_value values made ≡ word.add (linear_value values own) more
+
+-- an expression is a sum, and 1 more where that is below a number, or 1 less where it is above; it loads nothing
+pub record IsSteppedUp (own : Linear) (number : ℕ) (made : Expr) : Type 0 where
+  pub value_is : (reads : Reads) (values : Values)
+      → value reads values made ≡ word.add (linear_value values own) (word.truth (word.less (linear_value values own) number))
+  pub none : (reads : Reads) (values : Values) → loads reads values made ≡ []
+
+pub record IsSteppedDown (own : Linear) (number : ℕ) (made : Expr) : Type 0 where
+  pub value_is : (reads : Reads) (values : Values)
+      → value reads values made ≡ word.subtract (linear_value values own) (word.truth (word.less number (linear_value values own)))
+  pub none : (reads : Reads) (values : Values) → loads reads values made ≡ []
+
+-- it is the greater of a sum and a number, or the lesser, where the sum lies in a range
+pub record IsGreater (own : Linear) (range : Range) (number : ℕ) (made : Expr) : Type 0 where
+  pub value_is : (reads : Reads) (values : Values) → LiesIn range (linear_value values own)
+      → value reads values made ≡ word.maximum (linear_value values own) number
+  pub none : (reads : Reads) (values : Values) → loads reads values made ≡ []
+
+pub record IsLesser (own : Linear) (range : Range) (number : ℕ) (made : Expr) : Type 0 where
+  pub value_is : (reads : Reads) (values : Values) → LiesIn range (linear_value values own)
+      → value reads values made ≡ word.minimum (linear_value values own) number
+  pub none : (reads : Reads) (values : Values) → loads reads values made ≡ []
+
+-- It is what an operation makes of two others, where the first lies in its range. None of the three loads anything.
+pub record IsTested (operation : Operation) (a b : Ranged) (made : Expr) : Type 0 where
+  pub value_is : (reads : Reads) (values : Values) → LiesIn a.range (value reads values a.e)
+      → value reads values made ≡ word.applied operation (value reads values a.e) (value reads values b.e)
+  pub none : (reads : Reads) (values : Values) → loads reads values made ≡ []
+  pub first_none : (reads : Reads) (values : Values) → loads reads values a.e ≡ []
+  pub second_none : (reads : Reads) (values : Values) → loads reads values b.e ≡ []
