@@ -1,0 +1,124 @@
+//! Expressions once more, whether two are the same, and which load nothing.
+
+ghost use Rattle.std.specs.Prelude.{◌≡◌, IfOk, true};
+ghost use Rattle.task_code_names.specs.Copies.{IsStill};
+
+use loop_ir::expressions::Expr;
+use sqlite_items::Boxed;
+use std::alloc::{AllocError, Global};
+use task_code_values::updates::same_index;
+
+/// Whether two expressions are the same, node by node.
+pub fn is_same(a: &Expr, b: &Expr) -> bool
+    ensures { result ≡ true → a.now ≡ b.now }
+{
+    match a {
+        Expr::Binary(operation, x, y) => match b {
+            Expr::Binary(own, u, v) => {
+                if *operation == *own && is_same(x.get(), u.get()) {
+                    is_same(y.get(), v.get())
+                } else {
+                    false
+                }
+            }
+            _ => false,
+        },
+        Expr::Divide(x, divisor) => match b {
+            Expr::Divide(u, own) => {
+                if *divisor == *own {
+                    is_same(x.get(), u.get())
+                } else {
+                    false
+                }
+            }
+            _ => false,
+        },
+        Expr::Remainder(x, divisor) => match b {
+            Expr::Remainder(u, own) => {
+                if *divisor == *own {
+                    is_same(x.get(), u.get())
+                } else {
+                    false
+                }
+            }
+            _ => false,
+        },
+        Expr::Select(c, x, y) => match b {
+            Expr::Select(d, u, v) => {
+                if is_same(c.get(), d.get()) && is_same(x.get(), u.get()) {
+                    is_same(y.get(), v.get())
+                } else {
+                    false
+                }
+            }
+            _ => false,
+        },
+        _ => same_index(a, b),
+    }
+}
+
+/// Whether an expression loads nothing.
+pub fn is_still(e: &Expr) -> bool
+    ensures { result ≡ true → IsStill e.now }
+{
+    match e {
+        Expr::Number(_) => true,
+        Expr::Linear(_) => true,
+        Expr::Binary(_, a, b) => is_still(a.get()) && is_still(b.get()),
+        Expr::Divide(a, _) => is_still(a.get()),
+        Expr::Remainder(a, _) => is_still(a.get()),
+        Expr::Select(c, a, b) => is_still(c.get()) && (is_still(a.get()) && is_still(b.get())),
+        Expr::Load(_, _, _) => false,
+    }
+}
+
+#[cycle(copying)]
+fn copy_part(alloc: Global, e: &Expr) -> Result<Boxed<Expr>, AllocError>
+    ensures { IfOk result (λ made. made ≡ e.now) }
+{
+    let made = copy_of(alloc, e)?;
+    let boxed = Boxed::new(alloc, made)?;
+    Ok(boxed)
+}
+
+/// An expression once more.
+///
+/// # Errors
+///
+/// Memory ran out.
+#[cycle(copying)]
+pub fn copy_of(alloc: Global, e: &Expr) -> Result<Expr, AllocError>
+    ensures { IfOk result (λ made. made ≡ e.now) }
+{
+    match e {
+        Expr::Number(n) => Ok(Expr::Number(*n)),
+        Expr::Linear(own) => {
+            let sum = own.copy(alloc)?;
+            Ok(Expr::Linear(sum))
+        }
+        Expr::Binary(operation, a, b) => {
+            let first = copy_part(alloc, a.get())?;
+            let second = copy_part(alloc, b.get())?;
+            Ok(Expr::Binary(*operation, first, second))
+        }
+        Expr::Divide(a, divisor) => {
+            let first = copy_part(alloc, a.get())?;
+            Ok(Expr::Divide(first, *divisor))
+        }
+        Expr::Remainder(a, divisor) => {
+            let first = copy_part(alloc, a.get())?;
+            Ok(Expr::Remainder(first, *divisor))
+        }
+        Expr::Select(c, a, b) => {
+            let condition = copy_part(alloc, c.get())?;
+            let first = copy_part(alloc, a.get())?;
+            let second = copy_part(alloc, b.get())?;
+            Ok(Expr::Select(condition, first, second))
+        }
+        Expr::Load(source, x, y) => {
+            let column = copy_part(alloc, x.get())?;
+            let row = copy_part(alloc, y.get())?;
+            Ok(Expr::Load(*source, column, row))
+        }
+    }
+}
