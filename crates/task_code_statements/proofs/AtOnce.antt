@@ -43,6 +43,9 @@ use Rattle.task_code_lane_values.specs.declared.vectorized.Lanes.{Lanes}
 use Rattle.task_code_runs.specs.Naming.{AreNamed}
 use Rattle.task_code_runs.specs.Runs.{EmitsRun, StoresAs, all_lanes, left_lanes, run_of}
 use Rattle.task_code_runs.proofs.Idling.{none-hit, none-run}
+use Rattle.task_code_names.specs.declared.names.Named.{Named}
+use Rattle.task_code_names.specs.Names.{AreNames, IsNamedStore}
+use Rattle.task_code_names.proofs.Alike.{store-then}
 use Rattle.task_code_statements.specs.declared.contexts.Context.{Context}
 use Rattle.task_code_statements.specs.declared.guards.Guard.{Guard}
 use Rattle.task_code_statements.specs.declared.guards.Parted.{Parted}
@@ -65,11 +68,14 @@ use Rattle.task_code_statements.proofs.Storing.{same-sound}
 
 -- ---- stores
 
-pub store-of : (context : Context) (known : List Known) (body : Stmt) (store made : Store) (own : Guarded) → IsPlainStore store
-    → known ≡ context.known.items → body ≡ s.Store store → IsSameStore known store made → own.store ≡ made → own.guards.items ≡ [] → IsStoreOf context body own
-store-of context known body store made own plain ek eb is es eg = subst (λ b. IsStoreOf context b own) (sym eb) (record {
+pub store-of : (context : Context) (known : List Known) (names : List Named) (body : Stmt) (store first made : Store) (own : Guarded) → IsPlainStore store
+    → known ≡ context.known.items → names ≡ context.names.items → body ≡ s.Store store → IsSameStore known store first → IsNamedStore names first made
+    → own.store ≡ made → own.guards.items ≡ [] → IsStoreOf context body own
+store-of context known names body store first made own plain ek en eb one two es eg = subst (λ b. IsStoreOf context b own) (sym eb) (record {
   stores = λ reads values named same meets.
-      let are = subst (λ k. AreKnown k named) (sym ek) meets.known in
+      let are : AreKnown known named × AreNames names named =
+      (subst (λ k. AreKnown k named) (sym ek) meets.known, subst (λ k. AreNames k named) (sym en) meets.named) in
+      let is = store-then (AreKnown known) (AreNames names) store first made one two in
       effect_store reads store values
       ∙ ap (λ k. Some (record { func = k; x = value reads values store.x; y = value reads values store.y; pixel = value reads values store.value })) (sym
       is.func_is)
@@ -82,9 +88,11 @@ store-of context known body store made own plain ek eb is es eg = subst (λ b. I
       ∙ sym (effect_store reads made named)
       ∙ sym (ap (λ l. cond (passes l named) (effect reads (s.Store own.store) named) None) eg ∙ ap (λ t. effect reads (s.Store t) named) es);
   sound = λ reads written loaded values named same meets passed so.
-      let are = subst (λ k. AreKnown k named) (sym ek) meets.known in
+      let are : AreKnown known named × AreNames names named =
+      (subst (λ k. AreKnown k named) (sym ek) meets.known, subst (λ k. AreNames k named) (sym en) meets.named) in
+      let is = store-then (AreKnown known) (AreNames names) store first made one two in
       ap (λ t. is_sound reads written loaded (s.Store t) named) es
-      ∙ sound_store reads written loaded made named ∙ same-sound known store made is named are reads written loaded
+      ∙ sound_store reads written loaded made named ∙ same-sound (λ values. AreKnown known values × AreNames names values) store made is named are reads written loaded
       ∙ plain-sound store plain values named same reads written loaded ∙ sym (sound_store reads written loaded store values) ∙ so;
 })
 

@@ -1,6 +1,7 @@
 pub mod Following
 pub mod Guarding
 pub mod Meeting
+pub mod Giving
 pub mod Naming
 pub mod Nesting
 pub mod Plainness

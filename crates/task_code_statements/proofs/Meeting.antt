@@ -1,8 +1,9 @@
 -- What is known of loop variables, inside of loops and behind what binds them.
-use Rattle.std.proofs.Common.{◌≡◌, ℕ, ◌%◌, ◌^◌, ◌<◌, List, [], ◌∷◌, Bool, true, false, refl, ap, ◌∙◌, sym, subst}
+use Rattle.std.proofs.Common.{◌≡◌, ℕ, ◌%◌, ◌^◌, ◌<◌, List, [], ◌∷◌, ◌++◌, Bool, true, false, refl, ap, ◌∙◌, sym, subst}
 use Rattle.std.specs.Prelude.{◌&&◌, ◌||◌, not, if◌then◌else◌}
 use Rattle.std.proofs.lemmas.Bool.{true≢false}
 use Rattle.loop_ir.specs.declared.expressions.Counter.{Counter}
+use Rattle.loop_ir.specs.declared.expressions.Expr.{Expr}
 use Rattle.loop_ir.specs.declared.expressions.Linear.{Linear}
 use Rattle.loop_ir.specs.Counters.{Values, same_counter, with}
 use Rattle.task_code_registers.specs.Strides.{has_counter}
@@ -13,8 +14,11 @@ use Rattle.task_code_loops.specs.Bounds.{AreBelow}
 use Rattle.task_code_loops.specs.Known.{AreKnown, is_fresh}
 use Rattle.task_code_loops.proofs.Knowledge.{stands-at}
 use Rattle.task_code_loops.proofs.Rewriting.{known-stays, one-more-is-known}
+use Rattle.task_code_names.specs.declared.names.Named.{Named}
+use Rattle.task_code_names.specs.Names.{AreNames, HasValue}
 use Rattle.task_code_statements.specs.declared.contexts.Context.{Context}
-use Rattle.task_code_statements.specs.Contexts.{MeetsLoop, MeetsSum, MeetsZero, is_bounded, without}
+use Rattle.task_code_statements.specs.Contexts.{KeepsNames, MeetsLoop, MeetsName, MeetsSum, MeetsZero, StayNamed, is_bounded, without}
+use Rattle.task_code_statements.specs.Lacking.{Lacks}
 
 if-false : (t b : Bool) → (if t then true else b) ≡ false → (t ≡ false) × (b ≡ false)
 if-false true b e = absurd (true≢false e)
@@ -51,39 +55,104 @@ without-known counter (own ∷ others) values are =
     by true rest = rest
     by false rest = (are.0, rest)
 
+-- ---- names
+
+append-named : (first others : List Named) (values : Values) → AreNames first values → AreNames others values → AreNames (first ++ others) values
+append-named [] others values are more = more
+append-named (own ∷ rest) others values are more = (are.0, append-named rest others values are.1 more)
+
+-- a name keeps its value where another variable stands, which its expression lacks
+name-stays : (counter : Counter) (own : Named) (values : Values) (v : ℕ) → same_counter own.counter counter ≡ false → Lacks counter own.e
+    → HasValue own.counter own.e values → HasValue own.counter own.e (with counter v values)
+name-stays counter own values v other lacks k =
+    let e : with counter v values own.counter ≡ values own.counter = ap (λ t. if t then v else values own.counter) other in
+    record {
+      value_is = λ reads. lacks.value_is reads values v ∙ k.value_is reads ∙ sym e;
+      none = λ reads. lacks.loads_are reads values v ∙ k.none reads;
+      small = subst (λ n. n < 2 ^ 32) (sym e) k.small;
+    }
+
+pub none-kept : (counter : Counter) (names old : List Named) → KeepsNames counter names old old
+none-kept counter names old values v are kept = kept
+
+pub passed-by : (counter : Counter) (names others old new : List Named) (first : Named) → names ≡ first ∷ others → KeepsNames counter others old new
+    → KeepsNames counter names old new
+passed-by counter names others old new first is keeps = subst (λ l. KeepsNames counter l old new) (sym is) (λ values v are kept. keeps values v are.1 kept)
+
+pub one-kept : (counter : Counter) (names others old mid new : List Named) (first : Named) (e : Expr) → names ≡ first ∷ others
+    → same_counter first.counter counter ≡ false → Lacks counter first.e → e ≡ first.e
+    → mid ≡ old ++ (record { counter = first.counter; e = e } ∷ []) → KeepsNames counter others mid new → KeepsNames counter names old new
+one-kept counter names others old mid new first e is other lacks same em keeps =
+    subst (λ l. KeepsNames counter l old new) (sym is) (λ values v are kept.
+    let own = name-stays counter first values v other lacks are.0 in
+    let here = subst (λ x. HasValue first.counter x (with counter v values)) (sym same) own in
+    keeps values v are.1 (subst (λ l. AreNames l (with counter v values)) (sym em)
+    (append-named old (record { counter = first.counter; e = e } ∷ []) (with counter v values) kept (here, tt))))
+
+pub stay-named : (counter : Counter) (names none made : List Named) → none ≡ [] → KeepsNames counter names none made → StayNamed counter names made
+stay-named counter names none made is keeps values v are =
+    keeps values v are (subst (λ l. AreNames l (with counter v values)) (sym is) tt)
+
 module _ (context : Context) (counter : Counter) where
   abbrev rest : List Known
   rest = without counter context.known.items
 
   pub loop-meets : (free : is_bounded context.bounds.items counter ≡ false) (count : ℕ) (made : Context) → made.known.items ≡ rest
-      → made.bounds.items ≡ record { counter = counter; count = count } ∷ context.bounds.items → MeetsLoop context counter count made
-  loop-meets free count made ek eb = record {
+      → made.bounds.items ≡ record { counter = counter; count = count } ∷ context.bounds.items → StayNamed counter context.names.items made.names.items
+      → MeetsLoop context counter count made
+  loop-meets free count made ek eb names = record {
     meets = λ values i less m. record {
       known = subst (λ k. AreKnown k (with counter i values)) (sym ek)
           (known-stays counter i rest values (without-fresh counter context.known.items) (without-known counter context.known.items values m.known));
       below = subst (λ b. AreBelow b (with counter i values)) (sym eb)
           (subst (λ n. n < count) (sym (stands-at counter i values)) less, below-stays counter i context.bounds.items values free m.below);
+      named = names values i m.named;
     };
   }
 
   pub sum-meets : (free : is_bounded context.bounds.items counter ≡ false) (sum : Linear) (made : Context) → has_counter counter sum.terms ≡ false
       → made.known.items ≡ record { counter = counter; sum = sum } ∷ rest → made.bounds.items ≡ context.bounds.items
-      → MeetsSum context counter sum made
-  sum-meets free sum made none ek eb = record {
+      → StayNamed counter context.names.items made.names.items → MeetsSum context counter sum made
+  sum-meets free sum made none ek eb names = record {
     meets = λ values v is m. record {
       known = subst (λ k. AreKnown k (with counter v values)) (sym ek)
           (one-more-is-known counter v sum rest values (without-fresh counter context.known.items) none is
           (without-known counter context.known.items values m.known));
       below = subst (λ b. AreBelow b (with counter v values)) (sym eb) (below-stays counter v context.bounds.items values free m.below);
+      named = names values v m.named;
     };
   }
 
   pub zero-meets : (zero : Linear) (made : Context) → ((values : Values) → linear_value values zero ≡ 0)
-      → made.known.items ≡ record { counter = counter; sum = zero } ∷ rest → made.bounds.items ≡ context.bounds.items → MeetsZero context counter made
-  zero-meets zero made is ek eb = record {
+      → made.known.items ≡ record { counter = counter; sum = zero } ∷ rest → made.bounds.items ≡ context.bounds.items
+      → made.names.items ≡ context.names.items → MeetsZero context counter made
+  zero-meets zero made is ek eb en = record {
     meets = λ values none m. record {
       known = subst (λ k. AreKnown k values) (sym ek)
           (ap (λ n. n % 2 ^ 32) none ∙ sym (is values), without-known counter context.known.items values m.known);
       below = subst (λ b. AreBelow b values) (sym eb) m.below;
+      named = subst (λ l. AreNames l values) (sym en) m.named;
     };
+  }
+
+  -- a new name
+  pub name-meets : (free : is_bounded context.bounds.items counter ≡ false) (e copied : Expr) (made : Context) (none one : List Named) → Lacks counter e
+      → copied ≡ e → none ≡ [] → one ≡ none ++ (record { counter = counter; e = copied } ∷ []) → KeepsNames counter context.names.items one made.names.items
+      → made.known.items ≡ rest → made.bounds.items ≡ context.bounds.items → MeetsName context counter e made
+  name-meets free e copied made none one lacks same e0 e1 keeps ek eb = record {
+    meets = λ values v small value_is loads_are m.
+        let here : with counter v values counter ≡ v = stands-at counter v values in
+        let own : HasValue counter e (with counter v values) = record {
+          value_is = λ reads. lacks.value_is reads values v ∙ value_is reads ∙ sym here;
+          none = λ reads. lacks.loads_are reads values v ∙ loads_are reads;
+          small = subst (λ n. n < 2 ^ 32) (sym here) small;
+        } in
+        let all = subst (λ l. AreNames l (with counter v values)) (sym (e1 ∙ ap (λ l. l ++ (record { counter = counter; e = copied } ∷ [])) e0))
+        (subst (λ x. HasValue counter x (with counter v values)) (sym same) own, tt) in
+        record {
+          known = subst (λ k. AreKnown k (with counter v values)) (sym ek)
+              (known-stays counter v rest values (without-fresh counter context.known.items) (without-known counter context.known.items values m.known));
+          below = subst (λ b. AreBelow b (with counter v values)) (sym eb) (below-stays counter v context.bounds.items values free m.below);
+          named = keeps values v m.named all;
+        };
   }

@@ -19,7 +19,7 @@ use Rattle.task_code_values.proofs.Evaluating.{value_number, value_linear, value
 use Rattle.task_code_values.proofs.Evaluating.{loads_binary, loads_divide, loads_remainder, loads_select, loads_load}
 use Rattle.task_code_statements.specs.Naming.{has_name}
 use Rattle.task_code_statements.specs.Plain.{IsPlain}
-use Rattle.task_code_statements.proofs.Same.{loads_number, loads_linear}
+use Rattle.task_code_names.proofs.Alike.{loads_number, loads_linear}
 
 -- ---- values of names
 

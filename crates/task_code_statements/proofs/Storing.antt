@@ -20,16 +20,13 @@ use Rattle.task_code_scalar.specs.declared.places.Places.{Places}
 use Rattle.task_code_scalar.specs.Doing.{Setting, SoundIn, RunsIn, stored_points}
 use Rattle.task_code_scalar.proofs.Tracing.{hit-store}
 use Rattle.task_code_registers.specs.declared.scopes.Held.{Held}
-use Rattle.task_code_loops.specs.declared.known.Known.{Known}
-use Rattle.task_code_loops.specs.Known.{AreKnown}
-use Rattle.task_code_values.specs.Storing.{MakesStore}
 use Rattle.task_code_statements.specs.declared.contexts.Context.{Context}
 use Rattle.task_code_statements.specs.Contexts.{Meets}
-use Rattle.task_code_statements.specs.Rewriting.{IsSameStore}
+use Rattle.task_code_names.specs.Alike.{IsAlikeStore}
 use Rattle.task_code_statements.specs.Statements.{EmitsStatement}
 use Rattle.task_code_statements.proofs.Following.{did-is}
 
-module _ (known : List Known) (store made : Store) (is : IsSameStore known store made) (values : Values) (are : AreKnown known values) where
+module _ (is_so : Values → Type 0) (store made : Store) (is : IsAlikeStore is_so store made) (values : Values) (are : is_so values) where
   pub same-sound : (reads : Reads) (written : Points) (loaded : Point → Bool)
       → is_sound_store reads written loaded made values ≡ is_sound_store reads written loaded store values
   same-sound reads written loaded =

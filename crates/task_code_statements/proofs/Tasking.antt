@@ -19,6 +19,7 @@ use Rattle.task_code_loops.proofs.Knowledge.{variable-value}
 use Rattle.task_code_loops.specs.Bounds.{AreBelow}
 use Rattle.task_code_loops.specs.Known.{AreKnown}
 use Rattle.task_code_statements.specs.declared.contexts.Context.{Context}
+use Rattle.task_code_names.specs.Names.{AreNames}
 use Rattle.task_code_statements.specs.Contexts.{Meets, MeetsLoop, MeetsZero, IsEmpty}
 use Rattle.task_code_statements.specs.Statements.{EmitsStatement}
 use Rattle.task_code_statements.proofs.Plainness.{named-same}
@@ -30,6 +31,7 @@ empty-meets : (context : Context) → IsEmpty context → (values : Counter → 
 empty-meets context is values = record {
   known = subst (λ k. AreKnown k values) (sym is.known) tt;
   below = subst (λ b. AreBelow b values) (sym is.bounds) tt;
+  named = subst (λ l. AreNames l values) (sym is.names) tt;
 }
 
 pub none-begins : (counter : Option Counter) (tasks : ℕ) (scope : List Held) (context : Context) → counter ≡ None → scope ≡ [] → IsEmpty context

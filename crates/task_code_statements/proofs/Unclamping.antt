@@ -36,8 +36,11 @@ use Rattle.task_code_clamps.specs.Clamps.{AreBytesAt, IsSame}
 use Rattle.task_code_clamps.specs.Clamps as clamps
 use Rattle.task_code_clamps.specs.Ranges.{IsByte}
 use Rattle.task_code_values.specs.Storing.{MakesStore}
+use Rattle.task_code_names.specs.declared.names.Named.{Named}
+use Rattle.task_code_names.specs.Names.{AreNames, IsNamedStore}
 use Rattle.task_code_statements.specs.declared.contexts.Context.{Context}
 use Rattle.task_code_statements.specs.Contexts.{Meets}
+use Rattle.task_code_statements.specs.Making.{IsMadeStore}
 use Rattle.task_code_statements.specs.Rewriting.{IsSameStore}
 use Rattle.task_code_statements.specs.Statements.{EmitsStatement}
 use Rattle.task_code_statements.proofs.Following.{did-is}
@@ -171,26 +174,46 @@ module _ (own : Setting) (values : Values) (bounds : List Bound) (below : AreBel
   here-same sound =
       are-same funcs (sym (sound_store (reads_of own.inputs funcs) own.written own.loaded store values) ∙ sound funcs holds.are_words)
 
-pub unclamped-emits : (places : Places) (scope : List Held) (context : Context) (known : List Known) (bounds : List Bound) (store made last : Store)
-    (c0 c1 : List ℕ) → IsPlainStore store → known ≡ context.known.items → bounds ≡ context.bounds.items → IsSameStore known store made
-    → clamps.IsSameStore places bounds made last → MakesStore c0 c1 places scope last
-    → EmitsStatement c0 c1 places scope (Meets context) (s.Store store)
-unclamped-emits places scope context known bounds store made last c0 c1 simple ek eb is plain x = record {
+pub made-is : (places : Places) (context : Context) (known : List Known) (bounds : List Bound) (names : List Named) (store first second made : Store)
+    → known ≡ context.known.items → bounds ≡ context.bounds.items → names ≡ context.names.items → IsSameStore known store first
+    → clamps.IsSameStore places bounds first second → IsNamedStore names second made → IsMadeStore places context store made
+made-is places context known bounds names store first second made ek eb en one two three = record {
+  first = first;
+  second = second;
+  by_others = subst (λ k. IsSameStore k store first) ek one;
+  without_clamps = subst (λ b. clamps.IsSameStore places b first second) eb two;
+  by_names = subst (λ n. IsNamedStore n second made) en three;
+}
+
+pub made-emits : (places : Places) (scope : List Held) (context : Context) (store final : Store) (c0 c1 : List ℕ) → IsPlainStore store
+    → IsMadeStore places context store final → MakesStore c0 c1 places scope final → EmitsStatement c0 c1 places scope (Meets context) (s.Store store)
+made-emits places scope context store final c0 c1 simple m x = record {
   insns = x.insns;
   emits = x.emits;
   turns = λ named. length x.insns;
   does = λ own good at values named named-are holders meets may f memory funcs holds knows.
-      let are = subst (λ k. AreKnown k named) (sym ek) meets.known in
-      let below = subst (λ k. AreBelow k named) (sym eb) meets.below in
-      let plain-here = subst (λ ps. clamps.IsSameStore ps bounds made last) (sym at) plain in
-      let sound = sound-made known store made is named are own (sound-plain store simple values named named-are own may.sound) in
-      let sure = runs-made known store made is named are own (runs-plain store simple values named named-are own may.in_runs) in
+      let known = context.known.items in
+      let bounds = context.bounds.items in
+      let names = context.names.items in
+      let made = m.first in
+      let last = m.second in
+      let is = m.by_others in
+      let called = m.by_names in
+      let are = meets.known in
+      let below = meets.below in
+      let all = meets.named in
+      let plain-here = subst (λ ps. clamps.IsSameStore ps bounds made last) (sym at) m.without_clamps in
+      let sound = sound-made (AreKnown known) store made is named are own (sound-plain store simple values named named-are own may.sound) in
+      let sure = runs-made (AreKnown known) store made is named are own (runs-plain store simple values named named-are own may.in_runs) in
       let same = here-same own named bounds below memory funcs holds made last plain-here sound in
+      let last-sound = sound-unclamped own named bounds below memory funcs holds made last plain-here sound in
+      let last-sure = runs-same own named made last plain-here.func_is sure in
       did-is refl
-      (run-same own named made last funcs same ∙ run-made known store made is named are own funcs ∙ run-plain store simple values named named-are own funcs)
+      (run-made (AreNames names) last final called named all own funcs ∙ run-same own named made last funcs same
+      ∙ run-made (AreKnown known) store made is named are own funcs ∙ run-plain store simple values named named-are own funcs)
       (λ func i j hit.
-      stored-same own named made last funcs func i j same ∙ stored-made known store made is named are own funcs func i j
-      ∙ stored-plain store simple values named named-are own funcs func i j ∙ hit)
-      (x.does own good at named (sound-unclamped own named bounds below memory funcs holds made last plain-here sound)
-      (runs-same own named made last plain.func_is sure) holders f memory funcs holds knows);
+      stored-made (AreNames names) last final called named all own funcs func i j ∙ stored-same own named made last funcs func i j same
+      ∙ stored-made (AreKnown known) store made is named are own funcs func i j ∙ stored-plain store simple values named named-are own funcs func i j ∙ hit)
+      (x.does own good at named (sound-made (AreNames names) last final called named all own last-sound)
+      (runs-made (AreNames names) last final called named all own last-sure) holders f memory funcs holds knows);
 }

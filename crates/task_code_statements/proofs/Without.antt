@@ -16,7 +16,7 @@ use Rattle.task_code_registers.proofs.Striding.{linear-steady}
 use Rattle.task_code_values.proofs.Evaluating.{value_number, value_linear, value_binary, value_divide, value_remainder, value_select, value_load}
 use Rattle.task_code_values.proofs.Evaluating.{loads_binary, loads_divide, loads_remainder, loads_select, loads_load}
 use Rattle.task_code_statements.specs.Lacking.{Lacks}
-use Rattle.task_code_statements.proofs.Same.{loads_number, loads_linear}
+use Rattle.task_code_names.proofs.Alike.{loads_number, loads_linear}
 
 abbrev point : Source → ℕ → ℕ → Point
 point source x y = record { source = source; x = x; y = y }

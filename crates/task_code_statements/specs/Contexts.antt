@@ -1,24 +1,30 @@
 -- What is known of loop variables while code runs. This project's own.
 use Rattle.std.specs.Prelude.{◌≡◌, ◌<◌, ℕ, ◌%◌, ◌^◌, ◌||◌, if◌then◌else◌, Bool, true, false, List, [], ◌∷◌}
+use Rattle.halide_pipeline.specs.Pixel.{Reads}
 use Rattle.loop_ir.specs.declared.expressions.Counter.{Counter}
+use Rattle.loop_ir.specs.declared.expressions.Expr.{Expr}
 use Rattle.loop_ir.specs.declared.expressions.Linear.{Linear}
 use Rattle.loop_ir.specs.Counters.{Values, same_counter, with}
-use Rattle.loop_ir.specs.Expressions.{linear_value}
+use Rattle.loop_ir.specs.Expressions.{linear_value, value, loads}
 use Rattle.task_code_registers.specs.Strides.{has_counter}
 use Rattle.task_code_loops.specs.declared.known.Known.{Known}
 use Rattle.task_code_loops.specs.declared.bounds.Bound.{Bound}
 use Rattle.task_code_loops.specs.Bounds.{AreBelow}
 use Rattle.task_code_loops.specs.Known.{AreKnown}
+use Rattle.task_code_names.specs.declared.names.Named.{Named}
+use Rattle.task_code_names.specs.Names.{AreNames}
 use Rattle.task_code_statements.specs.declared.contexts.Context.{Context}
 
--- variables have the values of their sums, and are below their counts
+-- variables have the values of their sums, and are below their counts, and names have those of their expressions
 pub record Meets (context : Context) (values : Values) : Type 0 where
   pub known : AreKnown context.known.items values
   pub below : AreBelow context.bounds.items values
+  pub named : AreNames context.names.items values
 
 pub record IsEmpty (context : Context) : Type 0 where
   pub known : context.known.items ≡ []
   pub bounds : context.bounds.items ≡ []
+  pub names : context.names.items ≡ []
 
 -- so it is in each iteration of a loop
 pub record MeetsLoop (context : Context) (counter : Counter) (count : ℕ) (made : Context) : Type 0 where
@@ -31,6 +37,22 @@ pub record MeetsSum (context : Context) (counter : Counter) (sum : Linear) (made
 -- and where one that stands at 0 is known to do so
 pub record MeetsZero (context : Context) (counter : Counter) (made : Context) : Type 0 where
   pub meets : (values : Values) → values counter ≡ 0 → Meets context values → Meets made values
+
+-- and where a name has an expression's value, which is a word and loads nothing
+pub record MeetsName (context : Context) (counter : Counter) (e : Expr) (made : Context) : Type 0 where
+  pub meets : (values : Values) (v : ℕ) → v < 2 ^ 32 → ((reads : Reads) → value reads values e ≡ v) → ((reads : Reads) → loads reads values e ≡ [])
+      → Meets context values → Meets made (with counter v values)
+
+-- ---- names
+
+-- names have their values wherever a variable stands
+abbrev pub StayNamed : Counter → List Named → List Named → Type 0
+StayNamed counter names made = (values : Values) (v : ℕ) → AreNames names values → AreNames made (with counter v values)
+
+-- so it is with those behind others
+abbrev pub KeepsNames : Counter → List Named → List Named → List Named → Type 0
+KeepsNames counter names old new =
+    (values : Values) (v : ℕ) → AreNames names values → AreNames old (with counter v values) → AreNames new (with counter v values)
 
 -- ---- other variables
 

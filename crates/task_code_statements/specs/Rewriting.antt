@@ -10,22 +10,19 @@ use Rattle.loop_ir.specs.Counters.{Values}
 use Rattle.loop_ir.specs.Expressions.{linear_value, value, loads}
 use Rattle.task_code_loops.specs.declared.known.Known.{Known}
 use Rattle.task_code_loops.specs.Known.{AreKnown}
+use Rattle.task_code_names.specs.Alike.{IsAlike, IsAlikeStore}
 
 -- a sum comes to the same wherever these are known
 pub record IsSameSum (known : List Known) (own made : Linear) : Type 0 where
   pub value_is : (values : Values) → AreKnown known values → linear_value values made ≡ linear_value values own
 
 -- an expression comes to the same there, and loads the same points
-pub record IsSameExpr (known : List Known) (own made : Expr) : Type 0 where
-  pub value_is : (reads : Reads) (values : Values) → AreKnown known values → value reads values made ≡ value reads values own
-  pub loads_are : (reads : Reads) (values : Values) → AreKnown known values → loads reads values made ≡ loads reads values own
+abbrev pub IsSameExpr : List Known → Expr → Expr → Type 0
+IsSameExpr known own made = IsAlike (AreKnown known) own made
 
 -- a store writes the same value at the same point
-pub record IsSameStore (known : List Known) (own made : Store) : Type 0 where
-  pub func_is : made.func ≡ own.func
-  pub column : IsSameExpr known own.x made.x
-  pub row : IsSameExpr known own.y made.y
-  pub pixel : IsSameExpr known own.value made.value
+abbrev pub IsSameStore : List Known → Store → Store → Type 0
+IsSameStore known own made = IsAlikeStore (AreKnown known) own made
 
 -- ---- operations
 

@@ -1,21 +1,25 @@
 //! What is known of loop variables while code runs.
 
-ghost use Rattle.std.specs.Prelude.{◌≡◌, ◌++◌, ◌∷◌, IfOk, OnOk};
+ghost use Rattle.std.specs.Prelude.{◌≡◌, ◌++◌, ◌∷◌, IfOk, IfSome, OnOk};
 ghost use Rattle.task_code_registers.specs.Strides.{has_counter};
 ghost use Rattle.task_code_statements.specs.Contexts as contexts;
-ghost use Rattle.task_code_statements.specs.Contexts.{IsEmpty, MeetsLoop, MeetsSum, MeetsZero};
+ghost use Rattle.task_code_statements.specs.Contexts.{IsEmpty, KeepsNames, MeetsLoop, MeetsName, MeetsSum, MeetsZero, StayNamed};
 
-use loop_ir::expressions::{Counter, Linear, Term, same_counter};
+use crate::lacking::lacks;
+use loop_ir::expressions::{Counter, Expr, Linear, Term, same_counter};
 use std::alloc::{AllocError, Global};
 use task_code_loops::bounds::Bound;
 use task_code_loops::known::Known;
+use task_code_names::copies::copy_of;
+use task_code_names::names::Named;
 use task_code_scalar::CodeFault;
 
-/// Loop variables that are sums of others, and numbers below which loop variables stay.
+/// Loop variables that are sums of others, numbers below which loop variables stay, and names.
 #[derive(Debug, Drop)]
 pub struct Context {
     pub known: Vec<Known>,
     pub bounds: Vec<Bound>,
+    pub names: Vec<Named>,
     /// Whether each loop holds its variable first, so that any address can be made of variables.
     pub with_variables: bool,
 }
@@ -27,6 +31,7 @@ pub fn nothing_known(alloc: Global, with_variables: bool) -> Context
     Context {
         known: Vec::new(alloc),
         bounds: Vec::new(alloc),
+        names: Vec::new(alloc),
         with_variables,
     }
 }
@@ -127,6 +132,42 @@ fn copy_bounds(alloc: Global, bounds: &[Bound]) -> Result<Vec<Bound>, AllocError
     Ok(made)
 }
 
+/// Appends copies of the names of what lacks a loop variable.
+fn keep_names(
+    alloc: Global,
+    made: &mut Vec<Named>,
+    names: &[Named],
+    counter: Counter,
+) -> Result<(), AllocError>
+    ensures { OnOk result (KeepsNames counter names.now made.old.items made.new.items) }
+{
+    match names {
+        [] => Ok(()),
+        [first, others @ ..] => {
+            if same_counter(first.counter, counter) || !lacks(&first.e, counter) {
+                keep_names(alloc, made, others, counter)?;
+                return Ok(());
+            }
+            let e = copy_of(alloc, &first.e)?;
+            made.push(Named {
+                counter: first.counter,
+                e,
+            })?;
+            keep_names(alloc, made, others, counter)?;
+            Ok(())
+        }
+    }
+}
+
+/// The names of what lacks a loop variable.
+fn names_lacking(alloc: Global, names: &[Named], counter: Counter) -> Result<Vec<Named>, AllocError>
+    ensures { IfOk result (λ made. StayNamed counter names.now made.items) }
+{
+    let mut made = Vec::new(alloc);
+    keep_names(alloc, &mut made, names, counter)?;
+    Ok(made)
+}
+
 /// What is known in the iterations of a loop.
 ///
 /// # Errors
@@ -141,9 +182,11 @@ pub fn in_loop(alloc: Global, context: &Context, own: Bound) -> Result<Context, 
     let mut known = Vec::new(alloc);
     keep_others(alloc, &mut known, context.known.as_slice(), own.counter)?;
     let bounds = with_bound(alloc, context.bounds.as_slice(), own)?;
+    let names = names_lacking(alloc, context.names.as_slice(), own.counter)?;
     Ok(Context {
         known,
         bounds,
+        names,
         with_variables: context.with_variables,
     })
 }
@@ -167,9 +210,11 @@ pub fn with_sum(
     }
     let known = with_known(alloc, context.known.as_slice(), counter, sum)?;
     let bounds = copy_bounds(alloc, context.bounds.as_slice())?;
+    let names = names_lacking(alloc, context.names.as_slice(), counter)?;
     Ok(Context {
         known,
         bounds,
+        names,
         with_variables: context.with_variables,
     })
 }
@@ -187,6 +232,38 @@ pub fn with_zero(alloc: Global, context: Context, counter: Counter) -> Result<Co
     Ok(Context {
         known,
         bounds: context.bounds,
+        names: context.names,
         with_variables: context.with_variables,
     })
+}
+
+/// What is known where a name has the value of an expression, if the name is a new one.
+///
+/// # Errors
+///
+/// Memory ran out.
+pub fn with_name(
+    alloc: Global,
+    context: &Context,
+    counter: Counter,
+    e: &Expr,
+) -> Result<Option<Context>, AllocError>
+    ensures { IfOk result (λ found. IfSome found (MeetsName context.now counter e.now)) }
+{
+    if is_bounded(context.bounds.as_slice(), counter) || !lacks(e, counter) {
+        return Ok(None);
+    }
+    let own = copy_of(alloc, e)?;
+    let mut names = Vec::new(alloc);
+    names.push(Named { counter, e: own })?;
+    keep_names(alloc, &mut names, context.names.as_slice(), counter)?;
+    let mut known = Vec::new(alloc);
+    keep_others(alloc, &mut known, context.known.as_slice(), counter)?;
+    let bounds = copy_bounds(alloc, context.bounds.as_slice())?;
+    Ok(Some(Context {
+        known,
+        bounds,
+        names,
+        with_variables: context.with_variables,
+    }))
 }

@@ -8,7 +8,7 @@ use loop_ir::expressions::{Counter, Expr};
 use loop_ir::statements::Store;
 
 /// Whether no sum of an expression has a term of a loop variable.
-fn lacks(e: &Expr, counter: Counter) -> bool
+pub(crate) fn lacks(e: &Expr, counter: Counter) -> bool
     ensures { result ≡ true → Lacks counter e.now }
 {
     match e {

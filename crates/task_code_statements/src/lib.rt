@@ -9,8 +9,10 @@
 
 pub mod contexts;
 mod guards;
+mod guessing;
 mod lacking;
 mod mentions;
+mod names;
 mod plain;
 pub mod rewriting;
 pub mod statements;

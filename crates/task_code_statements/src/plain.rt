@@ -7,9 +7,20 @@ ghost use Rattle.task_code_statements.specs.Naming.{has_name};
 
 use loop_ir::expressions::{Counter, Expr, Term};
 use loop_ir::statements::Store;
+use schedule_lines::stages::LoopId;
 
 /// The number that the Func of a name has: no Func has it.
 pub const NAMES: usize = usize::MAX;
+
+/// The name of a number.
+pub fn name(number: usize) -> Counter
+    ensures { is_name result ≡ true }
+{
+    Counter {
+        func: NAMES,
+        id: LoopId::Outer(number),
+    }
+}
 
 /// Whether a variable is a name.
 pub fn is_name(counter: Counter) -> bool

@@ -6,14 +6,18 @@ ghost use Rattle.loop_ir.specs.Rounds.{is_vectorized};
 ghost use Rattle.task_code_registers.specs.Holding as holding;
 ghost use Rattle.task_code_loops.specs.Beginning.{Begins};
 ghost use Rattle.task_code_statements.specs.Contexts.{Meets};
+ghost use Rattle.task_code_statements.specs.Making.{BeginsIterations, IsMadeStore};
+ghost use Rattle.task_code_statements.specs.Naming.{NamesIf};
 ghost use Rattle.task_code_statements.specs.Splits.{IsSplitSum};
 ghost use Rattle.task_code_statements.specs.Statements.{EmitsLoop, EmitsStatement};
 
 use crate::contexts::{Context, has_term, in_loop, with_sum};
+use crate::guessing::{add_sums, ready, staying};
+use crate::names::{Naming, emit_names};
 use crate::plain::{is_name, is_plain_store};
 use crate::rewriting::{store_by_others, sum_by_others};
 use crate::vectorizing::{emit_vectorized, is_at_once};
-use loop_ir::expressions::{Counter, Linear, Term};
+use loop_ir::expressions::{Counter, Expr, Linear, Term};
 use loop_ir::statements::{LoopKind, Stmt, Store, Whole};
 use sqlite_items::Items;
 use std::alloc::{AllocError, Global};
@@ -25,6 +29,7 @@ use task_code_loops::guards::emit_guarded;
 use task_code_loops::known::by_others;
 use task_code_loops::tests::variable;
 use task_code_loops::wanted::wanted_forms;
+use task_code_names::names::store_by_names;
 use task_code_registers::scopes::{Form, Held, free_register};
 use task_code_scalar::CodeFault;
 use task_code_scalar::places::Places;
@@ -50,7 +55,22 @@ pub struct Split {
 
 // ---- stores
 
-/// Appends a store by the loop variables that aren't known, without clamps that cut nothing off.
+/// A store by the loop variables that aren't known, without clamps that cut nothing off, and by names.
+pub(crate) fn made_store(
+    alloc: Global,
+    places: &Places,
+    context: &Context,
+    store: &Store,
+) -> Result<Store, AllocError>
+    ensures { IfOk result (IsMadeStore places.now context.now store.now) }
+{
+    let made = store_by_others(alloc, store, context.known.as_slice())?;
+    let plain = unclamped_store(alloc, places, context.bounds.as_slice(), &made)?;
+    let named = store_by_names(alloc, context.names.as_slice(), &plain)?;
+    Ok(named)
+}
+
+/// Appends a store.
 fn emit_known_store(
     alloc: Global,
     code: &mut Vec<u32>,
@@ -65,9 +85,8 @@ fn emit_known_store(
     if !is_plain_store(store) {
         return Err(CodeFault::TooDeep);
     }
-    let made = store_by_others(alloc, store, context.known.as_slice())?;
-    let plain = unclamped_store(alloc, places, context.bounds.as_slice(), &made)?;
-    emit_store(alloc, code, places, scope, &plain)?;
+    let made = made_store(alloc, places, context, store)?;
+    emit_store(alloc, code, places, scope, &made)?;
     Ok(())
 }
 
@@ -141,12 +160,17 @@ fn wanted_in(
     context: &Context,
     counter: Counter,
     body: &Stmt,
+    named: &[Expr],
 ) -> Result<Vec<Form>, AllocError> {
-    let found = wanted_forms(alloc, places, context.bounds.as_slice(), body)?;
+    let bounds = context.bounds.as_slice();
+    let found = wanted_forms(alloc, places, bounds, body)?;
     let mut wanted = Vec::new(alloc);
     if context.with_variables {
         let own = variable(alloc, counter)?;
         wanted.push(own)?;
+    }
+    for e in named {
+        add_sums(alloc, bounds, e, &mut wanted)?;
     }
     for own in found.as_slice() {
         let form = by_others(alloc, own, context.known.as_slice())?;
@@ -176,7 +200,7 @@ fn begin(
 }
 
 /// Whether each iteration has code of its own.
-fn is_laid_out(kind: LoopKind, count: u32) -> bool
+pub(crate) fn is_laid_out(kind: LoopKind, count: u32) -> bool
     ensures { result ≡ true → is_vectorized kind ≡ false }
 {
     match kind {
@@ -232,7 +256,74 @@ pub(crate) fn split_sum(
 
 // ---- statements
 
+/// Appends code that gives names to what stays the same in all iterations of a loop.
+fn emit_before(
+    alloc: Global,
+    code: &mut Vec<u32>,
+    places: &Places,
+    scope: &[Held],
+    context: &Context,
+    own: Bound,
+    body: &Stmt,
+) -> Result<Option<Naming>, CodeFault>
+    ensures { IfOk result (NamesIf code.old.items code.new.items places.now scope.now context.now) }
+{
+    if context.with_variables {
+        return Ok(None);
+    }
+    let inner = in_loop(alloc, context, own)?;
+    let mut named = Vec::new(alloc);
+    let as_made = ready(alloc, places, &inner, true, body, &mut named)?;
+    let all = staying(alloc, context.bounds.as_slice(), &as_made)?;
+    let found = emit_names(alloc, code, places, scope, context, all.as_slice())?;
+    Ok(found)
+}
+
+/// Appends what stands in front of a loop: forms that its body wants in registers.
+fn begin_iterations(
+    alloc: Global,
+    code: &mut Vec<u32>,
+    places: &Places,
+    scope: &[Held],
+    inner: &Context,
+    own: Bound,
+    body: &Stmt,
+) -> Result<Begun, CodeFault>
+    requires { 1 ≤ own.count }
+    ensures { IfOk result (BeginsIterations code.old.items code.new.items own scope.now) }
+{
+    let mut named = Vec::new(alloc);
+    let made = ready(alloc, places, inner, true, body, &mut named)?;
+    let wanted = wanted_in(alloc, places, inner, own.counter, &made, named.as_slice())?;
+    let reserved = reserve(scope, depth(body), inner.with_variables);
+    let begun = begin(alloc, code, scope, own, wanted.as_slice(), reserved)?;
+    Ok(begun)
+}
+
 /// Appends a loop whose iterations come one behind the other.
+#[cycle(statements)]
+fn emit_iterations(
+    alloc: Global,
+    code: &mut Vec<u32>,
+    places: &Places,
+    scope: &[Held],
+    context: &Context,
+    own: Bound,
+    body: &Stmt,
+) -> Result<(), CodeFault>
+    requires { 1 ≤ own.count }
+    ensures { OnOk result (EmitsLoop code.old.items code.new.items places.now scope.now (Meets context.now)
+        own.counter own.count body.now) }
+{
+    let inner = in_loop(alloc, context, own)?;
+    let begun = begin_iterations(alloc, code, places, scope, &inner, own, body)?;
+    let start = code.len();
+    emit_statement(alloc, code, places, begun.inner.as_slice(), &inner, body)?;
+    end_loop(code, &begun, start)?;
+    Ok(())
+}
+
+/// Appends a loop, behind what stays the same in its iterations.
 #[cycle(statements)]
 fn emit_loop(
     alloc: Global,
@@ -249,14 +340,17 @@ fn emit_loop(
     if own.count == 0 {
         return Ok(());
     }
-    let inner = in_loop(alloc, context, own)?;
-    let wanted = wanted_in(alloc, places, &inner, own.counter, body)?;
-    let reserved = reserve(scope, depth(body), context.with_variables);
-    let begun = begin(alloc, code, scope, own, wanted.as_slice(), reserved)?;
-    let start = code.len();
-    emit_statement(alloc, code, places, begun.inner.as_slice(), &inner, body)?;
-    end_loop(code, &begun, start)?;
-    Ok(())
+    match emit_before(alloc, code, places, scope, context, own, body)? {
+        None => {
+            emit_iterations(alloc, code, places, scope, context, own, body)?;
+            Ok(())
+        }
+        Some(before) => {
+            let inner = before.scope.as_slice();
+            emit_iterations(alloc, code, places, inner, &before.context, own, body)?;
+            Ok(())
+        }
+    }
 }
 
 /// Appends the iterations of a loop, each with code of its own.

@@ -23,6 +23,7 @@ use std::alloc::Global;
 use task_code_lane_values::vectorized::Lanes;
 use task_code_lanes::groups::Group;
 use task_code_loops::bounds::{Bound, is_below};
+use task_code_names::names::store_by_names;
 use task_code_registers::scopes::{Form, Held};
 use task_code_runs::runs::{emit_left_run, emit_run};
 use task_code_scalar::CodeFault;
@@ -56,8 +57,9 @@ fn stored_by(alloc: Global, context: &Context, body: &Stmt) -> Result<Guarded, C
                 return Err(CodeFault::TooDeep);
             }
             let made = store_by_others(alloc, store, context.known.as_slice())?;
+            let named = store_by_names(alloc, context.names.as_slice(), &made)?;
             Ok(Guarded {
-                store: made,
+                store: named,
                 guards: Vec::new(alloc),
             })
         }

@@ -1,5 +1,5 @@
-use Rattle.std.proofs.Common.{sym, ◌∙◌, ap, ◌∷◌, ◌++◌}
-use Rattle.task_code_statements.specs.Contexts.{is_bounded, without}
+use Rattle.std.proofs.Common.{sym, subst, ◌∙◌, ap, ◌∷◌, ◌++◌}
+use Rattle.task_code_statements.specs.Contexts.{StayNamed, is_bounded, without}
 use Rattle.task_code_statements.proofs.Meeting.{loop-meets}
 use Rattle.task_code_statements.proofs.contexts.in_loop.Goals as goal
 
@@ -10,3 +10,4 @@ returns c =
     (c.in_ok-keep_others.ensures ∙ ap (λ k. k ++ without c.args.own.counter c.as_slice-2.result.now) c.new-known.ensures.items
     ∙ ap (without c.args.own.counter) c.as_slice-2.ensures.value)
     (c.in_ok-bounds.ensures ∙ ap (λ b. c.args.own ∷ b) c.as_slice-3.ensures.value)
+    (subst (λ l. StayNamed c.args.own.counter l c.in_ok-names.names.items) c.as_slice-4.ensures.value c.in_ok-names.ensures)

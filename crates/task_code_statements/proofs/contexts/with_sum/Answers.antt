@@ -1,6 +1,6 @@
-use Rattle.std.proofs.Common.{sym, ◌∙◌, ap, ◌∷◌}
+use Rattle.std.proofs.Common.{sym, subst, ◌∙◌, ap, ◌∷◌}
 use Rattle.task_code_registers.specs.Strides.{has_counter}
-use Rattle.task_code_statements.specs.Contexts.{is_bounded, without}
+use Rattle.task_code_statements.specs.Contexts.{StayNamed, is_bounded, without}
 use Rattle.task_code_statements.proofs.Meeting.{sum-meets}
 use Rattle.task_code_statements.proofs.contexts.with_sum.Goals as goal
 
@@ -11,3 +11,4 @@ returns c =
     (ap (has_counter c.args.counter) (sym c.as_slice.ensures) ∙ sym c.has_term-is_own.ensures ∙ c.if-is_own.false)
     (c.in_ok-known.ensures ∙ ap (λ k. record { counter = c.args.counter; sum = c.args.sum.now } ∷ without c.args.counter k) c.as_slice-2.ensures.value)
     (c.in_ok-bounds.ensures ∙ c.as_slice-3.ensures.value)
+    (subst (λ l. StayNamed c.args.counter l c.in_ok-names.names.items) c.as_slice-4.ensures.value c.in_ok-names.ensures)

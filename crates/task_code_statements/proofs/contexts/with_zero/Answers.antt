@@ -7,4 +7,4 @@ pub returns : goal.returns
 returns c =
     zero-meets c.args.context c.args.counter c.of_number-zero.result _ c.of_number-zero.ensures.value
     (c.in_ok-known.ensures ∙ ap (λ k. record { counter = c.args.counter; sum = c.of_number-zero.result } ∷ without c.args.counter k) c.as_slice.ensures.value)
-    refl
+    refl refl

@@ -14,11 +14,11 @@ returns-then-is_below t c =
     c.as_slice-then-guards_lack.ensures.value
     (c.is_below.ensures c.if-is_below.true)
 
-pub returns-in_ok-made-in-Store : goal.returns-in_ok-made-in-Store
-returns-in_ok-made-in-Store t c =
-    store-of c.args.context.now c.as_slice.result.now c.args.body.now c.in-Store.store c.in_ok-made-in-Store.made _
-    (c.is_plain_store.ensures c.if-not-is_plain_store.false) c.as_slice.ensures.value c.in-Store.is
-    c.in_ok-made-in-Store.ensures refl c.new.ensures.items
+pub returns-in_ok-named-in-Store : goal.returns-in_ok-named-in-Store
+returns-in_ok-named-in-Store t c =
+    store-of c.args.context.now c.as_slice.result.now c.as_slice-in-Store.result.now c.args.body.now c.in-Store.store c.in_ok-made-in-Store.made
+    c.in_ok-named-in-Store.named _ (c.is_plain_store.ensures c.if-not-is_plain_store.false) c.as_slice.ensures.value c.as_slice-in-Store.ensures.value
+    c.in-Store.is c.in_ok-made-in-Store.ensures c.in_ok-named-in-Store.ensures refl c.new.ensures.items
 
 pub returns-then-guards_lack : goal.returns-then-guards_lack
 returns-then-guards_lack t c =

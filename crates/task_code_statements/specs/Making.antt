@@ -1,0 +1,29 @@
+-- Stores as their code is made, and where loops begin. This project's own.
+use Rattle.std.specs.Prelude.{◌≡◌, ℕ, false, List}
+use Rattle.loop_ir.specs.declared.statements.Store.{Store}
+use Rattle.task_code_scalar.specs.declared.places.Places.{Places}
+use Rattle.task_code_registers.specs.declared.scopes.Form.{Form}
+use Rattle.task_code_registers.specs.declared.scopes.Held.{Held}
+use Rattle.task_code_registers.specs.Holding.{mentions}
+use Rattle.task_code_loops.specs.declared.beginning.Begun.{Begun}
+use Rattle.task_code_loops.specs.declared.bounds.Bound.{Bound}
+use Rattle.task_code_loops.specs.Beginning.{Begins}
+use Rattle.task_code_clamps.specs.Clamps as clamps
+use Rattle.task_code_names.specs.Names.{IsNamedStore}
+use Rattle.task_code_statements.specs.declared.contexts.Context.{Context}
+use Rattle.task_code_statements.specs.Rewriting.{IsSameStore}
+
+-- a store by other loop variables than the known ones, without clamps that cut nothing off, and with names in place of parts
+pub record IsMadeStore (places : Places) (context : Context) (own made : Store) : Type 0 where
+  pub first : Store
+  pub second : Store
+  pub by_others : IsSameStore context.known.items own first
+  pub without_clamps : clamps.IsSameStore places context.bounds.items first second
+  pub by_names : IsNamedStore context.names.items second made
+
+-- Code stands in front of a loop whose variable no held form has: registers hold some forms, with so many registers left.
+pub record BeginsIterations (old new : List ℕ) (own : Bound) (scope : List Held) (begun : Begun) : Type 0 where
+  pub wanted : List Form
+  pub reserved : ℕ
+  pub begins : Begins old new wanted own.counter own.count scope reserved begun
+  pub steady : mentions own.counter scope ≡ false

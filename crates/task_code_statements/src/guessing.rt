@@ -1,0 +1,306 @@
+//! What of a loop's body is worth a name: what stays the same in all iterations. A guess, of which nothing is promised.
+
+use crate::contexts::{Context, in_loop, with_sum};
+use crate::plain::name;
+use crate::rewriting::store_by_others;
+use crate::statements::{is_laid_out, made_store, split_sum};
+use crate::vectorizing::is_at_once;
+use loop_ir::expressions::{Counter, Expr, Term, same_counter};
+use loop_ir::statements::{LoopKind, Stmt, Store};
+use sqlite_items::Boxed;
+use std::alloc::{AllocError, Global};
+use task_code_loops::bounds::Bound;
+use task_code_names::copies::{copy_of, is_same, is_still};
+use task_code_names::names::{Named, store_by_names};
+use task_code_registers::scopes::Form;
+use task_code_scalar::CodeFault;
+use task_code_scalar::places::Places;
+
+/// A store as its code is made, without clamps that cut nothing off, or with them.
+///
+/// # Errors
+///
+/// Memory ran out.
+fn ready_store(
+    alloc: Global,
+    places: &Places,
+    context: &Context,
+    with_cuts: bool,
+    store: &Store,
+) -> Result<Store, AllocError> {
+    if with_cuts {
+        return made_store(alloc, places, context, store);
+    }
+    let made = store_by_others(alloc, store, context.known.as_slice())?;
+    store_by_names(alloc, context.names.as_slice(), &made)
+}
+
+/// A loop whose body is ready, with names of what stays the same in its iterations.
+fn ready_loop(
+    alloc: Global,
+    context: &Context,
+    own: Bound,
+    kind: LoopKind,
+    made: Boxed<Stmt>,
+    named: &mut Vec<Expr>,
+) -> Result<Stmt, CodeFault> {
+    if is_at_once(kind) || is_laid_out(kind, own.count) || context.with_variables {
+        return Ok(Stmt::For(own.counter, own.count, kind, made));
+    }
+    let all = staying(alloc, context.bounds.as_slice(), made.get())?;
+    let names = new_names(alloc, all.as_slice(), named)?;
+    let body = part_by_names(alloc, names.as_slice(), made.get())?;
+    Ok(Stmt::For(own.counter, own.count, kind, body))
+}
+
+#[cycle(readying)]
+fn ready_part(
+    alloc: Global,
+    places: &Places,
+    context: &Context,
+    with_cuts: bool,
+    statement: &Stmt,
+    named: &mut Vec<Expr>,
+) -> Result<Boxed<Stmt>, CodeFault> {
+    let made = ready(alloc, places, context, with_cuts, statement, named)?;
+    let boxed = Boxed::new(alloc, made)?;
+    Ok(boxed)
+}
+
+/// A statement whose stores are as their code is made, and beside it what gets names in front of loops inside.
+///
+/// # Errors
+///
+/// As of the code of the statement.
+#[cycle(readying)]
+pub fn ready(
+    alloc: Global,
+    places: &Places,
+    context: &Context,
+    with_cuts: bool,
+    statement: &Stmt,
+    named: &mut Vec<Expr>,
+) -> Result<Stmt, CodeFault> {
+    match statement {
+        Stmt::Store(store) => {
+            let own = ready_store(alloc, places, context, with_cuts, store)?;
+            Ok(Stmt::Store(own))
+        }
+        Stmt::Sequence(first, second) => {
+            let one = ready_part(alloc, places, context, with_cuts, first.get(), named)?;
+            let other = ready_part(alloc, places, context, with_cuts, second.get(), named)?;
+            Ok(Stmt::Sequence(one, other))
+        }
+        Stmt::For(counter, count, kind, body) => {
+            let own = Bound {
+                counter: *counter,
+                count: *count,
+            };
+            let inner = in_loop(alloc, context, own)?;
+            let within = with_cuts && !is_at_once(*kind);
+            let made = ready_part(alloc, places, &inner, within, body.get(), named)?;
+            ready_loop(alloc, context, own, *kind, made, named)
+        }
+        Stmt::Bind(counter, whole, extent, body) => match split_sum(alloc, context, whole)? {
+            None => Err(CodeFault::TooDeep),
+            Some(sum) => {
+                let inner = with_sum(alloc, context, *counter, &sum)?;
+                let made = ready_part(alloc, places, &inner, with_cuts, body.get(), named)?;
+                Ok(Stmt::Bind(*counter, *whole, *extent, made))
+            }
+        },
+    }
+}
+
+// ---- names inside
+
+/// A new name for each expression, which are added to those that get one.
+fn new_names(alloc: Global, all: &[Expr], named: &mut Vec<Expr>) -> Result<Vec<Named>, AllocError> {
+    let mut names = Vec::new(alloc);
+    for own in all {
+        let counter = name(named.len());
+        let e = copy_of(alloc, own)?;
+        names.push(Named { counter, e })?;
+        let e = copy_of(alloc, own)?;
+        named.push(e)?;
+    }
+    Ok(names)
+}
+
+#[cycle(renaming)]
+fn part_by_names(
+    alloc: Global,
+    names: &[Named],
+    statement: &Stmt,
+) -> Result<Boxed<Stmt>, AllocError> {
+    let made = statement_by_names(alloc, names, statement)?;
+    let boxed = Boxed::new(alloc, made)?;
+    Ok(boxed)
+}
+
+/// A statement with names in place of the parts of its stores that have one.
+#[cycle(renaming)]
+fn statement_by_names(
+    alloc: Global,
+    names: &[Named],
+    statement: &Stmt,
+) -> Result<Stmt, AllocError> {
+    match statement {
+        Stmt::Store(store) => {
+            let own = store_by_names(alloc, names, store)?;
+            Ok(Stmt::Store(own))
+        }
+        Stmt::Sequence(first, second) => {
+            let one = part_by_names(alloc, names, first.get())?;
+            let other = part_by_names(alloc, names, second.get())?;
+            Ok(Stmt::Sequence(one, other))
+        }
+        Stmt::For(counter, count, kind, body) => {
+            let made = part_by_names(alloc, names, body.get())?;
+            Ok(Stmt::For(*counter, *count, *kind, made))
+        }
+        Stmt::Bind(counter, whole, extent, body) => {
+            let made = part_by_names(alloc, names, body.get())?;
+            Ok(Stmt::Bind(*counter, *whole, *extent, made))
+        }
+    }
+}
+
+/// Adds the sums that an expression is made of, if their loop variables are those of these loops.
+pub fn add_sums(
+    alloc: Global,
+    bounds: &[Bound],
+    e: &Expr,
+    found: &mut Vec<Form>,
+) -> Result<(), AllocError> {
+    match e {
+        Expr::Number(_) => Ok(()),
+        Expr::Linear(own) => {
+            if own.terms.len() != 0 && are_among(bounds, own.terms.as_slice()) {
+                let sum = own.copy(alloc)?;
+                found.push(Form { sum, per_hart: 0 })?;
+            }
+            Ok(())
+        }
+        Expr::Binary(_, a, b) => {
+            add_sums(alloc, bounds, a.get(), found)?;
+            add_sums(alloc, bounds, b.get(), found)
+        }
+        Expr::Divide(a, _) => add_sums(alloc, bounds, a.get(), found),
+        Expr::Remainder(a, _) => add_sums(alloc, bounds, a.get(), found),
+        Expr::Select(c, a, b) => {
+            add_sums(alloc, bounds, c.get(), found)?;
+            add_sums(alloc, bounds, a.get(), found)?;
+            add_sums(alloc, bounds, b.get(), found)
+        }
+        Expr::Load(_, _, _) => Ok(()),
+    }
+}
+
+// ---- what stays
+
+/// Whether loop variables are among those of these loops.
+fn are_among(bounds: &[Bound], terms: &[Term]) -> bool {
+    terms.iter().all(|term| {
+        bounds
+            .iter()
+            .any(|own| same_counter(own.counter, term.counter))
+    })
+}
+
+/// Whether an expression's loop variables are those of these loops.
+fn stays(bounds: &[Bound], e: &Expr) -> bool {
+    match e {
+        Expr::Number(_) => true,
+        Expr::Linear(own) => are_among(bounds, own.terms.as_slice()),
+        Expr::Binary(_, a, b) => stays(bounds, a.get()) && stays(bounds, b.get()),
+        Expr::Divide(a, _) => stays(bounds, a.get()),
+        Expr::Remainder(a, _) => stays(bounds, a.get()),
+        Expr::Select(c, a, b) => {
+            stays(bounds, c.get()) && (stays(bounds, a.get()) && stays(bounds, b.get()))
+        }
+        Expr::Load(_, _, _) => false,
+    }
+}
+
+/// Whether an expression is made of parts.
+fn has_parts(e: &Expr) -> bool {
+    match e {
+        Expr::Number(_) => false,
+        Expr::Linear(_) => false,
+        _ => true,
+    }
+}
+
+/// Adds an expression, unless it is there.
+fn add(alloc: Global, found: &mut Vec<Expr>, e: &Expr) -> Result<(), AllocError> {
+    if !found.as_slice().iter().any(|own| is_same(own, e)) {
+        let own = copy_of(alloc, e)?;
+        found.push(own)?;
+    }
+    Ok(())
+}
+
+/// Adds the largest parts of an expression that stay the same.
+fn add_parts(
+    alloc: Global,
+    bounds: &[Bound],
+    found: &mut Vec<Expr>,
+    e: &Expr,
+) -> Result<(), AllocError> {
+    if has_parts(e) && is_still(e) && stays(bounds, e) {
+        return add(alloc, found, e);
+    }
+    match e {
+        Expr::Number(_) => Ok(()),
+        Expr::Linear(_) => Ok(()),
+        Expr::Binary(_, a, b) => {
+            add_parts(alloc, bounds, found, a.get())?;
+            add_parts(alloc, bounds, found, b.get())
+        }
+        Expr::Divide(a, _) => add_parts(alloc, bounds, found, a.get()),
+        Expr::Remainder(a, _) => add_parts(alloc, bounds, found, a.get()),
+        Expr::Select(c, a, b) => {
+            add_parts(alloc, bounds, found, c.get())?;
+            add_parts(alloc, bounds, found, a.get())?;
+            add_parts(alloc, bounds, found, b.get())
+        }
+        Expr::Load(_, x, y) => {
+            add_parts(alloc, bounds, found, x.get())?;
+            add_parts(alloc, bounds, found, y.get())
+        }
+    }
+}
+
+fn add_statement(
+    alloc: Global,
+    bounds: &[Bound],
+    found: &mut Vec<Expr>,
+    statement: &Stmt,
+) -> Result<(), AllocError> {
+    match statement {
+        Stmt::Store(store) => {
+            add_parts(alloc, bounds, found, &store.x)?;
+            add_parts(alloc, bounds, found, &store.y)?;
+            add_parts(alloc, bounds, found, &store.value)
+        }
+        Stmt::Sequence(first, second) => {
+            add_statement(alloc, bounds, found, first.get())?;
+            add_statement(alloc, bounds, found, second.get())
+        }
+        Stmt::For(_, _, _, body) => add_statement(alloc, bounds, found, body.get()),
+        Stmt::Bind(_, _, _, body) => add_statement(alloc, bounds, found, body.get()),
+    }
+}
+
+/// The largest parts of a loop's body, as its code is made, that stay the same in all iterations of this loop and those
+/// inside, where these loops stand around it.
+///
+/// # Errors
+///
+/// Memory ran out.
+pub fn staying(alloc: Global, bounds: &[Bound], body: &Stmt) -> Result<Vec<Expr>, AllocError> {
+    let mut found = Vec::new(alloc);
+    add_statement(alloc, bounds, &mut found, body)?;
+    Ok(found)
+}
