@@ -10,10 +10,12 @@ use Rattle.bounds.specs.Verdict.{inferred}
 use Rattle.vector_codegen.proofs.ProgramStanding.{parts-length}
 use Rattle.vector_codegen_laws.specs.Places.{places_of}
 use Rattle.hrv_compiler.specs.Compiled.{CompiledContents}
-use Rattle.hrv_compiler.specs.Map.{ArePhases}
+use Rattle.hrv_compiler.specs.Map.{AreAllRight, ArePhases}
 use Rattle.hrv_compiler.specs.inner.Held.{IsHeld}
+use Rattle.hrv_compiler.proofs.Correct.{correct, is-assigned}
 use Rattle.hrv_compiler.proofs.Counted.{phases-counted}
 use Rattle.hrv_compiler.proofs.Low.{layout_is}
+use Rattle.hrv_compiler.proofs.Runs.{writes-whole-runs}
 
 phases_are : (pipeline : Pipeline) (schedule : Schedule) (boxes : Boxes) → inferred pipeline schedule ≡ Ok boxes
     → boxes.layout.phases ≡ phases schedule.standings pipeline.funcs boxes.funcs
@@ -32,3 +34,11 @@ are-phases own rules =
       are_words = made.emits;
       ends_are = rules.words_are.ends_are;
     }
+
+-- all images of the words do what is promised of each that is made
+pub all-right : (own : CompiledContents) → IsHeld own → AreAllRight own
+all-right own rules pictures none are = record {
+  correct = correct own rules pictures none are;
+  assigned = is-assigned own rules pictures none are;
+  runs = writes-whole-runs own rules pictures none are;
+}

@@ -13,7 +13,7 @@ ghost use Rattle.hrv_compiler.specs.Assigned.{IsAssigned};
 ghost use Rattle.hrv_compiler.specs.Compiled.{output_in, output_of};
 ghost use Rattle.hrv_compiler.specs.Correct.{Correct};
 ghost use Rattle.vector_codegen_sharing.specs.Turns.{control_words};
-ghost use Rattle.hrv_compiler.specs.Map.{ArePhases};
+ghost use Rattle.hrv_compiler.specs.Map.{AreAllRight, ArePhases};
 ghost use Rattle.hrv_map.specs.Maps.{map_text};
 ghost use Rattle.hrv_compiler.specs.Images.{ArePictures, IsRefusedInput, image_of};
 ghost use Rattle.hrv_compiler.specs.Outputs.{Holds};
@@ -149,7 +149,7 @@ impl Compiled {
     }
 
     /// Where the data and the code of every image lie, as a text: a fact a line, with the names that the algorithm's
-    /// text gives (`specs/Map.antt`, and `hrv_map`).
+    /// text gives (`specs/Map.antt`, and `hrv_map`). All images of these words do what [`Compiled::image`] promises.
     ///
     /// # Errors
     ///
@@ -157,6 +157,7 @@ impl Compiled {
     pub fn map(&self, alloc: Global, algorithm: &str) -> Result<Vec<u8>, AllocError>
         ensures is { IfOk result (λ text. text.items ≡ map_text algorithm.now self.now.pipeline self.now.schedule self.now.boxes self.now.ends) }
         ensures phases { IfOk result (λ text. ArePhases self.now) }
+        ensures images { IfOk result (λ text. AreAllRight self.now) }
     {
         let text = hrv_map::map_text(
             alloc,

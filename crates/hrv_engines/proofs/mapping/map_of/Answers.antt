@@ -9,6 +9,7 @@ returns c = record {
   is_program = c.in_ok-program.ensures.means;
   is_compiled = c.in_ok-program.ensures.rules;
   are_phases = c.in_ok-text.ensures.phases;
+  are_right = c.in_ok-text.ensures.images;
   is_text = c.in_ok-text.ensures.is;
 }
 

@@ -3,7 +3,7 @@ use Rattle.hrv_map.specs.Maps.{map_text}
 use Rattle.hrv_compiler.specs.Compiled.{CompiledContents}
 use Rattle.hrv_compiler.specs.inner.Held.{IsHeld}
 use Rattle.hrv_compiler.proofs.Low.{few_phases}
-use Rattle.hrv_compiler.proofs.Map.{are-phases}
+use Rattle.hrv_compiler.proofs.Map.{all-right, are-phases}
 use Rattle.hrv_compiler.proofs.compiled.Compiled.map.Goals as goal
 
 pub map_text-requires-clause-accepted : goal.map_text-requires-clause-accepted
@@ -21,3 +21,6 @@ returns-clause-is c =
 
 pub returns-clause-phases : goal.returns-clause-phases
 returns-clause-phases c = are-phases c.args.self.now (subst IsHeld c.self.view_is c.self.invariant)
+
+pub returns-clause-images : goal.returns-clause-images
+returns-clause-images c = all-right c.args.self.now (subst IsHeld c.self.view_is c.self.invariant)
