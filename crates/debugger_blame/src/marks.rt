@@ -1,20 +1,21 @@
 //! One pass over a log that marks words which stand in a row, each with the last turn that wrote it.
 
-ghost use Rattle.std.specs.Prelude.{◌≡◌, ◌+◌, ◌*◌, ◌<◌, ◌≤◌, ◌%◌, ◌^◌, ◌++◌, ◌∷◌, [], ℕ, List, length, map, option_and_then, replicate, Some, IfOk};
+ghost use Rattle.std.specs.Prelude.{◌≡◌, ◌+◌, ◌*◌, ◌<◌, ◌≤◌, ◌%◌, ◌^◌, ◌++◌, ◌∷◌, [], ℕ, List, length, map, option_and_then, replicate, Some, None, IfOk, IfSome};
+ghost use Rattle.hart_core.specs.Scalar.{illegal_fault};
 ghost use Rattle.hart_core.specs.VectorRows.{accesses_at, size_of};
 ghost use Rattle.memory.specs.Access.{access_at, places_of, touched};
 ghost use Rattle.memory.specs.Addresses.{fetched, most_words};
 ghost use Rattle.multi_hart.specs.Run.{KeepsShape, State, hart_at, run, turn};
 ghost use Rattle.vector_codegen_sharing.specs.Turns.{is_word_in, written_next};
 ghost use Rattle.debugger_blame.specs.Marks.{AreMarks};
-ghost use Rattle.debugger_stores.specs.Stored.{places_in, store_in};
+ghost use Rattle.debugger_stores.specs.Stored.{places_in, places_stored, store_in};
 ghost use Rattle.debugger_blame.specs.inner.Marked.{Marked, is_byte_of_word};
 ghost use Rattle.debugger_blame.specs.inner.Quiet.{AreCounts};
 
 use crate::passes::Stretch;
 use crate::quiets::{quiet_at, quiets_of};
-use debugger_stores::{Stored, numbers_stored, store_at, stores_of};
-use hart_core::Status;
+use debugger_stores::{Stored, numbers_stored, store_at, stores_of, width_of};
+use hart_core::{Hart, Status};
 use multi_hart::Machine;
 use rv_insn::{ElementWidth, Insn, Outcome};
 use std::alloc::{AllocError, Global};
@@ -186,8 +187,32 @@ fn mark_turn(
     mark_store(machine, insn, hart, mark, range.first, marks);
 }
 
-/// Makes a turn whose instruction stores, and marks the words that it writes.
+/// Makes a turn whose instruction stores, and marks the words that it writes. Most store one number, of which no list is made.
 fn mark_store(
+    machine: &mut Machine,
+    insn: &Insn,
+    hart: usize,
+    mark: u32,
+    first: u32,
+    marks: &mut [u32],
+)
+    requires there { hart < length machine.old.harts }
+    requires stores { option_and_then store_in (fetched machine.old.text (hart_at machine.old hart).pc) ≡ Some insn.now }
+    ensures state { machine.new ≡ turn machine.old hart }
+    ensures marks { Marked first (λ word. is_word_in word (written_next machine.old hart)) mark marks.old marks.new }
+{
+    let Some(number) = number_stored(machine.hart(hart), insn) else {
+        mark_elements(machine, insn, hart, mark, first, marks);
+        return;
+    };
+    let Outcome::Stepped = machine.turn(hart) else {
+        return;
+    };
+    mark_numbers(marks, first, &[number.address], number.width, mark);
+}
+
+/// The same, whatever the instruction stores.
+fn mark_elements(
     machine: &mut Machine,
     insn: &Insn,
     hart: usize,
@@ -205,6 +230,32 @@ fn mark_store(
         return;
     };
     mark_stored(marks, first, &stored, mark);
+}
+
+/// A number that is stored.
+#[derive(Clone, Copy, Debug)]
+struct StoredNumber {
+    address: u32,
+    width: ElementWidth,
+}
+
+/// What an instruction stores that stores one number alone, where it is legal in the hart's state and makes no other trap.
+#[inline(always)]
+fn number_stored(hart: &Hart, insn: &Insn) -> Option<StoredNumber>
+    ensures { IfSome result (λ number. illegal_fault insn.now hart.now ≡ None
+        → touched (accesses_at number.width (number.address ∷ [])) ≡ places_stored insn.now hart.now) }
+{
+    match insn {
+        Insn::Store { op, rs1, imm, .. } => Some(StoredNumber {
+            address: hart.address(*rs1, *imm),
+            width: width_of(*op),
+        }),
+        Insn::AmoaddW { rs1, .. } => Some(StoredNumber {
+            address: hart.register(*rs1),
+            width: ElementWidth::Bits32,
+        }),
+        _ => None,
+    }
 }
 
 /// What a turn of a hart marks words with.
