@@ -22,7 +22,8 @@ fn take_line(
     line: &[u8],
 ) -> Result<(), ReadError<AsmFault>>
     requires { building.old.here.line + 1 < 2 ^ 64 }
-    ensures { (so_far : Assembled) → IsBuilt building.old so_far → TakesLine survey.now so_far line.now result building.new }
+    ensures { (so_far : Assembled) → IsBuilt building.old so_far
+        → TakesLine survey.now so_far line.now result building.new }
 {
     let (product, behind) = line_product(alloc, survey, building.here, line)?;
     building.add_line(product, behind)?;

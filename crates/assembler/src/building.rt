@@ -45,7 +45,8 @@ impl Building {
     /// Adds what a line gives.
     fn add(&mut self, product: Product) -> Result<(), AllocError>
         ensures here { self.new.here ≡ self.old.here }
-        ensures added { OnOk result ((a : Assembled) (given : Given) → IsBuilt self.old a → Makes product given → IsBuilt self.new (record (with_given a a.here.place given) { here = a.here })) }
+        ensures added { OnOk result ((a : Assembled) (given : Given) → IsBuilt self.old a → Makes product given
+            → IsBuilt self.new (record (with_given a a.here.place given) { here = a.here })) }
     {
         match product {
             Product::Nothing => {}
@@ -65,7 +66,8 @@ impl Building {
     /// Adds what a line gives, and goes on behind it.
     pub fn add_line(&mut self, product: Product, behind: Place) -> Result<(), AllocError>
         requires { self.old.here.line + 1 < 2 ^ 64 }
-        ensures { OnOk result ((a : Assembled) (given : Given) → IsBuilt self.old a → Makes product given → IsBuilt self.new (with_given a behind given)) }
+        ensures { OnOk result ((a : Assembled) (given : Given) → IsBuilt self.old a → Makes product given
+            → IsBuilt self.new (with_given a behind given)) }
     {
         self.add(product)?;
         self.here = Here {
@@ -77,7 +79,8 @@ impl Building {
 
     /// The object of all lines, or nothing where no line gave a word.
     pub fn finish(self) -> Option<Object>
-        ensures some { IfSome result (λ object. (a : Assembled) → IsBuilt self a → (worded a ≡ Ok a) × IsObject object a) }
+        ensures some { IfSome result (λ object. (a : Assembled) → IsBuilt self a → (worded a ≡ Ok a)
+            × IsObject object a) }
         ensures none { IfNone result ((a : Assembled) → IsBuilt self a → worded a ≡ Err (1, Syntax)) }
     {
         if self.words.is_empty() {

@@ -211,7 +211,8 @@ fn entry_named(survey: &Survey, here: Here, label: &[u8]) -> Result<Product, Asm
 }
 
 fn entry(survey: &Survey, here: Here, operands: &[Operand]) -> Result<Product, AsmFault>
-    ensures { Performs (spec.entry (record { survey = survey.now; here = here }) here.place.section operands.now) result }
+    ensures { Performs (spec.entry (record { survey = survey.now; here = here }) here.place.section operands.now)
+        result }
 {
     match here.place.section {
         Section::Text => match operands {
@@ -276,7 +277,8 @@ fn output_named(
     label: &[u8],
     extents: (i64, i64),
 ) -> Result<Product, AsmFault>
-    ensures { Performs (spec.output_named (record { survey = survey.now; here = here }) label.now extents.0 extents.1) result }
+    ensures { Performs (spec.output_named (record { survey = survey.now; here = here }) label.now extents.0 extents.1)
+        result }
 {
     if !is_first(survey.output, here.line) {
         return Err(AsmFault::Syntax);

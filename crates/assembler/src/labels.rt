@@ -24,8 +24,8 @@ struct Numbered {
     label: Label,
 }
 
-/// Labels by their names. They are found by order and not by a hash, so that no choice of names makes them slow to find.
-/// Contracts see the list of the pairs, in the order in which they were added.
+/// Labels by their names. They are found by order and not by a hash, so that no choice of names makes them slow to
+/// find. Contracts see the list of the pairs, in the order in which they were added.
 #[derive(Drop)]
 pub struct Labels {
     places: BTreeMap<Vec<u8>, Numbered>,

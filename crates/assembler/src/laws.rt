@@ -24,7 +24,8 @@ pub fn listings_assemble()
 
 /// A law: the listing with addresses assembles to the same words, and to nothing else.
 pub fn addressed_listings_assemble()
-    ensures { (start : ℕ) (words : List ℕ) → AreWords words → 1 ≤ length words → length words ≤ most_words → AssemblesBackFrom start words }
+    ensures { (start : ℕ) (words : List ℕ) → AreWords words → 1 ≤ length words → length words ≤ most_words
+        → AssemblesBackFrom start words }
 {
     lines_say_their_words();
     lines_are_single();

@@ -60,7 +60,8 @@ fn with_others(
     product: Result<Product, AsmFault>,
     others: Result<((), ()), AsmFault>,
 ) -> Result<Product, AsmFault>
-    ensures { (given : Result Given AsmFault) → Performs given product → Performs (spec.with_others given others) result }
+    ensures { (given : Result Given AsmFault) → Performs given product
+        → Performs (spec.with_others given others) result }
 {
     let (product, _) = both(product, others)?;
     Ok(product)

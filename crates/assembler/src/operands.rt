@@ -144,7 +144,8 @@ fn fill_slot(
     operand: &Operand,
     fields: &mut Fields,
 ) -> Result<(), AsmFault>
-    ensures { Fills (spec.given (record { survey = survey.now; here = here }) slot operand.now) result fields.old fields.new }
+    ensures { Fills (spec.given (record { survey = survey.now; here = here }) slot operand.now) result fields.old
+        fields.new }
 {
     match slot {
         Slot::Integer(field) => match operand {
@@ -282,7 +283,8 @@ pub fn fill(
     operands: &[Operand],
     fields: &mut Fields,
 ) -> Result<(), AsmFault>
-    ensures { Fills (spec.given_all (record { survey = survey.now; here = here }) slots.now operands.now) result fields.old fields.new }
+    ensures { Fills (spec.given_all (record { survey = survey.now; here = here }) slots.now operands.now) result
+        fields.old fields.new }
 {
     let [slot, later_slots @ ..] = slots else {
         return unless(AsmFault::Syntax, operands.is_empty());

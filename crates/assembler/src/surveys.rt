@@ -46,7 +46,16 @@ impl Survey {
 
     /// Adds a line's label, if it has one and no line before defines it.
     fn add_label(&mut self, alloc: Global, name: &Option<Items<u8>>) -> Result<(), AllocError>
-        ensures { OnOk result (self.new ≡ record self.old { labels = spec.with_label self.old.labels (record { line = self.old.here.line; section = self.old.here.place.section; address = spec.address self.old.here.place }) name.now }) }
+        ensures { OnOk result (self.new
+            ≡ record self.old {
+              labels = spec.with_label self.old.labels
+                  (record {
+                    line = self.old.here.line;
+                    section = self.old.here.place.section;
+                    address = spec.address
+                        self.old.here.place;
+                  }) name.now;
+            }) }
     {
         let Some(name) = name else {
             return Ok(());

@@ -6,7 +6,8 @@ ghost use Rattle.rv_insn.specs.Addressing.{mode_of, offset_fields};
 ghost use Rattle.rv_insn.specs.Meaning.{fields_of};
 ghost use Rattle.rv_insn.specs.VectorMeaning.{vector_fields_of};
 ghost use Rattle.assembler_mnemonics.specs.Forms.{form_of, vector_form_of};
-ghost use Rattle.assembler_mnemonics.specs.Slots.{blank, vector_blank, shape, vector_shape, access_blank, access_operands, field_at, IsWithin, FitsSlots, Keeps};
+ghost use Rattle.assembler_mnemonics.specs.Slots.{blank, vector_blank, shape, vector_shape, access_blank};
+ghost use Rattle.assembler_mnemonics.specs.Slots.{access_operands, field_at, IsWithin, FitsSlots, Keeps};
 
 use crate::fields::Fields;
 use crate::forms::{Form, VectorForm};
@@ -285,7 +286,8 @@ fn access_in(mode: AddressMode, fields: &Fields) -> Access
     requires count { length fields.now ≡ length (access_blank mode) }
     requires fits { FitsSlots fields.now (access_operands mode) }
     ensures mode { mode_of result.addressing ≡ mode }
-    ensures fields { pos result.v ∷ pos result.rs1 ∷ (offset_fields result.addressing ++ (pos (bit_of result.vm) ∷ [])) ≡ fields.now }
+    ensures fields { pos result.v ∷ pos result.rs1 ∷ (offset_fields result.addressing ++ (pos (bit_of result.vm) ∷ []))
+        ≡ fields.now }
 {
     match mode {
         AddressMode::UnitStride => Access {

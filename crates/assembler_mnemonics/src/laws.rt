@@ -9,7 +9,9 @@ ghost use Rattle.assembler_mnemonics.specs.Named.{form_named};
 ghost use Rattle.assembler_mnemonics.specs.Slots.{shape, blank, FitsSlots, Keeps};
 ghost use Rattle.assembler_mnemonics.specs.Placing.{placed, AllGive};
 ghost use Rattle.assembler_mnemonics.specs.Registers.{register_number, register_text};
-ghost use Rattle.assembler_mnemonics.specs.Configuration.{width_names, group_names, tail_names, mask_names, width_code, group_code, tail_code, mask_code, has_names, vtype_named, name_at};
+ghost use Rattle.assembler_mnemonics.specs.Configuration.{width_names, group_names, tail_names, mask_names, width_code};
+ghost use Rattle.assembler_mnemonics.specs.Configuration.{group_code, tail_code, mask_code, has_names, vtype_named};
+ghost use Rattle.assembler_mnemonics.specs.Configuration.{name_at};
 
 /// A law: each form is found by its mnemonic, and by nothing else.
 pub fn mnemonics_tell_apart()
@@ -29,14 +31,18 @@ pub fn means_is_word()
 
 /// A law: two instructions of one form with the same fields are one.
 pub fn told_apart()
-    ensures { (first second : Insn) → form_of first ≡ form_of second → fields_of first ≡ fields_of second → first ≡ second }
+    ensures { (first second : Insn) → form_of first ≡ form_of second → fields_of first ≡ fields_of second
+        → first ≡ second }
 {}
 
 /// A law: blank fields that a form's operands filled are fields of the form.
 pub fn operands_fill()
-    ensures count { (form : Form) (pairs : List (ℕ × ℤ)) → AllGive (shape form) pairs → length (placed (blank form) pairs) ≡ length (blank form) }
-    ensures fits { (form : Form) (pairs : List (ℕ × ℤ)) → AllGive (shape form) pairs → FitsSlots (placed (blank form) pairs) (shape form) }
-    ensures kept { (form : Form) (pairs : List (ℕ × ℤ)) → AllGive (shape form) pairs → Keeps form (placed (blank form) pairs) }
+    ensures count { (form : Form) (pairs : List (ℕ × ℤ)) → AllGive (shape form) pairs
+        → length (placed (blank form) pairs) ≡ length (blank form) }
+    ensures fits { (form : Form) (pairs : List (ℕ × ℤ)) → AllGive (shape form) pairs
+        → FitsSlots (placed (blank form) pairs) (shape form) }
+    ensures kept { (form : Form) (pairs : List (ℕ × ℤ)) → AllGive (shape form) pairs
+        → Keeps form (placed (blank form) pairs) }
 {}
 
 /// A law: what is written for a register names it.
@@ -46,7 +52,9 @@ pub fn registers_read_back()
 
 /// A law: the four names of a vtype that has names give it back.
 pub fn vtypes_read_back()
-    ensures { (vtype : ℕ) → has_names vtype ≡ true → vtype_named (name_at width_names (width_code vtype)) (name_at group_names (group_code vtype)) (name_at tail_names (tail_code vtype)) (name_at mask_names (mask_code vtype)) ≡ Some vtype }
+    ensures { (vtype : ℕ) → has_names vtype ≡ true
+        → vtype_named (name_at width_names (width_code vtype)) (name_at group_names (group_code vtype))
+        (name_at tail_names (tail_code vtype)) (name_at mask_names (mask_code vtype)) ≡ Some vtype }
 {}
 
 /// A law: the fields of an instruction are as many as its form has, and keep the form's bits; where a

@@ -117,7 +117,8 @@ fn piece_len(tokens: &[Token]) -> usize
 
 /// The tokens before the first comma, and those behind it, if there is one.
 fn first_piece(tokens: &[Token]) -> (&[Token], Option<&[Token]>)
-    ensures pieces { spec.pieces_of tokens.now ≡ result.0.now ∷ spec.later_pieces (option_map (λ more. more.now) result.1) }
+    ensures pieces { spec.pieces_of tokens.now ≡ result.0.now
+        ∷ spec.later_pieces (option_map (λ more. more.now) result.1) }
     ensures shorter { IfSome result.1 (λ more. length more.now < length tokens.now) }
 {
     let (piece, rest) = tokens.split_at(piece_len(tokens));

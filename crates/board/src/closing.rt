@@ -73,7 +73,8 @@ impl Closing {
     fn take_seats(&mut self, mut seats: Vec<BoardSeat>)
         requires { All (IsSeatOf (name_of self.old.board)) seats.items }
         ensures board { self.new.board ≡ self.old.board }
-        ensures known { (numbers : List ℕ) → Ends self.new numbers → Ends self.old numbers × All (HasItsWord numbers) seats.items }
+        ensures known { (numbers : List ℕ) → Ends self.new numbers → Ends self.old numbers
+            × All (HasItsWord numbers) seats.items }
     {
         while let Some(seat) = seats.pop() {
             self.take_seat(seat);
@@ -84,7 +85,8 @@ impl Closing {
     fn take_glances(&mut self, mut glances: Vec<Glance>)
         requires { All (IsGlanceOf (name_of self.old.board)) glances.items }
         ensures board { self.new.board ≡ self.old.board }
-        ensures known { (numbers : List ℕ) → Ends self.new numbers → Ends self.old numbers × All (SawNoMore numbers) glances.items }
+        ensures known { (numbers : List ℕ) → Ends self.new numbers → Ends self.old numbers
+            × All (SawNoMore numbers) glances.items }
     {
         while let Some(glance) = glances.pop() {
             self.take_glance(glance);
@@ -109,7 +111,8 @@ impl Closing {
 fn first_words(closed: &Closed<(), Global>) -> [u64; 8]
     requires words { IsFull closed.now.words }
     requires places { slots_len closed.now.words ≡ words_of_board }
-    ensures { (hart : ℕ) → hart < most_harts → slice_index result hart ≡ slice_index (slots_items closed.now.words) hart }
+    ensures { (hart : ℕ) → hart < most_harts → slice_index result hart
+        ≡ slice_index (slots_items closed.now.words) hart }
 {
     let mut words = [0; 8];
     for hart in 0..8 {

@@ -49,7 +49,8 @@ impl Board {
         ensures seen { result ≡ seen glance.new hart }
         ensures later { seen glance.old hart ≤ result }
         ensures others { (other : ℕ) → other ≢ hart → seen glance.new other ≡ seen glance.old other }
-        ensures stop { (has_asked glance.new ≡ has_asked glance.old) × (has_seen_stop glance.new ≡ has_seen_stop glance.old) }
+        ensures stop { (has_asked glance.new ≡ has_asked glance.old)
+            × (has_seen_stop glance.new ≡ has_seen_stop glance.old) }
     {
         self.table.shared.load::<Look>(&mut glance.token, hart)
     }

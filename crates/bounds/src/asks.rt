@@ -103,9 +103,11 @@ fn ask_left(
     requires x { IsFit view.now.lasts view.now.x }
     requires y { IsFit view.now.lasts view.now.y }
     requires reads { AreFitReads view.now.lasts asked.old.items }
-    ensures range { IfOk result (λ r. r ≡ (spec.left inputs.now funcs.now flags.now place view.now update.now index.now).range) }
+    ensures range { IfOk result (λ r. r
+        ≡ (spec.left inputs.now funcs.now flags.now place view.now update.now index.now).range) }
     ensures fits { IfOk result (λ r. IsFit view.now.lasts r) }
-    ensures asked { OnOk result (asked.new.items ≡ asked.old.items ++ (spec.left inputs.now funcs.now flags.now place view.now update.now index.now).asked) }
+    ensures asked { OnOk result (asked.new.items ≡ asked.old.items
+        ++ (spec.left inputs.now funcs.now flags.now place view.now update.now index.now).asked) }
     ensures reads { OnOk result (AreFitReads view.now.lasts asked.new.items) }
 {
     let variables = update_variables(view, update);
@@ -138,9 +140,11 @@ fn ask_second_left(
     requires x { IsFit view.now.lasts view.now.x }
     requires y { IsFit view.now.lasts view.now.y }
     requires reads { AreFitReads view.now.lasts asked.old.items }
-    ensures range { IfOk result (λ r. r ≡ (spec.second_left inputs.now funcs.now flags.now place view.now update.now update.now.left_y).range) }
+    ensures range { IfOk result (λ r. r
+        ≡ (spec.second_left inputs.now funcs.now flags.now place view.now update.now update.now.left_y).range) }
     ensures fits { IfOk result (λ r. IsFit view.now.lasts r) }
-    ensures asked { OnOk result (asked.new.items ≡ asked.old.items ++ (spec.second_left inputs.now funcs.now flags.now place view.now update.now update.now.left_y).asked) }
+    ensures asked { OnOk result (asked.new.items ≡ asked.old.items
+        ++ (spec.second_left inputs.now funcs.now flags.now place view.now update.now update.now.left_y).asked) }
     ensures reads { OnOk result (AreFitReads view.now.lasts asked.new.items) }
 {
     match &update.left_y {
@@ -167,7 +171,8 @@ fn ask_right(
     requires x { IsFit view.now.lasts view.now.x }
     requires y { IsFit view.now.lasts view.now.y }
     requires reads { AreFitReads view.now.lasts asked.old.items }
-    ensures asked { OnOk result (asked.new.items ≡ asked.old.items ++ (spec.right inputs.now funcs.now flags.now place view.now update.now).asked) }
+    ensures asked { OnOk result (asked.new.items ≡ asked.old.items
+        ++ (spec.right inputs.now funcs.now flags.now place view.now update.now).asked) }
     ensures reads { OnOk result (AreFitReads view.now.lasts asked.new.items) }
 {
     let variables = update_variables(view, update);
@@ -202,7 +207,8 @@ pub fn ask_update(
     requires x { IsFit view.now.lasts view.now.x }
     requires y { IsFit view.now.lasts view.now.y }
     requires reads { AreFitReads view.now.lasts asked.old.items }
-    ensures asked { OnOk result (asked.new.items ≡ asked.old.items ++ spec.update_asked inputs.now funcs.now flags.now place view.now update.now) }
+    ensures asked { OnOk result (asked.new.items ≡ asked.old.items ++ spec.update_asked inputs.now funcs.now flags.now
+        place view.now update.now) }
     ensures reads { OnOk result (AreFitReads view.now.lasts asked.new.items) }
 {
     let x = ask_left(
@@ -239,7 +245,8 @@ fn ask_updates(
     requires x { IsFit view.now.lasts view.now.x }
     requires y { IsFit view.now.lasts view.now.y }
     requires reads { AreFitReads view.now.lasts asked.old.items }
-    ensures asked { OnOk result (asked.new.items ≡ asked.old.items ++ spec.updates_asked inputs.now funcs.now flags.now place view.now updates.now) }
+    ensures asked { OnOk result (asked.new.items ≡ asked.old.items ++ spec.updates_asked inputs.now funcs.now flags.now
+        place view.now updates.now) }
     ensures reads { OnOk result (AreFitReads view.now.lasts asked.new.items) }
 {
     match updates {
@@ -267,7 +274,8 @@ pub fn ask_func(
     requires x { IsFit view.now.lasts view.now.x }
     requires y { IsFit view.now.lasts view.now.y }
     requires reads { AreFitReads view.now.lasts asked.old.items }
-    ensures asked { OnOk result (asked.new.items ≡ asked.old.items ++ spec.func_asked inputs.now funcs.now flags.now place view.now func.now) }
+    ensures asked { OnOk result (asked.new.items ≡ asked.old.items ++ spec.func_asked inputs.now funcs.now flags.now
+        place view.now func.now) }
     ensures reads { OnOk result (AreFitReads view.now.lasts asked.new.items) }
 {
     let variables = pure_variables(view);

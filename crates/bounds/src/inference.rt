@@ -74,7 +74,8 @@ fn host_of(
     requires few { at + length behind.now < 2 ^ 63 }
     requires small { AreSmall schedule.now }
     requires boxes { AreBoxes behind.now }
-    ensures { IfOk result (λ host. host ≡ spec.host_of place (slice_get schedule.now.funcs place.func) (spec.box_at place.func at behind.now)) }
+    ensures { IfOk result (λ host. host ≡ spec.host_of place (slice_get schedule.now.funcs place.func)
+        (spec.box_at place.func at behind.now)) }
 {
     let Some(plan) = schedule.funcs.get(place.func) else {
         return Ok(None);
@@ -99,7 +100,8 @@ fn computed_box(
     requires few { at + 1 + length behind.now < 2 ^ 63 }
     requires small { AreSmall schedule.now }
     requires boxes { AreBoxes behind.now }
-    ensures value { IfOk result (λ s. s ≡ spec.computed_box pipeline.now schedule.now flags.now at func.now behind.now host.now) }
+    ensures value { IfOk result (λ s. s ≡ spec.computed_box pipeline.now schedule.now flags.now at func.now behind.now
+        host.now) }
     ensures fits { IfOk result (λ own. IsFitBox own) }
 {
     let updates = func.updates.as_slice();
@@ -133,7 +135,8 @@ fn func_box(
     requires few { at + 1 + length behind.now < 2 ^ 63 }
     requires small { AreSmall schedule.now }
     requires boxes { AreBoxes behind.now }
-    ensures value { IfOk result (λ s. s ≡ spec.func_box pipeline.now schedule.now flags.now at func.now behind.now (slice_get schedule.now.standings at)) }
+    ensures value { IfOk result (λ s. s ≡ spec.func_box pipeline.now schedule.now flags.now at func.now behind.now
+        (slice_get schedule.now.standings at)) }
     ensures fits { IfOk result (λ own. IsFitBox own) }
 {
     let Some(own) = schedule.standing(at) else {
@@ -222,7 +225,8 @@ pub fn inputs_from(
     requires places { place + length inputs.now < 2 ^ 63 }
     requires small { AreSmall schedule.now }
     requires boxes { AreBoxes boxes.now }
-    ensures value { IfOk result (λ s. s ≡ spec.inputs_from pipeline.now schedule.now flags.now boxes.now place inputs.now) }
+    ensures value { IfOk result (λ s. s ≡ spec.inputs_from pipeline.now schedule.now flags.now boxes.now place
+        inputs.now) }
 {
     match inputs {
         [] => Ok(Some(SourceBoxes::new(alloc))),

@@ -1,6 +1,7 @@
 //! Laws of parts of the data, each the contract of a function that does nothing.
 
-ghost use Rattle.bounds.specs.Finding.{ControlFound, CopiesFound, FramesFound, InputsFound, PartsAligned, PartsEnd, RootsFound, RootsLie};
+ghost use Rattle.bounds.specs.Finding.{ControlFound, CopiesFound, FramesFound, InputsFound, PartsAligned, PartsEnd};
+ghost use Rattle.bounds.specs.Finding.{RootsFound, RootsLie};
 
 /// A byte at an offset from where the layout has a part is found to be that byte of that part.
 pub fn parts_are_found()
@@ -11,7 +12,8 @@ pub fn parts_are_found()
     ensures frames { FramesFound }
 {}
 
-/// A byte that is found to be one of the box of a Func computed at root lies at that offset from where the layout has the box.
+/// A byte that is found to be one of the box of a Func computed at root lies at that offset from where the layout has
+/// the box.
 pub fn roots_lie()
     ensures { RootsLie }
 {}

@@ -1,7 +1,8 @@
-//! Which points of each source an accepted schedule computes or reads, and where they lie in the data of a compiled image.
+//! Which points of each source an accepted schedule computes or reads, and where they lie in the data of a compiled
+//! image.
 //!
-//! - [`verdict`]: **the boxes of a pipeline under a schedule, or the first fault** (`specs/Verdict.antt`); [`judging`] has
-//!   what is judged of boxes, [`faults`] why there are none.
+//! - [`verdict`]: **the boxes of a pipeline under a schedule, or the first fault** (`specs/Verdict.antt`); [`judging`]
+//!   has what is judged of boxes, [`faults`] why there are none.
 //! - [`boxes`]: the box of a source, as the hull of the ranges in which it is read (`specs/Boxes.antt`).
 //! - [`views`]: between which numbers a Func's arguments lie where it reads a source (`specs/Views.antt`).
 //! - [`asks`]: what a Func reads that is computed (`specs/Asks.antt`).
@@ -10,9 +11,9 @@
 //! - [`layout`]: where inputs, boxes and frames lie (`specs/Layout.antt`).
 //! - [`tasks`]: how many tasks each phase has (`specs/Tasks.antt`).
 //! - [`sources`]: sources told apart.
-//! - [`laws`]: what each byte of the data is part of, by its address (`specs/Parts.antt`): a phase's control words, an input, the
-//!   box of a Func computed at root, the copies of that of one computed at a loop, a frame. Each is found where the layout
-//!   has it (`specs/Finding.antt`).
+//! - [`laws`]: what each byte of the data is part of, by its address (`specs/Parts.antt`): a phase's control words, an
+//!   input, the box of a Func computed at root, the copies of that of one computed at a loop, a frame. Each is found
+//!   where the layout has it (`specs/Finding.antt`).
 //!
 //! That what is read lies in its box is proved in the crate `bounds_laws`.
 #![tactic(auto)]

@@ -30,7 +30,8 @@ fn read_in(
     requires x { IsFit view.now.lasts view.now.x }
     requires y { IsFit view.now.lasts view.now.y }
     requires spread { IsSpread (lasts_of host.now) spread }
-    ensures value { IfOk result (λ s. s ≡ spec.read_in pipeline.now flags.now at view.now host.now source spread func.now) }
+    ensures value { IfOk result (λ s. s ≡ spec.read_in pipeline.now flags.now at view.now host.now source spread
+        func.now) }
     ensures fits { IfOk result (λ s. IsSpread (lasts_of host.now) s) }
 {
     let mut asked = Vec::new(alloc);
@@ -70,7 +71,8 @@ fn read_by(
     requires small { AreSmall schedule.now }
     requires near { IsBox own.now }
     requires spread { IsSpread (lasts_of host.now) spread }
-    ensures value { IfOk result (λ s. s ≡ spec.read_by pipeline.now schedule.now flags.now at own.now host.now source spread) }
+    ensures value { IfOk result (λ s. s ≡ spec.read_by pipeline.now schedule.now flags.now at own.now host.now source
+        spread) }
     ensures fits { IfOk result (λ s. IsSpread (lasts_of host.now) s) }
 {
     let view = view(alloc, schedule, at, own, host)?;
@@ -101,7 +103,8 @@ pub fn read_from(
     requires small { AreSmall schedule.now }
     requires boxes { AreBoxes boxes.now }
     requires spread { IsSpread (lasts_of host.now) spread }
-    ensures value { IfOk result (λ s. s ≡ spec.read_from pipeline.now schedule.now flags.now at host.now source boxes.now spread) }
+    ensures value { IfOk result (λ s. s ≡ spec.read_from pipeline.now schedule.now flags.now at host.now source
+        boxes.now spread) }
     ensures fits { IfOk result (λ s. IsSpread (lasts_of host.now) s) }
 {
     match boxes {

@@ -166,7 +166,8 @@ fn argument(
     requires inside { inner ≤ length loops.now }
     requires ordered { range.now.low ≤ range.now.high }
     requires high { range.now.high ≤ 2 ^ 62 + 2 ^ 31 }
-    ensures value { result ≡ spec.argument lasts.now sizes.now.extents sizes.now.splits loops.now inner variable range.now }
+    ensures value { result ≡ spec.argument lasts.now sizes.now.extents sizes.now.splits loops.now inner variable
+        range.now }
     ensures fits { IsFit lasts.now result }
 {
     let (inside, outside) = loops.split_at(inner);
@@ -334,7 +335,8 @@ pub fn view(
 ) -> Result<SourceBox, AllocError>
     requires small { spec.AreSmall schedule.now }
     requires near { IsBox own.now }
-    ensures value { IfOk result (λ view. view ≡ spec.view_of (slice_get schedule.now.funcs at) (slice_get schedule.now.standings at) own.now host.now) }
+    ensures value { IfOk result (λ view. view
+        ≡ spec.view_of (slice_get schedule.now.funcs at) (slice_get schedule.now.standings at) own.now host.now) }
     ensures x { IfOk result (λ view. IsFit view.lasts view.x) }
     ensures y { IfOk result (λ view. IsFit view.lasts view.y) }
 {

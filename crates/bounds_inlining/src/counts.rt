@@ -85,7 +85,8 @@ fn variable(variable: Variable) -> Sum
 
 /// A sum whose arguments are sums.
 fn applied(sum: Sum, x: Sum, y: Sum) -> Sum
-    ensures { (p q m n : ℕ) → inner.Same (inner.sum_at x p q) m → inner.Same (inner.sum_at y p q) n → inner.Same (inner.sum_at result p q) (inner.sum_at sum m n) }
+    ensures { (p q m n : ℕ) → inner.Same (inner.sum_at x p q) m → inner.Same (inner.sum_at y p q) n
+        → inner.Same (inner.sum_at result p q) (inner.sum_at sum m n) }
 {
     plus(
         number(sum.own),
@@ -108,7 +109,8 @@ fn found(table: &[Option<CountCall>], source: Source) -> Option<CountCall>
 
 /// The nodes of a call with one argument.
 fn called1(table: &[Option<CountCall>], source: Source, x: Sum) -> Sum
-    ensures { (p q m : ℕ) → inner.Same (inner.sum_at x p q) m → inner.Same (inner.sum_at result p q) (answered (1 + m) m None (answer (inner.counted table.now) source)) }
+    ensures { (p q m : ℕ) → inner.Same (inner.sum_at x p q) m
+        → inner.Same (inner.sum_at result p q) (answered (1 + m) m None (answer (inner.counted table.now) source)) }
 {
     match found(table, source) {
         None => plus(number(1), x),
@@ -119,7 +121,8 @@ fn called1(table: &[Option<CountCall>], source: Source, x: Sum) -> Sum
 /// The nodes of a call with two arguments.
 fn called2(table: &[Option<CountCall>], source: Source, x: Sum, y: Sum) -> Sum
     ensures { (p q m n : ℕ) → inner.Same (inner.sum_at x p q) m → inner.Same (inner.sum_at y p q) n
-        → inner.Same (inner.sum_at result p q) (answered (1 + m + n) m (Some n) (answer (inner.counted table.now) source)) }
+        → inner.Same (inner.sum_at result p q)
+        (answered (1 + m + n) m (Some n) (answer (inner.counted table.now) source)) }
 {
     match found(table, source) {
         None => plus(number(1), plus(x, y)),
@@ -130,7 +133,8 @@ fn called2(table: &[Option<CountCall>], source: Source, x: Sum, y: Sum) -> Sum
 /// The nodes of a definition, with its inlined Funcs put in place.
 #[tactic(auto, unfolding(crate::specs::Inlining::through, crate::specs::Weights::counting))]
 fn sum_of(table: &[Option<CountCall>], expr: &Expr) -> Sum
-    ensures { (x y : ℕ) → inner.Same (inner.sum_at result x y) (through counting (inner.counted table.now) (arguments 1 x y) expr.now) }
+    ensures { (x y : ℕ) → inner.Same (inner.sum_at result x y) (through counting (inner.counted table.now)
+        (arguments 1 x y) expr.now) }
 {
     match expr {
         Expr::Number(_) => number(1),
@@ -157,9 +161,11 @@ fn sum_of(table: &[Option<CountCall>], expr: &Expr) -> Sum
 
 /// What a call of an inlined Func counts, whose definition has this sum.
 fn call_for(definition: &Expr, sum: Sum) -> CountCall
-    ensures one { (x : ℕ) → inner.Same (inner.count_call result x None) (inner.sum_at sum x 1 + dropped (uses variables.FirstArgument definition.now) x) }
+    ensures one { (x : ℕ) → inner.Same (inner.count_call result x None)
+        (inner.sum_at sum x 1 + dropped (uses variables.FirstArgument definition.now) x) }
     ensures two { (x y : ℕ) → inner.Same (inner.count_call result x (Some y))
-        (inner.sum_at sum x y + dropped (uses variables.FirstArgument definition.now) x + dropped (uses variables.SecondArgument definition.now) y) }
+        (inner.sum_at sum x y + dropped (uses variables.FirstArgument definition.now) x + dropped
+        (uses variables.SecondArgument definition.now) y) }
 {
     let first = more(sum.first, definition.uses(Variable::FirstArgument));
     let second = more(sum.second, definition.uses(Variable::SecondArgument));
@@ -208,7 +214,8 @@ pub fn count_calls(
     funcs: &[Func],
     flags: &[bool],
 ) -> Result<Vec<Option<CountCall>>, AllocError>
-    ensures { IfOk result (λ table. inner.Counts flags.now funcs.now table.items × (length table.items ≡ length funcs.now)) }
+    ensures { IfOk result (λ table. inner.Counts flags.now funcs.now table.items
+        × (length table.items ≡ length funcs.now)) }
 {
     let mut table = Vec::new(alloc);
     for place in 0..funcs.len() {

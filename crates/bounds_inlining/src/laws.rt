@@ -1,8 +1,10 @@
 //! Laws of inlining, each the contract of a function that does nothing.
 
 ghost use Rattle.std.specs.Prelude.{◌≡◌, Bool, true};
-ghost use Rattle.bounds_inlining.specs.Passing.{ComputedPointsAreTested, SeenPointsPass, SeenPointsPassInUpdates, PassingIsClosed};
-ghost use Rattle.bounds_inlining.specs.Laws.{FoldsAreRelated, InliningKeepsValues, InliningKeepsUpdates, InlinedValuesDependOnReads, SeesInlinedValues};
+ghost use Rattle.bounds_inlining.specs.Passing.{ComputedPointsAreTested, SeenPointsPass, SeenPointsPassInUpdates};
+ghost use Rattle.bounds_inlining.specs.Passing.{PassingIsClosed};
+ghost use Rattle.bounds_inlining.specs.Laws.{FoldsAreRelated, InliningKeepsValues, InliningKeepsUpdates};
+ghost use Rattle.bounds_inlining.specs.Laws.{InlinedValuesDependOnReads, SeesInlinedValues};
 
 /// Inlining changes no value of a pure definition.
 pub fn inlining_keeps_values()

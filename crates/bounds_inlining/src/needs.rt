@@ -108,7 +108,8 @@ fn waiting(wait: Option<u32>, x: Need) -> Need
 
 /// A need whose arguments have needs.
 fn applied(need: Need, x: Need, y: Need) -> Need
-    ensures { (p q : ℕ) → inner.Same (inner.need_at result p q) (inner.need_at need (inner.need_at x p q) (inner.need_at y p q)) }
+    ensures { (p q : ℕ) → inner.Same (inner.need_at result p q) (inner.need_at need (inner.need_at x p q)
+        (inner.need_at y p q)) }
 {
     greater(
         number(need.own),
@@ -141,7 +142,8 @@ fn alone(wait: Option<u32>) -> u32
 
 /// What a call with one argument needs.
 fn called1(table: &[Option<Need>], source: Source, x: Need) -> Need
-    ensures { (p q m : ℕ) → inner.Same (inner.need_at x p q) m → inner.Same (inner.need_at result p q) (answered m m None (answer (inner.needed table.now) source)) }
+    ensures { (p q m : ℕ) → inner.Same (inner.need_at x p q) m
+        → inner.Same (inner.need_at result p q) (answered m m None (answer (inner.needed table.now) source)) }
 {
     match found(table, source) {
         None => x,
@@ -152,7 +154,8 @@ fn called1(table: &[Option<Need>], source: Source, x: Need) -> Need
 /// What a call with two arguments needs.
 fn called2(table: &[Option<Need>], source: Source, x: Need, y: Need) -> Need
     ensures { (p q m n : ℕ) → inner.Same (inner.need_at x p q) m → inner.Same (inner.need_at y p q) n
-        → inner.Same (inner.need_at result p q) (answered (max m (1 + n)) m (Some n) (answer (inner.needed table.now) source)) }
+        → inner.Same (inner.need_at result p q) (answered (max m (1 + n)) m (Some n)
+        (answer (inner.needed table.now) source)) }
 {
     match found(table, source) {
         None => greater(x, raised(1, y)),
@@ -163,7 +166,8 @@ fn called2(table: &[Option<Need>], source: Source, x: Need, y: Need) -> Need
 /// What a definition needs, with its inlined Funcs put in place.
 #[tactic(auto, unfolding(crate::specs::Inlining::through, crate::specs::Weights::needing))]
 fn need_of(table: &[Option<Need>], expr: &Expr) -> Need
-    ensures { (x y : ℕ) → inner.Same (inner.need_at result x y) (through needing (inner.needed table.now) (arguments 1 x y) expr.now) }
+    ensures { (x y : ℕ) → inner.Same (inner.need_at result x y) (through needing (inner.needed table.now)
+        (arguments 1 x y) expr.now) }
 {
     match expr {
         Expr::Number(_) => number(1),
@@ -210,7 +214,8 @@ pub fn need_calls(
     funcs: &[Func],
     flags: &[bool],
 ) -> Result<Vec<Option<Need>>, AllocError>
-    ensures { IfOk result (λ table. inner.Needs flags.now funcs.now table.items × (length table.items ≡ length funcs.now)) }
+    ensures { IfOk result (λ table. inner.Needs flags.now funcs.now table.items
+        × (length table.items ≡ length funcs.now)) }
 {
     let mut table = Vec::new(alloc);
     for place in 0..funcs.len() {

@@ -15,8 +15,8 @@ ghost use Rattle.bounds_laws.specs.HostLaws.{
   UpdateReadsInLoopsLie,
 };
 
-/// While a loop of a pure definition and those outside of it are in given turns, each point to which the loops inside take
-/// the arguments lies in the view of them with which Funcs computed at that loop are asked.
+/// While a loop of a pure definition and those outside of it are in given turns, each point to which the loops inside
+/// take the arguments lies in the view of them with which Funcs computed at that loop are asked.
 pub fn host_arguments_lie()
     ensures { HostArgumentsLie }
 {}
@@ -26,14 +26,14 @@ pub fn settled_ranges_hold()
     ensures { SettledRangesHold }
 {}
 
-/// So do points of the box of a Func that is computed at a loop: they lie in the view of them with which a Func computed at
-/// a loop further out is asked.
+/// So do points of the box of a Func that is computed at a loop: they lie in the view of them with which a Func
+/// computed at a loop further out is asked.
 pub fn settled_boxes_hold()
     ensures { SettledBoxesHold }
 {}
 
-/// What an update of a computed Func reads of its own Func, the point that its left side names among it, lies in the Func's
-/// box in each dimension that isn't in place, whatever values the loops of its host have.
+/// What an update of a computed Func reads of its own Func, the point that its left side names among it, lies in the
+/// Func's box in each dimension that isn't in place, whatever values the loops of its host have.
 pub fn hosted_own_reads_lie()
     ensures { HostedOwnReadsLie }
 {}
@@ -44,14 +44,14 @@ pub fn own_reads_stay()
     ensures { OwnReadsStay }
 {}
 
-/// So all that an update reads of its own Func lies in the Func's box, and the point that its left side names, where the
-/// arguments in place do.
+/// So all that an update reads of its own Func lies in the Func's box, and the point that its left side names, where
+/// the arguments in place do.
 pub fn own_points_lie()
     ensures { OwnPointsLie }
 {}
 
-/// The box of a Func that is computed has two ends in each dimension, stays within -2^24 to 2^24, and is over the loops of
-/// the Func's host.
+/// The box of a Func that is computed has two ends in each dimension, stays within -2^24 to 2^24, and is over the loops
+/// of the Func's host.
 pub fn boxes_are_hosted()
     ensures { BoxesAreHosted }
 {}
@@ -66,14 +66,15 @@ pub fn visits_lie()
     ensures { VisitsLie }
 {}
 
-/// Wherever loops take the arguments of a Func that makes its reads within the loop at which another one is computed, they
-/// lie in the view of them with which that other one is asked, while the loops of the host from that one outward have the
-/// same turns.
+/// Wherever loops take the arguments of a Func that makes its reads within the loop at which another one is computed,
+/// they lie in the view of them with which that other one is asked, while the loops of the host from that one outward
+/// have the same turns.
 pub fn arguments_lie_in_views()
     ensures { ArgumentsLieInViews }
 {}
 
-/// So all that its pure definition reads there of that other one, also through inlined Funcs, lies in the box of that one.
+/// So all that its pure definition reads there of that other one, also through inlined Funcs, lies in the box of that
+/// one.
 pub fn pure_reads_in_loops_lie()
     ensures { PureReadsInLoopsLie }
 {}

@@ -10,8 +10,8 @@ ghost use Rattle.bounds_laws.specs.Laws.{
   OwnReadsLie,
 };
 
-/// Wherever loops take a point of a Func's box, all that its pure definition reads there of inputs, also through inlined
-/// Funcs, lies in their boxes.
+/// Wherever loops take a point of a Func's box, all that its pure definition reads there of inputs, also through
+/// inlined Funcs, lies in their boxes.
 pub fn pure_reads_of_inputs_lie()
     ensures { PureReadsOfInputsLie }
 {}

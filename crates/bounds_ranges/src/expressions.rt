@@ -93,8 +93,10 @@ pub fn ranged(
 ) -> Result<Range, AllocError>
     requires variables { spec.AreFit lasts.now variables.now }
     requires reads { spec.AreFitReads lasts.now asked.old.items }
-    ensures range { IfOk result (λ r. r ≡ (spec.walked lasts.now inputs.now flags.now funcs.now count variables.now expr.now).range) }
-    ensures asked { OnOk result (asked.new.items ≡ asked.old.items ++ (spec.walked lasts.now inputs.now flags.now funcs.now count variables.now expr.now).asked) }
+    ensures range { IfOk result (λ r. r
+        ≡ (spec.walked lasts.now inputs.now flags.now funcs.now count variables.now expr.now).range) }
+    ensures asked { OnOk result (asked.new.items ≡ asked.old.items
+        ++ (spec.walked lasts.now inputs.now flags.now funcs.now count variables.now expr.now).asked) }
     ensures fits { IfOk result (λ r. IsFit lasts.now r) }
     ensures reads { OnOk result (spec.AreFitReads lasts.now asked.new.items) }
 {
@@ -265,8 +267,10 @@ fn answered(
     requires first { IsFit lasts.now x }
     requires second { IsFit lasts.now y }
     requires reads { spec.AreFitReads lasts.now asked.old.items }
-    ensures range { IfOk result (λ r. r ≡ (walking.answer_of lasts.now inputs.now flags.now funcs.now count source x y).range) }
-    ensures asked { OnOk result (asked.new.items ≡ asked.old.items ++ (walking.answer_of lasts.now inputs.now flags.now funcs.now count source x y).asked) }
+    ensures range { IfOk result (λ r. r
+        ≡ (walking.answer_of lasts.now inputs.now flags.now funcs.now count source x y).range) }
+    ensures asked { OnOk result (asked.new.items ≡ asked.old.items
+        ++ (walking.answer_of lasts.now inputs.now flags.now funcs.now count source x y).asked) }
     ensures fits { IfOk result (λ r. IsFit lasts.now r) }
     ensures reads { OnOk result (spec.AreFitReads lasts.now asked.new.items) }
 {
@@ -345,8 +349,12 @@ pub fn ranged_update(
 ) -> Result<Range, AllocError>
     requires variables { spec.AreFit lasts.now variables.now }
     requires reads { spec.AreFitReads lasts.now asked.old.items }
-    ensures range { IfOk result (λ r. r ≡ (spec.walked_update lasts.now inputs.now flags.now funcs.now count own.now anywhere variables.now expr.now).range) }
-    ensures asked { OnOk result (asked.new.items ≡ asked.old.items ++ (spec.walked_update lasts.now inputs.now flags.now funcs.now count own.now anywhere variables.now expr.now).asked) }
+    ensures range { IfOk result (λ r. r
+        ≡ (spec.walked_update lasts.now inputs.now flags.now funcs.now count own.now anywhere variables.now
+        expr.now).range) }
+    ensures asked { OnOk result (asked.new.items ≡ asked.old.items
+        ++ (spec.walked_update lasts.now inputs.now flags.now funcs.now count own.now anywhere variables.now
+        expr.now).asked) }
     ensures fits { IfOk result (λ r. IsFit lasts.now r) }
     ensures reads { OnOk result (spec.AreFitReads lasts.now asked.new.items) }
 {

@@ -73,7 +73,8 @@ fn ends_of(a: &Range) -> Ends
 fn is_within(lasts: &Lasts, base: &Base, ends: Ends) -> bool
     requires high { ends.high ≤ 2 ^ 63 }
     requires ordered { ends.low ≤ ends.high }
-    ensures { result ≡ (nat_le (spec.least + bases.less_sum base.now lasts.now) ends.low && nat_le (ends.high + bases.more_sum base.now lasts.now) spec.greatest) }
+    ensures { result ≡ (nat_le (spec.least + bases.less_sum base.now lasts.now) ends.low && nat_le
+        (ends.high + bases.more_sum base.now lasts.now) spec.greatest) }
 {
     LEAST + less_sum(base, lasts) <= ends.low && ends.high + more_sum(base, lasts) <= GREATEST
 }

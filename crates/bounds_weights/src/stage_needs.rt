@@ -140,7 +140,8 @@ fn computed_needs(
     plan: &FuncPlan,
     own: &Standing,
 ) -> StageNeeds
-    ensures { inner.AllNeedsAs calls.now result (λ flags funcs. spec.computed_needs flags funcs func.now plan.now own.now) }
+    ensures { inner.AllNeedsAs calls.now result (λ flags funcs. spec.computed_needs flags funcs func.now plan.now
+        own.now) }
 {
     if !is_computed(own) {
         return no_needs();
@@ -159,7 +160,8 @@ fn funcs_needs(
     plans: &[FuncPlan],
     standings: &[Standing],
 ) -> StageNeeds
-    ensures { inner.AllNeedsAs calls.now result (λ flags all. spec.funcs_needs flags all funcs.now plans.now standings.now) }
+    ensures { inner.AllNeedsAs calls.now result (λ flags all. spec.funcs_needs flags all funcs.now plans.now
+        standings.now) }
 {
     match funcs {
         [] => no_needs(),
@@ -183,7 +185,9 @@ fn total_needs(
     plans: &[FuncPlan],
     standings: &[Standing],
 ) -> Result<StageNeeds, AllocError>
-    ensures { IfOk result (λ own. own ≡ inner.capped_needs (spec.funcs_needs (weight.flags_of standings.now) funcs.now funcs.now plans.now standings.now)) }
+    ensures { IfOk result (λ own. own
+        ≡ inner.capped_needs (spec.funcs_needs (weight.flags_of standings.now) funcs.now funcs.now plans.now
+        standings.now)) }
 {
     let flags = inlined_flags(alloc, standings)?;
     let calls = need_calls(alloc, funcs, flags.as_slice())?;

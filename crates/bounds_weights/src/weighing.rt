@@ -106,7 +106,8 @@ fn func_weight(
     plan: &FuncPlan,
     own: &Standing,
 ) -> u32
-    ensures { inner.CountsAs calls.now result (λ flags funcs. spec.func_weight flags funcs plans.now func.now plan.now own.now) }
+    ensures { inner.CountsAs calls.now result (λ flags funcs. spec.func_weight flags funcs plans.now func.now plan.now
+        own.now) }
 {
     let pure = stage_weight(all_nodes(calls, &func.pure), &plan.pure);
     let updates = updates_weight(calls, func.updates.as_slice(), plan.updates.as_slice());
@@ -122,7 +123,8 @@ fn computed_weight(
     plan: &FuncPlan,
     own: &Standing,
 ) -> u32
-    ensures { inner.CountsAs calls.now result (λ flags funcs. spec.computed_weight flags funcs plans.now func.now plan.now own.now) }
+    ensures { inner.CountsAs calls.now result (λ flags funcs. spec.computed_weight flags funcs plans.now func.now
+        plan.now own.now) }
 {
     if is_computed(own) {
         func_weight(calls, plans, func, plan, own)
@@ -139,7 +141,8 @@ fn funcs_weight(
     rest: &[FuncPlan],
     standings: &[Standing],
 ) -> u32
-    ensures { inner.CountsAs calls.now result (λ flags all. spec.funcs_weight flags all plans.now funcs.now rest.now standings.now) }
+    ensures { inner.CountsAs calls.now result (λ flags all. spec.funcs_weight flags all plans.now funcs.now rest.now
+        standings.now) }
 {
     match funcs {
         [] => 0,
@@ -162,7 +165,9 @@ fn total_weight(
     plans: &[FuncPlan],
     standings: &[Standing],
 ) -> Result<u32, AllocError>
-    ensures { IfOk result (λ total. total ≡ inner.capped (spec.funcs_weight (spec.flags_of standings.now) funcs.now plans.now funcs.now plans.now standings.now)) }
+    ensures { IfOk result (λ total. total
+        ≡ inner.capped (spec.funcs_weight (spec.flags_of standings.now) funcs.now plans.now funcs.now plans.now
+        standings.now)) }
 {
     let flags = inlined_flags(alloc, standings)?;
     let calls = count_calls(alloc, funcs, flags.as_slice())?;

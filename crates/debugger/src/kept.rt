@@ -1,9 +1,11 @@
 //! States on the way that are kept, to go back to.
 //!
-//! A kept place holds what the state there has over the one that was kept before it: all harts, and the pages of data that turns wrote
-//! since. The first one has them over the image's data, and leaves them to the next one when it is let go.
+//! A kept place holds what the state there has over the one that was kept before it: all harts, and the pages of data
+//! that turns wrote since. The first one has them over the image's data, and leaves them to the next one when it is let
+//! go.
 
-ghost use Rattle.std.specs.Prelude.{◌≡◌, ◌+◌, ◌/◌, ◌^◌, ◌<◌, ◌≤◌, ℕ, List, All, false, Some, IfOk, IfSome, length, option_map, slice_get, take};
+ghost use Rattle.std.specs.Prelude.{◌≡◌, ◌+◌, ◌/◌, ◌^◌, ◌<◌, ◌≤◌, ℕ, List, All, false, Some, IfOk, IfSome, length};
+ghost use Rattle.std.specs.Prelude.{option_map, slice_get, take};
 ghost use Rattle.memory.specs.Addresses.{most_bytes};
 ghost use Rattle.multi_hart.specs.Parts.{with_data, with_harts};
 ghost use Rattle.multi_hart.specs.Run.{run};
@@ -11,7 +13,8 @@ ghost use Rattle.loader.specs.Image.{ImageContents};
 ghost use Rattle.loader.specs.Loading.{machine_of};
 ghost use Rattle.turn_log.specs.TurnLog.{LogState};
 ghost use Rattle.debugger_pages.specs.Pages.{Holds, Marked, is_written, pages_of};
-ghost use Rattle.debugger.specs.inner.Kept.{AreFree, ArePages, CanPutBack, IsCopy, IsKept, KeptFits, last_kept, last_of};
+ghost use Rattle.debugger.specs.inner.Kept.{AreFree, ArePages, CanPutBack, IsCopy, IsKept, KeptFits, last_kept};
+ghost use Rattle.debugger.specs.inner.Kept.{last_of};
 
 use debugger_pages::{
     PAGE, PageCopy, changed_pages, mark_below, mark_pages, put_below, put_pages, settle,
@@ -69,7 +72,8 @@ pub(crate) fn keep_none(alloc: Global, size: usize) -> Result<Kept, AllocError>
 /// The last kept place up to this one: which of those that are kept it is, and its number.
 pub(crate) fn nearest(kept: &[KeptPlace], place: u64) -> Option<(usize, u64)>
     ensures before { IfSome result (λ found. found.1 ≤ place) }
-    ensures kept { IfSome result (λ found. option_map (λ copy. copy.place) (slice_get kept.now found.0) ≡ Some found.1) }
+    ensures kept { IfSome result (λ found. option_map (λ copy. copy.place) (slice_get kept.now found.0)
+        ≡ Some found.1) }
     ensures there { IfSome result (λ found. found.0 < length kept.now) }
 {
     let [first, others @ ..] = kept else {
@@ -109,8 +113,10 @@ pub(crate) fn copy_of(
 
 /// Keeps one more place, and lets the one that was kept first go where there are too many.
 pub(crate) fn keep_last(kept: &mut Kept, copy: KeptPlace)
-    ensures { (image : ImageContents) (log : LogState) (memory : List ℕ) → KeptFits image log kept.old memory → IsKept image log (last_kept image kept.old) copy
-        → memory ≡ (run (machine_of image log.harts) (take copy.place log.turns)).memory → KeptFits image log kept.new memory }
+    ensures { (image : ImageContents) (log : LogState) (memory : List ℕ) → KeptFits image log kept.old memory
+        → IsKept image log (last_kept image kept.old) copy
+        → memory ≡ (run (machine_of image log.harts) (take copy.place log.turns)).memory
+        → KeptFits image log kept.new memory }
 {
     make_room(kept);
     push_last(kept, copy);
@@ -118,8 +124,10 @@ pub(crate) fn keep_last(kept: &mut Kept, copy: KeptPlace)
 
 /// Lets the place go that was kept first where there are as many as may be.
 fn make_room(kept: &mut Kept)
-    ensures fits { (image : ImageContents) (log : LogState) (memory : List ℕ) → KeptFits image log kept.old memory → KeptFits image log kept.new memory }
-    ensures last { (image : ImageContents) (log : LogState) (memory : List ℕ) → KeptFits image log kept.old memory → (i : ℕ) → last_kept image kept.old i ≡ last_kept image kept.new i }
+    ensures fits { (image : ImageContents) (log : LogState) (memory : List ℕ) → KeptFits image log kept.old memory
+        → KeptFits image log kept.new memory }
+    ensures last { (image : ImageContents) (log : LogState) (memory : List ℕ) → KeptFits image log kept.old memory
+        → (i : ℕ) → last_kept image kept.old i ≡ last_kept image kept.new i }
 {
     if kept.places.len() < MOST_KEPT {
         return;
@@ -129,8 +137,10 @@ fn make_room(kept: &mut Kept)
 
 /// Keeps one more place. One for which there is no memory isn't kept.
 fn push_last(kept: &mut Kept, copy: KeptPlace)
-    ensures { (image : ImageContents) (log : LogState) (memory : List ℕ) → KeptFits image log kept.old memory → IsKept image log (last_kept image kept.old) copy
-        → memory ≡ (run (machine_of image log.harts) (take copy.place log.turns)).memory → KeptFits image log kept.new memory }
+    ensures { (image : ImageContents) (log : LogState) (memory : List ℕ) → KeptFits image log kept.old memory
+        → IsKept image log (last_kept image kept.old) copy
+        → memory ≡ (run (machine_of image log.harts) (take copy.place log.turns)).memory
+        → KeptFits image log kept.new memory }
 {
     match kept.places.push(copy) {
         Ok(()) => kept.written.fill(false),
@@ -141,8 +151,10 @@ fn push_last(kept: &mut Kept, copy: KeptPlace)
 /// Lets the place go that was kept first, which leaves its pages to the next one.
 fn let_go(kept: &mut Kept)
     requires { 1 ≤ length kept.old.places.items }
-    ensures fits { (image : ImageContents) (log : LogState) (memory : List ℕ) → KeptFits image log kept.old memory → KeptFits image log kept.new memory }
-    ensures last { (image : ImageContents) (log : LogState) (memory : List ℕ) → KeptFits image log kept.old memory → (i : ℕ) → last_kept image kept.old i ≡ last_kept image kept.new i }
+    ensures fits { (image : ImageContents) (log : LogState) (memory : List ℕ) → KeptFits image log kept.old memory
+        → KeptFits image log kept.new memory }
+    ensures last { (image : ImageContents) (log : LogState) (memory : List ℕ) → KeptFits image log kept.old memory
+        → (i : ℕ) → last_kept image kept.old i ≡ last_kept image kept.new i }
 {
     let first = kept.places.remove(0);
     settle(&mut kept.below, first.pages);
@@ -153,9 +165,12 @@ pub(crate) fn put_back(kept: &mut Kept, image: &Image, at: usize, machine: &mut 
     requires there { at < length kept.old.places.items }
     requires can { CanPutBack (length machine.old.memory) (length machine.old.harts) kept.old }
     requires size { length image.now.bytes ≡ length machine.old.memory }
-    ensures state { (log : LogState) (memory : List ℕ) (place : ℕ) → KeptFits image.now log kept.old memory → option_map (λ copy. copy.place) (slice_get kept.old.places.items at) ≡ Some place
-        → machine.old.text ≡ image.now.words → machine.new ≡ run (machine_of image.now log.harts) (take place log.turns) }
-    ensures fits { (log : LogState) (memory : List ℕ) → KeptFits image.now log kept.old memory → KeptFits image.now log kept.new machine.new.memory }
+    ensures state { (log : LogState) (memory : List ℕ) (place : ℕ) → KeptFits image.now log kept.old memory
+        → option_map (λ copy. copy.place) (slice_get kept.old.places.items at) ≡ Some place
+        → machine.old.text ≡ image.now.words
+        → machine.new ≡ run (machine_of image.now log.harts) (take place log.turns) }
+    ensures fits { (log : LogState) (memory : List ℕ) → KeptFits image.now log kept.old memory
+        → KeptFits image.now log kept.new machine.new.memory }
 {
     machine.set_data(image.data());
     put_below(machine, &kept.below);
@@ -170,7 +185,8 @@ pub(crate) fn put_at_start(kept: &mut Kept, image: &Image, opening: &[Hart], mac
     requires size { length image.now.bytes ≡ length machine.old.memory }
     requires harts { length opening.now ≡ length machine.old.harts }
     ensures state { machine.new ≡ record { text = machine.old.text; memory = image.now.bytes; harts = opening.now } }
-    ensures fits { (log : LogState) (memory : List ℕ) → KeptFits image.now log kept.old memory → KeptFits image.now log kept.new machine.new.memory }
+    ensures fits { (log : LogState) (memory : List ℕ) → KeptFits image.now log kept.old memory
+        → KeptFits image.now log kept.new machine.new.memory }
 {
     machine.set_data(image.data());
     machine.set_harts(opening);
@@ -185,7 +201,8 @@ fn put_places(machine: &mut Machine, places: &[KeptPlace], count: usize)
     requires pages { All (ArePages (length machine.old.memory)) places.now }
     ensures state { machine.new ≡ with_data machine.old machine.new.memory }
     ensures as_many { length machine.new.memory ≡ length machine.old.memory }
-    ensures holds { (f : ℕ → ℕ) → Holds machine.old.memory f → Holds machine.new.memory (last_of f (take count places.now)) }
+    ensures holds { (f : ℕ → ℕ) → Holds machine.old.memory f
+        → Holds machine.new.memory (last_of f (take count places.now)) }
 {
     if count == 0 {
         return;
@@ -200,7 +217,8 @@ fn put_places(machine: &mut Machine, places: &[KeptPlace], count: usize)
 fn put_harts(machine: &mut Machine, places: &[KeptPlace], at: usize)
     requires there { at < length places.now }
     requires harts { All (λ copy. length copy.harts.items ≡ length machine.old.harts) places.now }
-    ensures { (copy : KeptPlace) → slice_get places.now at ≡ Some copy → machine.new ≡ with_harts machine.old copy.harts.items }
+    ensures { (copy : KeptPlace) → slice_get places.now at ≡ Some copy
+        → machine.new ≡ with_harts machine.old copy.harts.items }
 {
     machine.set_harts(&places[at].harts);
 }
@@ -208,7 +226,8 @@ fn put_harts(machine: &mut Machine, places: &[KeptPlace], at: usize)
 /// Marks the pages of all places behind so many.
 fn mark_behind(written: &mut [bool], places: &[KeptPlace], count: usize)
     ensures marked { Marked written.old written.new }
-    ensures others { (f : ℕ → ℕ) (i : ℕ) → is_written written.new (i / 4096) ≡ false → last_of f places.now i ≡ last_of f (take count places.now) i }
+    ensures others { (f : ℕ → ℕ) (i : ℕ) → is_written written.new (i / 4096) ≡ false → last_of f places.now i
+        ≡ last_of f (take count places.now) i }
 {
     if let [first, others @ ..] = places {
         if count == 0 {

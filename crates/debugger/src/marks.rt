@@ -20,7 +20,8 @@ impl Session {
         ensures err { IfErr result (λ refusal. UnlessMemory refusal (with_break self.old pc ≡ Err refusal)) }
         ensures unchanged { OnErr result (self.new ≡ self.old) }
         // Memory is wanted for a mark that is to be added alone.
-        ensures needed { result ≡ Err Refusal.OutOfMemory → with_break self.old pc ≡ Ok (record self.old { breaks = self.old.breaks ++ pc ∷ [] }) }
+        ensures needed { result ≡ Err Refusal.OutOfMemory → with_break self.old pc
+            ≡ Ok (record self.old { breaks = self.old.breaks ++ pc ∷ [] }) }
     {
         if !is_text_word(self.image.words().len(), pc) {
             return Err(Refusal::Address);
@@ -42,7 +43,8 @@ impl Session {
         ensures err { IfErr result (λ refusal. UnlessMemory refusal (with_watch self.old address ≡ Err refusal)) }
         ensures unchanged { OnErr result (self.new ≡ self.old) }
         // Memory is wanted for a mark that is to be added alone.
-        ensures needed { result ≡ Err Refusal.OutOfMemory → with_watch self.old address ≡ Ok (record self.old { watches = self.old.watches ++ address ∷ [] }) }
+        ensures needed { result ≡ Err Refusal.OutOfMemory → with_watch self.old address
+            ≡ Ok (record self.old { watches = self.old.watches ++ address ∷ [] }) }
     {
         if !is_data_word(self.image.data().len(), address) {
             return Err(Refusal::Address);

@@ -44,7 +44,8 @@ impl Passed {
     /// The first stop behind the place, among those that the turns lead to.
     pub(crate) fn first(self, place: u64) -> Option<u64>
         requires fits { place + self.turns < 2 ^ 64 }
-        ensures { (session : SessionState) → IsPassed session place self → First session place (place + self.turns) result }
+        ensures { (session : SessionState) → IsPassed session place self
+            → First session place (place + self.turns) result }
     {
         if self.turns > 1 && self.between {
             return Some(place + 1);
@@ -55,10 +56,12 @@ impl Passed {
         None
     }
 
-    /// The last stop from a place on up to the one behind the turns, where the one up to the place before them is given.
+    /// The last stop from a place on up to the one behind the turns, where the one up to the place before them is
+    /// given.
     pub(crate) fn latest(self, place: u64, last: Option<u64>) -> Option<u64>
         requires fits { place + self.turns < 2 ^ 64 }
-        ensures { (session : SessionState) (from : ℕ) → IsPassed session place self → Latest session from place last → Latest session from (place + self.turns) result }
+        ensures { (session : SessionState) (from : ℕ) → IsPassed session place self → Latest session from place last
+            → Latest session from (place + self.turns) result }
     {
         let end = place + self.turns;
         if self.behind {
@@ -71,8 +74,9 @@ impl Passed {
     }
 }
 
-/// Passes at least one turn and at most those up to the limit, on a machine that stands at the place: those of a hart that runs up to one
-/// behind which a mark may stop or the state may have to be kept, or all of one that doesn't run, which change nothing.
+/// Passes at least one turn and at most those up to the limit, on a machine that stands at the place: those of a hart
+/// that runs up to one behind which a mark may stop or the state may have to be kept, or all of one that doesn't run,
+/// which change nothing.
 pub(crate) fn pass(
     log: &TurnLog,
     breaks: &[u32],
@@ -87,9 +91,12 @@ pub(crate) fn pass(
     requires few { length insns.now ≤ most_words }
     requires before { way.place < way.limit }
     requires within { way.limit ≤ length log.now.turns }
-    ensures passed { (session : SessionState) → Fits session log.now breaks.now watches.now machine.old way.place → IsPassed session way.place result }
-    ensures state { (session : SessionState) → Fits session log.now breaks.now watches.now machine.old way.place → machine.new ≡ state_at session (way.place + result.turns) }
-    ensures steps { (hart count : ℕ) → run_at log.now.turns way.place ≡ Some (hart, count) → result.steps ≡ steps_of machine.old hart result.turns }
+    ensures passed { (session : SessionState) → Fits session log.now breaks.now watches.now machine.old way.place
+        → IsPassed session way.place result }
+    ensures state { (session : SessionState) → Fits session log.now breaks.now watches.now machine.old way.place
+        → machine.new ≡ state_at session (way.place + result.turns) }
+    ensures steps { (hart count : ℕ) → run_at log.now.turns way.place ≡ Some (hart, count)
+        → result.steps ≡ steps_of machine.old hart result.turns }
     ensures some { 1 ≤ result.turns }
     ensures within { way.place + result.turns ≤ way.limit }
     ensures shape { KeepsShape machine.old machine.new }
@@ -137,7 +144,8 @@ fn pass_rest(
     requires fits { place + turns < 2 ^ 64 }
     ensures turns { result.turns ≡ turns }
     ensures steps { result.steps ≡ 0 }
-    ensures passed { (session : SessionState) (watches : List ℕ) (count : ℕ) → Fits session log.now breaks.now watches machine.now place → run_at log.now.turns place ≡ Some (hart, count)
+    ensures passed { (session : SessionState) (watches : List ℕ) (count : ℕ)
+        → Fits session log.now breaks.now watches machine.now place → run_at log.now.turns place ≡ Some (hart, count)
         → 1 ≤ turns → turns ≤ count → IsLog log.now → IsPassed session place result }
 {
     let behind = is_on_break(log, breaks, machine, place + turns);
@@ -152,7 +160,8 @@ fn pass_rest(
 /// Whether a break stops at the place, where the machine stands.
 pub(crate) fn is_on_break(log: &TurnLog, breaks: &[u32], machine: &Machine, place: u64) -> bool
     requires harts { length machine.now.harts ≡ log.now.harts }
-    ensures { (session : SessionState) → log.now ≡ session.log → breaks.now ≡ session.breaks → machine.now ≡ state_at session place → result ≡ list_any (break_stops session place) session.breaks }
+    ensures { (session : SessionState) → log.now ≡ session.log → breaks.now ≡ session.breaks
+        → machine.now ≡ state_at session place → result ≡ list_any (break_stops session place) session.breaks }
 {
     // What this ensures says that every turn is of one of these harts.
     let _harts = log.harts();

@@ -27,8 +27,8 @@ impl Session {
         self.log.len()
     }
 
-    /// How many turns all calls of the session have made one by one. Turns of a hart that has stopped, which are passed at once, don't
-    /// count. Where memory is short, so that a copy isn't kept, there may be more of them.
+    /// How many turns all calls of the session have made one by one. Turns of a hart that has stopped, which are passed
+    /// at once, don't count. Where memory is short, so that a copy isn't kept, there may be more of them.
     pub fn steps(&self) -> u64 {
         self.steps
     }

@@ -69,12 +69,13 @@ impl Session {
         })
     }
 
-    /// Goes to a place, refused where the log has fewer turns. Backwards the turns are made again from the nearest kept place
-    /// before it. It needs no memory: a place for which there is none isn't kept.
+    /// Goes to a place, refused where the log has fewer turns. Backwards the turns are made again from the nearest kept
+    /// place before it. It needs no memory: a place for which there is none isn't kept.
     pub fn goto(&mut self, alloc: Global, k: u64) -> Result<(), Refusal>
         ensures ok { OnOk result (self.new ≡ moved self.old k) }
         ensures within { OnOk result (k ≤ length self.old.log.turns) }
-        ensures err { IfErr result (λ refusal. UnlessMemory refusal ((refusal ≡ Refusal.PastEnd) × (length self.old.log.turns < k))) }
+        ensures err { IfErr result (λ refusal. UnlessMemory refusal ((refusal ≡ Refusal.PastEnd)
+            × (length self.old.log.turns < k))) }
         ensures unchanged { OnErr result (self.new ≡ self.old) }
         ensures memory { result ≢ Err Refusal.OutOfMemory }
     {
@@ -89,7 +90,8 @@ impl Session {
     pub fn next(&mut self, alloc: Global) -> Result<(), Refusal>
         ensures ok { OnOk result (self.new ≡ moved self.old (self.old.place + 1)) }
         ensures before_end { OnOk result (self.old.place < length self.old.log.turns) }
-        ensures err { IfErr result (λ refusal. (refusal ≡ Refusal.PastEnd) × (self.old.place ≡ length self.old.log.turns)) }
+        ensures err { IfErr result (λ refusal. (refusal ≡ Refusal.PastEnd)
+            × (self.old.place ≡ length self.old.log.turns)) }
         ensures unchanged { OnErr result (self.new ≡ self.old) }
     {
         if self.place >= self.log.len() {
@@ -103,7 +105,8 @@ impl Session {
     pub fn back(&mut self, alloc: Global) -> Result<(), Refusal>
         ensures ok { OnOk result (self.new ≡ moved self.old (self.old.place - 1)) }
         ensures behind_start { OnOk result (1 ≤ self.old.place) }
-        ensures err { IfErr result (λ refusal. UnlessMemory refusal ((refusal ≡ Refusal.BeforeStart) × (self.old.place ≡ 0))) }
+        ensures err { IfErr result (λ refusal. UnlessMemory refusal ((refusal ≡ Refusal.BeforeStart)
+            × (self.old.place ≡ 0))) }
         ensures unchanged { OnErr result (self.new ≡ self.old) }
         ensures memory { result ≢ Err Refusal.OutOfMemory }
     {

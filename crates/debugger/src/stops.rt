@@ -1,6 +1,7 @@
 //! Going to the next and to the previous stop.
 
-ghost use Rattle.std.specs.Prelude.{◌≡◌, ◌≢◌, ◌<◌, ◌≤◌, true, false, Err, OnOk, OnErr, IfErr, IfSome, MatchOption, length};
+ghost use Rattle.std.specs.Prelude.{◌≡◌, ◌≢◌, ◌<◌, ◌≤◌, true, false, Err, OnOk, OnErr, IfErr, IfSome, MatchOption};
+ghost use Rattle.std.specs.Prelude.{length};
 ghost use Rattle.debugger.specs.Places.{moved};
 ghost use Rattle.debugger.specs.Refusals.{UnlessMemory};
 ghost use Rattle.debugger.specs.Stops.{stops, IsNextStop, NoNextStop, IsPreviousStop, NoPreviousStop};
@@ -16,7 +17,8 @@ impl Session {
     pub fn forward(&mut self, alloc: Global) -> Result<(), Refusal>
         ensures ok { OnOk result (IsNextStop self.old self.new.place) }
         ensures marks_stay { OnOk result (self.new ≡ moved self.old self.new.place) }
-        ensures err { IfErr result (λ refusal. UnlessMemory refusal ((refusal ≡ Refusal.NoStop) × NoNextStop self.old)) }
+        ensures err { IfErr result (λ refusal. UnlessMemory refusal ((refusal ≡ Refusal.NoStop)
+            × NoNextStop self.old)) }
         ensures unchanged { OnErr result (self.new ≡ self.old) }
         ensures memory { result ≢ Err Refusal.OutOfMemory }
     {
@@ -37,7 +39,8 @@ impl Session {
     pub fn reverse(&mut self, alloc: Global) -> Result<(), Refusal>
         ensures ok { OnOk result (IsPreviousStop self.old self.new.place) }
         ensures marks_stay { OnOk result (self.new ≡ moved self.old self.new.place) }
-        ensures err { IfErr result (λ refusal. UnlessMemory refusal ((refusal ≡ Refusal.NoStop) × NoPreviousStop self.old)) }
+        ensures err { IfErr result (λ refusal. UnlessMemory refusal ((refusal ≡ Refusal.NoStop)
+            × NoPreviousStop self.old)) }
         ensures unchanged { OnErr result (self.new ≡ self.old) }
         ensures memory { result ≢ Err Refusal.OutOfMemory }
     {
@@ -54,7 +57,8 @@ impl Session {
         }
     }
 
-    /// The least stop after the place. The session is then at that stop or behind it, or at the end where there is none.
+    /// The least stop after the place. The session is then at that stop or behind it, or at the end where there is
+    /// none.
     fn next_stop(&mut self, alloc: Global) -> Option<u64>
         ensures state { self.new ≡ moved self.old self.new.place }
         ensures stop { MatchOption result (NoNextStop self.old) (IsNextStop self.old) }
@@ -71,8 +75,8 @@ impl Session {
         None
     }
 
-    /// The greatest stop before the place, looked for from the nearest copy before it on, then from the one before that, and so on.
-    /// The session is then somewhere before its place.
+    /// The greatest stop before the place, looked for from the nearest copy before it on, then from the one before
+    /// that, and so on. The session is then somewhere before its place.
     fn previous_stop(&mut self, alloc: Global) -> Option<u64>
         ensures state { self.new ≡ moved self.old self.new.place }
         ensures stop { MatchOption result (NoPreviousStop self.old) (IsPreviousStop self.old) }

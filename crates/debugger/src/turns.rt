@@ -41,8 +41,8 @@ impl Made {
     }
 }
 
-/// Makes so many turns of a hart, and says how many it made one by one: once it isn't running the rest are passed, since they
-/// change nothing. It takes no memory.
+/// Makes so many turns of a hart, and says how many it made one by one: once it isn't running the rest are passed,
+/// since they change nothing. It takes no memory.
 pub(crate) fn make_counted(
     machine: &mut Machine,
     insns: &[Option<Insn>],
@@ -67,8 +67,8 @@ pub(crate) fn make_counted(
     turns
 }
 
-/// Makes turns of the hart whose turn is next in a log, at least one and at most those up to the limit: those up to the next place at
-/// which the state is kept where it runs, else all of them. It takes no memory.
+/// Makes turns of the hart whose turn is next in a log, at least one and at most those up to the limit: those up to the
+/// next place at which the state is kept where it runs, else all of them. It takes no memory.
 pub(crate) fn make_some(
     log: &TurnLog,
     machine: &mut Machine,
@@ -81,8 +81,10 @@ pub(crate) fn make_some(
     requires few { length insns.now ≤ most_words }
     requires before { way.place < way.limit }
     requires within { way.limit ≤ length log.now.turns }
-    ensures state { (start : State) → machine.old ≡ run start (take way.place log.now.turns) → machine.new ≡ run start (take (way.place + result.turns) log.now.turns) }
-    ensures steps { (hart count : ℕ) → run_at log.now.turns way.place ≡ Some (hart, count) → result.steps ≡ steps_of machine.old hart result.turns }
+    ensures state { (start : State) → machine.old ≡ run start (take way.place log.now.turns)
+        → machine.new ≡ run start (take (way.place + result.turns) log.now.turns) }
+    ensures steps { (hart count : ℕ) → run_at log.now.turns way.place ≡ Some (hart, count)
+        → result.steps ≡ steps_of machine.old hart result.turns }
     ensures some { 1 ≤ result.turns }
     ensures within { way.place + result.turns ≤ way.limit }
     ensures shape { KeepsShape machine.old machine.new }
@@ -98,8 +100,8 @@ pub(crate) fn make_some(
     Made { turns, steps }
 }
 
-/// How many of a hart's next turns are made before the state may have to be kept: those up to the next place at which it is kept
-/// where the hart runs, and all of them where it doesn't.
+/// How many of a hart's next turns are made before the state may have to be kept: those up to the next place at which
+/// it is kept where the hart runs, and all of them where it doesn't.
 fn at_most(machine: &Machine, hart: usize, place: u64, all: u64) -> u64
     requires there { hart < length machine.now.harts }
     requires some { 1 ≤ all }
@@ -128,8 +130,9 @@ pub(crate) struct Until {
     pub changed: bool,
 }
 
-/// Makes turns of a hart that runs, at least one and at most so many, in each of which it runs: up to the first behind which it stands on a break, which changes a word at
-/// one of the watched addresses, or which doesn't step. It takes no memory.
+/// Makes turns of a hart that runs, at least one and at most so many, in each of which it runs: up to the first behind
+/// which it stands on a break, which changes a word at one of the watched addresses, or which doesn't step. It takes no
+/// memory.
 pub(crate) fn make_until(
     machine: &mut Machine,
     insns: &[Option<Insn>],
@@ -148,7 +151,8 @@ pub(crate) fn make_until(
     ensures steps { steps_of machine.old hart result.turns ≡ result.turns }
     ensures some { (1 ≤ result.turns) × (result.turns ≤ most) }
     ensures quiet { IsQuietUntil machine.old hart breaks.now watches.now result.turns }
-    ensures changed { result.changed ≡ list_any (differs (run machine.old (replicate (result.turns - 1) hart)) machine.new) watches.now }
+    ensures changed { result.changed
+        ≡ list_any (differs (run machine.old (replicate (result.turns - 1) hart)) machine.new) watches.now }
     ensures shape { KeepsShape machine.old machine.new }
     ensures marks { Marks machine.old.memory machine.new.memory written.old written.new }
 {
@@ -164,7 +168,8 @@ pub(crate) fn make_until(
     }
 }
 
-/// Whether no mark stops behind a turn that stepped, where the hart now stands at this address and its turn is the next one.
+/// Whether no mark stops behind a turn that stepped, where the hart now stands at this address and its turn is the next
+/// one.
 fn goes_on(told: Watched, pc: u32, breaks: &[u32]) -> bool
     ensures stepped { result ≡ true → told.outcome ≡ Outcome.Stepped }
     ensures quiet { result ≡ true → (told.changed ≡ false) × (list_any (λ mark. mark == pc) breaks.now ≡ false) }
@@ -183,8 +188,8 @@ struct Watched {
     changed: bool,
 }
 
-/// Makes a turn of a hart, and says whether a word at one of the addresses is then another than before. Words are read where the
-/// instruction stores, and no other turn changes any. It takes no memory.
+/// Makes a turn of a hart, and says whether a word at one of the addresses is then another than before. Words are read
+/// where the instruction stores, and no other turn changes any. It takes no memory.
 fn turn_watched(
     machine: &mut Machine,
     insns: &[Option<Insn>],

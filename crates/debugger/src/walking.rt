@@ -22,7 +22,8 @@ impl Session {
         }
     }
 
-    /// Goes back to the nearest kept place where that is nearer to a place than the way on from here. It takes no memory.
+    /// Goes back to the nearest kept place where that is nearer to a place than the way on from here. It takes no
+    /// memory.
     pub(crate) fn approach(&mut self, place: u64)
         ensures state { self.new ≡ moved self.old self.new.place }
         ensures before { self.new.place ≤ place }
@@ -71,7 +72,8 @@ impl Session {
         }
     }
 
-    /// Passes at least one turn and at most those up to the limit: turns of a hart that runs, or all of one that doesn't.
+    /// Passes at least one turn and at most those up to the limit: turns of a hart that runs, or all of one that
+    /// doesn't.
     pub(crate) fn pass_on(&mut self, alloc: Global, limit: u64) -> Passed
         requires before { self.old.place < limit }
         requires within { limit ≤ length self.old.log.turns }

@@ -1,8 +1,10 @@
-//! Who wrote a word of data: the last turn of a log that wrote one of its bytes, also where it wrote the value that stood there.
+//! Who wrote a word of data: the last turn of a log that wrote one of its bytes, also where it wrote the value that
+//! stood there.
 //!
 //! - [`writes`]: the turn with what it found and left ([`Write`]).
 //! - [`passes`]: one pass over a log, up to the last such turn ([`last_write`]), over `specs/LastWrites.antt`.
-//! - [`marks`]: one pass over a log for words that stand in a row, each marked with its last turn ([`mark_words`]), over `specs/Marks.antt`.
+//! - [`marks`]: one pass over a log for words that stand in a row, each marked with its last turn ([`mark_words`]),
+//!   over `specs/Marks.antt`.
 //! - `stores`: what an instruction stores.
 //! - `quiets`: words of text that store nothing.
 //! - [`laws`]: the hart of that turn is the last writer of a byte that the theorem on assignments names.

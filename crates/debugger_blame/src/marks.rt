@@ -1,6 +1,7 @@
 //! One pass over a log that marks words which stand in a row, each with the last turn that wrote it.
 
-ghost use Rattle.std.specs.Prelude.{◌≡◌, ◌+◌, ◌*◌, ◌<◌, ◌≤◌, ◌%◌, ◌^◌, ◌++◌, ◌∷◌, [], ℕ, List, length, map, option_and_then, replicate, Some, None, IfOk, IfSome};
+ghost use Rattle.std.specs.Prelude.{◌≡◌, ◌+◌, ◌*◌, ◌<◌, ◌≤◌, ◌%◌, ◌^◌, ◌++◌, ◌∷◌, [], ℕ, List, length, map};
+ghost use Rattle.std.specs.Prelude.{option_and_then, replicate, Some, None, IfOk, IfSome};
 ghost use Rattle.hart_core.specs.Scalar.{illegal_fault};
 ghost use Rattle.hart_core.specs.VectorRows.{accesses_at, size_of};
 ghost use Rattle.memory.specs.Access.{access_at, places_of, touched};
@@ -42,8 +43,8 @@ pub struct MarkedRange {
 /// The mark of a word that no turn wrote: -1.
 const UNMARKED: u32 = 0xffff_ffff;
 
-/// Makes the turns of a log on a machine whose text has these words, and gives the marks of words that stand in a row. It takes memory by
-/// the word of text, and four bytes for each of the words that are marked.
+/// Makes the turns of a log on a machine whose text has these words, and gives the marks of words that stand in a row.
+/// It takes memory by the word of text, and four bytes for each of the words that are marked.
 pub fn mark_words(
     alloc: Global,
     machine: &mut Machine,
@@ -127,8 +128,8 @@ fn mark_run(
     }
 }
 
-/// Makes turns of one hart and marks what they write, and says how many it made: all up to a word that stores or behind one that may go on
-/// elsewhere, which mark nothing, or else one.
+/// Makes turns of one hart and marks what they write, and says how many it made: all up to a word that stores or behind
+/// one that may go on elsewhere, which mark nothing, or else one.
 #[inline(always)]
 fn mark_some(
     machine: &mut Machine,
@@ -187,7 +188,8 @@ fn mark_turn(
     mark_store(machine, insn, hart, mark, range.first, marks);
 }
 
-/// Makes a turn whose instruction stores, and marks the words that it writes. Most store one number, of which no list is made.
+/// Makes a turn whose instruction stores, and marks the words that it writes. Most store one number, of which no list
+/// is made.
 fn mark_store(
     machine: &mut Machine,
     insn: &Insn,
@@ -197,7 +199,8 @@ fn mark_store(
     marks: &mut [u32],
 )
     requires there { hart < length machine.old.harts }
-    requires stores { option_and_then store_in (fetched machine.old.text (hart_at machine.old hart).pc) ≡ Some insn.now }
+    requires stores { option_and_then store_in (fetched machine.old.text (hart_at machine.old hart).pc)
+        ≡ Some insn.now }
     ensures state { machine.new ≡ turn machine.old hart }
     ensures marks { Marked first (λ word. is_word_in word (written_next machine.old hart)) mark marks.old marks.new }
 {
@@ -221,7 +224,8 @@ fn mark_elements(
     marks: &mut [u32],
 )
     requires there { hart < length machine.old.harts }
-    requires stores { option_and_then store_in (fetched machine.old.text (hart_at machine.old hart).pc) ≡ Some insn.now }
+    requires stores { option_and_then store_in (fetched machine.old.text (hart_at machine.old hart).pc)
+        ≡ Some insn.now }
     ensures state { machine.new ≡ turn machine.old hart }
     ensures marks { Marked first (λ word. is_word_in word (written_next machine.old hart)) mark marks.old marks.new }
 {
@@ -239,7 +243,8 @@ struct StoredNumber {
     width: ElementWidth,
 }
 
-/// What an instruction stores that stores one number alone, where it is legal in the hart's state and makes no other trap.
+/// What an instruction stores that stores one number alone, where it is legal in the hart's state and makes no other
+/// trap.
 #[inline(always)]
 fn number_stored(hart: &Hart, insn: &Insn) -> Option<StoredNumber>
     ensures { IfSome result (λ number. illegal_fault insn.now hart.now ≡ None
@@ -285,7 +290,8 @@ fn mark_stored(marks: &mut [u32], first: u32, stored: &Stored, mark: u32)
 
 /// Marks the words of which numbers of a width at addresses have a byte.
 fn mark_numbers(marks: &mut [u32], first: u32, addresses: &[u32], width: ElementWidth, mark: u32)
-    ensures { Marked first (λ word. is_word_in word (touched (accesses_at width addresses.now))) mark marks.old marks.new }
+    ensures { Marked first (λ word. is_word_in word (touched (accesses_at width addresses.now))) mark marks.old
+        marks.new }
 {
     match addresses {
         [] => {}
@@ -298,7 +304,8 @@ fn mark_numbers(marks: &mut [u32], first: u32, addresses: &[u32], width: Element
 
 /// Marks the words of which a number of a width at an address has a byte: those of its first byte and of its last.
 fn mark_number(marks: &mut [u32], first: u32, address: u32, width: ElementWidth, mark: u32)
-    ensures { Marked first (λ word. is_word_in word (places_of (access_at (size_of width) address))) mark marks.old marks.new }
+    ensures { Marked first (λ word. is_word_in word (places_of (access_at (size_of width) address))) mark marks.old
+        marks.new }
 {
     let place = u64::from(address);
     mark_byte(marks, first, place, mark);

@@ -1,6 +1,7 @@
 //! One pass over a log, up to the last turn that wrote a word.
 
-ghost use Rattle.std.specs.Prelude.{◌≡◌, ◌+◌, ◌<◌, ◌≤◌, ◌^◌, ◌++◌, ◌∷◌, [], ℕ, List, None, Some, length, map, option_and_then, replicate, unwrap_or, IfOk};
+ghost use Rattle.std.specs.Prelude.{◌≡◌, ◌+◌, ◌<◌, ◌≤◌, ◌^◌, ◌++◌, ◌∷◌, [], ℕ, List, None, Some, length, map};
+ghost use Rattle.std.specs.Prelude.{option_and_then, replicate, unwrap_or, IfOk};
 ghost use Rattle.std.specs.Option.{option_copied};
 ghost use Rattle.memory.specs.Addresses.{fetched, most_words};
 ghost use Rattle.rv_encoding.specs.Decoding.{decoded};
@@ -20,8 +21,8 @@ use rv_insn::{Insn, Outcome};
 use std::alloc::{AllocError, Global};
 use turn_log::TurnLog;
 
-/// Makes the turns of a log on a machine whose text has these words, and says which of them wrote the word at an address last, if one
-/// did. It takes memory by the word of text.
+/// Makes the turns of a log on a machine whose text has these words, and says which of them wrote the word at an
+/// address last, if one did. It takes memory by the word of text.
 pub fn last_write(
     alloc: Global,
     machine: &mut Machine,
@@ -67,8 +68,8 @@ pub(crate) struct Stretch {
     pub(crate) place: u64,
 }
 
-/// Makes turns of one hart, and says which turn wrote the word last, of these and of those before. Where the hart doesn't run, all that
-/// are left are made at once.
+/// Makes turns of one hart, and says which turn wrote the word last, of these and of those before. Where the hart
+/// doesn't run, all that are left are made at once.
 fn pass_run(
     machine: &mut Machine,
     insns: &[Option<Insn>],
@@ -81,7 +82,8 @@ fn pass_run(
     requires few { length insns.now ≤ most_words }
     requires fits { stretch.place + stretch.count < 2 ^ 64 }
     ensures state { machine.new ≡ run machine.old (replicate stretch.count stretch.hart) }
-    ensures blames { (begin : State) (done : List ℕ) → machine.old ≡ run begin done → length done ≡ stretch.place → Blames begin done address last
+    ensures blames { (begin : State) (done : List ℕ) → machine.old ≡ run begin done → length done ≡ stretch.place
+        → Blames begin done address last
         → Blames begin (done ++ replicate stretch.count stretch.hart) address result }
 {
     let Stretch { hart, count, place } = stretch;
@@ -111,7 +113,8 @@ fn step(
     requires meant { insns.now ≡ map store_in machine.old.text }
     requires few { length insns.now ≤ most_words }
     ensures state { machine.new ≡ turn machine.old hart }
-    ensures blames { (begin : State) (done : List ℕ) → machine.old ≡ run begin done → length done ≡ place → Blames begin done address last
+    ensures blames { (begin : State) (done : List ℕ) → machine.old ≡ run begin done → length done ≡ place
+        → Blames begin done address last
         → Blames begin (done ++ hart ∷ []) address result }
 {
     if !would_write(machine, insns, hart, address) {
@@ -138,7 +141,8 @@ fn would_write(machine: &Machine, insns: &[Option<Insn>], hart: usize, address: 
     requires there { hart < length machine.now.harts }
     requires meant { insns.now ≡ map store_in machine.now.text }
     requires few { length insns.now ≤ most_words }
-    ensures { (insn : Insn) → option_and_then decoded (fetched machine.now.text (hart_at machine.now hart).pc) ≡ Some insn
+    ensures { (insn : Insn) → option_and_then decoded (fetched machine.now.text (hart_at machine.now hart).pc)
+        ≡ Some insn
         → illegal_fault insn (hart_at machine.now hart) ≡ None
         → result ≡ is_word_in address (places_stored insn (hart_at machine.now hart)) }
 {

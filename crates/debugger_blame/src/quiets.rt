@@ -13,7 +13,8 @@ use std::alloc::{AllocError, Global};
 /// How far words are counted.
 const MOST_QUIET: u32 = 1024;
 
-/// For each of the words how many from it on store nothing and are executed one behind the other, up to the first that may go on elsewhere.
+/// For each of the words how many from it on store nothing and are executed one behind the other, up to the first that
+/// may go on elsewhere.
 pub(crate) fn quiets_of(alloc: Global, words: &[u32]) -> Result<Vec<u32>, AllocError>
     ensures { IfOk result (λ counts. AreCounts words.now counts.items) }
 {
@@ -39,7 +40,8 @@ fn count_all(words: &[u32], counts: &mut [u32])
 
 /// How many there are from a word on, where so many are from the next one on.
 fn count_from(word: u32, next: u32) -> u32
-    ensures { (words : List ℕ) (place : ℕ) → slice_get words place ≡ Some word → AreQuiet words (place + 1) next → AreQuiet words place result }
+    ensures { (words : List ℕ) (place : ℕ) → slice_get words place ≡ Some word → AreQuiet words (place + 1) next
+        → AreQuiet words place result }
 {
     if store_of(word).is_some() {
         return 0;

@@ -39,7 +39,8 @@ fn put_slot(machine: &mut Machine, slot: &Option<PageCopy>)
 pub fn settle(below: &mut [Option<PageCopy>], pages: Vec<PageCopy>)
     ensures as_many { length below.new ≡ length below.old }
     ensures pages { (size : ℕ) → AreBelow size below.old → All (IsPage size) pages.items → AreBelow size below.new }
-    ensures lowest { All (λ page. page.number < length below.old) pages.items → (f : ℕ → ℕ) (i : ℕ) → lowest below.new f i ≡ over pages.items (lowest below.old f) i }
+    ensures lowest { All (λ page. page.number < length below.old) pages.items → (f : ℕ → ℕ) (i : ℕ)
+        → lowest below.new f i ≡ over pages.items (lowest below.old f) i }
 {
     for page in pages {
         settle_one(below, page);
@@ -51,7 +52,8 @@ pub fn settle(below: &mut [Option<PageCopy>], pages: Vec<PageCopy>)
 fn settle_one(below: &mut [Option<PageCopy>], page: PageCopy)
     ensures as_many { length below.new ≡ length below.old }
     ensures pages { (size : ℕ) → AreBelow size below.old → IsPage size page → AreBelow size below.new }
-    ensures lowest { page.number < length below.old → (f : ℕ → ℕ) (i : ℕ) → lowest below.new f i ≡ laid page (lowest below.old f) i }
+    ensures lowest { page.number < length below.old → (f : ℕ → ℕ) (i : ℕ) → lowest below.new f i
+        ≡ laid page (lowest below.old f) i }
 {
     let number = page.number;
     if number < below.len() {

@@ -28,7 +28,8 @@ pub fn changed_pages(
 ) -> Result<Vec<PageCopy>, AllocError>
     requires { length written.now ≡ pages_of (length memory.now) }
     ensures pages { IfOk result (λ pages. All (IsPage (length memory.now)) pages.items) }
-    ensures hold { IfOk result (λ pages. (f : ℕ → ℕ) → HoldsUnwritten written.now memory.now f → Holds memory.now (over pages.items f)) }
+    ensures hold { IfOk result (λ pages. (f : ℕ → ℕ) → HoldsUnwritten written.now memory.now f
+        → Holds memory.now (over pages.items f)) }
 {
     let mut pages = Vec::new(alloc);
     for (number, flag) in written.iter().enumerate() {
@@ -45,7 +46,8 @@ fn copy_page(alloc: Global, memory: &[u8], number: usize) -> Result<PageCopy, Al
     requires { number * 4096 < length memory.now }
     ensures number { IfOk result (λ copy. copy.number ≡ number) }
     ensures page { IfOk result (λ copy. IsPage (length memory.now) copy) }
-    ensures bytes { IfOk result (λ copy. (i : ℕ) → i < length memory.now → i / 4096 ≡ number → slice_index copy.bytes.items (i % 4096) ≡ slice_index memory.now i) }
+    ensures bytes { IfOk result (λ copy. (i : ℕ) → i < length memory.now → i / 4096 ≡ number
+        → slice_index copy.bytes.items (i % 4096) ≡ slice_index memory.now i) }
 {
     let start = number * PAGE;
     let end = start + PAGE.min(memory.len() - start);

@@ -20,8 +20,8 @@ pub struct Told {
     pub stores: bool,
 }
 
-/// Makes a turn of a hart on a machine whose text has these instructions that store, and marks the pages that it may write. It takes no
-/// memory.
+/// Makes a turn of a hart on a machine whose text has these instructions that store, and marks the pages that it may
+/// write. It takes no memory.
 #[inline(always)]
 pub fn turn_marking(
     machine: &mut Machine,
@@ -58,7 +58,8 @@ pub fn turn_marking(
 /// Makes a turn whose instruction stores.
 fn turn_storing(machine: &mut Machine, insn: &Insn, hart: usize, written: &mut [bool]) -> Outcome
     requires there { hart < length machine.old.harts }
-    requires stores { option_and_then store_in (fetched machine.old.text (hart_at machine.old hart).pc) ≡ Some insn.now }
+    requires stores { option_and_then store_in (fetched machine.old.text (hart_at machine.old hart).pc)
+        ≡ Some insn.now }
     ensures state { machine.new ≡ turn machine.old hart }
     ensures outcome { result ≡ outcome machine.old hart }
     ensures marks { Marks machine.old.memory machine.new.memory written.old written.new }

@@ -75,7 +75,8 @@ pub fn numbers_stored(hart: &Hart, insn: &Insn) -> Stored
 
 /// The same of a vector instruction.
 fn stored_elements(hart: &Hart, insn: &VectorInsn) -> Stored
-    ensures { illegal_fault (insns.Vector insn.now) hart.now ≡ None → places_in result ≡ places_stored (insns.Vector insn.now) hart.now }
+    ensures { illegal_fault (insns.Vector insn.now) hart.now ≡ None → places_in result
+        ≡ places_stored (insns.Vector insn.now) hart.now }
 {
     match *insn {
         VectorInsn::StoreElements {

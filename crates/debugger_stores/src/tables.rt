@@ -20,7 +20,8 @@ pub fn stores_of(alloc: Global, words: &[u32]) -> Result<Vec<Option<Insn>>, Allo
 /// The instruction at an address, if that stores.
 pub fn store_at(insns: &[Option<Insn>], pc: u32) -> Option<&Insn>
     requires { length insns.now ≤ most_words }
-    ensures { (text : List ℕ) → insns.now ≡ map store_in text → option_copied result ≡ option_and_then store_in (fetched text pc) }
+    ensures { (text : List ℕ) → insns.now ≡ map store_in text → option_copied result
+        ≡ option_and_then store_in (fetched text pc) }
 {
     if pc < TEXT_START || pc % 4 != 0 {
         return None;

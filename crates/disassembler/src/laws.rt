@@ -14,7 +14,8 @@ use rv_encoding::decoded_is_meant;
 /// shows.
 pub fn lines_say_their_words()
     ensures tokens { (word : ℕ) → word < 2 ^ 32 → tokens_of (line_of word) ≡ tokens_said word }
-    ensures statement { (word : ℕ) → word < 2 ^ 32 → statement_of (tokens_of (line_of word)) ≡ Some (statement_said word) }
+    ensures statement { (word : ℕ) → word < 2 ^ 32 → statement_of (tokens_of (line_of word))
+        ≡ Some (statement_said word) }
 {
     fields_fit();
     mnemonics_tell_apart();
@@ -33,7 +34,8 @@ pub fn lines_are_single()
 /// A law: with its address the line of a word is read as it is without, and has no line feed within.
 pub fn addresses_say_nothing()
     ensures tokens { (word address : ℕ) → word < 2 ^ 32 → tokens_of (addressed_line address word) ≡ tokens_said word }
-    ensures statement { (word address : ℕ) → word < 2 ^ 32 → statement_of (tokens_of (addressed_line address word)) ≡ Some (statement_said word) }
+    ensures statement { (word address : ℕ) → word < 2 ^ 32 → statement_of (tokens_of (addressed_line address word))
+        ≡ Some (statement_said word) }
     ensures single { (word address : ℕ) → word < 2 ^ 32 → IsLine (addressed_line address word) }
 {
     fields_fit();

@@ -30,8 +30,8 @@ pub fn write_line(word: u32, out: &mut Vec<u8>) -> Result<(), AllocError>
     Ok(())
 }
 
-/// Appends the line of a word, behind it a comment with the address at which the word stands, and a line feed. An `Err` says that there
-/// was no memory, and leaves what stands in `out` as it was.
+/// Appends the line of a word, behind it a comment with the address at which the word stands, and a line feed. An `Err`
+/// says that there was no memory, and leaves what stands in `out` as it was.
 pub(crate) fn write_addressed_line(
     word: u32,
     address: u32,

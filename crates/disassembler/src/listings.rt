@@ -6,7 +6,8 @@ ghost use Rattle.disassembler.specs.Listing.{addressed_listing, listing};
 use crate::lines::{write_addressed_line, write_line};
 use std::alloc::AllocError;
 
-/// Appends the lines of words, one behind the other. An `Err` says that there was no memory, and leaves what stands in `out` as it was.
+/// Appends the lines of words, one behind the other. An `Err` says that there was no memory, and leaves what stands in
+/// `out` as it was.
 pub fn write_lines(words: &[u32], out: &mut Vec<u8>) -> Result<(), AllocError>
     ensures appended { OnOk result (out.new.items ≡ out.old.items ++ listing words.now) }
     ensures unchanged { OnErr result (out.new.items ≡ out.old.items) }
@@ -32,8 +33,8 @@ fn push_lines(words: &[u32], out: &mut Vec<u8>) -> Result<(), AllocError>
     Ok(())
 }
 
-/// Appends the lines of words, each with a comment that says its address: the first word stands at `start`. After an `Err`, for want of
-/// memory, the lines of some first words stand in `out`.
+/// Appends the lines of words, each with a comment that says its address: the first word stands at `start`. After an
+/// `Err`, for want of memory, the lines of some first words stand in `out`.
 pub fn write_addressed_lines(words: &[u32], start: u32, out: &mut Vec<u8>) -> Result<(), AllocError>
     requires { start + 4 * length words.now < 2 ^ 32 }
     ensures { OnOk result (out.new.items ≡ out.old.items ++ addressed_listing start words.now) }

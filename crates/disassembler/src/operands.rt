@@ -3,7 +3,8 @@
 ghost use Rattle.std.specs.Prelude.{◌≡◌, ◌++◌, ◌<◌, ◌∷◌, length, OnOk, if◌then◌else◌, []};
 ghost use Rattle.std.specs.String.{string_bytes};
 ghost use Rattle.assembler_mnemonics.specs.Slots.{FitsSlot, FitsSlots};
-ghost use Rattle.assembler_mnemonics.specs.Configuration.{width_names, group_names, tail_names, mask_names, width_code, group_code, tail_code, mask_code, has_names, name_at};
+ghost use Rattle.assembler_mnemonics.specs.Configuration.{width_names, group_names, tail_names, mask_names, width_code};
+ghost use Rattle.assembler_mnemonics.specs.Configuration.{group_code, tail_code, mask_code, has_names, name_at};
 ghost use Rattle.assembler_mnemonics.specs.Registers.{integer_letter, vector_letter};
 ghost use Rattle.disassembler.specs.Listing as spec;
 ghost use Rattle.disassembler.specs.Reaching.{Reaches, AllReach};
@@ -95,7 +96,8 @@ fn push_operand(text: &mut String, slot: Slot, fields: &Fields) -> Result<(), Al
 /// `xN`
 fn push_integer(text: &mut String, fields: &Fields, field: usize) -> Result<(), AllocError>
     requires { field < length fields.now }
-    ensures { OnOk result (string_bytes text.new ≡ string_bytes text.old ++ spec.register_in integer_letter fields.now field) }
+    ensures { OnOk result (string_bytes text.new ≡ string_bytes text.old ++ spec.register_in integer_letter fields.now
+        field) }
 {
     let number = fields.get(field);
     write!(text, "x{number}")
@@ -104,7 +106,8 @@ fn push_integer(text: &mut String, fields: &Fields, field: usize) -> Result<(), 
 /// `(xN)`
 fn push_address(text: &mut String, fields: &Fields, field: usize) -> Result<(), AllocError>
     requires { field < length fields.now }
-    ensures { OnOk result (string_bytes text.new ≡ string_bytes text.old ++ spec.bracketed (spec.register_in integer_letter fields.now field)) }
+    ensures { OnOk result (string_bytes text.new ≡ string_bytes text.old
+        ++ spec.bracketed (spec.register_in integer_letter fields.now field)) }
 {
     let number = fields.get(field);
     write!(text, "(x{number})")

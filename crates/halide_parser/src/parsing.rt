@@ -86,17 +86,19 @@ fn finished(reader: Reader, count: u64) -> Result<Pipeline, LocatedError<ParseFa
     }
 }
 
-/// The pipeline that an algorithm text names, whatever reads its lines by the grammar. It keeps what evaluating and compiling it
-/// need: its output fits a picture, calls go to inputs and earlier Funcs with an index for each dimension, an update uses only
-/// arguments that stand in place and keeps them so in calls of its own Func, its variables' names differ, divisors are not 0, and the limits on
-/// counts, names, sizes, boxes and least values hold (`specs/WellFormed.antt` of `halide_pipeline`).
+/// The pipeline that an algorithm text names, whatever reads its lines by the grammar. It keeps what evaluating and
+/// compiling it need: its output fits a picture, calls go to inputs and earlier Funcs with an index for each dimension,
+/// an update uses only arguments that stand in place and keeps them so in calls of its own Func, its variables' names
+/// differ, divisors are not 0, and the limits on counts, names, sizes, boxes and least values hold
+/// (`specs/WellFormed.antt` of `halide_pipeline`).
 ///
 /// # Errors
 ///
 /// The number of the first faulty line, from 1, and its least fault; memory ran out.
 pub fn parse(text: &str, alloc: Global) -> Result<Pipeline, LocatedError<ParseFault>>
     ensures given { GivesLocated (λ x. x) result (spec.parsed alloc text.now) }
-    ensures by_grammar { (read : List Token → Option (Line Written)) → FollowsGrammar read → GivesLocated (λ x. x) result (spec.parsed_by read alloc text.now) }
+    ensures by_grammar { (read : List Token → Option (Line Written)) → FollowsGrammar read
+        → GivesLocated (λ x. x) result (spec.parsed_by read alloc text.now) }
     ensures well_formed { IfOk result (λ pipeline. IsWellFormed pipeline) }
 {
     let bytes = text.as_bytes();

@@ -2,7 +2,8 @@
 //! a line may have any number of brackets. Where the pass stands is changed in place, since moving it costs more than
 //! a token does.
 
-ghost use Rattle.std.specs.Prelude.{◌≡◌, ◌<◌, ◌≤◌, ◌+◌, ◌^◌, length, IfOk, IfSome, OnOk, None, Some, if◌then◌else◌, option_map};
+ghost use Rattle.std.specs.Prelude.{◌≡◌, ◌<◌, ◌≤◌, ◌+◌, ◌^◌, length, IfOk, IfSome, OnOk, None, Some, if◌then◌else◌};
+ghost use Rattle.std.specs.Prelude.{option_map};
 ghost use Rattle.line_text.specs.Reading.{Gives};
 ghost use Rattle.halide_parser_syntax.specs.declared.states.Bracket.TheVariants as brackets;
 ghost use Rattle.halide_parser_syntax.specs.inner.Machine as machine;
@@ -110,7 +111,8 @@ fn operand(
     state: &mut State<Judged>,
     value: Judged,
 ) -> Result<(), AllocError>
-    ensures { OnOk result (state.new ≡ machine.operand (judging reader.now scope.now) state.old.stack state.old.pending value) }
+    ensures { OnOk result (state.new ≡ machine.operand (judging reader.now scope.now) state.old.stack state.old.pending
+        value) }
 {
     let value = negated(reader, scope, state.pending.signs, value)?;
     let term = product_of(reader, scope, state.pending.product.take(), value)?;
@@ -146,7 +148,8 @@ fn added(
     term: Judged,
     operator: SumOperator,
 ) -> Result<(), AllocError>
-    ensures { OnOk result (state.new ≡ machine.added (judging reader.now scope.now) state.old.stack state.old.pending term operator) }
+    ensures { OnOk result (state.new ≡ machine.added (judging reader.now scope.now) state.old.stack state.old.pending
+        term operator) }
 {
     let value = sum_of(reader, scope, state.pending.sum.take(), term)?;
     state.pending.signs = 0;
@@ -164,7 +167,8 @@ fn compared(
     term: Judged,
     operator: CompareOperator,
 ) -> Result<bool, AllocError>
-    ensures { IfOk result (λ stands. (if stands then Some state.new else None) ≡ machine.compared (judging reader.now scope.now) state.old.stack state.old.pending term operator) }
+    ensures { IfOk result (λ stands. (if stands then Some state.new else None)
+        ≡ machine.compared (judging reader.now scope.now) state.old.stack state.old.pending term operator) }
 {
     if state.pending.comparison.is_some() {
         drop(term);
@@ -198,7 +202,8 @@ fn separated(
     state: &mut State<Judged>,
     term: Judged,
 ) -> Result<bool, AllocError>
-    ensures { IfOk result (λ stands. (if stands then Some state.new else None) ≡ machine.separated (judging reader.now scope.now) state.old.stack state.old.pending term) }
+    ensures { IfOk result (λ stands. (if stands then Some state.new else None)
+        ≡ machine.separated (judging reader.now scope.now) state.old.stack state.old.pending term) }
 {
     let value = whole(reader, scope, &mut state.pending, term)?;
     match state.stack.pop() {
@@ -256,7 +261,8 @@ fn closed(
     state: &mut State<Judged>,
     term: Judged,
 ) -> Result<bool, AllocError>
-    ensures { IfOk result (λ stands. (if stands then Some state.new else None) ≡ machine.closed (judging reader.now scope.now) state.old.stack state.old.pending term) }
+    ensures { IfOk result (λ stands. (if stands then Some state.new else None)
+        ≡ machine.closed (judging reader.now scope.now) state.old.stack state.old.pending term) }
 {
     let value = whole(reader, scope, &mut state.pending, term)?;
     match state.stack.pop() {
@@ -307,9 +313,11 @@ fn begun<'a>(
     tokens: &'a [Token],
 ) -> Result<Option<&'a [Token]>, AllocError>
     requires { state.old.pending.signs + length tokens.now < 2 ^ 64 }
-    ensures moved { IfOk result (λ rest. option_map (λ r. (state.new, r.now)) rest ≡ machine.begun (judging reader.now scope.now) state.old.stack state.old.pending tokens.now) }
+    ensures moved { IfOk result (λ rest. option_map (λ r. (state.new, r.now)) rest
+        ≡ machine.begun (judging reader.now scope.now) state.old.stack state.old.pending tokens.now) }
     ensures shorter { IfOk result (λ rest. IfSome rest (λ r. length r.now < length tokens.now)) }
-    ensures few { IfOk result (λ rest. IfSome rest (λ r. state.new.pending.signs + length r.now ≤ state.old.pending.signs + length tokens.now)) }
+    ensures few { IfOk result (λ rest. IfSome rest (λ r. state.new.pending.signs + length r.now ≤
+        state.old.pending.signs + length tokens.now)) }
 {
     match tokens {
         [Token::Number(number), rest @ ..] => {
@@ -353,7 +361,8 @@ fn followed<'a>(
     term: Judged,
     tokens: &'a [Token],
 ) -> Result<Option<&'a [Token]>, AllocError>
-    ensures moved { IfOk result (λ rest. option_map (λ r. (state.new, r.now)) rest ≡ machine.followed (judging reader.now scope.now) state.old.stack state.old.pending term tokens.now) }
+    ensures moved { IfOk result (λ rest. option_map (λ r. (state.new, r.now)) rest
+        ≡ machine.followed (judging reader.now scope.now) state.old.stack state.old.pending term tokens.now) }
     ensures shorter { IfOk result (λ rest. IfSome rest (λ r. length r.now < length tokens.now)) }
     ensures few { IfOk result (λ rest. IfSome rest (λ r. state.new.pending.signs ≡ 0)) }
 {
@@ -390,9 +399,11 @@ fn step<'a>(
     tokens: &'a [Token],
 ) -> Result<Option<&'a [Token]>, AllocError>
     requires { state.old.pending.signs + length tokens.now < 2 ^ 64 }
-    ensures moved { IfOk result (λ rest. option_map (λ r. (state.new, r.now)) rest ≡ machine.step (judging reader.now scope.now) state.old tokens.now) }
+    ensures moved { IfOk result (λ rest. option_map (λ r. (state.new, r.now)) rest
+        ≡ machine.step (judging reader.now scope.now) state.old tokens.now) }
     ensures shorter { IfOk result (λ rest. IfSome rest (λ r. length r.now < length tokens.now)) }
-    ensures few { IfOk result (λ rest. IfSome rest (λ r. state.new.pending.signs + length r.now ≤ state.old.pending.signs + length tokens.now)) }
+    ensures few { IfOk result (λ rest. IfSome rest (λ r. state.new.pending.signs + length r.now ≤
+        state.old.pending.signs + length tokens.now)) }
 {
     match state.term.take() {
         None => Ok(begun(reader, scope, state, tokens)?),
@@ -425,7 +436,8 @@ fn finished<'a>(
     state: State<Judged>,
     tokens: &'a [Token],
 ) -> Result<(Judged, &'a [Token]), ReadError<ParseFault>>
-    ensures { Gives (λ x. (x.0, x.1.now)) result (reading.or_syntax (machine.finished (judging reader.now scope.now) state tokens.now)) }
+    ensures { Gives (λ x. (x.0, x.1.now)) result
+        (reading.or_syntax (machine.finished (judging reader.now scope.now) state tokens.now)) }
 {
     let State {
         mut pending,

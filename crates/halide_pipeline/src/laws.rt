@@ -1,6 +1,7 @@
 //! Laws of what is read, each the contract of a function that does nothing.
 
-ghost use Rattle.halide_pipeline.specs.Points.{SeesValues, ValuesDependOnReads, StagesDependOnReads, PixelsDependOnInputs, ClosedPointsHoldReads, DefinitionsHoldReads};
+ghost use Rattle.halide_pipeline.specs.Points.{SeesValues, ValuesDependOnReads, StagesDependOnReads};
+ghost use Rattle.halide_pipeline.specs.Points.{PixelsDependOnInputs, ClosedPointsHoldReads, DefinitionsHoldReads};
 
 /// The value that is seen beside the points of an expression is the expression's.
 pub fn values_are_seen()

@@ -10,9 +10,12 @@ use rv_insn::{LoadOp, StoreOp, Trap};
 /// What a load of an address gives, or the trap that it makes.
 #[inline]
 pub fn load<M: Bytes>(op: LoadOp, memory: &M, address: u32) -> Result<u32, Trap>
-    ensures fits { OnOk result (fault_of (length (M.text memory.now)) (length (M.memory memory.now)) Reads address (bytes_in (load_size op)) ≡ None) }
-    ensures number { IfOk result (λ number. number ≡ loaded op (number_in (M.text memory.now) (M.memory memory.now) (load_size op) address)) }
-    ensures err { IfErr result (λ trap. fault_of (length (M.text memory.now)) (length (M.memory memory.now)) Reads address (bytes_in (load_size op)) ≡ Some trap) }
+    ensures fits { OnOk result (fault_of (length (M.text memory.now)) (length (M.memory memory.now)) Reads address
+        (bytes_in (load_size op)) ≡ None) }
+    ensures number { IfOk result (λ number. number
+        ≡ loaded op (number_in (M.text memory.now) (M.memory memory.now) (load_size op) address)) }
+    ensures err { IfErr result (λ trap. fault_of (length (M.text memory.now)) (length (M.memory memory.now)) Reads
+        address (bytes_in (load_size op)) ≡ Some trap) }
 {
     match op {
         LoadOp::Lb => {
@@ -42,9 +45,12 @@ pub fn load<M: Bytes>(op: LoadOp, memory: &M, address: u32) -> Result<u32, Trap>
 /// nothing.
 #[inline]
 pub fn store<M: Bytes>(op: StoreOp, memory: &mut M, address: u32, value: u32) -> Result<(), Trap>
-    ensures fits { OnOk result (fault_of (length (M.text memory.old)) (length (M.memory memory.old)) Writes address (bytes_in (store_size op)) ≡ None) }
-    ensures put { OnOk result (M.memory memory.new ≡ put_number (M.memory memory.old) (store_size op) address (kept op value)) }
-    ensures err { IfErr result (λ trap. fault_of (length (M.text memory.old)) (length (M.memory memory.old)) Writes address (bytes_in (store_size op)) ≡ Some trap) }
+    ensures fits { OnOk result (fault_of (length (M.text memory.old)) (length (M.memory memory.old)) Writes address
+        (bytes_in (store_size op)) ≡ None) }
+    ensures put { OnOk result (M.memory memory.new ≡ put_number (M.memory memory.old) (store_size op) address
+        (kept op value)) }
+    ensures err { IfErr result (λ trap. fault_of (length (M.text memory.old)) (length (M.memory memory.old)) Writes
+        address (bytes_in (store_size op)) ≡ Some trap) }
     ensures unchanged { OnErr result (M.memory memory.new ≡ M.memory memory.old) }
     ensures text { M.text memory.new ≡ M.text memory.old }
 {

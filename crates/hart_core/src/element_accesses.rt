@@ -2,7 +2,8 @@
 
 ghost use Rattle.std.specs.Prelude.{◌≡◌, ◌≤◌, ◌+◌, ◌++◌, IfOk, IfErr, OnErr, OnOk, Some, None, length, map};
 ghost use Rattle.memory.specs.Addresses.{put};
-ghost use Rattle.memory.specs.Access.{fault_of, first_fault, bytes_in, Reads, Writes, number_at, number_in, put_number, spread, touched};
+ghost use Rattle.memory.specs.Access.{fault_of, first_fault, bytes_in, Reads, Writes, number_at, number_in, put_number};
+ghost use Rattle.memory.specs.Access.{spread, touched};
 ghost use Rattle.hart_core.specs.VectorRows.{accesses_at, size_of};
 
 use memory::{Bytes, check_store, read_u8, read_u16, read_u32, write_u8, write_u16, write_u32};
@@ -11,9 +12,12 @@ use vector_unit::Numbers;
 
 /// The number of a width at an address, or the trap that its load makes.
 fn read_number<M: Bytes>(width: ElementWidth, memory: &M, address: u32) -> Result<u32, Trap>
-    ensures fits { OnOk result (fault_of (length (M.text memory.now)) (length (M.memory memory.now)) Reads address (bytes_in (size_of width)) ≡ None) }
-    ensures number { IfOk result (λ number. number ≡ number_in (M.text memory.now) (M.memory memory.now) (size_of width) address) }
-    ensures err { IfErr result (λ trap. fault_of (length (M.text memory.now)) (length (M.memory memory.now)) Reads address (bytes_in (size_of width)) ≡ Some trap) }
+    ensures fits { OnOk result (fault_of (length (M.text memory.now)) (length (M.memory memory.now)) Reads address
+        (bytes_in (size_of width)) ≡ None) }
+    ensures number { IfOk result (λ number. number ≡ number_in (M.text memory.now) (M.memory memory.now) (size_of width)
+        address) }
+    ensures err { IfErr result (λ trap. fault_of (length (M.text memory.now)) (length (M.memory memory.now)) Reads
+        address (bytes_in (size_of width)) ≡ Some trap) }
 {
     match width {
         ElementWidth::Bits8 => Ok(u32::from(read_u8(memory, address)?)),
@@ -35,7 +39,8 @@ pub(crate) fn bytes_of(width: ElementWidth) -> u32
 
 /// Puts the low bits of a number at an address that a store of its width may touch.
 fn write_number<M: Bytes>(width: ElementWidth, memory: &mut M, address: u32, number: u32)
-    requires { fault_of (length (M.text memory.old)) (length (M.memory memory.old)) Writes address (bytes_in (size_of width)) ≡ None }
+    requires { fault_of (length (M.text memory.old)) (length (M.memory memory.old)) Writes address
+        (bytes_in (size_of width)) ≡ None }
     ensures put { M.memory memory.new ≡ put_number (M.memory memory.old) (size_of width) address number }
     ensures text { M.text memory.new ≡ M.text memory.old }
 {
@@ -54,9 +59,12 @@ pub fn read_numbers<M: Bytes>(
     addresses: &[u32],
 ) -> Result<Numbers, Trap>
     requires { length addresses.now ≤ 64 }
-    ensures fits { OnOk result (first_fault (length (M.text memory.now)) (length (M.memory memory.now)) Reads (accesses_at width addresses.now) ≡ None) }
-    ensures numbers { IfOk result (λ numbers. numbers ≡ map (number_at (M.text memory.now) (M.memory memory.now)) (accesses_at width addresses.now)) }
-    ensures err { IfErr result (λ trap. first_fault (length (M.text memory.now)) (length (M.memory memory.now)) Reads (accesses_at width addresses.now) ≡ Some trap) }
+    ensures fits { OnOk result (first_fault (length (M.text memory.now)) (length (M.memory memory.now)) Reads
+        (accesses_at width addresses.now) ≡ None) }
+    ensures numbers { IfOk result (λ numbers. numbers ≡ map (number_at (M.text memory.now) (M.memory memory.now))
+        (accesses_at width addresses.now)) }
+    ensures err { IfErr result (λ trap. first_fault (length (M.text memory.now)) (length (M.memory memory.now)) Reads
+        (accesses_at width addresses.now) ≡ Some trap) }
 {
     let mut numbers = Numbers::new();
     let mut rest = addresses;
@@ -74,8 +82,10 @@ pub fn check_stores<M: Bytes>(
     memory: &M,
     addresses: &[u32],
 ) -> Result<(), Trap>
-    ensures fits { OnOk result (first_fault (length (M.text memory.now)) (length (M.memory memory.now)) Writes (accesses_at width addresses.now) ≡ None) }
-    ensures err { IfErr result (λ trap. first_fault (length (M.text memory.now)) (length (M.memory memory.now)) Writes (accesses_at width addresses.now) ≡ Some trap) }
+    ensures fits { OnOk result (first_fault (length (M.text memory.now)) (length (M.memory memory.now)) Writes
+        (accesses_at width addresses.now) ≡ None) }
+    ensures err { IfErr result (λ trap. first_fault (length (M.text memory.now)) (length (M.memory memory.now)) Writes
+        (accesses_at width addresses.now) ≡ Some trap) }
 {
     let mut rest = addresses;
     while let [address, others @ ..] = rest {
@@ -95,8 +105,10 @@ pub fn write_numbers<M: Bytes>(
     addresses: &[u32],
     numbers: &[u32],
 )
-    requires fits { first_fault (length (M.text memory.old)) (length (M.memory memory.old)) Writes (accesses_at width addresses.now) ≡ None }
-    ensures put { M.memory memory.new ≡ put (M.memory memory.old) (touched (accesses_at width addresses.now)) (spread (accesses_at width addresses.now) numbers.now) }
+    requires fits { first_fault (length (M.text memory.old)) (length (M.memory memory.old)) Writes
+        (accesses_at width addresses.now) ≡ None }
+    ensures put { M.memory memory.new ≡ put (M.memory memory.old) (touched (accesses_at width addresses.now))
+        (spread (accesses_at width addresses.now) numbers.now) }
     ensures text { M.text memory.new ≡ M.text memory.old }
 {
     let mut addresses = addresses;

@@ -2,12 +2,14 @@
 
 ghost use Rattle.std.specs.Prelude.{◌≡◌, false, None, Some, List, ℕ, length, IfOk, OnOk, IfErr, OnErr};
 ghost use Rattle.rv_insn.specs.declared.instructions.Insn.TheVariants as insns;
-ghost use Rattle.hart_core.specs.Alu.{plus, extended, computed as computed_of, computed_with_immediate as computed_with_immediate_of, shifted as shifted_of};
+ghost use Rattle.hart_core.specs.Alu.{plus, extended, computed as computed_of};
+ghost use Rattle.hart_core.specs.Alu.{computed_with_immediate as computed_with_immediate_of, shifted as shifted_of};
 ghost use Rattle.hart_core.specs.Scalar.{jump_fault, jump_of, jumped, linked};
 ghost use Rattle.hart_core.specs.HartState.{register, at_pc, given};
 ghost use Rattle.hart_core.specs.Meanings.{insn_of};
 ghost use Rattle.hart_core.specs.Turn.{step, step_with, fault, IsDone};
-ghost use Rattle.hart_core.specs.inner.Meanings.{IsScalar, IsBranch, IsAccess, IsWithImmediate, IsOperation, IsProduct, IsDoneBy, fault_by};
+ghost use Rattle.hart_core.specs.inner.Meanings.{IsScalar, IsBranch, IsAccess, IsWithImmediate, IsOperation, IsProduct};
+ghost use Rattle.hart_core.specs.inner.Meanings.{IsDoneBy, fault_by};
 
 use crate::accesses::{load, store};
 use crate::alu::{computed, computed_with_immediate, extend, is_taken, shifted};
@@ -44,7 +46,8 @@ impl Hart {
     #[inline(always)]
     pub fn step_with<M: Bytes>(&mut self, memory: &mut M, insn: Option<Insn>) -> Outcome
         ensures hart { self.new ≡ (step_with (M.text memory.old) (M.memory memory.old) self.old insn).hart }
-        ensures memory { M.memory memory.new ≡ (step_with (M.text memory.old) (M.memory memory.old) self.old insn).memory }
+        ensures memory { M.memory memory.new
+            ≡ (step_with (M.text memory.old) (M.memory memory.old) self.old insn).memory }
         ensures text { M.text memory.new ≡ M.text memory.old }
         ensures outcome { result ≡ (step_with (M.text memory.old) (M.memory memory.old) self.old insn).outcome }
     {
@@ -58,10 +61,13 @@ impl Hart {
     #[inline(always)]
     pub fn step_running<M: Bytes>(&mut self, memory: &mut M, meaning: &Meaning) -> Outcome
         requires { self.old.status ≡ Status.Running }
-        ensures hart { self.new ≡ (step_with (M.text memory.old) (M.memory memory.old) self.old (insn_of meaning.now)).hart }
-        ensures memory { M.memory memory.new ≡ (step_with (M.text memory.old) (M.memory memory.old) self.old (insn_of meaning.now)).memory }
+        ensures hart { self.new ≡ (step_with (M.text memory.old) (M.memory memory.old) self.old
+            (insn_of meaning.now)).hart }
+        ensures memory { M.memory memory.new
+            ≡ (step_with (M.text memory.old) (M.memory memory.old) self.old (insn_of meaning.now)).memory }
         ensures text { M.text memory.new ≡ M.text memory.old }
-        ensures outcome { result ≡ (step_with (M.text memory.old) (M.memory memory.old) self.old (insn_of meaning.now)).outcome }
+        ensures outcome { result ≡ (step_with (M.text memory.old) (M.memory memory.old) self.old
+            (insn_of meaning.now)).outcome }
     {
         if let Meaning::Vector(ref insn) = *meaning {
             return self.step_vector(memory, insn);
@@ -72,14 +78,18 @@ impl Hart {
         }
     }
 
-    /// A turn of a hart that runs, of a vector instruction: apart from the others, whose answers then stay in registers.
+    /// A turn of a hart that runs, of a vector instruction: apart from the others, whose answers then stay in
+    /// registers.
     #[inline(never)]
     fn step_vector<M: Bytes>(&mut self, memory: &mut M, insn: &VectorInsn) -> Outcome
         requires { self.old.status ≡ Status.Running }
-        ensures hart { self.new ≡ (step_with (M.text memory.old) (M.memory memory.old) self.old (Some (insns.Vector insn.now))).hart }
-        ensures memory { M.memory memory.new ≡ (step_with (M.text memory.old) (M.memory memory.old) self.old (Some (insns.Vector insn.now))).memory }
+        ensures hart { self.new ≡ (step_with (M.text memory.old) (M.memory memory.old) self.old
+            (Some (insns.Vector insn.now))).hart }
+        ensures memory { M.memory memory.new
+            ≡ (step_with (M.text memory.old) (M.memory memory.old) self.old (Some (insns.Vector insn.now))).memory }
         ensures text { M.text memory.new ≡ M.text memory.old }
-        ensures outcome { result ≡ (step_with (M.text memory.old) (M.memory memory.old) self.old (Some (insns.Vector insn.now))).outcome }
+        ensures outcome { result ≡ (step_with (M.text memory.old) (M.memory memory.old) self.old
+            (Some (insns.Vector insn.now))).outcome }
     {
         match self.execute_vector(insn, memory) {
             Ok(outcome) => outcome,
@@ -92,8 +102,10 @@ impl Hart {
     #[inline(always)]
     fn execute<M: Bytes>(&mut self, meaning: &Meaning, memory: &mut M) -> Result<Outcome, Trap>
         requires { IsScalar meaning.now }
-        ensures ok { IfOk result (λ outcome. IsDoneBy (insn_of meaning.now) (M.text memory.old) (M.memory memory.old) self.old self.new (M.memory memory.new) outcome) }
-        ensures trap { IfErr result (λ trap. fault_by (insn_of meaning.now) (length (M.text memory.old)) (length (M.memory memory.old)) self.old ≡ Some trap) }
+        ensures ok { IfOk result (λ outcome. IsDoneBy (insn_of meaning.now) (M.text memory.old) (M.memory memory.old)
+            self.old self.new (M.memory memory.new) outcome) }
+        ensures trap { IfErr result (λ trap. fault_by (insn_of meaning.now) (length (M.text memory.old))
+            (length (M.memory memory.old)) self.old ≡ Some trap) }
         ensures hart { OnErr result (self.new ≡ self.old) }
         ensures memory { OnErr result (M.memory memory.new ≡ M.memory memory.old) }
         ensures text { M.text memory.new ≡ M.text memory.old }
@@ -148,13 +160,15 @@ impl Hart {
         }
     }
 
-    /// Does a branch. It is laid into `execute`; so are the other formats. The compiler makes one jump of both matches, as long as few
-    /// meanings lead to one of them: so operations come in three.
+    /// Does a branch. It is laid into `execute`; so are the other formats. The compiler makes one jump of both matches,
+    /// as long as few meanings lead to one of them: so operations come in three.
     #[inline(always)]
     fn execute_branch(&mut self, meaning: &Meaning) -> Result<Outcome, Trap>
         requires { IsBranch (insn_of meaning.now) }
-        ensures ok { IfOk result (λ outcome. (text memory : List ℕ) → IsDoneBy (insn_of meaning.now) text memory self.old self.new memory outcome) }
-        ensures trap { IfErr result (λ trap. (words bytes : ℕ) → fault_by (insn_of meaning.now) words bytes self.old ≡ Some trap) }
+        ensures ok { IfOk result (λ outcome. (text memory : List ℕ)
+            → IsDoneBy (insn_of meaning.now) text memory self.old self.new memory outcome) }
+        ensures trap { IfErr result (λ trap. (words bytes : ℕ) → fault_by (insn_of meaning.now) words bytes self.old
+            ≡ Some trap) }
         ensures hart { OnErr result (self.new ≡ self.old) }
     {
         match *meaning {
@@ -176,8 +190,10 @@ impl Hart {
         memory: &mut M,
     ) -> Result<Outcome, Trap>
         requires { IsAccess (insn_of meaning.now) }
-        ensures ok { IfOk result (λ outcome. IsDoneBy (insn_of meaning.now) (M.text memory.old) (M.memory memory.old) self.old self.new (M.memory memory.new) outcome) }
-        ensures trap { IfErr result (λ trap. fault_by (insn_of meaning.now) (length (M.text memory.old)) (length (M.memory memory.old)) self.old ≡ Some trap) }
+        ensures ok { IfOk result (λ outcome. IsDoneBy (insn_of meaning.now) (M.text memory.old) (M.memory memory.old)
+            self.old self.new (M.memory memory.new) outcome) }
+        ensures trap { IfErr result (λ trap. fault_by (insn_of meaning.now) (length (M.text memory.old))
+            (length (M.memory memory.old)) self.old ≡ Some trap) }
         ensures hart { OnErr result (self.new ≡ self.old) }
         ensures memory { OnErr result (M.memory memory.new ≡ M.memory memory.old) }
         ensures text { M.text memory.new ≡ M.text memory.old }
@@ -267,7 +283,8 @@ impl Hart {
     /// The same of a register and an immediate.
     #[inline(always)]
     fn with_immediate(&mut self, op: AluImmOp, rd: Reg, rs1: Reg, imm: Imm12) -> Outcome
-        ensures hart { self.new ≡ given self.old rd (computed_with_immediate_of op (register self.old rs1) (extended imm)) }
+        ensures hart { self.new ≡ given self.old rd (computed_with_immediate_of op (register self.old rs1)
+            (extended imm)) }
         ensures outcome { result ≡ Outcome.Stepped }
     {
         self.give(rd, computed_with_immediate(op, self.register(rs1), imm))
@@ -291,8 +308,10 @@ impl Hart {
         imm: Imm12,
         memory: &mut M,
     ) -> Result<Outcome, Trap>
-        ensures ok { IfOk result (λ outcome. IsDone (M.text memory.old) (M.memory memory.old) self.old (insns.Load op rd rs1 imm) self.new (M.memory memory.new) outcome) }
-        ensures trap { IfErr result (λ trap. fault (length (M.text memory.old)) (length (M.memory memory.old)) (insns.Load op rd rs1 imm) self.old ≡ Some trap) }
+        ensures ok { IfOk result (λ outcome. IsDone (M.text memory.old) (M.memory memory.old) self.old
+            (insns.Load op rd rs1 imm) self.new (M.memory memory.new) outcome) }
+        ensures trap { IfErr result (λ trap. fault (length (M.text memory.old)) (length (M.memory memory.old))
+            (insns.Load op rd rs1 imm) self.old ≡ Some trap) }
         ensures hart { OnErr result (self.new ≡ self.old) }
         ensures memory { OnErr result (M.memory memory.new ≡ M.memory memory.old) }
         ensures text { M.text memory.new ≡ M.text memory.old }
@@ -310,8 +329,10 @@ impl Hart {
         imm: Imm12,
         memory: &mut M,
     ) -> Result<Outcome, Trap>
-        ensures ok { IfOk result (λ outcome. IsDone (M.text memory.old) (M.memory memory.old) self.old (insns.Store op rs1 rs2 imm) self.new (M.memory memory.new) outcome) }
-        ensures trap { IfErr result (λ trap. fault (length (M.text memory.old)) (length (M.memory memory.old)) (insns.Store op rs1 rs2 imm) self.old ≡ Some trap) }
+        ensures ok { IfOk result (λ outcome. IsDone (M.text memory.old) (M.memory memory.old) self.old
+            (insns.Store op rs1 rs2 imm) self.new (M.memory memory.new) outcome) }
+        ensures trap { IfErr result (λ trap. fault (length (M.text memory.old)) (length (M.memory memory.old))
+            (insns.Store op rs1 rs2 imm) self.old ≡ Some trap) }
         ensures hart { OnErr result (self.new ≡ self.old) }
         ensures memory { OnErr result (M.memory memory.new ≡ M.memory memory.old) }
         ensures text { M.text memory.new ≡ M.text memory.old }
@@ -329,8 +350,10 @@ impl Hart {
         rs2: Reg,
         memory: &mut M,
     ) -> Result<Outcome, Trap>
-        ensures ok { IfOk result (λ outcome. IsDone (M.text memory.old) (M.memory memory.old) self.old (insns.AmoaddW rd rs1 rs2 false false) self.new (M.memory memory.new) outcome) }
-        ensures trap { IfErr result (λ trap. fault (length (M.text memory.old)) (length (M.memory memory.old)) (insns.AmoaddW rd rs1 rs2 false false) self.old ≡ Some trap) }
+        ensures ok { IfOk result (λ outcome. IsDone (M.text memory.old) (M.memory memory.old) self.old
+            (insns.AmoaddW rd rs1 rs2 false false) self.new (M.memory memory.new) outcome) }
+        ensures trap { IfErr result (λ trap. fault (length (M.text memory.old)) (length (M.memory memory.old))
+            (insns.AmoaddW rd rs1 rs2 false false) self.old ≡ Some trap) }
         ensures hart { OnErr result (self.new ≡ self.old) }
         ensures memory { OnErr result (M.memory memory.new ≡ M.memory memory.old) }
         ensures text { M.text memory.new ≡ M.text memory.old }
@@ -353,7 +376,8 @@ impl Hart {
         ensures ok { IfOk result (λ outcome. outcome ≡ Outcome.Stepped) }
         ensures allowed { OnOk result (jump_fault (jump_of (insns.Branch op rs1 rs2 offset) self.old) ≡ None) }
         ensures hart { OnOk result (self.new ≡ jumped self.old (jump_of (insns.Branch op rs1 rs2 offset) self.old)) }
-        ensures err { IfErr result (λ trap. jump_fault (jump_of (insns.Branch op rs1 rs2 offset) self.old) ≡ Some trap) }
+        ensures err { IfErr result (λ trap. jump_fault (jump_of (insns.Branch op rs1 rs2 offset) self.old)
+            ≡ Some trap) }
         ensures unchanged { OnErr result (self.new ≡ self.old) }
     {
         if is_taken(op, self.register(rs1), self.register(rs2)) {

@@ -1,10 +1,12 @@
 //! The state of one hart.
 
-ghost use Rattle.std.specs.Prelude.{◌≡◌, ◌<◌, ◌≤◌, ◌^◌, ◌&&◌, not, ℕ, None, true, false, slice_index, OnOk, OnErr, IfOk, IfErr};
+ghost use Rattle.std.specs.Prelude.{◌≡◌, ◌<◌, ◌≤◌, ◌^◌, ◌&&◌, not, ℕ, None, true, false, slice_index, OnOk, OnErr};
+ghost use Rattle.std.specs.Prelude.{IfOk, IfErr};
 ghost use Rattle.vector_unit.specs.VectorState.{configured, has_vill, is_illegal_configuration};
 ghost use Rattle.vector_unit.specs.Vector.{bits_of, is_own, is_refused, vector_after, scalar_given, number_of};
 ghost use Rattle.vector_unit.specs.Accesses.{loaded, with_element_from};
-ghost use Rattle.hart_core.specs.HartState.{register, vector, has_finished, with_register, at_pc, advanced, with_status, opening_hart, vectors_of, with_vectors, given};
+ghost use Rattle.hart_core.specs.HartState.{register, vector, has_finished, with_register, at_pc, advanced};
+ghost use Rattle.hart_core.specs.HartState.{with_status, opening_hart, vectors_of, with_vectors, given};
 
 use rv_insn::{ElementWidth, Outcome, Reg, Trap, VReg, VectorInsn};
 use std::marker::Model;
@@ -196,7 +198,8 @@ impl Hart {
     pub(crate) fn compute(&mut self, insn: &VectorInsn, scalar: u32) -> Result<Option<u32>, Trap>
         ensures own { OnOk result (is_own insn.now ≡ true) }
         ensures legal { OnOk result (is_refused insn.now (vectors_of self.old) ≡ false) }
-        ensures state { OnOk result (self.new ≡ with_vectors self.old (vector_after insn.now (λ r. scalar) (vectors_of self.old))) }
+        ensures state { OnOk result (self.new
+            ≡ with_vectors self.old (vector_after insn.now (λ r. scalar) (vectors_of self.old))) }
         ensures given { IfOk result (λ number. number ≡ number_of (scalar_given insn.now (vectors_of self.old))) }
         ensures illegal { OnErr result (is_own insn.now && not (is_refused insn.now (vectors_of self.old)) ≡ false) }
         ensures trap { IfErr result (λ trap. trap ≡ Trap.IllegalInstruction) }
@@ -205,13 +208,14 @@ impl Hart {
         self.unit.execute(insn, scalar)
     }
 
-    /// Executes an instruction on single registers of words, and answers whether it was one that is legal here. With any other
-    /// nothing is changed.
+    /// Executes an instruction on single registers of words, and answers whether it was one that is legal here. With
+    /// any other nothing is changed.
     #[inline(always)]
     pub(crate) fn compute_on_words(&mut self, insn: &VectorInsn) -> bool
         ensures own { result ≡ true → is_own insn.now ≡ true }
         ensures legal { result ≡ true → is_refused insn.now (vectors_of self.old) ≡ false }
-        ensures state { result ≡ true → (x : ℕ → ℕ) → self.new ≡ with_vectors self.old (vector_after insn.now x (vectors_of self.old)) }
+        ensures state { result ≡ true → (x : ℕ → ℕ)
+            → self.new ≡ with_vectors self.old (vector_after insn.now x (vectors_of self.old)) }
         ensures given { result ≡ true → scalar_given insn.now (vectors_of self.old) ≡ None }
         ensures unchanged { result ≡ false → self.new ≡ self.old }
     {
@@ -230,7 +234,8 @@ impl Hart {
     #[inline(always)]
     pub(crate) fn put_element(&mut self, width: ElementWidth, vd: VReg, index: u32, number: u32)
         requires { index < 64 }
-        ensures { self.new ≡ with_vectors self.old (with_element_from (vectors_of self.old) (bits_of width) vd index number) }
+        ensures { self.new ≡ with_vectors self.old (with_element_from (vectors_of self.old) (bits_of width) vd index
+            number) }
     {
         self.unit.put_element(width, vd, index, number);
     }

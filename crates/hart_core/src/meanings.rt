@@ -2,7 +2,8 @@
 //! each turn.
 
 ghost use Rattle.std.specs.Prelude.{◌≡◌, IfOk, map};
-ghost use Rattle.hart_core.specs.Meanings.{branch_of, load_of, store_of, immediate_of, shift_of, operation_of, meaning_of, word_meaning};
+ghost use Rattle.hart_core.specs.Meanings.{branch_of, load_of, store_of, immediate_of, shift_of, operation_of};
+ghost use Rattle.hart_core.specs.Meanings.{meaning_of, word_meaning};
 
 use rv_encoding::decode;
 use rv_insn::{

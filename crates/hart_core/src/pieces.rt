@@ -1,4 +1,5 @@
-//! Loads and stores of all elements of a group that lie one behind the other in data: judged once, and moved one after the other.
+//! Loads and stores of all elements of a group that lie one behind the other in data: judged once, and moved one after
+//! the other.
 
 ghost use Rattle.std.specs.Prelude.{◌≡◌, ◌<◌, ◌≤◌, ◌+◌, ◌*◌, ◌%◌, ◌^◌, true, false, IsTrue, length, map, replicate};
 ghost use Rattle.std.specs.List.{range_with_len};
@@ -91,8 +92,8 @@ impl Hart {
         self.put_element(width, vd, index, number);
     }
 
-    /// Loads all elements of a group, of a width, which lie one behind the other in data. Where they are four, nothing goes
-    /// round, so that where they lie is known at each.
+    /// Loads all elements of a group, of a width, which lie one behind the other in data. Where they are four, nothing
+    /// goes round, so that where they lie is known at each.
     #[inline(always)]
     pub(crate) fn load_group<M: Bytes>(
         &mut self,
@@ -103,8 +104,10 @@ impl Hart {
     )
         requires configured { has_vill (vectors_of self.old) ≡ false }
         requires lies { LiesInData (length (M.memory memory.now)) width address (count (vectors_of self.old)) }
-        ensures { self.new ≡ with_vectors self.old (filled_from 0 (vectors_of self.old) (bits_of width) vd (replicate (count (vectors_of self.old)) true)
-            (map (number_at (M.text memory.now) (M.memory memory.now)) (accesses_at width (addresses_from width address (count (vectors_of self.old)))))) }
+        ensures { self.new ≡ with_vectors self.old (filled_from 0 (vectors_of self.old) (bits_of width) vd
+            (replicate (count (vectors_of self.old)) true)
+            (map (number_at (M.text memory.now) (M.memory memory.now))
+            (accesses_at width (addresses_from width address (count (vectors_of self.old)))))) }
     {
         let count = self.vectors().count();
         if count == 4 {
@@ -114,8 +117,8 @@ impl Hart {
         }
     }
 
-    /// Loads four elements of a width, from one whose number is a multiple of four on, which lie one behind the other in
-    /// data. They stand in one register at each width.
+    /// Loads four elements of a width, from one whose number is a multiple of four on, which lie one behind the other
+    /// in data. They stand in one register at each width.
     #[inline(always)]
     fn load_quad<M: Bytes>(
         &mut self,
@@ -127,8 +130,10 @@ impl Hart {
     )
         requires few { quad < 16 }
         requires lies { LiesInData (length (M.memory memory.now)) width address 4 }
-        ensures { self.new ≡ with_vectors self.old (filled_from (4 * quad) (vectors_of self.old) (bits_of width) vd (replicate 4 true)
-            (map (number_at (M.text memory.now) (M.memory memory.now)) (accesses_at width (addresses_from width address 4)))) }
+        ensures { self.new ≡ with_vectors self.old (filled_from (4 * quad) (vectors_of self.old) (bits_of width) vd
+            (replicate 4 true)
+            (map (number_at (M.text memory.now) (M.memory memory.now))
+            (accesses_at width (addresses_from width address 4)))) }
     {
         let bytes = bytes_of(width);
         let second = address + bytes;
@@ -153,8 +158,10 @@ impl Hart {
     )
         requires few { 4 * (quad + others) ≤ 64 }
         requires lies { LiesInData (length (M.memory memory.now)) width address (4 * others) }
-        ensures { self.new ≡ with_vectors self.old (filled_from (4 * quad) (vectors_of self.old) (bits_of width) vd (replicate (4 * others) true)
-            (map (number_at (M.text memory.now) (M.memory memory.now)) (accesses_at width (addresses_from width address (4 * others))))) }
+        ensures { self.new ≡ with_vectors self.old (filled_from (4 * quad) (vectors_of self.old) (bits_of width) vd
+            (replicate (4 * others) true)
+            (map (number_at (M.text memory.now) (M.memory memory.now))
+            (accesses_at width (addresses_from width address (4 * others))))) }
     {
         if others > 0 {
             self.load_quad(memory, width, vd, address, quad);
@@ -177,15 +184,16 @@ fn store_one<M: Bytes>(
     requires few { index < 64 }
     requires aligned { address % bytes_in (size_of width) ≡ 0 }
     requires covered { IsTrue (in_data (length (M.memory memory.old)) address (bytes_in (size_of width))) }
-    ensures put { M.memory memory.new ≡ put_number (M.memory memory.old) (size_of width) address (element_from state.now (bits_of width) vs3 index) }
+    ensures put { M.memory memory.new ≡ put_number (M.memory memory.old) (size_of width) address
+        (element_from state.now (bits_of width) vs3 index) }
     ensures text { M.text memory.new ≡ M.text memory.old }
 {
     let number = state.element(width, vs3, index);
     write_covered(width, memory, address, number);
 }
 
-/// Stores all elements of a group, of a width, which are to lie one behind the other in data. Where they are four, nothing goes
-/// round.
+/// Stores all elements of a group, of a width, which are to lie one behind the other in data. Where they are four,
+/// nothing goes round.
 #[inline(always)]
 pub(crate) fn store_group<M: Bytes>(
     memory: &mut M,
@@ -196,8 +204,10 @@ pub(crate) fn store_group<M: Bytes>(
 )
     requires configured { has_vill state.now ≡ false }
     requires lies { LiesInData (length (M.memory memory.old)) width address (count state.now) }
-    ensures put { M.memory memory.new ≡ put (M.memory memory.old) (touched (accesses_at width (addresses_from width address (count state.now))))
-        (spread (accesses_at width (addresses_from width address (count state.now))) (map (element_from state.now (bits_of width) vs3) (range_with_len 0 (count state.now)))) }
+    ensures put { M.memory memory.new
+        ≡ put (M.memory memory.old) (touched (accesses_at width (addresses_from width address (count state.now))))
+        (spread (accesses_at width (addresses_from width address (count state.now)))
+        (map (element_from state.now (bits_of width) vs3) (range_with_len 0 (count state.now)))) }
     ensures text { M.text memory.new ≡ M.text memory.old }
 {
     let count = state.count();
@@ -208,8 +218,8 @@ pub(crate) fn store_group<M: Bytes>(
     }
 }
 
-/// Stores four elements of a width, from one whose number is a multiple of four on, which are to lie one behind the other in
-/// data.
+/// Stores four elements of a width, from one whose number is a multiple of four on, which are to lie one behind the
+/// other in data.
 #[inline(always)]
 fn store_quad<M: Bytes>(
     memory: &mut M,
@@ -221,8 +231,10 @@ fn store_quad<M: Bytes>(
 )
     requires few { quad < 16 }
     requires lies { LiesInData (length (M.memory memory.old)) width address 4 }
-    ensures put { M.memory memory.new ≡ put (M.memory memory.old) (touched (accesses_at width (addresses_from width address 4)))
-        (spread (accesses_at width (addresses_from width address 4)) (map (element_from state.now (bits_of width) vs3) (range_with_len (4 * quad) 4))) }
+    ensures put { M.memory memory.new
+        ≡ put (M.memory memory.old) (touched (accesses_at width (addresses_from width address 4)))
+        (spread (accesses_at width (addresses_from width address 4)) (map (element_from state.now (bits_of width) vs3)
+        (range_with_len (4 * quad) 4))) }
     ensures text { M.text memory.new ≡ M.text memory.old }
 {
     let bytes = bytes_of(width);
@@ -248,8 +260,10 @@ fn store_piece<M: Bytes>(
 )
     requires few { 4 * (quad + others) ≤ 64 }
     requires lies { LiesInData (length (M.memory memory.old)) width address (4 * others) }
-    ensures put { M.memory memory.new ≡ put (M.memory memory.old) (touched (accesses_at width (addresses_from width address (4 * others))))
-        (spread (accesses_at width (addresses_from width address (4 * others))) (map (element_from state.now (bits_of width) vs3) (range_with_len (4 * quad) (4 * others)))) }
+    ensures put { M.memory memory.new
+        ≡ put (M.memory memory.old) (touched (accesses_at width (addresses_from width address (4 * others))))
+        (spread (accesses_at width (addresses_from width address (4 * others)))
+        (map (element_from state.now (bits_of width) vs3) (range_with_len (4 * quad) (4 * others)))) }
     ensures text { M.text memory.new ≡ M.text memory.old }
 {
     if others > 0 {

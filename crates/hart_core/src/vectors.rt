@@ -26,8 +26,10 @@ impl Hart {
         insn: &VectorInsn,
         memory: &mut M,
     ) -> Result<Outcome, Trap>
-        ensures ok { IfOk result (λ outcome. IsDone (M.text memory.old) (M.memory memory.old) self.old (insns.Vector insn.now) self.new (M.memory memory.new) outcome) }
-        ensures trap { IfErr result (λ trap. fault (length (M.text memory.old)) (length (M.memory memory.old)) (insns.Vector insn.now) self.old ≡ Some trap) }
+        ensures ok { IfOk result (λ outcome. IsDone (M.text memory.old) (M.memory memory.old) self.old
+            (insns.Vector insn.now) self.new (M.memory memory.new) outcome) }
+        ensures trap { IfErr result (λ trap. fault (length (M.text memory.old)) (length (M.memory memory.old))
+            (insns.Vector insn.now) self.old ≡ Some trap) }
         ensures hart { OnErr result (self.new ≡ self.old) }
         ensures memory { OnErr result (M.memory memory.new ≡ M.memory memory.old) }
         ensures text { M.text memory.new ≡ M.text memory.old }
@@ -99,7 +101,8 @@ impl Hart {
 
     /// The number in the integer register that an instruction reads beside vector registers, if it does.
     fn scalar_of(&self, insn: &VectorInsn) -> u32
-        ensures { vector_after insn.now (λ r. result) (vectors_of self.now) ≡ vector_after insn.now (register self.now) (vectors_of self.now) }
+        ensures { vector_after insn.now (λ r. result) (vectors_of self.now)
+            ≡ vector_after insn.now (register self.now) (vectors_of self.now) }
     {
         match *insn {
             VectorInsn::ArithmeticVx { rs1, .. }
@@ -165,11 +168,15 @@ impl Hart {
         spacing: Spacing,
     ) -> Result<Outcome, Trap>
         requires { has_vill (vectors_of self.old) ≡ false }
-        ensures fits { OnOk result (first_fault (length (M.text memory.now)) (length (M.memory memory.now)) Reads (accesses_at width (addresses_by (vectors_of self.old) spacing vm (register self.old rs1))) ≡ None) }
+        ensures fits { OnOk result (first_fault (length (M.text memory.now)) (length (M.memory memory.now)) Reads
+            (accesses_at width (addresses_by (vectors_of self.old) spacing vm (register self.old rs1))) ≡ None) }
         ensures hart { OnOk result (self.new ≡ advanced (with_vectors self.old (loaded (vectors_of self.old) width vd vm
-            (map (number_at (M.text memory.now) (M.memory memory.now)) (accesses_at width (addresses_by (vectors_of self.old) spacing vm (register self.old rs1))))))) }
+            (map (number_at (M.text memory.now) (M.memory memory.now))
+            (accesses_at width (addresses_by (vectors_of self.old) spacing vm (register self.old rs1))))))) }
         ensures outcome { IfOk result (λ outcome. outcome ≡ Outcome.Stepped) }
-        ensures err { IfErr result (λ trap. first_fault (length (M.text memory.now)) (length (M.memory memory.now)) Reads (accesses_at width (addresses_by (vectors_of self.old) spacing vm (register self.old rs1))) ≡ Some trap) }
+        ensures err { IfErr result (λ trap. first_fault (length (M.text memory.now)) (length (M.memory memory.now))
+            Reads (accesses_at width (addresses_by (vectors_of self.old) spacing vm (register self.old rs1)))
+            ≡ Some trap) }
         ensures unchanged { OnErr result (self.new ≡ self.old) }
     {
         let base = self.register(rs1);
@@ -181,8 +188,8 @@ impl Hart {
         self.load_each(memory, width, vd, vm, rs1, *spacing)
     }
 
-    /// The same, each element judged on its own. It is a function of its own, so that accesses in one piece need no room
-    /// for addresses.
+    /// The same, each element judged on its own. It is a function of its own, so that accesses in one piece need no
+    /// room for addresses.
     #[inline(never)]
     fn load_each<M: Bytes>(
         &mut self,
@@ -194,11 +201,15 @@ impl Hart {
         spacing: Spacing,
     ) -> Result<Outcome, Trap>
         requires { has_vill (vectors_of self.old) ≡ false }
-        ensures fits { OnOk result (first_fault (length (M.text memory.now)) (length (M.memory memory.now)) Reads (accesses_at width (addresses_by (vectors_of self.old) spacing vm (register self.old rs1))) ≡ None) }
+        ensures fits { OnOk result (first_fault (length (M.text memory.now)) (length (M.memory memory.now)) Reads
+            (accesses_at width (addresses_by (vectors_of self.old) spacing vm (register self.old rs1))) ≡ None) }
         ensures hart { OnOk result (self.new ≡ advanced (with_vectors self.old (loaded (vectors_of self.old) width vd vm
-            (map (number_at (M.text memory.now) (M.memory memory.now)) (accesses_at width (addresses_by (vectors_of self.old) spacing vm (register self.old rs1))))))) }
+            (map (number_at (M.text memory.now) (M.memory memory.now))
+            (accesses_at width (addresses_by (vectors_of self.old) spacing vm (register self.old rs1))))))) }
         ensures outcome { IfOk result (λ outcome. outcome ≡ Outcome.Stepped) }
-        ensures err { IfErr result (λ trap. first_fault (length (M.text memory.now)) (length (M.memory memory.now)) Reads (accesses_at width (addresses_by (vectors_of self.old) spacing vm (register self.old rs1))) ≡ Some trap) }
+        ensures err { IfErr result (λ trap. first_fault (length (M.text memory.now)) (length (M.memory memory.now))
+            Reads (accesses_at width (addresses_by (vectors_of self.old) spacing vm (register self.old rs1)))
+            ≡ Some trap) }
         ensures unchanged { OnErr result (self.new ≡ self.old) }
     {
         let addresses = self.addresses(spacing, vm, rs1);
@@ -220,12 +231,18 @@ impl Hart {
         spacing: Spacing,
     ) -> Result<Outcome, Trap>
         requires { has_vill (vectors_of self.old) ≡ false }
-        ensures fits { OnOk result (first_fault (length (M.text memory.old)) (length (M.memory memory.old)) Writes (accesses_at width (addresses_by (vectors_of self.old) spacing vm (register self.old rs1))) ≡ None) }
+        ensures fits { OnOk result (first_fault (length (M.text memory.old)) (length (M.memory memory.old)) Writes
+            (accesses_at width (addresses_by (vectors_of self.old) spacing vm (register self.old rs1))) ≡ None) }
         ensures hart { OnOk result (self.new ≡ advanced self.old) }
-        ensures put { OnOk result (M.memory memory.new ≡ put (M.memory memory.old) (touched (accesses_at width (addresses_by (vectors_of self.old) spacing vm (register self.old rs1))))
-            (spread (accesses_at width (addresses_by (vectors_of self.old) spacing vm (register self.old rs1))) (active_numbers (vectors_of self.old) width vs3 vm))) }
+        ensures put { OnOk result (M.memory memory.new
+            ≡ put (M.memory memory.old) (touched
+            (accesses_at width (addresses_by (vectors_of self.old) spacing vm (register self.old rs1))))
+            (spread (accesses_at width (addresses_by (vectors_of self.old) spacing vm (register self.old rs1)))
+            (active_numbers (vectors_of self.old) width vs3 vm))) }
         ensures outcome { IfOk result (λ outcome. outcome ≡ Outcome.Stepped) }
-        ensures err { IfErr result (λ trap. first_fault (length (M.text memory.old)) (length (M.memory memory.old)) Writes (accesses_at width (addresses_by (vectors_of self.old) spacing vm (register self.old rs1))) ≡ Some trap) }
+        ensures err { IfErr result (λ trap. first_fault (length (M.text memory.old)) (length (M.memory memory.old))
+            Writes (accesses_at width (addresses_by (vectors_of self.old) spacing vm (register self.old rs1)))
+            ≡ Some trap) }
         ensures unchanged { OnErr result (self.new ≡ self.old) }
         ensures memory { OnErr result (M.memory memory.new ≡ M.memory memory.old) }
         ensures text { M.text memory.new ≡ M.text memory.old }
@@ -251,12 +268,18 @@ impl Hart {
         spacing: Spacing,
     ) -> Result<Outcome, Trap>
         requires { has_vill (vectors_of self.old) ≡ false }
-        ensures fits { OnOk result (first_fault (length (M.text memory.old)) (length (M.memory memory.old)) Writes (accesses_at width (addresses_by (vectors_of self.old) spacing vm (register self.old rs1))) ≡ None) }
+        ensures fits { OnOk result (first_fault (length (M.text memory.old)) (length (M.memory memory.old)) Writes
+            (accesses_at width (addresses_by (vectors_of self.old) spacing vm (register self.old rs1))) ≡ None) }
         ensures hart { OnOk result (self.new ≡ advanced self.old) }
-        ensures put { OnOk result (M.memory memory.new ≡ put (M.memory memory.old) (touched (accesses_at width (addresses_by (vectors_of self.old) spacing vm (register self.old rs1))))
-            (spread (accesses_at width (addresses_by (vectors_of self.old) spacing vm (register self.old rs1))) (active_numbers (vectors_of self.old) width vs3 vm))) }
+        ensures put { OnOk result (M.memory memory.new
+            ≡ put (M.memory memory.old) (touched
+            (accesses_at width (addresses_by (vectors_of self.old) spacing vm (register self.old rs1))))
+            (spread (accesses_at width (addresses_by (vectors_of self.old) spacing vm (register self.old rs1)))
+            (active_numbers (vectors_of self.old) width vs3 vm))) }
         ensures outcome { IfOk result (λ outcome. outcome ≡ Outcome.Stepped) }
-        ensures err { IfErr result (λ trap. first_fault (length (M.text memory.old)) (length (M.memory memory.old)) Writes (accesses_at width (addresses_by (vectors_of self.old) spacing vm (register self.old rs1))) ≡ Some trap) }
+        ensures err { IfErr result (λ trap. first_fault (length (M.text memory.old)) (length (M.memory memory.old))
+            Writes (accesses_at width (addresses_by (vectors_of self.old) spacing vm (register self.old rs1)))
+            ≡ Some trap) }
         ensures unchanged { OnErr result (self.new ≡ self.old) }
         ensures memory { OnErr result (M.memory memory.new ≡ M.memory memory.old) }
         ensures text { M.text memory.new ≡ M.text memory.old }

@@ -3,7 +3,9 @@
 ghost use Rattle.std.specs.Prelude.{◌≡◌, codes, map, option_map, IfOk};
 ghost use Rattle.std.specs.List.{All};
 ghost use Rattle.clap.specs.Walk.{texts};
-ghost use Rattle.hrv_command_line.specs.CommandLine.{AreWithinLimits, Assembles, Blames, Compiles, Debugs, Draws, Explains, IsWithinLimits, Lists, ListsAddresses, Maps, Renews, Replays, Resumes, Runs, TellsVersion, asked_by};
+ghost use Rattle.hrv_command_line.specs.CommandLine.{AreWithinLimits, Assembles, Blames, Compiles, Debugs, Draws};
+ghost use Rattle.hrv_command_line.specs.CommandLine.{Explains, IsWithinLimits, Lists, ListsAddresses, Maps, Renews};
+ghost use Rattle.hrv_command_line.specs.CommandLine.{Replays, Resumes, Runs, TellsVersion, asked_by};
 ghost use Rattle.hrv.specs.Dispatch.{Does};
 
 use hrv_command_line::Invocation;
@@ -224,7 +226,8 @@ fn blame<'a, D: Devices<'a>>(
         D.Written.place D.Written.failed D.Written.took
         D.Typed.place D.Typed.failed D.Typed.gave D.Typed.ended
         D.Printed.place D.Printed.failed D.Printed.took alloc
-        (Blames image.entry.now log.entry.now (option_map (λ s. s.now) question.entry.x) (option_map (λ s. s.now) question.entry.y)
+        (Blames image.entry.now log.entry.now (option_map (λ s. s.now) question.entry.x)
+        (option_map (λ s. s.now) question.entry.y)
         (option_map (λ s. s.now) question.entry.address) question.entry.with_turns) result }
 {
     let mut image = devices.read(image);
@@ -249,7 +252,8 @@ fn draw<'a, R: Threads + Sync, D: Devices<'a>>(
     ensures { Does D.Read.place D.Read.failed D.Read.gave D.Read.ended
         D.Written.place D.Written.failed D.Written.took
         D.Typed.place D.Typed.failed D.Typed.gave D.Typed.ended
-        D.Printed.place D.Printed.failed D.Printed.took alloc (Draws algorithm.entry.now (texts inputs.entry.items)) result }
+        D.Printed.place D.Printed.failed D.Printed.took alloc (Draws algorithm.entry.now (texts inputs.entry.items))
+        result }
 {
     let mut sources = sources_of(alloc, devices, inputs.as_slice())?;
     picture_bytes(
@@ -345,7 +349,8 @@ fn resume<'a, R: Threads + Wait + Sync, D: Devices<'a>>(
     ensures { Does D.Read.place D.Read.failed D.Read.gave D.Read.ended
         D.Written.place D.Written.failed D.Written.took
         D.Typed.place D.Typed.failed D.Typed.gave D.Typed.ended
-        D.Printed.place D.Printed.failed D.Printed.took alloc (Resumes image.entry.now log.entry.now old.entry.now turns) result }
+        D.Printed.place D.Printed.failed D.Printed.took alloc (Resumes image.entry.now log.entry.now old.entry.now
+        turns) result }
 {
     let mut image = devices.read(image);
     let mut old = devices.read(old);

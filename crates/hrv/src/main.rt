@@ -1,8 +1,10 @@
 //! `hrv`: the machine for stencil programs, as a program.
 //!
-//! The words of its command line are read by the crate `hrv_command_line`, and each command is done by an engine of the crate `hrv_engines`.
+//! The words of its command line are read by the crate `hrv_command_line`, and each command is done by an engine of the
+//! crate `hrv_engines`.
 //!
-//! - [`dispatch`]: the engine of a command over the devices that the words name; [`dispatch::obey`], over `specs/Dispatch.antt`.
+//! - [`dispatch`]: the engine of a command over the devices that the words name; [`dispatch::obey`], over
+//!   `specs/Dispatch.antt`.
 //! - [`files`], [`file_sinks`]: the system's files and standard input and output, as devices.
 //! - [`streams`]: what stands where a standard stream is closed.
 //! - [`failures`]: why the program gives no answer, and its exit status.

@@ -2,7 +2,10 @@
 ghost use Rattle.std.specs.Prelude.{◌≡◌, ℕ, None, [], codes, true, false, unwrap_or, IfOk, IfErr, Some, IsSome};
 ghost use Rattle.clap.specs.Words.{all_of, found_of, one_of, rows_of};
 ghost use Rattle.clap.specs.Walk.{texts};
-ghost use Rattle.hrv_command_line.specs.CommandLine.{IsRefusal, IsSpelled, IsWithinLimits, asked_by, asked_of, asm_of, blame_of, compile_of, debug_of, dis_of, explain_of, if_known, listing_of, map_of, named, number_or, picture_of, renew_of, replay_of, run_of};
+ghost use Rattle.hrv_command_line.specs.CommandLine.{IsRefusal, IsSpelled, IsWithinLimits, asked_by, asked_of, asm_of};
+ghost use Rattle.hrv_command_line.specs.CommandLine.{blame_of, compile_of, debug_of, dis_of, explain_of, if_known};
+ghost use Rattle.hrv_command_line.specs.CommandLine.{listing_of, map_of, named, number_or, picture_of, renew_of};
+ghost use Rattle.hrv_command_line.specs.CommandLine.{replay_of, run_of};
 
 use crate::faults::CommandLineFault;
 use crate::programs::program;
@@ -128,7 +131,8 @@ fn asked_for<'a>(
     given: &ArgMatches<'a>,
 ) -> Result<Invocation<'a>, AllocError>
     requires { IsSome (asked_of (name.now, rows_of (found_of given.now))) }
-    ensures { IfOk result (λ invocation. asked_of (name.now, rows_of (found_of given.now)) ≡ Some (asked_by invocation)) }
+    ensures { IfOk result (λ invocation. asked_of (name.now, rows_of (found_of given.now))
+        ≡ Some (asked_by invocation)) }
 {
     match name {
         "replay" => Ok(replay_asked(given)),
@@ -269,8 +273,8 @@ fn map_asked<'a>(given: &ArgMatches<'a>) -> Invocation<'a>
     }
 }
 
-// What the arguments of `run` ask for: one hart, and all turns that a log may have, where no option says another number; with a log that it
-// goes on from, as many harts as that one has.
+// What the arguments of `run` ask for: one hart, and all turns that a log may have, where no option says another
+// number; with a log that it goes on from, as many harts as that one has.
 fn run_asked<'a>(given: &ArgMatches<'a>) -> Invocation<'a>
     requires { IsSome (run_of (rows_of (found_of given.now))) }
     ensures { run_of (rows_of (found_of given.now)) ≡ Some (asked_by result) }
@@ -310,14 +314,16 @@ const MOST_TURNS: u64 = 1 << 40;
 
 // The number of an option, whatever the greatest one is, or the one that stands for none.
 fn number_asked(given: &ArgMatches, id: &str, none: u64) -> u64
-    ensures { (most asked : ℕ) → number_or none most (one_of id.now (rows_of (found_of given.now))) ≡ Some asked → result ≡ asked }
+    ensures { (most asked : ℕ) → number_or none most (one_of id.now (rows_of (found_of given.now))) ≡ Some asked
+        → result ≡ asked }
 {
     given.get_one::<u64>(id).unwrap_or(none)
 }
 
 // The words for input pictures, in their order.
 fn inputs_of<'a>(alloc: Global, given: &ArgMatches<'a>) -> Result<Vec<&'a str>, AllocError>
-    ensures { IfOk result (λ inputs. texts inputs.items ≡ unwrap_or (all_of (codes "INPUT") (rows_of (found_of given.now))) []) }
+    ensures { IfOk result (λ inputs. texts inputs.items
+        ≡ unwrap_or (all_of (codes "INPUT") (rows_of (found_of given.now))) []) }
 {
     match given.get_strs("INPUT") {
         Some(inputs) => Vec::from_slice(alloc, inputs),

@@ -2,7 +2,9 @@
 ghost use Rattle.std.specs.Prelude.{◌≡◌, ◌≤◌, ℕ, List, None, [], ◌∷◌, codes, false, true, length, Some};
 ghost use Rattle.std.specs.List.{AllByRecursion};
 ghost use Rattle.clap.specs.Lexer.{usize_max};
-ghost use Rattle.hrv_command_line.specs.CommandLine.{Asked, Assembles, Blames, Compiles, Debugs, Draws, Explains, IsPlainWord, IsSpelled, Lists, ListsAddresses, Maps, Renews, Replays, Resumes, Runs, TellsVersion};
+ghost use Rattle.hrv_command_line.specs.CommandLine.{Asked, Assembles, Blames, Compiles, Debugs, Draws, Explains};
+ghost use Rattle.hrv_command_line.specs.CommandLine.{IsPlainWord, IsSpelled, Lists, ListsAddresses, Maps, Renews};
+ghost use Rattle.hrv_command_line.specs.CommandLine.{Replays, Resumes, Runs, TellsVersion};
 ghost use Rattle.hrv_command_line.specs.CommandLine.{most_harts, most_turns, named, number_or};
 ghost use Rattle.hrv_refusals.specs.Explanations.{is_explained};
 
@@ -24,8 +26,8 @@ pub fn debug_is_named()
         → named (codes "debug" ∷ codes "--" ∷ image ∷ log ∷ []) ≡ Some (Debugs image log) }
 {}
 
-/// Which words name the answer who wrote a pixel: `blame` and two names, alone or with the two numbers of a pixel behind them, with
-/// `--turns`, or with the address of a word.
+/// Which words name the answer who wrote a pixel: `blame` and two names, alone or with the two numbers of a pixel
+/// behind them, with `--turns`, or with the address of a word.
 pub fn blame_is_named()
     ensures plain { (image log : List ℕ) → IsPlainWord image → IsPlainWord log
         → named (codes "blame" ∷ image ∷ log ∷ []) ≡ Some (Blames image log None None None false) }
@@ -34,7 +36,8 @@ pub fn blame_is_named()
     ensures pixel { (image log x y : List ℕ) → IsPlainWord image → IsPlainWord log → IsPlainWord x → IsPlainWord y
         → named (codes "blame" ∷ image ∷ log ∷ x ∷ y ∷ []) ≡ Some (Blames image log (Some x) (Some y) None false) }
     ensures address { (image log address : List ℕ) → IsPlainWord image → IsPlainWord log → IsPlainWord address
-        → named (codes "blame" ∷ image ∷ log ∷ codes "--address" ∷ address ∷ []) ≡ Some (Blames image log None None (Some address) false) }
+        → named (codes "blame" ∷ image ∷ log ∷ codes "--address" ∷ address ∷ [])
+        ≡ Some (Blames image log None None (Some address) false) }
 {}
 
 /// Which words name an assembly: `asm` and two names, after `--` where one begins with `-`.
@@ -45,8 +48,8 @@ pub fn asm_is_named()
         → named (codes "asm" ∷ codes "--" ∷ source ∷ image ∷ []) ≡ Some (Assembles source image) }
 {}
 
-/// Which words name a listing: `dis` and a name, after `--` where it begins with `-`; with addresses where `--addresses` stands behind
-/// the name or before it.
+/// Which words name a listing: `dis` and a name, after `--` where it begins with `-`; with addresses where
+/// `--addresses` stands behind the name or before it.
 pub fn dis_is_named()
     ensures plain { (image : List ℕ) → IsPlainWord image → named (codes "dis" ∷ image ∷ []) ≡ Some (Lists image) }
     ensures marked { (image : List ℕ) → named (codes "dis" ∷ codes "--" ∷ image ∷ []) ≡ Some (Lists image) }
@@ -89,23 +92,27 @@ pub fn map_is_named()
 
 /// Which words name a picture: `picture`, an algorithm and any number of inputs, after `--` where one begins with `-`.
 pub fn picture_is_named()
-    ensures plain { (algorithm : List ℕ) (inputs : List (List ℕ)) → AllByRecursion IsPlainWord (algorithm ∷ inputs) → length inputs ≤ usize_max
+    ensures plain { (algorithm : List ℕ) (inputs : List (List ℕ)) → AllByRecursion IsPlainWord (algorithm ∷ inputs)
+        → length inputs ≤ usize_max
         → named (codes "picture" ∷ algorithm ∷ inputs) ≡ Some (Draws algorithm inputs) }
     ensures marked { (algorithm : List ℕ) (inputs : List (List ℕ)) → length inputs ≤ usize_max
         → named (codes "picture" ∷ codes "--" ∷ algorithm ∷ inputs) ≡ Some (Draws algorithm inputs) }
 {}
 
-/// Which words name a compilation: `compile`, an algorithm, a schedule, an image and any number of inputs, after `--` where one begins
-/// with `-`.
+/// Which words name a compilation: `compile`, an algorithm, a schedule, an image and any number of inputs, after `--`
+/// where one begins with `-`.
 pub fn compile_is_named()
-    ensures plain { (algorithm schedule image : List ℕ) (inputs : List (List ℕ)) → AllByRecursion IsPlainWord (algorithm ∷ schedule ∷ image ∷ inputs)
-        → length inputs ≤ usize_max → named (codes "compile" ∷ algorithm ∷ schedule ∷ image ∷ inputs) ≡ Some (Compiles algorithm schedule image inputs) }
+    ensures plain { (algorithm schedule image : List ℕ) (inputs : List (List ℕ))
+        → AllByRecursion IsPlainWord (algorithm ∷ schedule ∷ image ∷ inputs)
+        → length inputs ≤ usize_max → named (codes "compile" ∷ algorithm ∷ schedule ∷ image ∷ inputs)
+        ≡ Some (Compiles algorithm schedule image inputs) }
     ensures marked { (algorithm schedule image : List ℕ) (inputs : List (List ℕ)) → length inputs ≤ usize_max
-        → named (codes "compile" ∷ codes "--" ∷ algorithm ∷ schedule ∷ image ∷ inputs) ≡ Some (Compiles algorithm schedule image inputs) }
+        → named (codes "compile" ∷ codes "--" ∷ algorithm ∷ schedule ∷ image ∷ inputs)
+        ≡ Some (Compiles algorithm schedule image inputs) }
 {}
 
-/// Which words name a run: `run` and two names, after `--` where one begins with `-`; with options behind them, whose texts are
-/// numbers within the limits; or with the log that it goes on from.
+/// Which words name a run: `run` and two names, after `--` where one begins with `-`; with options behind them, whose
+/// texts are numbers within the limits; or with the log that it goes on from.
 pub fn run_is_named()
     ensures plain { (image log : List ℕ) → IsPlainWord image → IsPlainWord log
         → named (codes "run" ∷ image ∷ log ∷ []) ≡ Some (Runs image log 1 most_turns) }
@@ -113,7 +120,8 @@ pub fn run_is_named()
         → named (codes "run" ∷ codes "--" ∷ image ∷ log ∷ []) ≡ Some (Runs image log 1 most_turns) }
     ensures options { (image log harts turns : List ℕ) (h t : ℕ) → IsPlainWord image → IsPlainWord log
         → number_or 1 most_harts (Some harts) ≡ Some h → number_or 1 most_turns (Some turns) ≡ Some t
-        → named (codes "run" ∷ image ∷ log ∷ codes "--harts" ∷ harts ∷ codes "--turns" ∷ turns ∷ []) ≡ Some (Runs image log h t) }
+        → named (codes "run" ∷ image ∷ log ∷ codes "--harts" ∷ harts ∷ codes "--turns" ∷ turns ∷ [])
+        ≡ Some (Runs image log h t) }
     ensures resumed { (image log old : List ℕ) → IsPlainWord image → IsPlainWord log → IsPlainWord old
         → named (codes "run" ∷ image ∷ log ∷ codes "--from" ∷ old ∷ []) ≡ Some (Resumes image log old most_turns) }
 {}

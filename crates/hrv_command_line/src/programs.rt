@@ -1,7 +1,13 @@
 //! The program's command, with its subcommands and their arguments.
 ghost use Rattle.std.specs.Prelude.{◌≡◌, codes, false, IfOk};
 ghost use Rattle.clap.specs.Words.{new_rule, rule_of};
-ghost use Rattle.hrv_command_line.specs.CommandLine.{Makes, algorithm_app, asm_app, blame_app, blame_files_app, blame_pixel_app, compile_app, compile_texts_app, debug_app, dis_app, explain_app, flag_rule, hrv_app, log_app, map_app, most_harts, most_turns, number_rule, picture_app, renew_app, replay_app, required_rule, rest_rule, run_app, run_files_app, run_numbers_app, running_app, telling_app, text_app, version_app, word_rule};
+ghost use Rattle.hrv_command_line.specs.CommandLine.{Makes, algorithm_app, asm_app, blame_app, blame_files_app};
+ghost use Rattle.hrv_command_line.specs.CommandLine.{blame_pixel_app, compile_app, compile_texts_app, debug_app};
+ghost use Rattle.hrv_command_line.specs.CommandLine.{dis_app, explain_app, flag_rule, hrv_app, log_app, map_app};
+ghost use Rattle.hrv_command_line.specs.CommandLine.{most_harts, most_turns, number_rule, picture_app, renew_app};
+ghost use Rattle.hrv_command_line.specs.CommandLine.{replay_app, required_rule, rest_rule, run_app, run_files_app};
+ghost use Rattle.hrv_command_line.specs.CommandLine.{run_numbers_app, running_app, telling_app, text_app, version_app};
+ghost use Rattle.hrv_command_line.specs.CommandLine.{word_rule};
 
 use clap::{Arg, ArgAction, Command};
 use std::alloc::{AllocError, Global};

@@ -32,9 +32,9 @@ use schedule::Schedule;
 use std::alloc::{AllocError, Global};
 use std::marker::Model;
 
-/// A pipeline under a schedule that was accepted for it, with the words of its phases and where each ends. Contracts see
-/// a `CompiledContents` that is an `IsCompiled` (`specs/Compiled.antt`); what its words do, [`Compiled::image`] promises
-/// of the images that it makes.
+/// A pipeline under a schedule that was accepted for it, with the words of its phases and where each ends. Contracts
+/// see a `CompiledContents` that is an `IsCompiled` (`specs/Compiled.antt`); what its words do, [`Compiled::image`]
+/// promises of the images that it makes.
 #[derive(Drop)]
 pub struct Compiled {
     pub(crate) pipeline: Pipeline,
@@ -91,14 +91,16 @@ impl Compiled {
     ///
     /// # Errors
     ///
-    /// There aren't as many pictures as inputs; one has another size than its input; one of an input of bytes has a pixel
-    /// outside 0 to 255. Memory ran out.
+    /// There aren't as many pictures as inputs; one has another size than its input; one of an input of bytes has a
+    /// pixel outside 0 to 255. Memory ran out.
     pub fn image(&self, alloc: Global, pictures: &[Picture]) -> Result<Image, EvalError>
         ensures judged { IfOk result (λ image. judged self.now.pipeline.inputs pictures.now ≡ None) }
         ensures pictures { IfOk result (λ image. ArePictures pictures.now) }
         ensures is { IfOk result (λ image. image ≡ image_of self.now pictures.now) }
-        ensures correct { IfOk result (λ image. Correct self.now.pipeline pictures.now self.now.boxes.layout.phases image) }
-        ensures assigned { IfOk result (λ image. IsAssigned self.now.pipeline self.now.schedule self.now.boxes pictures.now image) }
+        ensures correct { IfOk result (λ image. Correct self.now.pipeline pictures.now self.now.boxes.layout.phases
+            image) }
+        ensures assigned { IfOk result (λ image. IsAssigned self.now.pipeline self.now.schedule self.now.boxes
+            pictures.now image) }
         ensures runs { IfOk result (λ image. WritesWholeRuns self.now image) }
         ensures err { IfErr result (IsRefusedInput (judged self.now.pipeline.inputs pictures.now)) }
     {
@@ -155,7 +157,8 @@ impl Compiled {
     ///
     /// Memory ran out.
     pub fn map(&self, alloc: Global, algorithm: &str) -> Result<Vec<u8>, AllocError>
-        ensures is { IfOk result (λ text. text.items ≡ map_text algorithm.now self.now.pipeline self.now.schedule self.now.boxes self.now.ends) }
+        ensures is { IfOk result (λ text. text.items ≡ map_text algorithm.now self.now.pipeline self.now.schedule
+            self.now.boxes self.now.ends) }
         ensures phases { IfOk result (λ text. ArePhases self.now) }
         ensures images { IfOk result (λ text. AreAllRight self.now) }
     {

@@ -33,10 +33,12 @@ use vector_codegen::{Program, generate};
 fn judged(alloc: Global, pipeline: &Pipeline, schedule: &Schedule) -> Result<Boxes, CompileFault>
     requires { IsAccepted pipeline.now schedule.now }
     ensures ok { IfOk result (λ boxes. inferred pipeline.now schedule.now ≡ Ok boxes) }
-    ensures passed { IfOk result (λ boxes. spec.by_weight pipeline.now schedule.now (weight pipeline.now schedule.now) ≡ None) }
+    ensures passed { IfOk result (λ boxes. spec.by_weight pipeline.now schedule.now (weight pipeline.now schedule.now)
+        ≡ None) }
     ensures light { IfOk result (λ boxes. weight pipeline.now schedule.now ≤ most_weight) }
     ensures shallow { IfOk result (λ boxes. is_too_deep (needed pipeline.now schedule.now) ≡ false) }
-    ensures err { IfErr result (spec.IsFirst (spec.by_weight pipeline.now schedule.now (weight pipeline.now schedule.now))) }
+    ensures err { IfErr result (spec.IsFirst (spec.by_weight pipeline.now schedule.now
+        (weight pipeline.now schedule.now))) }
 {
     weigh(pipeline, schedule, alloc)?;
     let boxes = infer(pipeline, schedule, alloc)?;
@@ -76,7 +78,8 @@ fn words_of(
     requires boxes { inferred pipeline.now schedule.now ≡ Ok boxes.now }
     requires light { weight pipeline.now schedule.now ≤ most_weight }
     requires shallow { is_too_deep (needed pipeline.now schedule.now) ≡ false }
-    ensures ok { IfOk result (λ program. AreWordsOf pipeline.now schedule.now boxes.now program.words.items program.ends.items) }
+    ensures ok { IfOk result (λ program. AreWordsOf pipeline.now schedule.now boxes.now program.words.items
+        program.ends.items) }
     ensures err { IfErr result (λ fault. fault ≡ faults.Memory) }
 {
     let phases = lower(alloc, pipeline, schedule, boxes)?;

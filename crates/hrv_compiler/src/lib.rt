@@ -1,6 +1,7 @@
 //! Compiles an algorithm under a schedule into an image that any number of harts compute together.
 //!
-//! - [`compile`]: the program of two texts, or the first fault that stands (`specs/Verdict.antt`, `specs/Compiled.antt`).
+//! - [`compile`]: the program of two texts, or the first fault that stands (`specs/Verdict.antt`,
+//!   `specs/Compiled.antt`).
 //! - [`Compiled::image`]: an image of it with these input pictures (`specs/Data.antt`).
 //! - [`faults`]: why nothing is compiled.
 //! - [`places`]: where buffers lie.

@@ -146,7 +146,8 @@ pub fn places(
 ) -> Result<Places, AllocError>
     requires accepted { IsAccepted pipeline.now schedule.now }
     requires boxes { inferred pipeline.now schedule.now ≡ Ok boxes.now }
-    ensures { IfOk result (λ places. places ≡ spec.places_of pipeline.now schedule.now boxes.now.funcs boxes.now.layout) }
+    ensures { IfOk result (λ places. places ≡ spec.places_of pipeline.now schedule.now boxes.now.funcs
+        boxes.now.layout) }
 {
     let layout = &boxes.layout;
     let inputs = input_places(alloc, layout.inputs.as_slice(), pipeline.inputs())?;

@@ -16,8 +16,8 @@ use loader::{Image, Output, read_image};
 use std::alloc::{AllocError, Global};
 use turn_log::TurnLog;
 
-/// Reads an image and a log of turns, and writes who wrote what a question asks about. Both files are read first, the image before the
-/// log, and judged before the question.
+/// Reads an image and a log of turns, and writes who wrote what a question asks about. Both files are read first, the
+/// image before the log, and judged before the question.
 pub fn blame_bytes<I: Source, L: Source, O: Sink>(
     alloc: Global,
     image: &mut I,
@@ -29,7 +29,8 @@ pub fn blame_bytes<I: Source, L: Source, O: Sink>(
     requires log { L.failed log.old + 1 < 2 ^ 64 }
     requires out { O.failed out.old + 1 < 2 ^ 64 }
     ensures { Performs (IsBlame (given_by question.entry)) (IsRefusedBlame (given_by question.entry))
-        (both (bytes_of I.place I.failed I.gave I.ended image.old image.new) (bytes_of L.place L.failed L.gave L.ended log.old log.new))
+        (both (bytes_of I.place I.failed I.gave I.ended image.old image.new) (bytes_of L.place L.failed L.gave L.ended
+        log.old log.new))
         (sink_of O.place O.failed O.took out.old out.new) result }
 {
     let image_bytes = read_all(alloc, image)?;
@@ -38,11 +39,12 @@ pub fn blame_bytes<I: Source, L: Source, O: Sink>(
     write_all(alloc, out, &text)
 }
 
-/// What the bytes of an image and of a log answer to a question, or the first refusal: the image is judged first. The image's bytes
-/// are let go as soon as they are read.
+/// What the bytes of an image and of a log answer to a question, or the first refusal: the image is judged first. The
+/// image's bytes are let go as soon as they are read.
 #[tactic(auto, unfolding(crate::specs::Blame::answer))]
 fn answer(alloc: Global, image: Vec<u8>, log: Vec<u8>, question: Question) -> Result<Vec<u8>, Fault>
-    ensures { Judges (λ text. text.items) (IsBlame (given_by question.entry)) (IsRefusedBlame (given_by question.entry)) (image.items, log.items) result }
+    ensures { Judges (λ text. text.items) (IsBlame (given_by question.entry)) (IsRefusedBlame (given_by question.entry))
+        (image.items, log.items) result }
 {
     let read = read_image(alloc, &image)?;
     drop(image);
@@ -86,7 +88,8 @@ fn blame_pixels(
     marking: Marking,
 ) -> Result<Vec<u8>, AllocError>
     requires { LiesInData output }
-    ensures { IfOk result (λ text. text.items ≡ marks_text marking (machine_of image.now log.now.harts) log.now.turns output) }
+    ensures { IfOk result (λ text. text.items ≡ marks_text marking (machine_of image.now log.now.harts) log.now.turns
+        output) }
 {
     let mut machine = image.machine(alloc, log.harts())?;
     let range = MarkedRange {

@@ -49,7 +49,8 @@ fn write_lines(alloc: Global, words: &[u32], write: Write) -> Result<Vec<u8>, Al
 
 /// `turn N hart H pc 0xPPPPPPPP `
 fn turn_line(alloc: Global, write: Write) -> Result<String, AllocError>
-    ensures { IfOk result (λ text. string_bytes text ≡ codes "turn " ++ decimal write.turn ++ codes " hart " ++ decimal write.hart
+    ensures { IfOk result (λ text. string_bytes text ≡ codes "turn " ++ decimal write.turn ++ codes " hart "
+        ++ decimal write.hart
         ++ codes " pc " ++ hex_word write.pc ++ codes " ") }
 {
     let Write { turn, hart, pc, .. } = write;
@@ -62,7 +63,8 @@ fn turn_line(alloc: Global, write: Write) -> Result<String, AllocError>
 
 /// `before N` and `after N`, a line each.
 fn held_lines(alloc: Global, write: Write) -> Result<String, AllocError>
-    ensures { IfOk result (λ text. string_bytes text ≡ codes "before " ++ number_text write.before ++ newline ++ codes "after " ++ number_text write.after ++ newline) }
+    ensures { IfOk result (λ text. string_bytes text ≡ codes "before " ++ number_text write.before ++ newline
+        ++ codes "after " ++ number_text write.after ++ newline) }
 {
     let mut text = String::new(alloc);
     text.push_str("before ")?;
@@ -103,7 +105,8 @@ pub(crate) fn marks_picture(
 ) -> Result<String, AllocError>
     requires fits { LiesInData output }
     requires count { length marks.now ≡ (output.height - 1) * (output.stride / 4) + output.width }
-    ensures { IfOk result (λ text. string_bytes text ≡ heading output.width output.height ++ rows_in marks.now output output.height) }
+    ensures { IfOk result (λ text. string_bytes text ≡ heading output.width output.height
+        ++ rows_in marks.now output output.height) }
 {
     let mut text = String::new(alloc);
     push_picture_heading(&mut text, output.width, output.height)?;
@@ -118,7 +121,8 @@ fn push_mark_row(text: &mut String, marks: &[u32], output: Output, y: u32) -> Re
     requires fits { LiesInData output }
     requires count { length marks.now ≡ (output.height - 1) * (output.stride / 4) + output.width }
     requires row { y < output.height }
-    ensures { OnOk result (string_bytes text.new ≡ string_bytes text.old ++ row_text (row_in marks.now output y output.width)) }
+    ensures { OnOk result (string_bytes text.new ≡ string_bytes text.old
+        ++ row_text (row_in marks.now output y output.width)) }
 {
     for x in 0..output.width {
         push_separated(text, x, mark_of(marks, output, x, y))?;

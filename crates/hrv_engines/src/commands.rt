@@ -142,7 +142,8 @@ pub(crate) fn read_number(word: &[u8]) -> Option<u64>
     }
 }
 
-/// The number that decimal digits spell. All digits but the last are cut off at the greatest number, which has no digit more.
+/// The number that decimal digits spell. All digits but the last are cut off at the greatest number, which has no digit
+/// more.
 fn decimal_of(digits: &[u8]) -> Option<u64>
     ensures { result ≡ spec.decimal_of digits.now }
 {

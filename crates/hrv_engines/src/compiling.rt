@@ -14,8 +14,8 @@ use hrv_compiler::compile;
 use loader::store;
 use std::alloc::Global;
 
-/// Reads an algorithm, a schedule and input pictures, and writes the image of the program that they mean. All files are read first, in
-/// this order, and judged before anything is written.
+/// Reads an algorithm, a schedule and input pictures, and writes the image of the program that they mean. All files are
+/// read first, in this order, and judged before anything is written.
 pub fn compile_bytes<A: Source, S: Source, I: Source, O: Sink>(
     alloc: Global,
     algorithm: &mut A,

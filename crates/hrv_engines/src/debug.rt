@@ -16,8 +16,8 @@ use turn_log::TurnLog;
 
 /// Reads an image and a log of turns, and then answers lines of commands, up to their end or to `quit`.
 ///
-/// Both files are read first, the image before the log. The lines are read piece by piece: the lines that ended are answered before
-/// more is read, and nothing is read after one that ends the talk.
+/// Both files are read first, the image before the log. The lines are read piece by piece: the lines that ended are
+/// answered before more is read, and nothing is read after one that ends the talk.
 pub fn debug_bytes<I: Source, L: Source, C: Source, O: Sink>(
     alloc: Global,
     image: &mut I,
@@ -30,7 +30,8 @@ pub fn debug_bytes<I: Source, L: Source, C: Source, O: Sink>(
     requires lines { C.failed lines.old + 1 < 2 ^ 64 }
     requires out { O.failed out.old + 1 < 2 ^ 64 }
     ensures { Talks
-        (both (bytes_of I.place I.failed I.gave I.ended image.old image.new) (bytes_of L.place L.failed L.gave L.ended log.old log.new))
+        (both (bytes_of I.place I.failed I.gave I.ended image.old image.new) (bytes_of L.place L.failed L.gave L.ended
+        log.old log.new))
         (pieces_of C.place C.failed C.gave lines.old lines.new) (C.ended lines.new)
         (sink_of O.place O.failed O.took out.old out.new) result }
 {
@@ -40,8 +41,8 @@ pub fn debug_bytes<I: Source, L: Source, C: Source, O: Sink>(
     hold_talk(alloc, &mut Talk::new(alloc, session), lines, out)
 }
 
-/// The session of the bytes of an image and of a log, or the first refusal: the image is judged first. The image's bytes are let go
-/// as soon as they are read.
+/// The session of the bytes of an image and of a log, or the first refusal: the image is judged first. The image's
+/// bytes are let go as soon as they are read.
 #[tactic(auto, unfolding(crate::specs::Debug::session_of))]
 fn open(alloc: Global, image: Vec<u8>, log: Vec<u8>) -> Result<Session, Fault>
     ensures ok { IfOk result (λ session. session_of image.items log.items ≡ Ok session) }
@@ -53,8 +54,8 @@ fn open(alloc: Global, image: Vec<u8>, log: Vec<u8>) -> Result<Session, Fault>
     Ok(Session::open(alloc, read, log)?)
 }
 
-/// Answers lines, up to their end or to one that ends the talk. The answers to the lines that end in a piece are written before the
-/// next piece is read.
+/// Answers lines, up to their end or to one that ends the talk. The answers to the lines that end in a piece are
+/// written before the next piece is read.
 fn hold_talk<C: Source, O: Sink>(
     alloc: Global,
     talk: &mut Talk,

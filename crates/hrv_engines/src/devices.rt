@@ -1,7 +1,7 @@
 //! What the engines read from and write to.
 //!
-//! An engine is generic over both traits, so that its contract names the bytes that were read and written, and a test can hand in
-//! devices that fail.
+//! An engine is generic over both traits, so that its contract names the bytes that were read and written, and a test
+//! can hand in devices that fail.
 
 ghost use Rattle.std.specs.Prelude.{◌≡◌, ℕ, ◌+◌, ◌<◌, ◌≤◌, ◌^◌, List, [], ◌++◌, length, take, OnOk, OnErr, IfOk};
 ghost use Rattle.std.specs.String.{string_bytes};
@@ -153,7 +153,8 @@ pub fn write_all<S: Sink>(alloc: Global, sink: &mut S, bytes: &[u8]) -> Result<(
 /// memory but what the sink takes.
 pub fn write_each<S: Sink>(sink: &mut S, bytes: &[u8]) -> bool
     requires { S.failed sink.old + 1 < 2 ^ 64 }
-    ensures writes { WritesEach (sink_of S.place S.failed S.took sink.old sink.new) (S.place sink.old) bytes.now result }
+    ensures writes { WritesEach (sink_of S.place S.failed S.took sink.old sink.new) (S.place sink.old) bytes.now
+        result }
     ensures path { S.place sink.new ≡ S.place sink.old }
 {
     let mut written = 0;

@@ -14,8 +14,8 @@ use picture::{Picture, evaluate};
 use std::alloc::Global;
 use std::thread::Threads;
 
-/// Reads an algorithm and input pictures, and writes the reference picture. All files are read first, in this order. The rows are
-/// computed by threads.
+/// Reads an algorithm and input pictures, and writes the reference picture. All files are read first, in this order.
+/// The rows are computed by threads.
 pub fn picture_bytes<A: Source, I: Source, O: Sink>(
     rt: &(impl Threads + Sync),
     alloc: Global,
@@ -27,7 +27,8 @@ pub fn picture_bytes<A: Source, I: Source, O: Sink>(
     requires inputs { All (λ input. I.failed input + 1 < 2 ^ 64) inputs.old }
     requires out { O.failed out.old + 1 < 2 ^ 64 }
     ensures { Performs (IsDrawing alloc) (IsRefusedDrawing alloc)
-        (both (text_of A.place A.failed A.gave A.ended algorithm.old algorithm.new) (texts_of I.place I.failed I.gave I.ended inputs.old inputs.new))
+        (both (text_of A.place A.failed A.gave A.ended algorithm.old algorithm.new)
+        (texts_of I.place I.failed I.gave I.ended inputs.old inputs.new))
         (sink_of O.place O.failed O.took out.old out.new) result }
 {
     let algorithm_text = read_text(alloc, algorithm)?;
@@ -39,7 +40,8 @@ pub fn picture_bytes<A: Source, I: Source, O: Sink>(
 /// Reads all that each source has left, as texts, in their order.
 pub(crate) fn read_texts<S: Source>(alloc: Global, sources: &mut [S]) -> Result<Vec<String>, Fault>
     requires { All (λ source. S.failed source + 1 < 2 ^ 64) sources.old }
-    ensures { Reads (λ texts. map string_bytes texts.items) (texts_of S.place S.failed S.gave S.ended sources.old sources.new) result }
+    ensures { Reads (λ texts. map string_bytes texts.items) (texts_of S.place S.failed S.gave S.ended sources.old
+        sources.new) result }
 {
     let mut texts = Vec::new(alloc);
     for source in sources.iter_mut() {
@@ -73,7 +75,8 @@ fn draw(
     algorithm: &str,
     inputs: &[String],
 ) -> Result<Vec<u8>, Fault>
-    ensures { Judges (λ text. text.items) (IsDrawing alloc) (IsRefusedDrawing alloc) (algorithm.now, map string_bytes inputs.now) result }
+    ensures { Judges (λ text. text.items) (IsDrawing alloc) (IsRefusedDrawing alloc)
+        (algorithm.now, map string_bytes inputs.now) result }
 {
     let pipeline = parse(algorithm, alloc)?;
     let pictures = read_pictures(alloc, inputs)?;

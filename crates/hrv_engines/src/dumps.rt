@@ -6,7 +6,9 @@ ghost use Rattle.std.specs.String.{string_bytes};
 ghost use Rattle.memory.specs.Addresses.{most_bytes};
 ghost use Rattle.loader.specs.Image.{is_output_or_none};
 ghost use Rattle.multi_hart.specs.Run.{hart_at};
-ghost use Rattle.hrv_engines.specs.Dump.{hex_of, hex_word, status_text, heading, register_line, register_lines, configuration_line, vector_line, vector_lines, hart_text, hart_texts, picture_part, dumped};
+ghost use Rattle.hrv_engines.specs.Dump.{hex_of, hex_word, status_text, heading, register_line, register_lines};
+ghost use Rattle.hrv_engines.specs.Dump.{configuration_line, vector_line, vector_lines, hart_text, hart_texts};
+ghost use Rattle.hrv_engines.specs.Dump.{picture_part, dumped};
 
 use crate::pictures::push_picture;
 use hart_core::Status;
@@ -37,7 +39,8 @@ pub fn dump(
 
 /// All harts, in the order of their numbers.
 fn push_harts(text: &mut String, machine: &Machine, log: &TurnLog) -> Result<(), AllocError>
-    ensures { OnOk result (string_bytes text.new ≡ string_bytes text.old ++ hart_texts machine.now log.now.turns (length machine.now.harts)) }
+    ensures { OnOk result (string_bytes text.new ≡ string_bytes text.old
+        ++ hart_texts machine.now log.now.turns (length machine.now.harts)) }
 {
     for hart in 0..machine.harts() {
         push_hart(text, machine, hart, log.count_of(hart))?;
@@ -74,7 +77,8 @@ fn push_hart(
     turns: u64,
 ) -> Result<(), AllocError>
     requires { hart < length machine.now.harts }
-    ensures { OnOk result (string_bytes text.new ≡ string_bytes text.old ++ hart_text hart (hart_at machine.now hart) turns) }
+    ensures { OnOk result (string_bytes text.new ≡ string_bytes text.old ++ hart_text hart (hart_at machine.now hart)
+        turns) }
 {
     push_heading(text, hart, machine.status(hart), machine.pc(hart), turns)?;
     push_registers(text, machine, hart)?;
@@ -105,7 +109,8 @@ fn push_heading(
 /// The integer registers that aren't 0, a line each.
 fn push_registers(text: &mut String, machine: &Machine, hart: usize) -> Result<(), AllocError>
     requires { hart < length machine.now.harts }
-    ensures { OnOk result (string_bytes text.new ≡ string_bytes text.old ++ register_lines (hart_at machine.now hart) 32) }
+    ensures { OnOk result (string_bytes text.new ≡ string_bytes text.old ++ register_lines (hart_at machine.now hart)
+        32) }
 {
     for number in 0..32u8 {
         let value = machine.register(hart, integer_register(number));
@@ -142,7 +147,8 @@ fn push_configuration(text: &mut String, vl: u32, vtype: u32) -> Result<(), Allo
 /// The vector registers that aren't all 0, a line each.
 fn push_vectors(text: &mut String, machine: &Machine, hart: usize) -> Result<(), AllocError>
     requires { hart < length machine.now.harts }
-    ensures { OnOk result (string_bytes text.new ≡ string_bytes text.old ++ vector_lines (hart_at machine.now hart) 32) }
+    ensures { OnOk result (string_bytes text.new ≡ string_bytes text.old ++ vector_lines (hart_at machine.now hart)
+        32) }
 {
     for number in 0..32u8 {
         let bytes = machine.vector(hart, vector_register(number));

@@ -49,7 +49,8 @@ pub enum Fault {
     /// The files are refused for what they hold.
     #[error("refused {0}")]
     Refused(Refusal),
-    /// A file can't be read or written, or is no UTF-8 where it has to be: its path, or `-` for standard input and output.
+    /// A file can't be read or written, or is no UTF-8 where it has to be: its path, or `-` for standard input and
+    /// output.
     #[error("refused file {0}")]
     File(String),
     /// Memory ran out.

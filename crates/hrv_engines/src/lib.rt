@@ -5,21 +5,24 @@
 //!   `specs/Dis.antt`.
 //! - [`renew`]: an image is stored in the second format; [`renew_bytes`], over `specs/Renew.antt`.
 //! - [`replay`]: an image and a log of turns become a dump; [`replay_bytes`], over `specs/Replay.antt` and `Dump.antt`.
-//! - [`run`]: an image becomes a log of turns that threads made, and a dump; [`run_bytes`], and [`resume_bytes`] where a log goes on, over
-//!   `specs/Run.antt`.
-//! - [`debug`]: an image, a log of turns and lines of commands become a talk; [`debug_bytes`], over `specs/Debug.antt` and `Talk.antt`.
-//! - [`blame`]: an image, a log of turns and a question become the answer who wrote data; [`blame_bytes`], over `specs/Blame.antt`, by
-//!   what [`questions`] ask, over `specs/BlameQuestions.antt`.
-//! - [`drawing`]: an algorithm and input pictures become the reference picture; [`picture_bytes`], over `specs/Drawing.antt`.
-//! - [`compiling`]: an algorithm, a schedule and input pictures become an image; [`compile_bytes`], over `specs/Compile.antt`.
+//! - [`run`]: an image becomes a log of turns that threads made, and a dump; [`run_bytes`], and [`resume_bytes`] where
+//!   a log goes on, over `specs/Run.antt`.
+//! - [`debug`]: an image, a log of turns and lines of commands become a talk; [`debug_bytes`], over `specs/Debug.antt`
+//!   and `Talk.antt`.
+//! - [`blame`]: an image, a log of turns and a question become the answer who wrote data; [`blame_bytes`], over
+//!   `specs/Blame.antt`, by what [`questions`] ask, over `specs/BlameQuestions.antt`.
+//! - [`drawing`]: an algorithm and input pictures become the reference picture; [`picture_bytes`], over
+//!   `specs/Drawing.antt`.
+//! - [`compiling`]: an algorithm, a schedule and input pictures become an image; [`compile_bytes`], over
+//!   `specs/Compile.antt`.
 //! - [`mapping`]: an algorithm and a schedule become the text of where their images' data and code lie; [`map_bytes`],
 //!   over `specs/Map.antt`.
 //! - [`explain`]: a refusal is explained; [`explain_bytes`], and the version is told; [`version_bytes`].
 //! - [`devices`]: what is read from and written to ([`Source`], [`Sink`]).
 //! - [`faults`]: why an engine gives no answer ([`Fault`]).
 //!
-//! The other modules are theirs alone: what a line of a talk commands and what is answered to it, and the text of a dump and of its
-//! picture.
+//! The other modules are theirs alone: what a line of a talk commands and what is answered to it, and the text of a
+//! dump and of its picture.
 #![tactic(auto)]
 
 pub mod asm;

@@ -1,6 +1,7 @@
 //! The picture that a machine's data holds, as text.
 
-ghost use Rattle.std.specs.Prelude.{◌≡◌, ◌<◌, ◌≤◌, ◌+◌, ◌*◌, ◌++◌, ◌^◌, ◌==◌, [], if◌then◌else◌, codes, length, OnOk, IsTrue};
+ghost use Rattle.std.specs.Prelude.{◌≡◌, ◌<◌, ◌≤◌, ◌+◌, ◌*◌, ◌++◌, ◌^◌, ◌==◌, [], if◌then◌else◌, codes, length, OnOk};
+ghost use Rattle.std.specs.Prelude.{IsTrue};
 ghost use Rattle.std.specs.String.{string_bytes};
 ghost use Rattle.memory.specs.Addresses.{most_bytes};
 ghost use Rattle.loader.specs.Image.{is_output};
@@ -43,7 +44,8 @@ fn push_row(text: &mut String, machine: &Machine, output: Output, y: u32) -> Res
     requires fits { IsTrue (is_output (length machine.now.memory) output) }
     requires bytes { length machine.now.memory ≤ most_bytes }
     requires row { y < output.height }
-    ensures { OnOk result (string_bytes text.new ≡ string_bytes text.old ++ row_text (row machine.now output y output.width)) }
+    ensures { OnOk result (string_bytes text.new ≡ string_bytes text.old
+        ++ row_text (row machine.now output y output.width)) }
 {
     for x in 0..output.width {
         push_separated(text, x, pixel_of(machine, output, x, y))?;
@@ -54,7 +56,8 @@ fn push_row(text: &mut String, machine: &Machine, output: Output, y: u32) -> Res
 
 /// The number of a row at a place; each but the first has a space before it.
 pub(crate) fn push_separated(text: &mut String, x: u32, pixel: u32) -> Result<(), AllocError>
-    ensures { OnOk result (string_bytes text.new ≡ string_bytes text.old ++ ((if x == 0 then [] else codes " ") ++ number_text pixel)) }
+    ensures { OnOk result (string_bytes text.new ≡ string_bytes text.old ++ ((if x == 0 then [] else codes " ")
+        ++ number_text pixel)) }
 {
     if x > 0 {
         text.push_str(" ")?;

@@ -11,8 +11,8 @@ use debugger_blame::Marking;
 use loader::{Image, Output};
 use memory::DATA_START;
 
-/// The words that a question is asked by: the numbers of a pixel, the address of a word of data, and whether turns are told of in place of
-/// harts. Which of them go together, [`judge`] judges.
+/// The words that a question is asked by: the numbers of a pixel, the address of a word of data, and whether turns are
+/// told of in place of harts. Which of them go together, [`judge`] judges.
 #[derive(Clone, Copy)]
 pub struct Question<'a> {
     pub x: Option<&'a str>,

@@ -11,8 +11,8 @@ use crate::faults::Fault;
 use loader::{read_image, store};
 use std::alloc::Global;
 
-/// Reads an image in either format, and writes it in the second. All of it is read and judged before anything is written, so that both
-/// may be one file.
+/// Reads an image in either format, and writes it in the second. All of it is read and judged before anything is
+/// written, so that both may be one file.
 pub fn renew_bytes<I: Source, O: Sink>(
     alloc: Global,
     image: &mut I,
@@ -29,7 +29,8 @@ pub fn renew_bytes<I: Source, O: Sink>(
     write_all(alloc, renewed, &renewed_bytes)
 }
 
-/// The bytes of an image in the second format, or the refusal of the image. Its old bytes are let go as soon as they are read.
+/// The bytes of an image in the second format, or the refusal of the image. Its old bytes are let go as soon as they
+/// are read.
 fn renewal_of(alloc: Global, bytes: Vec<u8>) -> Result<Vec<u8>, Fault>
     ensures { Judges (λ renewed. renewed.items) IsRenewal IsRefusedImage bytes.items result }
 {

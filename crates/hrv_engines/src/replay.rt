@@ -16,8 +16,8 @@ use multi_hart::Machine;
 use std::alloc::{AllocError, Global};
 use turn_log::TurnLog;
 
-/// Reads an image and a log of turns, replays the log over the image, and writes the dump. Both files are read first, the image before
-/// the log.
+/// Reads an image and a log of turns, replays the log over the image, and writes the dump. Both files are read first,
+/// the image before the log.
 pub fn replay_bytes<I: Source, L: Source, O: Sink>(
     alloc: Global,
     image: &mut I,
@@ -28,7 +28,8 @@ pub fn replay_bytes<I: Source, L: Source, O: Sink>(
     requires log { L.failed log.old + 1 < 2 ^ 64 }
     requires out { O.failed out.old + 1 < 2 ^ 64 }
     ensures { Performs IsReplay IsRefusedReplay
-        (both (bytes_of I.place I.failed I.gave I.ended image.old image.new) (bytes_of L.place L.failed L.gave L.ended log.old log.new))
+        (both (bytes_of I.place I.failed I.gave I.ended image.old image.new) (bytes_of L.place L.failed L.gave L.ended
+        log.old log.new))
         (sink_of O.place O.failed O.took out.old out.new) result }
 {
     let image_bytes = read_all(alloc, image)?;

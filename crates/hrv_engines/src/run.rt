@@ -17,9 +17,9 @@ use std::sync::Wait;
 use std::thread::Threads;
 use turn_log::TurnLog;
 
-/// Reads an image, runs it by a thread for each of 1 to 8 harts until each has stopped or has made so many turns, and writes the log
-/// of the turns and then the dump. The whole image is read before the first turn, the whole log is written before the dump, and
-/// nothing is written where memory or threads are wanting.
+/// Reads an image, runs it by a thread for each of 1 to 8 harts until each has stopped or has made so many turns, and
+/// writes the log of the turns and then the dump. The whole image is read before the first turn, the whole log is
+/// written before the dump, and nothing is written where memory or threads are wanting.
 pub fn run_bytes<I: Source, L: Sink, O: Sink, R: Threads + Wait + Sync>(
     rt: &R,
     alloc: Global,
@@ -44,8 +44,9 @@ pub fn run_bytes<I: Source, L: Sink, O: Sink, R: Threads + Wait + Sync>(
     write_both(alloc, log, out, &log_bytes, text.as_bytes())
 }
 
-/// The same from where a log of the image ends, by a thread for each hart of the log: each makes so many turns more, or stops before. The
-/// log that is written begins with that one. Both files are read before the first turn, the image before the log.
+/// The same from where a log of the image ends, by a thread for each hart of the log: each makes so many turns more, or
+/// stops before. The log that is written begins with that one. Both files are read before the first turn, the image
+/// before the log.
 pub fn resume_bytes<I: Source, P: Source, L: Sink, O: Sink, R: Threads + Wait + Sync>(
     rt: &R,
     alloc: Global,
@@ -60,7 +61,8 @@ pub fn resume_bytes<I: Source, P: Source, L: Sink, O: Sink, R: Threads + Wait + 
     requires log { L.failed log.old + 1 < 2 ^ 64 }
     requires out { O.failed out.old + 1 < 2 ^ 64 }
     ensures { Runs (IsResumedRun limit) IsRefusedReplay
-        (both (bytes_of I.place I.failed I.gave I.ended image.old image.new) (bytes_of P.place P.failed P.gave P.ended old.old old.new))
+        (both (bytes_of I.place I.failed I.gave I.ended image.old image.new) (bytes_of P.place P.failed P.gave P.ended
+        old.old old.new))
         (sink_of L.place L.failed L.took log.old log.new)
         (sink_of O.place O.failed O.took out.old out.new) result }
 {
@@ -70,7 +72,8 @@ pub fn resume_bytes<I: Source, P: Source, L: Sink, O: Sink, R: Threads + Wait + 
     write_both(alloc, log, out, &log_bytes, text.as_bytes())
 }
 
-/// The bytes of the log of a run of an image, and the dump at the end. The image's bytes are let go as soon as they are read.
+/// The bytes of the log of a run of an image, and the dump at the end. The image's bytes are let go as soon as they are
+/// read.
 fn run_image<R: Threads + Wait + Sync>(
     rt: &R,
     alloc: Global,
@@ -115,7 +118,8 @@ fn run_from<R: Threads + Wait + Sync>(
     old: TurnLog,
     limit: u64,
 ) -> Result<(Vec<u8>, String), Fault>
-    ensures ok { IfOk result (λ made. (image_bytes : List ℕ) → image_of image_bytes ≡ Ok image → IsRunFrom image image_bytes old limit made.0.items (string_bytes made.1)) }
+    ensures ok { IfOk result (λ made. (image_bytes : List ℕ) → image_of image_bytes ≡ Ok image
+        → IsRunFrom image image_bytes old limit made.0.items (string_bytes made.1)) }
     ensures err { IfErr result IsWant }
 {
     let output = image.output();

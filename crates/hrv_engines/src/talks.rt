@@ -34,8 +34,8 @@ impl Talk {
         }
     }
 
-    /// Takes more bytes, appends the answers to the lines that end in them, and says whether one of these lines ends the talk. What
-    /// follows that line is left out.
+    /// Takes more bytes, appends the answers to the lines that end in them, and says whether one of these lines ends
+    /// the talk. What follows that line is left out.
     pub fn take(
         &mut self,
         alloc: Global,
@@ -62,7 +62,8 @@ impl Talk {
     /// Appends the answer to a last line that no line feed ends, if there is one.
     pub fn end(&mut self, alloc: Global, text: &mut String) -> Result<(), AllocError>
         requires { IsLine self.old.unended.items }
-        ensures { OnOk result (string_bytes text.new ≡ string_bytes text.old ++ spec.talk self.old.session self.old.unended.items) }
+        ensures { OnOk result (string_bytes text.new ≡ string_bytes text.old
+            ++ spec.talk self.old.session self.old.unended.items) }
     {
         if !self.unended.is_empty() {
             answer_line(alloc, &mut self.session, &self.unended, text)?;
@@ -79,7 +80,8 @@ fn answer_line(
     line: &[u8],
     text: &mut String,
 ) -> Result<bool, AllocError>
-    ensures text { OnOk result (string_bytes text.new ≡ string_bytes text.old ++ (spec.answer session.old line.now).text) }
+    ensures text { OnOk result (string_bytes text.new ≡ string_bytes text.old
+        ++ (spec.answer session.old line.now).text) }
     ensures next { OnOk result (session.new ≡ (spec.answer session.old line.now).next) }
     ensures last { IfOk result (λ is_last. is_last ≡ (spec.answer session.old line.now).is_last) }
 {
@@ -98,7 +100,8 @@ fn answer_command(
     command: Command,
     text: &mut String,
 ) -> Result<(), AllocError>
-    ensures text { OnOk result (string_bytes text.new ≡ string_bytes text.old ++ (spec.answer_to session.old command).text) }
+    ensures text { OnOk result (string_bytes text.new ≡ string_bytes text.old
+        ++ (spec.answer_to session.old command).text) }
     ensures next { OnOk result (session.new ≡ (spec.answer_to session.old command).next) }
 {
     match command {
@@ -124,7 +127,8 @@ fn go_to(
     place: u64,
     text: &mut String,
 ) -> Result<(), AllocError>
-    ensures text { OnOk result (string_bytes text.new ≡ string_bytes text.old ++ (spec.answer_to session.old (Command.Goto place)).text) }
+    ensures text { OnOk result (string_bytes text.new ≡ string_bytes text.old
+        ++ (spec.answer_to session.old (Command.Goto place)).text) }
     ensures next { OnOk result (session.new ≡ (spec.answer_to session.old (Command.Goto place)).next) }
 {
     match session.goto(alloc, place) {
@@ -135,7 +139,8 @@ fn go_to(
 
 /// `next`
 fn go_on(alloc: Global, session: &mut Session, text: &mut String) -> Result<(), AllocError>
-    ensures text { OnOk result (string_bytes text.new ≡ string_bytes text.old ++ (spec.answer_to session.old Command.Next).text) }
+    ensures text { OnOk result (string_bytes text.new ≡ string_bytes text.old
+        ++ (spec.answer_to session.old Command.Next).text) }
     ensures next { OnOk result (session.new ≡ (spec.answer_to session.old Command.Next).next) }
 {
     match session.next(alloc) {
@@ -146,7 +151,8 @@ fn go_on(alloc: Global, session: &mut Session, text: &mut String) -> Result<(), 
 
 /// `back`
 fn go_back(alloc: Global, session: &mut Session, text: &mut String) -> Result<(), AllocError>
-    ensures text { OnOk result (string_bytes text.new ≡ string_bytes text.old ++ (spec.answer_to session.old Command.Back).text) }
+    ensures text { OnOk result (string_bytes text.new ≡ string_bytes text.old
+        ++ (spec.answer_to session.old Command.Back).text) }
     ensures next { OnOk result (session.new ≡ (spec.answer_to session.old Command.Back).next) }
 {
     match session.back(alloc) {
@@ -161,7 +167,8 @@ fn go_to_next_stop(
     session: &mut Session,
     text: &mut String,
 ) -> Result<(), AllocError>
-    ensures text { OnOk result (string_bytes text.new ≡ string_bytes text.old ++ (spec.answer_to session.old Command.Forward).text) }
+    ensures text { OnOk result (string_bytes text.new ≡ string_bytes text.old
+        ++ (spec.answer_to session.old Command.Forward).text) }
     ensures next { OnOk result (session.new ≡ (spec.answer_to session.old Command.Forward).next) }
 {
     match session.forward(alloc) {
@@ -176,7 +183,8 @@ fn go_to_previous_stop(
     session: &mut Session,
     text: &mut String,
 ) -> Result<(), AllocError>
-    ensures text { OnOk result (string_bytes text.new ≡ string_bytes text.old ++ (spec.answer_to session.old Command.Reverse).text) }
+    ensures text { OnOk result (string_bytes text.new ≡ string_bytes text.old
+        ++ (spec.answer_to session.old Command.Reverse).text) }
     ensures next { OnOk result (session.new ≡ (spec.answer_to session.old Command.Reverse).next) }
 {
     match session.reverse(alloc) {
@@ -187,7 +195,8 @@ fn go_to_previous_stop(
 
 /// `break A`
 fn set_break(session: &mut Session, address: u64, text: &mut String) -> Result<(), AllocError>
-    ensures text { OnOk result (string_bytes text.new ≡ string_bytes text.old ++ (spec.answer_to session.old (Command.Break address)).text) }
+    ensures text { OnOk result (string_bytes text.new ≡ string_bytes text.old
+        ++ (spec.answer_to session.old (Command.Break address)).text) }
     ensures next { OnOk result (session.new ≡ (spec.answer_to session.old (Command.Break address)).next) }
 {
     let Ok(pc) = u32::try_from(address) else {
@@ -201,7 +210,8 @@ fn set_break(session: &mut Session, address: u64, text: &mut String) -> Result<(
 
 /// `watch A`
 fn set_watch(session: &mut Session, address: u64, text: &mut String) -> Result<(), AllocError>
-    ensures text { OnOk result (string_bytes text.new ≡ string_bytes text.old ++ (spec.answer_to session.old (Command.Watch address)).text) }
+    ensures text { OnOk result (string_bytes text.new ≡ string_bytes text.old
+        ++ (spec.answer_to session.old (Command.Watch address)).text) }
     ensures next { OnOk result (session.new ≡ (spec.answer_to session.old (Command.Watch address)).next) }
 {
     let Ok(address) = u32::try_from(address) else {
@@ -220,7 +230,8 @@ fn push_register(
     hart: u64,
     number: u64,
 ) -> Result<(), AllocError>
-    ensures { OnOk result (string_bytes text.new ≡ string_bytes text.old ++ spec.register_text session.now hart number) }
+    ensures { OnOk result (string_bytes text.new ≡ string_bytes text.old
+        ++ spec.register_text session.now hart number) }
 {
     if hart >= session.harts() as u64 || number >= 32 {
         return push_unknown(text);
@@ -251,7 +262,8 @@ fn push_vector(
 
 /// `word A`
 fn push_word(text: &mut String, session: &Session, address: u64) -> Result<(), AllocError>
-    ensures { OnOk result (string_bytes text.new ≡ string_bytes text.old ++ (spec.answer_to session.now (Command.Word address)).text) }
+    ensures { OnOk result (string_bytes text.new ≡ string_bytes text.old
+        ++ (spec.answer_to session.now (Command.Word address)).text) }
 {
     let Ok(address) = u32::try_from(address) else {
         return push_refusal(text, Refusal::Address);
@@ -278,7 +290,8 @@ fn push_session(text: &mut String, session: &Session) -> Result<(), AllocError>
 
 /// All harts, a line each.
 fn push_hart_lines(text: &mut String, session: &Session) -> Result<(), AllocError>
-    ensures { OnOk result (string_bytes text.new ≡ string_bytes text.old ++ spec.hart_lines (state_here session.now) session.now.log.harts) }
+    ensures { OnOk result (string_bytes text.new ≡ string_bytes text.old ++ spec.hart_lines (state_here session.now)
+        session.now.log.harts) }
 {
     for hart in 0..session.harts() {
         push_hart_line(text, session, hart)?;
@@ -290,7 +303,8 @@ fn push_hart_lines(text: &mut String, session: &Session) -> Result<(), AllocErro
 #[tactic(auto, unfolding(crate::specs::Talk::hart_line))]
 fn push_hart_line(text: &mut String, session: &Session, hart: usize) -> Result<(), AllocError>
     requires { hart < session.now.log.harts }
-    ensures { OnOk result (string_bytes text.new ≡ string_bytes text.old ++ spec.hart_line hart (hart_at (state_here session.now) hart)) }
+    ensures { OnOk result (string_bytes text.new ≡ string_bytes text.old
+        ++ spec.hart_line hart (hart_at (state_here session.now) hart)) }
 {
     write!(text, "hart {hart} ")?;
     push_status(text, session.status(hart))?;

@@ -171,7 +171,8 @@ fn push_copies_line(
     own: &SourceBox,
 ) -> Result<(), AllocError>
     requires { IsBox own.now }
-    ensures { OnOk result (out.new.items ≡ out.old.items ++ spec.copies_line name.now consumer.now inside.now at own.now) }
+    ensures { OnOk result (out.new.items ≡ out.old.items ++ spec.copies_line name.now consumer.now inside.now at
+        own.now) }
 {
     let area = area_text(alloc, func_area(at, own))?;
     let copies = copies_text(alloc, 4 * points(own))?;
@@ -206,7 +207,8 @@ fn push_root(
     boxes: &Boxes,
     place: usize,
 ) -> Result<(), AllocError>
-    ensures { OnOk result (out.new.items ≡ out.old.items ++ spec.root_if names.now boxes.now place (box_in (slice_get boxes.now.funcs place))) }
+    ensures { OnOk result (out.new.items ≡ out.old.items ++ spec.root_if names.now boxes.now place
+        (box_in (slice_get boxes.now.funcs place))) }
 {
     let Some(own) = box_at(boxes.funcs.as_slice(), place) else {
         return Ok(());
@@ -226,7 +228,8 @@ fn push_copies(
     place: usize,
     at: LoopPlace,
 ) -> Result<(), AllocError>
-    ensures { OnOk result (out.new.items ≡ out.old.items ++ spec.copies_if names.now schedule.now boxes.now place at (box_in (slice_get boxes.now.funcs place))) }
+    ensures { OnOk result (out.new.items ≡ out.old.items ++ spec.copies_if names.now schedule.now boxes.now place at
+        (box_in (slice_get boxes.now.funcs place))) }
 {
     let Some(own) = box_at(boxes.funcs.as_slice(), place) else {
         return Ok(());
@@ -274,7 +277,8 @@ pub(crate) fn push_func_lines(
     funcs: &[Func],
 ) -> Result<(), AllocError>
     requires { place + length funcs.now < 2 ^ 64 }
-    ensures { OnOk result (out.new.items ≡ out.old.items ++ spec.func_lines names.now schedule.now boxes.now place funcs.now) }
+    ensures { OnOk result (out.new.items ≡ out.old.items ++ spec.func_lines names.now schedule.now boxes.now place
+        funcs.now) }
 {
     let [_, others @ ..] = funcs else {
         return Ok(());

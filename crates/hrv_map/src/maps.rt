@@ -45,7 +45,8 @@ fn push_layout(
     boxes: &Boxes,
 ) -> Result<(), AllocError>
     requires { boxes.now.layout.phases ≤ 4194304 }
-    ensures { OnOk result (out.new.items ≡ out.old.items ++ spec.layout_text names.now pipeline.now schedule.now boxes.now) }
+    ensures { OnOk result (out.new.items ≡ out.old.items ++ spec.layout_text names.now pipeline.now schedule.now
+        boxes.now) }
 {
     let layout = &boxes.layout;
     push_control_lines(alloc, out, layout.phases)?;
@@ -97,9 +98,9 @@ fn phases_of(
     Ok(phases)
 }
 
-/// The text of a pipeline under a schedule that was accepted for it, with boxes that were inferred for both: where the parts of the data lie, and
-/// which words of the machine's text are the code of each phase. Names are those that the algorithm's text gives; the code of each phase ends at a
-/// word of the machine's text, by its place from 0.
+/// The text of a pipeline under a schedule that was accepted for it, with boxes that were inferred for both: where the
+/// parts of the data lie, and which words of the machine's text are the code of each phase. Names are those that the
+/// algorithm's text gives; the code of each phase ends at a word of the machine's text, by its place from 0.
 ///
 /// # Errors
 ///
@@ -115,7 +116,8 @@ pub fn map_text(
 ) -> Result<Vec<u8>, AllocError>
     requires accepted { IsAccepted pipeline.now schedule.now }
     requires phases { boxes.now.layout.phases ≤ 4194304 }
-    ensures { IfOk result (λ text. text.items ≡ spec.map_text algorithm.now pipeline.now schedule.now boxes.now ends.now) }
+    ensures { IfOk result (λ text. text.items ≡ spec.map_text algorithm.now pipeline.now schedule.now boxes.now
+        ends.now) }
 {
     let names = names_of(alloc, algorithm)?;
     let phases = phases_of(alloc, pipeline, schedule, boxes, ends)?;

@@ -66,7 +66,8 @@ fn push_all(
     place: usize,
     func: &Func,
 ) -> Result<(), AllocError>
-    ensures { OnOk result (stages.new.items ≡ stages.old.items ++ spec.stages_in place func.now (box_in (slice_get boxes.now.funcs place))) }
+    ensures { OnOk result (stages.new.items ≡ stages.old.items
+        ++ spec.stages_in place func.now (box_in (slice_get boxes.now.funcs place))) }
 {
     if let None = box_at(boxes.funcs.as_slice(), place) {
         return Ok(());
@@ -87,7 +88,9 @@ fn push_stages_of(
     place: usize,
     func: &Func,
 ) -> Result<(), AllocError>
-    ensures { OnOk result (stages.new.items ≡ stages.old.items ++ spec.stages_if place func.now (box_in (slice_get boxes.now.funcs place)) (slice_get schedule.now.standings place)) }
+    ensures { OnOk result (stages.new.items ≡ stages.old.items
+        ++ spec.stages_if place func.now (box_in (slice_get boxes.now.funcs place))
+        (slice_get schedule.now.standings place)) }
 {
     let Some(standing) = schedule.standing(place) else {
         return Ok(());
@@ -109,7 +112,8 @@ fn push_stages(
     funcs: &[Func],
 ) -> Result<(), AllocError>
     requires { place + length funcs.now < 2 ^ 64 }
-    ensures { OnOk result (stages.new.items ≡ stages.old.items ++ spec.stages_from schedule.now boxes.now place funcs.now) }
+    ensures { OnOk result (stages.new.items ≡ stages.old.items ++ spec.stages_from schedule.now boxes.now place
+        funcs.now) }
 {
     let [func, others @ ..] = funcs else {
         return Ok(());
@@ -142,7 +146,8 @@ fn tasks_of(
     stage: StageName,
 ) -> Result<u32, AllocError>
     requires { IsAccepted pipeline.now schedule.now }
-    ensures { IfOk result (λ count. count ≡ unwrap_or (counts.tasks pipeline.now schedule.now boxes.now.funcs stage) 0) }
+    ensures { IfOk result (λ count. count ≡ unwrap_or (counts.tasks pipeline.now schedule.now boxes.now.funcs stage)
+        0) }
 {
     let count = tasks(alloc, pipeline, schedule, &boxes.funcs, stage)?;
     Ok(count.unwrap_or(0))
@@ -159,7 +164,8 @@ pub(crate) fn push_tasks(
     stages: &[StageName],
 ) -> Result<(), AllocError>
     requires { IsAccepted pipeline.now schedule.now }
-    ensures { OnOk result (list.new.items ≡ list.old.items ++ spec.tasks_each pipeline.now schedule.now boxes.now stages.now) }
+    ensures { OnOk result (list.new.items ≡ list.old.items ++ spec.tasks_each pipeline.now schedule.now boxes.now
+        stages.now) }
 {
     let [stage, others @ ..] = stages else {
         return Ok(());
@@ -170,7 +176,8 @@ pub(crate) fn push_tasks(
     Ok(())
 }
 
-/// Appends the phases with these stages and numbers of tasks, each of which ends at a word of the text where the next one begins.
+/// Appends the phases with these stages and numbers of tasks, each of which ends at a word of the text where the next
+/// one begins.
 #[tactic(auto, unfolding(crate::specs::Phases::phases_from))]
 pub(crate) fn push_phases(
     phases: &mut Vec<CodePhase>,
@@ -181,7 +188,8 @@ pub(crate) fn push_phases(
     ends: &[u32],
 ) -> Result<(), AllocError>
     requires { number + length stages.now < 2 ^ 64 }
-    ensures { OnOk result (phases.new.items ≡ phases.old.items ++ spec.phases_from number first stages.now tasks.now ends.now) }
+    ensures { OnOk result (phases.new.items ≡ phases.old.items ++ spec.phases_from number first stages.now tasks.now
+        ends.now) }
 {
     let [stage, stages @ ..] = stages else {
         return Ok(());

@@ -41,7 +41,8 @@ fn is_among(text: &[u8], family: &str, code: &str) -> bool
     is_heading(line, family, code) || is_among(rest, family, code)
 }
 
-/// Appends those lines of a text that stand below a heading of the refusal or of its family, where it is known whether the lines above are chosen.
+/// Appends those lines of a text that stand below a heading of the refusal or of its family, where it is known whether
+/// the lines above are chosen.
 fn push_chosen(
     out: &mut Vec<u8>,
     text: &[u8],
@@ -49,7 +50,8 @@ fn push_chosen(
     family: &str,
     code: &str,
 ) -> Result<(), AllocError>
-    ensures { OnOk result (out.new.items ≡ out.old.items ++ spec.chosen is_chosen family.now code.now (lines_of text.now)) }
+    ensures { OnOk result (out.new.items ≡ out.old.items ++ spec.chosen is_chosen family.now code.now
+        (lines_of text.now)) }
 {
     if text.is_empty() {
         return Ok(());

@@ -1,7 +1,8 @@
-//! The refusals of the program, as data: the tables of the pages have these texts, and `bench/refusal_tables` compares them.
+//! The refusals of the program, as data: the tables of the pages have these texts, and `bench/refusal_tables` compares
+//! them.
 
-/// A line for each family, and for each of its codes as often as it has causes, in the order in which they are judged. Below it stand, behind two
-/// blanks, what the family says, and the cause with what helps.
+/// A line for each family, and for each of its codes as often as it has causes, in the order in which they are judged.
+/// Below it stand, behind two blanks, what the family says, and the cause with what helps.
 #[rattlefmt::skip]
 pub static REFUSALS: [u8; 8315] = *b"\
 file\n\

@@ -81,8 +81,8 @@ pub(crate) fn flags<A: Copy, const N: usize>(chosen: &[bool; N], here: A, elsewh
     results
 }
 
-/// The new element where an instruction works on it, of those from `first` on, else the old one. Where it works on all of them
-/// no mask is read.
+/// The new element where an instruction works on it, of those from `first` on, else the old one. Where it works on all
+/// of them no mask is read.
 #[tactic(auto, using(crate::proofs::Elements::merged_active))]
 pub(crate) fn merge_active<K: LaneKernels<N>, const N: usize>(
     new: &[K; N],

@@ -1,6 +1,7 @@
 //! Theorems about the definitions, as contracts of functions that do nothing.
 
-ghost use Rattle.std.specs.Prelude.{◌≡◌, ◌<◌, ◌≤◌, ◌+◌, ◌*◌, ◌^◌, ◌*ℤ◌, pos, ℕ, Bool, false, List, length, if◌then◌else◌, slice_index_or};
+ghost use Rattle.std.specs.Prelude.{◌≡◌, ◌<◌, ◌≤◌, ◌+◌, ◌*◌, ◌^◌, ◌*ℤ◌, pos, ℕ, Bool, false, List, length};
+ghost use Rattle.std.specs.Prelude.{if◌then◌else◌, slice_index_or};
 ghost use Rattle.std.specs.List.{AllByRecursion};
 ghost use Rattle.lanes.specs.Words as word;
 ghost use Rattle.lanes.specs.Words.{IsWidth, signed, wrapped};
@@ -15,14 +16,16 @@ pub fn bytes_are_read_back()
 
 /// A register gives the elements that it was made of back.
 pub fn elements_are_read_back()
-    ensures { (w : ℕ) (numbers : List ℕ) → IsWidth w → length numbers * w ≡ 128 → AllByRecursion (λ n. n < 2 ^ w) numbers
+    ensures { (w : ℕ) (numbers : List ℕ) → IsWidth w → length numbers * w ≡ 128
+        → AllByRecursion (λ n. n < 2 ^ w) numbers
         → elements w (register_of w numbers) ≡ numbers }
 {}
 
 /// Of a mask register, the bits of active elements are those that were written, and every other bit is
 /// the old one.
 pub fn mask_bits_are_read_back()
-    ensures { (active bits : List Bool) (bytes : List ℕ) (i : ℕ) → length bytes ≡ 16 → length active ≡ length bits → length bits ≤ 128
+    ensures { (active bits : List Bool) (bytes : List ℕ) (i : ℕ) → length bytes ≡ 16 → length active ≡ length bits
+        → length bits ≤ 128
         → mask_bit (with_mask_bits active bits bytes) i
         ≡ (if slice_index_or active i false then slice_index_or bits i false else mask_bit bytes i) }
 {}
@@ -48,5 +51,6 @@ pub fn halves_give_the_product()
     ensures signed { (w a b : ℕ) → IsWidth w → a < 2 ^ w → b < 2 ^ w
         → word.multiply_high_signed w a b * 2 ^ w + word.multiply w a b ≡ wrapped (w + w) (signed w a *ℤ signed w b) }
     ensures mixed { (w a b : ℕ) → IsWidth w → a < 2 ^ w → b < 2 ^ w
-        → word.multiply_high_signed_unsigned w a b * 2 ^ w + word.multiply w a b ≡ wrapped (w + w) (signed w a *ℤ pos b) }
+        → word.multiply_high_signed_unsigned w a b * 2 ^ w + word.multiply w a b
+        ≡ wrapped (w + w) (signed w a *ℤ pos b) }
 {}

@@ -39,7 +39,8 @@ impl Image {
         bytes: Vec<u8>,
         output: Option<Output>,
     ) -> Result<Image, LoadFault>
-        ensures exact { result ≡ judged (record { entry = entry; words = words.items; bytes = bytes.items; output = output }) }
+        ensures exact { result ≡ judged
+            (record { entry = entry; words = words.items; bytes = bytes.items; output = output }) }
         ensures rules { IfOk result IsImage }
         ensures no_memory { IfErr result (λ fault. fault ≢ LoadFault.OutOfMemory) }
     {

@@ -32,7 +32,8 @@ pub fn load(alloc: Global, bytes: &[u8], harts: usize) -> Result<Machine, LoadFa
     // What is loaded is the machine of an image that the bytes spell.
     ensures found { IfOk result (λ machine. IsLoaded bytes.now harts machine) }
     // What spells an image is loaded with 1 to 8 harts, unless memory runs out.
-    ensures only { (image : ImageContents) → IsImage image → Spells bytes.now image → 1 ≤ harts → harts ≤ 8 → Answers result (Ok (machine_of image harts)) }
+    ensures only { (image : ImageContents) → IsImage image → Spells bytes.now image → 1 ≤ harts → harts ≤ 8
+        → Answers result (Ok (machine_of image harts)) }
     // The refusal is the first in the format's order, and that of the harts behind it.
     ensures exact { Answers result (loaded bytes.now harts) }
 {

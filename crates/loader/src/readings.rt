@@ -2,7 +2,9 @@
 
 ghost use Rattle.std.specs.Prelude.{◌≡◌, ◌+◌, ◌*◌, ◌/◌, ◌^◌, ◌<◌, ◌≤◌, IfOk, IfErr, OnOk, Ok, length, drop};
 ghost use Rattle.loader.specs.Image.{ImageContents, IsImage};
-ghost use Rattle.loader.specs.Spelling.{number_at, numbers_in, output_at, header_length, word_count, byte_count, stored_count, whole_length, padded, stores_zero, format_of, contents_in, judged_in, image_in, image_of, Spells, Answers};
+ghost use Rattle.loader.specs.Spelling.{number_at, numbers_in, output_at, header_length, word_count, byte_count};
+ghost use Rattle.loader.specs.Spelling.{stored_count, whole_length, padded, stores_zero, format_of, contents_in};
+ghost use Rattle.loader.specs.Spelling.{judged_in, image_in, image_of, Spells, Answers};
 
 use crate::faults::LoadFault;
 use crate::formats::Format;

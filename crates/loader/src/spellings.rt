@@ -3,7 +3,8 @@
 ghost use Rattle.std.specs.Prelude.{◌≡◌, ◌+◌, ◌*◌, ◌<◌, ◌≤◌, ◌++◌, ℕ, List, OnOk, OnErr, length, vec_len, vec_capacity};
 ghost use Rattle.std.specs.Int.{w32, to_le_bytes};
 ghost use Rattle.loader.specs.Image.{ImageContents, IsImage};
-ghost use Rattle.loader.specs.Spelling.{spelled, spelled_numbers, output_fields, spelled_start, spelled_header, stored, trimmed};
+ghost use Rattle.loader.specs.Spelling.{spelled, spelled_numbers, output_fields, spelled_start, spelled_header, stored};
+ghost use Rattle.loader.specs.Spelling.{trimmed};
 
 use crate::formats::Format;
 use crate::images::Image;
@@ -81,8 +82,8 @@ fn trimmed(bytes: &[u8]) -> &[u8]
     &bytes[..count]
 }
 
-/// Appends an image's bytes, in the second format. Refused, with what `out` held unchanged, only where it has no room for them and
-/// memory runs out.
+/// Appends an image's bytes, in the second format. Refused, with what `out` held unchanged, only where it has no room
+/// for them and memory runs out.
 #[tactic(auto, using(crate::proofs::Joined::joined), unfolding(crate::specs::Spelling::spelled, crate::specs::Spelling::spelled_header))]
 pub fn store(image: &Image, out: &mut Vec<u8>) -> Result<(), AllocError>
     ensures ok { OnOk result (out.new.items ≡ out.old.items ++ spelled Format.Hrv2 image.now) }
@@ -101,6 +102,7 @@ pub fn store(image: &Image, out: &mut Vec<u8>) -> Result<(), AllocError>
 
 /// A law: in each format an image has one spelling, and no spelling begins another.
 pub fn one_spelling()
-    ensures { (f g : Format) (a b : ImageContents) (x y : List ℕ) → IsImage a → IsImage b → spelled f a ++ x ≡ spelled g b ++ y
+    ensures { (f g : Format) (a b : ImageContents) (x y : List ℕ) → IsImage a → IsImage b → spelled f a ++ x
+        ≡ spelled g b ++ y
         → (f ≡ g) × (a ≡ b) × (x ≡ y) }
 {}

@@ -56,7 +56,8 @@ impl Buffer {
     /// Writes a pixel, where there is the point.
     pub fn set(&mut self, x: u32, y: u32, pixel: u32)
         ensures points { has_point self.new ≡ has_point self.old }
-        ensures pixels { plane_of self.new ≡ (λ i j. if has_point self.old x y && (i == x && j == y) then pixel else plane_of self.old i j) }
+        ensures pixels { plane_of self.new
+            ≡ (λ i j. if has_point self.old x y && (i == x && j == y) then pixel else plane_of self.old i j) }
     {
         if x < self.width && y < self.height {
             let place = y as usize * self.width as usize + x as usize;

@@ -12,7 +12,8 @@ use std::alloc::{AllocError, Global};
 
 /// Where a counter stands in a sum, and its stride there.
 fn place_of(terms: &[Term], counter: Counter) -> Option<(usize, u32)>
-    ensures { IfSome result (λ found. slice_get terms.now found.0 ≡ Some (record { counter = counter; stride = found.1 })) }
+    ensures { IfSome result (λ found. slice_get terms.now found.0
+        ≡ Some (record { counter = counter; stride = found.1 })) }
 {
     for (place, own) in terms.iter().enumerate() {
         if same_counter(own.counter, counter) {
@@ -25,7 +26,8 @@ fn place_of(terms: &[Term], counter: Counter) -> Option<(usize, u32)>
 /// Adds a term. Terms of one counter become one.
 fn add_term(terms: &mut Items<Term>, term: Term) -> Result<(), AllocError>
     ensures few { OnOk result (length terms.new ≤ length terms.old + 1) }
-    ensures sum { OnOk result ((values : Values) → sum_of values terms.new % 2 ^ 32 ≡ (sum_of values terms.old + values term.counter * term.stride) % 2 ^ 32) }
+    ensures sum { OnOk result ((values : Values) → sum_of values terms.new % 2 ^ 32
+        ≡ (sum_of values terms.old + values term.counter * term.stride) % 2 ^ 32) }
 {
     match place_of(terms.as_slice(), term.counter) {
         Some((place, stride)) => {
@@ -46,7 +48,8 @@ fn add_term(terms: &mut Items<Term>, term: Term) -> Result<(), AllocError>
 /// Takes terms away from a sum.
 fn take_away(terms: &mut Items<Term>, others: &[Term]) -> Result<(), AllocError>
     ensures few { OnOk result (length terms.new ≤ length terms.old + length others.now) }
-    ensures sum { OnOk result ((values : Values) → (sum_of values terms.new + sum_of values others.now) % 2 ^ 32 ≡ sum_of values terms.old % 2 ^ 32) }
+    ensures sum { OnOk result ((values : Values) → (sum_of values terms.new + sum_of values others.now) % 2 ^ 32
+        ≡ sum_of values terms.old % 2 ^ 32) }
 {
     match others {
         [] => Ok(()),
@@ -111,7 +114,8 @@ impl Linear {
 
     /// What is left without another one.
     pub fn minus(self, other: &Linear) -> Result<Linear, AllocError>
-        ensures value { IfOk result (λ made. (values : Values) → linear_value values made ≡ word.subtract (linear_value values self) (linear_value values other.now)) }
+        ensures value { IfOk result (λ made. (values : Values) → linear_value values made
+            ≡ word.subtract (linear_value values self) (linear_value values other.now)) }
         ensures few { IfOk result (λ made. length made.terms ≤ length self.terms + length other.now.terms) }
     {
         let Linear {

@@ -70,7 +70,8 @@ fn linear_value(own: &Linear, standings: &[Standing]) -> u32
 /// The value of an expression.
 #[tactic(auto, unfolding(crate::specs::Expressions::value))]
 fn evaluate(expr: &Expr, inputs: &[Buffer], funcs: &[Buffer], standings: &[Standing]) -> u32
-    ensures { result ≡ expression.value (reads_of (planes inputs.now) (planes funcs.now)) (values_of standings.now) expr.now }
+    ensures { result ≡ expression.value (reads_of (planes inputs.now) (planes funcs.now)) (values_of standings.now)
+        expr.now }
 {
     match expr {
         Expr::Number(number) => *number,
@@ -118,7 +119,9 @@ fn write(buffers: &mut [Buffer], place: usize, x: u32, y: u32, pixel: u32)
 /// Makes a store.
 fn execute_store(store: &Store, inputs: &[Buffer], standings: &[Standing], funcs: &mut [Buffer])
     ensures points { points_of funcs.new ≡ points_of funcs.old }
-    ensures after { planes funcs.new ≡ spec.stored (points_of funcs.old) (reads_of (planes inputs.now) (planes funcs.old)) store.now (values_of standings.now) (planes funcs.old) }
+    ensures after { planes funcs.new
+        ≡ spec.stored (points_of funcs.old) (reads_of (planes inputs.now) (planes funcs.old)) store.now
+        (values_of standings.now) (planes funcs.old) }
 {
     let x = evaluate(&store.x, inputs, funcs, standings);
     let y = evaluate(&store.y, inputs, funcs, standings);
@@ -165,7 +168,8 @@ fn execute(
 ) -> Result<(), AllocError>
     ensures standings { OnOk result (standings.new.items ≡ standings.old.items) }
     ensures points { points_of funcs.new ≡ points_of funcs.old }
-    ensures after { OnOk result (planes funcs.new ≡ spec.run (points_of funcs.old) (planes inputs.now) stmt.now (values_of standings.old.items) (planes funcs.old)) }
+    ensures after { OnOk result (planes funcs.new ≡ spec.run (points_of funcs.old) (planes inputs.now) stmt.now
+        (values_of standings.old.items) (planes funcs.old)) }
 {
     match stmt {
         Stmt::Store(store) => {
@@ -221,7 +225,8 @@ pub fn run_task(
     funcs: &mut [Buffer],
 ) -> Result<(), AllocError>
     ensures points { points_of funcs.new ≡ points_of funcs.old }
-    ensures after { OnOk result (planes funcs.new ≡ spec.run_task (points_of funcs.old) (planes inputs.now) phase.now task (planes funcs.old)) }
+    ensures after { OnOk result (planes funcs.new ≡ spec.run_task (points_of funcs.old) (planes inputs.now) phase.now
+        task (planes funcs.old)) }
 {
     let mut standings = task_standings(alloc, phase.counter, task)?;
     execute(&phase.body, inputs, &mut standings, funcs)?;
@@ -236,7 +241,8 @@ pub fn run_phase(
     funcs: &mut [Buffer],
 ) -> Result<(), AllocError>
     ensures points { points_of funcs.new ≡ points_of funcs.old }
-    ensures after { OnOk result (planes funcs.new ≡ spec.run_phase (points_of funcs.old) (planes inputs.now) phase.now (planes funcs.old)) }
+    ensures after { OnOk result (planes funcs.new ≡ spec.run_phase (points_of funcs.old) (planes inputs.now) phase.now
+        (planes funcs.old)) }
 {
     for task in 0..phase.tasks {
         run_task(alloc, phase, task, inputs, funcs)?;

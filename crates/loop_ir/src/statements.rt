@@ -50,7 +50,8 @@ pub struct Phase {
     /// What stands at the task's number, from 0, where anything does.
     pub counter: Option<Counter>,
     pub body: Stmt,
-    /// Funcs whose buffers each hart has for itself: before a task they hold anything, and what they hold after it doesn't count.
+    /// Funcs whose buffers each hart has for itself: before a task they hold anything, and what they hold after it
+    /// doesn't count.
     pub private: Items<usize>,
     /// Inputs whose pixels are bytes.
     pub bytes: Items<usize>,

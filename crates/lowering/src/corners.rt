@@ -98,7 +98,8 @@ fn add_multiple(
 ) -> Result<(), AllocError>
     ensures few { OnOk result (length terms.new ≤ length terms.old + 1) }
     ensures sum { OnOk result ((values : Values)
-        → (sum_of values terms.new + own.less * spec.counted_at values counter) % 2 ^ 32 ≡ (sum_of values terms.old + own.more * spec.counted_at values counter) % 2 ^ 32) }
+        → (sum_of values terms.new + own.less * spec.counted_at values counter) % 2 ^ 32
+        ≡ (sum_of values terms.old + own.more * spec.counted_at values counter) % 2 ^ 32) }
 {
     match counter {
         None => Ok(()),
@@ -119,7 +120,8 @@ fn add_base(
 ) -> Result<(), AllocError>
     ensures few { OnOk result (length terms.new ≤ length terms.old + length counters.now) }
     ensures sum { OnOk result ((values : Values)
-        → (sum_of values terms.new + less_sum base.now (spec.counted values counters.now)) % 2 ^ 32 ≡ (sum_of values terms.old + more_sum base.now (spec.counted values counters.now)) % 2 ^ 32) }
+        → (sum_of values terms.new + less_sum base.now (spec.counted values counters.now)) % 2 ^ 32
+        ≡ (sum_of values terms.old + more_sum base.now (spec.counted values counters.now)) % 2 ^ 32) }
 {
     match base {
         [] => Ok(()),
@@ -142,7 +144,8 @@ fn first_of(
     counters: &[Option<Counter>],
 ) -> Result<Linear, AllocError>
     ensures few { IfOk result (λ made. length made.terms ≤ length counters.now) }
-    ensures value { IfOk result (λ made. (values : Values) → linear_value values made ≡ spec.first_of range.now (spec.counted values counters.now)) }
+    ensures value { IfOk result (λ made. (values : Values) → linear_value values made
+        ≡ spec.first_of range.now (spec.counted values counters.now)) }
 {
     let mut terms = Items::new(alloc);
     add_base(&range.base, counters, &mut terms)?;

@@ -1,6 +1,7 @@
 //! Loops of a host, with the nests of the Funcs that are computed at them.
 
-ghost use Rattle.std.specs.Prelude.{◌≡◌, ◌-◌, ◌<◌, ◌≤◌, ◌^◌, ◌+◌, ◌++◌, IfOk, Ok, OnOk, length, slice_get, suc, true, ◌*◌};
+ghost use Rattle.std.specs.Prelude.{◌≡◌, ◌-◌, ◌<◌, ◌≤◌, ◌^◌, ◌+◌, ◌++◌, IfOk, Ok, OnOk, length, slice_get, suc, true};
+ghost use Rattle.std.specs.Prelude.{◌*◌};
 ghost use Rattle.std.specs.Option.{option_copied};
 ghost use Rattle.schedule.specs.Accepted.{IsAccepted};
 ghost use Rattle.schedule.specs.declared.standings.Place.TheVariants as places;
@@ -125,22 +126,30 @@ fn with_update(
 ) -> Result<Stmt, AllocError>
     requires accepted { IsAccepted pipeline.now schedule.now }
     requires boxes { inferred pipeline.now schedule.now ≡ Ok boxes.now }
-    requires parts { IsComputedAt pipeline.now schedule.now boxes.now (places.At at) place of.now.func.now of.now.plan.now of.now.own.now }
-    requires update { IsUpdateAt schedule.now place of.now.func.now of.now.plan.now of.now.at of.now.update.now of.now.stage.now }
-    requires before { spec.DoesNests pipeline.now schedule.now boxes.now at place of.now.func.now of.now.own.now of.now.at before }
+    requires parts { IsComputedAt pipeline.now schedule.now boxes.now (places.At at) place of.now.func.now
+        of.now.plan.now of.now.own.now }
+    requires update { IsUpdateAt schedule.now place of.now.func.now of.now.plan.now of.now.at of.now.update.now
+        of.now.stage.now }
+    requires before { spec.DoesNests pipeline.now schedule.now boxes.now at place of.now.func.now of.now.own.now
+        of.now.at before }
     requires alone { spec.StoresInIt place before }
-    requires sound { spec.IsSoundNest pipeline.now schedule.now boxes.now at place of.now.func.now of.now.own.now before }
+    requires sound { spec.IsSoundNest pipeline.now schedule.now boxes.now at place of.now.func.now of.now.own.now
+        before }
     requires few { depth before ≤ 9 }
     requires needs { greatest_need before ≤ most_need pipeline.now schedule.now }
-    requires sizes { whole_size before ≤ 64 * shares (flags_of schedule.now.standings) pipeline.now.funcs of.now.func.now of.now.plan.now of.now.at }
+    requires sizes { whole_size before ≤ 64 * shares (flags_of schedule.now.standings) pipeline.now.funcs
+        of.now.func.now of.now.plan.now of.now.at }
     requires at_once { MayAlwaysBeAtOnce before }
     requires about { is_about place before ≡ true }
-    ensures does { IfOk result (spec.DoesNests pipeline.now schedule.now boxes.now at place of.now.func.now of.now.own.now (suc of.now.at)) }
+    ensures does { IfOk result (spec.DoesNests pipeline.now schedule.now boxes.now at place of.now.func.now
+        of.now.own.now (suc of.now.at)) }
     ensures alone { IfOk result (spec.StoresInIt place) }
-    ensures sound { IfOk result (spec.IsSoundNest pipeline.now schedule.now boxes.now at place of.now.func.now of.now.own.now) }
+    ensures sound { IfOk result (spec.IsSoundNest pipeline.now schedule.now boxes.now at place of.now.func.now
+        of.now.own.now) }
     ensures few { IfOk result (λ made. depth made ≤ 9) }
     ensures needs { IfOk result (λ made. greatest_need made ≤ most_need pipeline.now schedule.now) }
-    ensures sizes { IfOk result (λ made. whole_size made ≤ 64 * shares (flags_of schedule.now.standings) pipeline.now.funcs of.now.func.now of.now.plan.now (suc of.now.at)) }
+    ensures sizes { IfOk result (λ made. whole_size made ≤ 64 * shares (flags_of schedule.now.standings)
+        pipeline.now.funcs of.now.func.now of.now.plan.now (suc of.now.at)) }
     ensures at_once { IfOk result MayAlwaysBeAtOnce }
     ensures about { IfOk result (λ made. is_about place made ≡ true) }
 {
@@ -180,7 +189,8 @@ fn nests_upto(
     ensures sound { IfOk result (spec.IsSoundNest pipeline.now schedule.now boxes.now at place func.now own.now) }
     ensures few { IfOk result (λ made. depth made ≤ 9) }
     ensures needs { IfOk result (λ made. greatest_need made ≤ most_need pipeline.now schedule.now) }
-    ensures sizes { IfOk result (λ made. whole_size made ≤ 64 * shares (flags_of schedule.now.standings) pipeline.now.funcs func.now plan.now count) }
+    ensures sizes { IfOk result (λ made. whole_size made ≤ 64 * shares (flags_of schedule.now.standings)
+        pipeline.now.funcs func.now plan.now count) }
     ensures at_once { IfOk result MayAlwaysBeAtOnce }
     ensures about { IfOk result (λ made. is_about place made ≡ true) }
 {
@@ -318,7 +328,8 @@ fn loops_around(
     requires boxes { inferred pipeline.now schedule.now ≡ Ok boxes.now }
     requires splits { AreSplits sizes.now.splits }
     requires few { AreFew sizes.now.extents }
-    ensures { IfOk result (λ made. spec.HasLoops pipeline.now schedule.now boxes.now host (counts sizes.now.extents sizes.now.splits) leaf loops.now made) }
+    ensures { IfOk result (λ made. spec.HasLoops pipeline.now schedule.now boxes.now host
+        (counts sizes.now.extents sizes.now.splits) leaf loops.now made) }
 {
     match loops {
         [] => Ok(leaf),
@@ -361,7 +372,8 @@ fn outermost(
 ) -> Result<Stmt, AllocError>
     requires accepted { IsAccepted pipeline.now schedule.now }
     requires boxes { inferred pipeline.now schedule.now ≡ Ok boxes.now }
-    ensures { IfOk result (λ made. spec.HasOutermost pipeline.now schedule.now boxes.now host (parallel stage.now) inner made) }
+    ensures { IfOk result (λ made. spec.HasOutermost pipeline.now schedule.now boxes.now host (parallel stage.now) inner
+        made) }
 {
     match stage.parallel() {
         None => Ok(inner),

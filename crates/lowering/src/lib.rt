@@ -1,13 +1,14 @@
 //! Phases: what their tasks leave in the Funcs' buffers.
 //!
-//! - [`laws`]: **the tasks of a phase may be done in any order** (`specs/Phases.antt`), and phases one after the other leave the
-//!   result of the last one (`specs/Order.antt`).
+//! - [`laws`]: **the tasks of a phase may be done in any order** (`specs/Phases.antt`), and phases one after the other
+//!   leave the result of the last one (`specs/Order.antt`).
 //! - [`phases`]: **all phases of a pipeline, which leave its output's pixels** (`specs/Lowered.antt`).
 //! - [`pure_phases`]: **the phase of a pure definition** (`specs/PurePhases.antt`).
 //! - [`hosting`]: loops of a host, with the nests of the Funcs computed at them (`specs/Hosting.antt`).
 //! - [`nests`]: **the nest of a pure definition** of a Func that is computed at a loop fills its box of one iteration.
 //! - [`corners`]: corners of boxes, also of those that begin elsewhere in each iteration (`specs/Corners.antt`).
-//! - [`updates`]: **the phase of an update**, and its loops where the Func is computed at a loop (`specs/Updates.antt`).
+//! - [`updates`]: **the phase of an update**, and its loops where the Func is computed at a loop
+//!   (`specs/Updates.antt`).
 //! - [`stores`], [`update_stores`]: stores of definitions at the points where loops stand.
 //!
 //! Of each phase it is also said what its tasks may touch (`specs/Touching.antt`), **at which points of their Func they

@@ -40,12 +40,15 @@ pub(crate) fn store_of(
     own: &SourceBox,
 ) -> Result<Stmt, AllocError>
     ensures rules { IsWellFormed pipeline.now }
-    ensures stores { IfOk result (λ made. IsStoreOf pipeline.now schedule.now boxes.now placed place func.now own.now made) }
+    ensures stores { IfOk result (λ made. IsStoreOf pipeline.now schedule.now boxes.now placed place func.now own.now
+        made) }
     ensures leaf { IfOk result IsLeaf }
     ensures about { IfOk result (λ made. is_about place made ≡ true) }
     ensures depth { IfOk result (λ made. depth made ≡ 0) }
-    ensures needs { IfOk result (λ made. greatest_need made ≤ max 1 (taken (flags_of schedule.now.standings) pipeline.now.funcs place func.now.pure)) }
-    ensures sizes { IfOk result (λ made. whole_size made + 12 ≤ 64 * counted (flags_of schedule.now.standings) pipeline.now.funcs place func.now.pure) }
+    ensures needs { IfOk result (λ made. greatest_need made ≤ max 1 (taken (flags_of schedule.now.standings)
+        pipeline.now.funcs place func.now.pure)) }
+    ensures sizes { IfOk result (λ made. whole_size made + 12 ≤ 64 * counted (flags_of schedule.now.standings)
+        pipeline.now.funcs place func.now.pure) }
 {
     let funcs = pipeline.funcs();
     let plans = schedule.funcs.as_slice();
@@ -87,11 +90,13 @@ pub fn pure_nest(
     ensures does { IfOk result (λ made. DoesNest pipeline.now schedule.now boxes.now at place func.now own.now 0 made) }
     ensures alone { IfOk result (StoresInIt place) }
     ensures about { IfOk result (λ made. is_about place made ≡ true) }
-    ensures sound { IfOk result (λ made. IsSoundNest pipeline.now schedule.now boxes.now at place func.now own.now made) }
+    ensures sound { IfOk result (λ made. IsSoundNest pipeline.now schedule.now boxes.now at place func.now own.now
+        made) }
     ensures few { IfOk result (λ made. depth made ≤ 9) }
     ensures at_once { IfOk result MayAlwaysBeAtOnce }
     ensures needs { IfOk result (λ made. greatest_need made ≤ most_need pipeline.now schedule.now) }
-    ensures sizes { IfOk result (λ made. whole_size made ≤ 64 * stage_weight (nodes_in (flags_of schedule.now.standings) pipeline.now.funcs func.now.pure) plan.now.pure) }
+    ensures sizes { IfOk result (λ made. whole_size made ≤ 64 * stage_weight (nodes_in (flags_of schedule.now.standings)
+        pipeline.now.funcs func.now.pure) plan.now.pure) }
 {
     let placed = Place::At(at);
     let extents = extents_of(own);

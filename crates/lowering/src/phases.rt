@@ -34,7 +34,8 @@ fn stage_phase(
     requires accepted { IsAccepted pipeline.now schedule.now }
     requires boxes { inferred pipeline.now schedule.now ≡ Ok boxes.now }
     requires at { IsAtRoot pipeline.now schedule.now boxes.now place func.now plan.now own.now }
-    ensures { IfOk result (spec.IsStagePhaseIfThere pipeline.now schedule.now boxes.now place func.now plan.now own.now number) }
+    ensures { IfOk result (spec.IsStagePhaseIfThere pipeline.now schedule.now boxes.now place func.now plan.now own.now
+        number) }
 {
     let Some(at) = number.checked_sub(1) else {
         let phase = pure_phase(alloc, pipeline, schedule, boxes, place, func, plan, own)?;
@@ -75,8 +76,11 @@ fn with_stage(
     requires boxes { inferred pipeline.now schedule.now ≡ Ok boxes.now }
     requires at { IsAtRoot pipeline.now schedule.now boxes.now place func.now plan.now own.now }
     requires number { number ≤ length func.now.updates }
-    ensures { IfOk result (λ made. (others : List MadePhase) → spec.ArePhasesOf pipeline.now schedule.now boxes.now place func.now plan.now own.now others number before.items
-        → spec.ArePhasesOf pipeline.now schedule.now boxes.now place func.now plan.now own.now others (suc number) made.items) }
+    ensures { IfOk result (λ made. (others : List MadePhase)
+        → spec.ArePhasesOf pipeline.now schedule.now boxes.now place func.now plan.now own.now others number
+        before.items
+        → spec.ArePhasesOf pipeline.now schedule.now boxes.now place func.now plan.now own.now others (suc number)
+        made.items) }
 {
     let found = stage_phase(
         alloc, pipeline, schedule, boxes, place, func, plan, own, number,
@@ -106,7 +110,8 @@ fn with_stages(
     requires boxes { inferred pipeline.now schedule.now ≡ Ok boxes.now }
     requires at { IsAtRoot pipeline.now schedule.now boxes.now place func.now plan.now own.now }
     requires last { last ≤ length func.now.updates }
-    ensures { IfOk result (λ phases. spec.ArePhasesOf pipeline.now schedule.now boxes.now place func.now plan.now own.now others.items (suc last) phases.items) }
+    ensures { IfOk result (λ phases. spec.ArePhasesOf pipeline.now schedule.now boxes.now place func.now plan.now
+        own.now others.items (suc last) phases.items) }
 {
     let before = match last.checked_sub(1) {
         None => others,
@@ -176,13 +181,13 @@ fn lower_first(
     Ok(phases)
 }
 
-/// The phases of a pipeline: one for each stage of each Func that is computed at root and that the output reaches, in order
-/// of the text; its tasks are the iterations of the stage's parallel loop, or one.
+/// The phases of a pipeline: one for each stage of each Func that is computed at root and that the output reaches, in
+/// order of the text; its tasks are the iterations of the stage's parallel loop, or one.
 ///
 /// Done one after the other from buffers of zeros, the tasks of each in any order and whatever private buffers hold
 /// before each, they leave the output's pixels (`specs/Lowered.antt`). No more than 14 counters stand around a store, a
-/// task's own among them, expressions need no more registers than weights count (`specs/Registers.antt`), and their code asks for
-/// no more than 64 words for each unit that the schedule weighs (`specs/Sizes.antt`).
+/// task's own among them, expressions need no more registers than weights count (`specs/Registers.antt`), and their
+/// code asks for no more than 64 words for each unit that the schedule weighs (`specs/Sizes.antt`).
 ///
 /// # Errors
 ///
@@ -195,7 +200,8 @@ pub fn lower(
 ) -> Result<Vec<Phase>, AllocError>
     requires accepted { IsAccepted pipeline.now schedule.now }
     requires boxes { inferred pipeline.now schedule.now ≡ Ok boxes.now }
-    ensures phases { IfOk result (λ phases. spec.AreLowered pipeline.now schedule.now boxes.now (length pipeline.now.funcs) phases.items) }
+    ensures phases { IfOk result (λ phases. spec.AreLowered pipeline.now schedule.now boxes.now
+        (length pipeline.now.funcs) phases.items) }
     ensures few { IfOk result (λ phases. TakeFew pipeline.now schedule.now phases.items) }
     ensures light { IfOk result (λ phases. words_of phases.items ≤ 64 * weight pipeline.now schedule.now) }
     ensures pixels { IfOk result (λ phases. spec.DoPixels pipeline.now schedule.now boxes.now phases.items) }

@@ -80,8 +80,8 @@ pub(crate) fn task_count(alloc: Global, stage: &Stage, extents: Extents) -> Resu
     Ok(sizes.iterations(stage))
 }
 
-/// The phase of the pure definition of a Func that is computed at root, with the Funcs computed at its loops in it: each
-/// task makes what the loops inside the parallel one visit.
+/// The phase of the pure definition of a Func that is computed at root, with the Funcs computed at its loops in it:
+/// each task makes what the loops inside the parallel one visit.
 ///
 /// From buffers that hold the pixels of the Funcs before it, its tasks leave those of the definition
 /// (`specs/PurePhases.antt`): it is the phase of the Func's first stage (`specs/Stages.antt`). The buffers of the Funcs
@@ -104,12 +104,15 @@ pub fn pure_phase(
     requires accepted { IsAccepted pipeline.now schedule.now }
     requires boxes { inferred pipeline.now schedule.now ≡ Ok boxes.now }
     requires at { spec.IsAtRoot pipeline.now schedule.now boxes.now place func.now plan.now own.now }
-    ensures tasks { IfOk result (λ phase. phase.tasks ≡ iterations.iteration_count (views.extents_of own.now) plan.now.pure) }
+    ensures tasks { IfOk result (λ phase. phase.tasks ≡ iterations.iteration_count (views.extents_of own.now)
+        plan.now.pure) }
     ensures private { IfOk result (λ phase. phase.private ≡ hosted_from place 0 schedule.now.standings) }
     ensures bytes { IfOk result (λ phase. phase.bytes ≡ spec.byte_places 0 pipeline.now.inputs) }
     ensures does { IfOk result (spec.DoesPure pipeline.now schedule.now boxes.now place func.now plan.now own.now) }
-    ensures stage { IfOk result (DoesStage pipeline.now schedule.now boxes.now place func.now 0 (owns (views.extents_of own.now) plan.now.pure)) }
-    ensures touches { IfOk result (TouchesItsOwn pipeline.now schedule.now boxes.now place (owns (views.extents_of own.now) plan.now.pure)) }
+    ensures stage { IfOk result (DoesStage pipeline.now schedule.now boxes.now place func.now 0
+        (owns (views.extents_of own.now) plan.now.pure)) }
+    ensures touches { IfOk result (TouchesItsOwn pipeline.now schedule.now boxes.now place
+        (owns (views.extents_of own.now) plan.now.pure)) }
     ensures few { IfOk result (λ phase. task_depth phase ≤ 14) }
     ensures needs { IfOk result (λ phase. greatest_need phase.body ≤ most_need pipeline.now schedule.now) }
     ensures light { IfOk result (IsLight pipeline.now schedule.now place func.now plan.now 0) }

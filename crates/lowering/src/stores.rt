@@ -31,7 +31,8 @@ pub(crate) fn whole_of(
     place: usize,
     variable: Variable,
 ) -> Result<Linear, AllocError>
-    ensures value { IfOk result (λ made. (values : Values) → linear_value values made ≡ whole_at values place variable) }
+    ensures value { IfOk result (λ made. (values : Values) → linear_value values made
+        ≡ whole_at values place variable) }
     ensures one { IfOk result (λ made. length made.terms ≡ 1) }
 {
     let counter = Counter {
@@ -45,7 +46,8 @@ pub(crate) fn whole_of(
 /// A sum.
 #[tactic(auto, using(crate::proofs::BaseWords::added_is))]
 fn added(alloc: Global, first: Linear, second: &Linear) -> Result<Linear, AllocError>
-    ensures value { IfOk result (λ made. (values : Values) → linear_value values made ≡ word.add (linear_value values first) (linear_value values second.now)) }
+    ensures value { IfOk result (λ made. (values : Values) → linear_value values made
+        ≡ word.add (linear_value values first) (linear_value values second.now)) }
     ensures few { IfOk result (λ made. length made.terms ≤ length first.terms + length second.now.terms) }
 {
     let opposite = Linear::of_number(alloc, 0).minus(second)?;
@@ -58,7 +60,8 @@ fn added(alloc: Global, first: Linear, second: &Linear) -> Result<Linear, AllocE
 fn arguments_of(alloc: Global, place: usize, corner: &Corner) -> Result<Arguments, AllocError>
     ensures short { IfOk result (λ made. IsShort corner.now → AreShortArguments made) }
     ensures values { IfOk result (λ made. (values : Values) → environment values made
-        ≡ at_point (word.add (whole_at values place Variable.FirstArgument) (linear_value values corner.now.x)) (word.add (whole_at values place Variable.SecondArgument) (linear_value values corner.now.y))) }
+        ≡ at_point (word.add (whole_at values place Variable.FirstArgument) (linear_value values corner.now.x))
+        (word.add (whole_at values place Variable.SecondArgument) (linear_value values corner.now.y))) }
 {
     let x = whole_of(alloc, place, Variable::FirstArgument)?;
     let y = whole_of(alloc, place, Variable::SecondArgument)?;
@@ -87,15 +90,18 @@ pub fn pure_store(
     corner: &Corner,
     pure: &Expr,
 ) -> Result<Stmt, AllocError>
-    ensures stores { IfOk result (λ made. StoresPure corners.now (flagged flags.now) funcs.now place corner.now pure.now made) }
+    ensures stores { IfOk result (λ made. StoresPure corners.now (flagged flags.now) funcs.now place corner.now pure.now
+        made) }
     ensures hits { IfOk result (HitsPure place) }
     ensures misses { IfOk result (MissesPure place) }
     ensures about { IfOk result (λ made. is_about place made ≡ true) }
     ensures leaf { IfOk result IsLeaf }
-    ensures sound { IfOk result (λ made. IsSoundPure corners.now (flagged flags.now) funcs.now place corner.now pure.now made) }
+    ensures sound { IfOk result (λ made. IsSoundPure corners.now (flagged flags.now) funcs.now place corner.now pure.now
+        made) }
     ensures depth { IfOk result (λ made. depth made ≡ 0) }
     ensures needs { IfOk result (λ made. greatest_need made ≤ max 1 (taken flags.now funcs.now place pure.now)) }
-    ensures sizes { IfOk result (λ made. AreShort corners.now → IsShort corner.now → whole_size made + 12 ≤ 64 * counted flags.now funcs.now place pure.now) }
+    ensures sizes { IfOk result (λ made. AreShort corners.now → IsShort corner.now
+        → whole_size made + 12 ≤ 64 * counted flags.now funcs.now place pure.now) }
 {
     let arguments = arguments_of(alloc, place, corner)?;
     let value = lowered(alloc, funcs, flags, place, corners, &arguments, pure)?;

@@ -31,7 +31,8 @@ use std::alloc::{AllocError, Global};
 
 /// The sum of two.
 fn plus(alloc: Global, own: Linear, other: &Linear) -> Result<Linear, AllocError>
-    ensures value { IfOk result (λ made. (values : Values) → linear_value values made ≡ word.add (linear_value values own) (linear_value values other.now)) }
+    ensures value { IfOk result (λ made. (values : Values) → linear_value values made
+        ≡ word.add (linear_value values own) (linear_value values other.now)) }
     ensures few { IfOk result (λ made. length made.terms ≤ length own.terms + length other.now.terms) }
 {
     let opposite = Linear::of_number(alloc, 0).minus(other)?;
@@ -41,7 +42,8 @@ fn plus(alloc: Global, own: Linear, other: &Linear) -> Result<Linear, AllocError
 
 /// What stands for a second reduction variable of an update of the Func at a place, where there is one.
 fn second_of(alloc: Global, place: usize, second: &Option<Reduction>) -> Result<Linear, AllocError>
-    ensures value { IfOk result (λ made. (values : Values) → linear_value values made ≡ spec.second_reduced values place second.now) }
+    ensures value { IfOk result (λ made. (values : Values) → linear_value values made
+        ≡ spec.second_reduced values place second.now) }
     ensures few { IfOk result (λ made. length made.terms ≤ 1) }
 {
     match second {
@@ -62,7 +64,8 @@ fn arguments_of(
     update: &Update,
 ) -> Result<Arguments, AllocError>
     ensures short { IfOk result (λ made. IsShort corner.now → AreShortArguments made) }
-    ensures values { IfOk result (λ made. (values : Values) → environment values made ≡ spec.visited_point values place corner.now update.now) }
+    ensures values { IfOk result (λ made. (values : Values) → environment values made
+        ≡ spec.visited_point values place corner.now update.now) }
 {
     let across = whole_of(alloc, place, Variable::FirstArgument)?;
     let down = whole_of(alloc, place, Variable::SecondArgument)?;
@@ -90,12 +93,16 @@ fn second_index(
     index: &Option<Expr>,
 ) -> Result<terms::Expr, AllocError>
     ensures value { IfOk result (λ made. (reads : Reads) (values : Values) → value reads values made
-        ≡ spec.index_of (inlined (valuing (placed corners.now values reads)) (flagged flags.now) funcs.now place (variable_in (environment values arguments.now))) index.now) }
+        ≡ spec.index_of (inlined (valuing (placed corners.now values reads)) (flagged flags.now) funcs.now place
+        (variable_in (environment values arguments.now))) index.now) }
     ensures loads { IfOk result (λ made. (reads : Reads) (values : Values) (test : Point → Bool)
-        → Hold (λ point. test (place_in corners.now values point)) (spec.points_of_index (λ e. (inlined (seeing (placed corners.now values reads)) (flagged flags.now) funcs.now place (seen_variable (environment values arguments.now)) e).points) index.now)
+        → Hold (λ point. test (place_in corners.now values point))
+        (spec.points_of_index (λ e. (inlined (seeing (placed corners.now values reads)) (flagged flags.now) funcs.now
+        place (seen_variable (environment values arguments.now)) e).points) index.now)
         → Hold test (loads reads values made)) }
     ensures needs { IfOk result (λ made. need made ≤ second_taken flags.now funcs.now place index.now) }
-    ensures sizes { IfOk result (λ made. AreShort corners.now → AreShortArguments arguments.now → IsGivenIndex flags.now funcs.now place index.now made) }
+    ensures sizes { IfOk result (λ made. AreShort corners.now → AreShortArguments arguments.now
+        → IsGivenIndex flags.now funcs.now place index.now made) }
 {
     match index {
         None => Ok(terms::Expr::Number(0)),
@@ -106,8 +113,8 @@ fn second_index(
     }
 }
 
-/// The store of an update of the Func at a place, where the loops over whole variables stand: at the point that its left
-/// side names, counted from the Func's corner.
+/// The store of an update of the Func at a place, where the loops over whole variables stand: at the point that its
+/// left side names, counted from the Func's corner.
 ///
 /// # Errors
 ///
@@ -122,14 +129,18 @@ pub fn update_store(
     update: &Update,
 ) -> Result<Stmt, AllocError>
     requires { place + 1 < 2 ^ 64 }
-    ensures stores { IfOk result (λ made. spec.StoresUpdate corners.now (flagged flags.now) funcs.now place corner.now update.now made) }
-    ensures hits { IfOk result (λ made. spec.HitsUpdate corners.now (flagged flags.now) funcs.now place corner.now update.now made) }
+    ensures stores { IfOk result (λ made. spec.StoresUpdate corners.now (flagged flags.now) funcs.now place corner.now
+        update.now made) }
+    ensures hits { IfOk result (λ made. spec.HitsUpdate corners.now (flagged flags.now) funcs.now place corner.now
+        update.now made) }
     ensures leaf { IfOk result IsLeaf }
     ensures about { IfOk result (λ made. is_about place made ≡ true) }
-    ensures sound { IfOk result (λ made. spec.IsSoundUpdate corners.now (flagged flags.now) funcs.now place corner.now update.now made) }
+    ensures sound { IfOk result (λ made. spec.IsSoundUpdate corners.now (flagged flags.now) funcs.now place corner.now
+        update.now made) }
     ensures depth { IfOk result (λ made. depth made ≡ 0) }
     ensures needs { IfOk result (λ made. greatest_need made ≤ update_taken flags.now funcs.now place update.now) }
-    ensures sizes { IfOk result (λ made. AreShort corners.now → IsShort corner.now → whole_size made + 12 ≤ 64 * update_counted flags.now funcs.now place update.now) }
+    ensures sizes { IfOk result (λ made. AreShort corners.now → IsShort corner.now
+        → whole_size made + 12 ≤ 64 * update_counted flags.now funcs.now place update.now) }
 {
     let arguments = arguments_of(alloc, place, corner, update)?;
     let column = lowered(

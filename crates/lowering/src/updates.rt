@@ -1,6 +1,7 @@
 //! Phases of updates, and their loops where the Func is computed at a loop.
 
-ghost use Rattle.std.specs.Prelude.{◌≡◌, ◌+◌, ◌<◌, ◌≤◌, ◌^◌, List, [], IfOk, Ok, Some, length, slice_get, suc, true, ◌*◌};
+ghost use Rattle.std.specs.Prelude.{◌≡◌, ◌+◌, ◌<◌, ◌≤◌, ◌^◌, List, [], IfOk, Ok, Some, length, slice_get, suc, true};
+ghost use Rattle.std.specs.Prelude.{◌*◌};
 ghost use Rattle.halide_pipeline.specs.Pixel as meaning;
 ghost use Rattle.schedule.specs.Accepted.{IsAccepted};
 ghost use Rattle.schedule_loops.specs.Counts.{AreSplits, counts};
@@ -93,14 +94,20 @@ fn store_at(
     update: &Update,
 ) -> Result<Stmt, AllocError>
     requires { place + 1 < 2 ^ 64 }
-    ensures stores { IfOk result (λ made. spec.StoresUpdate corners.now (flagged (flags_of schedule.now.standings)) pipeline.now.funcs place corner.now update.now made) }
+    ensures stores { IfOk result (λ made. spec.StoresUpdate corners.now (flagged (flags_of schedule.now.standings))
+        pipeline.now.funcs place corner.now update.now made) }
     ensures leaf { IfOk result IsLeaf }
     ensures about { IfOk result (λ made. is_about place made ≡ true) }
-    ensures hits { IfOk result (λ made. spec.HitsUpdate corners.now (flagged (flags_of schedule.now.standings)) pipeline.now.funcs place corner.now update.now made) }
-    ensures sound { IfOk result (λ made. spec.IsSoundUpdate corners.now (flagged (flags_of schedule.now.standings)) pipeline.now.funcs place corner.now update.now made) }
+    ensures hits { IfOk result (λ made. spec.HitsUpdate corners.now (flagged (flags_of schedule.now.standings))
+        pipeline.now.funcs place corner.now update.now made) }
+    ensures sound { IfOk result (λ made. spec.IsSoundUpdate corners.now (flagged (flags_of schedule.now.standings))
+        pipeline.now.funcs place corner.now update.now made) }
     ensures depth { IfOk result (λ made. depth made ≡ 0) }
-    ensures needs { IfOk result (λ made. greatest_need made ≤ update_taken (flags_of schedule.now.standings) pipeline.now.funcs place update.now) }
-    ensures sizes { IfOk result (λ made. AreShort corners.now → IsShort corner.now → whole_size made + 12 ≤ 64 * update_counted (flags_of schedule.now.standings) pipeline.now.funcs place update.now) }
+    ensures needs { IfOk result (λ made. greatest_need made ≤ update_taken (flags_of schedule.now.standings)
+        pipeline.now.funcs place update.now) }
+    ensures sizes { IfOk result (λ made. AreShort corners.now → IsShort corner.now
+        → whole_size made + 12 ≤ 64 * update_counted (flags_of schedule.now.standings) pipeline.now.funcs place
+        update.now) }
 {
     let flags = inlined_flags(alloc, schedule.standings.as_slice())?;
     let made = update_store(
@@ -127,10 +134,13 @@ fn root_store(
 ) -> Result<Stmt, AllocError>
     requires { place + 1 < 2 ^ 64 }
     ensures leaf { IfOk result IsLeaf }
-    ensures stores { IfOk result (λ made. spec.IsUpdateStoreOf pipeline.now schedule.now boxes.now place own.now update.now made) }
+    ensures stores { IfOk result (λ made. spec.IsUpdateStoreOf pipeline.now schedule.now boxes.now place own.now
+        update.now made) }
     ensures depth { IfOk result (λ made. depth made ≡ 0) }
-    ensures needs { IfOk result (λ made. greatest_need made ≤ update_taken (flags_of schedule.now.standings) pipeline.now.funcs place update.now) }
-    ensures sizes { IfOk result (λ made. whole_size made + 12 ≤ 64 * update_counted (flags_of schedule.now.standings) pipeline.now.funcs place update.now) }
+    ensures needs { IfOk result (λ made. greatest_need made ≤ update_taken (flags_of schedule.now.standings)
+        pipeline.now.funcs place update.now) }
+    ensures sizes { IfOk result (λ made. whole_size made + 12 ≤ 64 * update_counted (flags_of schedule.now.standings)
+        pipeline.now.funcs place update.now) }
 {
     let plans = schedule.funcs.as_slice();
     let standings = schedule.standings.as_slice();
@@ -158,12 +168,19 @@ fn body_of(
 ) -> Result<Stmt, AllocError>
     requires splits { AreSplits stage.now.splits }
     requires few { AreFew extents }
-    ensures rounds { IfOk result (λ made. (outside : List Loop) → IsLeaf store → MayBeUnder place extents stage.now.splits (pure.inside_of (iterations.parallel stage.now) stage.now.loops) outside store
+    ensures rounds { IfOk result (λ made. (outside : List Loop) → IsLeaf store
+        → MayBeUnder place extents stage.now.splits (pure.inside_of (iterations.parallel stage.now) stage.now.loops)
+        outside store
         → MayBeAtOnce place (counts extents stage.now.splits) outside made) }
-    ensures repeats { IfOk result (λ made. Repeats place made store (wholes extents stage.now.splits (pure.inside_of (iterations.parallel stage.now) stage.now.loops))) }
-    ensures depth { IfOk result (λ made. depth made ≡ length (pure.inside_of (iterations.parallel stage.now) stage.now.loops) + (length stage.now.splits + depth store)) }
+    ensures repeats { IfOk result (λ made. Repeats place made store
+        (wholes extents stage.now.splits (pure.inside_of (iterations.parallel stage.now) stage.now.loops))) }
+    ensures depth { IfOk result (λ made. depth made
+        ≡ length (pure.inside_of (iterations.parallel stage.now) stage.now.loops) +
+        (length stage.now.splits + depth store)) }
     ensures needs { IfOk result (λ made. greatest_need made ≡ greatest_need store) }
-    ensures sizes { IfOk result (λ made. whole_size made ≡ nest_size (counts extents stage.now.splits) (pure.inside_of (iterations.parallel stage.now) stage.now.loops) (25 * length stage.now.splits + whole_size store)) }
+    ensures sizes { IfOk result (λ made. whole_size made
+        ≡ nest_size (counts extents stage.now.splits) (pure.inside_of (iterations.parallel stage.now) stage.now.loops)
+        (25 * length stage.now.splits + whole_size store)) }
 {
     let splits = stage.splits.as_slice();
     let made = with_nest(alloc, place, extents, splits, inside_parallel(stage), store)?;
@@ -180,13 +197,16 @@ fn nest_of(
 ) -> Result<Stmt, AllocError>
     requires splits { AreSplits stage.now.splits }
     requires few { AreFew extents }
-    ensures rounds { IfOk result (λ made. (outside : List Loop) → IsLeaf store → MayBeUnder place extents stage.now.splits stage.now.loops outside store
+    ensures rounds { IfOk result (λ made. (outside : List Loop) → IsLeaf store
+        → MayBeUnder place extents stage.now.splits stage.now.loops outside store
         → MayBeAtOnce place (counts extents stage.now.splits) outside made) }
     ensures repeats { IfOk result (λ made. Repeats place made store (wholes extents stage.now.splits stage.now.loops)) }
-    ensures depth { IfOk result (λ made. depth made ≡ length stage.now.loops + (length stage.now.splits + depth store)) }
+    ensures depth { IfOk result (λ made. depth made
+        ≡ length stage.now.loops + (length stage.now.splits + depth store)) }
     ensures needs { IfOk result (λ made. greatest_need made ≡ greatest_need store) }
     ensures about { IfOk result (λ made. is_about place made ≡ is_about place store) }
-    ensures sizes { IfOk result (λ made. whole_size made ≡ nest_size (counts extents stage.now.splits) stage.now.loops (25 * length stage.now.splits + whole_size store)) }
+    ensures sizes { IfOk result (λ made. whole_size made ≡ nest_size (counts extents stage.now.splits) stage.now.loops
+        (25 * length stage.now.splits + whole_size store)) }
 {
     let made = with_nest(
         alloc,
@@ -203,8 +223,8 @@ fn nest_of(
 /// parallel one visit.
 ///
 /// From buffers that hold what stands after the stages before it, its tasks leave what stands after it
-/// (`specs/Stages.antt`). A task owns the points of the box in the slices that it visits (`specs/Updates.antt`), and stores
-/// at those that the left side names there (`specs/Stored.antt`).
+/// (`specs/Stages.antt`). A task owns the points of the box in the slices that it visits (`specs/Updates.antt`), and
+/// stores at those that the left side names there (`specs/Stored.antt`).
 ///
 /// # Errors
 ///
@@ -219,19 +239,26 @@ pub fn update_phase(
 ) -> Result<Phase, AllocError>
     requires accepted { IsAccepted pipeline.now schedule.now }
     requires boxes { inferred pipeline.now schedule.now ≡ Ok boxes.now }
-    requires root { pure.IsAtRoot pipeline.now schedule.now boxes.now place of.now.func.now of.now.plan.now of.now.own.now }
-    requires at { spec.IsUpdateAt schedule.now place of.now.func.now of.now.plan.now of.now.at of.now.update.now of.now.stage.now }
-    ensures tasks { IfOk result (λ phase. phase.tasks ≡ iterations.iteration_count (spec.update_extents of.now.own.now of.now.update.now) of.now.stage.now) }
+    requires root { pure.IsAtRoot pipeline.now schedule.now boxes.now place of.now.func.now of.now.plan.now
+        of.now.own.now }
+    requires at { spec.IsUpdateAt schedule.now place of.now.func.now of.now.plan.now of.now.at of.now.update.now
+        of.now.stage.now }
+    ensures tasks { IfOk result (λ phase. phase.tasks
+        ≡ iterations.iteration_count (spec.update_extents of.now.own.now of.now.update.now) of.now.stage.now) }
     ensures private { IfOk result (λ phase. phase.private ≡ []) }
     ensures bytes { IfOk result (λ phase. phase.bytes ≡ pure.byte_places 0 pipeline.now.inputs) }
-    ensures does { IfOk result (DoesStage pipeline.now schedule.now boxes.now place of.now.func.now (suc of.now.at) (spec.owns_update of.now.own.now of.now.update.now of.now.stage.now)) }
-    ensures touches { IfOk result (TouchesItsOwn pipeline.now schedule.now boxes.now place (spec.owns_update of.now.own.now of.now.update.now of.now.stage.now)) }
+    ensures does { IfOk result (DoesStage pipeline.now schedule.now boxes.now place of.now.func.now (suc of.now.at)
+        (spec.owns_update of.now.own.now of.now.update.now of.now.stage.now)) }
+    ensures touches { IfOk result (TouchesItsOwn pipeline.now schedule.now boxes.now place
+        (spec.owns_update of.now.own.now of.now.update.now of.now.stage.now)) }
     ensures few { IfOk result (λ phase. task_depth phase ≤ 14) }
     ensures needs { IfOk result (λ phase. greatest_need phase.body ≤ most_need pipeline.now schedule.now) }
-    ensures sizes { IfOk result (λ phase. whole_size phase.body + 24 ≤ 64 * stage_weight (update_nodes (flags_of schedule.now.standings) pipeline.now.funcs of.now.update.now) of.now.stage.now) }
+    ensures sizes { IfOk result (λ phase. whole_size phase.body + 24 ≤ 64 * stage_weight
+        (update_nodes (flags_of schedule.now.standings) pipeline.now.funcs of.now.update.now) of.now.stage.now) }
     ensures few_tasks { IfOk result (λ phase. phase.tasks ≤ 2 ^ 31) }
     ensures rounds { IfOk result RoundsMayBeAtOnce }
-    ensures stores { IfOk result (StoresWhatItNames pipeline.now schedule.now boxes.now place of.now.func.now of.now.at of.now.own.now of.now.update.now of.now.stage.now) }
+    ensures stores { IfOk result (StoresWhatItNames pipeline.now schedule.now boxes.now place of.now.func.now of.now.at
+        of.now.own.now of.now.update.now of.now.stage.now) }
 {
     let bytes = byte_inputs(alloc, pipeline.inputs())?;
     let extents = update_extents(of.own, of.update);
@@ -270,17 +297,23 @@ pub fn update_nest(
 ) -> Result<Stmt, AllocError>
     requires accepted { IsAccepted pipeline.now schedule.now }
     requires boxes { inferred pipeline.now schedule.now ≡ Ok boxes.now }
-    requires computed { spec.IsComputedIn pipeline.now schedule.now boxes.now place of.now.func.now of.now.plan.now of.now.own.now }
-    requires at { spec.IsUpdateAt schedule.now place of.now.func.now of.now.plan.now of.now.at of.now.update.now of.now.stage.now }
+    requires computed { spec.IsComputedIn pipeline.now schedule.now boxes.now place of.now.func.now of.now.plan.now
+        of.now.own.now }
+    requires at { spec.IsUpdateAt schedule.now place of.now.func.now of.now.plan.now of.now.at of.now.update.now
+        of.now.stage.now }
     requires corner { slice_get corners.now place ≡ Some corner.now }
-    ensures does { IfOk result (spec.DoesUpdate pipeline.now schedule.now boxes.now corners.now place of.now.func.now corner.now of.now.own.now of.now.at of.now.update.now) }
+    ensures does { IfOk result (spec.DoesUpdate pipeline.now schedule.now boxes.now corners.now place of.now.func.now
+        corner.now of.now.own.now of.now.at of.now.update.now) }
     ensures alone { IfOk result (StoresInIt place) }
-    ensures sound { IfOk result (spec.AreSoundLoops pipeline.now schedule.now boxes.now corners.now place corner.now of.now.own.now of.now.update.now) }
+    ensures sound { IfOk result (spec.AreSoundLoops pipeline.now schedule.now boxes.now corners.now place corner.now
+        of.now.own.now of.now.update.now) }
     ensures few { IfOk result (λ made. depth made ≤ 9) }
     ensures at_once { IfOk result MayAlwaysBeAtOnce }
     ensures about { IfOk result (λ made. is_about place made ≡ true) }
     ensures needs { IfOk result (λ made. greatest_need made ≤ most_need pipeline.now schedule.now) }
-    ensures sizes { IfOk result (λ made. AreShort corners.now → whole_size made ≤ 64 * stage_weight (update_nodes (flags_of schedule.now.standings) pipeline.now.funcs of.now.update.now) of.now.stage.now) }
+    ensures sizes { IfOk result (λ made. AreShort corners.now
+        → whole_size made ≤ 64 * stage_weight (update_nodes (flags_of schedule.now.standings) pipeline.now.funcs
+        of.now.update.now) of.now.stage.now) }
 {
     // What every pipeline keeps is known once its parts are read.
     let _funcs = pipeline.funcs();

@@ -50,7 +50,8 @@ pub fn counted_from(alloc: Global, coordinate: Expr, corner: &Linear) -> Result<
     ensures needs { IfOk result (λ made. need made ≡ need coordinate) }
     ensures leaf { IfOk result (λ made. (n : ℕ) → coordinate ≡ Expr.Number n → need_of made ≡ leaf) }
     ensures sizes { IfOk result (λ made. length corner.now.terms ≤ 5 → size made ≤ size coordinate + 26) }
-    ensures numbers { IfOk result (λ made. length corner.now.terms ≤ 5 → (n : ℕ) → coordinate ≡ Expr.Number n → (kept (size_of made) ≡ 0) × (size made ≤ 22)) }
+    ensures numbers { IfOk result (λ made. length corner.now.terms ≤ 5 → (n : ℕ) → coordinate ≡ Expr.Number n
+        → (kept (size_of made) ≡ 0) × (size made ≤ 22)) }
 {
     match coordinate {
         Expr::Number(number) => {
@@ -79,10 +80,12 @@ pub(crate) fn load(
 ) -> Result<Expr, AllocError>
     ensures follows { IfOk result (λ made. (values : Values) (reads : Reads) (given : List Point) (left right : Seen)
         → Follows corners.now values reads given x left → Follows corners.now values reads given y right
-        → Follows corners.now values reads given made ((algebra corners.now values reads).level (layer.Call2 source left right))) }
+        → Follows corners.now values reads given made ((algebra corners.now values reads).level
+        (layer.Call2 source left right))) }
     ensures needs { IfOk result (λ made. need made ≤ max (need x) (1 + need y)) }
     ensures alone { IfOk result (λ made. (n : ℕ) → y ≡ Expr.Number n → need made ≤ need x) }
-    ensures sizes { IfOk result (λ made. AreShort corners.now → (left : ℕ) (right : Option ℕ) → IsGiven (size x) left → IsGivenSecond y right → IsGiven (size made) (call_nodes left right)) }
+    ensures sizes { IfOk result (λ made. AreShort corners.now → (left : ℕ) (right : Option ℕ) → IsGiven (size x) left
+        → IsGivenSecond y right → IsGiven (size made) (call_nodes left right)) }
 {
     match corner_of(corners, source) {
         None => {

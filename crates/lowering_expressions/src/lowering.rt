@@ -53,7 +53,8 @@ fn variable_of(
     variable: Variable,
 ) -> Result<terms::Expr, AllocError>
     ensures follows { IfOk result (λ made. (corners : List Corner) (values : Values) (reads : Reads)
-        → Follows corners values reads (term_loads reads values variables.now) made (variable_terms reads values variables.now variable)) }
+        → Follows corners values reads (term_loads reads values variables.now) made
+        (variable_terms reads values variables.now variable)) }
     ensures needs { IfOk result (λ made. need made ≡ term_need variables.now variable) }
     ensures sizes { IfOk result (λ made. size made ≡ term_size variables.now variable) }
 {
@@ -88,10 +89,14 @@ fn lowered_in(
     variables: &Terms<'_>,
     expr: &Expr,
 ) -> Result<terms::Expr, AllocError>
-    ensures follows { IfOk result (λ made. (values : Values) (reads : Reads) → Follows corners.now values reads (term_loads reads values variables.now) made
-        (inlined (algebra corners.now values reads) (flagged flags.now) funcs.now count (variable_terms reads values variables.now) expr.now)) }
-    ensures needs { IfOk result (λ made. (most : Variables → ℕ) → AreTaken variables.now most → need made ≤ inlined taking (flagged flags.now) funcs.now count most expr.now) }
-    ensures sizes { IfOk result (λ made. AreShort corners.now → (nodes : Variables → ℕ) → AreGiven variables.now nodes → IsGiven (size made) (inlined counting (flagged flags.now) funcs.now count nodes expr.now)) }
+    ensures follows { IfOk result (λ made. (values : Values) (reads : Reads)
+        → Follows corners.now values reads (term_loads reads values variables.now) made
+        (inlined (algebra corners.now values reads) (flagged flags.now) funcs.now count
+        (variable_terms reads values variables.now) expr.now)) }
+    ensures needs { IfOk result (λ made. (most : Variables → ℕ) → AreTaken variables.now most
+        → need made ≤ inlined taking (flagged flags.now) funcs.now count most expr.now) }
+    ensures sizes { IfOk result (λ made. AreShort corners.now → (nodes : Variables → ℕ) → AreGiven variables.now nodes
+        → IsGiven (size made) (inlined counting (flagged flags.now) funcs.now count nodes expr.now)) }
 {
     match expr {
         Expr::Number(own) => Ok(number(*own)),
@@ -151,11 +156,15 @@ fn called(
     ensures follows { IfOk result (λ made. (values : Values) (reads : Reads) (given : List Point) (left right : Seen)
         → Follows corners.now values reads given x left → Follows corners.now values reads given y right
         → Follows corners.now values reads given made
-        (answered ((algebra corners.now values reads).level (layer.Call2 source left right)) left (Some right) (answer (inside (algebra corners.now values reads) (flagged flags.now) funcs.now count) source))) }
+        (answered ((algebra corners.now values reads).level (layer.Call2 source left right)) left (Some right)
+        (answer (inside (algebra corners.now values reads) (flagged flags.now) funcs.now count) source))) }
     ensures needs { IfOk result (λ made. (left : ℕ) (right : Option ℕ) → need x ≤ left → IsSecond y right
-        → need made ≤ answered (call_need left right) left right (answer (inside taking (flagged flags.now) funcs.now count) source)) }
-    ensures sizes { IfOk result (λ made. AreShort corners.now → (left : ℕ) (right : Option ℕ) → IsGiven (size x) left → IsGivenSecond y right
-        → IsGiven (size made) (answered (call_nodes left right) left right (answer (inside counting (flagged flags.now) funcs.now count) source))) }
+        → need made ≤ answered (call_need left right) left right
+        (answer (inside taking (flagged flags.now) funcs.now count) source)) }
+    ensures sizes { IfOk result (λ made. AreShort corners.now → (left : ℕ) (right : Option ℕ) → IsGiven (size x) left
+        → IsGivenSecond y right
+        → IsGiven (size made) (answered (call_nodes left right) left right
+        (answer (inside counting (flagged flags.now) funcs.now count) source))) }
 {
     match source {
         Source::Input(_) => {
@@ -198,12 +207,16 @@ pub fn lowered(
     expr: &Expr,
 ) -> Result<terms::Expr, AllocError>
     ensures value { IfOk result (λ made. (reads : Reads) (values : Values) → value reads values made
-        ≡ inlined (valuing (placed corners.now values reads)) (flagged flags.now) funcs.now count (variable_in (environment values variables.now)) expr.now) }
+        ≡ inlined (valuing (placed corners.now values reads)) (flagged flags.now) funcs.now count
+        (variable_in (environment values variables.now)) expr.now) }
     ensures loads { IfOk result (λ made. (reads : Reads) (values : Values) (test : Point → Bool)
-        → Hold (λ point. test (place corners.now values point)) (inlined (seeing (placed corners.now values reads)) (flagged flags.now) funcs.now count (seen_variable (environment values variables.now)) expr.now).points
+        → Hold (λ point. test (place corners.now values point)) (inlined (seeing (placed corners.now values reads))
+        (flagged flags.now) funcs.now count (seen_variable (environment values variables.now)) expr.now).points
         → Hold test (loads reads values made)) }
-    ensures needs { IfOk result (λ made. need made ≤ inlined taking (flagged flags.now) funcs.now count (λ v. 1) expr.now) }
-    ensures sizes { IfOk result (λ made. AreShort corners.now → AreShortArguments variables.now → IsGiven (size made) (inlined counting (flagged flags.now) funcs.now count (λ v. 1) expr.now)) }
+    ensures needs { IfOk result (λ made. need made ≤ inlined taking (flagged flags.now) funcs.now count (λ v. 1)
+        expr.now) }
+    ensures sizes { IfOk result (λ made. AreShort corners.now → AreShortArguments variables.now
+        → IsGiven (size made) (inlined counting (flagged flags.now) funcs.now count (λ v. 1) expr.now)) }
 {
     let first_argument = terms::Expr::Linear(variables.first_argument.copy(alloc)?);
     let second_argument = terms::Expr::Linear(variables.second_argument.copy(alloc)?);

@@ -106,9 +106,11 @@ pub(crate) fn binary(
     a: Expr,
     b: Expr,
 ) -> Result<Expr, AllocError>
-    ensures follows { IfOk result (λ made. (corners : List Corner) (values : Values) (reads : Reads) (given : List Point) (left right : Seen)
+    ensures follows { IfOk result (λ made. (corners : List Corner) (values : Values) (reads : Reads)
+        (given : List Point) (left right : Seen)
         → Follows corners values reads given a left → Follows corners values reads given b right
-        → Follows corners values reads given made ((algebra corners values reads).level (layer.Binary operation left right))) }
+        → Follows corners values reads given made ((algebra corners values reads).level
+        (layer.Binary operation left right))) }
     ensures needs { IfOk result (λ made. need made ≤ max (need a) (1 + need b)) }
     ensures sizes { IfOk result (λ made. size made ≤ size a + size b + 19) }
 {
@@ -126,7 +128,8 @@ pub(crate) fn binary(
 
 /// What is added to a left side, if the operation adds a number to it or takes one away.
 fn shift_of(operation: Operation, right: &Expr) -> Option<u32>
-    ensures { IfSome result (λ n. (reads : Reads) (values : Values) (x : ℕ) → word.applied operation x (value reads values right.now) ≡ word.add x n) }
+    ensures { IfSome result (λ n. (reads : Reads) (values : Values) (x : ℕ)
+        → word.applied operation x (value reads values right.now) ≡ word.add x n) }
 {
     match right {
         Expr::Number(number) => match operation {
@@ -140,8 +143,10 @@ fn shift_of(operation: Operation, right: &Expr) -> Option<u32>
 
 /// An expression and so much more.
 fn shifted(alloc: Global, own: Expr, number: u32) -> Result<Expr, AllocError>
-    ensures value { IfOk result (λ made. (reads : Reads) (values : Values) → value reads values made ≡ word.add (value reads values own) number) }
-    ensures loads { IfOk result (λ made. (reads : Reads) (values : Values) (test : Point → Bool) → Hold test (loads reads values own) → Hold test (loads reads values made)) }
+    ensures value { IfOk result (λ made. (reads : Reads) (values : Values) → value reads values made
+        ≡ word.add (value reads values own) number) }
+    ensures loads { IfOk result (λ made. (reads : Reads) (values : Values) (test : Point → Bool)
+        → Hold test (loads reads values own) → Hold test (loads reads values made)) }
     ensures needs { IfOk result (λ made. need made ≤ need own) }
     ensures sizes { IfOk result (λ made. size made ≤ size own + 6) }
 {
@@ -156,8 +161,10 @@ fn shifted(alloc: Global, own: Expr, number: u32) -> Result<Expr, AllocError>
 
 /// A quotient.
 pub(crate) fn divide(alloc: Global, a: Expr, divisor: u32) -> Result<Expr, AllocError>
-    ensures follows { IfOk result (λ made. (corners : List Corner) (values : Values) (reads : Reads) (given : List Point) (own : Seen)
-        → Follows corners values reads given a own → Follows corners values reads given made ((algebra corners values reads).level (layer.Divide own divisor))) }
+    ensures follows { IfOk result (λ made. (corners : List Corner) (values : Values) (reads : Reads)
+        (given : List Point) (own : Seen)
+        → Follows corners values reads given a own
+        → Follows corners values reads given made ((algebra corners values reads).level (layer.Divide own divisor))) }
     ensures needs { IfOk result (λ made. need made ≤ max (need a) (divisor_need divisor)) }
     ensures sizes { IfOk result (λ made. size made ≤ size a + 11) }
 {
@@ -167,8 +174,11 @@ pub(crate) fn divide(alloc: Global, a: Expr, divisor: u32) -> Result<Expr, Alloc
 
 /// A remainder.
 pub(crate) fn remainder(alloc: Global, a: Expr, divisor: u32) -> Result<Expr, AllocError>
-    ensures follows { IfOk result (λ made. (corners : List Corner) (values : Values) (reads : Reads) (given : List Point) (own : Seen)
-        → Follows corners values reads given a own → Follows corners values reads given made ((algebra corners values reads).level (layer.Remainder own divisor))) }
+    ensures follows { IfOk result (λ made. (corners : List Corner) (values : Values) (reads : Reads)
+        (given : List Point) (own : Seen)
+        → Follows corners values reads given a own
+        → Follows corners values reads given made ((algebra corners values reads).level
+        (layer.Remainder own divisor))) }
     ensures needs { IfOk result (λ made. need made ≤ max (need a) (divisor_need divisor)) }
     ensures sizes { IfOk result (λ made. size made ≤ size a + 13) }
 {
@@ -178,9 +188,12 @@ pub(crate) fn remainder(alloc: Global, a: Expr, divisor: u32) -> Result<Expr, Al
 
 /// A choice.
 pub(crate) fn select(alloc: Global, c: Expr, a: Expr, b: Expr) -> Result<Expr, AllocError>
-    ensures follows { IfOk result (λ made. (corners : List Corner) (values : Values) (reads : Reads) (given : List Point) (test left right : Seen)
-        → Follows corners values reads given c test → Follows corners values reads given a left → Follows corners values reads given b right
-        → Follows corners values reads given made ((algebra corners values reads).level (layer.Select test left right))) }
+    ensures follows { IfOk result (λ made. (corners : List Corner) (values : Values) (reads : Reads)
+        (given : List Point) (test left right : Seen)
+        → Follows corners values reads given c test → Follows corners values reads given a left
+        → Follows corners values reads given b right
+        → Follows corners values reads given made ((algebra corners values reads).level
+        (layer.Select test left right))) }
     ensures needs { IfOk result (λ made. need made ≤ max (need c) (max (1 + need a) (2 + need b))) }
     ensures sizes { IfOk result (λ made. size made ≤ size c + size a + size b + 33) }
 {

@@ -1,8 +1,9 @@
-//! Statements with the loops of a stage around them, whose contracts say what the loops do and not what they look like, but
-//! for how many counters they add, that expressions need no more registers, and how many words of code they ask for.
+//! Statements with the loops of a stage around them, whose contracts say what the loops do and not what they look like,
+//! but for how many counters they add, that expressions need no more registers, and how many words of code they ask
+//! for.
 //!
-//! - [`nests`]: **a body under each of the values that a stage's loops visit, in order** (`specs/Nests.antt`). Whether the rounds
-//!   of a vectorized loop may be done at once: `specs/Rounds.antt`.
+//! - [`nests`]: **a body under each of the values that a stage's loops visit, in order** (`specs/Nests.antt`). Whether
+//!   the rounds of a vectorized loop may be done at once: `specs/Rounds.antt`.
 //! - [`splits`]: the values of loops that are split.
 //! - [`loops`]: loops around a body.
 //! - [`laws`]: a statement repeats itself.

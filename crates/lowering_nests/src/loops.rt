@@ -58,18 +58,25 @@ fn looped(
     body: Stmt,
 ) -> Result<Stmt, AllocError>
     ensures runs { IfOk result (λ made. (points : Points) (inputs : Planes) (values : Values) (funcs : Planes)
-        → run points inputs made values funcs ≡ turns count (λ turn. run points inputs body (with counter turn values)) funcs) }
-    ensures traces { IfOk result (λ made. (points : Points) (inputs : Planes) (place x y : ℕ) (values : Values) (so_far : Trace)
-        → trace points inputs place x y made values so_far ≡ turns count (λ turn. trace points inputs place x y body (with counter turn values)) so_far) }
+        → run points inputs made values funcs ≡ turns count (λ turn. run points inputs body (with counter turn values))
+        funcs) }
+    ensures traces { IfOk result (λ made. (points : Points) (inputs : Planes) (place x y : ℕ) (values : Values)
+        (so_far : Trace)
+        → trace points inputs place x y made values so_far
+        ≡ turns count (λ turn. trace points inputs place x y body (with counter turn values)) so_far) }
     ensures sound { IfOk result (λ made. (reads : Reads) (written : Points) (loaded : Point → Bool) (values : Values)
-        → is_sound reads written loaded made values ≡ every count (λ turn. is_sound reads written loaded body (with counter turn values))) }
+        → is_sound reads written loaded made values
+        ≡ every count (λ turn. is_sound reads written loaded body (with counter turn values))) }
     ensures depth { IfOk result (λ made. depth made ≡ suc (depth body)) }
     ensures needs { IfOk result (λ made. greatest_need made ≡ greatest_need body) }
     ensures sizes { IfOk result (λ made. whole_size made ≡ loop_room (is_laid_out kind) count (whole_size body)) }
-    ensures rounds { IfOk result (λ made. (reads : Reads) → rounds reads made ≡ rounds_at reads (layer.For counter count kind (rounds reads body))) }
-    ensures about { IfOk result (λ made. (place : ℕ) → is_about place made ≡ is_about_at place (layer.For counter count kind (is_about place body))) }
+    ensures rounds { IfOk result (λ made. (reads : Reads) → rounds reads made
+        ≡ rounds_at reads (layer.For counter count kind (rounds reads body))) }
+    ensures about { IfOk result (λ made. (place : ℕ) → is_about place made
+        ≡ is_about_at place (layer.For counter count kind (is_about place body))) }
     ensures in_runs { IfOk result (λ made. (reads : Reads) (place x y : ℕ) (expected : Values → Bool)
-        → runs reads place x y expected made ≡ runs_at reads place x y expected (layer.For counter count kind (runs reads place x y expected body))) }
+        → runs reads place x y expected made
+        ≡ runs_at reads place x y expected (layer.For counter count kind (runs reads place x y expected body))) }
 {
     let body = Boxed::new(alloc, body)?;
     Ok(Stmt::For(counter, count, kind, body))
@@ -89,17 +96,27 @@ pub fn loop_once(
 ) -> Result<Stmt, AllocError>
     requires splits { counts.AreSplits sizes.now.splits }
     requires few { AreFew sizes.now.extents }
-    ensures runs { IfOk result (λ made. (points : Points) (inputs : Planes) (values : Values) (funcs : Planes) → run points inputs made values funcs
-        ≡ turns (counts.counts sizes.now.extents sizes.now.splits own.now.id) (λ turn. run points inputs body (with (record { func = func; id = own.now.id }) turn values)) funcs) }
-    ensures traces { IfOk result (λ made. (points : Points) (inputs : Planes) (place x y : ℕ) (values : Values) (so_far : Trace) → trace points inputs place x y made values so_far
-        ≡ turns (counts.counts sizes.now.extents sizes.now.splits own.now.id) (λ turn. trace points inputs place x y body (with (record { func = func; id = own.now.id }) turn values)) so_far) }
-    ensures sound { IfOk result (λ made. (reads : Reads) (written : Points) (loaded : Point → Bool) (values : Values) → is_sound reads written loaded made values
-        ≡ every (counts.counts sizes.now.extents sizes.now.splits own.now.id) (λ turn. is_sound reads written loaded body (with (record { func = func; id = own.now.id }) turn values))) }
-    ensures repeats { IfOk result (λ made. (leaf : Stmt) (list : counts.Values → List counts.Values) → Repeats func body leaf list
-        → Repeats func made leaf (λ outer. upto (counts.counts sizes.now.extents sizes.now.splits own.now.id) (λ turn. list (counts.with own.now.id turn outer)))) }
+    ensures runs { IfOk result (λ made. (points : Points) (inputs : Planes) (values : Values) (funcs : Planes)
+        → run points inputs made values funcs
+        ≡ turns (counts.counts sizes.now.extents sizes.now.splits own.now.id)
+        (λ turn. run points inputs body (with (record { func = func; id = own.now.id }) turn values)) funcs) }
+    ensures traces { IfOk result (λ made. (points : Points) (inputs : Planes) (place x y : ℕ) (values : Values)
+        (so_far : Trace) → trace points inputs place x y made values so_far
+        ≡ turns (counts.counts sizes.now.extents sizes.now.splits own.now.id) (λ turn. trace points inputs place x y
+        body (with (record { func = func; id = own.now.id }) turn values)) so_far) }
+    ensures sound { IfOk result (λ made. (reads : Reads) (written : Points) (loaded : Point → Bool) (values : Values)
+        → is_sound reads written loaded made values
+        ≡ every (counts.counts sizes.now.extents sizes.now.splits own.now.id) (λ turn. is_sound reads written loaded
+        body (with (record { func = func; id = own.now.id }) turn values))) }
+    ensures repeats { IfOk result (λ made. (leaf : Stmt) (list : counts.Values → List counts.Values)
+        → Repeats func body leaf list
+        → Repeats func made leaf (λ outer. upto (counts.counts sizes.now.extents sizes.now.splits own.now.id)
+        (λ turn. list (counts.with own.now.id turn outer)))) }
     ensures depth { IfOk result (λ made. depth made ≡ suc (depth body)) }
     ensures needs { IfOk result (λ made. greatest_need made ≡ greatest_need body) }
-    ensures sizes { IfOk result (λ made. whole_size made ≡ loop_room (is_marked marks.Unrolled own.now) (counts.counts sizes.now.extents sizes.now.splits own.now.id) (whole_size body)) }
+    ensures sizes { IfOk result (λ made. whole_size made
+        ≡ loop_room (is_marked marks.Unrolled own.now) (counts.counts sizes.now.extents sizes.now.splits own.now.id)
+        (whole_size body)) }
     ensures rounds { IfOk result (GoesAround func (counts.counts sizes.now.extents sizes.now.splits) own.now body) }
     ensures about { IfOk result (λ made. is_about func made ≡ is_about func body) }
     ensures in_runs { IfOk result (RunsAround func (counts.counts sizes.now.extents sizes.now.splits) own.now body) }
@@ -125,12 +142,15 @@ pub fn with_loops(
 ) -> Result<Stmt, AllocError>
     requires splits { counts.AreSplits sizes.now.splits }
     requires few { AreFew sizes.now.extents }
-    ensures repeats { IfOk result (λ made. (leaf : Stmt) (list : counts.Values → List counts.Values) → Repeats func body leaf list
+    ensures repeats { IfOk result (λ made. (leaf : Stmt) (list : counts.Values → List counts.Values)
+        → Repeats func body leaf list
         → Repeats func made leaf (nest (counts.counts sizes.now.extents sizes.now.splits) loops.now list)) }
     ensures depth { IfOk result (λ made. depth made ≡ length loops.now + depth body) }
     ensures needs { IfOk result (λ made. greatest_need made ≡ greatest_need body) }
-    ensures sizes { IfOk result (λ made. whole_size made ≡ nest_size (counts.counts sizes.now.extents sizes.now.splits) loops.now (whole_size body)) }
-    ensures rounds { IfOk result (λ made. (outside : List Loop) → MayBeAtOnce func (counts.counts sizes.now.extents sizes.now.splits) (loops.now ++ outside) body
+    ensures sizes { IfOk result (λ made. whole_size made ≡ nest_size (counts.counts sizes.now.extents sizes.now.splits)
+        loops.now (whole_size body)) }
+    ensures rounds { IfOk result (λ made. (outside : List Loop)
+        → MayBeAtOnce func (counts.counts sizes.now.extents sizes.now.splits) (loops.now ++ outside) body
         → MayBeAround func (counts.counts sizes.now.extents sizes.now.splits) loops.now outside body
         → MayBeAtOnce func (counts.counts sizes.now.extents sizes.now.splits) outside made) }
     ensures about { IfOk result (λ made. is_about func made ≡ is_about func body) }

@@ -38,8 +38,10 @@ pub fn with_nest(
     ensures repeats { IfOk result (λ made. Repeats func made body (wholes extents splits.now loops.now)) }
     ensures depth { IfOk result (λ made. depth made ≡ length loops.now + (length splits.now + depth body)) }
     ensures needs { IfOk result (λ made. greatest_need made ≡ greatest_need body) }
-    ensures sizes { IfOk result (λ made. whole_size made ≡ nest_size (counts.counts extents splits.now) loops.now (25 * length splits.now + whole_size body)) }
-    ensures rounds { IfOk result (λ made. (outside : List Loop) → IsLeaf body → MayBeUnder func extents splits.now loops.now outside body
+    ensures sizes { IfOk result (λ made. whole_size made ≡ nest_size (counts.counts extents splits.now) loops.now
+        (25 * length splits.now + whole_size body)) }
+    ensures rounds { IfOk result (λ made. (outside : List Loop) → IsLeaf body
+        → MayBeUnder func extents splits.now loops.now outside body
         → MayBeAtOnce func (counts.counts extents splits.now) outside made) }
     ensures about { IfOk result (λ made. is_about func made ≡ is_about func body) }
 {

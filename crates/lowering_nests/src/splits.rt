@@ -1,6 +1,7 @@
 //! The values of loops that are split.
 
-ghost use Rattle.std.specs.Prelude.{◌≡◌, ℕ, Bool, ◌+◌, ◌*◌, ◌≤◌, ◌<◌, ◌^◌, List, nat_lt, true, if◌then◌else◌, IfOk, length, suc};
+ghost use Rattle.std.specs.Prelude.{◌≡◌, ℕ, Bool, ◌+◌, ◌*◌, ◌≤◌, ◌<◌, ◌^◌, List, nat_lt, true, if◌then◌else◌, IfOk};
+ghost use Rattle.std.specs.Prelude.{length, suc};
 ghost use Rattle.halide_pipeline.specs.Pixel.{Planes, Reads};
 ghost use Rattle.halide_pipeline.specs.Points.{Point};
 ghost use Rattle.loop_ir.specs.Buffers.{Points};
@@ -32,7 +33,8 @@ fn whole_of(func: usize, place: usize, split: Split, extent: u32) -> Whole
     requires factor { split.factor ≤ 64 }
     requires few { extent < 2 ^ 25 }
     ensures { (values : Values) → AreSmall (loops_of func values)
-        → whole_value result values ≡ begin_of split.tail split.factor extent (loops_of func values (LoopId.Outer place)) + loops_of func values (LoopId.Inner place) }
+        → whole_value result values ≡ begin_of split.tail split.factor extent
+        (loops_of func values (LoopId.Outer place)) + loops_of func values (LoopId.Inner place) }
 {
     let last = match split.tail {
         Tail::Guard => None,
@@ -60,16 +62,23 @@ fn bound(
     extent: u32,
     body: Stmt,
 ) -> Result<Stmt, AllocError>
-    ensures runs { IfOk result (λ made. (points : Points) (inputs : Planes) (values : Values) (funcs : Planes) → run points inputs made values funcs
-        ≡ (if nat_lt (whole_value whole values) extent then run points inputs body (with counter (whole_value whole values) values) funcs else funcs)) }
-    ensures traces { IfOk result (λ made. (points : Points) (inputs : Planes) (place x y : ℕ) (values : Values) (so_far : Trace) → trace points inputs place x y made values so_far
-        ≡ (if nat_lt (whole_value whole values) extent then trace points inputs place x y body (with counter (whole_value whole values) values) so_far else so_far)) }
-    ensures sound { IfOk result (λ made. (reads : Reads) (written : Points) (loaded : Point → Bool) (values : Values) → is_sound reads written loaded made values
-        ≡ (if nat_lt (whole_value whole values) extent then is_sound reads written loaded body (with counter (whole_value whole values) values) else true)) }
+    ensures runs { IfOk result (λ made. (points : Points) (inputs : Planes) (values : Values) (funcs : Planes)
+        → run points inputs made values funcs
+        ≡ (if nat_lt (whole_value whole values) extent then run points inputs body
+        (with counter (whole_value whole values) values) funcs else funcs)) }
+    ensures traces { IfOk result (λ made. (points : Points) (inputs : Planes) (place x y : ℕ) (values : Values)
+        (so_far : Trace) → trace points inputs place x y made values so_far
+        ≡ (if nat_lt (whole_value whole values) extent then trace points inputs place x y body
+        (with counter (whole_value whole values) values) so_far else so_far)) }
+    ensures sound { IfOk result (λ made. (reads : Reads) (written : Points) (loaded : Point → Bool) (values : Values)
+        → is_sound reads written loaded made values
+        ≡ (if nat_lt (whole_value whole values) extent then is_sound reads written loaded body
+        (with counter (whole_value whole values) values) else true)) }
     ensures depth { IfOk result (λ made. depth made ≡ suc (depth body)) }
     ensures needs { IfOk result (λ made. greatest_need made ≡ greatest_need body) }
     ensures sizes { IfOk result (λ made. whole_size made ≡ whole_size body + 25) }
-    ensures rounds { IfOk result (λ made. (reads : Reads) → rounds reads made ≡ rounds_at reads (layer.Bind counter whole extent (rounds reads body))) }
+    ensures rounds { IfOk result (λ made. (reads : Reads) → rounds reads made
+        ≡ rounds_at reads (layer.Bind counter whole extent (rounds reads body))) }
     ensures about { IfOk result (λ made. (of : ℕ) → is_about of made ≡ is_about of body) }
 {
     let body = Boxed::new(alloc, body)?;
@@ -88,7 +97,8 @@ fn split_once(
     requires factor { split.factor ≤ 64 }
     requires few { extent < 2 ^ 25 }
     ensures repeats { IfOk result (λ made. (before : counts.Values) → before split.of ≡ extent
-        → (leaf : Stmt) (list : counts.Values → List counts.Values) → Repeats func body leaf list → Repeats func made leaf (split_body before place split list)) }
+        → (leaf : Stmt) (list : counts.Values → List counts.Values) → Repeats func body leaf list
+        → Repeats func made leaf (split_body before place split list)) }
     ensures depth { IfOk result (λ made. depth made ≡ suc (depth body)) }
     ensures needs { IfOk result (λ made. greatest_need made ≡ greatest_need body) }
     ensures sizes { IfOk result (λ made. whole_size made ≡ whole_size body + 25) }
@@ -126,7 +136,8 @@ pub fn with_splits(
 ) -> Result<Stmt, AllocError>
     requires splits { counts.AreSplits splits.now }
     requires few { AreFew extents }
-    ensures repeats { IfOk result (λ made. (leaf : Stmt) (list : counts.Values → List counts.Values) → Repeats func body leaf list → Repeats func made leaf (over_loops extents splits.now list)) }
+    ensures repeats { IfOk result (λ made. (leaf : Stmt) (list : counts.Values → List counts.Values)
+        → Repeats func body leaf list → Repeats func made leaf (over_loops extents splits.now list)) }
     ensures depth { IfOk result (λ made. depth made ≡ length splits.now + depth body) }
     ensures needs { IfOk result (λ made. greatest_need made ≡ greatest_need body) }
     ensures sizes { IfOk result (λ made. whole_size made ≡ 25 * length splits.now + whole_size body) }

@@ -1,6 +1,7 @@
 //! Harts over one memory, stepped one at a time.
 
-ghost use Rattle.std.specs.Prelude.{◌≡◌, ◌+◌, ◌-◌, ◌*◌, ◌/◌, ◌%◌, ◌^◌, ◌<◌, ◌≤◌, ℕ, List, length, map, option_map, take, replicate, slice_index, OnOk, IfOk, IfErr, All, IsTrue};
+ghost use Rattle.std.specs.Prelude.{◌≡◌, ◌+◌, ◌-◌, ◌*◌, ◌/◌, ◌%◌, ◌^◌, ◌<◌, ◌≤◌, ℕ, List, length, map, option_map};
+ghost use Rattle.std.specs.Prelude.{take, replicate, slice_index, OnOk, IfOk, IfErr, All, IsTrue};
 ghost use Rattle.memory.specs.Addresses.{most_words, most_bytes, text_start, is_text_word, fetched};
 ghost use Rattle.rv_encoding.specs.Decoding.{decoded};
 ghost use Rattle.hart_core.specs.HartState.{register, vector};
@@ -250,8 +251,9 @@ impl Machine {
     }
 }
 
-/// Turns of a hart that runs, over a memory whose words mean this, until one doesn't step or so many are made: it runs on
-/// exactly where a turn steps, so that its status is never read. Hart, memory and meanings are found once for all turns.
+/// Turns of a hart that runs, over a memory whose words mean this, until one doesn't step or so many are made: it runs
+/// on exactly where a turn steps, so that its status is never read. Hart, memory and meanings are found once for all
+/// turns.
 fn run_alone(hart: &mut Hart, memory: &mut Memory, meanings: &[Meaning], most: u64) -> Stretch
     requires runs { hart.old.status ≡ Status.Running }
     requires meant { meanings.now ≡ map word_meaning memory.old.text }
@@ -294,7 +296,8 @@ fn step_meant(hart: &mut Hart, memory: &mut Memory, meanings: &[Meaning]) -> Out
 /// begins there.
 fn meaning_at(meanings: &[Meaning], pc: u32) -> Option<&Meaning>
     requires { length meanings.now ≤ most_words }
-    ensures { (text : List ℕ) → meanings.now ≡ map word_meaning text → option_map (λ meaning. insn_of meaning.now) result ≡ option_map decoded (fetched text pc) }
+    ensures { (text : List ℕ) → meanings.now ≡ map word_meaning text
+        → option_map (λ meaning. insn_of meaning.now) result ≡ option_map decoded (fetched text pc) }
 {
     meanings.get(place_at(offset_in_text(pc)) as usize)
 }

@@ -74,7 +74,8 @@ fn attempt(
     asked: &mut Vec<Asked>,
 ) -> Result<Option<u32>, AllocError>
     requires tables { AreTables scene.now }
-    ensures { IfOk result (λ found. IfSome found (λ v. v ≡ spec.value (reads_in scene.now own states.Earlier) environment.now expr.now)) }
+    ensures { IfOk result (λ found. IfSome found (λ v. v ≡ spec.value (reads_in scene.now own states.Earlier)
+        environment.now expr.now)) }
 {
     match expr {
         Expr::Number(number) => Ok(Some(*number)),

@@ -1,11 +1,14 @@
 //! The output of a pipeline.
 
-ghost use Rattle.std.specs.Prelude.{◌≡◌, ◌<◌, ◌≤◌, ◌+◌, ◌*◌, ◌/◌, ◌%◌, ◌^◌, ◌==◌, ◌&&◌, ℕ, Ok, Some, None, IfSome, OnOk, slice_get, IfOk, IfErr, true, length, nat_lt, slice_index, ℕ};
+ghost use Rattle.std.specs.Prelude.{◌≡◌, ◌<◌, ◌≤◌, ◌+◌, ◌*◌, ◌/◌, ◌%◌, ◌^◌, ◌==◌, ◌&&◌, ℕ, Ok, Some, None, IfSome};
+ghost use Rattle.std.specs.Prelude.{OnOk, slice_get, IfOk, IfErr, true, length, nat_lt, slice_index, ℕ};
 ghost use Rattle.std.specs.List.{AllZip, list_all, range_with_len};
 ghost use Rattle.halide_pipeline.specs.Pixel.{Plane};
 ghost use Rattle.picture.specs.Slices.{is_forward};
 ghost use Rattle.picture.specs.Evaluated.{is_size, are_sizes, holds_bytes, hold_bytes, judged, Evaluates};
-ghost use Rattle.picture.specs.inner.Evaluation.{plane_of, IsNumberedRow, AreNumberedRows, AreNumbered, AreTables, AreTablesOf, AreKnownOf, AreSlicesOf, IsMemo, IsSliceOf, IsTable, IsAt};
+ghost use Rattle.picture.specs.inner.Evaluation.{plane_of, IsNumberedRow, AreNumberedRows, AreNumbered, AreTables};
+ghost use Rattle.picture.specs.inner.Evaluation.{AreTablesOf, AreKnownOf, AreSlicesOf, IsMemo, IsSliceOf, IsTable};
+ghost use Rattle.picture.specs.inner.Evaluation.{IsAt};
 
 use crate::asking::{prepare_box, prepare_slices};
 use crate::boxes::{Bounds, Slices, Wanted, bounds_of, find, slices_of};
@@ -96,7 +99,8 @@ fn numbered_row(
     number: usize,
 ) -> Result<Vec<u32>, AllocError>
     requires tables { AreTables scene.now }
-    ensures { IfOk result (λ row. IsNumberedRow (plane_of scene.now place) bounds.left bounds.top bounds.width number row.items) }
+    ensures { IfOk result (λ row. IsNumberedRow (plane_of scene.now place) bounds.left bounds.top bounds.width number
+        row.items) }
 {
     let y = words::add(bounds.top, (number % (1 << 32)) as u32);
     let row = pixel_row(alloc, scene, place, bounds.left, y, bounds.width as usize)?;
@@ -112,7 +116,8 @@ fn fill(
     bounds: Bounds,
 ) -> Result<Vec<Vec<u32>>, AllocError>
     requires tables { AreTables scene.now }
-    ensures { IfOk result (λ rows. AllZip (λ number row. IsNumberedRow (plane_of scene.now place) bounds.left bounds.top bounds.width number row.items) (range_with_len 0 bounds.height) rows.items) }
+    ensures { IfOk result (λ rows. AllZip (λ number row. IsNumberedRow (plane_of scene.now place) bounds.left bounds.top
+        bounds.width number row.items) (range_with_len 0 bounds.height) rows.items) }
 {
     let scene = *scene;
     let rows: Result<Vec<Vec<u32>>, AllocError> = (0..bounds.height as usize)
@@ -120,7 +125,8 @@ fn fill(
         .map(
             move |number: usize| -> Result<Vec<u32>, AllocError>
                 requires { AreTables scene }
-                ensures { IfOk result (λ row. IsNumberedRow (plane_of scene.entry place) bounds.left bounds.top bounds.width number row.items) }
+                ensures { IfOk result (λ row. IsNumberedRow (plane_of scene.entry place) bounds.left bounds.top
+                    bounds.width number row.items) }
             { numbered_row(alloc, &scene, place, bounds, number) },
         )
         .collect(rt, alloc)?;
@@ -129,7 +135,8 @@ fn fill(
 
 /// Rows one behind the other.
 fn joined(alloc: Global, rows: &[Vec<u32>]) -> Result<Vec<u32>, AllocError>
-    ensures { (plane : Plane) (left top width : ℕ) → AreNumberedRows plane left top width rows.now → IfOk result (λ pixels. AreNumbered plane left top width (length rows.now) pixels.items) }
+    ensures { (plane : Plane) (left top width : ℕ) → AreNumberedRows plane left top width rows.now
+        → IfOk result (λ pixels. AreNumbered plane left top width (length rows.now) pixels.items) }
 {
     let mut pixels = Vec::new(alloc);
     for row in rows {
@@ -209,7 +216,8 @@ fn run_slices(
         .into_par_iter()
         .map(
             move |number: usize| -> Result<Slice, AllocError>
-                requires { AreTables scene × (slice_get scene.funcs.now own ≡ Some func.now) × (slice_get func.now.updates updates ≡ Some update.now) × (is_forward update.now ≡ true) }
+                requires { AreTables scene × (slice_get scene.funcs.now own ≡ Some func.now)
+                    × (slice_get func.now.updates updates ≡ Some update.now) × (is_forward update.now ≡ true) }
                 ensures { IfOk result (IsSliceOf scene.entry.funcs.now scene.entry.pictures.now own updates) }
             { numbered_slice(alloc, &scene, own, func, updates, update, wanted, number) },
         )

@@ -44,7 +44,8 @@ fn is_second_argument(variable: Variable) -> bool
 
 /// Whether an expression is the first argument.
 fn is_first(expr: &Expr) -> bool
-    ensures { result ≡ true → (reads : spec.Reads) (point : EnvironmentState) → spec.value reads point expr.now ≡ point.first_argument }
+    ensures { result ≡ true → (reads : spec.Reads) (point : EnvironmentState) → spec.value reads point expr.now
+        ≡ point.first_argument }
 {
     match expr {
         Expr::Variable(variable) => is_first_argument(*variable),
@@ -54,7 +55,8 @@ fn is_first(expr: &Expr) -> bool
 
 /// Whether an expression is the second argument.
 fn is_second(expr: &Expr) -> bool
-    ensures { result ≡ true → (reads : spec.Reads) (point : EnvironmentState) → spec.value reads point expr.now ≡ point.second_argument }
+    ensures { result ≡ true → (reads : spec.Reads) (point : EnvironmentState) → spec.value reads point expr.now
+        ≡ point.second_argument }
 {
     match expr {
         Expr::Variable(variable) => is_second_argument(*variable),
@@ -64,7 +66,8 @@ fn is_second(expr: &Expr) -> bool
 
 /// Whether an index that may be written is this row's wherever the second argument is.
 fn is_in_row(index: &Option<Expr>, y: u32) -> bool
-    ensures { result ≡ true → (reads : spec.Reads) (point : EnvironmentState) → point.second_argument ≡ y → spec.index_value reads point index.now ≡ y }
+    ensures { result ≡ true → (reads : spec.Reads) (point : EnvironmentState) → point.second_argument ≡ y
+        → spec.index_value reads point index.now ≡ y }
 {
     match index {
         None => y == 0,
@@ -111,7 +114,8 @@ fn next_row(
     requires long { length before.now ≡ stretch.width }
     ensures len { IfOk result (λ found. IfSome found (λ pixels. length pixels.items ≡ stretch.width)) }
     ensures values { (plane : spec.Plane) → IsRowOf plane stretch before.now
-        → IfOk result (λ found. IfSome found (λ pixels. IsRowOf (one_more scene.now own update.now number plane) stretch pixels.items)) }
+        → IfOk result (λ found. IfSome found (λ pixels. IsRowOf (one_more scene.now own update.now number plane) stretch
+        pixels.items)) }
 {
     let start = at_reduction(update, number, stretch.left, stretch.y);
     let line = Line::Pixels(start, before);
@@ -136,7 +140,9 @@ fn over_pixels(
     requires narrow { stretch.width < 2 ^ 32 }
     requires long { length before.items ≡ stretch.width }
     ensures { (plane : spec.Plane) → IsRowOf plane stretch before.items
-        → IfOk result (λ found. IfSome found (λ pixels. IsRowOf (spec.after own update.now (inputs_of scene.now) (earlier_of scene.now own) plane (spec.points update.now)) stretch pixels.items)) }
+        → IfOk result (λ found. IfSome found
+        (λ pixels. IsRowOf (spec.after own update.now (inputs_of scene.now) (earlier_of scene.now own) plane
+        (spec.points update.now)) stretch pixels.items)) }
 {
     let mut pixels = before;
     for number in 0..points(update) {
@@ -160,7 +166,8 @@ fn stages_one_by_one(
     requires tables { AreTables scene.now }
     requires is { slice_get scene.now.funcs.now own ≡ Some func.now }
     requires narrow { stretch.width < 2 ^ 32 }
-    ensures { IfOk result (λ pixels. IsRowOf (spec.stage own func.now (inputs_of scene.now) (earlier_of scene.now own) updates) stretch pixels.items) }
+    ensures { IfOk result (λ pixels. IsRowOf (spec.stage own func.now (inputs_of scene.now) (earlier_of scene.now own)
+        updates) stretch pixels.items) }
 {
     let Stretch { left, y, width } = stretch;
     let mut pixels = vec![in alloc; 0; width]?;
@@ -182,7 +189,8 @@ fn pure_pixels(
 ) -> Result<Vec<u32>, AllocError>
     requires tables { AreTables scene.now }
     requires narrow { stretch.width < 2 ^ 32 }
-    ensures { IfOk result (λ pixels. IsRowOf (spec.stage own func.now (inputs_of scene.now) (earlier_of scene.now own) 0) stretch pixels.items) }
+    ensures { IfOk result (λ pixels. IsRowOf (spec.stage own func.now (inputs_of scene.now) (earlier_of scene.now own)
+        0) stretch pixels.items) }
 {
     let Stretch { left, y, width } = stretch;
     let row = row_of(alloc, scene, own, left, y, width, &func.pure)?;
@@ -202,7 +210,8 @@ pub(crate) fn stage_pixels(
     requires tables { AreTables scene.now }
     requires is { slice_get scene.now.funcs.now own ≡ Some func.now }
     requires narrow { stretch.width < 2 ^ 32 }
-    ensures { IfOk result (λ pixels. IsRowOf (spec.stage own func.now (inputs_of scene.now) (earlier_of scene.now own) updates) stretch pixels.items) }
+    ensures { IfOk result (λ pixels. IsRowOf (spec.stage own func.now (inputs_of scene.now) (earlier_of scene.now own)
+        updates) stretch pixels.items) }
 {
     if updates == 0 && reads_tables(scene.tables, own, &func.pure) {
         let pixels = pure_pixels(alloc, scene, own, func, stretch)?;

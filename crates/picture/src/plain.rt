@@ -1,11 +1,15 @@
 //! The pixels of Funcs, one by one, as they are defined.
 
-ghost use Rattle.std.specs.Prelude.{◌≡◌, ◌<◌, ◌≤◌, ◌+◌, ◌-◌, ◌*◌, ◌/◌, ◌%◌, ◌^◌, ◌==◌, ◌&&◌, ℕ, List, IfOk, IfSome, IsTrue, true, Some, None, slice_get, slice_index, length};
+ghost use Rattle.std.specs.Prelude.{◌≡◌, ◌<◌, ◌≤◌, ◌+◌, ◌-◌, ◌*◌, ◌/◌, ◌%◌, ◌^◌, ◌==◌, ◌&&◌, ℕ, List, IfOk, IfSome};
+ghost use Rattle.std.specs.Prelude.{IsTrue, true, Some, None, slice_get, slice_index, length};
 ghost use Rattle.std.specs.Option.{option_copied};
 ghost use Rattle.halide_pipeline.specs.Expressions.{nodes};
 ghost use Rattle.halide_pipeline.specs.Pixel as spec;
 ghost use Rattle.halide_pipeline.specs.Words as word;
-ghost use Rattle.picture.specs.inner.Evaluation.{inputs_of, earlier_of, plane_in, plane_of, after_of, funcs_in, reads_in, stage_of, stage_in, IsBegun, IsForward, IsState, AreTables, AreKnownOf, AreSlicesOf, IsMemo, IsSliceOf, IsTable, all_nodes, index_nodes, update_nodes};
+ghost use Rattle.picture.specs.inner.Evaluation.{inputs_of, earlier_of, plane_in, plane_of, after_of, funcs_in};
+ghost use Rattle.picture.specs.inner.Evaluation.{reads_in, stage_of, stage_in, IsBegun, IsForward, IsState, AreTables};
+ghost use Rattle.picture.specs.inner.Evaluation.{AreKnownOf, AreSlicesOf, IsMemo, IsSliceOf, IsTable, all_nodes};
+ghost use Rattle.picture.specs.inner.Evaluation.{index_nodes, update_nodes};
 ghost use Rattle.picture.specs.Slices.{is_on, is_forward, mentions};
 ghost use Rattle.picture.specs.Writes.{IsNone};
 ghost use Rattle.picture.specs.declared.scenes.State.TheVariants as states;
@@ -141,7 +145,8 @@ fn pixel_in(table: &Table, x: u32, y: u32) -> Option<u32>
 
 /// A pixel that the table of the Func at a place has.
 fn tabled(tables: &[Table], place: usize, x: u32, y: u32) -> Option<u32>
-    ensures { (plane : spec.Plane) → ((table : Table) → slice_get tables.now place ≡ Some table → IsTable plane table) → IfSome result (λ pixel. pixel ≡ plane x y) }
+    ensures { (plane : spec.Plane) → ((table : Table) → slice_get tables.now place ≡ Some table → IsTable plane table)
+        → IfSome result (λ pixel. pixel ≡ plane x y) }
 {
     match tables.get(place) {
         None => None,
@@ -151,7 +156,8 @@ fn tabled(tables: &[Table], place: usize, x: u32, y: u32) -> Option<u32>
 
 /// A pixel of the Func at a place that is kept by itself.
 fn kept(memo: &Memo, place: usize, x: u32, y: u32) -> Option<u32>
-    ensures { (funcs : List Func) (pictures : List PictureContents) → IsMemo funcs pictures memo.now → IfSome result (λ pixel. pixel ≡ plane_in funcs pictures place x y) }
+    ensures { (funcs : List Func) (pictures : List PictureContents) → IsMemo funcs pictures memo.now
+        → IfSome result (λ pixel. pixel ≡ plane_in funcs pictures place x y) }
 {
     memo.get(place, x, y)
 }
@@ -169,7 +175,9 @@ pub(crate) fn known_pixel(scene: &Scene, place: usize, x: u32, y: u32) -> Option
 
 /// The slice with a point, of slices each one further than the one before it.
 fn slice_at(slices: &[Slice], x: u32, y: u32) -> Option<&Slice>
-    ensures { (funcs : List Func) (pictures : List PictureContents) (own updates : ℕ) → AreSlicesOf funcs pictures own updates slices.now → IfSome result (λ slice. IsSliceOf funcs pictures own updates slice.now × (is_on slice.now x y ≡ true)) }
+    ensures { (funcs : List Func) (pictures : List PictureContents) (own updates : ℕ)
+        → AreSlicesOf funcs pictures own updates slices.now
+        → IfSome result (λ slice. IsSliceOf funcs pictures own updates slice.now × (is_on slice.now x y ≡ true)) }
 {
     let at = match slices.first() {
         None => 0,
@@ -189,7 +197,8 @@ pub(crate) fn known_slice(
     x: u32,
     y: u32,
 ) -> Option<&Slice>
-    ensures { (funcs : List Func) (pictures : List PictureContents) → AreKnownOf funcs pictures known.now → IfSome result (λ slice. IsSliceOf funcs pictures own updates slice.now × (is_on slice.now x y ≡ true)) }
+    ensures { (funcs : List Func) (pictures : List PictureContents) → AreKnownOf funcs pictures known.now
+        → IfSome result (λ slice. IsSliceOf funcs pictures own updates slice.now × (is_on slice.now x y ≡ true)) }
 {
     for one in known {
         if one.own == own && one.updates == updates {
@@ -329,7 +338,8 @@ pub(crate) fn forward_pixel(
 ) -> Result<u32, AllocError>
     requires tables { AreTables scene.now }
     requires slice { IsForward scene.now own updates number slice.now }
-    ensures { IfOk result (λ v. v ≡ after_of own (slice_get scene.now.funcs.now own) (inputs_of scene.now) (earlier_of scene.now own) updates number x y) }
+    ensures { IfOk result (λ v. v ≡ after_of own (slice_get scene.now.funcs.now own) (inputs_of scene.now)
+        (earlier_of scene.now own) updates number x y) }
 {
     if !slice.is_on(x, y) {
         let pixel = after_of(alloc, scene, own, updates, number, x, y)?;
@@ -424,7 +434,8 @@ pub(crate) fn stage(
 ) -> Result<u32, AllocError>
     requires tables { AreTables scene.now }
     requires is { slice_get scene.now.funcs.now own ≡ Some func.now }
-    ensures { IfOk result (λ v. v ≡ spec.stage own func.now (inputs_of scene.now) (earlier_of scene.now own) updates x y) }
+    ensures { IfOk result (λ v. v ≡ spec.stage own func.now (inputs_of scene.now) (earlier_of scene.now own) updates x
+        y) }
 {
     if updates == 0 {
         let pixel = value(
@@ -592,7 +603,8 @@ fn after_of(
     y: u32,
 ) -> Result<u32, AllocError>
     requires tables { AreTables scene.now }
-    ensures { IfOk result (λ v. v ≡ after_of own (slice_get scene.now.funcs.now own) (inputs_of scene.now) (earlier_of scene.now own) updates number x y) }
+    ensures { IfOk result (λ v. v ≡ after_of own (slice_get scene.now.funcs.now own) (inputs_of scene.now)
+        (earlier_of scene.now own) updates number x y) }
 {
     match func_at(scene.funcs, own) {
         None => Ok(0),
@@ -626,7 +638,8 @@ fn after(
     requires tables { AreTables scene.now }
     requires is { slice_get scene.now.funcs.now own ≡ Some func.now }
     requires next { slice_get func.now.updates updates ≡ Some update.now }
-    ensures { IfOk result (λ v. v ≡ spec.after own update.now (inputs_of scene.now) (earlier_of scene.now own) (spec.stage own func.now (inputs_of scene.now) (earlier_of scene.now own) updates) number x y) }
+    ensures { IfOk result (λ v. v ≡ spec.after own update.now (inputs_of scene.now) (earlier_of scene.now own)
+        (spec.stage own func.now (inputs_of scene.now) (earlier_of scene.now own) updates) number x y) }
 {
     if number == 0 {
         let pixel = stage(alloc, scene, own, func, updates, x, y)?;

@@ -41,7 +41,8 @@ fn is_plain(negative: bool, digits: &[u8]) -> bool
 /// The digits at the front and what stands behind them.
 #[tactic(auto, unfolding(crate::specs::Reading::plain_at))]
 fn plain_at(negative: bool, text: &[u8]) -> Result<(bool, &[u8], &[u8]), PictureFault>
-    ensures { spec.Shows (λ numeral. (record { negative = numeral.0; digits = numeral.1.now }, numeral.2.now)) result (spec.plain_at negative text.now) }
+    ensures { spec.Shows (λ numeral. (record { negative = numeral.0; digits = numeral.1.now }, numeral.2.now)) result
+        (spec.plain_at negative text.now) }
 {
     let (digits, rest) = text.split_at(digits_len(text));
     if is_plain(negative, digits) {
@@ -54,7 +55,8 @@ fn plain_at(negative: bool, text: &[u8]) -> Result<(bool, &[u8], &[u8]), Picture
 /// The number at the front: whether it has a sign, its digits, and what stands behind it.
 #[tactic(auto, unfolding(crate::specs::Reading::numeral_at))]
 fn numeral_at(text: &[u8]) -> Result<(bool, &[u8], &[u8]), PictureFault>
-    ensures { spec.Shows (λ numeral. (record { negative = numeral.0; digits = numeral.1.now }, numeral.2.now)) result (spec.numeral_at text.now) }
+    ensures { spec.Shows (λ numeral. (record { negative = numeral.0; digits = numeral.1.now }, numeral.2.now)) result
+        (spec.numeral_at text.now) }
 {
     match text {
         [] => Err(PictureFault::Syntax),
@@ -200,7 +202,8 @@ impl Picture {
         // What is read is spelled so.
         ensures found { IfOk result (λ picture. text.now ≡ spelled picture) }
         // What is spelled so is read, unless memory runs out.
-        ensures only { (picture : PictureContents) → IsPicture picture → text.now ≡ spelled picture → Gives (λ read. read) result (Ok picture) }
+        ensures only { (picture : PictureContents) → IsPicture picture → text.now ≡ spelled picture
+            → Gives (λ read. read) result (Ok picture) }
         // The refusal is that of the first faulty place.
         ensures exact { Gives (λ read. read) result (spec.picture_of text.now) }
         // What is read keeps the rules.

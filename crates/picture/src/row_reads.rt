@@ -148,7 +148,8 @@ fn read_each(
     requires tables { AreTables scene.now }
     requires columns { length columns.items ≡ width }
     requires narrow { width < 2 ^ 32 }
-    ensures { IfOk result (IsRow width (λ at. reads_in scene.now own states.Earlier source (slice_index columns.items at) y)) }
+    ensures { IfOk result (IsRow width (λ at. reads_in scene.now own states.Earlier source
+        (slice_index columns.items at) y)) }
 {
     let known = window(scene, own, source, y);
     if known.covers(&columns) {
@@ -195,7 +196,8 @@ fn read_points(
     requires columns { HasLength width x.now }
     requires rows { HasLength width y.now }
     requires narrow { width < 2 ^ 32 }
-    ensures { IfOk result (IsRow width (λ at. reads_in scene.now own states.Earlier source (value_at x.now at) (value_at y.now at))) }
+    ensures { IfOk result (IsRow width (λ at. reads_in scene.now own states.Earlier source (value_at x.now at)
+        (value_at y.now at))) }
 {
     let mut values = vec![in alloc; 0; width]?;
     for at in 0..width {
@@ -220,7 +222,8 @@ pub(crate) fn read_row(
     requires columns { HasLength width x }
     requires rows { HasLength width y }
     requires narrow { width < 2 ^ 32 }
-    ensures { IfOk result (IsRow width (λ at. reads_in scene.now own states.Earlier source (value_at x at) (value_at y at))) }
+    ensures { IfOk result (IsRow width (λ at. reads_in scene.now own states.Earlier source (value_at x at)
+        (value_at y at))) }
 {
     match (x, y) {
         (Row::Same(x), Row::Same(y)) => {

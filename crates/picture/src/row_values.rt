@@ -47,7 +47,8 @@ pub(crate) fn row_of(
 ) -> Result<Row, AllocError>
     requires tables { AreTables scene.now }
     requires narrow { width < 2 ^ 32 }
-    ensures { IfOk result (IsRow width (λ at. spec.value (reads_in scene.now own states.Earlier) (spec.at_point (word.add left at) y) expr.now)) }
+    ensures { IfOk result (IsRow width (λ at. spec.value (reads_in scene.now own states.Earlier)
+        (spec.at_point (word.add left at) y) expr.now)) }
 {
     match expr {
         Expr::Number(number) => Ok(Row::Same(*number)),
@@ -100,7 +101,8 @@ fn pixels_one_by_one(
 ) -> Result<Vec<u32>, AllocError>
     requires tables { AreTables scene.now }
     requires narrow { width < 2 ^ 32 }
-    ensures { IfOk result (λ pixels. AreValues width (λ at. plane_of scene.now place (word.add left at) y) pixels.items) }
+    ensures { IfOk result (λ pixels. AreValues width (λ at. plane_of scene.now place (word.add left at) y)
+        pixels.items) }
 {
     let mut pixels = vec![in alloc; 0; width]?;
     for at in 0..width {
@@ -156,7 +158,8 @@ fn pixel_stretch(
 ) -> Result<Vec<u32>, AllocError>
     requires tables { AreTables scene.now }
     requires narrow { width < 2 ^ 32 }
-    ensures { IfOk result (λ pixels. AreValues width (λ at. plane_of scene.now place (word.add left at) y) pixels.items) }
+    ensures { IfOk result (λ pixels. AreValues width (λ at. plane_of scene.now place (word.add left at) y)
+        pixels.items) }
 {
     if width >= FEW
         && let Some(func) = func_at(scene.funcs, place)
@@ -170,8 +173,8 @@ fn pixel_stretch(
     Ok(pixels)
 }
 
-/// So many pixels of the Func at a place in a row from a column on, a stretch after the other, so that rows of values take
-/// little memory.
+/// So many pixels of the Func at a place in a row from a column on, a stretch after the other, so that rows of values
+/// take little memory.
 pub(crate) fn pixel_row(
     alloc: Global,
     scene: &Scene,
@@ -182,7 +185,8 @@ pub(crate) fn pixel_row(
 ) -> Result<Vec<u32>, AllocError>
     requires tables { AreTables scene.now }
     requires narrow { width < 2 ^ 32 }
-    ensures { IfOk result (λ pixels. AreValues width (λ at. plane_of scene.now place (word.add left at) y) pixels.items) }
+    ensures { IfOk result (λ pixels. AreValues width (λ at. plane_of scene.now place (word.add left at) y)
+        pixels.items) }
 {
     let mut pixels = Vec::new(alloc);
     for number in 0..width / STRETCH + 1 {

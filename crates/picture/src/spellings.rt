@@ -100,5 +100,6 @@ impl Picture {
 
 /// A law: each picture has one spelling, and no spelling begins another.
 pub fn one_spelling()
-    ensures { (a b : PictureContents) (x y : List ℕ) → IsPicture a → IsPicture b → spelled a ++ x ≡ spelled b ++ y → (a ≡ b) × (x ≡ y) }
+    ensures { (a b : PictureContents) (x y : List ℕ) → IsPicture a → IsPicture b → spelled a ++ x ≡ spelled b ++ y
+        → (a ≡ b) × (x ≡ y) }
 {}

@@ -5,7 +5,8 @@ ghost use Rattle.std.specs.Prelude.{◌≡◌, ◌<◌, ◌^◌, ℕ, IfOk, IfSo
 ghost use Rattle.halide_pipeline.specs.Pixel as spec;
 ghost use Rattle.halide_pipeline.specs.Words as word;
 ghost use Rattle.picture.specs.inner.Evaluation.{reads_in, AreTables};
-ghost use Rattle.picture.specs.inner.UpdateRows.{line_point, reads_with, row_point, is_own, AreIndices, IsLine, IsRight, IsShared, IsUpdateRow};
+ghost use Rattle.picture.specs.inner.UpdateRows.{line_point, reads_with, row_point, is_own, AreIndices, IsLine};
+ghost use Rattle.picture.specs.inner.UpdateRows.{IsRight, IsShared, IsUpdateRow};
 ghost use Rattle.picture.specs.declared.scenes.State.TheVariants as states;
 ghost use Rattle.picture.specs.declared.update_rows.Line.TheVariants as lines;
 ghost use Rattle.picture_rows.specs.Rows.{HasLength, IsRow, value_at};
@@ -104,7 +105,8 @@ fn own_read(
     width: usize,
 ) -> Result<Option<Row>, AllocError>
     requires line { IsLine width line }
-    ensures { IfOk result (λ found. IfSome found (IsShared width line.entry (λ plane at. plane (value_at x.now at) (value_at y.now at)))) }
+    ensures { IfOk result (λ found. IfSome found
+        (IsShared width line.entry (λ plane at. plane (value_at x.now at) (value_at y.now at)))) }
 {
     match (line, x, y) {
         (Line::Pixels(start, before), Row::Step(column), Row::Same(row)) => {
@@ -134,7 +136,8 @@ fn shared_read(
     requires rows { HasLength width y }
     requires line { IsLine width line }
     requires narrow { width < 2 ^ 32 }
-    ensures { IfOk result (λ found. IfSome found (IsShared width line.entry (λ plane at. reads_with scene.now own plane source (value_at x at) (value_at y at)))) }
+    ensures { IfOk result (λ found. IfSome found (IsShared width line.entry (λ plane at. reads_with scene.now own plane
+        source (value_at x at) (value_at y at)))) }
 {
     if is_own(own, source) {
         let row = own_read(alloc, line, &x, &y, width)?;
@@ -157,7 +160,9 @@ pub(crate) fn shared_row(
     requires tables { AreTables scene.now }
     requires line { IsLine width line }
     requires narrow { width < 2 ^ 32 }
-    ensures { IfOk result (λ found. IfSome found (IsShared width line.entry (λ plane at. spec.value (reads_with scene.now own plane) (line_point line.entry at) expr.now))) }
+    ensures { IfOk result (λ found. IfSome found
+        (IsShared width line.entry (λ plane at. spec.value (reads_with scene.now own plane) (line_point line.entry at)
+        expr.now))) }
 {
     match expr {
         Expr::Number(number) => Ok(Some(Row::Same(*number))),
@@ -232,7 +237,9 @@ fn own_indices(
 ) -> Result<Option<Indices>, AllocError>
     requires tables { AreTables scene.now }
     requires narrow { width < 2 ^ 32 }
-    ensures { IfOk result (λ found. IfSome found (AreIndices width (λ plane at. spec.value (reads_with scene.now own plane) (row_point start.now at) expr.now))) }
+    ensures { IfOk result (λ found. IfSome found
+        (AreIndices width (λ plane at. spec.value (reads_with scene.now own plane) (row_point start.now at)
+        expr.now))) }
 {
     match expr {
         Expr::Call1(source, x) => {
@@ -276,7 +283,10 @@ fn first_of(
 ) -> Result<Option<Right>, AllocError>
     requires tables { AreTables scene.now }
     requires narrow { width < 2 ^ 32 }
-    ensures { IfOk result (λ found. IfSome found (IsRight width (λ plane at. word.applied operation (spec.value (reads_with scene.now own plane) (row_point start.now at) a.now) (spec.value (reads_with scene.now own plane) (row_point start.now at) b.now)))) }
+    ensures { IfOk result (λ found. IfSome found
+        (IsRight width (λ plane at. word.applied operation (spec.value (reads_with scene.now own plane)
+        (row_point start.now at) a.now) (spec.value (reads_with scene.now own plane) (row_point start.now at)
+        b.now)))) }
 {
     let Some(indices) = own_indices(alloc, scene, own, start, width, a)? else {
         return Ok(None);
@@ -300,7 +310,10 @@ fn second_of(
 ) -> Result<Option<Right>, AllocError>
     requires tables { AreTables scene.now }
     requires narrow { width < 2 ^ 32 }
-    ensures { IfOk result (λ found. IfSome found (IsRight width (λ plane at. word.applied operation (spec.value (reads_with scene.now own plane) (row_point start.now at) a.now) (spec.value (reads_with scene.now own plane) (row_point start.now at) b.now)))) }
+    ensures { IfOk result (λ found. IfSome found
+        (IsRight width (λ plane at. word.applied operation (spec.value (reads_with scene.now own plane)
+        (row_point start.now at) a.now) (spec.value (reads_with scene.now own plane) (row_point start.now at)
+        b.now)))) }
 {
     let Some(indices) = own_indices(alloc, scene, own, start, width, b)? else {
         return Ok(None);
@@ -324,7 +337,10 @@ fn two_of(
 ) -> Result<Option<Right>, AllocError>
     requires tables { AreTables scene.now }
     requires narrow { width < 2 ^ 32 }
-    ensures { IfOk result (λ found. IfSome found (IsRight width (λ plane at. word.applied operation (spec.value (reads_with scene.now own plane) (row_point start.now at) a.now) (spec.value (reads_with scene.now own plane) (row_point start.now at) b.now)))) }
+    ensures { IfOk result (λ found. IfSome found
+        (IsRight width (λ plane at. word.applied operation (spec.value (reads_with scene.now own plane)
+        (row_point start.now at) a.now) (spec.value (reads_with scene.now own plane) (row_point start.now at)
+        b.now)))) }
 {
     if let Some(right) = first_of(alloc, scene, own, start, width, operation, a, b)? {
         return Ok(Some(right));
@@ -345,7 +361,8 @@ fn operation_of(
 ) -> Result<Option<Right>, AllocError>
     requires tables { AreTables scene.now }
     requires narrow { width < 2 ^ 32 }
-    ensures { IfOk result (λ found. IfSome found (IsRight width (λ plane at. spec.value (reads_with scene.now own plane) (row_point start.now at) expr.now))) }
+    ensures { IfOk result (λ found. IfSome found (IsRight width (λ plane at. spec.value (reads_with scene.now own plane)
+        (row_point start.now at) expr.now))) }
 {
     match expr {
         Expr::Binary(operation, a, b) => {
@@ -376,7 +393,8 @@ fn right_of(
 ) -> Result<Option<Right>, AllocError>
     requires tables { AreTables scene.now }
     requires narrow { width < 2 ^ 32 }
-    ensures { IfOk result (λ found. IfSome found (IsRight width (λ plane at. spec.value (reads_with scene.now own plane) (row_point start.now at) expr.now))) }
+    ensures { IfOk result (λ found. IfSome found (IsRight width (λ plane at. spec.value (reads_with scene.now own plane)
+        (row_point start.now at) expr.now))) }
 {
     if let Some(right) = operation_of(alloc, scene, own, start, width, expr)? {
         return Ok(Some(right));
@@ -398,7 +416,8 @@ fn index_row(
 ) -> Result<Option<Row>, AllocError>
     requires tables { AreTables scene.now }
     requires narrow { width < 2 ^ 32 }
-    ensures { IfOk result (λ found. IfSome found (IsShared width (lines.Reduction start.now) (λ plane at. spec.index_value (reads_with scene.now own plane) (row_point start.now at) index.now))) }
+    ensures { IfOk result (λ found. IfSome found (IsShared width (lines.Reduction start.now)
+        (λ plane at. spec.index_value (reads_with scene.now own plane) (row_point start.now at) index.now))) }
 {
     match index {
         None => Ok(Some(Row::Same(0))),

@@ -4,7 +4,8 @@ ghost use Rattle.std.specs.Prelude.{◌≡◌, ◌+◌, ◌*◌, ◌<◌, ◌^�
 ghost use Rattle.halide_pipeline.specs.Pixel as spec;
 ghost use Rattle.picture.specs.Slices.{is_forward};
 ghost use Rattle.picture.specs.inner.Evaluation.{after_of, inputs_of, earlier_of, AreTables, IsForward, IsSliceOf};
-ghost use Rattle.picture.specs.inner.UpdateRows.{row_point, right_long, right_says, IsOfUpdate, IsStore, IsUpdateRow, Puts};
+ghost use Rattle.picture.specs.inner.UpdateRows.{row_point, right_long, right_says, IsOfUpdate, IsStore, IsUpdateRow};
+ghost use Rattle.picture.specs.inner.UpdateRows.{Puts};
 
 use crate::plain::{at_reduction, begun, forward_pixel, index_value, product, value};
 use crate::scenes::{Scene, Slice, State};
@@ -37,7 +38,8 @@ fn right_value(
     requires long { right_long width right.now }
     requires within { at < width }
     requires narrow { width < 2 ^ 32 }
-    ensures { IfOk result (λ v. v ≡ right_says right.now (after_of own (slice_get scene.now.funcs.now own) (inputs_of scene.now) (earlier_of scene.now own) updates number) at) }
+    ensures { IfOk result (λ v. v ≡ right_says right.now (after_of own (slice_get scene.now.funcs.now own)
+        (inputs_of scene.now) (earlier_of scene.now own) updates number) at) }
 {
     match right {
         Right::Alone(row) => Ok(row.value_at(at, width)),
@@ -174,7 +176,8 @@ fn apply_row(
     requires forward { is_forward update.now ≡ true }
     requires few { first + 2 ^ 32 < 2 ^ 64 }
     requires values { IfSome values.now (IsUpdateRow scene.now own update.now.first.extent start.now update.now) }
-    requires points { (at : ℕ) → at < update.now.first.extent → spec.at_reduction update.now (first + at) slice.old.x slice.old.y ≡ row_point start.now at }
+    requires points { (at : ℕ) → at < update.now.first.extent
+        → spec.at_reduction update.now (first + at) slice.old.x slice.old.y ≡ row_point start.now at }
     requires of { IsOfUpdate update.now slice.old }
     requires run { IsForward scene.now own updates first slice.old }
     ensures of { OnOk result (IsOfUpdate update.now slice.new) }

@@ -9,7 +9,8 @@ use halide_pipeline::{Operation, words};
 /// What an operation makes of both words at each place, in place of the first.
 pub fn combine(operation: Operation, values: &mut [u32], others: &[u32])
     requires { length values.old ≡ length others.now }
-    ensures { AreValues (length values.old) (λ at. word.applied operation (slice_index values.old at) (slice_index others.now at)) values.new }
+    ensures { AreValues (length values.old) (λ at. word.applied operation (slice_index values.old at)
+        (slice_index others.now at)) values.new }
 {
     for at in 0..values.len() {
         values[at] = operation.apply(values[at], others[at]);
@@ -18,7 +19,8 @@ pub fn combine(operation: Operation, values: &mut [u32], others: &[u32])
 
 /// What an operation makes of each word and this one, in its place.
 pub fn combine_with(operation: Operation, values: &mut [u32], other: u32)
-    ensures { AreValues (length values.old) (λ at. word.applied operation (slice_index values.old at) other) values.new }
+    ensures { AreValues (length values.old) (λ at. word.applied operation (slice_index values.old at) other)
+        values.new }
 {
     for at in 0..values.len() {
         values[at] = operation.apply(values[at], other);
@@ -47,7 +49,8 @@ pub fn remain(values: &mut [u32], divisor: u32)
 pub fn choose(conditions: &[u32], values: &mut [u32], others: &[u32])
     requires conditions { length values.old ≡ length conditions.now }
     requires others { length values.old ≡ length others.now }
-    ensures { AreValues (length values.old) (λ at. if slice_index conditions.now at == 0 then slice_index others.now at else slice_index values.old at) values.new }
+    ensures { AreValues (length values.old) (λ at. if slice_index conditions.now at == 0 then slice_index others.now at
+        else slice_index values.old at) values.new }
 {
     for at in 0..values.len() {
         values[at] = if conditions[at] == 0 {

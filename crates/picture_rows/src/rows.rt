@@ -171,7 +171,8 @@ impl Row {
         requires other { HasLength width other }
         requires condition { HasLength width condition }
         requires narrow { width < 2 ^ 32 }
-        ensures { IfOk result (IsRow width (λ at. if value_at condition at == 0 then value_at other at else value_at self at)) }
+        ensures { IfOk result (IsRow width (λ at. if value_at condition at == 0 then value_at other at else value_at
+            self at)) }
     {
         match condition {
             Row::Same(0) => Ok(other),

@@ -48,7 +48,8 @@ impl<'a> Window<'a> {
     /// The words in so many columns from one on, if all are known.
     pub fn columns(&self, column: u32, count: usize) -> Option<&'a [u32]>
         requires { count < 2 ^ 32 }
-        ensures { (says : ℕ → ℕ) → IsWindow says self.now → IfSome result (λ values. AreValues count (λ at. says (word.add column at)) values.now) }
+        ensures { (says : ℕ → ℕ) → IsWindow says self.now
+            → IfSome result (λ values. AreValues count (λ at. says (word.add column at)) values.now) }
     {
         let at = words::subtract(column, self.first) as usize;
         if at + count > self.values.len() {
@@ -59,7 +60,8 @@ impl<'a> Window<'a> {
 
     /// How far behind the first one the furthest of these columns is, as words go; 0 of none.
     fn reach(&self, columns: &[u32]) -> u32
-        ensures { (at : ℕ) → at < length columns.now → (slice_index columns.now at < 2 ^ 32) × (word.subtract (slice_index columns.now at) self.now.first ≤ result) }
+        ensures { (at : ℕ) → at < length columns.now → (slice_index columns.now at < 2 ^ 32)
+            × (word.subtract (slice_index columns.now at) self.now.first ≤ result) }
     {
         let mut most = 0;
         for at in 0..columns.len() {
@@ -79,7 +81,8 @@ impl<'a> Window<'a> {
     /// The word in each of these columns, in its place.
     pub fn fetch(&self, columns: &mut [u32])
         requires { Covers self.now columns.old }
-        ensures { (says : ℕ → ℕ) → IsWindow says self.now → AreValues (length columns.old) (λ at. says (slice_index columns.old at)) columns.new }
+        ensures { (says : ℕ → ℕ) → IsWindow says self.now
+            → AreValues (length columns.old) (λ at. says (slice_index columns.old at)) columns.new }
     {
         let first = self.first;
         for at in 0..columns.len() {

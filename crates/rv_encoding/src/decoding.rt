@@ -3,7 +3,8 @@
 ghost use Rattle.std.specs.Prelude.{◌≡◌, ◌/◌, ◌%◌, ◌^◌, IfSome, IfNone};
 ghost use Rattle.rv_insn.specs.Meaning.{Means};
 ghost use Rattle.rv_insn.specs.declared.instructions.Insn.{Insn};
-ghost use Rattle.rv_encoding.specs.Decoding.{part, branch_in, load_in, store_in, op_imm_in, shift_in, alu_in, amo_in, misc_mem_in, jalr_in, system_in, decoded};
+ghost use Rattle.rv_encoding.specs.Decoding.{part, branch_in, load_in, store_in, op_imm_in, shift_in, alu_in, amo_in};
+ghost use Rattle.rv_encoding.specs.Decoding.{misc_mem_in, jalr_in, system_in, decoded};
 
 use crate::fields::{
     b_offset, flag, funct3, funct5, funct7, i_immediate, j_offset, opcode, rd, rs1, rs2,

@@ -5,7 +5,9 @@ ghost use Rattle.rv_insn.specs.Meaning.{Means};
 ghost use Rattle.rv_insn.specs.Encoding.{bit_of};
 ghost use Rattle.rv_insn.specs.Table.{r_type, i_type, s_type, b_type, u_type, j_type, amo_type, whole_word};
 ghost use Rattle.rv_encoding.specs.Formats.{Stands, StandsFor};
-ghost use Rattle.rv_encoding.specs.Operations.{store_funct3 as store_key, shift_funct3 as shift_key, shift_funct7 as shift_second_key, alu_funct3 as alu_key, alu_funct7 as alu_second_key};
+ghost use Rattle.rv_encoding.specs.Operations.{store_funct3 as store_key, shift_funct3 as shift_key};
+ghost use Rattle.rv_encoding.specs.Operations.{shift_funct7 as shift_second_key, alu_funct3 as alu_key};
+ghost use Rattle.rv_encoding.specs.Operations.{alu_funct7 as alu_second_key};
 
 use crate::keys::{
     alu_funct3, alu_funct7, alu_imm_funct3, branch_funct3, load_funct3, shift_funct3, shift_funct7,
@@ -35,7 +37,8 @@ fn alu_word(op: AluOp, rd: Reg, rs1: Reg, rs2: Reg) -> u32
 // The amount of a shift stands where the R format has its second source.
 #[tactic(auto, using(crate::proofs::Formats::r_made), unfolding(crate::specs::Decoding::rd_of, crate::specs::Decoding::rs1_of, crate::specs::Decoding::rs2_of))]
 fn shift_word(op: ShiftOp, rd: Reg, rs1: Reg, amount: ShiftAmount) -> u32
-    ensures { Stands result (r_type [] 0b0010011 (shift_key op) (shift_second_key op)) (pos rd ∷ pos rs1 ∷ pos amount ∷ []) }
+    ensures { Stands result (r_type [] 0b0010011 (shift_key op) (shift_second_key op)) (pos rd ∷ pos rs1 ∷ pos amount
+        ∷ []) }
 {
     pack_r(
         opcodes::OP_IMM,
@@ -109,7 +112,8 @@ fn j_word(opcode: u32, rd: Reg, offset: JumpOffset) -> u32
 // The bits `aq` and `rl` stand where the R format has the lowest two of funct7.
 #[tactic(auto, using(crate::proofs::Formats::amo_packed))]
 fn amo_word(rd: Reg, rs1: Reg, rs2: Reg, aq: bool, rl: bool) -> u32
-    ensures { Stands result (amo_type [] 0b0101111 0b010 0b00000) (pos rd ∷ pos rs1 ∷ pos rs2 ∷ pos (bit_of aq) ∷ pos (bit_of rl) ∷ []) }
+    ensures { Stands result (amo_type [] 0b0101111 0b010 0b00000) (pos rd ∷ pos rs1 ∷ pos rs2 ∷ pos (bit_of aq)
+        ∷ pos (bit_of rl) ∷ []) }
 {
     let order = if aq { 2 } else { 0 } + if rl { 1 } else { 0 };
     pack_r(

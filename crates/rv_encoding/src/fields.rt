@@ -2,7 +2,9 @@
 
 ghost use Rattle.std.specs.Prelude.{◌≡◌, ◌+◌, ◌*◌, ◌/◌, ◌%◌, ◌^◌, ◌<◌, pos, negsuc, ◌≤ℤ◌};
 ghost use Rattle.rv_insn.specs.Encoding.{signed};
-ghost use Rattle.rv_encoding.specs.Decoding.{part, rd_of, rs1_of, rs2_of, i_immediate_of, s_immediate_of, b_offset_of, u_immediate_of, j_offset_of, vector_immediate_of, vtype10_of, vtype11_of, flag_of};
+ghost use Rattle.rv_encoding.specs.Decoding.{part, rd_of, rs1_of, rs2_of, i_immediate_of, s_immediate_of, b_offset_of};
+ghost use Rattle.rv_encoding.specs.Decoding.{u_immediate_of, j_offset_of, vector_immediate_of, vtype10_of, vtype11_of};
+ghost use Rattle.rv_encoding.specs.Decoding.{flag_of};
 
 use rv_insn::{
     BranchOffset, Imm5, Imm12, Imm20, JumpOffset, Length5, Reg, ShiftAmount, VReg, Vtype10, Vtype11,
@@ -164,7 +166,8 @@ pub fn u_immediate(word: u32) -> Imm20
 }
 
 fn j_digits(word: u32) -> u32
-    ensures value { result ≡ part word 21 10 + 2 ^ 10 * (part word 20 1 + 2 * (part word 12 8 + 2 ^ 8 * part word 31 1)) }
+    ensures value { result ≡ part word 21 10 + 2 ^ 10 *
+        (part word 20 1 + 2 * (part word 12 8 + 2 ^ 8 * part word 31 1)) }
     ensures in_range { result < 2 ^ 20 }
 {
     (word >> 21 & 1023) | (word >> 20 & 1) << 10 | (word >> 12 & 255) << 11 | (word >> 31) << 19

@@ -25,5 +25,6 @@ pub fn names_are_distinct()
 
 /// A law: no word fits two rows of the table.
 pub fn rows_are_apart()
-    ensures { (word : ℕ) → AllPairs (λ (first second : Row). Holds word first.pairs → Holds word second.pairs → ⊥) table }
+    ensures { (word : ℕ) → AllPairs (λ (first second : Row). Holds word first.pairs → Holds word second.pairs
+        → ⊥) table }
 {}

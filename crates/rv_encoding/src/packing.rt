@@ -95,7 +95,8 @@ pub fn pack_b(opcode: u32, funct3: u32, rs1: u32, rs2: u32, halves: u32) -> u32
     ensures funct3 { part result 12 3 ≡ funct3 }
     ensures rs1 { rs1 ≡ part result 15 5 }
     ensures rs2 { rs2 ≡ part result 20 5 }
-    ensures halves { halves ≡ part result 8 4 + 2 ^ 4 * (part result 25 6 + 2 ^ 6 * (part result 7 1 + 2 * part result 31 1)) }
+    ensures halves { halves ≡ part result 8 4 + 2 ^ 4 *
+        (part result 25 6 + 2 ^ 6 * (part result 7 1 + 2 * part result 31 1)) }
 {
     opcode
         | (halves >> 10 & 1) << 7
@@ -126,7 +127,8 @@ pub fn pack_j(opcode: u32, rd: u32, halves: u32) -> u32
     requires halves { halves < 2 ^ 20 }
     ensures opcode { part result 0 7 ≡ opcode }
     ensures rd { rd ≡ part result 7 5 }
-    ensures halves { halves ≡ part result 21 10 + 2 ^ 10 * (part result 20 1 + 2 * (part result 12 8 + 2 ^ 8 * part result 31 1)) }
+    ensures halves { halves ≡ part result 21 10 + 2 ^ 10 *
+        (part result 20 1 + 2 * (part result 12 8 + 2 ^ 8 * part result 31 1)) }
 {
     opcode
         | rd << 7

@@ -1,7 +1,9 @@
 //! Decoding of the vector instructions.
 
 ghost use Rattle.std.specs.Prelude.{◌≡◌, ◌==◌};
-ghost use Rattle.rv_encoding.specs.Decoding.{part, merge_in, opivv_in, opivx_in, opivi_in, opmvv_in, opmvx_in, config_in, vector_in, vector_by_opcode, to_scalar_in, from_scalar_in, numbers_in, extended_in, addressing_in, vector_load_in, vector_store_in};
+ghost use Rattle.rv_encoding.specs.Decoding.{part, merge_in, opivv_in, opivx_in, opivi_in, opmvv_in, opmvx_in};
+ghost use Rattle.rv_encoding.specs.Decoding.{config_in, vector_in, vector_by_opcode, to_scalar_in, from_scalar_in};
+ghost use Rattle.rv_encoding.specs.Decoding.{numbers_in, extended_in, addressing_in, vector_load_in, vector_store_in};
 
 use crate::fields::{
     bits, flag, funct3, funct6, length, opcode, rd, rs1, rs2, vd, vector_amount, vector_immediate,

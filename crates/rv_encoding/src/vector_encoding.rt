@@ -4,8 +4,11 @@ ghost use Rattle.std.specs.Prelude.{◌≡◌, ◌<◌, ◌^◌, ℕ, None, Some
 ghost use Rattle.rv_insn.specs.Encoding.{bit_of};
 ghost use Rattle.rv_insn.specs.Addressing.{offset_fields};
 ghost use Rattle.rv_insn.specs.VectorMeaning.{vector_fields_of};
-ghost use Rattle.rv_insn.specs.VectorTable.{opivi_type, merge_vi_type, move_vi_type, to_scalar_type, from_scalar_type, numbers_type, extend_type, vsetvli_type, vsetivli_type, vsetvl_type, unit_type};
-ghost use Rattle.rv_encoding.specs.Formats.{Stands, vector_shape_of, registers_shape, merge_shape, move_shape, offset_shape, access_shape, operands_in};
+ghost use Rattle.rv_insn.specs.VectorTable.{opivi_type, merge_vi_type, move_vi_type, to_scalar_type, from_scalar_type};
+ghost use Rattle.rv_insn.specs.VectorTable.{numbers_type, extend_type, vsetvli_type, vsetivli_type, vsetvl_type};
+ghost use Rattle.rv_insn.specs.VectorTable.{unit_type};
+ghost use Rattle.rv_encoding.specs.Formats.{Stands, vector_shape_of, registers_shape, merge_shape, move_shape};
+ghost use Rattle.rv_encoding.specs.Formats.{offset_shape, access_shape, operands_in};
 
 use crate::opcodes;
 use crate::packing::{digits_5, pack_i, pack_r, pack_v};
@@ -290,7 +293,8 @@ fn access_word(
     vm: bool,
 ) -> u32
     requires { opcode < 2 ^ 7 }
-    ensures { Stands result (access_shape opcode width addressing) (pos v ∷ pos rs1 ∷ (offset_fields addressing ++ (pos (bit_of vm) ∷ []))) }
+    ensures { Stands result (access_shape opcode width addressing) (pos v ∷ pos rs1
+        ∷ (offset_fields addressing ++ (pos (bit_of vm) ∷ []))) }
 {
     let width = width_funct3(width);
     match addressing {
@@ -335,7 +339,8 @@ fn operands_of(insn: &VectorInsn) -> Option<Operands>
 fn with_vector(funct3: u32, funct6: u32, own: Operands, vs1: VReg) -> u32
     requires funct3 { funct3 < 2 ^ 3 }
     requires funct6 { funct6 < 2 ^ 6 }
-    ensures { Stands result (registers_shape funct3 funct6) (pos own.vd ∷ pos own.vs2 ∷ pos vs1 ∷ pos (bit_of own.vm) ∷ []) }
+    ensures { Stands result (registers_shape funct3 funct6) (pos own.vd ∷ pos own.vs2 ∷ pos vs1 ∷ pos (bit_of own.vm)
+        ∷ []) }
 {
     registers_word(funct3, funct6, own.vd, own.vs2, vs1.number() as u32, own.vm)
 }
@@ -343,7 +348,8 @@ fn with_vector(funct3: u32, funct6: u32, own: Operands, vs1: VReg) -> u32
 fn with_scalar(funct3: u32, funct6: u32, own: Operands, rs1: Reg) -> u32
     requires funct3 { funct3 < 2 ^ 3 }
     requires funct6 { funct6 < 2 ^ 6 }
-    ensures { Stands result (registers_shape funct3 funct6) (pos own.vd ∷ pos own.vs2 ∷ pos rs1 ∷ pos (bit_of own.vm) ∷ []) }
+    ensures { Stands result (registers_shape funct3 funct6) (pos own.vd ∷ pos own.vs2 ∷ pos rs1 ∷ pos (bit_of own.vm)
+        ∷ []) }
 {
     registers_word(funct3, funct6, own.vd, own.vs2, rs1.number() as u32, own.vm)
 }

@@ -1,6 +1,7 @@
 //! What the lines so far say of each Func.
 
-ghost use Rattle.std.specs.Prelude.{◌≡◌, ◌<◌, [], ◌∷◌, ◌++◌, Some, OnOk, OnSome, IfOk, length, slice_get, slice_set, map};
+ghost use Rattle.std.specs.Prelude.{◌≡◌, ◌<◌, [], ◌∷◌, ◌++◌, Some, OnOk, OnSome, IfOk, length, slice_get, slice_set};
+ghost use Rattle.std.specs.Prelude.{map};
 ghost use Rattle.std.specs.Option.{option_copied};
 ghost use Rattle.schedule.specs.declared.plans.FuncPlan.{FuncPlan};
 ghost use Rattle.schedule.specs.Plans as spec;
@@ -108,7 +109,8 @@ impl Plans {
     /// Puts a stage of a Func that is there in the place of the one before.
     pub fn set_stage(&mut self, at: usize, update: Option<usize>, stage: Stage)
         requires { at < length self.old }
-        ensures { (plan : FuncPlan) → slice_get self.old at ≡ Some plan → self.new ≡ slice_set self.old at (spec.with_stage plan update stage) }
+        ensures { (plan : FuncPlan) → slice_get self.old at ≡ Some plan
+            → self.new ≡ slice_set self.old at (spec.with_stage plan update stage) }
     {
         let plan = &mut self.plans[at];
         plan.set_stage(update, stage);
@@ -117,7 +119,8 @@ impl Plans {
     /// Says where a Func that is there is computed.
     pub fn set_compute(&mut self, at: usize, compute: ComputeLine)
         requires { at < length self.old }
-        ensures { (plan : FuncPlan) → slice_get self.old at ≡ Some plan → self.new ≡ slice_set self.old at (spec.with_compute plan compute) }
+        ensures { (plan : FuncPlan) → slice_get self.old at ≡ Some plan
+            → self.new ≡ slice_set self.old at (spec.with_compute plan compute) }
     {
         let plan = &mut self.plans[at];
         plan.compute = Some(compute);

@@ -204,7 +204,8 @@ fn place_at(
     behind: &[Standing],
 ) -> Result<Place, AllocError>
     requires { func + 1 + length behind.now < 2 ^ 64 }
-    ensures { IfOk result (λ place. place ≡ spec.place_at pipeline.now plans.now func behind.now (spec.host pipeline.now plans.now func names.now)) }
+    ensures { IfOk result (λ place. place ≡ spec.place_at pipeline.now plans.now func behind.now
+        (spec.host pipeline.now plans.now func names.now)) }
 {
     match host(pipeline, plans, func, names) {
         None => Ok(Place::Nowhere),

@@ -11,6 +11,8 @@ ghost use Rattle.schedule_lines.specs.Making.{IsStage};
 /// that its splits leave, in an order that keeps that of loops over reduction variables, at most 5, with names
 /// that differ.
 pub fn directives_keep_stages()
-    ensures { (is_update : Bool) (start : List Loop) (stage : Stage) (line : ℕ) (directive : LoopDirective) (new : Stage)
-        → directed is_update stage line directive ≡ Ok new → IsStage is_update start stage → IsStage is_update start new }
+    ensures { (is_update : Bool) (start : List Loop) (stage : Stage) (line : ℕ) (directive : LoopDirective)
+        (new : Stage)
+        → directed is_update stage line directive ≡ Ok new → IsStage is_update start stage
+        → IsStage is_update start new }
 {}

@@ -1,7 +1,8 @@
 //! The ledgers of all harts together.
 
 ghost use Rattle.std.specs.Prelude.{◌≡◌, ◌+◌, slice_index, slice_set};
-ghost use Rattle.shared_machine.specs.Tallies.{AreNamed, AreSharesAt, hart_of, number_in, tally_in, numbers_of, tallies_of, zeros};
+ghost use Rattle.shared_machine.specs.Tallies.{AreNamed, AreSharesAt, hart_of, number_in, tally_in, numbers_of};
+ghost use Rattle.shared_machine.specs.Tallies.{tallies_of, zeros};
 
 use crate::ledgers::{HartBlanks, HartBooks, HartShares, Ledgers, open};
 
@@ -110,7 +111,8 @@ impl<F: Ledgers> Books<F> {
     /// A seat and the books know the same.
     pub(crate) fn agree(&mut self, shares: &mut Shares<F>)
         ensures books { (numbers_of self.new ≡ numbers_of self.old) × (tallies_of self.new ≡ tallies_of self.old) }
-        ensures shares { (hart_of shares.new ≡ hart_of shares.old) × (number_in shares.new ≡ number_in shares.old) × (tally_in shares.new ≡ tally_in shares.old) }
+        ensures shares { (hart_of shares.new ≡ hart_of shares.old) × (number_in shares.new ≡ number_in shares.old)
+            × (tally_in shares.new ≡ tally_in shares.old) }
         ensures number { number_in shares.old ≡ slice_index (numbers_of self.old) (hart_of shares.old) }
         ensures tally { tally_in shares.old ≡ slice_index (tallies_of self.old) (hart_of shares.old) }
     {
@@ -128,9 +130,13 @@ impl<F: Ledgers> Books<F> {
 
     /// So many turns more of a seat's hart, with the sum of the codes of their outcomes.
     pub(crate) fn count(&mut self, shares: &mut Shares<F>, turns: u64, codes: u64)
-        ensures numbers { numbers_of self.new ≡ slice_set (numbers_of self.old) (hart_of shares.old) (slice_index (numbers_of self.old) (hart_of shares.old) + turns) }
-        ensures tallies { tallies_of self.new ≡ slice_set (tallies_of self.old) (hart_of shares.old) (slice_index (tallies_of self.old) (hart_of shares.old) + codes) }
-        ensures shares { (hart_of shares.new ≡ hart_of shares.old) × (number_in shares.new ≡ number_in shares.old + turns) × (tally_in shares.new ≡ tally_in shares.old + codes) }
+        ensures numbers { numbers_of self.new ≡ slice_set (numbers_of self.old) (hart_of shares.old)
+            (slice_index (numbers_of self.old) (hart_of shares.old) + turns) }
+        ensures tallies { tallies_of self.new ≡ slice_set (tallies_of self.old) (hart_of shares.old)
+            (slice_index (tallies_of self.old) (hart_of shares.old) + codes) }
+        ensures shares { (hart_of shares.new ≡ hart_of shares.old)
+            × (number_in shares.new ≡ number_in shares.old + turns)
+            × (tally_in shares.new ≡ tally_in shares.old + codes) }
     {
         match shares {
             Shares::Hart0(one) => self.hart0.count(one, turns, codes),

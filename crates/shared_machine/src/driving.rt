@@ -44,12 +44,13 @@ pub fn drive<
     drive_batched(rt, shared, seats, limit, 1, gate)
 }
 
-/// Makes turns of each seat in a thread of its own, up to `most` of them under one lock. A thread ends after a turn that didn't
-/// step (a hart that has stopped makes one that is idle), after `limit` turns, where the gate doesn't let it go on, or where a
-/// turn is refused; [`Seat::ended`] says which. The gate is asked about the first turn under a lock, and told of the last.
+/// Makes turns of each seat in a thread of its own, up to `most` of them under one lock. A thread ends after a turn
+/// that didn't step (a hart that has stopped makes one that is idle), after `limit` turns, where the gate doesn't let
+/// it go on, or where a turn is refused; [`Seat::ended`] says which. The gate is asked about the first turn under a
+/// lock, and told of the last.
 ///
-/// The threads meet before the first turn. Where one of them can't be had, or doesn't come for more than a second, each seat asks for a stop and
-/// no turn is made, nor later by a seat that asked.
+/// The threads meet before the first turn. Where one of them can't be had, or doesn't come for more than a second, each
+/// seat asks for a stop and no turn is made, nor later by a seat that asked.
 pub fn drive_batched<
     O: Origin + Send + Sync,
     F: Ledgers + Send + Sync,
@@ -157,7 +158,8 @@ fn make_turns<O: Origin, F: Ledgers, G: Gate, R: Wait>(
     ensures ended { EndedSo G.OPEN limit (number seat.old) seat.new result }
     ensures asked { has_asked seat.new.glance ≡ has_asked seat.old.glance }
     ensures stopped { has_asked seat.old.glance ≡ true → number seat.new ≡ number seat.old }
-    ensures told { has_asked seat.old.glance ≡ true → G.OPEN ≡ true → 1 ≤ limit → number seat.old < most_turns → result ≡ Refused StopAsked }
+    ensures told { has_asked seat.old.glance ≡ true → G.OPEN ≡ true → 1 ≤ limit → number seat.old < most_turns
+        → result ≡ Refused StopAsked }
 {
     let mut left = limit;
     while left > 0 {

@@ -2,8 +2,8 @@
 
 ghost use Rattle.std.specs.Prelude.{◌≡◌, Bool, true};
 
-/// Asked before each turn of a seat that [`drive`](crate::drive) makes, and told of it afterwards, both outside the lock. The number
-/// is which turn of the seat it is, from 1 on.
+/// Asked before each turn of a seat that [`drive`](crate::drive) makes, and told of it afterwards, both outside the
+/// lock. The number is which turn of the seat it is, from 1 on.
 pub trait Gate {
     ghost OPEN: { Bool };
 

@@ -44,8 +44,8 @@ impl<O: Origin, F: Ledgers> Guarded<O, F> {
         }
     }
 
-    /// Turns of the hart whose shares these are, one after the other, until one doesn't step, so many are made, or the hart has
-    /// made 2^40 in all.
+    /// Turns of the hart whose shares these are, one after the other, until one doesn't step, so many are made, or the
+    /// hart has made 2^40 in all.
     pub(crate) fn turns(&mut self, shares: &mut Shares<F>, most: u64) -> Result<Batch, Refusal>
         requires there { hart_of shares.old < O.harts }
         requires some { 1 ≤ most }
@@ -54,12 +54,16 @@ impl<O: Origin, F: Ledgers> Guarded<O, F> {
         ensures first { IfOk result (λ batch. batch.first ≡ number_in shares.old + 1) }
         ensures made { IfOk result (λ batch. (1 ≤ batch.made) × (batch.made ≤ most)) }
         ensures most { IfOk result (λ batch. number_in shares.old + batch.made ≤ most_turns) }
-        ensures came { IfOk result (λ batch. CameSo O.image O.harts O.resumed (hart_of shares.old) (number_in shares.old) (tally_in shares.old) batch.made batch.last) }
+        ensures came { IfOk result (λ batch. CameSo O.image O.harts O.resumed (hart_of shares.old)
+            (number_in shares.old) (tally_in shares.old) batch.made batch.last) }
         ensures idle { IfOk result (λ batch. (batch.last ≡ Idle) ↔ (tally_in shares.old % 16 ≢ 0)) }
         ensures number { IfOk result (λ batch. number_in shares.new ≡ number_in shares.old + batch.made) }
-        ensures tally { IfOk result (λ batch. tally_in shares.new ≡ tally_in shares.old + (16 * (batch.made - 1) + code_of batch.last)) }
-        ensures whole { IfOk result (λ batch. batch.last ≡ Stepped → batch.made < most → most_turns ≤ number_in shares.new) }
-        ensures same { OnErr result ((number_in shares.new ≡ number_in shares.old) × (tally_in shares.new ≡ tally_in shares.old)) }
+        ensures tally { IfOk result (λ batch. tally_in shares.new
+            ≡ tally_in shares.old + (16 * (batch.made - 1) + code_of batch.last)) }
+        ensures whole { IfOk result (λ batch. batch.last ≡ Stepped → batch.made < most
+            → most_turns ≤ number_in shares.new) }
+        ensures same { OnErr result ((number_in shares.new ≡ number_in shares.old)
+            × (tally_in shares.new ≡ tally_in shares.old)) }
         ensures spent { (result ≡ Err TurnsSpent) ↔ (most_turns ≤ number_in shares.old) }
         ensures refused { IfErr result (λ why. number_of why ≤ 2) }
     {
@@ -70,7 +74,8 @@ impl<O: Origin, F: Ledgers> Guarded<O, F> {
         Ok(batch)
     }
 
-    /// Looks at the hart of these shares behind its turns, of which the last came to this. Whether its thread is to give way.
+    /// Looks at the hart of these shares behind its turns, of which the last came to this. Whether its thread is to
+    /// give way.
     pub(crate) fn gives_way(
         &mut self,
         shares: &Shares<F>,
@@ -92,10 +97,12 @@ impl<O: Origin, F: Ledgers> Guarded<O, F> {
     /// What a seat was told is what the log says of its hart.
     pub(crate) fn agree(&mut self, shares: &mut Shares<F>)
         requires { hart_of shares.old < O.harts }
-        ensures same { (self.new.locked.machine ≡ self.old.locked.machine) × (self.new.locked.log ≡ self.old.locked.log) }
+        ensures same { (self.new.locked.machine ≡ self.old.locked.machine)
+            × (self.new.locked.log ≡ self.old.locked.log) }
         ensures number { number_in shares.old ≡ count_of self.old.locked.log.turns (hart_of shares.old) }
         ensures tally { tally_in shares.old ≡ tally O.image O.harts self.old.locked.log.turns (hart_of shares.old) }
-        ensures shares { (hart_of shares.new ≡ hart_of shares.old) × (number_in shares.new ≡ number_in shares.old) × (tally_in shares.new ≡ tally_in shares.old) }
+        ensures shares { (hart_of shares.new ≡ hart_of shares.old) × (number_in shares.new ≡ number_in shares.old)
+            × (tally_in shares.new ≡ tally_in shares.old) }
     {
         self.books.agree(shares);
     }

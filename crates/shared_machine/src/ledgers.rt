@@ -91,9 +91,12 @@ pub(crate) fn open<F: Ledgers, const HART: usize>(
 impl<F: Ledgers, const HART: usize> HartBooks<F, HART> {
     /// The seat and the books know the same.
     pub(crate) fn agree(&mut self, shares: &mut HartShares<F, HART>)
-        ensures books { (self.new.number.total ≡ self.old.number.total) × (self.new.tally.total ≡ self.old.tally.total) }
-        ensures shares { (shares.new.number.amount ≡ shares.old.number.amount) × (shares.new.tally.amount ≡ shares.old.tally.amount) }
-        ensures same { (shares.old.number.amount ≡ self.old.number.total) × (shares.old.tally.amount ≡ self.old.tally.total) }
+        ensures books { (self.new.number.total ≡ self.old.number.total)
+            × (self.new.tally.total ≡ self.old.tally.total) }
+        ensures shares { (shares.new.number.amount ≡ shares.old.number.amount)
+            × (shares.new.tally.amount ≡ shares.old.tally.amount) }
+        ensures same { (shares.old.number.amount ≡ self.old.number.total)
+            × (shares.old.tally.amount ≡ self.old.tally.total) }
     {
         self.number.audit(&mut shares.number);
         self.tally.audit(&mut shares.tally);
@@ -101,8 +104,10 @@ impl<F: Ledgers, const HART: usize> HartBooks<F, HART> {
 
     /// So many turns more, with the sum of the codes of their outcomes.
     pub(crate) fn count(&mut self, shares: &mut HartShares<F, HART>, turns: u64, codes: u64)
-        ensures books { (self.new.number.total ≡ self.old.number.total + turns) × (self.new.tally.total ≡ self.old.tally.total + codes) }
-        ensures shares { (shares.new.number.amount ≡ shares.old.number.amount + turns) × (shares.new.tally.amount ≡ shares.old.tally.amount + codes) }
+        ensures books { (self.new.number.total ≡ self.old.number.total + turns)
+            × (self.new.tally.total ≡ self.old.tally.total + codes) }
+        ensures shares { (shares.new.number.amount ≡ shares.old.number.amount + turns)
+            × (shares.new.tally.amount ≡ shares.old.tally.amount + codes) }
     {
         self.number.add(&mut shares.number, turns);
         self.tally.add(&mut shares.tally, codes);

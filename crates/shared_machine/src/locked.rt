@@ -1,6 +1,7 @@
 //! A machine beside the log of its turns.
 
-ghost use Rattle.std.specs.Prelude.{◌≡◌, ◌+◌, ◌-◌, ◌<◌, ◌≤◌, ◌↔◌, length, Err, OnOk, IfOk, IfErr, OnErr, Some, slice_get};
+ghost use Rattle.std.specs.Prelude.{◌≡◌, ◌+◌, ◌-◌, ◌<◌, ◌≤◌, ◌↔◌, length, Err, OnOk, IfOk, IfErr, OnErr, Some};
+ghost use Rattle.std.specs.Prelude.{slice_get};
 ghost use Rattle.rv_insn.specs.declared.outcomes.Outcome.TheVariants.{Stepped};
 ghost use Rattle.multi_hart.specs.Run.{turn, outcome};
 ghost use Rattle.turn_log.specs.TurnLog.{IsLog, count_of, most_turns};
@@ -66,8 +67,8 @@ impl<O: Origin> Locked<O> {
         Ok(machine.turn(hart))
     }
 
-    /// Turns of a hart one after the other, which the log then tells: until one doesn't step, so many are made, or the hart has
-    /// made 2^40 in all. It makes at least one.
+    /// Turns of a hart one after the other, which the log then tells: until one doesn't step, so many are made, or the
+    /// hart has made 2^40 in all. It makes at least one.
     pub fn turns(&mut self, hart: usize, most: u64) -> Result<Batch, Refusal>
         requires there { hart < O.harts }
         requires some { 1 ≤ most }
@@ -77,8 +78,10 @@ impl<O: Origin> Locked<O> {
         ensures machine { IfOk result (λ batch. self.new.machine ≡ after_turns self.old.machine hart batch.made) }
         ensures log { IfOk result (λ batch. self.new.log ≡ with_turns self.old.log hart batch.made) }
         ensures steps { IfOk result (λ batch. StepsOn self.old.machine hart (batch.made - 1)) }
-        ensures last { IfOk result (λ batch. batch.last ≡ outcome (after_turns self.old.machine hart (batch.made - 1)) hart) }
-        ensures whole { IfOk result (λ batch. batch.last ≡ Stepped → batch.made < most → most_turns ≤ count_of self.old.log.turns hart + batch.made) }
+        ensures last { IfOk result (λ batch. batch.last ≡ outcome (after_turns self.old.machine hart (batch.made - 1))
+            hart) }
+        ensures whole { IfOk result (λ batch. batch.last ≡ Stepped → batch.made < most
+            → most_turns ≤ count_of self.old.log.turns hart + batch.made) }
         ensures same { OnErr result ((self.new.machine ≡ self.old.machine) × (self.new.log ≡ self.old.log)) }
         ensures spent { (result ≡ Err TurnsSpent) ↔ (most_turns ≤ count_of self.old.log.turns hart) }
         ensures refused { IfErr result (λ why. number_of why ≤ 2) }

@@ -15,7 +15,8 @@ const LOOKS: u32 = 1_000;
 /// How many microseconds a nap is.
 const NAP: u64 = 1_000;
 
-/// After how many naps a thread has waited in vain: a second and a half, and longer where the processors are busy, since each nap then is.
+/// After how many naps a thread has waited in vain: a second and a half, and longer where the processors are busy,
+/// since each nap then is.
 const NAPS: u32 = 1_500;
 
 /// Work that is done at each of several places, or left at all of them.
@@ -39,8 +40,8 @@ pub(crate) trait Work<T> {
         ensures left { left self.now it.old it.new };
 }
 
-/// Does the work of each place in a thread of its own. The threads meet before: where one of them can't be had, or doesn't come for more than
-/// a second, the work is left at each place. Whether it was done.
+/// Does the work of each place in a thread of its own. The threads meet before: where one of them can't be had, or
+/// doesn't come for more than a second, the work is left at each place. Whether it was done.
 pub(crate) fn for_each_met<T: Send, W: Work<T> + Sync, R: Threads + Wait + Sync>(
     rt: &R,
     s: &mut [T],
@@ -104,11 +105,13 @@ fn work_at_both<'a, T: Send, W: Work<T> + Sync, R: Threads + Wait + Sync>(
 {
     let mut front = || -> OnceToken<'_, Option<AllHere>>
         requires { IsSync R.row × IsSync W.row × IsSend T.row × (1 ≤ length a.now) × All (W.fits work.now) a.now }
-        ensures { (result.of ≡ meeting.entry.now.decision.id) × All (W.fits work.entry.now) a.exit.now × Came (W.done work.entry.now) (W.left work.entry.now) result.value a.entry.now a.exit.now }
+        ensures { (result.of ≡ meeting.entry.now.decision.id) × All (W.fits work.entry.now) a.exit.now
+            × Came (W.done work.entry.now) (W.left work.entry.now) result.value a.entry.now a.exit.now }
     { work_at(rt, meeting, work, a) };
     let mut back = || -> OnceToken<'_, Option<AllHere>>
         requires { IsSync R.row × IsSync W.row × IsSend T.row × (1 ≤ length b.now) × All (W.fits work.now) b.now }
-        ensures { (result.of ≡ meeting.entry.now.decision.id) × All (W.fits work.entry.now) b.exit.now × Came (W.done work.entry.now) (W.left work.entry.now) result.value b.entry.now b.exit.now }
+        ensures { (result.of ≡ meeting.entry.now.decision.id) × All (W.fits work.entry.now) b.exit.now
+            × Came (W.done work.entry.now) (W.left work.entry.now) result.value b.entry.now b.exit.now }
     { work_at(rt, meeting, work, b) };
     let (decision, other) = join_mut(rt, &mut front, &mut back);
     decision.agrees(&other);
@@ -181,8 +184,8 @@ impl Meeting {
         }
     }
 
-    /// Comes, and waits for the others. Whether all have come: who comes last decides that they have, and who has waited in vain that they
-    /// haven't, whichever is first.
+    /// Comes, and waits for the others. Whether all have come: who comes last decides that they have, and who has
+    /// waited in vain that they haven't, whichever is first.
     fn attend<R: Wait>(&self, rt: &R) -> OnceToken<'_, Option<AllHere>>
         ensures { result.of ≡ self.now.decision.id }
     {

@@ -44,8 +44,8 @@ impl<O: Origin, F: Ledgers> Shared<O, F> {
         Shared::resume(alloc, image, TurnLog::new(alloc, harts), blanks)
     }
 
-    /// The machine of an image after the turns of a log, of as many harts as the log has, and a seat for each hart, in order:
-    /// the seats' numbers and tallies are those of the log. The log goes on.
+    /// The machine of an image after the turns of a log, of as many harts as the log has, and a seat for each hart, in
+    /// order: the seats' numbers and tallies are those of the log. The log goes on.
     pub fn resume(
         alloc: Global,
         image: Image,
@@ -59,7 +59,8 @@ impl<O: Origin, F: Ledgers> Shared<O, F> {
         ensures all { IfOk result (λ made. length made.1.items ≡ log.harts) }
         ensures glances { IfOk result (λ made. made.0.glances_left ≡ 8) }
         ensures of { IfOk result (λ made. All (IsSeatOf (name_of made.0.board)) made.1.items) }
-        ensures seats { IfOk result (λ made. AreSeatsAt (name_of made.0.board) (count_of log.turns) (tally image log.harts log.turns) 0 made.1.items) }
+        ensures seats { IfOk result (λ made. AreSeatsAt (name_of made.0.board) (count_of log.turns)
+            (tally image log.harts log.turns) 0 made.1.items) }
     {
         let harts = log.harts();
         let mut machine = image.machine(alloc, harts)?;
@@ -92,8 +93,8 @@ struct Parts<F: Ledgers> {
     glances: Vec<Glance>,
 }
 
-/// The seats of the harts that have these shares and places, with a glance for each. Each has made its hart's turns of the log, and
-/// has the tally given; the books then know them too.
+/// The seats of the harts that have these shares and places, with a glance for each. Each has made its hart's turns of
+/// the log, and has the tally given; the books then know them too.
 fn take_seats<O: Origin, F: Ledgers>(
     alloc: Global,
     board: &Board,
@@ -114,7 +115,8 @@ fn take_seats<O: Origin, F: Ledgers>(
     requires enough { length parts.shares.items ≤ length parts.glances.items }
     requires glances { All (IsGlanceOf (name_of board.now)) parts.glances.items }
     ensures all { IfOk result (λ seats. length seats.items ≡ length parts.shares.items) }
-    ensures seats { IfOk result (λ seats. AreSeatsAt (name_of board.now) (count_of log.now.turns) (tally O.image O.harts log.now.turns) 0 seats.items) }
+    ensures seats { IfOk result (λ seats. AreSeatsAt (name_of board.now) (count_of log.now.turns)
+        (tally O.image O.harts log.now.turns) 0 seats.items) }
     ensures numbers { OnOk result (numbers_of books.new ≡ each (count_of log.now.turns)) }
     ensures sums { OnOk result (tallies_of books.new ≡ each (tally O.image O.harts log.now.turns)) }
 {

@@ -5,8 +5,8 @@ ghost use Rattle.loader.specs.Image.{ImageContents};
 
 use std::marker::Brand;
 
-/// Stands, in a type, for the image and the number of harts that a machine starts from, and for the turns that its log begins
-/// with: none, or those of the log from which it goes on. Whoever makes one picks them.
+/// Stands, in a type, for the image and the number of harts that a machine starts from, and for the turns that its log
+/// begins with: none, or those of the log from which it goes on. Whoever makes one picks them.
 pub trait Origin {
     ghost image: { ImageContents };
 

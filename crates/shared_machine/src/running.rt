@@ -28,8 +28,9 @@ use turn_log::TurnLog;
 /// How many turns are made under one lock at most.
 const BATCH: u64 = 64;
 
-/// Runs the machine of an image on from a log of its turns, in a thread for each of the log's harts, until each has stopped or has made so
-/// many turns more. The machine at the end, and the log of all turns, which begins with the one given.
+/// Runs the machine of an image on from a log of its turns, in a thread for each of the log's harts, until each has
+/// stopped or has made so many turns more. The machine at the end, and the log of all turns, which begins with the one
+/// given.
 ///
 /// Where a turn is refused memory, none comes out; nor where threads can't be had.
 pub fn run<R: Threads + Wait + Sync>(
@@ -74,7 +75,8 @@ fn run_out<O: Origin + Send + Sync, F: Ledgers + Send + Sync, R: Threads + Wait 
 ) -> Result<(Machine, TurnLog), DriveFault>
     requires all { length seats.items ≡ O.harts }
     requires of { All (IsSeatOf (name_of shared.board)) seats.items }
-    requires at { AreSeatsAt (name_of shared.board) (count_of O.resumed) (tally O.image O.harts O.resumed) 0 seats.items }
+    requires at { AreSeatsAt (name_of shared.board) (count_of O.resumed) (tally O.image O.harts O.resumed) 0
+        seats.items }
     ensures machine { IfOk result (λ ran. ran.0 ≡ state_after O.image O.harts ran.1.turns) }
     ensures log { IfOk result (λ ran. IsRunOf O.image O.harts O.resumed limit ran.1) }
 {
@@ -101,8 +103,8 @@ fn drive_all<O: Origin + Send + Sync, F: Ledgers + Send + Sync, R: Threads + Wai
     drive_batched(rt, shared, seats.as_mut_slice(), limit, BATCH, &AlwaysOpen)
 }
 
-/// Why a thread ended that should have gone on: a turn was refused memory, or a stop was asked, which is asked where threads can't
-/// be had.
+/// Why a thread ended that should have gone on: a turn was refused memory, or a stop was asked, which is asked where
+/// threads can't be had.
 fn check_ended<O: Origin, F: Ledgers>(seats: &[Seat<O, F>]) -> Result<(), DriveFault>
     ensures memory { OnOk result (has_refused 1 seats.now ≡ false) }
     ensures stopped { OnOk result (has_refused 3 seats.now ≡ false) }

@@ -1,6 +1,7 @@
 //! A machine that threads share.
 
-ghost use Rattle.std.specs.Prelude.{◌≡◌, ◌≢◌, ◌+◌, ◌-◌, ◌*◌, ◌%◌, ◌<◌, ◌≤◌, ◌↔◌, true, Err, OnErr, IfOk, IfSome, IfNone};
+ghost use Rattle.std.specs.Prelude.{◌≡◌, ◌≢◌, ◌+◌, ◌-◌, ◌*◌, ◌%◌, ◌<◌, ◌≤◌, ◌↔◌, true, Err, OnErr, IfOk, IfSome};
+ghost use Rattle.std.specs.Prelude.{IfNone};
 ghost use Rattle.turn_log.specs.TurnLog.{most_turns};
 ghost use Rattle.board.specs.Closing.{IsNewGlance};
 ghost use Rattle.board.specs.Tokens.{name_of, has_asked, has_seen_stop};
@@ -63,8 +64,9 @@ impl<O: Origin, F: Ledgers> Shared<O, F> {
 
     /// What lies under the lock, once it is free.
     ///
-    /// A thread that finds the lock held naps, and does not queue: the one that has it then takes it again without a call of the system, which
-    /// would cost more than a batch of turns. So that none waits for ever where others always come first, it queues after so many naps.
+    /// A thread that finds the lock held naps, and does not queue: the one that has it then takes it again without a
+    /// call of the system, which would cost more than a batch of turns. So that none waits for ever where others always
+    /// come first, it queues after so many naps.
     fn locked<R: Wait>(&self, rt: &R) -> MutexGuard<'_, Guarded<O, F>> {
         for _nap in 0..NAPS {
             for _look in 0..LOOKS {
@@ -80,21 +82,24 @@ impl<O: Origin, F: Ledgers> Shared<O, F> {
 
     /// One turn of the seat's hart, under the lock. A hart that has stopped makes one too. Waits for the lock.
     ///
-    /// A call that finds a stop asked makes no turn and says so, and so does each later call by this seat. One that comes after a
-    /// stop was asked by the seat finds it.
+    /// A call that finds a stop asked makes no turn and says so, and so does each later call by this seat. One that
+    /// comes after a stop was asked by the seat finds it.
     pub fn turn<R: Wait>(&self, rt: &R, seat: &mut Seat<O, F>) -> Result<Report, Refusal>
         requires { IsSeatOf (name_of self.now.board) seat.old }
         ensures of { IsSeatOf (name_of self.now.board) seat.new × (hart seat.new ≡ hart seat.old) }
-        ensures number { IfOk result (λ report. (report.number ≡ number seat.old + 1) × (number seat.new ≡ report.number)) }
+        ensures number { IfOk result (λ report. (report.number ≡ number seat.old + 1)
+            × (number seat.new ≡ report.number)) }
         ensures tally { IfOk result (λ report. tally seat.new ≡ tally seat.old + code_of report.outcome) }
-        ensures came { IfOk result (λ report. Came O.image O.harts O.resumed (hart seat.old) (number seat.old) (tally seat.old) report.outcome) }
+        ensures came { IfOk result (λ report. Came O.image O.harts O.resumed (hart seat.old) (number seat.old)
+            (tally seat.old) report.outcome) }
         ensures idle { IfOk result (λ report. (report.outcome ≡ Idle) ↔ (tally seat.old % 16 ≢ 0)) }
         ensures same { OnErr result ((number seat.new ≡ number seat.old) × (tally seat.new ≡ tally seat.old)) }
         ensures spent { (result ≡ Err TurnsSpent) ↔ (most_turns ≤ number seat.old) }
         ensures stopped { result ≡ Err StopAsked → has_seen_stop seat.new.glance ≡ true }
         ensures told { has_seen_stop seat.new.glance ≡ true → number seat.old < most_turns → result ≡ Err StopAsked }
         ensures asked { has_asked seat.old.glance ≡ true → number seat.old < most_turns → result ≡ Err StopAsked }
-        ensures kept { (has_asked seat.new.glance ≡ has_asked seat.old.glance) × (has_seen_stop seat.old.glance ≡ true → has_seen_stop seat.new.glance ≡ true) }
+        ensures kept { (has_asked seat.new.glance ≡ has_asked seat.old.glance) × (has_seen_stop seat.old.glance ≡ true
+            → has_seen_stop seat.new.glance ≡ true) }
         ensures ended { seat.new.ended ≡ seat.old.ended }
     {
         match self.turns(rt, seat, 1) {
@@ -106,17 +111,20 @@ impl<O: Origin, F: Ledgers> Shared<O, F> {
         }
     }
 
-    /// Turns of the seat's hart, one after the other, under one lock: until one doesn't step, so many are made, or the seat's
-    /// number is 2^40. It makes at least one. Waits for the lock. A stop is told as by [`turn`](Shared::turn).
+    /// Turns of the seat's hart, one after the other, under one lock: until one doesn't step, so many are made, or the
+    /// seat's number is 2^40. It makes at least one. Waits for the lock. A stop is told as by [`turn`](Shared::turn).
     pub fn turns<R: Wait>(&self, rt: &R, seat: &mut Seat<O, F>, most: u64) -> Result<Batch, Refusal>
         requires of { IsSeatOf (name_of self.now.board) seat.old }
         requires some { 1 ≤ most }
         requires few { most ≤ most_batch }
         ensures of { IsSeatOf (name_of self.now.board) seat.new × (hart seat.new ≡ hart seat.old) }
         ensures made { IfOk result (λ batch. (1 ≤ batch.made) × (batch.made ≤ most)) }
-        ensures number { IfOk result (λ batch. (batch.first ≡ number seat.old + 1) × (number seat.new ≡ number seat.old + batch.made)) }
-        ensures tally { IfOk result (λ batch. tally seat.new ≡ tally seat.old + (16 * (batch.made - 1) + code_of batch.last)) }
-        ensures came { IfOk result (λ batch. CameSo O.image O.harts O.resumed (hart seat.old) (number seat.old) (tally seat.old) batch.made batch.last) }
+        ensures number { IfOk result (λ batch. (batch.first ≡ number seat.old + 1)
+            × (number seat.new ≡ number seat.old + batch.made)) }
+        ensures tally { IfOk result (λ batch. tally seat.new
+            ≡ tally seat.old + (16 * (batch.made - 1) + code_of batch.last)) }
+        ensures came { IfOk result (λ batch. CameSo O.image O.harts O.resumed (hart seat.old) (number seat.old)
+            (tally seat.old) batch.made batch.last) }
         ensures idle { IfOk result (λ batch. (batch.last ≡ Idle) ↔ (tally seat.old % 16 ≢ 0)) }
         ensures whole { IfOk result (λ batch. batch.last ≡ Stepped → batch.made < most → most_turns ≤ number seat.new) }
         ensures same { OnErr result ((number seat.new ≡ number seat.old) × (tally seat.new ≡ tally seat.old)) }
@@ -124,7 +132,8 @@ impl<O: Origin, F: Ledgers> Shared<O, F> {
         ensures stopped { result ≡ Err StopAsked → has_seen_stop seat.new.glance ≡ true }
         ensures told { has_seen_stop seat.new.glance ≡ true → number seat.old < most_turns → result ≡ Err StopAsked }
         ensures asked { has_asked seat.old.glance ≡ true → number seat.old < most_turns → result ≡ Err StopAsked }
-        ensures kept { (has_asked seat.new.glance ≡ has_asked seat.old.glance) × (has_seen_stop seat.old.glance ≡ true → has_seen_stop seat.new.glance ≡ true) }
+        ensures kept { (has_asked seat.new.glance ≡ has_asked seat.old.glance) × (has_seen_stop seat.old.glance ≡ true
+            → has_seen_stop seat.new.glance ≡ true) }
         ensures ended { seat.new.ended ≡ seat.old.ended }
     {
         let Seat {

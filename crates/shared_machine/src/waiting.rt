@@ -9,7 +9,8 @@ use rv_insn::Reg;
 /// How often a thread gives way while no hart gets on.
 const MOST_WAYS: u32 = 1_000;
 
-/// What a thread remembers of the hart whose turns it makes: how that stood behind its last turns, and what came since of all harts.
+/// What a thread remembers of the hart whose turns it makes: how that stood behind its last turns, and what came since
+/// of all harts.
 #[derive(Clone, Copy, Debug)]
 pub(crate) struct Stance {
     pc: u32,
@@ -29,9 +30,9 @@ impl Stance {
         }
     }
 
-    /// Looks at a hart behind its turns. Whether it stands as it stood behind those before: then it went round a loop that changed none of
-    /// its registers, as one that waits at a gate does. Registers are compared by a number that is made of all of them, and where the pc is
-    /// the same alone, so that a look costs little beside the turns.
+    /// Looks at a hart behind its turns. Whether it stands as it stood behind those before: then it went round a loop
+    /// that changed none of its registers, as one that waits at a gate does. Registers are compared by a number that is
+    /// made of all of them, and where the pc is the same alone, so that a look costs little beside the turns.
     pub(crate) fn stays(&mut self, machine: &Machine, hart: usize) -> bool
         requires { hart < length machine.now.harts }
     {
@@ -46,8 +47,8 @@ impl Stance {
         same
     }
 
-    /// Whether the thread of a hart that stays is to give way, where harts have got on so often. It gives way again and again as long as
-    /// another gets on, and so often where none does, since that one may sleep.
+    /// Whether the thread of a hart that stays is to give way, where harts have got on so often. It gives way again and
+    /// again as long as another gets on, and so often where none does, since that one may sleep.
     pub(crate) fn gives_way(&mut self, worked: u64) -> bool {
         if worked != self.worked {
             self.worked = worked;

@@ -10,7 +10,8 @@ use task_code_scalar::loops::are_copies;
 
 fn plus(a: u32, b: u32) -> u32
     requires { (a ≤ 2 ^ 18) × (b ≤ 2 ^ 18) }
-    ensures { (result ≤ 2 ^ 18) × ((m n : ℕ) → a ≡ min m (2 ^ 18) → b ≡ min n (2 ^ 18) → result ≡ min (m + n) (2 ^ 18)) }
+    ensures { (result ≤ 2 ^ 18) × ((m n : ℕ) → a ≡ min m (2 ^ 18) → b ≡ min n (2 ^ 18)
+        → result ≡ min (m + n) (2 ^ 18)) }
 {
     if a + b < 1 << 18 { a + b } else { 1 << 18 }
 }
@@ -104,7 +105,8 @@ fn times(count: u32, size: u32) -> u32
 /// Of a loop in so many turns around a body of so many words.
 fn loop_size(is_laid: bool, count: u32, body: u32) -> u32
     requires { body ≤ 2 ^ 18 }
-    ensures { (result ≤ 2 ^ 18) × ((n : ℕ) → body ≡ min n (2 ^ 18) → result ≡ min (spec.loop_size is_laid count n) (2 ^ 18)) }
+    ensures { (result ≤ 2 ^ 18) × ((n : ℕ) → body ≡ min n (2 ^ 18)
+        → result ≡ min (spec.loop_size is_laid count n) (2 ^ 18)) }
 {
     if are_copies(is_laid, count) {
         plus(times(count, plus(body, 1)), 1)

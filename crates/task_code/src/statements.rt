@@ -36,7 +36,8 @@ fn emit_store(
     scope: &[Counter],
     store: &Store,
 ) -> Result<(), CodeFault>
-    ensures ok { OnOk result (Emits code.old.items code.new.items (store_code places.now scope.now store.now) × (fits_store places.now scope.now store.now ≡ true)) }
+    ensures ok { OnOk result (Emits code.old.items code.new.items (store_code places.now scope.now store.now)
+        × (fits_store places.now scope.now store.now ≡ true)) }
     ensures err { IfErr result (IsFault ⊥ (FitsStore places.now store.now → ⊥)) }
 {
     emit_deep(code, places, scope, &store.x, 0)?;
@@ -60,7 +61,8 @@ fn emit_at_once(
     kind: LoopKind,
     body: &Stmt,
 ) -> Result<bool, AllocError>
-    ensures { IfOk result (λ found. EmitsAtOnce code.old.items code.new.items places.now scope.now counter count body.now found (spec.group_of_loop places.now scope.now counter count kind body.now)) }
+    ensures { IfOk result (λ found. EmitsAtOnce code.old.items code.new.items places.now scope.now counter count
+        body.now found (spec.group_of_loop places.now scope.now counter count kind body.now)) }
 {
     match kind {
         LoopKind::Serial => Ok(false),
@@ -103,8 +105,8 @@ fn group_collected(count: u32, kind: LoopKind, body: &Stmt) -> Option<Group>
     }
 }
 
-/// Appends the code of a loop whose rounds aren't done at once: they collect their pixels where they can, else they are done in turn, whose
-/// words these are.
+/// Appends the code of a loop whose rounds aren't done at once: they collect their pixels where they can, else they are
+/// done in turn, whose words these are.
 fn emit_otherwise(
     alloc: Global,
     code: &mut Vec<u32>,
@@ -116,7 +118,8 @@ fn emit_otherwise(
     body: &Stmt,
     in_turn: &[u32],
 ) -> Result<(), CodeFault>
-    ensures ok { OnOk result (EmitsOtherwise code.old.items code.new.items places.now scope.now counter count kind body.now in_turn.now) }
+    ensures ok { OnOk result (EmitsOtherwise code.old.items code.new.items places.now scope.now counter count kind
+        body.now in_turn.now) }
     ensures err { IfErr result (IsOtherwiseFault places.now scope.now counter count kind body.now in_turn.now) }
 {
     match group_collected(count, kind, body) {
@@ -126,7 +129,8 @@ fn emit_otherwise(
     Ok(())
 }
 
-/// Appends the code of a loop: its rounds at once where that takes no more words than the loop may ask for, else as [`emit_otherwise`] does.
+/// Appends the code of a loop: its rounds at once where that takes no more words than the loop may ask for, else as
+/// [`emit_otherwise`] does.
 fn emit_taken(
     alloc: Global,
     code: &mut Vec<u32>,
@@ -138,7 +142,8 @@ fn emit_taken(
     body: &Stmt,
     in_turn: &[u32],
 ) -> Result<(), CodeFault>
-    ensures ok { OnOk result (EmitsTaken code.old.items code.new.items places.now scope.now counter count kind body.now in_turn.now) }
+    ensures ok { OnOk result (EmitsTaken code.old.items code.new.items places.now scope.now counter count kind body.now
+        in_turn.now) }
     ensures err { IfErr result (IsTakenFault places.now scope.now counter count kind body.now in_turn.now) }
 {
     let mut at_once = Vec::new(alloc);
@@ -264,8 +269,8 @@ fn emit_by_variables(
     Ok(())
 }
 
-/// Appends the code of one task with forms in registers, where there is such code and it is no longer than the phase asks
-/// for; it says whether it did.
+/// Appends the code of one task with forms in registers, where there is such code and it is no longer than the phase
+/// asks for; it says whether it did.
 fn emit_by_forms(
     alloc: Global,
     phase: &Phase,

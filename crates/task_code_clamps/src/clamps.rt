@@ -62,7 +62,8 @@ fn is_zero(range: Range) -> bool
 
 /// Which of two operands an operation takes wherever they lie in these ranges, and are words, if so.
 fn taken_of(operation: Operation, a: Range, b: Range, are_words: bool) -> Taken
-    ensures first { (v w : ℕ) → LiesIn a v → LiesIn b w → (are_words ≡ true → (v < 2 ^ 32) × (w < 2 ^ 32)) → result ≡ Taken.First
+    ensures first { (v w : ℕ) → LiesIn a v → LiesIn b w → (are_words ≡ true → (v < 2 ^ 32) × (w < 2 ^ 32))
+        → result ≡ Taken.First
         → word.applied operation v w ≡ v }
     ensures second { (v w : ℕ) → LiesIn a v → LiesIn b w → result ≡ Taken.Second → word.applied operation v w ≡ w }
 {
@@ -133,7 +134,8 @@ fn both(a: bool, b: bool) -> bool
 
 /// What an operation makes of two expressions without clamps that cut nothing off.
 fn of_both(alloc: Global, operation: Operation, a: Ranged, b: Ranged) -> Result<Ranged, AllocError>
-    ensures { IfOk result (λ made. (places : Places) (bounds : List Bound) (x y : Expr) → IsRanged places bounds x a → IsRanged places bounds y b
+    ensures { IfOk result (λ made. (places : Places) (bounds : List Bound) (x y : Expr) → IsRanged places bounds x a
+        → IsRanged places bounds y b
         → IsRanged places bounds (expressions.Binary operation x y) made) }
 {
     let are_words = both(a.is_word, b.is_word);

@@ -1,5 +1,5 @@
-//! Clamps that cut at one number alone, as sums with a test: where v is at least n - 1, the greater of v and n is v and 1
-//! more if v is below n.
+//! Clamps that cut at one number alone, as sums with a test: where v is at least n - 1, the greater of v and n is v and
+//! 1 more if v is below n.
 
 ghost use Rattle.std.specs.Prelude.{◌≡◌, IfOk, IfSome};
 ghost use Rattle.task_code_clamps.specs.Steps.{IsGreater, IsLesser, IsMore, IsSteppedDown, IsSteppedUp, IsTested};
@@ -49,8 +49,8 @@ fn stepped_down(alloc: Global, own: &Linear, number: u32) -> Result<Expr, AllocE
     Ok(Expr::Binary(Operation::Subtract, sum, test))
 }
 
-/// The greater of a sum and a number that is no more than 1 above it. Of the sum or the one that is 1 more, one without a
-/// number is taken: a register holds the loop variable.
+/// The greater of a sum and a number that is no more than 1 above it. Of the sum or the one that is 1 more, one without
+/// a number is taken: a register holds the loop variable.
 fn greater_by_test(
     alloc: Global,
     own: &Linear,

@@ -1,9 +1,11 @@
-//! Values of an expression that loads two pixels more than once: those are loaded first, and stay in groups of their own.
+//! Values of an expression that loads two pixels more than once: those are loaded first, and stay in groups of their
+//! own.
 
 ghost use Rattle.std.specs.Prelude.{◌≡◌, ◌<◌, ◌≤◌, IfOk, IfSome, OnOk};
 ghost use Rattle.task_code_lanes.specs.Groups.{slots};
 ghost use Rattle.task_code_lane_values.specs.Leaving.{MakesLanes};
-ghost use Rattle.task_code_lane_values.specs.inner.Sharing.{AreParts, IsKeptAt, IsPart, IsTwo, Keeps, MakesOperand, MakesShared};
+ghost use Rattle.task_code_lane_values.specs.inner.Sharing.{AreParts, IsKeptAt, IsPart, IsTwo, Keeps, MakesOperand};
+ghost use Rattle.task_code_lane_values.specs.inner.Sharing.{MakesShared};
 
 use crate::scalars::is_steady;
 use crate::values::emit_lanes;

@@ -4,7 +4,8 @@ ghost use Rattle.std.specs.Prelude.{◌≡◌, ℕ, ◌&&◌, ◌+◌, ◌*◌, 
 ghost use Rattle.task_code_scalar.specs.Code.{frames_of, framed};
 ghost use Rattle.task_code_scalar.specs.Faults.{IsFault};
 ghost use Rattle.task_code_scalar.specs.Words.{Emits};
-ghost use Rattle.task_code_lanes.specs.DeepEmitting.{EmitsDeepLanes, EmitsOtherLanes, EmitsSecondLanes, FitOtherLanes, FitsDeepLanes, FitsSecondLanes};
+ghost use Rattle.task_code_lanes.specs.DeepEmitting.{EmitsDeepLanes, EmitsOtherLanes, EmitsSecondLanes, FitOtherLanes};
+ghost use Rattle.task_code_lanes.specs.DeepEmitting.{FitsDeepLanes, FitsSecondLanes};
 ghost use Rattle.task_code_lanes.specs.DeepLanes as spec;
 ghost use Rattle.task_code_lanes.specs.Lanes.{laned};
 
@@ -27,7 +28,8 @@ use task_code_scalar::places::Places;
 
 /// Where a slot of hart 0's frame begins.
 fn frame_slot(frames: Option<u32>, n: u8) -> Result<u32, CodeFault>
-    ensures ok { IfOk result (λ address. (address ≡ (frames_of frames + 64 * n) % 2 ^ 32) × ((n < spec.frame_slots frames) × (n < 64))) }
+    ensures ok { IfOk result (λ address. (address ≡ (frames_of frames + 64 * n) % 2 ^ 32)
+        × ((n < spec.frame_slots frames) × (n < 64))) }
     ensures err { IfErr result (IsFault ⊥ (n < spec.frame_slots frames → ⊥)) }
 {
     match frames {
@@ -43,7 +45,8 @@ fn frame_slot(frames: Option<u32>, n: u8) -> Result<u32, CodeFault>
 
 /// Appends what leaves in x13 the address of a slot of the hart's frame, given that of hart 0's.
 fn emit_framed(code: &mut Vec<u32>, address: u32) -> Result<(), AllocError>
-    ensures { OnOk result ((frames n : ℕ) → address ≡ (frames + 64 * n) % 2 ^ 32 → Emits code.old.items code.new.items (framed frames (16 * n))) }
+    ensures { OnOk result ((frames n : ℕ) → address ≡ (frames + 64 * n) % 2 ^ 32
+        → Emits code.old.items code.new.items (framed frames (16 * n))) }
 {
     emit_literal(code, 13, address)?;
     emit_literal(code, 14, 4096)?;
@@ -54,7 +57,8 @@ fn emit_framed(code: &mut Vec<u32>, address: u32) -> Result<(), AllocError>
 
 /// Appends what keeps the first slot of the stack in a slot of the frame.
 fn emit_spill(code: &mut Vec<u32>, group: Group, places: &Places, n: u8) -> Result<(), CodeFault>
-    ensures ok { OnOk result (Emits code.old.items code.new.items (spec.spill_lanes group places.now n) × ((spec.has_frame_slot places.now n ≡ true) × (n < 64))) }
+    ensures ok { OnOk result (Emits code.old.items code.new.items (spec.spill_lanes group places.now n)
+        × ((spec.has_frame_slot places.now n ≡ true) × (n < 64))) }
     ensures err { IfErr result (IsFault ⊥ (spec.has_frame_slot places.now n ≡ true → ⊥)) }
 {
     let address = frame_slot(places.frames, n)?;
@@ -141,7 +145,8 @@ pub fn are_above(
     a: &Expr,
     b: &Expr,
 ) -> bool
-    ensures { result ≡ ((laned group places.now scope.now goings.now a.now).fits 1 && (laned group places.now scope.now goings.now b.now).fits 2) }
+    ensures { result ≡ ((laned group places.now scope.now goings.now a.now).fits 1 &&
+        (laned group places.now scope.now goings.now b.now).fits 2) }
 {
     fits_lanes(group, places, scope, goings, a, 1) && fits_lanes(group, places, scope, goings, b, 2)
 }
@@ -150,12 +155,13 @@ pub fn are_above(
 
 /// Appends what leaves the values of an expression in the first slot of the stack, with the frame free from a slot on.
 ///
-/// Whether the stack suffices is asked of further operands alone, since the first one has its first slot to itself: each time a part is
-/// asked in a higher slot, so that none is asked more often than the stack has slots.
+/// Whether the stack suffices is asked of further operands alone, since the first one has its first slot to itself:
+/// each time a part is asked in a higher slot, so that none is asked more often than the stack has slots.
 ///
 /// # Errors
 ///
-/// Memory ran out, or the code can't be made: the frame's slots don't suffice, bytes can't be reached, or a divisor is 0.
+/// Memory ran out, or the code can't be made: the frame's slots don't suffice, bytes can't be reached, or a divisor is
+/// 0.
 #[cycle(deeply)]
 #[tactic(auto, unfolding(crate::specs::DeepLanes::deep_laned))]
 pub fn emit_deep_lanes(
@@ -167,8 +173,10 @@ pub fn emit_deep_lanes(
     e: &Expr,
     n: u8,
 ) -> Result<(), CodeFault>
-    ensures ok { OnOk result (EmitsDeepLanes code.old.items code.new.items (spec.deep_laned group places.now scope.now goings.now e.now) n) }
-    ensures err { IfErr result (IsFault ⊥ (FitsDeepLanes (spec.deep_laned group places.now scope.now goings.now e.now) n → ⊥)) }
+    ensures ok { OnOk result (EmitsDeepLanes code.old.items code.new.items (spec.deep_laned group places.now scope.now
+        goings.now e.now) n) }
+    ensures err { IfErr result (IsFault ⊥ (FitsDeepLanes (spec.deep_laned group places.now scope.now goings.now e.now) n
+        → ⊥)) }
 {
     match e {
         Expr::Number(_) | Expr::Linear(_) => {
@@ -230,8 +238,10 @@ pub fn emit_second(
     e: &Expr,
     n: u8,
 ) -> Result<(), CodeFault>
-    ensures ok { OnOk result (EmitsSecondLanes code.old.items code.new.items group places.now (spec.deep_laned group places.now scope.now goings.now e.now) n) }
-    ensures err { IfErr result (IsFault ⊥ (FitsSecondLanes places.now (spec.deep_laned group places.now scope.now goings.now e.now) n → ⊥)) }
+    ensures ok { OnOk result (EmitsSecondLanes code.old.items code.new.items group places.now
+        (spec.deep_laned group places.now scope.now goings.now e.now) n) }
+    ensures err { IfErr result (IsFault ⊥ (FitsSecondLanes places.now (spec.deep_laned group places.now scope.now
+        goings.now e.now) n → ⊥)) }
 {
     if fits_lanes(group, places, scope, goings, e, 1) {
         emit_lanes(code, group, places, scope, goings, e, 1)?;
@@ -256,8 +266,12 @@ pub fn emit_others(
     b: &Expr,
     n: u8,
 ) -> Result<(), CodeFault>
-    ensures ok { OnOk result (EmitsOtherLanes code.old.items code.new.items group places.now (spec.deep_laned group places.now scope.now goings.now a.now) (spec.deep_laned group places.now scope.now goings.now b.now) n) }
-    ensures err { IfErr result (IsFault ⊥ (FitOtherLanes places.now (spec.deep_laned group places.now scope.now goings.now a.now) (spec.deep_laned group places.now scope.now goings.now b.now) n → ⊥)) }
+    ensures ok { OnOk result (EmitsOtherLanes code.old.items code.new.items group places.now
+        (spec.deep_laned group places.now scope.now goings.now a.now) (spec.deep_laned group places.now scope.now
+        goings.now b.now) n) }
+    ensures err { IfErr result (IsFault ⊥
+        (FitOtherLanes places.now (spec.deep_laned group places.now scope.now goings.now a.now)
+        (spec.deep_laned group places.now scope.now goings.now b.now) n → ⊥)) }
 {
     if are_above(group, places, scope, goings, a, b) {
         emit_lanes(code, group, places, scope, goings, a, 1)?;

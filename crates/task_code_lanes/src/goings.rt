@@ -35,12 +35,13 @@ pub enum Going {
     Once(u32, u32, Cut),
     /// It is the value of a split loop whose outer counter is such a value; it stays below a bound.
     Twice(u32, u32, Cut, Cut),
-    /// It is the value of a split loop whose outer counter is such a one. There are no more cuts: a stage has at most five loops, so at
-    /// most four splits, and the value of the first one that goes along does so evenly.
+    /// It is the value of a split loop whose outer counter is such a one. There are no more cuts: a stage has at most
+    /// five loops, so at most four splits, and the value of the first one that goes along does so evenly.
     Thrice(u32, Cut, Cut, Cut),
 }
 
-/// How a counter goes along; `goings` has that of the latest counters, `scope` these and those outside of the loop, which stay.
+/// How a counter goes along; `goings` has that of the latest counters, `scope` these and those outside of the loop,
+/// which stay.
 pub fn going_of(scope: &[Counter], goings: &[Going], counter: Counter) -> Going
     ensures { result ≡ spec.going_of scope.now goings.now counter }
 {
@@ -340,7 +341,8 @@ fn emit_strays(
     Ok(())
 }
 
-/// Appends what adds to the lanes of `r` how far the rounds take those counters of a sum that are cut off; `u` is scratch.
+/// Appends what adds to the lanes of `r` how far the rounds take those counters of a sum that are cut off; `u` is
+/// scratch.
 pub fn emit_strayed(
     code: &mut Vec<u32>,
     scope: &[Counter],

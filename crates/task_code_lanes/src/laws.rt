@@ -3,8 +3,8 @@
 ghost use Rattle.task_code_lanes.specs.DeepLeaving.{DeepLanesLeave, PairsLeave, TriplesLeave};
 ghost use Rattle.task_code_lanes.specs.Leaving.{LanesLeave};
 
-/// The code of an expression over lanes leaves its value in each round, wherever it stands, where scalar registers hold what counters
-/// stand at in the first round and memory what is loaded.
+/// The code of an expression over lanes leaves its value in each round, wherever it stands, where scalar registers hold
+/// what counters stand at in the first round and memory what is loaded.
 pub fn lanes_are_left()
     ensures { LanesLeave }
 {}

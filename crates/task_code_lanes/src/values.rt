@@ -88,7 +88,8 @@ fn sum_of_pace(even: bool, step: u32) -> Pace
 }
 
 fn linear_pace(scope: &[Counter], goings: &[Going], terms: &[Term]) -> Pace
-    ensures { result ≡ spec.sum_of_pace (are_all_even scope.now goings.now terms.now) (spec.step_of scope.now goings.now terms.now % 2 ^ 32) }
+    ensures { result ≡ spec.sum_of_pace (are_all_even scope.now goings.now terms.now)
+        (spec.step_of scope.now goings.now terms.now % 2 ^ 32) }
 {
     let even = are_even(scope, goings, terms);
     sum_of_pace(even, step_of(scope, goings, terms))
@@ -286,7 +287,8 @@ pub(crate) fn emit_lanes_quotient(
     u: u8,
 ) -> Result<(), CodeFault>
     requires { (r < 32) × (u < 32) }
-    ensures ok { OnOk result (Emits code.old.items code.new.items (spec.lanes_quotient c r u) × ((0 < c) × (c < 2 ^ 32))) }
+    ensures ok { OnOk result (Emits code.old.items code.new.items (spec.lanes_quotient c r u)
+        × ((0 < c) × (c < 2 ^ 32))) }
     ensures err { IfErr result (IsFault ⊥ (0 < c → ⊥)) }
 {
     if c == 0 {
@@ -308,7 +310,8 @@ pub(crate) fn emit_lanes_remainder(
     u: u8,
 ) -> Result<(), CodeFault>
     requires { (r < 32) × (u < 32) }
-    ensures ok { OnOk result (Emits code.old.items code.new.items (spec.lanes_remainder c r u) × ((0 < c) × (c < 2 ^ 32))) }
+    ensures ok { OnOk result (Emits code.old.items code.new.items (spec.lanes_remainder c r u)
+        × ((0 < c) × (c < 2 ^ 32))) }
     ensures err { IfErr result (IsFault ⊥ (0 < c → ⊥)) }
 {
     if c == 0 {
@@ -356,7 +359,9 @@ fn emit_summed(
     u: u8,
 ) -> Result<(), AllocError>
     requires { (r < 32) × (u < 32) }
-    ensures { OnOk result (Emits code.old.items code.new.items (spec.stepped (spec.step_of scope.now goings.now terms.now % 2 ^ 32) r ++ strayed scope.now goings.now terms.now r u)) }
+    ensures { OnOk result (Emits code.old.items code.new.items
+        (spec.stepped (spec.step_of scope.now goings.now terms.now % 2 ^ 32) r ++ strayed scope.now goings.now terms.now
+        r u)) }
 {
     let step = step_of(scope, goings, terms);
     emit_stepped(code, step, r)?;
@@ -417,7 +422,8 @@ fn emit_word_offsets(code: &mut Vec<u32>, place: &Place, r: u8) -> Result<(), Al
     Ok(())
 }
 
-/// Appends what turns columns in the lanes of `r` and rows in those of `s` into the distances of pixels, in `r`, from the address that x13 then holds.
+/// Appends what turns columns in the lanes of `r` and rows in those of `s` into the distances of pixels, in `r`, from
+/// the address that x13 then holds.
 pub fn emit_offsets(code: &mut Vec<u32>, place: &Place, r: u8, s: u8) -> Result<(), AllocError>
     requires { (r < 32) × (s < 32) }
     ensures { OnOk result (Emits code.old.items code.new.items (spec.offsets place.now r s)) }
@@ -429,7 +435,8 @@ pub fn emit_offsets(code: &mut Vec<u32>, place: &Place, r: u8, s: u8) -> Result<
     Ok(())
 }
 
-/// Appends what makes distances, in the first group, of lanes of columns and rows in two groups, of which `rows` has the rows.
+/// Appends what makes distances, in the first group, of lanes of columns and rows in two groups, of which `rows` has
+/// the rows.
 pub fn emit_distances(
     code: &mut Vec<u32>,
     place: &Place,
@@ -458,7 +465,8 @@ fn emit_numbered(code: &mut Vec<u32>, place: &Place, r: u8) -> Result<(), AllocE
     Ok(())
 }
 
-/// Appends what turns columns in the lanes of `r` into the distances of pixels of the row in x20 from the address that x13 then holds.
+/// Appends what turns columns in the lanes of `r` into the distances of pixels of the row in x20 from the address that
+/// x13 then holds.
 pub fn emit_row_offsets(code: &mut Vec<u32>, place: &Place, r: u8) -> Result<(), AllocError>
     requires { r < 32 }
     ensures { OnOk result (Emits code.old.items code.new.items (spec.row_offsets place.now r)) }
@@ -548,7 +556,8 @@ fn emit_picked(code: &mut Vec<u32>, place: &Place, r: u8, u: u8) -> Result<(), A
     Ok(())
 }
 
-/// Appends what turns columns in the lanes of `r` into the pixels there, of the row that an expression gives; `u` is scratch.
+/// Appends what turns columns in the lanes of `r` into the pixels there, of the row that an expression gives; `u` is
+/// scratch.
 pub(crate) fn emit_row_picked(
     code: &mut Vec<u32>,
     places: &Places,
@@ -559,7 +568,8 @@ pub(crate) fn emit_row_picked(
     u: u8,
 ) -> Result<(), CodeFault>
     requires { (r < 32) × (u < 32) }
-    ensures ok { OnOk result (EmitsPicked code.old.items code.new.items (made places.now scope.now y.now) place.now r u) }
+    ensures ok { OnOk result (EmitsPicked code.old.items code.new.items (made places.now scope.now y.now) place.now r
+        u) }
     ensures err { IfErr result (IsFault ⊥ (FitsStack y.now 20 → ⊥)) }
 {
     emit_value(code, places, scope, y, 20)?;
@@ -583,14 +593,17 @@ fn are_all(a: bool, b: bool, c: bool) -> bool
 
 /// Whether the scalar stack has room for the point at two indexes.
 fn fits_scalars(x: &Expr, y: &Expr) -> bool
-    ensures { (places : AllPlaces) (scope : List Counts) → result ≡ (nat_le (made places scope x.now).need 12 && nat_le (made places scope y.now).need 11) }
+    ensures { (places : AllPlaces) (scope : List Counts)
+        → result ≡ (nat_le (made places scope x.now).need 12 && nat_le (made places scope y.now).need 11) }
 {
     need(x) <= 12 && need(y) <= 11
 }
 
 /// Whether the lanes of a load at these indexes lie one behind the other, and the scalar stack has room for the point.
 pub(crate) fn is_dense(scope: &[Counter], goings: &[Going], x: &Expr, y: &Expr) -> bool
-    ensures { (group : Groups) (places : AllPlaces) → result ≡ spec.is_dense (spec.laned group places scope.now goings.now x.now) (spec.laned group places scope.now goings.now y.now) }
+    ensures { (group : Groups) (places : AllPlaces)
+        → result ≡ spec.is_dense (spec.laned group places scope.now goings.now x.now)
+        (spec.laned group places scope.now goings.now y.now) }
 {
     let column = is_stepping(pace_of(scope, goings, x));
     let row = is_steady(pace_of(scope, goings, y));
@@ -606,7 +619,8 @@ fn fits_scalar(y: &Expr) -> bool
 
 /// Whether all rounds have one row, and the scalar stack has room for it.
 pub fn is_in_one_row(scope: &[Counter], goings: &[Going], y: &Expr) -> bool
-    ensures { (group : Groups) (places : AllPlaces) → result ≡ spec.in_one_row (spec.laned group places scope.now goings.now y.now) }
+    ensures { (group : Groups) (places : AllPlaces)
+        → result ≡ spec.in_one_row (spec.laned group places scope.now goings.now y.now) }
 {
     let steady = is_steady(pace_of(scope, goings, y));
     are_both(steady, fits_scalar(y))
@@ -622,7 +636,8 @@ pub(crate) fn is_reached(place: &Place) -> bool
     }
 }
 
-/// Appends what leaves the values of an expression in a slot, with the slots above it free. It returns the slot's first register.
+/// Appends what leaves the values of an expression in a slot, with the slots above it free. It returns the slot's first
+/// register.
 ///
 /// # Errors
 ///
@@ -637,7 +652,8 @@ pub fn emit_lanes(
     e: &Expr,
     k: u8,
 ) -> Result<u8, CodeFault>
-    ensures ok { IfOk result (λ r. EmitsLanes code.old.items code.new.items group (spec.laned group places.now scope.now goings.now e.now) k r) }
+    ensures ok { IfOk result (λ r. EmitsLanes code.old.items code.new.items group (spec.laned group places.now scope.now
+        goings.now e.now) k r) }
     ensures err { IfErr result (IsFault ⊥ (FitsLanes (spec.laned group places.now scope.now goings.now e.now) k → ⊥)) }
 {
     if k >= group.slots() {

@@ -5,9 +5,11 @@ ghost use Rattle.rv_insn.specs.declared.instructions.Insn.TheVariants.{Vector};
 ghost use Rattle.rv_insn.specs.declared.vector_instructions.VectorInsn.TheVariants as v;
 ghost use Rattle.rv_insn.specs.declared.vector_instructions.Addressing.TheVariants as addressings;
 ghost use Rattle.rv_insn.specs.declared.vector_operations.ElementWidth.TheVariants.{Bits8 as bytes, Bits32 as words};
-ghost use Rattle.rv_insn.specs.declared.vector_operations.ShiftViOp.TheVariants.{Vsll as shift_left, Vsra as shift_right};
+ghost use Rattle.rv_insn.specs.declared.vector_operations.ShiftViOp.TheVariants.{Vsll as shift_left};
+ghost use Rattle.rv_insn.specs.declared.vector_operations.ShiftViOp.TheVariants.{Vsra as shift_right};
 ghost use Rattle.rv_insn.specs.declared.vector_operations.CompareViOp.TheVariants.{Vmsne as not_equal};
-ghost use Rattle.rv_insn.specs.declared.vector_operations.ArithmeticViOp.TheVariants.{Vadd as plus_number, Vand as both_bits};
+ghost use Rattle.rv_insn.specs.declared.vector_operations.ArithmeticViOp.TheVariants.{Vadd as plus_number};
+ghost use Rattle.rv_insn.specs.declared.vector_operations.ArithmeticViOp.TheVariants.{Vand as both_bits};
 ghost use Rattle.task_code_lanes.specs.Groups as spec;
 ghost use Rattle.task_code_scalar.specs.Words.{Emits};
 
@@ -141,7 +143,8 @@ pub fn signs(code: &mut Vec<u32>, d: u8, a: u8) -> Result<(), AllocError>
 /// Appends what copies the lanes of a group.
 pub fn copy(code: &mut Vec<u32>, d: u8, a: u8) -> Result<(), AllocError>
     requires { (d < 32) × (a < 32) }
-    ensures { OnOk result (Emits code.old.items code.new.items (Vector (v.ArithmeticVi plus_number d a (pos 0) true) ∷ [])) }
+    ensures { OnOk result (Emits code.old.items code.new.items (Vector (v.ArithmeticVi plus_number d a (pos 0) true)
+        ∷ [])) }
 {
     let insn = VectorInsn::ArithmeticVi {
         op: ArithmeticViOp::Vadd,
@@ -173,7 +176,8 @@ pub fn times_eight(code: &mut Vec<u32>, d: u8, a: u8) -> Result<(), AllocError>
 /// Appends what clears the two lowest bits of each lane.
 pub fn clear_low_bits(code: &mut Vec<u32>, d: u8) -> Result<(), AllocError>
     requires { d < 32 }
-    ensures { OnOk result (Emits code.old.items code.new.items (Vector (v.ArithmeticVi both_bits d d (negsuc 3) true) ∷ [])) }
+    ensures { OnOk result (Emits code.old.items code.new.items (Vector (v.ArithmeticVi both_bits d d (negsuc 3) true)
+        ∷ [])) }
 {
     let insn = VectorInsn::ArithmeticVi {
         op: ArithmeticViOp::Vand,
@@ -320,7 +324,8 @@ pub fn lane_numbers(code: &mut Vec<u32>, d: u8) -> Result<(), AllocError>
 /// Appends a load of words one behind the other.
 pub fn load_row(code: &mut Vec<u32>, d: u8, r: u8) -> Result<(), AllocError>
     requires { (d < 32) × (r < 32) }
-    ensures { OnOk result (Emits code.old.items code.new.items (Vector (v.LoadElements words d r addressings.UnitStride true) ∷ [])) }
+    ensures { OnOk result (Emits code.old.items code.new.items
+        (Vector (v.LoadElements words d r addressings.UnitStride true) ∷ [])) }
 {
     let insn = VectorInsn::LoadElements {
         width: ElementWidth::Bits32,
@@ -336,7 +341,8 @@ pub fn load_row(code: &mut Vec<u32>, d: u8, r: u8) -> Result<(), AllocError>
 /// Appends a load of bytes one behind the other, into one register.
 fn load_bytes(code: &mut Vec<u32>, d: u8, r: u8) -> Result<(), AllocError>
     requires { (d < 32) × (r < 32) }
-    ensures { OnOk result (Emits code.old.items code.new.items (Vector (v.LoadElements bytes d r addressings.UnitStride true) ∷ [])) }
+    ensures { OnOk result (Emits code.old.items code.new.items
+        (Vector (v.LoadElements bytes d r addressings.UnitStride true) ∷ [])) }
 {
     let insn = VectorInsn::LoadElements {
         width: ElementWidth::Bits8,
@@ -366,7 +372,8 @@ fn extend_bytes(code: &mut Vec<u32>, d: u8, a: u8) -> Result<(), AllocError>
 /// Appends a load of bytes one behind the other as lanes, by way of a register.
 pub fn load_byte_row(code: &mut Vec<u32>, d: u8, r: u8, by: u8) -> Result<(), AllocError>
     requires { (d < 32) × ((r < 32) × (by < 32)) }
-    ensures { OnOk result (Emits code.old.items code.new.items (Vector (v.LoadElements bytes by r addressings.UnitStride true) ∷ Vector (v.ExtendBytes d by true) ∷ [])) }
+    ensures { OnOk result (Emits code.old.items code.new.items
+        (Vector (v.LoadElements bytes by r addressings.UnitStride true) ∷ Vector (v.ExtendBytes d by true) ∷ [])) }
 {
     load_bytes(code, by, r)?;
     extend_bytes(code, d, by)?;
@@ -376,7 +383,8 @@ pub fn load_byte_row(code: &mut Vec<u32>, d: u8, r: u8, by: u8) -> Result<(), Al
 /// Appends a load of words at the distances in the lanes, which then hold them.
 pub fn load_at(code: &mut Vec<u32>, d: u8, r: u8) -> Result<(), AllocError>
     requires { (d < 32) × (r < 32) }
-    ensures { OnOk result (Emits code.old.items code.new.items (Vector (v.LoadElements words d r (addressings.Indexed d) true) ∷ [])) }
+    ensures { OnOk result (Emits code.old.items code.new.items
+        (Vector (v.LoadElements words d r (addressings.Indexed d) true) ∷ [])) }
 {
     let insn = VectorInsn::LoadElements {
         width: ElementWidth::Bits32,
@@ -392,7 +400,8 @@ pub fn load_at(code: &mut Vec<u32>, d: u8, r: u8) -> Result<(), AllocError>
 /// Appends a store of words one behind the other.
 pub fn store_row(code: &mut Vec<u32>, s: u8, r: u8) -> Result<(), AllocError>
     requires { (s < 32) × (r < 32) }
-    ensures { OnOk result (Emits code.old.items code.new.items (Vector (v.StoreElements words s r addressings.UnitStride true) ∷ [])) }
+    ensures { OnOk result (Emits code.old.items code.new.items
+        (Vector (v.StoreElements words s r addressings.UnitStride true) ∷ [])) }
 {
     let insn = VectorInsn::StoreElements {
         width: ElementWidth::Bits32,
@@ -408,7 +417,8 @@ pub fn store_row(code: &mut Vec<u32>, s: u8, r: u8) -> Result<(), AllocError>
 /// Appends a store of words at the distances in the lanes of another group.
 pub fn store_at(code: &mut Vec<u32>, s: u8, r: u8, offsets: u8) -> Result<(), AllocError>
     requires { (s < 32) × (r < 32) × (offsets < 32) }
-    ensures { OnOk result (Emits code.old.items code.new.items (Vector (v.StoreElements words s r (addressings.Indexed offsets) true) ∷ [])) }
+    ensures { OnOk result (Emits code.old.items code.new.items
+        (Vector (v.StoreElements words s r (addressings.Indexed offsets) true) ∷ [])) }
 {
     let insn = VectorInsn::StoreElements {
         width: ElementWidth::Bits32,

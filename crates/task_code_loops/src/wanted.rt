@@ -288,8 +288,8 @@ fn goes_along(sum: &Linear, lanes: Option<Counter>) -> bool {
     }
 }
 
-/// Counts the value of a split loop that is tested, where it isn't known to pass; of one that goes along with lanes, how
-/// far it is from the extent: so many lanes are left.
+/// Counts the value of a split loop that is tested, where it isn't known to pass; of one that goes along with lanes,
+/// how far it is from the extent: so many lanes are left.
 fn count_tested(
     alloc: Global,
     known: &[Known],

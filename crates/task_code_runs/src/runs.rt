@@ -84,8 +84,8 @@ pub fn emit_run(
     Ok(())
 }
 
-/// Appends the code of a vectorized loop that does a store in as many of its first iterations as a sum says in the first
-/// one, or in each: all at once.
+/// Appends the code of a vectorized loop that does a store in as many of its first iterations as a sum says in the
+/// first one, or in each: all at once.
 ///
 /// # Errors
 ///

@@ -1,6 +1,7 @@
 //! The code of expressions.
 
-ghost use Rattle.std.specs.Prelude.{◌≡◌, ℕ, List, ◌+◌, ◌*◌, ◌^◌, ◌<◌, ◌≤◌, [], ◌∷◌, ◌++◌, length, slice_index_or, OnOk, IfErr, IfOk, true};
+ghost use Rattle.std.specs.Prelude.{◌≡◌, ℕ, List, ◌+◌, ◌*◌, ◌^◌, ◌<◌, ◌≤◌, [], ◌∷◌, ◌++◌, length, slice_index_or, OnOk};
+ghost use Rattle.std.specs.Prelude.{IfErr, IfOk, true};
 ghost use Rattle.loop_ir.specs.declared.expressions.Counter.{Counter as Counts};
 ghost use Rattle.task_code_scalar.specs.declared.places.Places.{Places as AllPlaces};
 ghost use Rattle.task_code_scalar.specs.Code as spec;
@@ -80,7 +81,8 @@ fn emit_terms(
     r: u8,
 ) -> Result<(), AllocError>
     requires { r < 32 }
-    ensures { OnOk result (Emits code.old.items code.new.items (spec.terms_code scope.now terms.now r) × (spec.are_words terms.now ≡ true)) }
+    ensures { OnOk result (Emits code.old.items code.new.items (spec.terms_code scope.now terms.now r)
+        × (spec.are_words terms.now ≡ true)) }
 {
     match terms {
         [] => Ok(()),
@@ -101,7 +103,8 @@ pub fn emit_linear(
     r: u8,
 ) -> Result<(), AllocError>
     requires { r < 32 }
-    ensures { OnOk result (Emits code.old.items code.new.items (spec.linear_code scope.now own.now r) × (spec.is_linear own.now ≡ true)) }
+    ensures { OnOk result (Emits code.old.items code.new.items (spec.linear_code scope.now own.now r)
+        × (spec.is_linear own.now ≡ true)) }
 {
     emit_number(code, r, own.number)?;
     emit_terms(code, scope, own.terms.as_slice(), r)?;
@@ -149,8 +152,10 @@ fn above(r: u8, distance: u8) -> Result<u8, CodeFault>
 #[tactic(auto, unfolding(crate::specs::Code::made))]
 fn beside(e: &Expr, r: u8) -> Result<u8, CodeFault>
     requires { r < 32 }
-    ensures ok { IfOk result (λ s. (s < 32) × ((places : AllPlaces) (scope : List Counts) → s ≡ spec.beside (made places scope e.now).is_leaf r)) }
-    ensures err { IfErr result (IsFault ⊥ ((places : AllPlaces) (scope : List Counts) → 32 ≤ spec.beside (made places scope e.now).is_leaf r)) }
+    ensures ok { IfOk result (λ s. (s < 32) × ((places : AllPlaces) (scope : List Counts)
+        → s ≡ spec.beside (made places scope e.now).is_leaf r)) }
+    ensures err { IfErr result (IsFault ⊥ ((places : AllPlaces) (scope : List Counts)
+        → 32 ≤ spec.beside (made places scope e.now).is_leaf r)) }
 {
     match e {
         Expr::Number(_) => Ok(14),
@@ -167,7 +172,8 @@ fn beside(e: &Expr, r: u8) -> Result<u8, CodeFault>
 fn emit_divisor(code: &mut Vec<u32>, divisor: u32, r: u8) -> Result<u8, CodeFault>
     requires { r < 32 }
     ensures above { IfOk result (λ s. (s ≡ r + 1) × (s < 32)) }
-    ensures emits { OnOk result (Emits code.old.items code.new.items (spec.literal (r + 1) divisor) × ((0 < divisor) × (divisor < 2 ^ 32))) }
+    ensures emits { OnOk result (Emits code.old.items code.new.items (spec.literal (r + 1) divisor)
+        × ((0 < divisor) × (divisor < 2 ^ 32))) }
     ensures err { IfErr result (IsFault ⊥ (0 < divisor → 32 ≤ r + 1)) }
 {
     if divisor == 0 {

@@ -1,6 +1,7 @@
 //! The code of expressions whose values may wait in a hart's frame.
 
-ghost use Rattle.std.specs.Prelude.{◌≡◌, ℕ, List, ◌+◌, ◌*◌, ◌^◌, ◌<◌, ◌≤◌, [], ◌∷◌, ◌++◌, length, OnOk, IfErr, IfOk, max, min, true};
+ghost use Rattle.std.specs.Prelude.{◌≡◌, ℕ, List, ◌+◌, ◌*◌, ◌^◌, ◌<◌, ◌≤◌, [], ◌∷◌, ◌++◌, length, OnOk, IfErr, IfOk};
+ghost use Rattle.std.specs.Prelude.{max, min, true};
 ghost use Rattle.loop_ir.specs.declared.expressions.Counter.{Counter as Counts};
 ghost use Rattle.task_code_scalar.specs.declared.places.Places.{Places as AllPlaces};
 ghost use Rattle.task_code_scalar.specs.Code as spec;
@@ -40,7 +41,8 @@ fn beside(need: u8, taken: u8) -> u8
 
 fn pair_need(first: u8, second_is_leaf: bool, second: u8) -> u8
     requires { (first ≤ 100) × (second ≤ 100) }
-    ensures { (result ≤ 100) × ((m n : ℕ) → first ≡ min m 100 → second ≡ min n 100 → result ≡ min (max m (spec.second_need second_is_leaf n)) 100) }
+    ensures { (result ≤ 100) × ((m n : ℕ) → first ≡ min m 100 → second ≡ min n 100
+        → result ≡ min (max m (spec.second_need second_is_leaf n)) 100) }
 {
     if second_is_leaf {
         first
@@ -58,7 +60,8 @@ fn divided_need(first: u8) -> u8
 
 fn triple_need(first: u8, second: u8, third: u8) -> u8
     requires { (first ≤ 100) × (second ≤ 100) × (third ≤ 100) }
-    ensures { (result ≤ 100) × ((l m n : ℕ) → first ≡ min l 100 → second ≡ min m 100 → third ≡ min n 100 → result ≡ min (max l (max (1 + m) (2 + n))) 100) }
+    ensures { (result ≤ 100) × ((l m n : ℕ) → first ≡ min l 100 → second ≡ min m 100 → third ≡ min n 100
+        → result ≡ min (max l (max (1 + m) (2 + n))) 100) }
 {
     larger(first, larger(beside(second, 1), beside(third, 2)))
 }
@@ -81,7 +84,8 @@ fn is_leaf(e: &Expr) -> bool
 /// How many registers of the stack an expression takes.
 #[tactic(auto, unfolding(crate::specs::Code::made))]
 pub fn need(e: &Expr) -> u8
-    ensures { (result ≤ 100) × ((places : AllPlaces) (scope : List Counts) → result ≡ min (made places scope e.now).need 100) }
+    ensures { (result ≤ 100) × ((places : AllPlaces) (scope : List Counts)
+        → result ≡ min (made places scope e.now).need 100) }
 {
     match e {
         Expr::Number(_) => 1,
@@ -98,7 +102,8 @@ pub fn need(e: &Expr) -> u8
 
 /// The address of a word of hart 0's frame.
 fn frame_word(frames: Option<u32>, word: u32) -> Result<u32, CodeFault>
-    ensures ok { IfOk result (λ address. (address ≡ frames_of frames + 4 * word) × ((word < frame_words frames) × (word < 1024))) }
+    ensures ok { IfOk result (λ address. (address ≡ frames_of frames + 4 * word)
+        × ((word < frame_words frames) × (word < 1024))) }
     ensures err { IfErr result (IsFault ⊥ (LieLow frames → frame_words frames ≤ word)) }
 {
     match frames {
@@ -113,7 +118,8 @@ fn frame_word(frames: Option<u32>, word: u32) -> Result<u32, CodeFault>
 }
 
 fn emit_framed(code: &mut Vec<u32>, address: u32) -> Result<(), AllocError>
-    ensures { OnOk result ((frames word : ℕ) → address ≡ frames + 4 * word → Emits code.old.items code.new.items (spec.framed frames word)) }
+    ensures { OnOk result ((frames word : ℕ) → address ≡ frames + 4 * word
+        → Emits code.old.items code.new.items (spec.framed frames word)) }
 {
     emit_literal(code, 13, address)?;
     emit_literal(code, 14, 4096)?;
@@ -124,7 +130,8 @@ fn emit_framed(code: &mut Vec<u32>, address: u32) -> Result<(), AllocError>
 
 /// Appends what keeps the first slot in a word of the frame.
 fn emit_spill(code: &mut Vec<u32>, frames: Option<u32>, word: u32) -> Result<(), CodeFault>
-    ensures ok { OnOk result (Emits code.old.items code.new.items (spec.spill (frames_of frames) word) × ((word < frame_words frames) × (word < 1024))) }
+    ensures ok { OnOk result (Emits code.old.items code.new.items (spec.spill (frames_of frames) word)
+        × ((word < frame_words frames) × (word < 1024))) }
     ensures err { IfErr result (IsFault ⊥ (LieLow frames → frame_words frames ≤ word)) }
 {
     let address = frame_word(frames, word)?;
@@ -157,7 +164,8 @@ pub fn emit_deep(
     word: u32,
 ) -> Result<(), CodeFault>
     requires { word ≤ frame_words places.now.frames }
-    ensures ok { OnOk result (EmitsDeep code.old.items code.new.items places.now.frames (deep places.now scope.now e.now) word) }
+    ensures ok { OnOk result (EmitsDeep code.old.items code.new.items places.now.frames
+        (deep places.now scope.now e.now) word) }
     ensures err { IfErr result (IsFault ⊥ (FitsFrame places.now.frames e.now word → ⊥)) }
 {
     if need(e) <= 12 {
@@ -219,7 +227,8 @@ fn emit_second(
     word: u32,
 ) -> Result<u8, CodeFault>
     requires { word ≤ frame_words places.now.frames }
-    ensures ok { IfOk result (EmitsSecond code.old.items code.new.items places.now.frames (deep places.now scope.now e.now) word) }
+    ensures ok { IfOk result (EmitsSecond code.old.items code.new.items places.now.frames
+        (deep places.now scope.now e.now) word) }
     ensures err { IfErr result (IsFault ⊥ (FitsSecond places.now.frames e.now word → ⊥)) }
 {
     if is_leaf(e) {
@@ -235,7 +244,8 @@ fn emit_second(
 
 /// Appends what leaves a divisor in the second slot.
 fn emit_divisor(code: &mut Vec<u32>, divisor: u32) -> Result<(), CodeFault>
-    ensures ok { OnOk result (Emits code.old.items code.new.items (spec.literal 21 divisor) × ((0 < divisor) × (divisor < 2 ^ 32))) }
+    ensures ok { OnOk result (Emits code.old.items code.new.items (spec.literal 21 divisor)
+        × ((0 < divisor) × (divisor < 2 ^ 32))) }
     ensures err { IfErr result (IsFault ⊥ (0 < divisor → ⊥)) }
 {
     if divisor == 0 {

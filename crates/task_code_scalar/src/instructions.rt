@@ -1,7 +1,8 @@
 //! Single instructions as words.
 
 ghost use Rattle.std.specs.Prelude.{◌≡◌, ℕ, ◌+◌, ◌*◌, ◌-◌, ◌/◌, ◌%◌, ◌^◌, ◌<◌, ◌≤◌, [], ◌∷◌, ◌++◌, IfErr, OnOk, pos};
-ghost use Rattle.rv_insn.specs.declared.instructions.Insn.TheVariants.{Alu, AluImm, Branch, Jal, Load as Fetch, Lui, Shift, Store as Save};
+ghost use Rattle.rv_insn.specs.declared.instructions.Insn.TheVariants.{Alu, AluImm, Branch, Jal, Load as Fetch, Lui};
+ghost use Rattle.rv_insn.specs.declared.instructions.Insn.TheVariants.{Shift, Store as Save};
 ghost use Rattle.rv_insn.specs.declared.operations.AluImmOp.TheVariants.{Addi};
 ghost use Rattle.rv_insn.specs.declared.operations.BranchOp.TheVariants.{Bltu};
 ghost use Rattle.rv_insn.specs.declared.operations.LoadOp.TheVariants.{Lw};

@@ -3,7 +3,8 @@
 ghost use Rattle.task_code_scalar.specs.Evaluation.{ExpressionsLeave};
 ghost use Rattle.task_code_scalar.specs.Fitting.{ExpressionsHaveRoom};
 ghost use Rattle.task_code_scalar.specs.Layout.{FramesLie};
-ghost use Rattle.task_code_scalar.specs.Values.{LiteralsLeave, OperationsLeave, QuotientsLeave, RemaindersLeave, SelectionsLeave};
+ghost use Rattle.task_code_scalar.specs.Values.{LiteralsLeave, OperationsLeave, QuotientsLeave, RemaindersLeave};
+ghost use Rattle.task_code_scalar.specs.Values.{SelectionsLeave};
 
 /// Straight code leaves what operations make of words, wherever it stands, and keeps the registers below.
 pub fn values_are_left()
@@ -14,13 +15,14 @@ pub fn values_are_left()
     ensures remainders { RemaindersLeave }
 {}
 
-/// The code of an expression leaves its value, wherever it stands, where registers hold the counters' values and memory what is
-/// loaded.
+/// The code of an expression leaves its value, wherever it stands, where registers hold the counters' values and memory
+/// what is loaded.
 pub fn expressions_are_evaluated()
     ensures { ExpressionsLeave }
 {}
 
-/// A frame in the data that its hart alone uses, and in which no point lies that may be loaded, may be written and read.
+/// A frame in the data that its hart alone uses, and in which no point lies that may be loaded, may be written and
+/// read.
 pub fn frames_lie()
     ensures { FramesLie }
 {}

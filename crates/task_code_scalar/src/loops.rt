@@ -1,6 +1,7 @@
 //! The code of loops and of tests on split loops, around the words of their bodies.
 
-ghost use Rattle.std.specs.Prelude.{◌≡◌, ℕ, List, ◌+◌, ◌*◌, ◌^◌, ◌<◌, ◌≤◌, [], ◌∷◌, ◌++◌, length, OnErr, OnOk, IfErr, IfOk, false, true};
+ghost use Rattle.std.specs.Prelude.{◌≡◌, ℕ, List, ◌+◌, ◌*◌, ◌^◌, ◌<◌, ◌≤◌, [], ◌∷◌, ◌++◌, length, OnErr, OnOk, IfErr};
+ghost use Rattle.std.specs.Prelude.{IfOk, false, true};
 ghost use Rattle.loop_ir.specs.Sizes as sizes;
 ghost use Rattle.rv_insn.specs.declared.instructions.Insn.{Insn as Instruction};
 ghost use Rattle.task_code_scalar.specs.Code as spec;
@@ -50,7 +51,8 @@ pub fn append(code: &mut Vec<u32>, more: &[u32]) -> Result<(), AllocError>
 /// Appends a loop of so many rounds around the words of its body, whose counter has this register.
 fn emit_loop(code: &mut Vec<u32>, r: u8, count: u32, body: &[u32]) -> Result<(), CodeFault>
     requires { r < 32 }
-    ensures ok { OnOk result (((insns : List Instruction) → Emits [] body.now insns → Emits code.old.items code.new.items (spec.loop_code r count insns)) × (count < 2 ^ 32)) }
+    ensures ok { OnOk result (((insns : List Instruction) → Emits [] body.now insns
+        → Emits code.old.items code.new.items (spec.loop_code r count insns)) × (count < 2 ^ 32)) }
     ensures err { IfErr result (IsFault (2 ^ 18 ≤ length body.now + 7) ⊥) }
 {
     let words = body.len();
@@ -68,7 +70,8 @@ fn emit_loop(code: &mut Vec<u32>, r: u8, count: u32, body: &[u32]) -> Result<(),
 /// Appends so many copies of the words of a loop's body, each with the turn of its counter's next value behind it.
 fn emit_copies(code: &mut Vec<u32>, r: u8, count: u32, body: &[u32]) -> Result<(), AllocError>
     requires { r < 32 }
-    ensures { OnOk result ((insns : List Instruction) → Emits [] body.now insns → Emits code.old.items code.new.items (spec.copies_code r count insns)) }
+    ensures { OnOk result ((insns : List Instruction) → Emits [] body.now insns
+        → Emits code.old.items code.new.items (spec.copies_code r count insns)) }
 {
     for _made in 0..count {
         append(code, body)?;
@@ -86,10 +89,12 @@ fn are_long(count: u32, words: usize) -> bool
     (count as u64).saturating_mul(words as u64 + 1) >= 1 << 18
 }
 
-/// Appends the rounds of a loop one behind the other, a copy of its body's words for each; the counter has this register.
+/// Appends the rounds of a loop one behind the other, a copy of its body's words for each; the counter has this
+/// register.
 fn emit_laid_out(code: &mut Vec<u32>, r: u8, count: u32, body: &[u32]) -> Result<(), CodeFault>
     requires { r < 32 }
-    ensures ok { OnOk result ((insns : List Instruction) → Emits [] body.now insns → Emits code.old.items code.new.items (spec.laid_out_code r count insns)) }
+    ensures ok { OnOk result ((insns : List Instruction) → Emits [] body.now insns
+        → Emits code.old.items code.new.items (spec.laid_out_code r count insns)) }
     ensures small { OnOk result (count < 2 ^ 32) }
     ensures err { IfErr result (IsFault (2 ^ 18 ≤ count * (length body.now + 1) + 1) ⊥) }
 {
@@ -117,7 +122,8 @@ pub fn emit_turns(
     body: &[u32],
 ) -> Result<(), CodeFault>
     requires { r < 32 }
-    ensures ok { OnOk result (((insns : List Instruction) → Emits [] body.now insns → Emits code.old.items code.new.items (spec.turns_code is_laid r count insns)) × (count < 2 ^ 32)) }
+    ensures ok { OnOk result (((insns : List Instruction) → Emits [] body.now insns
+        → Emits code.old.items code.new.items (spec.turns_code is_laid r count insns)) × (count < 2 ^ 32)) }
     ensures err { IfErr result (IsFault (2 ^ 18 ≤ sizes.loop_size is_laid count (length body.now)) ⊥) }
 {
     if are_copies(is_laid, count) {
@@ -152,7 +158,8 @@ fn emit_whole(
     r: u8,
 ) -> Result<(), AllocError>
     requires { r < 32 }
-    ensures { OnOk result (Emits code.old.items code.new.items (spec.whole_code scope.now whole.now r) × (fits_whole whole.now ≡ true)) }
+    ensures { OnOk result (Emits code.old.items code.new.items (spec.whole_code scope.now whole.now r)
+        × (fits_whole whole.now ≡ true)) }
 {
     emit_number(code, r, whole.factor)?;
     let outer = seat_in(scope, whole.outer);
@@ -166,7 +173,8 @@ fn emit_whole(
 /// Appends words that are passed by where the register isn't below the extent.
 pub fn emit_guarded(code: &mut Vec<u32>, r: u8, extent: u32, body: &[u32]) -> Result<(), CodeFault>
     requires { r < 32 }
-    ensures ok { OnOk result (((insns : List Instruction) → Emits [] body.now insns → Emits code.old.items code.new.items (spec.test r extent (length insns + 1) ++ insns)) × (extent < 2 ^ 32)) }
+    ensures ok { OnOk result (((insns : List Instruction) → Emits [] body.now insns
+        → Emits code.old.items code.new.items (spec.test r extent (length insns + 1) ++ insns)) × (extent < 2 ^ 32)) }
     ensures err { IfErr result (IsFault (2 ^ 18 ≤ length body.now + 4) ⊥) }
 {
     let words = body.len();
@@ -188,7 +196,9 @@ pub fn emit_bind(
     body: &[u32],
 ) -> Result<(), CodeFault>
     requires { r < 32 }
-    ensures ok { OnOk result (((insns : List Instruction) → Emits [] body.now insns → Emits code.old.items code.new.items (spec.bind_code scope.now whole.now extent r insns)) × ((fits_whole whole.now ≡ true) × (extent < 2 ^ 32))) }
+    ensures ok { OnOk result (((insns : List Instruction) → Emits [] body.now insns
+        → Emits code.old.items code.new.items (spec.bind_code scope.now whole.now extent r insns))
+        × ((fits_whole whole.now ≡ true) × (extent < 2 ^ 32))) }
     ensures err { IfErr result (IsFault (2 ^ 18 ≤ length body.now + 4) ⊥) }
 {
     emit_whole(code, scope, whole, r)?;

@@ -1,7 +1,9 @@
 //! What operations make of registers.
 
 ghost use Rattle.std.specs.Prelude.{◌≡◌, ℕ, ◌+◌, ◌<◌, ◌≤◌, ◌++◌, OnOk};
-ghost use Rattle.task_code_scalar.specs.Code.{addressed, blend, choice, complement, copied, difference, fetch, numbered, operation, opposite, quotient, raised, remainder, scaled, selection, sign};
+ghost use Rattle.task_code_scalar.specs.Code.{addressed, blend, choice, complement, copied, difference, fetch};
+ghost use Rattle.task_code_scalar.specs.Code.{numbered, operation, opposite, quotient, raised, remainder, scaled};
+ghost use Rattle.task_code_scalar.specs.Code.{selection, sign};
 ghost use Rattle.task_code_scalar.specs.Words.{Emits};
 
 use crate::instructions::{alu, alu_small, emit_literal, load, shift};

@@ -3,7 +3,8 @@
 ghost use Rattle.std.specs.Prelude.{◌≡◌, ◌++◌, ◌∷◌, IfOk, IfSome, OnOk};
 ghost use Rattle.task_code_registers.specs.Strides.{has_counter};
 ghost use Rattle.task_code_statements.specs.Contexts as contexts;
-ghost use Rattle.task_code_statements.specs.Contexts.{IsEmpty, KeepsNames, MeetsLoop, MeetsName, MeetsSum, MeetsZero, StayNamed};
+ghost use Rattle.task_code_statements.specs.Contexts.{IsEmpty, KeepsNames, MeetsLoop, MeetsName, MeetsSum, MeetsZero};
+ghost use Rattle.task_code_statements.specs.Contexts.{StayNamed};
 
 use crate::lacking::lacks;
 use loop_ir::expressions::{Counter, Expr, Linear, Term, same_counter};

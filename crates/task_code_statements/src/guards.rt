@@ -1,8 +1,9 @@
-//! Tests that a vectorized loop's store stands behind: those that hang on no lane pass for all lanes or for none, and one
-//! at most passes for the first lanes alone.
+//! Tests that a vectorized loop's store stands behind: those that hang on no lane pass for all lanes or for none, and
+//! one at most passes for the first lanes alone.
 
 ghost use Rattle.std.specs.Prelude.{◌≡◌, IfOk, None, OnOk, true};
-ghost use Rattle.task_code_statements.specs.Vectorizing.{GuardsLack, IsLeft, IsLeftIf, IsParted, OneMore, TestFirst, WordsBehind};
+ghost use Rattle.task_code_statements.specs.Vectorizing.{GuardsLack, IsLeft, IsLeftIf, IsParted, OneMore, TestFirst};
+ghost use Rattle.task_code_statements.specs.Vectorizing.{WordsBehind};
 
 use crate::contexts::has_term;
 use loop_ir::expressions::{Counter, Linear};

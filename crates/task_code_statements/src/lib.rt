@@ -1,5 +1,5 @@
-//! The machine code of statements and of tasks, over what registers hold. Contracts say what the appended code does, and
-//! not which instructions it has.
+//! The machine code of statements and of tasks, over what registers hold. Contracts say what the appended code does,
+//! and not which instructions it has.
 //!
 //! - [`contexts`]: what is known of loop variables while code runs (`specs/Contexts.antt`).
 //! - [`rewriting`]: stores by the loop variables that aren't known (`specs/Rewriting.antt`).

@@ -38,7 +38,8 @@ fn kept_words(
     register: u8,
 ) -> Result<Option<Vec<u32>>, CodeFault>
     requires { IsLeft scope.now register }
-    ensures { IfOk result (λ found. IfSome found (λ words. KeepsValue places.now scope.now register e.now words.items)) }
+    ensures { IfOk result (λ found. IfSome found (λ words. KeepsValue places.now scope.now register e.now
+        words.items)) }
 {
     let mut words = Vec::new(alloc);
     match emit_value(alloc, &mut words, places, scope, e) {

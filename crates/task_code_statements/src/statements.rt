@@ -108,8 +108,8 @@ pub(crate) fn mentions(scope: &[Held], counter: Counter) -> bool
     }
 }
 
-/// How many registers the loops of a statement ask for at once: one each, but for those that are laid out or done at once
-/// and for split loops whose values are sums.
+/// How many registers the loops of a statement ask for at once: one each, but for those that are laid out or done at
+/// once and for split loops whose values are sums.
 fn depth(statement: &Stmt) -> usize {
     match statement {
         Stmt::Store(_) => 0,
@@ -140,7 +140,8 @@ fn left(scope: &[Held]) -> usize {
     count
 }
 
-/// How many registers a loop leaves to so many loops inside: what each has good use for, as far as it has as much itself.
+/// How many registers a loop leaves to so many loops inside: what each has good use for, as far as it has as much
+/// itself.
 fn reserve(scope: &[Held], inside: usize, with_variables: bool) -> usize {
     let each = if with_variables {
         VARIABLE_REGISTERS
@@ -189,7 +190,8 @@ fn begin(
     reserved: usize,
 ) -> Result<Begun, CodeFault>
     requires { 1 ≤ own.count }
-    ensures ok { IfOk result (Begins code.old.items code.new.items wanted.now own.counter own.count scope.now reserved) }
+    ensures ok { IfOk result (Begins code.old.items code.new.items wanted.now own.counter own.count scope.now
+        reserved) }
     ensures steady { OnOk result (holding.mentions own.counter scope.now ≡ false) }
 {
     if mentions(scope, own.counter) || reserved >= 1 << 32 {
@@ -430,7 +432,8 @@ pub fn emit_statement(
     context: &Context,
     statement: &Stmt,
 ) -> Result<(), CodeFault>
-    ensures { OnOk result (EmitsStatement code.old.items code.new.items places.now scope.now (Meets context.now) statement.now) }
+    ensures { OnOk result (EmitsStatement code.old.items code.new.items places.now scope.now (Meets context.now)
+        statement.now) }
 {
     match statement {
         Stmt::Store(store) => {

@@ -101,8 +101,8 @@ pub fn emit_selection(
     Ok(())
 }
 
-/// Appends what leaves the quotient of a register by a literal, rounded to minus infinity: a shift where the literal is a
-/// power of two. Else the complement of a negative number is divided, and the quotient's complement taken.
+/// Appends what leaves the quotient of a register by a literal, rounded to minus infinity: a shift where the literal is
+/// a power of two. Else the complement of a negative number is divided, and the quotient's complement taken.
 ///
 /// # Errors
 ///
@@ -155,8 +155,9 @@ fn emit_masked(code: &mut Vec<u32>, r: u8, a: u8, mask: u32) -> Result<(), Alloc
     Ok(())
 }
 
-/// Appends what leaves the remainder of a register by a literal, which isn't negative: its low bits where the literal is a
-/// power of two that an immediate is for. Else of a negative number's complement the remainder is taken away from the divisor less 1.
+/// Appends what leaves the remainder of a register by a literal, which isn't negative: its low bits where the literal
+/// is a power of two that an immediate is for. Else of a negative number's complement the remainder is taken away from
+/// the divisor less 1.
 ///
 /// # Errors
 ///

@@ -97,8 +97,8 @@ fn reach_behind(
     Ok(at.offset)
 }
 
-/// Appends what makes the address of the point at two indexes: it is r and the offset that is returned. A row that stands
-/// in a register stands above r.
+/// Appends what makes the address of the point at two indexes: it is r and the offset that is returned. A row that
+/// stands in a register stands above r.
 ///
 /// # Errors
 ///

@@ -151,7 +151,8 @@ pub fn emit_update(
     operation: Operation,
     other: &Expr,
 ) -> Result<(), CodeFault>
-    requires is { store.now.value ≡ expressions.Binary operation (expressions.Load (sources.Func store.now.func) store.now.x store.now.y) other.now }
+    requires is { store.now.value ≡ expressions.Binary operation (expressions.Load (sources.Func store.now.func)
+        store.now.x store.now.y) other.now }
     requires column { FitsStack store.now.x 20 }
     requires row { FitsStack store.now.y 21 }
     requires other { FitsStack other.now 22 }

@@ -44,7 +44,8 @@ fn emit_pixel(
     scope: &[Counter],
     store: &Store,
 ) -> Result<(), CodeFault>
-    ensures ok { OnOk result (Emits code.old.items code.new.items (spec.pixel_code places.now scope.now store.now) × (fits_store places.now scope.now store.now ≡ true)) }
+    ensures ok { OnOk result (Emits code.old.items code.new.items (spec.pixel_code places.now scope.now store.now)
+        × (fits_store places.now scope.now store.now ≡ true)) }
     ensures err { IfErr result (IsFault ⊥ (FitsStore places.now store.now → ⊥)) }
 {
     emit_deep(code, places, scope, &store.x, 0)?;
@@ -118,8 +119,8 @@ fn emit_round(
 ///
 /// # Errors
 ///
-/// Where memory runs out, the code has 2^18 words or more, or an expression or a nest of split loops has no registers left: what
-/// stands then is in `specs/Faults.antt`.
+/// Where memory runs out, the code has 2^18 words or more, or an expression or a nest of split loops has no registers
+/// left: what stands then is in `specs/Faults.antt`.
 pub fn emit_collected(
     alloc: Global,
     code: &mut Vec<u32>,
@@ -131,7 +132,8 @@ pub fn emit_collected(
     body: &Stmt,
 ) -> Result<(), CodeFault>
     requires { (spec.is_one_store body.now ≡ true) × (count ≡ 4 * registers group) }
-    ensures ok { OnOk result (EmitsCollected code.old.items code.new.items group places.now scope.now counter count body.now) }
+    ensures ok { OnOk result (EmitsCollected code.old.items code.new.items group places.now scope.now counter count
+        body.now) }
     ensures err { IfErr result (IsCollectedFault group places.now scope.now counter count body.now) }
 {
     let r = next_seat(scope)?;

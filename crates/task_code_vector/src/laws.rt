@@ -2,8 +2,9 @@
 
 ghost use Rattle.task_code_vector.specs.Doing.{LoopsAreDoneAtOnce};
 
-/// The code of a vectorized loop whose rounds are done at once leaves what the loop leaves in turn, and writes each point at which it stores,
-/// where none loads a point at which an earlier one stores, and no value of a split loop falls from a round to the next.
+/// The code of a vectorized loop whose rounds are done at once leaves what the loop leaves in turn, and writes each
+/// point at which it stores, where none loads a point at which an earlier one stores, and no value of a split loop
+/// falls from a round to the next.
 pub fn loops_are_done_at_once()
     ensures { LoopsAreDoneAtOnce }
 {}

@@ -1,10 +1,10 @@
 //! The machine code of vectorized loops: a pixel a lane, and one instruction that stores them.
 //!
-//! - [`rounds`]: appends the code of a loop whose rounds are done at once (`specs/Rounds.antt`); [`tight`] that of stores whose parts
-//!   the stack has to be spared for.
+//! - [`rounds`]: appends the code of a loop whose rounds are done at once (`specs/Rounds.antt`); [`tight`] that of
+//!   stores whose parts the stack has to be spared for.
 //! - [`laws`]: **it leaves what the loop leaves in turn, wherever it stands** (`specs/Doing.antt`).
-//! - [`collecting`]: appends the code of a loop whose rounds collect their pixels: each, in its turn, puts one into a lane, and one
-//!   instruction stores them all (`specs/Collected.antt`).
+//! - [`collecting`]: appends the code of a loop whose rounds collect their pixels: each, in its turn, puts one into a
+//!   lane, and one instruction stores them all (`specs/Collected.antt`).
 //! - [`collected_laws`]: the same of that code (`specs/CollectedDoing.antt`).
 #![tactic(auto)]
 

@@ -49,8 +49,10 @@ fn emit_row(
     goings: &[Going],
     store: &Store,
 ) -> Result<(), CodeFault>
-    ensures ok { OnOk result (Emits code.old.items code.new.items (spec.row_code group places.now scope.now goings.now store.now) × (spec.row_fits group places.now scope.now goings.now store.now ≡ true)) }
-    ensures err { IfErr result (IsFault ⊥ (spec.is_row places.now scope.now goings.now store.now ≡ true → spec.row_fits group places.now scope.now goings.now store.now ≡ true → ⊥)) }
+    ensures ok { OnOk result (Emits code.old.items code.new.items (spec.row_code group places.now scope.now goings.now
+        store.now) × (spec.row_fits group places.now scope.now goings.now store.now ≡ true)) }
+    ensures err { IfErr result (IsFault ⊥ (spec.is_row places.now scope.now goings.now store.now ≡ true
+        → spec.row_fits group places.now scope.now goings.now store.now ≡ true → ⊥)) }
 {
     configure(code, group, 15)?;
     emit_value(code, places, scope, &store.x, 20)?;
@@ -79,8 +81,10 @@ fn emit_one_row(
     goings: &[Going],
     store: &Store,
 ) -> Result<(), CodeFault>
-    ensures ok { OnOk result (Emits code.old.items code.new.items (spec.one_row_code group places.now scope.now goings.now store.now) × (spec.one_row_fits group places.now scope.now goings.now store.now ≡ true)) }
-    ensures err { IfErr result (IsFault ⊥ (spec.has_one_row places.now scope.now goings.now store.now ≡ true → spec.one_row_fits group places.now scope.now goings.now store.now ≡ true → ⊥)) }
+    ensures ok { OnOk result (Emits code.old.items code.new.items (spec.one_row_code group places.now scope.now
+        goings.now store.now) × (spec.one_row_fits group places.now scope.now goings.now store.now ≡ true)) }
+    ensures err { IfErr result (IsFault ⊥ (spec.has_one_row places.now scope.now goings.now store.now ≡ true
+        → spec.one_row_fits group places.now scope.now goings.now store.now ≡ true → ⊥)) }
 {
     configure(code, group, 15)?;
     emit_deep_lanes(code, group, places, scope, goings, &store.value, 0)?;
@@ -101,8 +105,10 @@ fn emit_scattered(
     goings: &[Going],
     store: &Store,
 ) -> Result<(), CodeFault>
-    ensures ok { OnOk result (Emits code.old.items code.new.items (spec.scattered_code group places.now scope.now goings.now store.now) × (spec.scattered_fits group places.now scope.now goings.now store.now ≡ true)) }
-    ensures err { IfErr result (IsFault ⊥ (spec.scattered_fits group places.now scope.now goings.now store.now ≡ true → ⊥)) }
+    ensures ok { OnOk result (Emits code.old.items code.new.items (spec.scattered_code group places.now scope.now
+        goings.now store.now) × (spec.scattered_fits group places.now scope.now goings.now store.now ≡ true)) }
+    ensures err { IfErr result (IsFault ⊥ (spec.scattered_fits group places.now scope.now goings.now store.now ≡ true
+        → ⊥)) }
 {
     configure(code, group, 15)?;
     emit_deep_lanes(code, group, places, scope, goings, &store.value, 0)?;
@@ -122,8 +128,10 @@ fn emit_pixels(
     goings: &[Going],
     store: &Store,
 ) -> Result<(), CodeFault>
-    ensures ok { OnOk result (Emits code.old.items code.new.items (spec.pixels_code group places.now scope.now goings.now store.now) × (spec.store_fits group places.now scope.now goings.now store.now ≡ true)) }
-    ensures err { IfErr result (IsFault ⊥ (spec.store_fits group places.now scope.now goings.now store.now ≡ true → ⊥)) }
+    ensures ok { OnOk result (Emits code.old.items code.new.items (spec.pixels_code group places.now scope.now
+        goings.now store.now) × (spec.store_fits group places.now scope.now goings.now store.now ≡ true)) }
+    ensures err { IfErr result (IsFault ⊥ (spec.store_fits group places.now scope.now goings.now store.now ≡ true
+        → ⊥)) }
 {
     if is_row(scope, goings, store) {
         emit_row(code, group, places, scope, goings, store)?;
@@ -137,7 +145,8 @@ fn emit_pixels(
     Ok(())
 }
 
-/// Whether a shift cuts nothing off: an outer counter below this bound, times the factor, comes to its last value at most.
+/// Whether a shift cuts nothing off: an outer counter below this bound, times the factor, comes to its last value at
+/// most.
 fn cuts_nothing(last: u32, factor: u32, most: u32) -> bool
     ensures { result ≡ spec.cuts_nothing last factor most }
 {
@@ -145,8 +154,8 @@ fn cuts_nothing(last: u32, factor: u32, most: u32) -> bool
     last < 1 << 31 && greatest <= u64::from(last)
 }
 
-/// Whether the outer loop's part of a split loop's value goes along as its counter does, which stays below a bound where it moves: it is
-/// cut off nowhere, or stays.
+/// Whether the outer loop's part of a split loop's value goes along as its counter does, which stays below a bound
+/// where it moves: it is cut off nowhere, or stays.
 fn outer_goes(last: Option<u32>, factor: u32, most: u32, stride: u32) -> bool
     ensures { result ≡ spec.outer_goes last factor most stride }
 {
@@ -214,7 +223,8 @@ fn is_slow(stride: u32, cut: Cut, factor: u32) -> bool
 
 /// The same of an outer counter that is cut off twice.
 fn are_slow(stride: u32, first: Cut, second: Cut, factor: u32) -> bool
-    ensures { result ≡ (is_slow_cut stride first && (is_slow_cut (stride * first.factor) second && is_rate_of (stride * first.factor * second.factor * factor))) }
+    ensures { result ≡ (is_slow_cut stride first && (is_slow_cut (stride * first.factor) second && is_rate_of
+        (stride * first.factor * second.factor * factor))) }
 {
     let once = u64::from(stride) * u64::from(first.factor);
     once < 1 << 24 && is_small(first.last) && is_slow(once as u32, second, factor)
@@ -332,8 +342,8 @@ fn emit_lesser(code: &mut Vec<u32>) -> Result<(), AllocError>
     Ok(())
 }
 
-/// Appends what parks how many rounds are left behind the test on a value that goes so much further with each, the extent being in x13; `all`
-/// says that none was left out before.
+/// Appends what parks how many rounds are left behind the test on a value that goes so much further with each, the
+/// extent being in x13; `all` says that none was left out before.
 fn emit_even_left(code: &mut Vec<u32>, all: bool, stride: u32, r: u8) -> Result<(), AllocError>
     requires { r < 32 }
     ensures { OnOk result (Emits code.old.items code.new.items (spec.even_left all stride r)) }
@@ -470,8 +480,10 @@ fn emit_rounded(
     all: bool,
     stmt: &Stmt,
 ) -> Result<(), CodeFault>
-    ensures ok { OnOk result (EmitsRounds code.old.items code.new.items (spec.rounded group places.now stmt.now) all scope.now goings.now) }
-    ensures err { IfErr result (IsFault ⊥ (FitsRounds (spec.rounded group places.now stmt.now) all scope.now goings.now → ⊥)) }
+    ensures ok { OnOk result (EmitsRounds code.old.items code.new.items (spec.rounded group places.now stmt.now) all
+        scope.now goings.now) }
+    ensures err { IfErr result (IsFault ⊥ (FitsRounds (spec.rounded group places.now stmt.now) all scope.now goings.now
+        → ⊥)) }
 {
     match stmt {
         Stmt::Store(store) => {
@@ -527,8 +539,10 @@ pub fn emit_rounds(
     count: u32,
     body: &Stmt,
 ) -> Result<(), CodeFault>
-    ensures ok { OnOk result (Emits code.old.items code.new.items (spec.rounds_code group places.now scope.now counter count body.now) × (spec.rounds_fit group places.now scope.now counter count body.now ≡ true)) }
-    ensures err { IfErr result (IsFault ⊥ (spec.rounds_fit group places.now scope.now counter count body.now ≡ true → ⊥)) }
+    ensures ok { OnOk result (Emits code.old.items code.new.items (spec.rounds_code group places.now scope.now counter
+        count body.now) × (spec.rounds_fit group places.now scope.now counter count body.now ≡ true)) }
+    ensures err { IfErr result (IsFault ⊥ (spec.rounds_fit group places.now scope.now counter count body.now ≡ true
+        → ⊥)) }
 {
     let r = next_seat(scope)?;
     if count != group.lanes() {

@@ -31,7 +31,8 @@ fn fit_from(
     k: u8,
 ) -> bool
     requires { k ≤ 1 }
-    ensures { result ≡ ((laned group places.now scope.now goings.now first.now).fits k && (laned group places.now scope.now goings.now second.now).fits (k + 1)) }
+    ensures { result ≡ ((laned group places.now scope.now goings.now first.now).fits k &&
+        (laned group places.now scope.now goings.now second.now).fits (k + 1)) }
 {
     fits_lanes(group, places, scope, goings, first, k)
         && fits_lanes(group, places, scope, goings, second, k + 1)
@@ -64,7 +65,8 @@ fn emit_pixel_distances(
     k: u8,
 ) -> Result<u8, CodeFault>
     requires { k ≤ 1 }
-    ensures ok { IfOk result (λ r. EmitsDistances code.old.items code.new.items group places.now scope.now goings.now store.now k r) }
+    ensures ok { IfOk result (λ r. EmitsDistances code.old.items code.new.items group places.now scope.now goings.now
+        store.now k r) }
     ensures err { IfErr result (IsFault ⊥ (FitDistances group places.now scope.now goings.now store.now k → ⊥)) }
 {
     let place = place_of(places, Source::Func(store.func));
@@ -89,7 +91,8 @@ fn emit_stored(
     distances: u8,
 ) -> Result<(), AllocError>
     requires { (values < 32) × (distances < 32) }
-    ensures { OnOk result (Emits code.old.items code.new.items (spec.stored_code places.now store.now values distances)) }
+    ensures { OnOk result (Emits code.old.items code.new.items (spec.stored_code places.now store.now values
+        distances)) }
 {
     let place = place_of(places, Source::Func(store.func));
     emit_based(code, &place)?;
@@ -111,7 +114,8 @@ fn value_leads(
         && distances_fit(group, places, scope, goings, store, 1)
 }
 
-/// Appends what stores pixels that lie anywhere, as many as rounds are left, with their parts in an order for which the stack suffices.
+/// Appends what stores pixels that lie anywhere, as many as rounds are left, with their parts in an order for which the
+/// stack suffices.
 pub fn emit_tight(
     code: &mut Vec<u32>,
     group: Group,
@@ -120,8 +124,10 @@ pub fn emit_tight(
     goings: &[Going],
     store: &Store,
 ) -> Result<(), CodeFault>
-    ensures ok { OnOk result (Emits code.old.items code.new.items (spec.tight_code group places.now scope.now goings.now store.now) × (spec.tight_fits group places.now scope.now goings.now store.now ≡ true)) }
-    ensures err { IfErr result (IsFault ⊥ (spec.tight_fits group places.now scope.now goings.now store.now ≡ true → ⊥)) }
+    ensures ok { OnOk result (Emits code.old.items code.new.items (spec.tight_code group places.now scope.now goings.now
+        store.now) × (spec.tight_fits group places.now scope.now goings.now store.now ≡ true)) }
+    ensures err { IfErr result (IsFault ⊥ (spec.tight_fits group places.now scope.now goings.now store.now ≡ true
+        → ⊥)) }
 {
     configure(code, group, 15)?;
     if value_leads(group, places, scope, goings, store) {

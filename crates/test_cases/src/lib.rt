@@ -1,10 +1,11 @@
 //! Cases in files, for the programs that answer them.
 //!
-//! A file is a text of lines. A case begins at `== KIND NAME`; before the first one stand comments (`#`) and empty lines. A part of a
-//! case begins at `-- NAME`, and its text is all lines up to the next part or case, each with its line feed. Where `in pieces` stands
-//! behind the part's name, each line is `COUNT TEXT` and means the text so many times, without a line feed; in the text `\n`, `\r`,
-//! `\t`, `\s`, `\0` and `\\` stand for a line feed, a carriage return, a tab, a space, a zero byte and a backslash. A text may stand in
-//! hexadecimal too, with `in hexadecimal` behind the part's name.
+//! A file is a text of lines. A case begins at `== KIND NAME`; before the first one stand comments (`#`) and empty
+//! lines. A part of a case begins at `-- NAME`, and its text is all lines up to the next part or case, each with its
+//! line feed. Where `in pieces` stands behind the part's name, each line is `COUNT TEXT` and means the text so many
+//! times, without a line feed; in the text `\n`, `\r`, `\t`, `\s`, `\0` and `\\` stand for a line feed, a carriage
+//! return, a tab, a space, a zero byte and a backslash. A text may stand in hexadecimal too, with `in hexadecimal`
+//! behind the part's name.
 //!
 //! - [`read_cases`]: the cases of a file's text.
 #![tactic(auto)]

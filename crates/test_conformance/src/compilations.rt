@@ -43,8 +43,8 @@ pub fn push_compilation(alloc: Global, parts: &[Part], out: &mut String) -> Resu
     push_left(alloc, &page.bytes, out)
 }
 
-/// How many lines of a compiled image's listing are vector loads and stores, of each kind, and how the lanes of one hart are configured
-/// once it has finished.
+/// How many lines of a compiled image's listing are vector loads and stores, of each kind, and how the lanes of one
+/// hart are configured once it has finished.
 pub fn push_accesses(alloc: Global, parts: &[Part], out: &mut String) -> Result<(), Failure> {
     let (page, answered) = compiled(alloc, parts)?;
     if answered.is_err() {

@@ -7,8 +7,9 @@ use std::alloc::Global;
 use test_cases::Part;
 use test_devices::{Page, Tape, empty_page, tape_of};
 
-/// What a case says of its devices: lines of a device's name, the most bytes that it gives or takes a call and, where one of its
-/// calls is to fail, how many come before. A device without a line gives or takes all at once, and never fails.
+/// What a case says of its devices: lines of a device's name, the most bytes that it gives or takes a call and, where
+/// one of its calls is to fail, how many come before. A device without a line gives or takes all at once, and never
+/// fails.
 #[derive(Clone, Copy)]
 pub struct Devices<'a> {
     lines: &'a str,

@@ -1,4 +1,5 @@
-//! What runs by threads leave: the log of their turns, and the dump behind them. They are of one hart, since a case has one answer.
+//! What runs by threads leave: the log of their turns, and the dump behind them. They are of one hart, since a case has
+//! one answer.
 
 use crate::commands::{push_answer, push_digits};
 use crate::devices::devices_of;

@@ -93,8 +93,8 @@ fn text_can_be_loaded(rt: HostRuntime) -> Result<(), Fail> {
     Ok(())
 }
 
-/// A turn whose instruction is given reads no word: over a memory that covers nothing `addi x5,x0,1` steps, and what means nothing
-/// is trap 1.
+/// A turn whose instruction is given reads no word: over a memory that covers nothing `addi x5,x0,1` steps, and what
+/// means nothing is trap 1.
 #[test]
 fn an_instruction_is_given(rt: HostRuntime) -> Result<(), Fail> {
     let mut memory = text_alone(&rt, &[])?;

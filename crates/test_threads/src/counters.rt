@@ -1,4 +1,5 @@
-//! The two-hart counter as a shared machine: each hart adds 1 to the one word of data, and finishes with its fourth turn.
+//! The two-hart counter as a shared machine: each hart adds 1 to the one word of data, and finishes with its fourth
+//! turn.
 
 ghost use Rattle.std.specs.Prelude.{◌≡◌, [], All, IfOk};
 ghost use Rattle.board.specs.Tokens.{name_of};

@@ -1,4 +1,5 @@
-//! Boxes: which points of each input and Func a schedule computes or reads, and where they lie in a compiled image's data.
+//! Boxes: which points of each input and Func a schedule computes or reads, and where they lie in a compiled image's
+//! data.
 
 ghost use Rattle.schedule.specs.Accepted.{IsAccepted};
 

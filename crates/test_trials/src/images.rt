@@ -34,7 +34,8 @@ pub fn output_of(image: &Image) -> Result<Output, Failure> {
     }
 }
 
-/// Appends how many bytes the data have, the address of the output's first pixel, its size, and how many bytes a row has.
+/// Appends how many bytes the data have, the address of the output's first pixel, its size, and how many bytes a row
+/// has.
 pub fn push_image(image: &Image, out: &mut String) -> Result<(), Failure> {
     let size = image.data().len();
     writeln!(out, "data {size}")?;

@@ -1,7 +1,7 @@
 //! `test_trials`: whether an algorithm under a schedule leaves the reference picture, whichever way it is computed.
 //!
-//! The program reads the files that its arguments name (`test_cases`), and prints each case's kind and name and below it the answer.
-//! `stdout` holds what the rules say of the cases in `data/`; none of it was copied from this program.
+//! The program reads the files that its arguments name (`test_cases`), and prints each case's kind and name and below
+//! it the answer. `stdout` holds what the rules say of the cases in `data/`; none of it was copied from this program.
 //!
 //! | Kind | Parts | Answer |
 //! |---|---|---|
@@ -9,17 +9,17 @@
 //! | `trial` | `algorithm`, `schedule`, a `picture` for each input | the image's data, output and control words, the reference picture, and a line for each other way |
 //! | `assign` | `algorithm`, `schedule`, `assignment`, a `picture` for each input | for each row of the output which harts changed it |
 //!
-//! The other ways are loop nests, with the tasks of each phase in rising order, in falling order and from both ends, and anything in
-//! private buffers before each: whether they leave the picture; and the compiled image, on 1, 2, 3 and 8 harts, at several paces of these
-//! harts: what the words hold by which harts share their work (of each phase the one to draw tasks, and the one to wait at), and whether
-//! the picture is another one. Where loops are vectorized, a last line says whether all of them are vector code, or how many, and how many collect
-//! their pixels.
+//! The other ways are loop nests, with the tasks of each phase in rising order, in falling order and from both ends,
+//! and anything in private buffers before each: whether they leave the picture; and the compiled image, on 1, 2, 3 and
+//! 8 harts, at several paces of these harts: what the words hold by which harts share their work (of each phase the one
+//! to draw tasks, and the one to wait at), and whether the picture is another one. Where loops are vectorized, a last
+//! line says whether all of them are vector code, or how many, and how many collect their pixels.
 //!
-//! An assignment is a list of harts, of three. Each of them is stepped alone until it has drawn a task of the first phase, so that the
-//! iterations are theirs in this order; then all are stepped in turn until they finish.
+//! An assignment is a list of harts, of three. Each of them is stepped alone until it has drawn a task of the first
+//! phase, so that the iterations are theirs in this order; then all are stepped in turn until they finish.
 //!
-//! A refusal stands in place of an answer, as `hrv` prints it. `rt try` builds with checks, so that all cases of `random.txt` take some
-//! minutes: `rt try --seconds 900 -- data/random.txt`.
+//! A refusal stands in place of an answer, as `hrv` prints it. `rt try` builds with checks, so that all cases of
+//! `random.txt` take some minutes: `rt try --seconds 900 -- data/random.txt`.
 //!
 //! - [`boxes`]: which points are computed and read, and where they lie.
 //! - [`trials`]: the answer to a trial.

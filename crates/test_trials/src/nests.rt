@@ -1,4 +1,5 @@
-//! Loop nests: the picture that the phases leave, with their tasks in several orders and anything in private buffers before each.
+//! Loop nests: the picture that the phases leave, with their tasks in several orders and anything in private buffers
+//! before each.
 
 ghost use Rattle.schedule.specs.Accepted.{IsAccepted};
 

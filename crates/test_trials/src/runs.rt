@@ -26,8 +26,8 @@ enum Pace {
 }
 
 impl Pace {
-    /// The hart that makes the turn of this number, of so many harts, where the first `lead` turns are those at first, and this number
-    /// was drawn.
+    /// The hart that makes the turn of this number, of so many harts, where the first `lead` turns are those at first,
+    /// and this number was drawn.
     fn hart(self, turn: u32, lead: u32, drawn: u32, harts: u32) -> u32 {
         let before = turn < lead;
         match self {
@@ -68,8 +68,8 @@ pub fn push_runs(
     Ok(())
 }
 
-/// Appends what so many harts leave at a pace: the words by which they share their work, and whether the picture isn't the wanted one.
-/// The answer is how many turns they made.
+/// Appends what so many harts leave at a pace: the words by which they share their work, and whether the picture isn't
+/// the wanted one. The answer is how many turns they made.
 fn push_run(
     alloc: Global,
     built: &Built,

@@ -12,7 +12,8 @@ use std::alloc::Global;
 use std::thread::Threads;
 use test_cases::Part;
 
-/// Appends what the image is, the picture, a line for each way that computes it, and which vectorized loops are vector code.
+/// Appends what the image is, the picture, a line for each way that computes it, and which vectorized loops are vector
+/// code.
 pub fn push_trial(
     rt: &(impl Threads + Sync),
     alloc: Global,

@@ -1,8 +1,9 @@
 //! Which vectorized loops are vector code.
 //!
-//! Code of a vectorized loop configures lanes once, by a register or a literal, and no other code does. That of a loop which collects its pixels
-//! configures no lanes first, by the literal 0, and lanes by a register in each iteration. So an image has as many instructions of the one kind as
-//! there are vectorized loops, and as many of the other as collect their pixels, a loop in copies of an unrolled one once for each copy.
+//! Code of a vectorized loop configures lanes once, by a register or a literal, and no other code does. That of a loop
+//! which collects its pixels configures no lanes first, by the literal 0, and lanes by a register in each iteration. So
+//! an image has as many instructions of the one kind as there are vectorized loops, and as many of the other as collect
+//! their pixels, a loop in copies of an unrolled one once for each copy.
 
 ghost use Rattle.schedule.specs.Accepted.{IsAccepted};
 
@@ -18,7 +19,8 @@ use rv_insn::{Insn, VectorInsn};
 use schedule::{Schedule, read};
 use std::alloc::Global;
 
-/// Appends a line where a schedule vectorizes loops: whether all of them are vector code, or how many of how many, and how many collect their pixels.
+/// Appends a line where a schedule vectorizes loops: whether all of them are vector code, or how many of how many, and
+/// how many collect their pixels.
 pub fn push_vectors(
     alloc: Global,
     algorithm: &str,

@@ -61,7 +61,8 @@ fn place_of(runs: &[Stretch], k: u64, near: usize) -> usize
 /// Whether the turn at an index is one of the run at a place.
 fn is_place(runs: &[Stretch], k: u64, place: usize) -> bool
     requires { IsNonDecreasingBy (λ (run : StretchState). run.end) runs.now }
-    ensures { result ≡ true → IsPartitionPoint (λ (run : StretchState). run.end ≤ k) (λ run. k < run.end) runs.now place }
+    ensures { result ≡ true → IsPartitionPoint (λ (run : StretchState). run.end ≤ k) (λ run. k < run.end) runs.now
+        place }
 {
     let Some(run) = runs.get(place) else {
         return false;

@@ -8,13 +8,16 @@ ghost use Rattle.turn_log.specs.TurnLog.{LogState, IsLog};
 /// No spelling begins another, so that bytes behind a log don't change how it is read, and each log
 /// has one spelling.
 pub fn one_spelling()
-    ensures { (a b : LogState) (x y : List ℕ) → IsLog a → IsLog b → spelled a ++ x ≡ spelled b ++ y → (a ≡ b) × (x ≡ y) }
+    ensures { (a b : LogState) (x y : List ℕ) → IsLog a → IsLog b → spelled a ++ x ≡ spelled b ++ y
+        → (a ≡ b) × (x ≡ y) }
 {}
 
 /// The run at a place of a log stands there, at least one turn long, and is of one of its harts. There
 /// is none only behind the last turn.
 pub fn runs_stand()
-    ensures stand { (turns : List ℕ) (place hart count : ℕ) → run_at turns place ≡ Some (hart, count) → Stand turns place hart count }
-    ensures below { (turns : List ℕ) (harts place hart count : ℕ) → All (λ turn. turn < harts) turns → run_at turns place ≡ Some (hart, count) → hart < harts }
+    ensures stand { (turns : List ℕ) (place hart count : ℕ) → run_at turns place ≡ Some (hart, count)
+        → Stand turns place hart count }
+    ensures below { (turns : List ℕ) (harts place hart count : ℕ) → All (λ turn. turn < harts) turns
+        → run_at turns place ≡ Some (hart, count) → hart < harts }
     ensures behind { (turns : List ℕ) (place : ℕ) → (run_at turns place ≡ None) ↔ (length turns ≤ place) }
 {}

@@ -38,7 +38,8 @@ fn header_of(bytes: &[u8]) -> Result<(u8, u64), LogFault>
 /// Judges a run behind those that the log has.
 #[tactic(auto, unfolding(crate::specs::LogSpelling::judged))]
 fn judge(log: &TurnLog, run: Run) -> Result<(), LogFault>
-    ensures { (before : List RunState) → IsOf log.now before → MatchResult result (λ _. judged log.now.harts before run ≡ Ok run) (λ fault. judged log.now.harts before run ≡ Err fault) }
+    ensures { (before : List RunState) → IsOf log.now before → MatchResult result (λ _. judged log.now.harts before run
+        ≡ Ok run) (λ fault. judged log.now.harts before run ≡ Err fault) }
 {
     let hart = run.hart as usize;
     if hart >= log.harts() {

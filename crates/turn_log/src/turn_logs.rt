@@ -5,7 +5,8 @@
 //! of turns of one hart, and the runs of a spelling are the longest ones, so that each log has one
 //! spelling.
 
-ghost use Rattle.std.specs.Prelude.{◌≡◌, ◌≢◌, ℕ, ◌+◌, ◌-◌, ◌<◌, ◌≤◌, List, [], ◌∷◌, ◌++◌, IsTrue, ◌↔◌, length, replicate, slice_get, Some, OnOk, OnErr, IfOk, vec_len, vec_capacity};
+ghost use Rattle.std.specs.Prelude.{◌≡◌, ◌≢◌, ℕ, ◌+◌, ◌-◌, ◌<◌, ◌≤◌, List, [], ◌∷◌, ◌++◌, IsTrue, ◌↔◌, length};
+ghost use Rattle.std.specs.Prelude.{replicate, slice_get, Some, OnOk, OnErr, IfOk, vec_len, vec_capacity};
 ghost use Rattle.turn_log.specs.LogSpelling.{spelled, log_of, Answers};
 ghost use Rattle.turn_log.specs.RunAt.{run_at};
 ghost use Rattle.turn_log.specs.TurnLog.{LogState, IsLog, count_of, most_turns};

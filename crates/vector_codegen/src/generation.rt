@@ -71,7 +71,8 @@ fn push_phases(
     phases: &[Phase],
 ) -> Result<(), CodeFault>
     requires { number + length phases.now ≤ 16384 }
-    ensures emits { OnOk result (EmitsPhases code.old.items code.new.items ends.old.items ends.new.items places.now number phases.now) }
+    ensures emits { OnOk result (EmitsPhases code.old.items code.new.items ends.old.items ends.new.items places.now
+        number phases.now) }
     ensures few { OnOk result (AllByRecursion spec.HasFewTasks phases.now) }
     ensures err { IfErr result (spec.ArePhasesAtFault places.now phases.now) }
 {
@@ -110,10 +111,11 @@ pub struct Program {
 ///
 /// # Errors
 ///
-/// Memory ran out; the phases ask for more words than a text may have, or one has more than 2^31 tasks; or an expression
-/// or a nest of loops has no registers left.
+/// Memory ran out; the phases ask for more words than a text may have, or one has more than 2^31 tasks; or an
+/// expression or a nest of loops has no registers left.
 pub fn generate(alloc: Global, phases: &[Phase], places: &Places) -> Result<Program, CodeFault>
-    ensures ok { IfOk result (λ program. spec.IsProgramTo places.now phases.now program.words.items program.ends.items) }
+    ensures ok { IfOk result (λ program. spec.IsProgramTo places.now phases.now program.words.items
+        program.ends.items) }
     ensures err { IfErr result (spec.ArePhasesAtFault places.now phases.now) }
 {
     if phases.len() > MOST_PHASES {

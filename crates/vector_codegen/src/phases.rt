@@ -1,6 +1,7 @@
 //! The code of a phase around that of its tasks.
 
-ghost use Rattle.std.specs.Prelude.{◌≡◌, ◌+◌, ◌-◌, ◌<◌, ◌≤◌, ◌^◌, ◌∷◌, IfErr, List, OnOk, [], false, length, negsuc, pos};
+ghost use Rattle.std.specs.Prelude.{◌≡◌, ◌+◌, ◌-◌, ◌<◌, ◌≤◌, ◌^◌, ◌∷◌, IfErr, List, OnOk, [], false, length, negsuc};
+ghost use Rattle.std.specs.Prelude.{pos};
 ghost use Rattle.rv_insn.specs.declared.instructions.Insn.{Insn as Instruction};
 ghost use Rattle.rv_insn.specs.declared.instructions.Insn.TheVariants as insns;
 ghost use Rattle.rv_insn.specs.declared.operations.BranchOp.TheVariants.{Bgeu, Bne};
@@ -138,7 +139,8 @@ fn emit_draw(code: &mut Vec<u32>, is_last: bool) -> Result<(), AllocError>
 /// Appends the code of tasks, and the way back to the draw.
 fn emit_tasks(code: &mut Vec<u32>, words: &[u32]) -> Result<(), CodeFault>
     requires { length words.now < 2 ^ 20 }
-    ensures ok { OnOk result ((made : List Instruction) → Emits [] words.now made → Emits code.old.items code.new.items (spec.tasks_code made)) }
+    ensures ok { OnOk result ((made : List Instruction) → Emits [] words.now made
+        → Emits code.old.items code.new.items (spec.tasks_code made)) }
     ensures err { IfErr result (IsFault (2 ^ 18 ≤ length words.now + 2) ⊥) }
 {
     append(code, words)?;
@@ -160,7 +162,8 @@ pub fn emit_phase(
 ) -> Result<(), CodeFault>
     requires { ticket + 4 < 2 ^ 32 }
     ensures ok { OnOk result ((made : List Instruction) → Emits [] words.now made
-        → Emits code.old.items code.new.items (spec.phase_code is_last ticket (record { tasks = tasks; insns = made }))) }
+        → Emits code.old.items code.new.items
+        (spec.phase_code is_last ticket (record { tasks = tasks; insns = made }))) }
     ensures err { IfErr result (IsFault ((made : List Instruction) → Emits [] words.now made
         → most_words < length (spec.phase_code is_last ticket (record { tasks = tasks; insns = made }))) ⊥) }
 {

@@ -1,10 +1,11 @@
-//! The phases of a pipeline in memory, as programs whose harts share their tasks: where the buffers of a pipeline lie for the code
-//! of its tasks (`specs/Places.antt`), what each byte of the data is for while a phase's tasks are done, and what it holds
-//! (`specs/Uses.antt`); and what the promises on every list of turns ask of a program (`specs/Sharing.antt`).
+//! The phases of a pipeline in memory, as programs whose harts share their tasks: where the buffers of a pipeline lie
+//! for the code of its tasks (`specs/Places.antt`), what each byte of the data is for while a phase's tasks are done,
+//! and what it holds (`specs/Uses.antt`); and what the promises on every list of turns ask of a program
+//! (`specs/Sharing.antt`).
 //!
-//! - [`memory_laws`]: points of buffers lie where the layout has them (`specs/Points.antt`); what a task touches lies so that its
-//!   code may touch it (`specs/Settings.antt`); what memory holds before and behind a task (`specs/Held.antt`); that turns which
-//!   write a vectorized Func's points write whole runs (`specs/RunBytes.antt`).
+//! - [`memory_laws`]: points of buffers lie where the layout has them (`specs/Points.antt`); what a task touches lies
+//!   so that its code may touch it (`specs/Settings.antt`); what memory holds before and behind a task
+//!   (`specs/Held.antt`); that turns which write a vectorized Func's points write whole runs (`specs/RunBytes.antt`).
 //! - [`sharing_laws`]: phases whose code stands in the text share their work, and leave the pixels of Funcs at root.
 #![tactic(auto)]
 

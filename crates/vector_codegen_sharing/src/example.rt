@@ -2,7 +2,8 @@
 
 ghost use Rattle.std.specs.Prelude.{◌≡◌, ◌≤◌, length, IfOk};
 ghost use Rattle.multi_hart.specs.Run.{opened};
-ghost use Rattle.vector_codegen_sharing.specs.Example.{example_text, example_data, ExampleIsProgram, ExampleResult, ExampleEnds};
+ghost use Rattle.vector_codegen_sharing.specs.Example.{example_text, example_data, ExampleIsProgram, ExampleResult};
+ghost use Rattle.vector_codegen_sharing.specs.Example.{ExampleEnds};
 ghost use Rattle.vector_codegen_sharing.specs.Stuck.{NoCount};
 
 use multi_hart::Machine;

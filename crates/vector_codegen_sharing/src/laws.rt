@@ -3,7 +3,8 @@
 ghost use Rattle.vector_codegen_sharing.specs.Undisturbed.{DoneAmongOthers};
 ghost use Rattle.vector_codegen_sharing.specs.Bridges.{StandsThere, ThereStands, PathDoes};
 ghost use Rattle.vector_codegen_sharing.specs.Fairness.{FairEnds, FinishedStays, GatesGrow};
-ghost use Rattle.vector_codegen_sharing.specs.Promises.{NeverTraps, OneResult, NeverRaces, CanFinish, GateOnce, AloneStops, EveryAssignment, RulesKept};
+ghost use Rattle.vector_codegen_sharing.specs.Promises.{NeverTraps, OneResult, NeverRaces, CanFinish, GateOnce};
+ghost use Rattle.vector_codegen_sharing.specs.Promises.{AloneStops, EveryAssignment, RulesKept};
 
 /// On every list of turns in which no other hart writes a byte that a job's run alone touches, the job is done
 /// after as many turns of its hart as its run alone takes.

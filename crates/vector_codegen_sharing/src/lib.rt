@@ -3,9 +3,9 @@
 //! A program has phases, one after the other (`specs/Programs.antt`). In each the harts draw the numbers
 //! of tasks from a ticket word by `amoadd.w`, do them, and before the next phase wait for one another at a gate word
 //! (`specs/Phases.antt` has this code and the registers that it uses). A task's code is known by its run
-//! alone (`specs/Solo.antt`) over bytes of which each is for one purpose (`multi_hart_logic`'s `specs/Uses.antt`); nothing of
-//! other harts enters there. What then holds on every list of turns is stated in `specs/Promises.antt`, and that every fair
-//! list ends in `specs/Fairness.antt`.
+//! alone (`specs/Solo.antt`) over bytes of which each is for one purpose (`multi_hart_logic`'s `specs/Uses.antt`);
+//! nothing of other harts enters there. What then holds on every list of turns is stated in `specs/Promises.antt`, and
+//! that every fair list ends in `specs/Fairness.antt`.
 //!
 //! - [`laws`]: no hart traps, no race, one result, the end stays within reach and comes on every fair list, waiting at
 //!   gates alone, every assignment of tasks to harts, each turn by its phase's rule.

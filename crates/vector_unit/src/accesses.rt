@@ -7,7 +7,8 @@ ghost use Rattle.lanes.specs.Masks.{is_active};
 ghost use Rattle.vector_unit.specs.VectorState.{register, with_register, has_vill};
 ghost use Rattle.vector_unit.specs.Vector as spec;
 ghost use Rattle.vector_unit.specs.Vector.{width, count, group_at, element_from, active_in};
-ghost use Rattle.vector_unit.specs.Accesses.{offset, addresses_by, active_numbers, filled_from, loaded, with_element_from};
+ghost use Rattle.vector_unit.specs.Accesses.{offset, addresses_by, active_numbers, filled_from, loaded};
+ghost use Rattle.vector_unit.specs.Accesses.{with_element_from};
 
 use crate::numbers::Numbers;
 use crate::states::VectorState;
@@ -208,7 +209,8 @@ impl VectorState {
     fn put<K: LaneKind>(&mut self, value: K, v: VReg, part: usize, index: usize)
         requires part { part < 64 }
         requires index { index < 128 / K.width }
-        ensures { self.new ≡ with_register self.old (v + part) (with_element K.width (register self.old (v + part)) index (K.number value)) }
+        ensures { self.new ≡ with_register self.old (v + part) (with_element K.width (register self.old (v + part))
+            index (K.number value)) }
     {
         let at = v.number() as usize + part;
         if at < 32 {

@@ -21,7 +21,8 @@ impl VectorState {
     #[tactic(auto, using(crate::proofs::Groups::compared_bits))]
     pub(crate) fn compare(&mut self, operation: CompareVxOp, pair: Pair)
         requires { has_vill self.old ≡ false }
-        ensures { self.new ≡ with_bits self.old pair.vd pair.vm (zip_with (op.compare_vx operation (width self.old)) (of_group self.old pair.vs2) (operand_elements self.old pair.other)) }
+        ensures { self.new ≡ with_bits self.old pair.vd pair.vm (zip_with (op.compare_vx operation (width self.old))
+            (of_group self.old pair.vs2) (operand_elements self.old pair.other)) }
     {
         let mut register = self.register(pair.vd);
         self.compare_parts(operation, &pair, 0, self.group(), &mut register);
@@ -39,7 +40,8 @@ impl VectorState {
     )
         requires configured { has_vill self.now ≡ false }
         requires few { part + others ≤ 4 }
-        ensures { register.new ≡ with_parts_bits self.now operation pair.now.vs2 pair.now.other pair.now.vm part others register.old }
+        ensures { register.new ≡ with_parts_bits self.now operation pair.now.vs2 pair.now.other pair.now.vm part others
+            register.old }
     {
         if others > 0 {
             self.compare_part(operation, pair, part, register);
@@ -57,7 +59,8 @@ impl VectorState {
     )
         requires configured { has_vill self.now ≡ false }
         requires part { part < 4 }
-        ensures { register.new ≡ with_part_bits self.now operation pair.now.vs2 pair.now.other pair.now.vm part register.old }
+        ensures { register.new ≡ with_part_bits self.now operation pair.now.vs2 pair.now.other pair.now.vm part
+            register.old }
     {
         let Pair { vs2, other, vm, .. } = *pair;
         let vs2 = Operand::Register(vs2);
@@ -92,7 +95,8 @@ impl VectorState {
         vm: bool,
     )
         requires { has_vill self.old ≡ false }
-        ensures { self.new ≡ with_first self.old vd (reduced (op.reduction operation (width self.old)) (active_in self.old vm) (element (width self.old) (register self.old vs1) 0) (of_group self.old vs2)) }
+        ensures { self.new ≡ with_first self.old vd (reduced (op.reduction operation (width self.old))
+            (active_in self.old vm) (element (width self.old) (register self.old vs1) 0) (of_group self.old vs2)) }
     {
         let start = self.register(vs1);
         let group = self.group();
@@ -196,7 +200,8 @@ impl VectorState {
     /// Element 0 of a register, its sign extended.
     pub(crate) fn scalar(&self, vs2: VReg) -> u32
         requires { has_vill self.now ≡ false }
-        ensures { result ≡ word.wrapped 32 (word.signed (width self.now) (element (width self.now) (register self.now vs2) 0)) }
+        ensures { result ≡ word.wrapped 32
+            (word.signed (width self.now) (element (width self.now) (register self.now vs2) 0)) }
     {
         let register = self.register(vs2);
         match self.width() {

@@ -3,7 +3,9 @@
 ghost use Rattle.std.specs.Prelude.{◌≡◌, ◌==◌, ◌%◌, ℕ, true, false, ◌&&◌, not, None, Some, OnOk, OnErr, IfOk, IfErr};
 ghost use Rattle.rv_insn.specs.declared.outcomes.Trap.TheVariants.{IllegalInstruction};
 ghost use Rattle.vector_unit.specs.VectorState.{has_vill};
-ghost use Rattle.vector_unit.specs.Vector.{vector_after, scalar_given, number_of, is_own, is_other_width, is_refused, overwrites_mask, fixed_width, group, groups_in, is_misplaced, moved_in, is_unfit, width, of_group, merged_by_mask, with_elements};
+ghost use Rattle.vector_unit.specs.Vector.{vector_after, scalar_given, number_of, is_own, is_other_width, is_refused};
+ghost use Rattle.vector_unit.specs.Vector.{overwrites_mask, fixed_width, group, groups_in, is_misplaced, moved_in};
+ghost use Rattle.vector_unit.specs.Vector.{is_unfit, width, of_group, merged_by_mask, with_elements};
 ghost use Rattle.vector_unit.specs.Operations as op;
 ghost use Rattle.lanes.specs.Elementwise.{zip_with};
 ghost use Rattle.vector_unit.specs.Operands.{operand_elements, pair_of};
@@ -135,7 +137,8 @@ impl VectorState {
     /// Executes an instruction with these operands.
     fn execute_on_pairs(&mut self, insn: &VectorInsn, pair: Pair)
         requires { has_vill self.old ≡ false }
-        ensures { (number : ℕ) → pair_of insn.now number ≡ Some pair → self.new ≡ vector_after insn.now (λ r. number) self.old }
+        ensures { (number : ℕ) → pair_of insn.now number ≡ Some pair
+            → self.new ≡ vector_after insn.now (λ r. number) self.old }
     {
         match *insn {
             VectorInsn::ArithmeticVv { op, .. } => {
@@ -163,7 +166,9 @@ impl VectorState {
     /// Writes what an operation makes of each pair.
     fn compute(&mut self, operation: ArithmeticVxOp, pair: Pair)
         requires { has_vill self.old ≡ false }
-        ensures { self.new ≡ with_elements self.old pair.vd pair.vm (zip_with (op.arithmetic_vx operation (width self.old)) (of_group self.old pair.vs2) (operand_elements self.old pair.other)) }
+        ensures { self.new ≡ with_elements self.old pair.vd pair.vm
+            (zip_with (op.arithmetic_vx operation (width self.old)) (of_group self.old pair.vs2)
+            (operand_elements self.old pair.other)) }
     {
         let Pair { vd, vs2, other, vm } = pair;
         let new = NewElements::Arithmetic {
@@ -177,7 +182,8 @@ impl VectorState {
     /// Writes what a multiplication or division makes of each pair.
     fn multiply(&mut self, operation: MultiplyOp, pair: Pair)
         requires { has_vill self.old ≡ false }
-        ensures { self.new ≡ with_elements self.old pair.vd pair.vm (zip_with (op.multiply operation (width self.old)) (of_group self.old pair.vs2) (operand_elements self.old pair.other)) }
+        ensures { self.new ≡ with_elements self.old pair.vd pair.vm (zip_with (op.multiply operation (width self.old))
+            (of_group self.old pair.vs2) (operand_elements self.old pair.other)) }
     {
         let Pair { vd, vs2, other, vm } = pair;
         let new = NewElements::Multiply {
@@ -191,7 +197,8 @@ impl VectorState {
     /// Writes the other operand where the mask has a 1, and the elements of `vs2` where it has a 0.
     fn merge(&mut self, vd: VReg, vs2: VReg, other: Operand)
         requires { has_vill self.old ≡ false }
-        ensures { self.new ≡ with_elements self.old vd true (merged_by_mask self.old (operand_elements self.old other) (of_group self.old vs2)) }
+        ensures { self.new ≡ with_elements self.old vd true (merged_by_mask self.old (operand_elements self.old other)
+            (of_group self.old vs2)) }
     {
         self.write_elements(vd, true, NewElements::Merge { vs2, other });
     }

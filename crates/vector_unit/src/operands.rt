@@ -144,7 +144,8 @@ impl VectorState {
     ) -> [u8; 16]
         requires few { part * N + N ≤ 128 }
         requires fills { N * K.width ≡ 128 }
-        ensures { result ≡ register_of K.width (merged (active (part * N) N self.now.vl vm (register self.now 0)) new.now before.now) }
+        ensures { result ≡ register_of K.width (merged (active (part * N) N self.now.vl vm (register self.now 0))
+            new.now before.now) }
     {
         let mask = &self.registers[0];
         let merged = before.merge_active(new, part * N, self.vl as usize, vm, mask);

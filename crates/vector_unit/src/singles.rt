@@ -1,10 +1,11 @@
-//! Instructions on single registers of words, the most that programs do: none of what is judged and looked up of groups and widths
-//! is needed there.
+//! Instructions on single registers of words, the most that programs do: none of what is judged and looked up of groups
+//! and widths is needed there.
 
 ghost use Rattle.std.specs.Prelude.{◌≡◌, ℕ, true, false, None};
 ghost use Rattle.lanes.specs.Elementwise.{zip_with};
 ghost use Rattle.vector_unit.specs.VectorState.{has_vill};
-ghost use Rattle.vector_unit.specs.Vector.{group, is_own, is_refused, of_group, scalar_given, vector_after, width, with_elements};
+ghost use Rattle.vector_unit.specs.Vector.{group, is_own, is_refused, of_group, scalar_given, vector_after, width};
+ghost use Rattle.vector_unit.specs.Vector.{with_elements};
 ghost use Rattle.vector_unit.specs.Operations as op;
 
 use crate::elements::NewElements;
@@ -15,8 +16,8 @@ use crate::states::VectorState;
 use rv_insn::{ArithmeticVvOp, VReg, VectorInsn};
 
 impl VectorState {
-    /// Executes an operation on two single registers of words, and answers whether it was one that is legal here. With any other
-    /// nothing is changed, and [`VectorState::execute`] says what comes of it.
+    /// Executes an operation on two single registers of words, and answers whether it was one that is legal here. With
+    /// any other nothing is changed, and [`VectorState::execute`] says what comes of it.
     #[inline(always)]
     pub fn execute_on_words(&mut self, insn: &VectorInsn) -> bool
         ensures own { result ≡ true → is_own insn.now ≡ true }
@@ -59,7 +60,8 @@ impl VectorState {
         requires configured { has_vill self.old ≡ false }
         requires words { width self.old ≡ 32 }
         requires single { group self.old ≡ 1 }
-        ensures { self.new ≡ with_elements self.old vd vm (zip_with (op.arithmetic_vv operation (width self.old)) (of_group self.old vs2) (of_group self.old vs1)) }
+        ensures { self.new ≡ with_elements self.old vd vm (zip_with (op.arithmetic_vv operation (width self.old))
+            (of_group self.old vs2) (of_group self.old vs1)) }
     {
         let new = NewElements::Arithmetic {
             op: operations::of_two_registers(operation),
