@@ -1,10 +1,10 @@
 //! A machine that runs until its harts stop.
 
-ghost use Rattle.std.specs.Prelude.{◌≡◌, All, length, true, false, OnOk, IfOk};
+ghost use Rattle.std.specs.Prelude.{◌≡◌, ◌≤◌, All, length, true, false, OnOk, IfOk};
 ghost use Rattle.board.specs.Tokens.{name_of};
 ghost use Rattle.turn_log.specs.TurnLog.{count_of};
 ghost use Rattle.shared_machine.specs.Driving.{AreDriven, has_refused, refused_by};
-ghost use Rattle.shared_machine.specs.Log.{state_after, tally};
+ghost use Rattle.shared_machine.specs.Log.{most_batch, state_after, tally};
 ghost use Rattle.shared_machine.specs.Running.{IsRunOf};
 ghost use Rattle.shared_machine.specs.Seats.{IsSeatOf, AreSeatsAt};
 ghost use Rattle.shared_machine.specs.Tallies.{AreNamed};
@@ -27,6 +27,9 @@ use turn_log::TurnLog;
 
 /// How many turns are made under one lock at most.
 const BATCH: u64 = 64;
+
+/// How many where no other hart waits for the lock.
+const LONE_BATCH: u64 = 4096;
 
 /// Runs the machine of an image on from a log of its turns, in a thread for each of the log's harts, until each has
 /// stopped or has made so many turns more. The machine at the end, and the log of all turns, which begins with the one
@@ -100,7 +103,16 @@ fn drive_all<O: Origin + Send + Sync, F: Ledgers + Send + Sync, R: Threads + Wai
     ensures of { All (IsSeatOf (name_of shared.now.board)) seats.new.items }
     ensures driven { OnOk result (AreDriven (name_of shared.now.board) true limit seats.old.items seats.new.items) }
 {
-    drive_batched(rt, shared, seats.as_mut_slice(), limit, BATCH, &AlwaysOpen)
+    let most = batch(seats.len());
+    drive_batched(rt, shared, seats.as_mut_slice(), limit, most, &AlwaysOpen)
+}
+
+/// How many turns are made under one lock at most, of so many harts.
+fn batch(harts: usize) -> u64
+    ensures some { 1 ≤ result }
+    ensures few { result ≤ most_batch }
+{
+    if harts == 1 { LONE_BATCH } else { BATCH }
 }
 
 /// Why a thread ended that should have gone on: a turn was refused memory, or a stop was asked, which is asked where

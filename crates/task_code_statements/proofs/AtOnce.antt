@@ -147,10 +147,10 @@ module _ (context within : Context) (counter : Counter) (whole : Whole) (extent 
 
   inside-meets : (values : Values) → Meets context values → Meets within (at values)
   inside-meets values meets =
-      meets-sum.meets values (whole_value whole values) (whole-word whole values ∙ sym (is.value_is values meets.known)) meets
+      meets-sum.meets values (whole_value whole values) (whole-word whole values ∙ sym (is.value_is values meets)) meets
 
   whole-is : (values : Values) → Meets context values → whole_value whole values ≡ linear_value values sum
-  whole-is values meets = sym (is.value_is values meets.known)
+  whole-is values meets = sym (is.value_is values meets)
 
   -- with values of names
   at-named : (values named : Values) → AreNamed values named → AreNamed (at values) (at named)
@@ -192,7 +192,7 @@ module _ (context within : Context) (counter : Counter) (whole : Whole) (extent 
         passed : (values named : Values) → AreNamed values named → Meets context named → nat_lt (whole_value whole values) extent ≡ true
         passed values named same meets =
             is-below (whole_value whole values) extent
-            (subst (λ n. n < extent) (form-sum 0 named sum ∙ is.value_is named meets.known ∙ is.plain values named same)
+            (subst (λ n. n < extent) (form-sum 0 named sum ∙ is.value_is named meets ∙ is.plain values named same)
             (subst (λ b. IsBelow b (record { sum = sum; per_hart = 0 }) extent) ebs below 0 named meets.below))
 
     -- another one is one of the store's

@@ -1,5 +1,5 @@
 -- What is asked of a statement is asked of its parts, and what its parts do is what it does.
-use Rattle.std.proofs.Common.{◌≡◌, ℕ, ◌<◌, List, true, false, ap, ◌∙◌, sym, subst}
+use Rattle.std.proofs.Common.{◌≡◌, ℕ, suc, ◌<◌, List, Bool, true, false, ap, ◌∙◌, sym, subst}
 use Rattle.std.specs.Prelude.{◌==◌, ◌&&◌, ◌||◌, not, if◌then◌else◌, nat_lt}
 use Rattle.std.proofs.lemmas.Bool.{and_parts}
 use Rattle.rv_insn.specs.declared.instructions.Insn.{Insn}
@@ -126,6 +126,48 @@ module _ (own : Setting) where
       sound = sound-each may.sound i less;
       at_once = once-each may.at_once i less;
       in_runs = runs-each may.in_runs plain i less;
+    }
+
+  -- so it is of a loop with an iteration less
+  module _ (counter : Counter) (k : ℕ) (kind : LoopKind) (body : Stmt) (values : Values) where
+    fewer-every : (test : ℕ → Bool) → every (suc k) test ≡ true → every k test ≡ true
+    unfolding every
+    fewer-every test all = (and_parts (every k test) (test k) all).0
+
+    sound-fewer : SoundIn own (s.For counter (suc k) kind body) values → SoundIn own (s.For counter k kind body) values
+    sound-fewer sound p words =
+        sound_for (reads_of own.inputs p) own.written own.loaded counter k kind body values
+        ∙ fewer-every (λ turn. is_sound (reads_of own.inputs p) own.written own.loaded body (with counter turn values))
+        (sym (sound_for (reads_of own.inputs p) own.written own.loaded counter (suc k) kind body values) ∙ sound p words)
+
+    runs-fewer : RunsIn own (s.For counter (suc k) kind body) values → is_vectorized kind ≡ false → RunsIn own (s.For counter k kind body) values
+    runs-fewer sure plain p words func in_runs x y =
+        let r = runs (reads_of own.inputs p) func x y (own.run func x y) body in
+        let among = λ (n : ℕ) (t : Bool). if t && counter.func == func then are_same (every n (λ round. r.misses (with counter round values)))
+        (not (own.run func x y values)) else every n (λ turn. r.are_runs (with counter turn values)) in
+        ap (λ (a : Runs). a.are_runs values) (runs_for (reads_of own.inputs p) func x y (own.run func x y) counter k kind body)
+        ∙ ap (among k) plain
+        ∙ fewer-every (λ turn. r.are_runs (with counter turn values))
+        (sym (ap (among (suc k)) plain)
+        ∙ sym (ap (λ (a : Runs). a.are_runs values) (runs_for (reads_of own.inputs p) func x y (own.run func x y) counter (suc k) kind body))
+        ∙ sure p words func in_runs x y)
+
+    once-fewer : AtOnceIn own (s.For counter (suc k) kind body) values → is_vectorized kind ≡ false → AtOnceIn own (s.For counter k kind body) values
+    once-fewer once plain p words =
+        let reads = reads_of own.inputs p in
+        let at : ℕ → Values = (λ turn. with counter turn values) in
+        let r = rounds reads body in
+        let all = λ (n : ℕ) (t : Bool). (not t || (is_round_count n && (r.is_one_store && (are_apart r at n && all_step_up r at n))))
+        && every n (λ turn. may_be_at_once reads body (at turn)) in
+        ap (λ (a : Rounds). a.may_be_at_once values) (rounds_for reads counter k kind body) ∙ ap (all k) plain
+        ∙ fewer-every (λ turn. may_be_at_once reads body (at turn))
+        (sym (ap (all (suc k)) plain) ∙ sym (ap (λ (a : Rounds). a.may_be_at_once values) (rounds_for reads counter (suc k) kind body)) ∙ once p words)
+
+    pub may-fewer : MayRun own (s.For counter (suc k) kind body) values → is_vectorized kind ≡ false → MayRun own (s.For counter k kind body) values
+    may-fewer may plain = record {
+      sound = sound-fewer may.sound;
+      at_once = once-fewer may.at_once plain;
+      in_runs = runs-fewer may.in_runs plain;
     }
 
   module _ (counter : Counter) (whole : Whole) (extent : ℕ) (body : Stmt) (values : Values)

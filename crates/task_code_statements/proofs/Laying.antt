@@ -1,5 +1,6 @@
 -- Iterations that are laid out, each with code of its own.
-use Rattle.std.proofs.Common.{◌≡◌, ℕ, suc, ◌+◌, ◌%◌, ◌^◌, ◌<◌, List, [], ◌++◌, false, refl, ◌∙◌, sym, arith}
+use Rattle.std.proofs.Common.{◌≡◌, ℕ, suc, ◌+◌, ◌-◌, ◌%◌, ◌^◌, ◌<◌, ◌≤◌, List, [], ◌++◌, false, refl, ap, ◌∙◌, sym, subst, arith}
+use Rattle.task_code_loops.specs.declared.bounds.Bound.{Bound}
 use Rattle.loop_ir.specs.declared.expressions.Counter.{Counter}
 use Rattle.loop_ir.specs.declared.expressions.Linear.{Linear}
 use Rattle.loop_ir.specs.declared.statements.LoopKind.{LoopKind}
@@ -18,8 +19,8 @@ use Rattle.task_code_loops.proofs.Following.{none-are-laid-out, one-more-is-laid
 use Rattle.task_code_statements.specs.declared.contexts.Context.{Context}
 use Rattle.task_code_statements.specs.Contexts.{Meets, MeetsSum}
 use Rattle.task_code_statements.specs.Laying.{LaysOut}
-use Rattle.task_code_statements.specs.Statements.{EmitsStatement}
-use Rattle.task_code_statements.proofs.Following.{did-is, may-each}
+use Rattle.task_code_statements.specs.Statements.{EmitsLoop, EmitsStatement}
+use Rattle.task_code_statements.proofs.Following.{did-is, may-each, may-fewer}
 use Rattle.task_code_statements.proofs.Nesting.{one, body_stored, all_stored, stores-all}
 use Rattle.task_code_statements.proofs.Plainness.{named-with}
 
@@ -64,9 +65,49 @@ module _ (places : Places) (scope : List Held) (is_so : Values → Type 0) (coun
         ((x.does own good at-places values named are holders meets (may-each own counter count kind body values may plain)).does f memory funcs holds knows);
   }
 
+  -- a loop, and its last iteration behind it
+  pub parted-emits : (k : ℕ) (kind : LoopKind) (within_so : Values → Type 0) (c0 c1 c2 : List ℕ) → is_vectorized kind ≡ false → mentions counter scope ≡ false
+      → ((values : Values) → is_so values → within_so (with counter k values))
+      → EmitsStatement c0 c1 places scope is_so (s.For counter k kind body) → EmitsStatement c1 c2 places scope within_so body
+      → EmitsStatement c0 c2 places scope is_so (s.For counter (suc k) kind body)
+  parted-emits k kind within_so c0 c1 c2 plain none enters x y = record {
+    insns = x.insns ++ y.insns;
+    emits = emits_then x.emits y.emits;
+    turns = λ named. x.turns named + y.turns (with counter k named);
+    does = λ own good at-places values named are holders meets may f memory funcs holds knows.
+        did-is refl (sym (run_for own.points own.inputs counter (suc k) kind body values funcs))
+        (λ func i j h. sym (hit-for own.points own.inputs func i j counter (suc k) kind body values funcs) ∙ h)
+        ((one-more-is-laid-out own own.world.hart scope counter named k (x.turns named) (y.turns (with counter k named)) x.insns y.insns
+        (one own counter body values) (body_stored own counter body values) (all_stored own counter body values) none (stores-all own counter body values)
+        (record {
+          does = λ g m p o known.
+              did-is refl (run_for own.points own.inputs counter k kind body values p)
+              (λ func i j h. hit-for own.points own.inputs func i j counter k kind body values p ∙ h)
+              (x.does own good at-places values named are holders meets (may-fewer own counter k kind body values may plain) g m p o known);
+        })
+        (λ g m p o known.
+        y.does own good at-places (with counter k values) (with counter k named) (named-with values named counter k are) holders
+        (enters named meets)
+        (may-each own counter (suc k) kind body values may plain k (omega arith)) g m p o known)).does f memory funcs holds knows);
+  }
+
 -- a variable that stands at a number is as known
 pub number-enters : (context within : Context) (counter : Counter) (k : ℕ) (number : Linear) → k < 2 ^ 32
     → ((values : Values) → linear_value values number ≡ k) → MeetsSum context counter number within
     → (values : Values) → Meets context values → Meets within (with counter k values)
 number-enters context within counter k number small is meets-sum values meets =
     meets-sum.meets values k (let e : k % 2 ^ 32 ≡ k = omega (arith, small) in e ∙ sym (is values)) meets
+
+-- as the emitter calls it
+pub parted-arm : (places : Places) (scope : List Held) (context within : Context) (counter : Counter) (count : ℕ) (body : Stmt) (others : Bound)
+    (number : Linear) (c0 c1 c2 : List ℕ) → 1 ≤ count → count < 2 ^ 32 → others ≡ record { counter = counter; count = count - 1 }
+    → mentions counter scope ≡ false → ((values : Values) → linear_value values number ≡ others.count) → MeetsSum context counter number within
+    → EmitsLoop c0 c1 places scope (Meets context) others.counter others.count body → EmitsStatement c1 c2 places scope (Meets within) body
+    → EmitsLoop c0 c2 places scope (Meets context) counter count body
+parted-arm places scope context within counter count body others number c0 c1 c2 some small eo none is sum x y kind plain =
+    let more : suc (count - 1) ≡ count = omega (arith, some) in
+    let few : count - 1 < 2 ^ 32 = omega (arith, small) in
+    subst (λ n. EmitsStatement c0 c2 places scope (Meets context) (s.For counter n kind body)) more
+    (parted-emits places scope (Meets context) counter body (count - 1) kind (Meets within) c0 c1 c2 plain none
+    (number-enters context within counter (count - 1) number few (λ values. is values ∙ ap (λ (o : Bound). o.count) eo) sum)
+    (subst (λ (o : Bound). EmitsStatement c0 c1 places scope (Meets context) (s.For o.counter o.count kind body)) eo (x kind plain)) y)

@@ -1,7 +1,7 @@
 -- Split loops: their values as sums, and their bodies, under a test or not.
-use Rattle.std.proofs.Common.{◌≡◌, ℕ, ◌+◌, ◌*◌, ◌%◌, ◌^◌, ◌<◌, List, [], ◌∷◌, ◌++◌, Bool, true, false, refl, ap, ◌∙◌, sym, subst, arith}
-use Rattle.std.specs.Prelude.{if◌then◌else◌, nat_lt, is_some, IfSome, Option, Some, None}
-use Rattle.std.proofs.lemmas.Bool.{true≢false}
+use Rattle.std.proofs.Common.{◌≡◌, ℕ, ◌+◌, ◌*◌, ◌%◌, ◌^◌, ◌<◌, ◌≤◌, List, [], ◌∷◌, ◌++◌, length, Bool, true, false, refl, ap, ◌∙◌, sym, subst, arith}
+use Rattle.std.specs.Prelude.{if◌then◌else◌, min, nat_lt, IfSome, Option, Some, None}
+use Rattle.std.proofs.Math.Nat.{min-eq_left}
 use Rattle.std.proofs.lemmas.Bool.Decides.{nat_tests}
 use Rattle.halide_pipeline.specs.Words as word
 use Rattle.loop_ir.specs.declared.expressions.Counter.{Counter}
@@ -22,14 +22,17 @@ use Rattle.task_code_registers.specs.declared.scopes.Held.{Held}
 use Rattle.task_code_registers.specs.Holding.{mentions}
 use Rattle.task_code_registers.specs.Scopes.{form_value}
 use Rattle.task_code_loops.specs.declared.known.Known.{Known}
-use Rattle.task_code_loops.specs.Bounds.{IsBelow}
+use Rattle.task_code_loops.specs.declared.bounds.Bound.{Bound}
+use Rattle.task_code_loops.specs.Bounds.{AreBelow, IsBelow}
 use Rattle.task_code_loops.specs.Guarding.{GuardsWords, stored_if}
 use Rattle.task_code_loops.specs.Known.{AreKnown}
 use Rattle.task_code_loops.proofs.Knowledge.{knows-with}
 use Rattle.task_code_statements.specs.declared.contexts.Context.{Context}
 use Rattle.task_code_statements.specs.Contexts.{MeetsSum, Meets}
 use Rattle.task_code_statements.specs.Rewriting.{IsSameSum}
-use Rattle.task_code_statements.specs.Splits.{IsSplitSum}
+use Rattle.task_code_statements.specs.declared.splits.Start.{Start}
+use Rattle.task_code_statements.specs.declared.splits.Start.TheVariants as starts
+use Rattle.task_code_statements.specs.Splits.{AddsInner, BeginsRun, IsProduct, IsSplitSum, product, start_value}
 use Rattle.task_code_statements.specs.Statements.{EmitsStatement}
 use Rattle.task_code_statements.proofs.Following.{did-is, may-split}
 use Rattle.task_code_runs.specs.Naming.{AreNamed, is_name}
@@ -38,12 +41,6 @@ use Rattle.task_code_statements.proofs.Same.{form-sum}
 
 -- ---- values
 
-abbrev pub split_sum : Whole → Linear
-split_sum whole = record {
-  number = 0;
-  terms = (record { counter = whole.outer; stride = whole.factor }) ∷ (record { counter = whole.inner; stride = 1 }) ∷ [];
-}
-
 -- no name is in a split loop
 whole-plain : (whole : Whole) → is_name whole.outer ≡ false → is_name whole.inner ≡ false → (values named : Values) → AreNamed values named
     → whole_value whole named ≡ whole_value whole values
@@ -51,19 +48,93 @@ whole-plain whole outer inner values named are =
     ap (λ n. word.add (at_most whole.last (word.multiply n whole.factor)) (named whole.inner)) (are whole.outer outer)
     ∙ ap (word.add (at_most whole.last (word.multiply (values whole.outer) whole.factor))) (are whole.inner inner)
 
-whole-split : (whole : Whole) (values : Values) → whole.last ≡ None → linear_value values (split_sum whole) ≡ whole_value whole values
-unfolding linear_value word.add word.multiply
-whole-split whole values none =
-    let product = values whole.outer * whole.factor in
-    let g : (0 + (product + (values whole.inner * 1 + 0))) % 2 ^ 32 ≡ (product % 2 ^ 32 + values whole.inner) % 2 ^ 32 = omega arith in
-    g ∙ ap (λ o. (at_most o (product % 2 ^ 32) + values whole.inner) % 2 ^ 32) (sym none)
+-- ---- where a run begins
 
-pub split-is : (context : Context) (known : List Known) (whole : Whole) (own made : Linear) → known ≡ context.known.items → own ≡ split_sum whole
-    → whole.last ≡ None → is_name whole.outer ≡ false → is_name whole.inner ≡ false → IsSameSum known own made → IsSplitSum context whole made
-split-is context known whole own made ek es none outer inner same = record {
-  plain = whole-plain whole outer inner;
+product-made : (whole : Whole) (own : Linear) (none one : List Term) → none ≡ [] → one ≡ none ++ (record { counter = whole.outer; stride = whole.factor } ∷ [])
+    → own ≡ record { number = 0; terms = one } → (values : Values) → linear_value values own ≡ product whole values
+unfolding linear_value word.multiply
+product-made whole own none one e0 e1 es values =
+    let n = values whole.outer * whole.factor in
+    let g : (0 + (n + 0)) % 2 ^ 32 ≡ n % 2 ^ 32 = omega arith in
+    ap (linear_value values) (es ∙ ap (λ l. record { number = 0; terms = l }) (e1 ∙ ap (λ l. l ++ (record { counter = whole.outer; stride = whole.factor } ∷ [])) e0)) ∙ g
+
+pub product-is : (context : Context) (known : List Known) (whole : Whole) (none one : List Term) (made : Linear) → known ≡ context.known.items → none ≡ []
+    → one ≡ none ++ (record { counter = whole.outer; stride = whole.factor } ∷ []) → IsSameSum known (record { number = 0; terms = one }) made
+    → IsProduct context whole made
+product-is context known whole none one made ek e0 e1 same = record {
   value_is = λ values are.
-      same.value_is values (subst (λ k. AreKnown k values) (sym ek) are) ∙ ap (linear_value values) es ∙ whole-split whole values none;
+      same.value_is values (subst (λ k. AreKnown k values) (sym ek) are)
+      ∙ product-made whole (record { number = 0; terms = one }) none one e0 e1 refl values;
+}
+
+none-there : {A : Type 0} (l : List A) → length l ≡ 0 → l ≡ []
+none-there [] e = refl
+none-there (first ∷ others) e = absurd (omega (arith, e))
+
+number-value : (sum : Linear) (values : Values) → length sum.terms ≡ 0 → sum.number < 2 ^ 32 → linear_value values sum ≡ sum.number
+unfolding linear_value
+number-value sum values none small =
+    let g : (sum.number + 0) % 2 ^ 32 ≡ sum.number = omega (arith, small) in
+    ap (λ l. linear_value values (record { number = sum.number; terms = l })) (none-there sum.terms none) ∙ g
+
+module _ (context : Context) (whole : Whole) (last : ℕ) (made : Linear) (el : whole.last ≡ Some last) (is : IsProduct context whole made) where
+  last-is : (values : Values) → at_most whole.last (product whole values) ≡ min (product whole values) last
+  last-is values = ap (λ o. at_most o (product whole values)) el
+
+  pub number-begins : (number : ℕ) → length made.terms ≡ 0 → made.number < 2 ^ 32 → number ≡ min made.number last
+      → BeginsRun context whole (starts.Number number)
+  number-begins number none small e values meets =
+      last-is values ∙ ap (λ n. min n last) (sym (is.value_is values meets.known) ∙ number-value made values none small) ∙ sym e
+
+  pub product-begins : (next : ℕ) (bounds : List Bound) → bounds ≡ context.bounds.items → next ≤ last + 1
+      → IsBelow bounds (record { sum = made; per_hart = 0 }) next → BeginsRun context whole starts.Product
+  product-begins next bounds eb most below values meets =
+      let less : product whole values < next =
+      subst (λ n. n < next) (form-sum 0 values made ∙ is.value_is values meets.known)
+      (below 0 values (subst (λ b. AreBelow b values) (sym eb) meets.below)) in
+      last-is values ∙ min-eq_left (omega (arith, less, most))
+
+pub any-begins : (context : Context) (whole : Whole) → BeginsRun context whole starts.Unknown
+any-begins context whole values meets = refl
+
+pub no-last-begins : (context : Context) (whole : Whole) → whole.last ≡ None → BeginsRun context whole starts.Product
+no-last-begins context whole none values meets = ap (λ o. at_most o (product whole values)) none
+
+-- ---- sums from a start
+
+pub two-terms : (first second : Term) (none one both : List Term) → none ≡ [] → one ≡ none ++ (first ∷ []) → both ≡ one ++ (second ∷ [])
+    → both ≡ first ∷ (second ∷ [])
+two-terms first second none one both e0 e1 e2 = e2 ∙ ap (λ l. l ++ (second ∷ [])) (e1 ∙ ap (λ l. l ++ (first ∷ [])) e0)
+
+pub product-adds : (whole : Whole) (start : Start) (none one both : List Term) → start ≡ starts.Product → none ≡ []
+    → one ≡ none ++ (record { counter = whole.outer; stride = whole.factor } ∷ []) → both ≡ one ++ (record { counter = whole.inner; stride = 1 } ∷ [])
+    → AddsInner whole start (record { number = 0; terms = both })
+unfolding linear_value word.add word.multiply
+product-adds whole start none one both es e0 e1 e2 other values =
+    let n = values whole.outer * whole.factor in
+    let g : (0 + (n + (values whole.inner * 1 + 0))) % 2 ^ 32 ≡ (n % 2 ^ 32 + values whole.inner) % 2 ^ 32 = omega arith in
+    ap (λ l. linear_value values (record { number = 0; terms = l }))
+    (two-terms (record { counter = whole.outer; stride = whole.factor }) (record { counter = whole.inner; stride = 1 }) none one both e0 e1 e2)
+    ∙ g ∙ sym (ap (λ k. word.add (start_value whole other k values) (values whole.inner)) es)
+
+pub number-adds : (whole : Whole) (start : Start) (number : ℕ) (none one : List Term) → start ≡ starts.Number number → none ≡ []
+    → one ≡ none ++ (record { counter = whole.inner; stride = 1 } ∷ []) → AddsInner whole start (record { number = number; terms = one })
+unfolding linear_value word.add
+number-adds whole start number none one es e0 e1 other values =
+    let g : (number + (values whole.inner * 1 + 0)) % 2 ^ 32 ≡ (number + values whole.inner) % 2 ^ 32 = omega arith in
+    ap (λ l. linear_value values (record { number = number; terms = l })) (e1 ∙ ap (λ l. l ++ (record { counter = whole.inner; stride = 1 } ∷ [])) e0)
+    ∙ g ∙ sym (ap (λ k. word.add (start_value whole other k values) (values whole.inner)) es)
+
+pub split-is : (context : Context) (known : List Known) (whole : Whole) (start : Start) (found : Option Linear) (own made : Linear)
+    → known ≡ context.known.items → found ≡ Some own → is_name whole.outer ≡ false → is_name whole.inner ≡ false → BeginsRun context whole start
+    → IfSome found (AddsInner whole start) → IsSameSum known own made → IsSplitSum context whole made
+split-is context known whole start found own made ek ef outer inner begins adds same = record {
+  plain = whole-plain whole outer inner;
+  value_is = λ values meets.
+      let here = at_most whole.last (product whole values) in
+      same.value_is values (subst (λ k. AreKnown k values) (sym ek) meets.known)
+      ∙ subst (λ o. IfSome o (AddsInner whole start)) ef adds here values
+      ∙ ap (λ n. word.add n (values whole.inner)) (sym (begins values meets));
 }
 
 pub whole-word : (whole : Whole) (values : Values) → whole_value whole values % 2 ^ 32 ≡ whole_value whole values
@@ -82,7 +153,7 @@ module _ (places : Places) (scope : List Held) (context within : Context) (count
 
   -- the form is the split loop's value
   form-is : (hart : ℕ) (values : Values) → Meets context values → form_value hart values own_form ≡ whole_value whole values
-  form-is hart values meets = form-sum hart values sum ∙ is.value_is values meets.known
+  form-is hart values meets = form-sum hart values sum ∙ is.value_is values meets
 
   abbrev entered : Values → Values
   entered values = with counter (whole_value whole values) values
@@ -96,7 +167,7 @@ module _ (places : Places) (scope : List Held) (context within : Context) (count
   -- with the variable at that value all is as known
   meets-entered : (values : Values) → Meets context values → Meets within (entered values)
   meets-entered values meets =
-      meets-sum.meets values (whole_value whole values) (whole-word whole values ∙ sym (is.value_is values meets.known)) meets
+      meets-sum.meets values (whole_value whole values) (whole-word whole values ∙ sym (is.value_is values meets)) meets
 
   pub split-emits : (c0 c1 : List ℕ) → IsBelow context.bounds.items own_form extent → EmitsStatement c0 c1 places scope (Meets within) body
       → EmitsStatement c0 c1 places scope (Meets context) (s.Bind counter whole extent body)
@@ -149,27 +220,6 @@ module _ (places : Places) (scope : List Held) (context within : Context) (count
       }
 
 -- ---- as the emitters call them
-
-pub two-terms : (first second : Term) (none one both : List Term) → none ≡ [] → one ≡ none ++ (first ∷ []) → both ≡ one ++ (second ∷ [])
-    → both ≡ first ∷ (second ∷ [])
-two-terms first second none one both e0 e1 e2 = e2 ∙ ap (λ l. l ++ (second ∷ [])) (e1 ∙ ap (λ l. l ++ (first ∷ [])) e0)
-
-pub is-none : (o : Option ℕ) (t : Bool) → t ≡ is_some o → t ≡ false → o ≡ None
-is-none None t e f = refl
-is-none (Some n) t e f = absurd (true≢false (sym e ∙ f))
-
-abbrev with_terms : List Term → Linear
-with_terms terms = record { number = 0; terms = terms }
-
-pub split-of : (context : Context) (known : List Known) (whole : Whole) (none one both : List Term) (made : Linear) (t : Bool)
-    → is_name whole.outer ≡ false → is_name whole.inner ≡ false
-    → known ≡ context.known.items → none ≡ [] → one ≡ none ++ (record { counter = whole.outer; stride = whole.factor } ∷ [])
-    → both ≡ one ++ (record { counter = whole.inner; stride = 1 } ∷ []) → t ≡ is_some whole.last → t ≡ false
-    → IsSameSum known (record { number = 0; terms = both }) made → IsSplitSum context whole made
-split-of context known whole none one both made t outer inner ek e0 e1 e2 et ef same =
-    split-is context known whole (record { number = 0; terms = both }) made ek
-    (ap with_terms (two-terms (record { counter = whole.outer; stride = whole.factor }) (record { counter = whole.inner; stride = 1 }) none one both e0 e1 e2))
-    (is-none whole.last t et ef) outer inner same
 
 pub found-sum : (context : Context) (whole : Whole) (sum : Linear) (found : Option Linear) → found ≡ Some sum → IfSome found (IsSplitSum context whole)
     → IsSplitSum context whole sum

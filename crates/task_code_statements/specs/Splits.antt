@@ -1,15 +1,46 @@
 -- Values of split loops as sums. This project's own.
-use Rattle.std.specs.Prelude.{◌≡◌}
+use Rattle.std.specs.Prelude.{◌≡◌, ℕ}
+use Rattle.halide_pipeline.specs.Words as word
 use Rattle.loop_ir.specs.declared.expressions.Linear.{Linear}
 use Rattle.loop_ir.specs.declared.statements.Whole.{Whole}
 use Rattle.loop_ir.specs.Counters.{Values}
 use Rattle.loop_ir.specs.Expressions.{linear_value}
-use Rattle.loop_ir.specs.Running.{whole_value}
+use Rattle.loop_ir.specs.Running.{at_most, whole_value}
 use Rattle.task_code_loops.specs.Known.{AreKnown}
 use Rattle.task_code_runs.specs.Naming.{AreNamed}
 use Rattle.task_code_statements.specs.declared.contexts.Context.{Context}
+use Rattle.task_code_statements.specs.declared.splits.Start.{Start}
+use Rattle.task_code_statements.specs.declared.splits.Start.TheVariants as starts
+use Rattle.task_code_statements.specs.Contexts.{Meets}
 
 -- a sum has a split loop's value wherever loop variables are as known, and that value hangs on no name
 pub record IsSplitSum (context : Context) (whole : Whole) (sum : Linear) : Type 0 where
-  pub value_is : (values : Values) → AreKnown context.known.items values → linear_value values sum ≡ whole_value whole values
+  pub value_is : (values : Values) → Meets context values → linear_value values sum ≡ whole_value whole values
   pub plain : (values named : Values) → AreNamed values named → whole_value whole named ≡ whole_value whole values
+
+-- ---- where a run of the inner loop begins
+
+-- the product of the outer variable and the factor
+abbrev pub product : Whole → Values → ℕ
+product whole values = word.multiply (values whole.outer) whole.factor
+
+-- a sum is that product
+pub record IsProduct (context : Context) (whole : Whole) (sum : Linear) : Type 0 where
+  pub value_is : (values : Values) → AreKnown context.known.items values → linear_value values sum ≡ product whole values
+
+-- the value of a start, where it is known
+abbrev pub start_value : Whole → ℕ → Start → Values → ℕ
+start_value whole other starts.Product values = product whole values
+start_value whole other (starts.Number number) values = number
+start_value whole other starts.Unknown values = other
+
+-- a run begins there, wherever loop variables are as known
+abbrev pub BeginsRun : Context → Whole → Start → Type 0
+BeginsRun context whole start =
+    (values : Values) → Meets context values
+    → at_most whole.last (product whole values) ≡ start_value whole (at_most whole.last (product whole values)) start values
+
+-- a sum is that of a start and the inner variable
+abbrev pub AddsInner : Whole → Start → Linear → Type 0
+AddsInner whole start sum =
+    (other : ℕ) (values : Values) → linear_value values sum ≡ word.add (start_value whole other start values) (values whole.inner)

@@ -3,7 +3,8 @@
 use crate::contexts::{Context, in_loop, with_sum};
 use crate::plain::name;
 use crate::rewriting::store_by_others;
-use crate::statements::{is_laid_out, made_store, split_sum};
+use crate::splits::{is_cut, split_sum, without_last};
+use crate::statements::{is_laid_out, made_store};
 use crate::vectorizing::is_at_once;
 use loop_ir::expressions::{Counter, Expr, Term, same_counter};
 use loop_ir::statements::{LoopKind, Stmt, Store};
@@ -53,6 +54,15 @@ fn ready_loop(
     Ok(Stmt::For(own.counter, own.count, kind, body))
 }
 
+/// A loop, without its last iteration where that is another one.
+fn without_cut(body: &Stmt, own: Bound) -> Bound {
+    if is_cut(body, own) {
+        without_last(own)
+    } else {
+        own
+    }
+}
+
 #[cycle(readying)]
 fn ready_part(
     alloc: Global,
@@ -96,6 +106,7 @@ pub fn ready(
                 counter: *counter,
                 count: *count,
             };
+            let own = without_cut(body.get(), own);
             let inner = in_loop(alloc, context, own)?;
             let within = with_cuts && !is_at_once(*kind);
             let made = ready_part(alloc, places, &inner, within, body.get(), named)?;

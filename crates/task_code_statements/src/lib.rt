@@ -15,6 +15,7 @@ mod mentions;
 mod names;
 mod plain;
 pub mod rewriting;
+mod splits;
 pub mod statements;
 pub mod tasks;
 mod vectorizing;

@@ -1,6 +1,6 @@
 //! The code of statements, with forms that registers hold.
 
-ghost use Rattle.std.specs.Prelude.{◌≡◌, ◌≤◌, IfOk, IfSome, OnOk, false, true};
+ghost use Rattle.std.specs.Prelude.{◌≡◌, ◌≤◌, IfOk, OnOk, false, true};
 ghost use Rattle.loop_ir.specs.declared.statements.Stmt.TheVariants as stmts;
 ghost use Rattle.loop_ir.specs.Rounds.{is_vectorized};
 ghost use Rattle.task_code_registers.specs.Holding as holding;
@@ -8,18 +8,17 @@ ghost use Rattle.task_code_loops.specs.Beginning.{Begins};
 ghost use Rattle.task_code_statements.specs.Contexts.{Meets};
 ghost use Rattle.task_code_statements.specs.Making.{BeginsIterations, IsMadeStore};
 ghost use Rattle.task_code_statements.specs.Naming.{NamesIf};
-ghost use Rattle.task_code_statements.specs.Splits.{IsSplitSum};
 ghost use Rattle.task_code_statements.specs.Statements.{EmitsLoop, EmitsStatement};
 
 use crate::contexts::{Context, has_term, in_loop, with_sum};
 use crate::guessing::{add_sums, ready, staying};
 use crate::names::{Naming, emit_names};
-use crate::plain::{is_name, is_plain_store};
-use crate::rewriting::{store_by_others, sum_by_others};
+use crate::plain::is_plain_store;
+use crate::rewriting::store_by_others;
+use crate::splits::{is_cut, split_sum, without_last};
 use crate::vectorizing::{emit_vectorized, is_at_once};
-use loop_ir::expressions::{Counter, Expr, Linear, Term};
+use loop_ir::expressions::{Counter, Expr, Linear};
 use loop_ir::statements::{LoopKind, Stmt, Store, Whole};
-use sqlite_items::Items;
 use std::alloc::{AllocError, Global};
 use task_code_clamps::clamps::unclamped_store;
 use task_code_loops::beginning::{Begun, begin_loop};
@@ -223,39 +222,6 @@ fn is_serial(kind: LoopKind) -> bool
     }
 }
 
-// ---- split loops
-
-/// The value of a split loop as a sum of those of its two loops, unless a shift bounds it.
-pub(crate) fn split_sum(
-    alloc: Global,
-    context: &Context,
-    whole: &Whole,
-) -> Result<Option<Linear>, AllocError>
-    ensures { IfOk result (λ found. IfSome found (IsSplitSum context.now whole.now)) }
-{
-    if whole.last.is_some() {
-        return Ok(None);
-    }
-    if is_name(whole.outer) {
-        return Ok(None);
-    }
-    if is_name(whole.inner) {
-        return Ok(None);
-    }
-    let mut terms = Items::new(alloc);
-    terms.push(Term {
-        counter: whole.outer,
-        stride: whole.factor,
-    })?;
-    terms.push(Term {
-        counter: whole.inner,
-        stride: 1,
-    })?;
-    let own = Linear { number: 0, terms };
-    let sum = sum_by_others(alloc, &own, context.known.as_slice())?;
-    Ok(Some(sum))
-}
-
 // ---- statements
 
 /// Appends code that gives names to what stays the same in all iterations of a loop.
@@ -383,6 +349,54 @@ fn emit_laid_out(
     Ok(())
 }
 
+/// Appends a loop, in two parts where its last iteration is another one.
+#[cycle(statements)]
+fn emit_serial(
+    alloc: Global,
+    code: &mut Vec<u32>,
+    places: &Places,
+    scope: &[Held],
+    context: &Context,
+    own: Bound,
+    body: &Stmt,
+) -> Result<(), CodeFault>
+    ensures { OnOk result (EmitsLoop code.old.items code.new.items places.now scope.now (Meets context.now)
+        own.counter own.count body.now) }
+{
+    if is_cut(body, own) {
+        emit_parted(alloc, code, places, scope, context, own, body)?;
+        return Ok(());
+    }
+    emit_loop(alloc, code, places, scope, context, own, body)?;
+    Ok(())
+}
+
+/// Appends a loop whose last iteration has code of its own.
+#[cycle(statements)]
+fn emit_parted(
+    alloc: Global,
+    code: &mut Vec<u32>,
+    places: &Places,
+    scope: &[Held],
+    context: &Context,
+    own: Bound,
+    body: &Stmt,
+) -> Result<(), CodeFault>
+    requires { 1 ≤ own.count }
+    ensures { OnOk result (EmitsLoop code.old.items code.new.items places.now scope.now (Meets context.now)
+        own.counter own.count body.now) }
+{
+    if mentions(scope, own.counter) {
+        return Err(CodeFault::TooDeep);
+    }
+    let others = without_last(own);
+    emit_loop(alloc, code, places, scope, context, others, body)?;
+    let number = Linear::of_number(alloc, others.count);
+    let inner = with_sum(alloc, context, own.counter, &number)?;
+    emit_statement(alloc, code, places, scope, &inner, body)?;
+    Ok(())
+}
+
 /// Appends the body of a split loop, under a test on its value where it isn't known that it passes.
 #[cycle(statements)]
 fn emit_split(
@@ -459,7 +473,7 @@ pub fn emit_statement(
                 return Ok(());
             }
             if is_serial(*kind) {
-                emit_loop(alloc, code, places, scope, context, own, body.get())?;
+                emit_serial(alloc, code, places, scope, context, own, body.get())?;
                 return Ok(());
             }
             Err(CodeFault::TooDeep)

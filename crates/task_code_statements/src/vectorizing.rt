@@ -16,7 +16,8 @@ use crate::guards::{
 use crate::lacking::store_lacks;
 use crate::plain::is_plain_store;
 use crate::rewriting::store_by_others;
-use crate::statements::{mentions, split_sum};
+use crate::splits::split_sum;
+use crate::statements::mentions;
 use loop_ir::expressions::{Counter, Linear};
 use loop_ir::statements::{LoopKind, Stmt, Store};
 use std::alloc::Global;

@@ -7,7 +7,7 @@ use Rattle.task_code_statements.specs.Contexts.{Meets}
 use Rattle.task_code_statements.specs.Laying.{LaysOut}
 use Rattle.task_code_statements.specs.Statements.{EmitsStatement}
 use Rattle.task_code_statements.proofs.Giving.{loop-alone, loop-behind, none-given, some-given}
-use Rattle.task_code_statements.proofs.Laying.{none-laid, one-laid, laid-emits, number-enters}
+use Rattle.task_code_statements.proofs.Laying.{none-laid, one-laid, laid-emits, number-enters, parted-arm}
 use Rattle.task_code_statements.proofs.Nesting.{sequence-arm, none-emits, loop-arm, for-arm}
 use Rattle.task_code_statements.proofs.Splitting.{found-sum, split-emits, guarded-emits, bind-arm}
 use Rattle.task_code_statements.proofs.Storing.{arm}
@@ -40,7 +40,7 @@ emit_statement-returns-then-is_laid_out t c =
 pub emit_statement-returns-then-is_serial : goal.emit_statement-returns-then-is_serial
 emit_statement-returns-then-is_serial t c =
     for-arm c.args.places.now c.args.scope.now (Meets c.args.context.now) c.args.statement.now c.in-For.counter c.in-For.count c.in-For.kind c.in-For.body
-    c.get-then-is_serial.result.now _ _ c.in-For.is c.get-then-is_serial.ensures (c.is_serial.ensures c.if-is_serial.true) c.in_ok-emit_loop-in-For.ensures
+    c.get-then-is_serial.result.now _ _ c.in-For.is c.get-then-is_serial.ensures (c.is_serial.ensures c.if-is_serial.true) c.in_ok-emit_serial-in-For.ensures
 
 pub emit_statement-returns-in_ok-emit_split-in-Bind : goal.emit_statement-returns-in_ok-emit_split-in-Bind
 emit_statement-returns-in_ok-emit_split-in-Bind t c =
@@ -94,6 +94,13 @@ emit_laid_out-returns t c = λ kind plain.
     laid-emits c.args.places.now c.args.scope.now so c.args.own.counter c.args.body.now c.args.own.count kind _ _ plain
     (subst (λ n. LaysOut c.args.code.now.items c.loop-iteration.code.items c.args.places.now c.args.scope.now so c.args.own.counter c.args.body.now n) all
     c.loop-iteration.invariant)
+
+pub emit_parted-returns : goal.emit_parted-returns
+emit_parted-returns t c =
+    parted-arm c.args.places.now c.args.scope.now c.args.context.now c.in_ok-inner.inner c.args.own.counter c.args.own.count c.args.body.now
+    c.without_last-others.result c.of_number-number.result _ _ _ c.requires (omega arith) c.without_last-others.ensures
+    (sym c.mentions.ensures ∙ c.if-mentions.false) c.of_number-number.ensures.value c.in_ok-inner.ensures c.in_ok-emit_loop.ensures
+    c.in_ok-emit_statement.ensures
 
 pub emit_split-returns-then-is_below : goal.emit_split-returns-then-is_below
 emit_split-returns-then-is_below t c =

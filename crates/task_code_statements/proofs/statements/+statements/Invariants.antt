@@ -5,19 +5,25 @@ use Rattle.task_code_statements.specs.Laying.{LaysOut}
 use Rattle.task_code_statements.proofs.statements.+statements.Given as goal
 
 abbrev pub decreases-emit_statement : goal.decreases-emit_statement
-decreases-emit_statement l = 3 * goal.size-emit_statement l
+decreases-emit_statement l = 5 * goal.size-emit_statement l
 
 abbrev pub decreases-emit_loop : goal.decreases-emit_loop
-decreases-emit_loop l = suc (suc (3 * goal.size-emit_loop l))
+decreases-emit_loop l = suc (suc (5 * goal.size-emit_loop l))
 
 abbrev pub decreases-emit_iterations : goal.decreases-emit_iterations
-decreases-emit_iterations l = suc (3 * goal.size-emit_iterations l)
+decreases-emit_iterations l = suc (5 * goal.size-emit_iterations l)
+
+abbrev pub decreases-emit_serial : goal.decreases-emit_serial
+decreases-emit_serial l = suc (suc (suc (suc (5 * goal.size-emit_serial l))))
+
+abbrev pub decreases-emit_parted : goal.decreases-emit_parted
+decreases-emit_parted l = suc (suc (suc (5 * goal.size-emit_parted l)))
 
 abbrev pub decreases-emit_laid_out : goal.decreases-emit_laid_out
-decreases-emit_laid_out l = suc (3 * goal.size-emit_laid_out l)
+decreases-emit_laid_out l = suc (5 * goal.size-emit_laid_out l)
 
 abbrev pub decreases-emit_split : goal.decreases-emit_split
-decreases-emit_split l = suc (3 * goal.size-emit_split l)
+decreases-emit_split l = suc (5 * goal.size-emit_split l)
 
 abbrev pub invariant-emit_laid_out-loop-iteration : goal.invariant-emit_laid_out-loop-iteration
 invariant-emit_laid_out-loop-iteration l =

@@ -1,0 +1,175 @@
+//! Split loops: their values as sums.
+
+ghost use Rattle.std.specs.Prelude.{◌≡◌, ◌-◌, ◌<◌, ◌^◌, ◌≤◌, IfOk, IfSome, Some, min, true};
+ghost use Rattle.task_code_statements.specs.Splits.{AddsInner, BeginsRun, IsProduct, IsSplitSum};
+
+use crate::contexts::Context;
+use crate::plain::is_name;
+use crate::rewriting::sum_by_others;
+use loop_ir::expressions::{Linear, Term, same_counter};
+use loop_ir::statements::{Stmt, Whole};
+use sqlite_items::Items;
+use std::alloc::{AllocError, Global};
+use task_code_loops::bounds::{Bound, is_below};
+use task_code_registers::scopes::Form;
+
+/// Where a run of a split loop's inner loop begins.
+#[derive(Clone, Copy, Debug)]
+pub(crate) enum Start {
+    /// At the product of the outer variable and the factor.
+    Product,
+    /// At a number.
+    Number(u32),
+    /// At the lesser of the product and the last start, which of them isn't known.
+    Unknown,
+}
+
+/// The product of a split loop's outer variable and its factor, by the loop variables that aren't known.
+fn product_of(alloc: Global, context: &Context, whole: &Whole) -> Result<Linear, AllocError>
+    ensures { IfOk result (IsProduct context.now whole.now) }
+{
+    let mut terms = Items::new(alloc);
+    terms.push(Term {
+        counter: whole.outer,
+        stride: whole.factor,
+    })?;
+    let own = Linear { number: 0, terms };
+    let product = sum_by_others(alloc, &own, context.known.as_slice())?;
+    Ok(product)
+}
+
+fn lesser(one: u32, other: u32) -> u32
+    ensures value { result ≡ min one other }
+    ensures word { one < 2 ^ 32 }
+{
+    if one < other { one } else { other }
+}
+
+/// Where a run of a split loop's inner loop begins, whose last run begins here at most.
+fn start_up_to(
+    alloc: Global,
+    context: &Context,
+    whole: &Whole,
+    last: u32,
+) -> Result<Start, AllocError>
+    requires { whole.now.last ≡ Some last }
+    ensures { IfOk result (BeginsRun context.now whole.now) }
+{
+    let product = product_of(alloc, context, whole)?;
+    if product.terms.len() == 0 {
+        let number = lesser(product.number, last);
+        return Ok(Start::Number(number));
+    }
+    let form = Form {
+        sum: product,
+        per_hart: 0,
+    };
+    if last < u32::MAX && is_below(&form, context.bounds.as_slice(), last + 1) {
+        return Ok(Start::Product);
+    }
+    Ok(Start::Unknown)
+}
+
+/// Where a run of a split loop's inner loop begins.
+fn start_of(alloc: Global, context: &Context, whole: &Whole) -> Result<Start, AllocError>
+    ensures { IfOk result (BeginsRun context.now whole.now) }
+{
+    match whole.last {
+        None => Ok(Start::Product),
+        Some(last) => {
+            let start = start_up_to(alloc, context, whole, last)?;
+            Ok(start)
+        }
+    }
+}
+
+/// The sum of the variables of a split loop's two loops, where a run begins so.
+fn sum_from(alloc: Global, whole: &Whole, start: Start) -> Result<Option<Linear>, AllocError>
+    ensures { IfOk result (λ found. IfSome found (AddsInner whole.now start)) }
+{
+    let inner = Term {
+        counter: whole.inner,
+        stride: 1,
+    };
+    let mut terms = Items::new(alloc);
+    match start {
+        Start::Product => {
+            terms.push(Term {
+                counter: whole.outer,
+                stride: whole.factor,
+            })?;
+            terms.push(inner)?;
+            Ok(Some(Linear { number: 0, terms }))
+        }
+        Start::Number(number) => {
+            terms.push(inner)?;
+            Ok(Some(Linear { number, terms }))
+        }
+        Start::Unknown => Ok(None),
+    }
+}
+
+/// The value of a split loop as a sum of loop variables that aren't known, where it is one.
+pub(crate) fn split_sum(
+    alloc: Global,
+    context: &Context,
+    whole: &Whole,
+) -> Result<Option<Linear>, AllocError>
+    ensures { IfOk result (λ found. IfSome found (IsSplitSum context.now whole.now)) }
+{
+    if is_name(whole.outer) {
+        return Ok(None);
+    }
+    if is_name(whole.inner) {
+        return Ok(None);
+    }
+    let start = start_of(alloc, context, whole)?;
+    let Some(own) = sum_from(alloc, whole, start)? else {
+        return Ok(None);
+    };
+    let sum = sum_by_others(alloc, &own, context.known.as_slice())?;
+    Ok(Some(sum))
+}
+
+/// A loop without its last iteration.
+pub(crate) fn without_last(own: Bound) -> Bound
+    requires { 1 ≤ own.count }
+    ensures { result ≡ record { counter = own.counter; count = own.count - 1 } }
+{
+    Bound {
+        counter: own.counter,
+        count: own.count - 1,
+    }
+}
+
+/// Whether a split loop's run begins before its product in a loop's last iteration, where the loop is its outer one.
+fn is_cut_by(whole: &Whole, own: Bound) -> bool
+    requires { 1 ≤ own.count }
+{
+    let Some(last) = whole.last else {
+        return false;
+    };
+    let product = u64::from(own.count - 1) * u64::from(whole.factor);
+    same_counter(whole.outer, own.counter) && product > u64::from(last)
+}
+
+/// Whether some split loop's value inside isn't the same sum in a loop's last iteration as in those before.
+pub(crate) fn is_cut(body: &Stmt, own: Bound) -> bool
+    ensures { result ≡ true → 1 ≤ own.count }
+{
+    if own.count == 0 {
+        return false;
+    }
+    has_cut(body, own)
+}
+
+fn has_cut(body: &Stmt, own: Bound) -> bool
+    requires { 1 ≤ own.count }
+{
+    match body {
+        Stmt::Store(_) => false,
+        Stmt::Sequence(first, second) => has_cut(first.get(), own) || has_cut(second.get(), own),
+        Stmt::For(_, _, _, inside) => has_cut(inside.get(), own),
+        Stmt::Bind(_, whole, _, inside) => is_cut_by(whole, own) || has_cut(inside.get(), own),
+    }
+}
