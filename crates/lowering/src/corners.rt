@@ -82,7 +82,6 @@ fn counters_of(plans: &[FuncPlan], place: Place) -> [Option<Counter>; 5]
 }
 
 /// The word that a multiple comes to.
-#[tactic(auto, using(crate::proofs::BaseWords::stride_is))]
 fn stride_of(own: Multiple) -> u32
     ensures { (result + own.less) % 2 ^ 32 ≡ own.more % 2 ^ 32 }
 {

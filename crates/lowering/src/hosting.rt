@@ -38,17 +38,23 @@ use schedule_loops::{Extents, LoopSizes};
 use sqlite_items::{Boxed, Items};
 use std::alloc::{AllocError, Global};
 
+/// Whether a place is at a loop of the host.
+fn is_at_loop_of(host: usize, place: Place) -> bool
+    ensures { result ≡ hosted.is_at_loop_of host place }
+{
+    match place {
+        Place::At(at) => at.func == host,
+        Place::Root => false,
+        Place::Inlined => false,
+        Place::Nowhere => false,
+    }
+}
+
 /// Whether the output reaches a Func that is computed at a loop of the host.
 fn is_hosted(host: usize, own: &Standing) -> bool
     ensures { result ≡ hosted.is_hosted host own.now }
 {
-    own.is_reached
-        && match own.place {
-            Place::At(at) => at.func == host,
-            Place::Root => false,
-            Place::Inlined => false,
-            Place::Nowhere => false,
-        }
+    own.is_reached && is_at_loop_of(host, own.place)
 }
 
 /// Adds the places of the Funcs that are computed at loops of the host, of those from a place on.

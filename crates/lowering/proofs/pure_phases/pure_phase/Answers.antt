@@ -9,7 +9,7 @@ use Rattle.loop_ir.specs.Depths.{depth, count_of}
 use Rattle.lowering_nests.specs.Nests.{AreFew}
 use Rattle.lowering.specs.HostedFuncs.{hosted_from}
 use Rattle.lowering.specs.Hosting.{IsBody}
-use Rattle.lowering.specs.PurePhases.{inside_of}
+use Rattle.lowering.specs.PurePhases.{byte_places, inside_of}
 use Rattle.lowering.proofs.Depths.{body_few, body_need}
 use Rattle.lowering.proofs.Facts.{is_box, splits, few, few_loops}
 use Rattle.lowering.proofs.PureStage.{does_stage}
@@ -155,3 +155,12 @@ returns-clause-light c =
     (nodes_in (flags_of c.args.schedule.now.standings) c.args.pipeline.now.funcs c.args.func.now.pure) (length c.args.plan.now.pure.loops) (hosted_shares c.args.pipeline.now c.args.schedule.now c.args.place)
     (copies-some (loops.counts c.extents_of-extents.result c.args.plan.now.pure.splits) c.args.plan.now.pure.loops paid) more (omega (arith, given, counts)) whole in
     omega (arith, light)
+
+pub returns-clause-private : goal.returns-clause-private
+returns-clause-private c = c.in_ok-private.ensures ∙ ap (hosted_from c.args.place 0) c.as_slice.ensures
+
+pub returns-clause-bytes : goal.returns-clause-bytes
+returns-clause-bytes c = c.in_ok-bytes.ensures ∙ ap (byte_places 0) c.inputs.ensures.value
+
+pub returns-clause-few_tasks : goal.returns-clause-few_tasks
+returns-clause-few_tasks c = c.in_ok-tasks.ensures.few
