@@ -386,13 +386,14 @@ fn emit_parted(
     ensures { OnOk result (EmitsLoop code.old.items code.new.items places.now scope.now (Meets context.now)
         own.counter own.count body.now) }
 {
-    if mentions(scope, own.counter) {
+    let counter = own.counter;
+    if mentions(scope, counter) {
         return Err(CodeFault::TooDeep);
     }
     let others = without_last(own);
     emit_loop(alloc, code, places, scope, context, others, body)?;
     let number = Linear::of_number(alloc, others.count);
-    let inner = with_sum(alloc, context, own.counter, &number)?;
+    let inner = with_sum(alloc, context, counter, &number)?;
     emit_statement(alloc, code, places, scope, &inner, body)?;
     Ok(())
 }
