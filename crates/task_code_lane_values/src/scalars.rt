@@ -41,6 +41,52 @@ pub fn is_steady(e: &Expr, counter: Counter) -> bool
     }
 }
 
+/// The same, where so many, the expression itself, its first operand and so on, are known to have several: it asks
+/// where none is.
+pub(crate) fn known_steady(e: &Expr, counter: Counter, known: u32) -> bool
+    ensures { result ≡ true → IsSteady counter e.now }
+{
+    known == 0 && is_steady(e, counter)
+}
+
+/// Whether what stands beside its first operand has several.
+fn others_move(e: &Expr, counter: Counter) -> bool {
+    match e {
+        Expr::Number(_) => false,
+        Expr::Linear(_) => !is_steady(e, counter),
+        Expr::Binary(_, _, b) => !is_steady(b.get(), counter),
+        Expr::Divide(_, _) => false,
+        Expr::Remainder(_, _) => false,
+        Expr::Select(_, a, b) => { !is_steady(a.get(), counter) || !is_steady(b.get(), counter) }
+        Expr::Load(_, _, y) => !is_steady(y.get(), counter),
+    }
+}
+
+/// How many expressions have several values: the expression itself, its first operand, the first operand of that one
+/// and so on. It spares questions, and is no promise.
+pub(crate) fn moving(e: &Expr, counter: Counter) -> u32 {
+    let first = match e {
+        Expr::Number(_) => 0,
+        Expr::Linear(_) => 0,
+        Expr::Binary(_, a, _) => moving(a.get(), counter),
+        Expr::Divide(a, _) => moving(a.get(), counter),
+        Expr::Remainder(a, _) => moving(a.get(), counter),
+        Expr::Select(c, _, _) => moving(c.get(), counter),
+        Expr::Load(_, x, _) => moving(x.get(), counter),
+    };
+    if first > 0 || others_move(e, counter) {
+        first.saturating_add(1)
+    } else {
+        0
+    }
+}
+
+/// How many they are of its first operand, where so many of the expression itself are known; it counts where none is.
+pub(crate) fn first_moving(e: &Expr, counter: Counter, known: u32) -> u32 {
+    let own = if known > 0 { known } else { moving(e, counter) };
+    own.saturating_sub(1)
+}
+
 /// Appends what leaves an expression's value of the first iteration in a register, where none holds it; which one
 /// it is.
 pub(crate) fn emit_steady(

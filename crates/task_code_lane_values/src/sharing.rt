@@ -7,7 +7,7 @@ ghost use Rattle.task_code_lane_values.specs.Leaving.{MakesLanes};
 ghost use Rattle.task_code_lane_values.specs.inner.Sharing.{AreParts, IsKeptAt, IsPart, IsTwo, Keeps, MakesOperand};
 ghost use Rattle.task_code_lane_values.specs.inner.Sharing.{MakesShared};
 
-use crate::scalars::is_steady;
+use crate::scalars::{first_moving, known_steady};
 use crate::values::emit_lanes;
 use crate::vectorized::Lanes;
 use halide_pipeline::Operation;
@@ -182,12 +182,14 @@ fn emit_kept(alloc: Global, code: &mut Vec<u32>, own: &Sharing) -> Result<(), Co
 }
 
 /// Appends what leaves an expression's values in group k, unless they stay in one of the first two; which group it is.
+/// Of so many, the expression itself, its first operand and so on, it is known that iterations differ.
 fn emit_operand(
     alloc: Global,
     code: &mut Vec<u32>,
     own: &Sharing,
     e: &Expr,
     k: u8,
+    known: u32,
 ) -> Result<u8, CodeFault>
     requires { (2 ≤ k) × (k < slots own.now.lanes.group) }
     ensures { IfOk result (λ s. MakesOperand code.old.items code.new.items own.now k s e.now) }
@@ -197,7 +199,9 @@ fn emit_operand(
     }
     match e {
         Expr::Binary(operation, a, b) => {
-            if is_steady(a.get(), own.lanes.counter) || is_steady(b.get(), own.lanes.counter) {
+            let counter = own.lanes.counter;
+            let moving = first_moving(e, counter, known);
+            if known_steady(a.get(), counter, moving) || known_steady(b.get(), counter, 0) {
                 emit_lanes(alloc, code, own.places, own.scope, own.lanes, e, k)?;
                 return Ok(k);
             }
@@ -208,9 +212,9 @@ fn emit_operand(
                 }
                 Some(op) => {
                     let group = own.lanes.group;
-                    let s = emit_operand(alloc, code, own, a.get(), k)?;
+                    let s = emit_operand(alloc, code, own, a.get(), k, moving)?;
                     let next = free_behind(group, s, k)?;
-                    let t = emit_operand(alloc, code, own, b.get(), next)?;
+                    let t = emit_operand(alloc, code, own, b.get(), next, 0)?;
                     arithmetic(code, op, group.slot(k), group.slot(s), group.slot(t))?;
                     Ok(k)
                 }
@@ -232,9 +236,9 @@ fn emit_shared(alloc: Global, code: &mut Vec<u32>, own: &Sharing, e: &Expr) -> R
             None => Err(CodeFault::TooDeep),
             Some(op) => {
                 let group = own.lanes.group;
-                let s = emit_operand(alloc, code, own, a.get(), KEPT)?;
+                let s = emit_operand(alloc, code, own, a.get(), KEPT, 0)?;
                 let next = free_behind(group, s, KEPT)?;
-                let t = emit_operand(alloc, code, own, b.get(), next)?;
+                let t = emit_operand(alloc, code, own, b.get(), next, 0)?;
                 arithmetic(code, op, group.slot(0), group.slot(s), group.slot(t))?;
                 Ok(())
             }

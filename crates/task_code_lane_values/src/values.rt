@@ -10,7 +10,7 @@ use crate::operations::{
     emit_two, takes_first, takes_second,
 };
 use crate::points::{are_dense, dense_column, emit_gather, emit_point, emit_row, emit_scattered};
-use crate::scalars::{emit_literal, emit_steady, is_steady};
+use crate::scalars::{emit_literal, emit_steady, first_moving, is_steady, known_steady};
 use crate::sums::emit_sum;
 use crate::vectorized::Lanes;
 use loop_ir::expressions::{Expr, Linear};
@@ -42,6 +42,14 @@ fn both_sums(alloc: Global, x: &Expr, y: &Expr) -> Result<Option<Sums>, AllocErr
     }
 }
 
+/// A group of the stack for an expression's values, and of how many, the expression itself, its first operand and so
+/// on, it is known that iterations differ: they are not asked again.
+#[derive(Clone, Copy, Debug)]
+struct Spot {
+    k: u8,
+    moving: u32,
+}
+
 /// The next group, if there is one.
 fn next_slot(group: Group, k: u8) -> Result<u8, CodeFault>
     requires { k < slots group }
@@ -54,28 +62,27 @@ fn next_slot(group: Group, k: u8) -> Result<u8, CodeFault>
     }
 }
 
-/// Appends what leaves an expression's values in group k of the stack, with those above it free.
-///
-/// # Errors
-///
-/// Memory ran out, or groups and registers do not suffice for this way of making code.
-pub fn emit_lanes(
+/// The same, where something is known of it.
+fn emit_at(
     alloc: Global,
     code: &mut Vec<u32>,
     places: &Places,
     scope: &[Held],
     own: Lanes,
     e: &Expr,
-    k: u8,
+    spot: Spot,
 ) -> Result<(), CodeFault>
-    requires { k < slots own.group }
-    ensures { OnOk result (MakesLanes code.old.items code.new.items places.now scope.now own k e.now) }
+    requires { spot.k < slots own.group }
+    ensures { OnOk result (MakesLanes code.old.items code.new.items places.now scope.now own spot.k e.now) }
 {
-    if is_steady(e, own.counter) {
+    let k = spot.k;
+    if known_steady(e, own.counter, spot.moving) {
         let s = emit_steady(alloc, code, places, scope, own, e)?;
         spread(code, own.group.slot(k), s)?;
         return Ok(());
     }
+    let moving = first_moving(e, own.counter, spot.moving);
+    let within = Spot { k, moving };
     match e {
         Expr::Linear(sum) => {
             emit_sum(alloc, code, scope, own, sum, k)?;
@@ -84,21 +91,33 @@ pub fn emit_lanes(
         Expr::Binary(operation, a, b) => {
             let first = a.get();
             let second = b.get();
-            if takes_second(*operation) && is_steady(second, own.counter) {
-                emit_lanes(alloc, code, places, scope, own, first, k)?;
+            let first_stays = known_steady(first, own.counter, moving);
+            let second_moves = u32::from(first_stays);
+            if takes_second(*operation) && known_steady(second, own.counter, second_moves) {
+                emit_at(alloc, code, places, scope, own, first, within)?;
                 let s = emit_steady(alloc, code, places, scope, own, second)?;
                 emit_by(code, own.group, *operation, k, s)?;
                 return Ok(());
             }
-            if takes_first(*operation) && is_steady(first, own.counter) {
-                emit_lanes(alloc, code, places, scope, own, second, k)?;
+            if takes_first(*operation) && first_stays {
+                let moving = second_moves;
+                let spot = Spot { k, moving };
+                emit_at(alloc, code, places, scope, own, second, spot)?;
                 let s = emit_steady(alloc, code, places, scope, own, first)?;
                 emit_turned(code, own.group, *operation, k, s)?;
                 return Ok(());
             }
             let next = next_slot(own.group, k)?;
-            emit_lanes(alloc, code, places, scope, own, first, k)?;
-            emit_lanes(alloc, code, places, scope, own, second, next)?;
+            emit_at(alloc, code, places, scope, own, first, within)?;
+            emit_at(
+                alloc,
+                code,
+                places,
+                scope,
+                own,
+                second,
+                Spot { k: next, moving: 0 },
+            )?;
             emit_two(code, own.group, *operation, k)?;
             Ok(())
         }
@@ -106,7 +125,7 @@ pub fn emit_lanes(
             if *divisor == 0 {
                 return Err(CodeFault::TooDeep);
             }
-            emit_lanes(alloc, code, places, scope, own, a.get(), k)?;
+            emit_at(alloc, code, places, scope, own, a.get(), within)?;
             if let Some(bits) = power_of_two(*divisor) {
                 emit_shifted(code, own.group, *divisor, bits, k)?;
                 return Ok(());
@@ -119,7 +138,7 @@ pub fn emit_lanes(
             if *divisor == 0 {
                 return Err(CodeFault::TooDeep);
             }
-            emit_lanes(alloc, code, places, scope, own, a.get(), k)?;
+            emit_at(alloc, code, places, scope, own, a.get(), within)?;
             if let Some(bits) = power_of_two(*divisor) {
                 let s = emit_literal(alloc, code, scope, own, *divisor - 1)?;
                 emit_masked(code, own.group, *divisor, bits, k, s)?;
@@ -132,9 +151,25 @@ pub fn emit_lanes(
         Expr::Select(condition, a, b) => {
             let next = next_slot(own.group, k)?;
             let last = next_slot(own.group, next)?;
-            emit_lanes(alloc, code, places, scope, own, condition.get(), k)?;
-            emit_lanes(alloc, code, places, scope, own, a.get(), next)?;
-            emit_lanes(alloc, code, places, scope, own, b.get(), last)?;
+            emit_at(alloc, code, places, scope, own, condition.get(), within)?;
+            emit_at(
+                alloc,
+                code,
+                places,
+                scope,
+                own,
+                a.get(),
+                Spot { k: next, moving: 0 },
+            )?;
+            emit_at(
+                alloc,
+                code,
+                places,
+                scope,
+                own,
+                b.get(),
+                Spot { k: last, moving: 0 },
+            )?;
             emit_choice(code, own.group, k)?;
             Ok(())
         }
@@ -160,16 +195,45 @@ pub fn emit_lanes(
                     )?;
                     return Ok(());
                 }
-                emit_lanes(alloc, code, places, scope, own, x.get(), k)?;
+                emit_at(alloc, code, places, scope, own, x.get(), within)?;
                 emit_gather(alloc, code, places, scope, own, *source, y.get(), k)?;
                 return Ok(());
             }
             let next = next_slot(own.group, k)?;
-            emit_lanes(alloc, code, places, scope, own, x.get(), k)?;
-            emit_lanes(alloc, code, places, scope, own, y.get(), next)?;
+            emit_at(alloc, code, places, scope, own, x.get(), within)?;
+            emit_at(
+                alloc,
+                code,
+                places,
+                scope,
+                own,
+                y.get(),
+                Spot { k: next, moving: 0 },
+            )?;
             emit_scattered(alloc, code, places, scope, own, *source, k)?;
             Ok(())
         }
         Expr::Number(_) => Err(CodeFault::TooDeep),
     }
+}
+
+/// Appends what leaves an expression's values in group k of the stack, with those above it free.
+///
+/// # Errors
+///
+/// Memory ran out, or groups and registers do not suffice for this way of making code.
+pub fn emit_lanes(
+    alloc: Global,
+    code: &mut Vec<u32>,
+    places: &Places,
+    scope: &[Held],
+    own: Lanes,
+    e: &Expr,
+    k: u8,
+) -> Result<(), CodeFault>
+    requires { k < slots own.group }
+    ensures { OnOk result (MakesLanes code.old.items code.new.items places.now scope.now own k e.now) }
+{
+    emit_at(alloc, code, places, scope, own, e, Spot { k, moving: 0 })?;
+    Ok(())
 }

@@ -150,6 +150,7 @@ fn count_value(alloc: Global, own: Linear, found: &mut Vec<Use>) -> Result<(), A
     Ok(())
 }
 
+/// Counts what an expression wants.
 #[cycle(gathering)]
 fn gather_expr(
     alloc: Global,
@@ -157,58 +158,116 @@ fn gather_expr(
     e: &Expr,
     found: &mut Vec<Use>,
 ) -> Result<(), AllocError> {
-    match sum_of(alloc, e)? {
+    match gather_parts(alloc, places, e, found)? {
         Some(own) => count_value(alloc, own, found)?,
-        None => gather_parts(alloc, places, e, found)?,
+        None => {}
     }
     Ok(())
 }
 
-/// Counts what an expression that is no sum wants.
+/// An expression as a sum, of which nothing is counted; of one that is no sum what its parts want is counted. Each part
+/// is asked for its sum once, but for second operands, of which few stand in one another.
 #[cycle(gathering)]
 fn gather_parts(
     alloc: Global,
     places: &Places,
     e: &Expr,
     found: &mut Vec<Use>,
-) -> Result<(), AllocError> {
+) -> Result<Option<Linear>, AllocError> {
     match e {
-        Expr::Number(_) => Ok(()),
-        Expr::Linear(_) => Ok(()),
+        Expr::Number(n) => Ok(Some(Linear::of_number(alloc, *n))),
+        Expr::Linear(own) => {
+            let sum = own.copy(alloc)?;
+            Ok(Some(sum))
+        }
         Expr::Binary(operation, a, b) => {
-            gather_expr(alloc, places, a.get(), found)?;
-            if !is_immediate(*operation, b.get()) {
-                gather_expr(alloc, places, b.get(), found)?;
+            match gather_parts(alloc, places, a.get(), found)? {
+                Some(x) => {
+                    let sum = gather_both(alloc, places, e, x, found)?;
+                    Ok(sum)
+                }
+                None => {
+                    if !is_immediate(*operation, b.get()) {
+                        gather_expr(alloc, places, b.get(), found)?;
+                    }
+                    Ok(None)
+                }
             }
-            Ok(())
         }
         Expr::Divide(a, divisor) => {
             gather_expr(alloc, places, a.get(), found)?;
             count_divisor(alloc, *divisor, found)?;
-            Ok(())
+            Ok(None)
         }
         Expr::Remainder(a, divisor) => {
             gather_expr(alloc, places, a.get(), found)?;
             count_divisor(alloc, *divisor, found)?;
-            Ok(())
+            Ok(None)
         }
         Expr::Select(c, a, b) => {
             gather_expr(alloc, places, c.get(), found)?;
             gather_expr(alloc, places, a.get(), found)?;
             gather_expr(alloc, places, b.get(), found)?;
-            Ok(())
+            Ok(None)
         }
-        Expr::Load(source, x, y) => {
-            let column = sum_of(alloc, x.get())?;
-            let row = sum_of(alloc, y.get())?;
-            if column.is_none() {
-                gather_expr(alloc, places, x.get(), found)?;
+        Expr::Load(_, _, _) => {
+            gather_load(alloc, places, e, found)?;
+            Ok(None)
+        }
+    }
+}
+
+/// Counts what a pixel that is read wants.
+#[cycle(gathering)]
+fn gather_load(
+    alloc: Global,
+    places: &Places,
+    e: &Expr,
+    found: &mut Vec<Use>,
+) -> Result<(), AllocError> {
+    let Expr::Load(source, x, y) = e else {
+        return Ok(());
+    };
+    let column = sum_of(alloc, x.get())?;
+    let row = sum_of(alloc, y.get())?;
+    if column.is_none() {
+        gather_expr(alloc, places, x.get(), found)?;
+    }
+    if row.is_none() {
+        gather_expr(alloc, places, y.get(), found)?;
+    }
+    count_point(alloc, places, *source, column, row, found)?;
+    Ok(())
+}
+
+/// The sum that an operation on a sum and another operand is, if it is one; else counts what both want.
+#[cycle(gathering)]
+fn gather_both(
+    alloc: Global,
+    places: &Places,
+    e: &Expr,
+    x: Linear,
+    found: &mut Vec<Use>,
+) -> Result<Option<Linear>, AllocError> {
+    let Expr::Binary(operation, _, b) = e else {
+        drop(x);
+        return Ok(None);
+    };
+    match sum_of(alloc, b.get())? {
+        Some(y) => {
+            let sum = combined(alloc, *operation, x.copy(alloc)?, &y)?;
+            if sum.is_none() {
+                count_value(alloc, x, found)?;
+                if !is_immediate(*operation, b.get()) {
+                    count_value(alloc, y, found)?;
+                }
             }
-            if row.is_none() {
-                gather_expr(alloc, places, y.get(), found)?;
-            }
-            count_point(alloc, places, *source, column, row, found)?;
-            Ok(())
+            Ok(sum)
+        }
+        None => {
+            count_value(alloc, x, found)?;
+            gather_expr(alloc, places, b.get(), found)?;
+            Ok(None)
         }
     }
 }

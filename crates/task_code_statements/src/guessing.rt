@@ -252,33 +252,81 @@ fn add(alloc: Global, found: &mut Vec<Expr>, e: &Expr) -> Result<(), AllocError>
     Ok(())
 }
 
-/// Adds the largest parts of an expression that stay the same.
+/// Whether an expression loads nothing, and its loop variables are those of these loops.
+fn is_same_in_all(bounds: &[Bound], e: &Expr) -> bool {
+    is_still(e) && stays(bounds, e)
+}
+
+/// Whether what stands beside an expression's first operand does not stay the same, or the expression itself has none.
+fn others_leave(bounds: &[Bound], e: &Expr) -> bool {
+    match e {
+        Expr::Number(_) => false,
+        Expr::Linear(_) => !stays(bounds, e),
+        Expr::Binary(_, _, b) => !is_same_in_all(bounds, b.get()),
+        Expr::Divide(_, _) => false,
+        Expr::Remainder(_, _) => false,
+        Expr::Select(_, a, b) => {
+            !is_same_in_all(bounds, a.get()) || !is_same_in_all(bounds, b.get())
+        }
+        Expr::Load(_, _, _) => true,
+    }
+}
+
+/// How many expressions do not stay the same: the expression itself, its first operand, the first operand of that one
+/// and so on. So none of them is asked more than once.
+fn leaving(bounds: &[Bound], e: &Expr) -> u32 {
+    let first = match e {
+        Expr::Number(_) => 0,
+        Expr::Linear(_) => 0,
+        Expr::Binary(_, a, _) => leaving(bounds, a.get()),
+        Expr::Divide(a, _) => leaving(bounds, a.get()),
+        Expr::Remainder(a, _) => leaving(bounds, a.get()),
+        Expr::Select(c, _, _) => leaving(bounds, c.get()),
+        Expr::Load(_, x, _) => leaving(bounds, x.get()),
+    };
+    if first > 0 || others_leave(bounds, e) {
+        first.saturating_add(1)
+    } else {
+        0
+    }
+}
+
+/// How many they are, where so many are known: it counts where none is.
+fn known_leaving(bounds: &[Bound], e: &Expr, known: u32) -> u32 {
+    if known > 0 { known } else { leaving(bounds, e) }
+}
+
+/// Adds the largest parts of an expression that stay the same. Of so many, the expression itself, its first operand and
+/// so on, it is known that they don't.
 fn add_parts(
     alloc: Global,
     bounds: &[Bound],
     found: &mut Vec<Expr>,
     e: &Expr,
+    known: u32,
 ) -> Result<(), AllocError> {
-    if has_parts(e) && is_still(e) && stays(bounds, e) {
+    let own = known_leaving(bounds, e, known);
+    if own == 0 && has_parts(e) {
         return add(alloc, found, e);
     }
+    let within = own.saturating_sub(1);
     match e {
         Expr::Number(_) => Ok(()),
         Expr::Linear(_) => Ok(()),
         Expr::Binary(_, a, b) => {
-            add_parts(alloc, bounds, found, a.get())?;
-            add_parts(alloc, bounds, found, b.get())
+            add_parts(alloc, bounds, found, a.get(), within)?;
+            add_parts(alloc, bounds, found, b.get(), 0)
         }
-        Expr::Divide(a, _) => add_parts(alloc, bounds, found, a.get()),
-        Expr::Remainder(a, _) => add_parts(alloc, bounds, found, a.get()),
+        Expr::Divide(a, _) => add_parts(alloc, bounds, found, a.get(), within),
+        Expr::Remainder(a, _) => add_parts(alloc, bounds, found, a.get(), within),
         Expr::Select(c, a, b) => {
-            add_parts(alloc, bounds, found, c.get())?;
-            add_parts(alloc, bounds, found, a.get())?;
-            add_parts(alloc, bounds, found, b.get())
+            add_parts(alloc, bounds, found, c.get(), within)?;
+            add_parts(alloc, bounds, found, a.get(), 0)?;
+            add_parts(alloc, bounds, found, b.get(), 0)
         }
         Expr::Load(_, x, y) => {
-            add_parts(alloc, bounds, found, x.get())?;
-            add_parts(alloc, bounds, found, y.get())
+            add_parts(alloc, bounds, found, x.get(), within)?;
+            add_parts(alloc, bounds, found, y.get(), 0)
         }
     }
 }
@@ -291,9 +339,9 @@ fn add_statement(
 ) -> Result<(), AllocError> {
     match statement {
         Stmt::Store(store) => {
-            add_parts(alloc, bounds, found, &store.x)?;
-            add_parts(alloc, bounds, found, &store.y)?;
-            add_parts(alloc, bounds, found, &store.value)
+            add_parts(alloc, bounds, found, &store.x, 0)?;
+            add_parts(alloc, bounds, found, &store.y, 0)?;
+            add_parts(alloc, bounds, found, &store.value, 0)
         }
         Stmt::Sequence(first, second) => {
             add_statement(alloc, bounds, found, first.get())?;

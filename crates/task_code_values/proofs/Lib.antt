@@ -3,6 +3,7 @@ pub mod Counting
 pub mod Deepening
 pub mod Dividing
 pub mod Evaluating
+pub mod FirstOperands
 pub mod Literals
 pub mod Operating
 pub mod Parts

@@ -19,6 +19,8 @@ use Rattle.task_code_registers.specs.Registers.{first_value}
 use Rattle.task_code_values.specs.Operands.{FitsOperand}
 use Rattle.task_code_values.specs.Sizes.{words_at, words_of}
 use Rattle.task_code_values.specs.Spilling.{HasSlot, IsDeep, FitsPair, FitsSecond, room_limit}
+use Rattle.task_code_values.specs.Depths.{depth}
+use Rattle.task_code_values.proofs.FirstOperands.{depth-over}
 use Rattle.task_code_values.proofs.Parts.{need-some}
 
 few-words : (frames : Option ℕ) → frame_words frames ≤ 1024
@@ -46,15 +48,18 @@ waits own leaf = ap (λ (t : Bool). if t then 0 else 15) (folds_related SameLeaf
 
 -- ---- on the stack, or in the frame
 
-pub deep-is : (frames : Option ℕ) (own : Expr) (word k : ℕ) → k ≡ min (need own) 2000 → 12 < k → FitsFrame frames own word → IsDeep frames own word
-deep-is frames own word k is many fits = (fits.0, (omega (arith, is, many), by fits.1))
+pub deep-over : (frames : Option ℕ) (own : Expr) (word k : ℕ) → 0 < k → k ≤ depth own → FitsFrame frames own word → IsDeep frames own word
+deep-over frames own word k some most fits = (fits.0, (many, by fits.1))
   where
+    many : 12 < need own
+    many = depth-over own (omega (arith, some, most))
+
     by : HasRoom frames (need own) word → need own + word ≤ frame_words frames
-    by (inl few) = absurd (omega (arith, few, is, many))
+    by (inl few) = absurd (let m = many in omega (arith, few, m))
     by (inr room) = room
 
-pub stack-is : (own : Expr) (k : ℕ) → k ≡ min (need own) 2000 → k ≤ 12 → FitsOperand own first_value
-stack-is own k is few leaf = omega (arith, is, few)
+pub stack-few : (own : Expr) → need own ≤ 12 → FitsOperand own first_value
+stack-few own few leaf = omega (arith, few)
 
 -- ---- parts
 

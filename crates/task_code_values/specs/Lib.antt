@@ -1,3 +1,4 @@
+pub mod Depths
 pub mod Immediates
 pub mod Making
 pub mod Operands

@@ -11,12 +11,13 @@
 //! - [`frames`]: appends what keeps a register in a word of the hart's frame, and loads it again.
 //! - [`expressions`]: appends what leaves an expression's value in a register (`specs/Operands.antt`).
 //! - [`spilling`]: the same where the registers do not suffice and values wait in the hart's frame.
-//! - [`needs`]: how many registers that takes.
+//! - [`needs`]: how many registers that takes; [`depths`]: for how many first operands the stack has too few.
 //! - [`stores`]: appends stores (`specs/Storing.antt`); [`updates`] those of what is made of the pixel that they
 //!   overwrite.
 #![tactic(auto)]
 
 pub mod accesses;
+pub mod depths;
 pub mod expressions;
 pub mod frames;
 pub mod immediates;

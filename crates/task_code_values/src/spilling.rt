@@ -1,15 +1,17 @@
 //! Values of expressions that may need more registers than the stack has: some wait in the hart's frame.
 
-ghost use Rattle.std.specs.Prelude.{◌≡◌, IfErr, IfOk, OnOk, true};
+ghost use Rattle.std.specs.Prelude.{◌≡◌, ◌+◌, ◌≤◌, IfErr, IfOk, OnOk, true};
 ghost use Rattle.task_code_scalar.specs.Faults.{FitsFrame, IsFault};
 ghost use Rattle.task_code_registers.specs.Registers.{first_value};
+ghost use Rattle.task_code_values.specs.Depths.{depth};
 ghost use Rattle.task_code_values.specs.Sizes.{are_held};
 ghost use Rattle.task_code_values.specs.Spilling.{FitsPair, FitsSecond, IsDeep, IsFirst, MakesBoth, MakesRow, Pairs};
 ghost use Rattle.task_code_values.specs.Storing.{MakesValue};
 
+use crate::depths::known_depth;
 use crate::expressions::{emit_operand, sum_of};
 use crate::frames::{emit_spill, emit_unspill};
-use crate::needs::{is_leaf, need};
+use crate::needs::is_leaf;
 use crate::operations::{emit_operation, emit_quotient, emit_remainder, emit_selection};
 use crate::points::{Index, emit_pixel};
 use loop_ir::expressions::Expr;
@@ -22,8 +24,6 @@ use task_code_scalar::expressions::place_of;
 use task_code_scalar::instructions::alu_small;
 use task_code_scalar::places::Places;
 
-/// How many registers the stack has.
-pub const STACK: u32 = 12;
 /// Where a second value stands.
 pub const SECOND_VALUE: u8 = 21;
 /// Where a third value stands.
@@ -44,7 +44,8 @@ pub struct PointIndexes {
 }
 
 /// Appends what leaves an expression's value in the stack's first register, where none of the scope holds it, with the
-/// frame free from a word on. It returns the register.
+/// frame free from a word on. For so many of it, its first operand and so on, the stack is known to have no room. It
+/// returns the register.
 #[cycle(deeply)]
 pub fn emit_deep(
     alloc: Global,
@@ -53,20 +54,24 @@ pub fn emit_deep(
     scope: &[Held],
     e: &Expr,
     word: u32,
+    known: u32,
 ) -> Result<u8, CodeFault>
-    requires { FitsFrame places.now.frames e.now word }
+    requires fits { FitsFrame places.now.frames e.now word }
+    requires known { known ≤ depth e.now }
     ensures ok { IfOk result (λ s. MakesValue code.old.items code.new.items places.now scope.now word s e.now) }
     ensures err { IfErr result (IsFault ⊥ (are_held scope.now e.now ≡ true → ⊥)) }
 {
-    if need(e) > STACK {
-        emit_spilling(alloc, code, places, scope, e, word)?;
+    let over = known_depth(e, known);
+    if over > 0 {
+        emit_spilling(alloc, code, places, scope, e, word, over - 1)?;
         return Ok(FIRST_VALUE);
     }
     let s = emit_operand(alloc, code, places, scope, e, FIRST_VALUE, FIRST_VALUE)?;
     Ok(s)
 }
 
-/// Appends what leaves the value of an expression in the stack's first register for which the stack has no room.
+/// Appends what leaves the value of an expression in the stack's first register for which the stack has no room, nor
+/// for so many of its first operand, the first operand of that one and so on.
 #[cycle(deeply)]
 fn emit_spilling(
     alloc: Global,
@@ -75,8 +80,10 @@ fn emit_spilling(
     scope: &[Held],
     e: &Expr,
     word: u32,
+    known: u32,
 ) -> Result<(), CodeFault>
-    requires { IsDeep places.now.frames e.now word }
+    requires fits { IsDeep places.now.frames e.now word }
+    requires known { 1 + known ≤ depth e.now }
     ensures ok { OnOk result (MakesValue code.old.items code.new.items places.now scope.now word first_value e.now) }
     ensures err { IfErr result (IsFault ⊥ (are_held scope.now e.now ≡ true → ⊥)) }
 {
@@ -84,25 +91,25 @@ fn emit_spilling(
         Expr::Number(_) => Err(CodeFault::TooDeep),
         Expr::Linear(_) => Err(CodeFault::TooDeep),
         Expr::Binary(operation, a, b) => {
-            let first = emit_deep(alloc, code, places, scope, a.get(), word)?;
+            let first = emit_deep(alloc, code, places, scope, a.get(), word, known)?;
             let both = emit_beside(alloc, code, places, scope, b.get(), word, first)?;
             emit_operation(code, *operation, FIRST_VALUE, both.first, both.second)?;
             Ok(())
         }
         Expr::Divide(a, divisor) => {
-            let first = emit_deep(alloc, code, places, scope, a.get(), word)?;
+            let first = emit_deep(alloc, code, places, scope, a.get(), word, known)?;
             emit_quotient(alloc, code, scope, *divisor, first, FIRST_VALUE)?;
             Ok(())
         }
         Expr::Remainder(a, divisor) => {
-            let first = emit_deep(alloc, code, places, scope, a.get(), word)?;
+            let first = emit_deep(alloc, code, places, scope, a.get(), word, known)?;
             emit_remainder(alloc, code, scope, *divisor, first, FIRST_VALUE)?;
             Ok(())
         }
         Expr::Select(c, a, b) => {
-            let condition = emit_deep(alloc, code, places, scope, c.get(), word)?;
+            let condition = emit_deep(alloc, code, places, scope, c.get(), word, known)?;
             emit_spill(alloc, code, places, scope, condition, word)?;
-            let first = emit_deep(alloc, code, places, scope, a.get(), word + 1)?;
+            let first = emit_deep(alloc, code, places, scope, a.get(), word + 1, 0)?;
             emit_pair(alloc, code, places, scope, b.get(), word + 1, first)?;
             emit_unspill(alloc, code, places, scope, word, THIRD_VALUE)?;
             emit_selection(code, FIRST_VALUE, THIRD_VALUE, FIRST_VALUE, SECOND_VALUE)?;
@@ -110,7 +117,7 @@ fn emit_spilling(
         }
         Expr::Load(source, x, y) => {
             let place = place_of(places, *source);
-            let column = emit_deep(alloc, code, places, scope, x.get(), word)?;
+            let column = emit_deep(alloc, code, places, scope, x.get(), word, known)?;
             let point = emit_row(alloc, code, places, scope, y.get(), word, column)?;
             emit_pixel(
                 alloc,
@@ -206,7 +213,7 @@ fn emit_pair(
     ensures err { IfErr result (IsFault ⊥ (are_held scope.now e.now ≡ true → ⊥)) }
 {
     emit_spill(alloc, code, places, scope, first, word)?;
-    let second = emit_deep(alloc, code, places, scope, e, word + 1)?;
+    let second = emit_deep(alloc, code, places, scope, e, word + 1, 0)?;
     alu_small(code, AluImmOp::Addi, SECOND_VALUE, second, 0)?;
     emit_unspill(alloc, code, places, scope, word, FIRST_VALUE)?;
     Ok(())

@@ -9,11 +9,12 @@ ghost use Rattle.task_code_values.specs.Spilling as spec;
 ghost use Rattle.task_code_values.specs.Storing.{FitsDirect, FitsStore, MakesStore, MakesValue};
 
 use crate::accesses::emit_save;
+use crate::depths::STACK;
 use crate::expressions::{emit_index, sum_of};
 use crate::needs::{is_leaf, need};
 use crate::operands::emit_reached_address;
 use crate::scatters::reach_point;
-use crate::spilling::{SECOND_VALUE, STACK, THIRD_VALUE, emit_deep};
+use crate::spilling::{SECOND_VALUE, THIRD_VALUE, emit_deep};
 use crate::updates::{emit_update, is_own_pixel};
 use halide_pipeline::Source;
 use loop_ir::expressions::{Expr, Linear};
@@ -67,7 +68,7 @@ pub fn emit_value(
     if need(e) > room_limit(places.frames) {
         return Err(CodeFault::TooDeep);
     }
-    let s = emit_deep(alloc, code, places, scope, e, 0)?;
+    let s = emit_deep(alloc, code, places, scope, e, 0, 0)?;
     Ok(s)
 }
 

@@ -9,8 +9,8 @@ returns-in-Some t c =
     kept-operand c.args.own.now c.args.k c.in-Some.slot c.args.e.now c.args.code.now.items c.requires.0
     (subst (λ o. IfSome o (IsKeptAt c.args.own.now c.args.e.now)) c.in-Some.is c.slot_of.ensures)
 
-pub returns-then-is_steady : goal.returns-then-is_steady
-returns-then-is_steady t c = lanes-operand c.args.own.now c.args.k c.args.e.now _ _ c.in_ok-emit_lanes-in-Binary.ensures
+pub returns-then-known_steady : goal.returns-then-known_steady
+returns-then-known_steady t c = lanes-operand c.args.own.now c.args.k c.args.e.now _ _ c.in_ok-emit_lanes-in-Binary.ensures
 
 pub returns-in_ok-emit_lanes-in-None : goal.returns-in_ok-emit_lanes-in-None
 returns-in_ok-emit_lanes-in-None t c = lanes-operand c.args.own.now c.args.k c.args.e.now _ _ c.in_ok-emit_lanes-in-None.ensures

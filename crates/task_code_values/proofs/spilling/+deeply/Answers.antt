@@ -8,7 +8,8 @@ use Rattle.task_code_values.proofs.Saving.{value-stacked}
 use Rattle.task_code_values.proofs.Choosing.{select-deep-arm}
 use Rattle.task_code_values.proofs.Deepening.{binary-deep-arm, divide-deep-arm, remainder-deep-arm, load-deep-arm, row-sum}
 use Rattle.task_code_values.proofs.Deepening.{row-paired, both-leaf, both-paired}
-use Rattle.task_code_values.proofs.Rooms.{waits, deep-is, stack-is, number-shallow, linear-shallow, binary-deep-fits, load-deep-fits}
+use Rattle.task_code_values.proofs.Rooms.{waits, deep-over, stack-few, number-shallow, linear-shallow, binary-deep-fits, load-deep-fits}
+use Rattle.task_code_values.proofs.FirstOperands.{first-binary, first-divide, first-remainder, first-select, first-load, known-first}
 use Rattle.task_code_values.proofs.Rooms.{divide-deep-fits, remainder-deep-fits, select-deep-fits}
 use Rattle.task_code_values.proofs.Rooms.{deep-as, second-as, pair-as, deep-measure, pair-measure, beside-measure, own-pair, own-beside, own-spilling}
 use Rattle.task_code_values.proofs.Parts.{passed-part, held-as, held-binary, held-divide, held-remainder, held-select, held-load}
@@ -17,8 +18,8 @@ use Rattle.task_code_values.proofs.Parts.{load-first, load-second}
 use Rattle.task_code_values.proofs.Waiting.{pair-made, slot-next}
 use Rattle.task_code_values.proofs.spilling.+deeply.Goals as goal
 
-pub emit_deep-returns-then-need-gt-STACK-clause-ok : goal.emit_deep-returns-then-need-gt-STACK-clause-ok
-emit_deep-returns-then-need-gt-STACK-clause-ok t c =
+pub emit_deep-returns-then-over-gt0-clause-ok : goal.emit_deep-returns-then-over-gt0-clause-ok
+emit_deep-returns-then-over-gt0-clause-ok t c =
     c.in_ok-emit_spilling.ensures.ok
 
 pub emit_deep-returns-in_err-emit_spilling-clause-err : goal.emit_deep-returns-in_err-emit_spilling-clause-err
@@ -36,8 +37,11 @@ emit_deep-returns-in_err-s-clause-err t c =
 pub emit_deep-emit_spilling-requires : goal.emit_deep-emit_spilling-requires
 emit_deep-emit_spilling-requires t c = (
   own-spilling (size-Expr c.args.e.now) t c.decreases,
-  deep-is c.args.places.now.frames c.args.e.now c.args.word c.need.result c.need.ensures
-      c.if-need-gt-STACK.true c.requires,
+  (
+    deep-over c.args.places.now.frames c.args.e.now c.args.word c.known_depth-over.result c.if-over-gt0.true c.known_depth-over.ensures.0
+        c.requires.fits,
+    let d = c.known_depth-over.ensures.0 in let g = c.if-over-gt0.true in omega (arith, d, g),
+  ),
 )
 
 pub emit_deep-emit_operand-requires-clause-leaf : goal.emit_deep-emit_operand-requires-clause-leaf
@@ -46,15 +50,15 @@ emit_deep-emit_operand-requires-clause-leaf t c =
 
 pub emit_deep-emit_operand-requires-clause-fits : goal.emit_deep-emit_operand-requires-clause-fits
 emit_deep-emit_operand-requires-clause-fits t c =
-    stack-is c.args.e.now c.need.result c.need.ensures c.if-need-gt-STACK.false
+    let g = c.if-over-gt0.false in stack-few c.args.e.now (c.known_depth-over.ensures.1 (omega (arith, g)))
 
 pub emit_spilling-returns-in-Number-clause-err : goal.emit_spilling-returns-in-Number-clause-err
 emit_spilling-returns-in-Number-clause-err t c =
-    λ held. number-shallow c.args.places.now.frames c.args.e.now _ c.args.word c.in-Number.is c.requires
+    λ held. number-shallow c.args.places.now.frames c.args.e.now _ c.args.word c.in-Number.is c.requires.fits
 
 pub emit_spilling-returns-in-Linear-clause-err : goal.emit_spilling-returns-in-Linear-clause-err
 emit_spilling-returns-in-Linear-clause-err t c =
-    λ held. linear-shallow c.args.places.now.frames c.args.e.now _ c.args.word c.in-Linear.is c.requires
+    λ held. linear-shallow c.args.places.now.frames c.args.e.now _ c.args.word c.in-Linear.is c.requires.fits
 
 pub emit_spilling-returns-in_ok-emit_operation-in-Binary-clause-ok : goal.emit_spilling-returns-in_ok-emit_operation-in-Binary-clause-ok
 emit_spilling-returns-in_ok-emit_operation-in-Binary-clause-ok t c =
@@ -80,8 +84,13 @@ pub emit_spilling-emit_deep-requires : goal.emit_spilling-emit_deep-requires
 emit_spilling-emit_deep-requires t c = (
   deep-measure (size-Expr c.get.result.now) (size-Expr c.args.e.now) t c.decreases (binary-first c.args.e.now c.in-Binary.operation c.in-Binary.a
       c.in-Binary.b c.get.result.now c.in-Binary.is c.get.ensures),
-  deep-as c.args.places.now.frames c.get.result.now c.in-Binary.a c.args.word c.get.ensures (binary-deep-fits c.args.places.now.frames c.args.e.now
-      c.in-Binary.operation c.in-Binary.a c.in-Binary.b c.args.word c.in-Binary.is c.requires).first,
+  (
+    deep-as c.args.places.now.frames c.get.result.now c.in-Binary.a c.args.word c.get.ensures (binary-deep-fits c.args.places.now.frames c.args.e.now
+        c.in-Binary.operation c.in-Binary.a c.in-Binary.b c.args.word c.in-Binary.is c.requires.fits).first,
+    known-first c.args.e.now c.get.result.now c.args.known (first-binary c.args.e.now c.in-Binary.operation c.in-Binary.a c.in-Binary.b c.get.result.now
+        c.in-Binary.is c.get.ensures)
+        c.requires.known,
+  ),
 )
 
 pub emit_spilling-emit_beside-requires : goal.emit_spilling-emit_beside-requires
@@ -90,7 +99,7 @@ emit_spilling-emit_beside-requires t c = (
       c.in-Binary.a c.in-Binary.b c.get-in-Binary.result.now c.in-Binary.is c.get-in-Binary.ensures),
   (
     second-as c.args.places.now.frames c.get-in-Binary.result.now c.in-Binary.b c.args.word c.get-in-Binary.ensures (binary-deep-fits
-        c.args.places.now.frames c.args.e.now c.in-Binary.operation c.in-Binary.a c.in-Binary.b c.args.word c.in-Binary.is c.requires).second,
+        c.args.places.now.frames c.args.e.now c.in-Binary.operation c.in-Binary.a c.in-Binary.b c.args.word c.in-Binary.is c.requires.fits).second,
     (c.in_ok-first-in-Binary.ensures.ok.source, c.in_ok-first-in-Binary.ensures.ok.which),
   ),
 )
@@ -121,8 +130,13 @@ pub emit_spilling-emit_deep-requires-in-Divide : goal.emit_spilling-emit_deep-re
 emit_spilling-emit_deep-requires-in-Divide t c = (
   deep-measure (size-Expr c.get-in-Divide.result.now) (size-Expr c.args.e.now) t c.decreases (divide-first c.args.e.now c.in-Divide.a
       c.get-in-Divide.result.now c.in-Divide.divisor c.in-Divide.is c.get-in-Divide.ensures),
-  deep-as c.args.places.now.frames c.get-in-Divide.result.now c.in-Divide.a c.args.word c.get-in-Divide.ensures (divide-deep-fits
-      c.args.places.now.frames c.args.e.now c.in-Divide.a c.in-Divide.divisor c.args.word c.in-Divide.is c.requires).0,
+  (
+    deep-as c.args.places.now.frames c.get-in-Divide.result.now c.in-Divide.a c.args.word c.get-in-Divide.ensures (divide-deep-fits
+        c.args.places.now.frames c.args.e.now c.in-Divide.a c.in-Divide.divisor c.args.word c.in-Divide.is c.requires.fits).0,
+    known-first c.args.e.now c.get-in-Divide.result.now c.args.known (first-divide c.args.e.now c.in-Divide.a c.in-Divide.divisor
+        c.get-in-Divide.result.now c.in-Divide.is c.get-in-Divide.ensures)
+        c.requires.known,
+  ),
 )
 
 pub emit_spilling-emit_quotient-requires-clause-operand : goal.emit_spilling-emit_quotient-requires-clause-operand
@@ -131,7 +145,7 @@ emit_spilling-emit_quotient-requires-clause-operand t c =
 
 pub emit_spilling-emit_quotient-requires-clause-some : goal.emit_spilling-emit_quotient-requires-clause-some
 emit_spilling-emit_quotient-requires-clause-some t c =
-    (divide-deep-fits c.args.places.now.frames c.args.e.now c.in-Divide.a c.in-Divide.divisor c.args.word c.in-Divide.is c.requires).1
+    (divide-deep-fits c.args.places.now.frames c.args.e.now c.in-Divide.a c.in-Divide.divisor c.args.word c.in-Divide.is c.requires.fits).1
 
 pub emit_spilling-returns-in_ok-emit_remainder-in-Remainder-clause-ok : goal.emit_spilling-returns-in_ok-emit_remainder-in-Remainder-clause-ok
 emit_spilling-returns-in_ok-emit_remainder-in-Remainder-clause-ok t c =
@@ -151,8 +165,13 @@ pub emit_spilling-emit_deep-requires-in-Remainder : goal.emit_spilling-emit_deep
 emit_spilling-emit_deep-requires-in-Remainder t c = (
   deep-measure (size-Expr c.get-in-Remainder.result.now) (size-Expr c.args.e.now) t c.decreases (remainder-first c.args.e.now c.in-Remainder.a
       c.get-in-Remainder.result.now c.in-Remainder.divisor c.in-Remainder.is c.get-in-Remainder.ensures),
-  deep-as c.args.places.now.frames c.get-in-Remainder.result.now c.in-Remainder.a c.args.word c.get-in-Remainder.ensures (remainder-deep-fits
-      c.args.places.now.frames c.args.e.now c.in-Remainder.a c.in-Remainder.divisor c.args.word c.in-Remainder.is c.requires).0,
+  (
+    deep-as c.args.places.now.frames c.get-in-Remainder.result.now c.in-Remainder.a c.args.word c.get-in-Remainder.ensures (remainder-deep-fits
+        c.args.places.now.frames c.args.e.now c.in-Remainder.a c.in-Remainder.divisor c.args.word c.in-Remainder.is c.requires.fits).0,
+    known-first c.args.e.now c.get-in-Remainder.result.now c.args.known (first-remainder c.args.e.now c.in-Remainder.a c.in-Remainder.divisor
+        c.get-in-Remainder.result.now c.in-Remainder.is c.get-in-Remainder.ensures)
+        c.requires.known,
+  ),
 )
 
 pub emit_spilling-emit_remainder-requires-clause-operand : goal.emit_spilling-emit_remainder-requires-clause-operand
@@ -161,14 +180,14 @@ emit_spilling-emit_remainder-requires-clause-operand t c =
 
 pub emit_spilling-emit_remainder-requires-clause-some : goal.emit_spilling-emit_remainder-requires-clause-some
 emit_spilling-emit_remainder-requires-clause-some t c =
-    (remainder-deep-fits c.args.places.now.frames c.args.e.now c.in-Remainder.a c.in-Remainder.divisor c.args.word c.in-Remainder.is c.requires).1
+    (remainder-deep-fits c.args.places.now.frames c.args.e.now c.in-Remainder.a c.in-Remainder.divisor c.args.word c.in-Remainder.is c.requires.fits).1
 
 pub emit_spilling-returns-in_ok-emit_selection-in-Select-clause-ok : goal.emit_spilling-returns-in_ok-emit_selection-in-Select-clause-ok
 emit_spilling-returns-in_ok-emit_selection-in-Select-clause-ok t c =
     select-deep-arm c.args.places.now c.args.scope.now c.args.e.now c.in-Select.c c.in-Select.a c.in-Select.b _ _ _ c.args.word
     c.in_ok-condition-in-Select.condition c.in_ok-first-in-Select.first
     _ _ _ _ _ _ _ (select-deep-fits c.args.places.now.frames c.args.e.now c.in-Select.c c.in-Select.a c.in-Select.b c.args.word c.in-Select.is
-    c.requires).slot.1 c.in-Select.is c.get-in-Select.ensures c.get-in-Select-2.ensures c.get-in-Select-3.ensures c.in_ok-condition-in-Select.ensures.ok
+    c.requires.fits).slot.1 c.in-Select.is c.get-in-Select.ensures c.get-in-Select-2.ensures c.get-in-Select-3.ensures c.in_ok-condition-in-Select.ensures.ok
     c.in_ok-emit_spill-in-Select.ensures c.in_ok-first-in-Select.ensures.ok c.in_ok-emit_pair-in-Select.ensures.ok c.in_ok-emit_unspill-in-Select.ensures
     c.in_ok-emit_selection-in-Select.ensures
 
@@ -199,16 +218,24 @@ pub emit_spilling-emit_deep-requires-in-Select : goal.emit_spilling-emit_deep-re
 emit_spilling-emit_deep-requires-in-Select t c = (
   deep-measure (size-Expr c.get-in-Select.result.now) (size-Expr c.args.e.now) t c.decreases (select-first c.args.e.now c.in-Select.c c.in-Select.a
       c.in-Select.b c.get-in-Select.result.now c.in-Select.is c.get-in-Select.ensures),
-  deep-as c.args.places.now.frames c.get-in-Select.result.now c.in-Select.c c.args.word c.get-in-Select.ensures (select-deep-fits
-      c.args.places.now.frames c.args.e.now c.in-Select.c c.in-Select.a c.in-Select.b c.args.word c.in-Select.is c.requires).first,
+  (
+    deep-as c.args.places.now.frames c.get-in-Select.result.now c.in-Select.c c.args.word c.get-in-Select.ensures (select-deep-fits
+        c.args.places.now.frames c.args.e.now c.in-Select.c c.in-Select.a c.in-Select.b c.args.word c.in-Select.is c.requires.fits).first,
+    known-first c.args.e.now c.get-in-Select.result.now c.args.known (first-select c.args.e.now c.in-Select.c c.in-Select.a c.in-Select.b
+        c.get-in-Select.result.now c.in-Select.is c.get-in-Select.ensures)
+        c.requires.known,
+  ),
 )
 
 pub emit_spilling-emit_deep-requires-in-Select-2 : goal.emit_spilling-emit_deep-requires-in-Select-2
 emit_spilling-emit_deep-requires-in-Select-2 t c = (
   deep-measure (size-Expr c.get-in-Select-2.result.now) (size-Expr c.args.e.now) t c.decreases (select-second c.args.e.now c.in-Select.c
       c.in-Select.a c.in-Select.b c.get-in-Select-2.result.now c.in-Select.is c.get-in-Select-2.ensures),
-  deep-as c.args.places.now.frames c.get-in-Select-2.result.now c.in-Select.a (c.args.word + 1) c.get-in-Select-2.ensures (select-deep-fits
-      c.args.places.now.frames c.args.e.now c.in-Select.c c.in-Select.a c.in-Select.b c.args.word c.in-Select.is c.requires).second,
+  (
+    deep-as c.args.places.now.frames c.get-in-Select-2.result.now c.in-Select.a (c.args.word + 1) c.get-in-Select-2.ensures (select-deep-fits
+        c.args.places.now.frames c.args.e.now c.in-Select.c c.in-Select.a c.in-Select.b c.args.word c.in-Select.is c.requires.fits).second,
+    omega arith,
+  ),
 )
 
 pub emit_spilling-emit_pair-requires : goal.emit_spilling-emit_pair-requires
@@ -217,14 +244,14 @@ emit_spilling-emit_pair-requires t c = (
       c.in-Select.b c.get-in-Select-3.result.now c.in-Select.is c.get-in-Select-3.ensures),
   (
     pair-as c.args.places.now.frames c.get-in-Select-3.result.now c.in-Select.b (c.args.word + 1) c.get-in-Select-3.ensures (select-deep-fits
-        c.args.places.now.frames c.args.e.now c.in-Select.c c.in-Select.a c.in-Select.b c.args.word c.in-Select.is c.requires).third,
+        c.args.places.now.frames c.args.e.now c.in-Select.c c.in-Select.a c.in-Select.b c.args.word c.in-Select.is c.requires.fits).third,
     (c.in_ok-first-in-Select.ensures.ok.source, c.in_ok-first-in-Select.ensures.ok.which),
   ),
 )
 
 pub emit_spilling-emit_spill-requires-clause-slot : goal.emit_spilling-emit_spill-requires-clause-slot
 emit_spilling-emit_spill-requires-clause-slot t c =
-    (select-deep-fits c.args.places.now.frames c.args.e.now c.in-Select.c c.in-Select.a c.in-Select.b c.args.word c.in-Select.is c.requires).slot
+    (select-deep-fits c.args.places.now.frames c.args.e.now c.in-Select.c c.in-Select.a c.in-Select.b c.args.word c.in-Select.is c.requires.fits).slot
 
 pub emit_spilling-emit_spill-requires-clause-source : goal.emit_spilling-emit_spill-requires-clause-source
 emit_spilling-emit_spill-requires-clause-source t c =
@@ -232,18 +259,18 @@ emit_spilling-emit_spill-requires-clause-source t c =
 
 pub emit_spilling-emit_unspill-requires-clause-slot : goal.emit_spilling-emit_unspill-requires-clause-slot
 emit_spilling-emit_unspill-requires-clause-slot t c =
-    (select-deep-fits c.args.places.now.frames c.args.e.now c.in-Select.c c.in-Select.a c.in-Select.b c.args.word c.in-Select.is c.requires).slot
+    (select-deep-fits c.args.places.now.frames c.args.e.now c.in-Select.c c.in-Select.a c.in-Select.b c.args.word c.in-Select.is c.requires.fits).slot
 
 pub emit_spilling-overflow_add-word : goal.emit_spilling-overflow_add-word
 emit_spilling-overflow_add-word t c =
     let n = slot-next c.args.places.now.frames c.args.word (select-deep-fits c.args.places.now.frames c.args.e.now c.in-Select.c c.in-Select.a c.in-Select.b
-    c.args.word c.in-Select.is c.requires).slot.1 in
+    c.args.word c.in-Select.is c.requires.fits).slot.1 in
     omega (arith, n)
 
 pub emit_spilling-overflow_add-word-in-Select : goal.emit_spilling-overflow_add-word-in-Select
 emit_spilling-overflow_add-word-in-Select t c =
     let n = slot-next c.args.places.now.frames c.args.word (select-deep-fits c.args.places.now.frames c.args.e.now c.in-Select.c c.in-Select.a c.in-Select.b
-    c.args.word c.in-Select.is c.requires).slot.1 in
+    c.args.word c.in-Select.is c.requires.fits).slot.1 in
     omega (arith, n)
 
 pub emit_spilling-returns-in_ok-emit_pixel-in-Load-clause-ok : goal.emit_spilling-returns-in_ok-emit_pixel-in-Load-clause-ok
@@ -278,8 +305,13 @@ pub emit_spilling-emit_deep-requires-in-Load : goal.emit_spilling-emit_deep-requ
 emit_spilling-emit_deep-requires-in-Load t c = (
   deep-measure (size-Expr c.get-in-Load.result.now) (size-Expr c.args.e.now) t c.decreases (load-first c.args.e.now c.in-Load.source c.in-Load.x
       c.in-Load.y c.get-in-Load.result.now c.in-Load.is c.get-in-Load.ensures),
-  deep-as c.args.places.now.frames c.get-in-Load.result.now c.in-Load.x c.args.word c.get-in-Load.ensures (load-deep-fits c.args.places.now.frames
-      c.args.e.now c.in-Load.source c.in-Load.x c.in-Load.y c.args.word c.in-Load.is c.requires).first,
+  (
+    deep-as c.args.places.now.frames c.get-in-Load.result.now c.in-Load.x c.args.word c.get-in-Load.ensures (load-deep-fits c.args.places.now.frames
+        c.args.e.now c.in-Load.source c.in-Load.x c.in-Load.y c.args.word c.in-Load.is c.requires.fits).first,
+    known-first c.args.e.now c.get-in-Load.result.now c.args.known (first-load c.args.e.now c.in-Load.source c.in-Load.x c.in-Load.y
+        c.get-in-Load.result.now c.in-Load.is c.get-in-Load.ensures)
+        c.requires.known,
+  ),
 )
 
 pub emit_spilling-emit_row-requires : goal.emit_spilling-emit_row-requires
@@ -288,7 +320,7 @@ emit_spilling-emit_row-requires t c = (
       c.in-Load.y c.get-in-Load-2.result.now c.in-Load.is c.get-in-Load-2.ensures),
   (
     second-as c.args.places.now.frames c.get-in-Load-2.result.now c.in-Load.y c.args.word c.get-in-Load-2.ensures (load-deep-fits
-        c.args.places.now.frames c.args.e.now c.in-Load.source c.in-Load.x c.in-Load.y c.args.word c.in-Load.is c.requires).second,
+        c.args.places.now.frames c.args.e.now c.in-Load.source c.in-Load.x c.in-Load.y c.args.word c.in-Load.is c.requires.fits).second,
     (c.in_ok-column-in-Load.ensures.ok.source, c.in_ok-column-in-Load.ensures.ok.which),
   ),
 )
@@ -371,7 +403,7 @@ emit_pair-emit_unspill-requires-clause-slot t c =
 
 pub emit_pair-emit_deep-requires : goal.emit_pair-emit_deep-requires
 emit_pair-emit_deep-requires t c =
-    (own-pair (size-Expr c.args.e.now) t c.decreases, c.requires.fits.1)
+    (own-pair (size-Expr c.args.e.now) t c.decreases, (c.requires.fits.1, omega arith))
 
 pub emit_pair-alu_small-requires : goal.emit_pair-alu_small-requires
 emit_pair-alu_small-requires t c =
