@@ -13,7 +13,7 @@ use Rattle.task_code_statements.specs.declared.splits.Start.{Start}
 use Rattle.task_code_statements.specs.declared.splits.Start.TheVariants as starts
 use Rattle.task_code_statements.specs.Contexts.{Meets}
 
--- a sum has a split loop's value wherever loop variables are as known, and that value hangs on no name
+-- a sum has a split loop's value wherever the context holds, and that value hangs on no name
 pub record IsSplitSum (context : Context) (whole : Whole) (sum : Linear) : Type 0 where
   pub value_is : (values : Values) → Meets context values → linear_value values sum ≡ whole_value whole values
   pub plain : (values named : Values) → AreNamed values named → whole_value whole named ≡ whole_value whole values
@@ -28,19 +28,19 @@ product whole values = word.multiply (values whole.outer) whole.factor
 pub record IsProduct (context : Context) (whole : Whole) (sum : Linear) : Type 0 where
   pub value_is : (values : Values) → AreKnown context.known.items values → linear_value values sum ≡ product whole values
 
--- the value of a start, where it is known
+-- the value of a start, or another number where it isn't known
 abbrev pub start_value : Whole → ℕ → Start → Values → ℕ
 start_value whole other starts.Product values = product whole values
 start_value whole other (starts.Number number) values = number
 start_value whole other starts.Unknown values = other
 
--- a run begins there, wherever loop variables are as known
+-- a run begins there, wherever the context holds; of an unknown start this says nothing
 abbrev pub BeginsRun : Context → Whole → Start → Type 0
 BeginsRun context whole start =
     (values : Values) → Meets context values
     → at_most whole.last (product whole values) ≡ start_value whole (at_most whole.last (product whole values)) start values
 
--- a sum is that of a start and the inner variable
+-- a sum is that of a start and the inner variable, as no sum is of an unknown start
 abbrev pub AddsInner : Whole → Start → Linear → Type 0
 AddsInner whole start sum =
     (other : ℕ) (values : Values) → linear_value values sum ≡ word.add (start_value whole other start values) (values whole.inner)

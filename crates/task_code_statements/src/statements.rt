@@ -108,7 +108,7 @@ pub(crate) fn mentions(scope: &[Held], counter: Counter) -> bool
 }
 
 /// How many registers the loops of a statement ask for at once: one each, but for those that are laid out or done at
-/// once and for split loops whose values are sums.
+/// once. The values of split loops are sums.
 fn depth(statement: &Stmt) -> usize {
     match statement {
         Stmt::Store(_) => 0,
@@ -121,10 +121,7 @@ fn depth(statement: &Stmt) -> usize {
             let own = usize::from(!is_at_once(*kind) && !is_laid_out(*kind, *count));
             depth(body.get()).saturating_add(own)
         }
-        Stmt::Bind(_, whole, _, body) => {
-            let own = usize::from(whole.last.is_some());
-            depth(body.get()).saturating_add(own)
-        }
+        Stmt::Bind(_, _, _, body) => depth(body.get()),
     }
 }
 
@@ -364,6 +361,10 @@ fn emit_serial(
         own.counter own.count body.now) }
 {
     if is_cut(body, own) {
+        if own.count == 2 {
+            emit_laid_out(alloc, code, places, scope, context, own, body)?;
+            return Ok(());
+        }
         emit_parted(alloc, code, places, scope, context, own, body)?;
         return Ok(());
     }
