@@ -9,7 +9,7 @@ use Rattle.picture.specs.declared.scenes.Table.{Table}
 use Rattle.halide_pipeline.specs.Contents.{PictureContents}
 use Rattle.halide_pipeline.specs.declared.definitions.Func.{Func}
 use Rattle.halide_pipeline.specs.Pixel.{Plane}
-use Rattle.picture.specs.inner.Evaluation.{IsTable, IsSliceOf, AreSlicesOf, numbered_pixel}
+use Rattle.picture.specs.inner.Evaluation.{AreBoxes, IsTable, IsSliceOf, AreSlicesOf, numbered_pixel}
 
 zip_ok : {X : Type 0} (R : ℕ → X → Type 0) (places : List ℕ) (values : List X) → AllZip (λ at (r : Result X AllocError). IfOk r (R at)) places (map Ok values) → AllZip R places values
 zip_ok R [] [] zip = zip
@@ -49,14 +49,18 @@ table_from_zip plane table zip =
           subst (λ (n : ℕ). R n (get_or table.pixels.items at 0)) e (all.1 at (omega (arith, all.0, within)));
     }
 
--- slices that are zipped with numbers
-each_slice : (P : Slice → Type 0) (places : List ℕ) (slices : List Slice) → AllZip (λ at s. P s) places slices → (at : ℕ) (slice : Slice) → slice_get slices at ≡ Some slice → P slice
-each_slice P places [] zip at slice is = absurd cc
-each_slice P [] (first ∷ slices) zip at slice is = absurd zip
-each_slice P (place ∷ places) (first ∷ slices) zip zero slice is = let e : first ≡ slice = cc in subst P e zip.0
-each_slice P (place ∷ places) (first ∷ slices) zip (suc at) slice is = each_slice P places slices zip.1 at slice is
+-- what is zipped with numbers
+each_zipped : {X : Type 0} (P : X → Type 0) (places : List ℕ) (values : List X) → AllZip (λ at s. P s) places values → (at : ℕ) (value : X) → slice_get values at ≡ Some value → P value
+each_zipped P places [] zip at value is = absurd cc
+each_zipped P [] (first ∷ values) zip at value is = absurd zip
+each_zipped P (place ∷ places) (first ∷ values) zip zero value is = let e : first ≡ value = cc in subst P e zip.0
+each_zipped P (place ∷ places) (first ∷ values) zip (suc at) value is = each_zipped P places values zip.1 at value is
 
 pub slices_collected : (funcs : List Func) (pictures : List PictureContents) (own updates : ℕ) (places : List ℕ) (answer : Result (Vec Slice Global) AllocError)
     → IfOk answer (λ v. AllZip (λ at slice. IsSliceOf funcs pictures own updates slice) places v.items) → IfOk answer (λ v. AreSlicesOf funcs pictures own updates v.items)
-slices_collected funcs pictures own updates places (Ok v) zip = record { each = each_slice (IsSliceOf funcs pictures own updates) places v.items zip }
+slices_collected funcs pictures own updates places (Ok v) zip = record { each = each_zipped (IsSliceOf funcs pictures own updates) places v.items zip }
 slices_collected funcs pictures own updates places (Err e) zip = tt
+
+pub boxes_collected : (plane : Plane) (places : List ℕ) (answer : Result (Vec Table Global) AllocError) → IfOk answer (λ v. AllZip (λ at table. IsTable plane table) places v.items) → IfOk answer (λ v. AreBoxes plane v.items)
+boxes_collected plane places (Ok v) zip = record { each = each_zipped (IsTable plane) places v.items zip }
+boxes_collected plane places (Err e) zip = tt

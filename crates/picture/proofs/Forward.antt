@@ -106,16 +106,16 @@ or_right false true c e = refl
 or_right false false c e = e
 
 -- an update, where its variables have the same values at two points
-record SameSides (update : Update) (one other : Environment) : Type 0 where
-  left_x : (reads : Reads) → value reads one update.left_x ≡ value reads other update.left_x
-  left_y : (reads : Reads) → index_value reads one update.left_y ≡ index_value reads other update.left_y
-  right : (reads : Reads) → value reads one update.right ≡ value reads other update.right
+pub record SameSides (update : Update) (one other : Environment) : Type 0 where
+  pub left_x : (reads : Reads) → value reads one update.left_x ≡ value reads other update.left_x
+  pub left_y : (reads : Reads) → index_value reads one update.left_y ≡ index_value reads other update.left_y
+  pub right : (reads : Reads) → value reads one update.right ≡ value reads other update.right
 
 index_same : (index : Option Expr) (one other : Environment) → ((v : Variable) → index_uses v index ≡ true → variable one v ≡ variable other v) → (reads : Reads) → index_value reads one index ≡ index_value reads other index
 index_same None one other used reads = refl
 index_same (Some index) one other used reads = value-agrees reads one other index used
 
-same_sides : (update : Update) (one other : Environment) → ((v : Variable) → mentions v update ≡ true → variable one v ≡ variable other v) → SameSides update one other
+pub same_sides : (update : Update) (one other : Environment) → ((v : Variable) → mentions v update ≡ true → variable one v ≡ variable other v) → SameSides update one other
 same_sides update one other used = record {
   left_x = λ reads. value-agrees reads one other update.left_x (λ v e. used v (or_left (uses v update.left_x) (index_uses v update.left_y) (uses v update.right) e));
   left_y = λ reads. index_same update.left_y one other (λ v e. used v (or_middle (uses v update.left_x) (index_uses v update.left_y) (uses v update.right) e)) reads;

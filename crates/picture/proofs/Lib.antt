@@ -1,5 +1,6 @@
 pub mod Agrees
 pub mod Along
+pub mod AlongLines
 pub mod AlongUpdates
 pub mod Fills
 pub mod Forward
@@ -13,5 +14,7 @@ pub mod Outputs
 pub mod PixelRows
 pub mod ReadBack
 pub mod Rows
+pub mod Shared
+pub mod SideBySide
 pub mod SpelledBack
 pub mod Tables

@@ -65,7 +65,19 @@ one_more_table funcs pictures tables next table are is e =
     by_place place other (inr last) =
         subst (λ (t : Table). IsTable (plane_in funcs pictures place) t) last.1 (subst (λ (at : ℕ). IsTable (plane_in funcs pictures at) table) (sym last.0) is)
 
+-- an item of a list
+pub item-is : {X : Type 0} (items : List X) (at : ℕ) (item : X) → item ≡ get_or items at item → at < length items → slice_get items at ≡ Some item
+item-is [] at item is less = absurd (omega arith)
+item-is (first ∷ items) zero item is less = cc
+item-is (first ∷ items) (suc at) item is less = item-is items at item is (omega arith)
+
 -- ---- what updates come to, one after the other
+
+pub known-at : (funcs : List Func) (pictures : List PictureContents) (known : List Known) (at : ℕ) (one : Known) (own updates : ℕ) → AreKnownOf funcs pictures known
+    → one ≡ get_or known at one → at < length known → one.own ≡ own → one.updates ≡ updates → IsKnown funcs pictures own updates one
+known-at funcs pictures known at one own updates are is less own_is updates_is =
+    subst (λ (n : ℕ). IsKnown funcs pictures n updates one) own_is
+    (subst (λ (n : ℕ). IsKnown funcs pictures one.own n one) updates_is (are.each at one (item-is known at one is less)))
 
 pub none_known : (funcs : List Func) (pictures : List PictureContents) (known : List Known) → known ≡ [] → AreKnownOf funcs pictures known
 none_known funcs pictures known e = record { each = λ at k is. absurd (none at k (ap (λ (all : List Known). slice_get all at) (sym e) ∙ is)) }
@@ -73,10 +85,10 @@ none_known funcs pictures known e = record { each = λ at k is. absurd (none at 
     none : (at : ℕ) (k : Known) → slice_get {X = Known} [] at ≡ Some k → ⊥
     none at k e = cc
 
-pub one_more_known : (funcs : List Func) (pictures : List PictureContents) (known next : List Known) (one : Known) → AreKnownOf funcs pictures known → IsKnown funcs pictures one → next ≡ known ++ one ∷ [] → AreKnownOf funcs pictures next
+pub one_more_known : (funcs : List Func) (pictures : List PictureContents) (known next : List Known) (one : Known) → AreKnownOf funcs pictures known → IsKnown funcs pictures one.own one.updates one → next ≡ known ++ one ∷ [] → AreKnownOf funcs pictures next
 one_more_known funcs pictures known next one are is e =
     subst (λ (all : List Known). AreKnownOf funcs pictures all) (sym e) (record { each = λ at other there. by_place at other (got known one at other there) })
   where
-    by_place : (at : ℕ) (other : Known) → (slice_get known at ≡ Some other) ⊎ ((at ≡ length known) × (one ≡ other)) → IsKnown funcs pictures other
+    by_place : (at : ℕ) (other : Known) → (slice_get known at ≡ Some other) ⊎ ((at ≡ length known) × (one ≡ other)) → IsKnown funcs pictures other.own other.updates other
     by_place at other (inl before) = are.each at other before
-    by_place at other (inr last) = subst (λ (k : Known). IsKnown funcs pictures k) last.1 is
+    by_place at other (inr last) = subst (λ (k : Known). IsKnown funcs pictures k.own k.updates k) last.1 is

@@ -1,20 +1,21 @@
 //! Pixels that are kept one by one, found before they are needed: a definition is computed as far as what it reads is
 //! known; what isn't is asked for, and computed so before it. Each pixel is computed once, however often it is read.
 
-ghost use Rattle.std.specs.Prelude.{◌≡◌, [], Some, IfOk, IfSome, OnOk, slice_get};
+ghost use Rattle.std.specs.Prelude.{◌≡◌, ℕ, [], Some, IfOk, IfSome, OnOk, slice_get};
 ghost use Rattle.halide_pipeline.specs.Pixel as spec;
+ghost use Rattle.halide_pipeline.specs.Words as word;
 ghost use Rattle.picture.specs.inner.Evaluation.{plane_of, reads_in, AreTables, AreTablesOf, AreKnownOf, IsMemo};
 ghost use Rattle.picture.specs.declared.scenes.State.TheVariants as states;
 
 use crate::boxes::{Bounds, Slices};
 use crate::keeping::{Cost, is_kept, needs_kept};
+use crate::lookups::{func_at, has_run, known_pixel};
 use crate::memos::Memo;
-use crate::plain::{
-    at_point, at_reduction, func_at, known_pixel, known_slice, pixel, points, read, variable,
-};
+use crate::plain::{pixel, read};
+use crate::points::{at_point, at_reduction, points, variable};
 use crate::scenes::{Scene, State};
-use halide_pipeline::{Environment, Expr, Func, Source, Update, words};
-use std::alloc::{AllocError, Global};
+use halide_pipeline::{Environment, Expr, Func, Operation, Source, Update, words};
+use std::alloc::AllocError;
 
 /// A pixel that is asked for.
 #[derive(Clone, Copy)]
@@ -36,7 +37,6 @@ fn is_missing(scene: &Scene, costs: &[Cost], place: usize, x: u32, y: u32) -> bo
 
 /// What a read answers in the pure definition of the Func at a place; none where that is asked for.
 fn ask(
-    alloc: Global,
     scene: &Scene,
     costs: &[Cost],
     own: usize,
@@ -57,15 +57,73 @@ fn ask(
             return Ok(None);
         }
     }
-    let pixel = read(alloc, scene, own, State::Earlier, source, x, y)?;
+    let pixel = read(scene, own, State::Earlier, source, x, y)?;
     Ok(Some(pixel))
+}
+
+/// The same where the indices are known.
+fn ask_at(
+    scene: &Scene,
+    costs: &[Cost],
+    own: usize,
+    source: Source,
+    x: Option<u32>,
+    y: Option<u32>,
+    asked: &mut Vec<Asked>,
+) -> Result<Option<u32>, AllocError>
+    requires tables { AreTables scene.now }
+    ensures { (column row : ℕ) → IfSome x (λ v. v ≡ column) → IfSome y (λ v. v ≡ row)
+        → IfOk result (λ found. IfSome found (λ pixel. pixel ≡ reads_in scene.now own states.Earlier source column
+        row)) }
+{
+    let Some(x) = x else {
+        return Ok(None);
+    };
+    let Some(y) = y else {
+        return Ok(None);
+    };
+    let pixel = ask(scene, costs, own, source, x, y, asked)?;
+    Ok(pixel)
+}
+
+/// What an operation makes of two sides, where both are known.
+fn both(operation: Operation, a: Option<u32>, b: Option<u32>) -> Option<u32>
+    ensures { (first second : ℕ) → IfSome a (λ v. v ≡ first) → IfSome b (λ v. v ≡ second)
+        → IfSome result (λ v. v ≡ word.applied operation first second) }
+{
+    let Some(a) = a else {
+        return None;
+    };
+    let Some(b) = b else {
+        return None;
+    };
+    Some(operation.apply(a, b))
+}
+
+/// A quotient, where the number is known.
+fn quotient(a: Option<u32>, divisor: u32) -> Option<u32>
+    ensures { (first : ℕ) → IfSome a (λ v. v ≡ first) → IfSome result (λ v. v ≡ word.divide first divisor) }
+{
+    let Some(a) = a else {
+        return None;
+    };
+    Some(words::divide(a, divisor))
+}
+
+/// A remainder, where the number is known.
+fn remainder(a: Option<u32>, divisor: u32) -> Option<u32>
+    ensures { (first : ℕ) → IfSome a (λ v. v ≡ first) → IfSome result (λ v. v ≡ word.remainder first divisor) }
+{
+    let Some(a) = a else {
+        return None;
+    };
+    Some(words::remainder(a, divisor))
 }
 
 /// The value of an expression in the pure definition of the Func at a place; none where it reads what isn't known, all
 /// of which is asked for, as far as it can be told.
 #[tactic(auto, unfolding(halide_pipeline::specs::Pixel::value))]
 fn attempt(
-    alloc: Global,
     scene: &Scene,
     costs: &[Cost],
     own: usize,
@@ -81,65 +139,36 @@ fn attempt(
         Expr::Number(number) => Ok(Some(*number)),
         Expr::Variable(own_variable) => Ok(Some(variable(environment, *own_variable))),
         Expr::Binary(operation, a, b) => {
-            let a = attempt(alloc, scene, costs, own, environment, a.get(), asked)?;
-            let b = attempt(alloc, scene, costs, own, environment, b.get(), asked)?;
-            let Some(a) = a else {
-                return Ok(None);
-            };
-            let Some(b) = b else {
-                return Ok(None);
-            };
-            Ok(Some(operation.apply(a, b)))
+            let a = attempt(scene, costs, own, environment, a.get(), asked)?;
+            let b = attempt(scene, costs, own, environment, b.get(), asked)?;
+            Ok(both(*operation, a, b))
         }
         Expr::Divide(a, divisor) => {
-            let a = attempt(alloc, scene, costs, own, environment, a.get(), asked)?;
-            let Some(a) = a else {
-                return Ok(None);
-            };
-            Ok(Some(words::divide(a, *divisor)))
+            let a = attempt(scene, costs, own, environment, a.get(), asked)?;
+            Ok(quotient(a, *divisor))
         }
         Expr::Remainder(a, divisor) => {
-            let a = attempt(alloc, scene, costs, own, environment, a.get(), asked)?;
-            let Some(a) = a else {
-                return Ok(None);
-            };
-            Ok(Some(words::remainder(a, *divisor)))
+            let a = attempt(scene, costs, own, environment, a.get(), asked)?;
+            Ok(remainder(a, *divisor))
         }
         Expr::Select(condition, a, b) => {
-            let condition = attempt(
-                alloc,
-                scene,
-                costs,
-                own,
-                environment,
-                condition.get(),
-                asked,
-            )?;
+            let condition = attempt(scene, costs, own, environment, condition.get(), asked)?;
             let Some(condition) = condition else {
                 return Ok(None);
             };
             let chosen = if condition == 0 { b } else { a };
-            let chosen = attempt(alloc, scene, costs, own, environment, chosen.get(), asked)?;
+            let chosen = attempt(scene, costs, own, environment, chosen.get(), asked)?;
             Ok(chosen)
         }
         Expr::Call1(source, x) => {
-            let x = attempt(alloc, scene, costs, own, environment, x.get(), asked)?;
-            let Some(x) = x else {
-                return Ok(None);
-            };
-            let pixel = ask(alloc, scene, costs, own, *source, x, 0, asked)?;
+            let x = attempt(scene, costs, own, environment, x.get(), asked)?;
+            let pixel = ask_at(scene, costs, own, *source, x, Some(0), asked)?;
             Ok(pixel)
         }
         Expr::Call2(source, x, y) => {
-            let x = attempt(alloc, scene, costs, own, environment, x.get(), asked)?;
-            let y = attempt(alloc, scene, costs, own, environment, y.get(), asked)?;
-            let Some(x) = x else {
-                return Ok(None);
-            };
-            let Some(y) = y else {
-                return Ok(None);
-            };
-            let pixel = ask(alloc, scene, costs, own, *source, x, y, asked)?;
+            let x = attempt(scene, costs, own, environment, x.get(), asked)?;
+            let y = attempt(scene, costs, own, environment, y.get(), asked)?;
+            let pixel = ask_at(scene, costs, own, *source, x, y, asked)?;
             Ok(pixel)
         }
     }
@@ -147,7 +176,6 @@ fn attempt(
 
 /// Asks for what a point of an update reads.
 fn ask_point(
-    alloc: Global,
     scene: &Scene,
     costs: &[Cost],
     own: usize,
@@ -157,17 +185,16 @@ fn ask_point(
 ) -> Result<(), AllocError>
     requires tables { AreTables scene.now }
 {
-    attempt(alloc, scene, costs, own, point, &update.left_x, asked)?;
+    attempt(scene, costs, own, point, &update.left_x, asked)?;
     if let Some(left_y) = &update.left_y {
-        attempt(alloc, scene, costs, own, point, left_y, asked)?;
+        attempt(scene, costs, own, point, left_y, asked)?;
     }
-    attempt(alloc, scene, costs, own, point, &update.right, asked)?;
+    attempt(scene, costs, own, point, &update.right, asked)?;
     Ok(())
 }
 
 /// Asks for what an update reads where it runs for a point, unless it has run there.
 fn ask_update(
-    alloc: Global,
     scene: &Scene,
     costs: &[Cost],
     updates: usize,
@@ -177,19 +204,18 @@ fn ask_update(
 ) -> Result<(), AllocError>
     requires tables { AreTables scene.now }
 {
-    if known_slice(scene.known, top.place, updates, top.x, top.y).is_some() {
+    if has_run(scene.known, top.place, updates, top.x, top.y) {
         return Ok(());
     }
     for number in 0..points(update) {
         let point = at_reduction(update, number, top.x, top.y);
-        ask_point(alloc, scene, costs, top.place, update, &point, asked)?;
+        ask_point(scene, costs, top.place, update, &point, asked)?;
     }
     Ok(())
 }
 
 /// Asks for what the updates of a Func read where they run for a point.
 fn ask_updates(
-    alloc: Global,
     scene: &Scene,
     costs: &[Cost],
     func: &Func,
@@ -199,14 +225,13 @@ fn ask_updates(
     requires tables { AreTables scene.now }
 {
     for (updates, update) in func.updates.as_slice().iter().enumerate() {
-        ask_update(alloc, scene, costs, updates, update, top, asked)?;
+        ask_update(scene, costs, updates, update, top, asked)?;
     }
     Ok(())
 }
 
 /// Asks for all that a pixel of a Func hangs on.
 fn ask_all(
-    alloc: Global,
     scene: &Scene,
     costs: &[Cost],
     func: &Func,
@@ -216,15 +241,14 @@ fn ask_all(
     requires tables { AreTables scene.now }
 {
     let point = at_point(top.x, top.y);
-    attempt(alloc, scene, costs, top.place, &point, &func.pure, asked)?;
-    ask_updates(alloc, scene, costs, func, top, asked)?;
+    attempt(scene, costs, top.place, &point, &func.pure, asked)?;
+    ask_updates(scene, costs, func, top, asked)?;
     Ok(())
 }
 
 /// A pixel of a Func without updates; none where it reads what isn't known, which is asked for.
 #[tactic(auto, unfolding(halide_pipeline::specs::Pixel::stage))]
 fn attempt_pixel(
-    alloc: Global,
     scene: &Scene,
     costs: &[Cost],
     func: &Func,
@@ -237,13 +261,12 @@ fn attempt_pixel(
     ensures { IfOk result (λ found. IfSome found (λ v. v ≡ plane_of scene.now top.place top.x top.y)) }
 {
     let point = at_point(top.x, top.y);
-    let pixel = attempt(alloc, scene, costs, top.place, &point, &func.pure, asked)?;
+    let pixel = attempt(scene, costs, top.place, &point, &func.pure, asked)?;
     Ok(pixel)
 }
 
 /// A pixel that is asked for; none where it hangs on what isn't known, which is asked for.
 fn computed(
-    alloc: Global,
     scene: &Scene,
     costs: &[Cost],
     top: Asked,
@@ -256,22 +279,21 @@ fn computed(
         return Ok(None);
     };
     if func.updates.is_empty() {
-        let pixel = attempt_pixel(alloc, scene, costs, func, top, asked)?;
+        let pixel = attempt_pixel(scene, costs, func, top, asked)?;
         return Ok(pixel);
     }
     let before = asked.len();
-    ask_all(alloc, scene, costs, func, top, asked)?;
+    ask_all(scene, costs, func, top, asked)?;
     if asked.len() > before {
         return Ok(None);
     }
-    let pixel = pixel(alloc, scene, top.place, top.x, top.y)?;
+    let pixel = pixel(scene, top.place, top.x, top.y)?;
     Ok(Some(pixel))
 }
 
 /// Goes on with the pixel that was asked for last: it is kept, or what it hangs on is asked for.
 #[tactic(auto, using(crate::proofs::Kept::one_more_kept))]
 fn settle_one(
-    alloc: Global,
     scene: &Scene,
     costs: &[Cost],
     top: Asked,
@@ -289,7 +311,7 @@ fn settle_one(
         return Ok(());
     }
     let before = asked.len();
-    match computed(alloc, &now, costs, top, asked)? {
+    match computed(&now, costs, top, asked)? {
         Some(pixel) => {
             asked.pop();
             memo.set(top.place, top.x, top.y, pixel)?;
@@ -306,7 +328,6 @@ fn settle_one(
 
 /// Keeps all pixels that are asked for, as far as they can be kept.
 fn settle(
-    alloc: Global,
     scene: &Scene,
     costs: &[Cost],
     asked: &mut Vec<Asked>,
@@ -320,7 +341,7 @@ fn settle(
     for _ in 0..u64::MAX {
         match asked.last().copied() {
             Some(top) if !memo.is_full() => {
-                settle_one(alloc, scene, costs, top, asked, memo)?;
+                settle_one(scene, costs, top, asked, memo)?;
             }
             _ => break,
         }
@@ -331,7 +352,6 @@ fn settle(
 
 /// Keeps what a pixel of a Func hangs on. Reads that stand in indices of others are asked for one after the other.
 fn prepare_point(
-    alloc: Global,
     scene: &Scene,
     costs: &[Cost],
     func: &Func,
@@ -343,21 +363,20 @@ fn prepare_point(
     requires memo { IsMemo scene.now.funcs.now scene.now.pictures.now memo.old }
     ensures { OnOk result (IsMemo scene.now.funcs.now scene.now.pictures.now memo.new) }
 {
-    let mut asked = Vec::new(alloc);
+    let mut asked = Vec::new(scene.alloc);
     for _ in 0..MOST_DEPTH {
         let now = Scene { memo, ..*scene };
-        ask_all(alloc, &now, costs, func, top, &mut asked)?;
+        ask_all(&now, costs, func, top, &mut asked)?;
         if asked.is_empty() || memo.is_full() {
             break;
         }
-        settle(alloc, scene, costs, &mut asked, memo)?;
+        settle(scene, costs, &mut asked, memo)?;
     }
     Ok(())
 }
 
 /// Keeps what the pixels of a Func in a row hang on.
 fn prepare_row(
-    alloc: Global,
     scene: &Scene,
     costs: &[Cost],
     func: &Func,
@@ -373,14 +392,13 @@ fn prepare_row(
     for at in 0..width {
         let x = words::add(first.x, at);
         let top = Asked { x, ..first };
-        prepare_point(alloc, scene, costs, func, top, memo)?;
+        prepare_point(scene, costs, func, top, memo)?;
     }
     Ok(())
 }
 
 /// Keeps what the pixels of the Func at a place in a box hang on.
 pub(crate) fn prepare_box(
-    alloc: Global,
     scene: &Scene,
     costs: &[Cost],
     place: usize,
@@ -405,14 +423,13 @@ pub(crate) fn prepare_box(
             x: bounds.left,
             y,
         };
-        prepare_row(alloc, scene, costs, func, first, bounds.width, memo)?;
+        prepare_row(scene, costs, func, first, bounds.width, memo)?;
     }
     Ok(())
 }
 
 /// Keeps what an update of the Func at a place reads on the slices on which it is to run.
 pub(crate) fn prepare_slices(
-    alloc: Global,
     scene: &Scene,
     costs: &[Cost],
     place: usize,
@@ -434,7 +451,7 @@ pub(crate) fn prepare_slices(
             x: words::add(wanted.left, number),
             y: words::add(wanted.top, number),
         };
-        prepare_point(alloc, scene, costs, func, top, memo)?;
+        prepare_point(scene, costs, func, top, memo)?;
     }
     Ok(())
 }

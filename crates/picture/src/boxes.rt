@@ -3,100 +3,20 @@
 
 ghost use Rattle.std.specs.Prelude.{◌<◌};
 
+use crate::lines::Along;
 use crate::pictures::Picture;
-use halide_pipeline::{Expr, Func, Operation, Output, Reduction, Source, Update, Variable};
+use crate::ranges::{ALL, Range, Setting, Values, ZERO, pure_setting, signed, update_setting};
+use halide_pipeline::{Expr, Func, Output, Reduction, Source, Update};
 use std::alloc::{AllocError, Global};
-
-/// The signed numbers from `low` to `high`.
-#[derive(Clone, Copy)]
-pub(crate) struct Range {
-    low: i64,
-    high: i64,
-}
-
-/// All signed numbers of 32 bits.
-const ALL: Range = Range {
-    low: -0x8000_0000,
-    high: 0x7fff_ffff,
-};
-
-/// The one number 0.
-const ZERO: Range = Range { low: 0, high: 0 };
 
 /// A table has at most so many pixels, and an update is run beforehand on at most so many slices.
 const MOST_POINTS: u64 = 2_097_152;
 
+/// The boxes in which an update is run beforehand on all slices have at most so many pixels.
+const MOST_BOX_POINTS: u64 = 16_777_216;
+
 /// A Func has at most so many updates; none past these is run beforehand.
 const MOST_UPDATES: usize = 4;
-
-impl Range {
-    /// The range, or all numbers where it leaves them.
-    fn or_all(low: i64, high: i64) -> Range {
-        if low < ALL.low || high > ALL.high || low > high {
-            ALL
-        } else {
-            Range { low, high }
-        }
-    }
-
-    /// The least range with both.
-    fn hull(self, other: Range) -> Range {
-        Range {
-            low: self.low.min(other.low),
-            high: self.high.max(other.high),
-        }
-    }
-
-    /// The products of both.
-    fn times(self, other: Range) -> Range {
-        let a = self.low.saturating_mul(other.low);
-        let b = self.low.saturating_mul(other.high);
-        let c = self.high.saturating_mul(other.low);
-        let d = self.high.saturating_mul(other.high);
-        Range::or_all(a.min(b).min(c).min(d), a.max(b).max(c).max(d))
-    }
-
-    /// What an operation makes of both.
-    fn apply(self, operation: Operation, other: Range) -> Range {
-        match operation {
-            Operation::Add => Range::or_all(
-                self.low.saturating_add(other.low),
-                self.high.saturating_add(other.high),
-            ),
-            Operation::Subtract => Range::or_all(
-                self.low.saturating_sub(other.high),
-                self.high.saturating_sub(other.low),
-            ),
-            Operation::Multiply => self.times(other),
-            Operation::Minimum => {
-                Range::or_all(self.low.min(other.low), self.high.min(other.high))
-            }
-            Operation::Maximum => {
-                Range::or_all(self.low.max(other.low), self.high.max(other.high))
-            }
-            _ => Range { low: 0, high: 1 },
-        }
-    }
-
-    /// How many numbers there are.
-    fn count(self) -> u64 {
-        self.high
-            .saturating_sub(self.low)
-            .saturating_add(1)
-            .max(0)
-            .cast_unsigned()
-    }
-
-    /// The word of the least.
-    fn corner(self) -> u32 {
-        (self.low.rem_euclid(1 << 32)).cast_unsigned() as u32
-    }
-}
-
-/// The signed number of a word.
-fn signed(word: u32) -> i64 {
-    i64::from(word.cast_signed())
-}
 
 /// Columns and rows at which pixels are wanted, and how many reads there are at most.
 #[derive(Clone, Copy)]
@@ -142,13 +62,42 @@ impl Area {
 #[derive(Clone, Copy)]
 pub(crate) struct Wanted {
     last: Option<Area>,
-    stages: [Option<Area>; MOST_UPDATES],
+    stages: [Stage; MOST_UPDATES],
 }
+
+/// Where a Func is wanted behind an update, and where too when the update's own reads of it are counted.
+#[derive(Clone, Copy)]
+struct Stage {
+    behind: Option<Area>,
+    whole: Option<Area>,
+}
+
+/// Where nothing is wanted.
+const NOWHERE: Stage = Stage {
+    behind: None,
+    whole: None,
+};
 
 impl Wanted {
     /// Whether the Func is wanted anywhere.
     pub fn is_wanted(&self) -> bool {
         self.last.is_some()
+    }
+
+    /// Where it is wanted behind an update.
+    fn behind(&self, updates: usize) -> Option<Area> {
+        match self.stages.get(updates) {
+            None => None,
+            Some(stage) => stage.behind,
+        }
+    }
+
+    /// The same and where the update reads it.
+    fn whole(&self, updates: usize) -> Option<Area> {
+        match self.stages.get(updates) {
+            None => None,
+            Some(stage) => stage.whole,
+        }
     }
 }
 
@@ -167,75 +116,6 @@ pub(crate) struct Bounds {
     pub top: u32,
     pub width: u32,
     pub height: u32,
-}
-
-/// What the pixels of inputs and Funcs range over.
-#[derive(Clone, Copy)]
-struct Values<'a> {
-    inputs: &'a [Range],
-    funcs: &'a [Range],
-}
-
-impl Values<'_> {
-    fn range(self, source: Source) -> Range {
-        let known = match source {
-            Source::Input(place) => self.inputs.get(place),
-            Source::Func(place) => self.funcs.get(place),
-        };
-        known.copied().unwrap_or(ALL)
-    }
-}
-
-/// What the variables and the reads of an expression range over, and how often it is computed.
-#[derive(Clone, Copy)]
-struct Setting<'a> {
-    first_argument: Range,
-    second_argument: Range,
-    first_reduction: Range,
-    second_reduction: Range,
-    values: Values<'a>,
-    times: u64,
-}
-
-impl Setting<'_> {
-    fn range(&self, variable: Variable) -> Range {
-        match variable {
-            Variable::FirstArgument => self.first_argument,
-            Variable::SecondArgument => self.second_argument,
-            Variable::FirstReduction => self.first_reduction,
-            Variable::SecondReduction => self.second_reduction,
-        }
-    }
-}
-
-/// The setting of a pure definition.
-fn pure_setting<'a>(columns: Range, rows: Range, times: u64, values: Values<'a>) -> Setting<'a> {
-    Setting {
-        first_argument: columns,
-        second_argument: rows,
-        first_reduction: ZERO,
-        second_reduction: ZERO,
-        values,
-        times,
-    }
-}
-
-/// The setting of an update.
-fn update_setting<'a>(
-    update: &Update,
-    columns: Range,
-    rows: Range,
-    times: u64,
-    values: Values<'a>,
-) -> Setting<'a> {
-    Setting {
-        first_argument: columns,
-        second_argument: rows,
-        first_reduction: reduction_range(&update.first),
-        second_reduction: update.second.as_ref().map_or(ZERO, reduction_range),
-        values,
-        times,
-    }
 }
 
 /// Asks for pixels of a source in these columns and rows, so often, where it is a Func.
@@ -297,16 +177,6 @@ fn range_of(expr: &Expr, setting: &Setting, wanted: &mut Vec<Wanted>) -> Range {
     }
 }
 
-/// What a reduction variable ranges over.
-fn reduction_range(reduction: &Reduction) -> Range {
-    let low = signed(reduction.minimum);
-    Range::or_all(
-        low,
-        low.saturating_add(i64::from(reduction.extent))
-            .saturating_sub(1),
-    )
-}
-
 /// How many points an update's reduction box has.
 pub(crate) fn box_points(update: &Update) -> u64 {
     let second = update
@@ -340,14 +210,15 @@ fn area_of(wanted: &Vec<Wanted>, place: usize) -> Option<Area> {
 /// reads what stands after those before it.
 fn ask_func(func: &Func, place: usize, values: Values, wanted: &mut Vec<Wanted>) {
     let last = area_of(wanted, place);
-    let mut stages = [None; MOST_UPDATES];
+    let mut stages = [NOWHERE; MOST_UPDATES];
     for (updates, update) in func.updates.as_slice().iter().enumerate().rev() {
-        let now = area_of(wanted, place);
-        if let Some(stage) = stages.get_mut(updates) {
-            *stage = now;
-        }
-        if let Some(area) = now {
+        let behind = area_of(wanted, place);
+        if let Some(area) = behind {
             ask_update(update, area, values, wanted);
+        }
+        let whole = area_of(wanted, place);
+        if let Some(stage) = stages.get_mut(updates) {
+            *stage = Stage { behind, whole };
         }
     }
     if let Some(area) = area_of(wanted, place) {
@@ -360,32 +231,50 @@ fn ask_func(func: &Func, place: usize, values: Values, wanted: &mut Vec<Wanted>)
     }
 }
 
+/// No slices.
+pub(crate) const NO_SLICES: Slices = Slices {
+    left: 0,
+    top: 0,
+    count: 0,
+};
+
+/// No bounds.
+pub(crate) const NO_BOUNDS: Bounds = Bounds {
+    left: 0,
+    top: 0,
+    width: 1,
+    height: 0,
+};
+
+impl Area {
+    /// The area's bounds; none where it has more pixels than these, or more than are read.
+    fn bounds(self, most: u64) -> Bounds
+        ensures { 0 < result.width }
+    {
+        let (width, height) = (self.columns.count(), self.rows.count());
+        if width == 0 || width > most || height > most || most > MOST_BOX_POINTS {
+            return NO_BOUNDS;
+        }
+        if self.points() > most || self.points() > self.reads {
+            return NO_BOUNDS;
+        }
+        Bounds {
+            left: self.columns.corner(),
+            top: self.rows.corner(),
+            width: width as u32,
+            height: height as u32,
+        }
+    }
+}
+
 /// The bounds of a table of the wanted pixels; none are in it where there would be too many, or more
 /// than are read.
 pub(crate) fn bounds_of(wanted: Wanted) -> Bounds
     ensures { 0 < result.width }
 {
-    let none = Bounds {
-        left: 0,
-        top: 0,
-        width: 1,
-        height: 0,
-    };
-    let Some(area) = wanted.last else {
-        return none;
-    };
-    let (width, height) = (area.columns.count(), area.rows.count());
-    if width == 0 || width > MOST_POINTS || height > MOST_POINTS {
-        return none;
-    }
-    if area.points() > MOST_POINTS || area.points() > area.reads {
-        return none;
-    }
-    Bounds {
-        left: area.columns.corner(),
-        top: area.rows.corner(),
-        width: width as u32,
-        height: height as u32,
+    match wanted.last {
+        None => NO_BOUNDS,
+        Some(area) => area.bounds(MOST_POINTS),
     }
 }
 
@@ -400,22 +289,68 @@ fn is_each_pixel(func: &Func, updates: usize, update: &Update) -> bool {
 /// The slices on which an update is run beforehand, all that are wanted. There are none where runs as
 /// the need comes are fewer, and where it is made for each pixel: the table has each once.
 pub(crate) fn slices_of(wanted: Wanted, func: &Func, updates: usize, update: &Update) -> Slices {
-    let none = Slices {
-        left: 0,
-        top: 0,
-        count: 0,
-    };
-    let Some(Some(area)) = wanted.stages.get(updates).copied() else {
-        return none;
+    let Some(area) = wanted.behind(updates) else {
+        return NO_SLICES;
     };
     let count = area.slices(update);
     if is_each_pixel(func, updates, update) || count > area.reads || count > MOST_POINTS {
-        return none;
+        return NO_SLICES;
     }
     Slices {
         left: area.columns.corner(),
         top: area.rows.corner(),
         count: count as u32,
+    }
+}
+
+/// The box in which an update is run beforehand on all slices together, where those hold for one argument's values;
+/// none where there would be too many pixels, or more than are read.
+pub(crate) fn box_of(wanted: Wanted, func: &Func, updates: usize, update: &Update) -> Bounds {
+    let Some(area) = wanted.whole(updates) else {
+        return NO_BOUNDS;
+    };
+    let is_one = update.is_first_in_place() != update.is_second_in_place();
+    if !is_one || is_each_pixel(func, updates, update) || area.slices(update) > area.reads {
+        return NO_BOUNDS;
+    }
+    area.bounds(MOST_BOX_POINTS)
+}
+
+/// So many columns of a box make one part of it, if its columns are slices; else so many rows.
+const PART_COLUMNS: u32 = 4096;
+
+const PART_ROWS: u32 = 256;
+
+impl Bounds {
+    /// How many parts there are.
+    pub fn parts(self, along: Along) -> u32 {
+        let (length, part) = match along {
+            Along::Rows => (self.height, PART_ROWS),
+            _ => (self.width, PART_COLUMNS),
+        };
+        length.div_ceil(part)
+    }
+
+    /// The part with this number.
+    pub fn part(self, along: Along, number: u32) -> Bounds {
+        match along {
+            Along::Rows => {
+                let from = number.saturating_mul(PART_ROWS);
+                Bounds {
+                    top: self.top.wrapping_add(from),
+                    height: self.height.saturating_sub(from).min(PART_ROWS),
+                    ..self
+                }
+            }
+            _ => {
+                let from = number.saturating_mul(PART_COLUMNS);
+                Bounds {
+                    left: self.left.wrapping_add(from),
+                    width: self.width.saturating_sub(from).min(PART_COLUMNS),
+                    ..self
+                }
+            }
+        }
     }
 }
 
@@ -471,7 +406,7 @@ pub(crate) fn find(
     };
     let nowhere = Wanted {
         last: None,
-        stages: [None; MOST_UPDATES],
+        stages: [NOWHERE; MOST_UPDATES],
     };
     let mut wanted = vec![in alloc; nowhere; funcs.len()]?;
     let columns = Range::or_all(0, i64::from(output.width).saturating_sub(1));

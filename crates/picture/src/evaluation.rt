@@ -10,17 +10,16 @@ ghost use Rattle.picture.specs.inner.Evaluation.{plane_of, IsNumberedRow, AreNum
 ghost use Rattle.picture.specs.inner.Evaluation.{AreTablesOf, AreKnownOf, AreSlicesOf, IsMemo, IsSliceOf, IsTable};
 ghost use Rattle.picture.specs.inner.Evaluation.{IsAt};
 
-use crate::asking::{prepare_box, prepare_slices};
-use crate::boxes::{Bounds, Slices, Wanted, bounds_of, find, slices_of};
+use crate::asking::prepare_box;
+use crate::beforehand::know_wanted;
+use crate::boxes::{Bounds, Wanted, bounds_of, find};
 use crate::faults::EvalError;
 use crate::keeping::{Cost, costs_of};
 use crate::memos::Memo;
 use crate::pictures::Picture;
-use crate::plain::{func_at, is_forward};
 use crate::row_values::pixel_row;
-use crate::scenes::{Known, Scene, Slice, Table};
-use crate::update_runs::run_rows;
-use halide_pipeline::{Func, Input, Pipeline, Update, words};
+use crate::scenes::{Known, Scene, Table};
+use halide_pipeline::{Func, Input, Pipeline, words};
 use rayon::prelude::*;
 use std::alloc::{AllocError, Global};
 use std::thread::Threads;
@@ -92,7 +91,6 @@ pub fn judge(inputs: &[Input], pictures: &[Picture]) -> Option<EvalError>
 
 /// The pixels in the row with this number of a box of the Func at a place.
 fn numbered_row(
-    alloc: Global,
     scene: &Scene,
     place: usize,
     bounds: Bounds,
@@ -103,14 +101,13 @@ fn numbered_row(
         row.items) }
 {
     let y = words::add(bounds.top, (number % (1 << 32)) as u32);
-    let row = pixel_row(alloc, scene, place, bounds.left, y, bounds.width as usize)?;
+    let row = pixel_row(scene, place, bounds.left, y, bounds.width as usize)?;
     Ok(row)
 }
 
 /// The rows of the Func at a place in a box, from as many threads as there are processors.
 fn fill(
     rt: &(impl Threads + Sync),
-    alloc: Global,
     scene: &Scene,
     place: usize,
     bounds: Bounds,
@@ -127,9 +124,9 @@ fn fill(
                 requires { AreTables scene }
                 ensures { IfOk result (λ row. IsNumberedRow (plane_of scene.entry place) bounds.left bounds.top
                     bounds.width number row.items) }
-            { numbered_row(alloc, &scene, place, bounds, number) },
+            { numbered_row(&scene, place, bounds, number) },
         )
-        .collect(rt, alloc)?;
+        .collect(rt, scene.alloc)?;
     rows
 }
 
@@ -148,7 +145,6 @@ fn joined(alloc: Global, rows: &[Vec<u32>]) -> Result<Vec<u32>, AllocError>
 /// The table of the Func at a place in a box.
 fn tabulate(
     rt: &(impl Threads + Sync),
-    alloc: Global,
     scene: &Scene,
     place: usize,
     bounds: Bounds,
@@ -158,8 +154,8 @@ fn tabulate(
     ensures table { IfOk result (IsTable (plane_of scene.now place)) }
     ensures bounds { IfOk result (IsAt bounds.left bounds.top bounds.width bounds.height) }
 {
-    let rows = fill(rt, alloc, scene, place, bounds)?;
-    let pixels = joined(alloc, &rows)?;
+    let rows = fill(rt, scene, place, bounds)?;
+    let pixels = joined(scene.alloc, &rows)?;
     Ok(Table {
         left: bounds.left,
         top: bounds.top,
@@ -169,167 +165,9 @@ fn tabulate(
     })
 }
 
-/// What an update comes to on the slice with this number.
-fn numbered_slice(
-    alloc: Global,
-    scene: &Scene,
-    own: usize,
-    func: &Func,
-    updates: usize,
-    update: &Update,
-    wanted: Slices,
-    number: usize,
-) -> Result<Slice, AllocError>
-    requires tables { AreTables scene.now }
-    requires is { slice_get scene.now.funcs.now own ≡ Some func.now }
-    requires next { slice_get func.now.updates updates ≡ Some update.now }
-    requires forward { is_forward update.now ≡ true }
-    ensures { IfOk result (IsSliceOf scene.now.funcs.now scene.now.pictures.now own updates) }
-{
-    let step = (number % (1 << 32)) as u32;
-    let x = words::add(wanted.left, step);
-    let y = words::add(wanted.top, step);
-    let slice = run_rows(alloc, scene, own, func, updates, update, x, y)?;
-    Ok(slice)
-}
-
-/// What an update comes to on slices, each one further than the one before it, from as many threads
-/// as there are processors.
-fn run_slices(
-    rt: &(impl Threads + Sync),
-    alloc: Global,
-    scene: &Scene,
-    own: usize,
-    func: &Func,
-    updates: usize,
-    update: &Update,
-    wanted: Slices,
-) -> Result<Vec<Slice>, AllocError>
-    requires tables { AreTables scene.now }
-    requires is { slice_get scene.now.funcs.now own ≡ Some func.now }
-    requires next { slice_get func.now.updates updates ≡ Some update.now }
-    requires forward { is_forward update.now ≡ true }
-    ensures { IfOk result (λ slices. AreSlicesOf scene.now.funcs.now scene.now.pictures.now own updates slices.items) }
-{
-    let scene = *scene;
-    let slices: Result<Vec<Slice>, AllocError> = (0..wanted.count as usize)
-        .into_par_iter()
-        .map(
-            move |number: usize| -> Result<Slice, AllocError>
-                requires { AreTables scene × (slice_get scene.funcs.now own ≡ Some func.now)
-                    × (slice_get func.now.updates updates ≡ Some update.now) × (is_forward update.now ≡ true) }
-                ensures { IfOk result (IsSliceOf scene.entry.funcs.now scene.entry.pictures.now own updates) }
-            { numbered_slice(alloc, &scene, own, func, updates, update, wanted, number) },
-        )
-        .collect(rt, alloc)?;
-    slices
-}
-
-/// Adds what an update comes to on the slices that are wanted.
-fn know_update(
-    rt: &(impl Threads + Sync),
-    alloc: Global,
-    scene: &Scene,
-    costs: &[Cost],
-    own: usize,
-    func: &Func,
-    updates: usize,
-    update: &Update,
-    wanted: Slices,
-    known: &mut Vec<Known>,
-    memo: &mut Memo,
-) -> Result<(), AllocError>
-    requires tables { AreTablesOf scene.now.funcs.now scene.now.pictures.now scene.now.tables.now }
-    requires known { AreKnownOf scene.now.funcs.now scene.now.pictures.now known.old.items }
-    requires memo { IsMemo scene.now.funcs.now scene.now.pictures.now memo.old }
-    requires is { slice_get scene.now.funcs.now own ≡ Some func.now }
-    requires next { slice_get func.now.updates updates ≡ Some update.now }
-    requires forward { is_forward update.now ≡ true }
-    ensures known { OnOk result (AreKnownOf scene.now.funcs.now scene.now.pictures.now known.new.items) }
-    ensures memo { OnOk result (IsMemo scene.now.funcs.now scene.now.pictures.now memo.new) }
-{
-    let before = Scene {
-        known: known.as_slice(),
-        ..*scene
-    };
-    prepare_slices(alloc, &before, costs, own, func, wanted, memo)?;
-    let now = Scene {
-        known: known.as_slice(),
-        memo,
-        ..*scene
-    };
-    let slices = run_slices(rt, alloc, &now, own, func, updates, update, wanted)?;
-    known.push(Known {
-        own,
-        updates,
-        slices,
-    })?;
-    Ok(())
-}
-
-/// Adds what the updates of a Func come to on slices.
-fn know_all(
-    rt: &(impl Threads + Sync),
-    alloc: Global,
-    scene: &Scene,
-    costs: &[Cost],
-    own: usize,
-    func: &Func,
-    wanted: Wanted,
-    known: &mut Vec<Known>,
-    memo: &mut Memo,
-) -> Result<(), AllocError>
-    requires tables { AreTablesOf scene.now.funcs.now scene.now.pictures.now scene.now.tables.now }
-    requires known { AreKnownOf scene.now.funcs.now scene.now.pictures.now known.old.items }
-    requires memo { IsMemo scene.now.funcs.now scene.now.pictures.now memo.old }
-    requires is { slice_get scene.now.funcs.now own ≡ Some func.now }
-    ensures known { OnOk result (AreKnownOf scene.now.funcs.now scene.now.pictures.now known.new.items) }
-    ensures memo { OnOk result (IsMemo scene.now.funcs.now scene.now.pictures.now memo.new) }
-{
-    for (updates, update) in func.updates.as_slice().iter().enumerate() {
-        if is_forward(update) {
-            let slices = slices_of(wanted, func, updates, update);
-            know_update(
-                rt, alloc, scene, costs, own, func, updates, update, slices, known, memo,
-            )?;
-        }
-    }
-    Ok(())
-}
-
-/// Adds what the updates of the Func at a place come to on slices, if it is wanted.
-fn know_wanted(
-    rt: &(impl Threads + Sync),
-    alloc: Global,
-    scene: &Scene,
-    costs: &[Cost],
-    own: usize,
-    wanted: Wanted,
-    known: &mut Vec<Known>,
-    memo: &mut Memo,
-) -> Result<(), AllocError>
-    requires tables { AreTablesOf scene.now.funcs.now scene.now.pictures.now scene.now.tables.now }
-    requires known { AreKnownOf scene.now.funcs.now scene.now.pictures.now known.old.items }
-    requires memo { IsMemo scene.now.funcs.now scene.now.pictures.now memo.old }
-    ensures known { OnOk result (AreKnownOf scene.now.funcs.now scene.now.pictures.now known.new.items) }
-    ensures memo { OnOk result (IsMemo scene.now.funcs.now scene.now.pictures.now memo.new) }
-{
-    if !wanted.is_wanted() {
-        return Ok(());
-    }
-    match func_at(scene.funcs, own) {
-        None => Ok(()),
-        Some(func) => {
-            know_all(rt, alloc, scene, costs, own, func, wanted, known, memo)?;
-            Ok(())
-        }
-    }
-}
-
 /// The table of the next Func where its pixels are wanted; what its updates come to and what it reads is known before.
 fn tabulate_next(
     rt: &(impl Threads + Sync),
-    alloc: Global,
     scene: &Scene,
     costs: &[Cost],
     own: usize,
@@ -344,19 +182,19 @@ fn tabulate_next(
     ensures known { OnOk result (AreKnownOf scene.now.funcs.now scene.now.pictures.now known.new.items) }
     ensures memo { OnOk result (IsMemo scene.now.funcs.now scene.now.pictures.now memo.new) }
 {
-    know_wanted(rt, alloc, scene, costs, own, wanted, known, memo)?;
+    know_wanted(rt, scene, costs, own, wanted, known, memo)?;
     let bounds = bounds_of(wanted);
     let before = Scene {
         known: known.as_slice(),
         ..*scene
     };
-    prepare_box(alloc, &before, costs, own, bounds, memo)?;
+    prepare_box(&before, costs, own, bounds, memo)?;
     let now = Scene {
         known: known.as_slice(),
         memo,
         ..*scene
     };
-    let table = tabulate(rt, alloc, &now, own, bounds)?;
+    let table = tabulate(rt, &now, own, bounds)?;
     Ok(table)
 }
 
@@ -389,15 +227,14 @@ fn tabulate_all(
     for own in wanted {
         let place = tables.len();
         let scene = Scene {
+            alloc,
             funcs,
             pictures,
             tables: &tables,
             known: &[],
             memo: &nothing,
         };
-        let table = tabulate_next(
-            rt, alloc, &scene, &costs, place, *own, &mut known, &mut memo,
-        )?;
+        let table = tabulate_next(rt, &scene, &costs, place, *own, &mut known, &mut memo)?;
         tables.push(table)?;
     }
     Ok(Made {
@@ -427,6 +264,7 @@ pub fn evaluate(
     let wanted = find(alloc, funcs, pictures, output)?;
     let made = tabulate_all(rt, alloc, funcs, pictures, &wanted)?;
     let scene = Scene {
+        alloc,
         funcs,
         pictures,
         tables: &made.tables,
@@ -439,7 +277,7 @@ pub fn evaluate(
         width: output.width,
         height: output.height,
     };
-    let table = tabulate(rt, alloc, &scene, output.func, bounds)?;
+    let table = tabulate(rt, &scene, output.func, bounds)?;
     let picture = Picture::new(output.width, output.height, table.pixels).unwrap();
     Ok(picture)
 }

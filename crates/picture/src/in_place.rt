@@ -1,18 +1,56 @@
 //! Updates that hold for each pixel of a row, run along rows of pixels: at each point of the reduction box what stands
 //! there is computed for all pixels at once, from what stood there before.
 
-ghost use Rattle.std.specs.Prelude.{◌≡◌, ◌<◌, ◌^◌, IfOk, IfSome, Some, length, slice_get, true};
+ghost use Rattle.std.specs.Prelude.{◌≡◌, ◌+◌, ◌<◌, ◌^◌, IfOk, IfSome, Some, length, slice_get, true};
 ghost use Rattle.halide_pipeline.specs.Pixel as spec;
 ghost use Rattle.halide_pipeline.specs.declared.environments.Environment.{Environment as EnvironmentState};
-ghost use Rattle.picture.specs.inner.Evaluation.{inputs_of, earlier_of, AreTables};
+ghost use Rattle.picture.specs.inner.Evaluation.{inputs_of, earlier_of, stage_in, AreTables};
 ghost use Rattle.picture.specs.inner.PixelRows.{one_more, IsRowOf, StoresEverywhere};
 
-use crate::plain::{at_reduction, points, stage};
-use crate::row_values::{reads_tables, row_of};
+use crate::lines::{Along, Line, Own, shared_row};
+use crate::lookups::{has_boxes, known_box};
+use crate::plain::stage;
+use crate::points::{at_point, at_reduction, points};
+use crate::row_reads::table_window;
 use crate::scenes::{Scene, Table};
-use crate::update_rows::{Line, shared_row};
-use halide_pipeline::{Expr, Func, Update, Variable, words};
-use std::alloc::{AllocError, Global};
+use halide_pipeline::{Expr, Func, Source, Update, Variable, words};
+use std::alloc::AllocError;
+
+/// Whether there is a table of each Func but this one that an expression reads. Where there isn't, only what a point
+/// needs is to be computed: of a choice one side alone, and each pixel once.
+fn reads_tables(tables: &[Table], own: usize, expr: &Expr) -> bool {
+    match expr {
+        Expr::Number(_) => true,
+        Expr::Variable(_) => true,
+        Expr::Binary(_, a, b) => reads_tables(tables, own, a.get())
+            && reads_tables(tables, own, b.get()),
+        Expr::Divide(a, _) => reads_tables(tables, own, a.get()),
+        Expr::Remainder(a, _) => reads_tables(tables, own, a.get()),
+        Expr::Select(condition, a, b) => {
+            reads_tables(tables, own, condition.get())
+                && reads_tables(tables, own, a.get())
+                && reads_tables(tables, own, b.get())
+        }
+        Expr::Call1(source, x) => has_table(tables, own, *source)
+            && reads_tables(tables, own, x.get()),
+        Expr::Call2(source, x, y) => {
+            has_table(tables, own, *source)
+                && reads_tables(tables, own, x.get())
+                && reads_tables(tables, own, y.get())
+        }
+    }
+}
+
+/// Whether the pixels that are wanted of a source are known, or it is this Func.
+fn has_table(tables: &[Table], own: usize, source: Source) -> bool {
+    match source {
+        Source::Input(_) => true,
+        Source::Func(place) => match tables.get(place) {
+            None => place == own,
+            Some(table) => table.height > 0,
+        },
+    }
+}
 
 /// Pixels one beside the other, from this one on.
 #[derive(Clone, Copy)]
@@ -43,7 +81,7 @@ fn is_second_argument(variable: Variable) -> bool
 }
 
 /// Whether an expression is the first argument.
-fn is_first(expr: &Expr) -> bool
+pub(crate) fn is_first(expr: &Expr) -> bool
     ensures { result ≡ true → (reads : spec.Reads) (point : EnvironmentState) → spec.value reads point expr.now
         ≡ point.first_argument }
 {
@@ -54,7 +92,7 @@ fn is_first(expr: &Expr) -> bool
 }
 
 /// Whether an expression is the second argument.
-fn is_second(expr: &Expr) -> bool
+pub(crate) fn is_second(expr: &Expr) -> bool
     ensures { result ≡ true → (reads : spec.Reads) (point : EnvironmentState) → spec.value reads point expr.now
         ≡ point.second_argument }
 {
@@ -89,19 +127,22 @@ fn is_quick(tables: &[Table], own: usize, update: &Update, y: u32) -> bool
     reads_tables(tables, own, &update.right) && stores_everywhere(update, y)
 }
 
-/// Whether the last part of a Func's definition is computed for all pixels of a row at once. That is done once where
-/// there are updates: behind it a table has the pixels.
-pub(crate) fn is_func_quick(tables: &[Table], own: usize, func: &Func, y: u32) -> bool {
+/// Whether the last part of a Func's definition is computed for all pixels of a row at once, or is known of boxes. That
+/// is done once where there are updates: behind it a table has the pixels.
+pub(crate) fn is_func_quick(scene: &Scene, own: usize, func: &Func, y: u32) -> bool {
     match func.updates.as_slice().last() {
-        None => reads_tables(tables, own, &func.pure),
-        Some(update) => tables.len() <= own && is_quick(tables, own, update, y),
+        None => reads_tables(scene.tables, own, &func.pure),
+        Some(update) => {
+            scene.tables.len() <= own
+                && (is_quick(scene.tables, own, update, y)
+                    || has_boxes(scene.known, own, func.updates.len()))
+        }
     }
 }
 
 /// What stands at pixels behind one more point of an update's reduction box; none where it reads the own Func
 /// elsewhere.
 fn next_row(
-    alloc: Global,
     scene: &Scene,
     own: usize,
     update: &Update,
@@ -117,18 +158,21 @@ fn next_row(
         → IfOk result (λ found. IfSome found (λ pixels. IsRowOf (one_more scene.now own update.now number plane) stretch
         pixels.items)) }
 {
-    let start = at_reduction(update, number, stretch.left, stretch.y);
-    let line = Line::Pixels(start, before);
-    let Some(row) = shared_row(alloc, scene, own, line, stretch.width, &update.right)? else {
+    let line = Line {
+        start: at_reduction(update, number, stretch.left, stretch.y),
+        along: Along::Columns,
+        width: stretch.width,
+        own: Own::Pixels(before),
+    };
+    let Some(row) = shared_row(scene, own, line, &update.right)? else {
         return Ok(None);
     };
-    let pixels = row.into_values(alloc, stretch.width)?;
+    let pixels = row.into_values(scene.alloc, stretch.width)?;
     Ok(Some(pixels))
 }
 
 /// What stands at pixels behind an update, from what stood there before; none where it reads the own Func elsewhere.
 fn over_pixels(
-    alloc: Global,
     scene: &Scene,
     own: usize,
     update: &Update,
@@ -146,7 +190,7 @@ fn over_pixels(
 {
     let mut pixels = before;
     for number in 0..points(update) {
-        let Some(next) = next_row(alloc, scene, own, update, number, stretch, &pixels)? else {
+        let Some(next) = next_row(scene, own, update, number, stretch, &pixels)? else {
             return Ok(None);
         };
         pixels = next;
@@ -156,7 +200,6 @@ fn over_pixels(
 
 /// Pixels of a Func after so many whole updates, one by one.
 fn stages_one_by_one(
-    alloc: Global,
     scene: &Scene,
     own: usize,
     func: &Func,
@@ -170,37 +213,65 @@ fn stages_one_by_one(
         updates) stretch pixels.items) }
 {
     let Stretch { left, y, width } = stretch;
-    let mut pixels = vec![in alloc; 0; width]?;
+    let mut pixels = vec![in scene.alloc; 0; width]?;
     for at in 0..width {
         let x = words::add(left, at as u32);
-        pixels[at] = stage(alloc, scene, own, func, updates, x, y)?;
+        pixels[at] = stage(scene, own, func, updates, x, y)?;
     }
     Ok(pixels)
 }
 
-/// Pixels of a Func's pure definition, at once.
+/// Pixels of a Func's pure definition, at once; none where it reads the own Func.
 #[tactic(auto, unfolding(halide_pipeline::specs::Pixel::stage))]
 fn pure_pixels(
-    alloc: Global,
     scene: &Scene,
     own: usize,
     func: &Func,
     stretch: Stretch,
-) -> Result<Vec<u32>, AllocError>
+) -> Result<Option<Vec<u32>>, AllocError>
     requires tables { AreTables scene.now }
     requires narrow { stretch.width < 2 ^ 32 }
-    ensures { IfOk result (λ pixels. IsRowOf (spec.stage own func.now (inputs_of scene.now) (earlier_of scene.now own)
-        0) stretch pixels.items) }
+    ensures { IfOk result (λ found. IfSome found (λ pixels. IsRowOf (spec.stage own func.now (inputs_of scene.now)
+        (earlier_of scene.now own) 0) stretch pixels.items)) }
+{
+    let line = Line {
+        start: at_point(stretch.left, stretch.y),
+        along: Along::Columns,
+        width: stretch.width,
+        own: Own::Nothing,
+    };
+    let Some(row) = shared_row(scene, own, line, &func.pure)? else {
+        return Ok(None);
+    };
+    let pixels = row.into_values(scene.alloc, stretch.width)?;
+    Ok(Some(pixels))
+}
+
+/// Pixels of a Func behind an update, where that has run in a box with all of them.
+fn boxed_pixels(
+    scene: &Scene,
+    own: usize,
+    updates: usize,
+    stretch: Stretch,
+) -> Result<Option<Vec<u32>>, AllocError>
+    requires tables { AreTables scene.now }
+    requires narrow { stretch.width < 2 ^ 32 }
+    ensures { IfOk result (λ found. IfSome found (λ pixels. IsRowOf (stage_in scene.now.funcs.now
+        scene.now.pictures.now own (updates + 1)) stretch pixels.items)) }
 {
     let Stretch { left, y, width } = stretch;
-    let row = row_of(alloc, scene, own, left, y, width, &func.pure)?;
-    let pixels = row.into_values(alloc, width)?;
-    Ok(pixels)
+    let Some(own_box) = known_box(scene.known, own, updates, left, y) else {
+        return Ok(None);
+    };
+    let Some(pixels) = table_window(own_box, y).columns(left, width) else {
+        return Ok(None);
+    };
+    let pixels = Vec::from_slice(scene.alloc, pixels)?;
+    Ok(Some(pixels))
 }
 
 /// Pixels of a Func after so many whole updates, at once as far back as each update is run along rows.
 pub(crate) fn stage_pixels(
-    alloc: Global,
     scene: &Scene,
     own: usize,
     func: &Func,
@@ -213,19 +284,26 @@ pub(crate) fn stage_pixels(
     ensures { IfOk result (λ pixels. IsRowOf (spec.stage own func.now (inputs_of scene.now) (earlier_of scene.now own)
         updates) stretch pixels.items) }
 {
-    if updates == 0 && reads_tables(scene.tables, own, &func.pure) {
-        let pixels = pure_pixels(alloc, scene, own, func, stretch)?;
+    if updates == 0
+        && reads_tables(scene.tables, own, &func.pure)
+        && let Some(pixels) = pure_pixels(scene, own, func, stretch)?
+    {
+        return Ok(pixels);
+    }
+    if updates > 0
+        && let Some(pixels) = boxed_pixels(scene, own, updates - 1, stretch)?
+    {
         return Ok(pixels);
     }
     if updates > 0
         && let Some(update) = func.updates.get(updates - 1)
         && is_quick(scene.tables, own, update, stretch.y)
     {
-        let before = stage_pixels(alloc, scene, own, func, updates - 1, stretch)?;
-        if let Some(pixels) = over_pixels(alloc, scene, own, update, stretch, before)? {
+        let before = stage_pixels(scene, own, func, updates - 1, stretch)?;
+        if let Some(pixels) = over_pixels(scene, own, update, stretch, before)? {
             return Ok(pixels);
         }
     }
-    let pixels = stages_one_by_one(alloc, scene, own, func, updates, stretch)?;
+    let pixels = stages_one_by_one(scene, own, func, updates, stretch)?;
     Ok(pixels)
 }

@@ -1,7 +1,7 @@
 //! Which Funcs' pixels are kept one by one. Nothing is proved of it but that it ends: whatever it answers, pixels are
 //! right.
 
-use crate::boxes::{Wanted, bounds_of, box_points, slices_of};
+use crate::boxes::{Wanted, bounds_of, box_of, box_points, slices_of};
 use halide_pipeline::{Expr, Func, Source, Update};
 use std::alloc::{AllocError, Global};
 
@@ -106,7 +106,9 @@ fn update_cost(
     let point = cost_of(costs, &update.left_x)
         .plus(left_y)
         .plus(cost_of(costs, &update.right));
-    if slices_of(wanted, func, updates, update).count > 0 {
+    if slices_of(wanted, func, updates, update).count > 0
+        || box_of(wanted, func, updates, update).height > 0
+    {
         Cost { steps: 1, ..point }
     } else {
         point.times(box_points(update))

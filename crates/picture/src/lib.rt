@@ -15,19 +15,25 @@
 #![tactic(auto)]
 
 mod asking;
+mod beforehand;
 mod boxes;
 pub mod evaluation;
 pub mod faults;
 mod in_place;
 mod keeping;
+mod lines;
+mod lookups;
 mod memos;
 pub mod pictures;
 mod plain;
+mod points;
+mod ranges;
 pub mod readings;
 mod row_reads;
 mod row_values;
 mod scenes;
 pub mod spellings;
+mod together;
 mod update_rows;
 mod update_runs;
 mod writes;

@@ -9,12 +9,13 @@ ghost use Rattle.picture.specs.declared.scenes.State.TheVariants as states;
 ghost use Rattle.picture_rows.specs.Rows.{HasLength, IsRow, IsWindow, value_at};
 
 use crate::pictures::Picture;
-use crate::plain::{product, read};
+use crate::plain::read;
+use crate::points::product;
 use crate::scenes::{Scene, State, Table};
 use halide_pipeline::{Source, words};
 use picture_rows::windows::stretch;
 use picture_rows::{Row, Window};
-use std::alloc::{AllocError, Global};
+use std::alloc::AllocError;
 
 /// The row of an input's pixels; nothing of it where the input has none.
 fn input_window<'a>(pictures: &'a [Picture], place: usize, y: u32) -> Window<'a>
@@ -41,7 +42,7 @@ fn picture_window<'a>(picture: &'a Picture, y: u32) -> Window<'a>
 }
 
 /// A row of a table.
-fn table_window<'a>(table: &'a Table, y: u32) -> Window<'a>
+pub(crate) fn table_window<'a>(table: &'a Table, y: u32) -> Window<'a>
     ensures { (plane : spec.Plane) → IsTable plane table.now → IsWindow (λ x. plane x y) result }
 {
     let row = words::subtract(y, table.top);
@@ -90,7 +91,6 @@ fn window<'a>(scene: &Scene<'a>, own: usize, source: Source, y: u32) -> Window<'
 
 /// A pixel of a source in a row of which a window is known.
 fn read_column(
-    alloc: Global,
     scene: &Scene,
     own: usize,
     source: Source,
@@ -105,7 +105,7 @@ fn read_column(
     match window.get(x) {
         Some(pixel) => Ok(pixel),
         None => {
-            let pixel = read(alloc, scene, own, State::Earlier, source, x, y)?;
+            let pixel = read(scene, own, State::Earlier, source, x, y)?;
             Ok(pixel)
         }
     }
@@ -113,7 +113,6 @@ fn read_column(
 
 /// The pixels of a source in one row and in these columns.
 fn read_columns(
-    alloc: Global,
     scene: &Scene,
     own: usize,
     source: Source,
@@ -127,17 +126,16 @@ fn read_columns(
     ensures { IfOk result (IsRow width (λ at. reads_in scene.now own states.Earlier source (value_at x.now at) y)) }
 {
     let known = window(scene, own, source, y);
-    let mut values = vec![in alloc; 0; width]?;
+    let mut values = vec![in scene.alloc; 0; width]?;
     for at in 0..width {
         let column = x.value_at(at, width);
-        values[at] = read_column(alloc, scene, own, source, known, column, y)?;
+        values[at] = read_column(scene, own, source, known, column, y)?;
     }
     Ok(Row::Each(values))
 }
 
 /// The pixels of a source in one row and in these columns, in their place where all are known.
 fn read_each(
-    alloc: Global,
     scene: &Scene,
     own: usize,
     source: Source,
@@ -156,13 +154,12 @@ fn read_each(
         known.fetch(&mut columns);
         return Ok(Row::Each(columns));
     }
-    let row = read_columns(alloc, scene, own, source, &Row::Each(columns), y, width)?;
+    let row = read_columns(scene, own, source, &Row::Each(columns), y, width)?;
     Ok(row)
 }
 
 /// The pixels of a source in one row and in columns one beside the other.
 fn read_stretch(
-    alloc: Global,
     scene: &Scene,
     own: usize,
     source: Source,
@@ -175,16 +172,15 @@ fn read_stretch(
     ensures { IfOk result (IsRow width (λ at. reads_in scene.now own states.Earlier source (word.add first at) y)) }
 {
     if let Some(values) = window(scene, own, source, y).columns(first, width) {
-        let values = Vec::from_slice(alloc, values)?;
+        let values = Vec::from_slice(scene.alloc, values)?;
         return Ok(Row::Each(values));
     }
-    let row = read_columns(alloc, scene, own, source, &Row::Step(first), y, width)?;
+    let row = read_columns(scene, own, source, &Row::Step(first), y, width)?;
     Ok(row)
 }
 
 /// The pixels of a source at points.
 fn read_points(
-    alloc: Global,
     scene: &Scene,
     own: usize,
     source: Source,
@@ -199,18 +195,17 @@ fn read_points(
     ensures { IfOk result (IsRow width (λ at. reads_in scene.now own states.Earlier source (value_at x.now at)
         (value_at y.now at))) }
 {
-    let mut values = vec![in alloc; 0; width]?;
+    let mut values = vec![in scene.alloc; 0; width]?;
     for at in 0..width {
         let column = x.value_at(at, width);
         let row = y.value_at(at, width);
-        values[at] = read(alloc, scene, own, State::Earlier, source, column, row)?;
+        values[at] = read(scene, own, State::Earlier, source, column, row)?;
     }
     Ok(Row::Each(values))
 }
 
 /// What reads of a source answer at points one beside the other, in the pure definition of the Func at a place.
 pub(crate) fn read_row(
-    alloc: Global,
     scene: &Scene,
     own: usize,
     source: Source,
@@ -227,19 +222,19 @@ pub(crate) fn read_row(
 {
     match (x, y) {
         (Row::Same(x), Row::Same(y)) => {
-            let pixel = read(alloc, scene, own, State::Earlier, source, x, y)?;
+            let pixel = read(scene, own, State::Earlier, source, x, y)?;
             Ok(Row::Same(pixel))
         }
         (Row::Step(first), Row::Same(y)) => {
-            let row = read_stretch(alloc, scene, own, source, first, y, width)?;
+            let row = read_stretch(scene, own, source, first, y, width)?;
             Ok(row)
         }
         (Row::Each(columns), Row::Same(y)) => {
-            let row = read_each(alloc, scene, own, source, columns, y, width)?;
+            let row = read_each(scene, own, source, columns, y, width)?;
             Ok(row)
         }
         (x, y) => {
-            let row = read_points(alloc, scene, own, source, &x, &y, width)?;
+            let row = read_points(scene, own, source, &x, &y, width)?;
             Ok(row)
         }
     }

@@ -1,11 +1,16 @@
 //! What pixels are computed from.
 
-ghost use Rattle.std.specs.Prelude.{◌≡◌};
+ghost use Rattle.std.specs.Prelude.{◌≡◌, ◌==◌, ◌&&◌, cond};
+ghost use Rattle.halide_pipeline.specs.Pixel.{Plane};
+ghost use Rattle.picture.specs.Writes.{IsNone};
+ghost use Rattle.picture.specs.inner.Evaluation.{IsAt, IsBegun, IsTable};
 
 use crate::memos::Memo;
 use crate::pictures::Picture;
+use crate::points::product;
 use crate::writes::Writes;
-use halide_pipeline::Func;
+use halide_pipeline::{Func, Update, words};
+use std::alloc::Global;
 
 /// The pixels of a Func in a box, by rows.
 #[derive(Drop)]
@@ -17,6 +22,33 @@ pub(crate) struct Table {
     pub width: u32,
     pub height: u32,
     pub pixels: Vec<u32>,
+}
+
+impl Table {
+    /// How many tables of this size lie between this one and that with a point, where they stand side by side, or one
+    /// below the other.
+    pub fn boxes_to(&self, x: u32, y: u32) -> u32 {
+        let columns = x.wrapping_sub(self.left) / self.width.max(1);
+        let rows = y.wrapping_sub(self.top) / self.height.max(1);
+        columns.saturating_add(rows)
+    }
+
+    /// Puts a pixel in its place, if there is one.
+    pub fn put(&mut self, x: u32, y: u32, pixel: u32)
+        ensures table { (plane : Plane) → IsTable plane self.old
+            → IsTable (λ i j. cond (i == x && j == y) pixel (plane i j)) self.new }
+        ensures bounds { IsAt self.old.left self.old.top self.old.width self.old.height self.new }
+    {
+        let column = words::subtract(x, self.left);
+        let row = words::subtract(y, self.top);
+        if column >= self.width || row >= self.height {
+            return;
+        }
+        let at = (product(row, self.width) + u64::from(column)) as usize;
+        if at < self.pixels.len() {
+            self.pixels[at] = pixel;
+        }
+    }
 }
 
 /// What an update has written so far where the arguments that stand in place have these values.
@@ -31,6 +63,20 @@ pub(crate) struct Slice {
 
 impl Slice {
     ghost use Rattle.picture.specs.Slices.{is_on};
+
+    /// The slice of a point, with no writes.
+    pub fn blank(alloc: Global, update: &Update, x: u32, y: u32) -> Slice
+        ensures place { IsBegun update.now x y result }
+        ensures none { IsNone result.writes }
+    {
+        Slice {
+            x,
+            y,
+            is_first_in_place: update.is_first_in_place(),
+            is_second_in_place: update.is_second_in_place(),
+            writes: Writes::new(alloc),
+        }
+    }
 
     /// Whether a point is on the slice.
     pub fn is_on(&self, x: u32, y: u32) -> bool
@@ -51,23 +97,34 @@ impl Slice {
     }
 }
 
-/// The slices on which an update of the Func at a place has run, all points of it. Each next one is
-/// one further in the argument in place.
+/// Where an update of the Func at a place has run, all points of it: on slices, each next one of which is one further
+/// in the argument in place, and in boxes, where it has left these pixels.
 #[derive(Drop)]
 pub(crate) struct Known {
     pub own: usize,
     pub updates: usize,
     pub slices: Vec<Slice>,
+    pub boxes: Vec<Table>,
 }
 
 /// The Funcs and inputs, the tables of the first Funcs, what updates have come to, and pixels that no table has.
 #[derive(Clone, Copy)]
 pub(crate) struct Scene<'a> {
+    pub alloc: Global,
     pub funcs: &'a [Func],
     pub pictures: &'a [Picture],
     pub tables: &'a [Table],
     pub known: &'a [Known],
     pub memo: &'a Memo,
+}
+
+/// An update of the Func at a place, behind so many others.
+#[derive(Clone, Copy)]
+pub(crate) struct Pass<'a> {
+    pub own: usize,
+    pub func: &'a Func,
+    pub updates: usize,
+    pub update: &'a Update,
 }
 
 /// What reads of its own Func find in a definition.

@@ -3,15 +3,18 @@
 ghost use Rattle.std.specs.Prelude.{◌≡◌, ◌+◌, ◌*◌, ◌<◌, ◌^◌, ℕ, Some, IfOk, IfSome, OnOk, slice_get, true};
 ghost use Rattle.halide_pipeline.specs.Pixel as spec;
 ghost use Rattle.picture.specs.Slices.{is_forward};
-ghost use Rattle.picture.specs.inner.Evaluation.{after_of, inputs_of, earlier_of, AreTables, IsForward, IsSliceOf};
-ghost use Rattle.picture.specs.inner.UpdateRows.{row_point, right_long, right_says, IsOfUpdate, IsStore, IsUpdateRow};
+ghost use Rattle.picture.specs.inner.Evaluation.{after_of, inputs_of, earlier_of, AreTables, IsForward, IsPass};
+ghost use Rattle.picture.specs.inner.Evaluation.{IsSliceOf};
+ghost use Rattle.picture.specs.inner.Lines.{row_point};
+ghost use Rattle.picture.specs.inner.UpdateRows.{right_long, right_says, IsOfUpdate, IsStore, IsUpdateRow};
 ghost use Rattle.picture.specs.inner.UpdateRows.{Puts};
 
-use crate::plain::{at_reduction, begun, forward_pixel, index_value, product, value};
-use crate::scenes::{Scene, Slice, State};
+use crate::plain::{begun, forward_pixel, index_value, value};
+use crate::points::{at_reduction, product};
+use crate::scenes::{Pass, Scene, Slice, State};
 use crate::update_rows::{Right, UpdateRow, update_row};
-use halide_pipeline::{Environment, Func, Update};
-use std::alloc::{AllocError, Global};
+use halide_pipeline::{Environment, Update};
+use std::alloc::AllocError;
 
 /// What a point of an update stores, and where.
 #[derive(Clone, Copy)]
@@ -23,34 +26,33 @@ pub(crate) struct Store {
 
 /// The right side at a point of a row.
 fn right_value(
-    alloc: Global,
     scene: &Scene,
-    own: usize,
-    updates: usize,
+    pass: Pass,
     number: u64,
     slice: &Slice,
     right: &Right,
     at: usize,
-    width: usize,
 ) -> Result<u32, AllocError>
     requires tables { AreTables scene.now }
-    requires slice { IsForward scene.now own updates number slice.now }
-    requires long { right_long width right.now }
-    requires within { at < width }
-    requires narrow { width < 2 ^ 32 }
-    ensures { IfOk result (λ v. v ≡ right_says right.now (after_of own (slice_get scene.now.funcs.now own)
-        (inputs_of scene.now) (earlier_of scene.now own) updates number) at) }
+    requires slice { IsForward scene.now pass.own pass.updates number slice.now }
+    requires long { right_long pass.update.now.first.extent right.now }
+    requires within { at < pass.update.now.first.extent }
+    ensures { IfOk result (λ v. v ≡ right_says right.now (after_of pass.entry.own
+        (slice_get scene.now.funcs.now pass.entry.own) (inputs_of scene.now) (earlier_of scene.now pass.entry.own)
+        pass.entry.updates number) at) }
 {
+    let Pass { own, updates, .. } = pass;
+    let width = pass.update.first.extent as usize;
     match right {
         Right::Alone(row) => Ok(row.value_at(at, width)),
         Right::First(operation, indices, row) => {
             let (x, y) = indices.point(at, width);
-            let own = forward_pixel(alloc, scene, own, updates, number, slice, x, y)?;
+            let own = forward_pixel(scene, own, updates, number, slice, x, y)?;
             Ok(operation.apply(own, row.value_at(at, width)))
         }
         Right::Second(operation, row, indices) => {
             let (x, y) = indices.point(at, width);
-            let own = forward_pixel(alloc, scene, own, updates, number, slice, x, y)?;
+            let own = forward_pixel(scene, own, updates, number, slice, x, y)?;
             Ok(operation.apply(row.value_at(at, width), own))
         }
     }
@@ -58,11 +60,8 @@ fn right_value(
 
 /// What a point of a row stores.
 fn row_store(
-    alloc: Global,
     scene: &Scene,
-    own: usize,
-    updates: usize,
-    update: &Update,
+    pass: Pass,
     start: &Environment,
     row: &UpdateRow,
     at: usize,
@@ -70,16 +69,14 @@ fn row_store(
     slice: &Slice,
 ) -> Result<Store, AllocError>
     requires tables { AreTables scene.now }
-    requires slice { IsForward scene.now own updates number slice.now }
-    requires row { IsUpdateRow scene.now own update.now.first.extent start.now update.now row.now }
-    requires within { at < update.now.first.extent }
-    requires point { spec.at_reduction update.now number slice.now.x slice.now.y ≡ row_point start.now at }
-    ensures { IfOk result (IsStore scene.now own updates number update.now slice.now) }
+    requires slice { IsForward scene.now pass.own pass.updates number slice.now }
+    requires row { IsUpdateRow scene.now pass.own pass.update.now.first.extent start.now pass.update.now row.now }
+    requires within { at < pass.update.now.first.extent }
+    requires point { spec.at_reduction pass.update.now number slice.now.x slice.now.y ≡ row_point start.now at }
+    ensures { IfOk result (IsStore scene.now pass.entry.own pass.entry.updates number pass.entry.update.now slice.now) }
 {
-    let width = update.first.extent as usize;
-    let value = right_value(
-        alloc, scene, own, updates, number, slice, &row.right, at, width,
-    )?;
+    let width = pass.update.first.extent as usize;
+    let value = right_value(scene, pass, number, slice, &row.right, at)?;
     Ok(Store {
         x: row.left_x.value_at(at, width),
         y: row.left_y.value_at(at, width),
@@ -88,27 +85,23 @@ fn row_store(
 }
 
 /// What a point stores.
-fn point_store(
-    alloc: Global,
-    scene: &Scene,
-    own: usize,
-    func: &Func,
-    updates: usize,
-    update: &Update,
-    number: u64,
-    slice: &Slice,
-) -> Result<Store, AllocError>
+fn point_store(scene: &Scene, pass: Pass, number: u64, slice: &Slice) -> Result<Store, AllocError>
     requires tables { AreTables scene.now }
-    requires is { slice_get scene.now.funcs.now own ≡ Some func.now }
-    requires next { slice_get func.now.updates updates ≡ Some update.now }
-    requires slice { IsForward scene.now own updates number slice.now }
-    ensures { IfOk result (IsStore scene.now own updates number update.now slice.now) }
+    requires pass { IsPass scene.now pass }
+    requires slice { IsForward scene.now pass.own pass.updates number slice.now }
+    ensures { IfOk result (IsStore scene.now pass.entry.own pass.entry.updates number pass.entry.update.now slice.now) }
 {
+    let Pass {
+        own,
+        updates,
+        update,
+        ..
+    } = pass;
     let point = at_reduction(update, number, slice.x, slice.y);
-    let x = value(alloc, scene, own, State::Earlier, &point, &update.left_x)?;
-    let y = index_value(alloc, scene, own, &point, &update.left_y)?;
+    let x = value(scene, own, State::Earlier, &point, &update.left_x)?;
+    let y = index_value(scene, own, &point, &update.left_y)?;
     let state = State::Forward(updates, number, slice);
-    let value = value(alloc, scene, own, state, &point, &update.right)?;
+    let value = value(scene, own, state, &point, &update.right)?;
     Ok(Store { x, y, value })
 }
 
@@ -122,12 +115,8 @@ fn put(slice: &mut Slice, store: Store) -> Result<(), AllocError>
 
 /// What a point stores, from its row where that is known.
 fn store_at(
-    alloc: Global,
     scene: &Scene,
-    own: usize,
-    func: &Func,
-    updates: usize,
-    update: &Update,
+    pass: Pass,
     start: &Environment,
     row: &Option<UpdateRow>,
     at: usize,
@@ -135,23 +124,21 @@ fn store_at(
     slice: &Slice,
 ) -> Result<Store, AllocError>
     requires tables { AreTables scene.now }
-    requires is { slice_get scene.now.funcs.now own ≡ Some func.now }
-    requires next { slice_get func.now.updates updates ≡ Some update.now }
-    requires slice { IsForward scene.now own updates number slice.now }
-    requires row { IfSome row.now (IsUpdateRow scene.now own update.now.first.extent start.now update.now) }
-    requires within { at < update.now.first.extent }
-    requires point { spec.at_reduction update.now number slice.now.x slice.now.y ≡ row_point start.now at }
-    ensures { IfOk result (IsStore scene.now own updates number update.now slice.now) }
+    requires pass { IsPass scene.now pass }
+    requires slice { IsForward scene.now pass.own pass.updates number slice.now }
+    requires row { IfSome row.now (IsUpdateRow scene.now pass.own pass.update.now.first.extent start.now
+        pass.update.now) }
+    requires within { at < pass.update.now.first.extent }
+    requires point { spec.at_reduction pass.update.now number slice.now.x slice.now.y ≡ row_point start.now at }
+    ensures { IfOk result (IsStore scene.now pass.entry.own pass.entry.updates number pass.entry.update.now slice.now) }
 {
     match row {
         Some(row) => {
-            let store = row_store(
-                alloc, scene, own, updates, update, start, row, at, number, slice,
-            )?;
+            let store = row_store(scene, pass, start, row, at, number, slice)?;
             Ok(store)
         }
         None => {
-            let store = point_store(alloc, scene, own, func, updates, update, number, slice)?;
+            let store = point_store(scene, pass, number, slice)?;
             Ok(store)
         }
     }
@@ -159,77 +146,51 @@ fn store_at(
 
 /// Runs the points of a row on a slice, one after the other.
 fn apply_row(
-    alloc: Global,
     scene: &Scene,
-    own: usize,
-    func: &Func,
-    updates: usize,
-    update: &Update,
+    pass: Pass,
     first: u64,
     start: &Environment,
     values: &Option<UpdateRow>,
     slice: &mut Slice,
 ) -> Result<(), AllocError>
     requires tables { AreTables scene.now }
-    requires is { slice_get scene.now.funcs.now own ≡ Some func.now }
-    requires next { slice_get func.now.updates updates ≡ Some update.now }
-    requires forward { is_forward update.now ≡ true }
+    requires pass { IsPass scene.now pass }
+    requires forward { is_forward pass.update.now ≡ true }
     requires few { first + 2 ^ 32 < 2 ^ 64 }
-    requires values { IfSome values.now (IsUpdateRow scene.now own update.now.first.extent start.now update.now) }
-    requires points { (at : ℕ) → at < update.now.first.extent
-        → spec.at_reduction update.now (first + at) slice.old.x slice.old.y ≡ row_point start.now at }
-    requires of { IsOfUpdate update.now slice.old }
-    requires run { IsForward scene.now own updates first slice.old }
-    ensures of { OnOk result (IsOfUpdate update.now slice.new) }
-    ensures run { OnOk result (IsForward scene.now own updates (first + update.now.first.extent) slice.new) }
+    requires values { IfSome values.now (IsUpdateRow scene.now pass.own pass.update.now.first.extent start.now
+        pass.update.now) }
+    requires points { (at : ℕ) → at < pass.update.now.first.extent
+        → spec.at_reduction pass.update.now (first + at) slice.old.x slice.old.y ≡ row_point start.now at }
+    requires of { IsOfUpdate pass.update.now slice.old }
+    requires run { IsForward scene.now pass.own pass.updates first slice.old }
+    ensures of { OnOk result (IsOfUpdate pass.entry.update.now slice.new) }
+    ensures run { OnOk result (IsForward scene.now pass.entry.own pass.entry.updates
+        (first + pass.entry.update.now.first.extent) slice.new) }
 {
-    for at in 0..update.first.extent {
+    for at in 0..pass.update.first.extent {
         let number = first + u64::from(at);
-        let store = store_at(
-            alloc,
-            scene,
-            own,
-            func,
-            updates,
-            update,
-            start,
-            values,
-            at as usize,
-            number,
-            slice,
-        )?;
+        let store = store_at(scene, pass, start, values, at as usize, number, slice)?;
         put(slice, store)?;
     }
     Ok(())
 }
 
 /// Runs a row of the reduction box on a slice.
-fn run_row(
-    alloc: Global,
-    scene: &Scene,
-    own: usize,
-    func: &Func,
-    updates: usize,
-    update: &Update,
-    row: u32,
-    slice: &mut Slice,
-) -> Result<(), AllocError>
+fn run_row(scene: &Scene, pass: Pass, row: u32, slice: &mut Slice) -> Result<(), AllocError>
     requires tables { AreTables scene.now }
-    requires is { slice_get scene.now.funcs.now own ≡ Some func.now }
-    requires next { slice_get func.now.updates updates ≡ Some update.now }
-    requires forward { is_forward update.now ≡ true }
-    requires of { IsOfUpdate update.now slice.old }
-    requires run { IsForward scene.now own updates (row * update.now.first.extent) slice.old }
-    ensures of { OnOk result (IsOfUpdate update.now slice.new) }
-    ensures run { OnOk result (IsForward scene.now own updates ((row + 1) * update.now.first.extent) slice.new) }
+    requires pass { IsPass scene.now pass }
+    requires forward { is_forward pass.update.now ≡ true }
+    requires of { IsOfUpdate pass.update.now slice.old }
+    requires run { IsForward scene.now pass.own pass.updates (row * pass.update.now.first.extent) slice.old }
+    ensures of { OnOk result (IsOfUpdate pass.entry.update.now slice.new) }
+    ensures run { OnOk result (IsForward scene.now pass.entry.own pass.entry.updates
+        ((row + 1) * pass.entry.update.now.first.extent) slice.new) }
 {
-    let first = product(row, update.first.extent);
-    let start = at_reduction(update, first, slice.x, slice.y);
-    let width = update.first.extent as usize;
-    let values = update_row(alloc, scene, own, &start, width, update)?;
-    apply_row(
-        alloc, scene, own, func, updates, update, first, &start, &values, slice,
-    )?;
+    let first = product(row, pass.update.first.extent);
+    let start = at_reduction(pass.update, first, slice.x, slice.y);
+    let width = pass.update.first.extent as usize;
+    let values = update_row(scene, pass.own, &start, width, pass.update)?;
+    apply_row(scene, pass, first, &start, &values, slice)?;
     Ok(())
 }
 
@@ -244,25 +205,15 @@ fn rows(update: &Update) -> u32
 }
 
 /// The slice of a point, when an update has run on it.
-pub(crate) fn run_rows(
-    alloc: Global,
-    scene: &Scene,
-    own: usize,
-    func: &Func,
-    updates: usize,
-    update: &Update,
-    x: u32,
-    y: u32,
-) -> Result<Slice, AllocError>
+pub(crate) fn run_rows(scene: &Scene, pass: Pass, x: u32, y: u32) -> Result<Slice, AllocError>
     requires tables { AreTables scene.now }
-    requires is { slice_get scene.now.funcs.now own ≡ Some func.now }
-    requires next { slice_get func.now.updates updates ≡ Some update.now }
-    requires forward { is_forward update.now ≡ true }
-    ensures { IfOk result (IsSliceOf scene.now.funcs.now scene.now.pictures.now own updates) }
+    requires pass { IsPass scene.now pass }
+    requires forward { is_forward pass.update.now ≡ true }
+    ensures { IfOk result (IsSliceOf scene.now.funcs.now scene.now.pictures.now pass.entry.own pass.entry.updates) }
 {
-    let mut slice = begun(alloc, scene, own, func, updates, update, x, y)?;
-    for row in 0..rows(update) {
-        run_row(alloc, scene, own, func, updates, update, row, &mut slice)?;
+    let mut slice = begun(scene, pass, x, y)?;
+    for row in 0..rows(pass.update) {
+        run_row(scene, pass, row, &mut slice)?;
     }
     Ok(slice)
 }

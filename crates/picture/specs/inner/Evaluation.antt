@@ -11,6 +11,7 @@ use Rattle.halide_pipeline.specs.Words as word
 use Rattle.picture.specs.declared.scenes.Scene.{Scene}
 use Rattle.picture.specs.declared.memos.Memo.{Memo}
 use Rattle.picture.specs.declared.scenes.Known.{Known}
+use Rattle.picture.specs.declared.scenes.Pass.{Pass}
 use Rattle.picture.specs.declared.scenes.Slice.{Slice}
 use Rattle.picture.specs.declared.scenes.Table.{Table}
 use Rattle.picture.specs.declared.scenes.State.{State}
@@ -62,6 +63,11 @@ abbrev pub reads_in : Scene → ℕ → State → Reads
 reads_in scene own state = reads_of (inputs_of scene) (funcs_in scene own state)
 
 -- ---- updates, run forward
+
+-- a pass is over a Func of the scene, by an update of that
+pub record IsPass (scene : Scene) (pass : Pass) : Type 0 where
+  pub is : slice_get scene.funcs.now pass.own ≡ Some pass.func.now
+  pub next : slice_get pass.func.now.updates pass.updates ≡ Some pass.update.now
 
 -- after so many whole updates
 abbrev pub stage_some : ℕ → Option Func → Planes → Planes → ℕ → Plane
@@ -142,11 +148,17 @@ pub record IsSliceOf (funcs : List Func) (pictures : List PictureContents) (own 
 pub record AreSlicesOf (funcs : List Func) (pictures : List PictureContents) (own updates : ℕ) (slices : List Slice) : Type 0 where
   pub each : (at : ℕ) (slice : Slice) → slice_get slices at ≡ Some slice → IsSliceOf funcs pictures own updates slice
 
-abbrev pub IsKnown : List Func → List PictureContents → Known → Type 0
-IsKnown funcs pictures known = AreSlicesOf funcs pictures known.own known.updates known.slices.items
+-- boxes of this plane
+pub record AreBoxes (plane : Plane) (boxes : List Table) : Type 0 where
+  pub each : (at : ℕ) (box : Table) → slice_get boxes at ≡ Some box → IsTable plane box
+
+-- what is known of this update of this Func
+pub record IsKnown (funcs : List Func) (pictures : List PictureContents) (own updates : ℕ) (known : Known) : Type 0 where
+  pub slices : AreSlicesOf funcs pictures own updates known.slices.items
+  pub boxes : AreBoxes (stage_in funcs pictures own (updates + 1)) known.boxes.items
 
 pub record AreKnownOf (funcs : List Func) (pictures : List PictureContents) (known : List Known) : Type 0 where
-  pub each : (at : ℕ) (k : Known) → slice_get known at ≡ Some k → IsKnown funcs pictures k
+  pub each : (at : ℕ) (k : Known) → slice_get known at ≡ Some k → IsKnown funcs pictures k.own k.updates k
 
 -- each pixel that is kept is the Func's
 pub record IsMemo (funcs : List Func) (pictures : List PictureContents) (memo : Memo) : Type 0 where

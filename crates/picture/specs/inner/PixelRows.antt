@@ -6,7 +6,7 @@ use Rattle.halide_pipeline.specs.declared.definitions.Update.{Update}
 use Rattle.halide_pipeline.specs.Pixel.{Plane, Reads, at_reduction, is_hit, value}
 use Rattle.picture.specs.declared.in_place.Stretch.{Stretch}
 use Rattle.picture.specs.declared.scenes.Scene.{Scene}
-use Rattle.picture.specs.inner.UpdateRows.{reads_with}
+use Rattle.picture.specs.inner.Lines.{reads_with}
 use Rattle.picture_rows.specs.Rows.{AreValues}
 
 -- the pixels of a plane

@@ -1,73 +1,23 @@
 -- Updates, run row by row. Nothing here is to be believed: the contract of `evaluate` doesn't speak of it.
 -- This project's own.
-use Rattle.std.specs.Prelude.{◌≡◌, ℕ, ◌<◌, Bool, false, ◌==◌, length}
-use Rattle.halide_pipeline.specs.declared.expressions.Source.{Source}
-use Rattle.halide_pipeline.specs.declared.expressions.Source.TheVariants as sources
+use Rattle.std.specs.Prelude.{◌≡◌, ℕ, ◌<◌}
 use Rattle.halide_pipeline.specs.declared.definitions.Update.{Update}
 use Rattle.halide_pipeline.specs.declared.environments.Environment.{Environment}
 use Rattle.halide_pipeline.specs.Definitions.{is_first_in_place, is_second_in_place}
 use Rattle.halide_pipeline.specs.Words as word
-use Rattle.halide_pipeline.specs.Pixel.{Plane, Reads, reads_of, with_plane, value, index_value, at_reduction}
+use Rattle.halide_pipeline.specs.Pixel.{Plane, value, index_value, at_reduction}
 use Rattle.picture.specs.declared.scenes.Scene.{Scene}
 use Rattle.picture.specs.declared.scenes.Slice.{Slice}
 use Rattle.picture.specs.declared.scenes.State.TheVariants as states
 use Rattle.picture.specs.declared.update_rows.Indices.{Indices}
-use Rattle.picture.specs.declared.update_rows.Line.{Line}
-use Rattle.picture.specs.declared.update_rows.Line.TheVariants as lines
 use Rattle.picture.specs.declared.update_rows.Right.{Right}
 use Rattle.picture.specs.declared.update_rows.Right.TheVariants as rights
 use Rattle.picture.specs.declared.update_rows.UpdateRow.{UpdateRow}
 use Rattle.picture.specs.declared.update_runs.Store.{Store}
 use Rattle.picture.specs.Writes.{Sets}
-use Rattle.picture.specs.inner.Evaluation.{inputs_of, earlier_of, reads_in}
-use Rattle.picture_rows.specs.declared.rows.Row.{Row}
-use Rattle.picture_rows.specs.Rows.{AreValues, HasLength, value_at}
-
--- a point of a row of the reduction box, which begins at this one
-abbrev pub row_point : Environment → ℕ → Environment
-row_point start at = record {
-  first_argument = start.first_argument;
-  second_argument = start.second_argument;
-  first_reduction = word.add start.first_reduction at;
-  second_reduction = start.second_reduction;
-}
-
--- a point beside this one
-abbrev pub pixel_point : Environment → ℕ → Environment
-pixel_point start at = record {
-  first_argument = word.add start.first_argument at;
-  second_argument = start.second_argument;
-  first_reduction = start.first_reduction;
-  second_reduction = start.second_reduction;
-}
-
--- a point of a line
-abbrev pub line_point : Line → ℕ → Environment
-line_point (lines.Reduction start) at = row_point start at
-line_point (lines.Pixels start before) at = pixel_point start at
-
--- a line is so long, where it has pixels
-abbrev pub IsLine : ℕ → Line → Type 0
-IsLine width (lines.Reduction start) = Unit {0}
-IsLine width (lines.Pixels start before) = length before.now ≡ width
-
--- the own Func answers as the line's pixels say
-abbrev pub Fits : ℕ → Line → Plane → Type 0
-Fits width (lines.Reduction start) plane = Unit {0}
-Fits width (lines.Pixels start before) plane = AreValues width (λ at. plane (word.add start.first_argument at) start.second_argument) before.now
-
--- reads, where the own Func answers by this plane
-abbrev pub reads_with : Scene → ℕ → Plane → Reads
-reads_with scene own plane = reads_of (inputs_of scene) (with_plane own plane (earlier_of scene own))
-
-abbrev pub is_own : ℕ → Source → Bool
-is_own own (sources.Input place) = false
-is_own own (sources.Func place) = place == own
-
--- what a row has at its places, whatever the own Func answers elsewhere than the line says
-pub record IsShared (width : ℕ) (line : Line) (says : Plane → ℕ → ℕ) (row : Row) : Type 0 where
-  pub len : HasLength width row
-  pub each : (plane : Plane) → Fits width line plane → (at : ℕ) → at < width → value_at row at ≡ says plane at
+use Rattle.picture.specs.inner.Evaluation.{reads_in}
+use Rattle.picture.specs.inner.Lines.{reads_with, reduction_line, row_point, IsShared}
+use Rattle.picture_rows.specs.Rows.{HasLength, value_at}
 
 -- reads of the own Func at these points
 pub record AreIndices (width : ℕ) (says : Plane → ℕ → ℕ) (indices : Indices) : Type 0 where
@@ -92,8 +42,8 @@ pub record IsRight (width : ℕ) (says : Plane → ℕ → ℕ) (right : Right) 
 
 -- the sides of an update along a row of the reduction box, whatever the own Func answers
 pub record IsUpdateRow (scene : Scene) (own width : ℕ) (start : Environment) (update : Update) (row : UpdateRow) : Type 0 where
-  pub left_x : IsShared width (lines.Reduction start) (λ plane at. value (reads_with scene own plane) (row_point start at) update.left_x) row.left_x
-  pub left_y : IsShared width (lines.Reduction start) (λ plane at. index_value (reads_with scene own plane) (row_point start at) update.left_y) row.left_y
+  pub left_x : IsShared (reduction_line width start) (λ plane at. value (reads_with scene own plane) (row_point start at) update.left_x) row.left_x
+  pub left_y : IsShared (reduction_line width start) (λ plane at. index_value (reads_with scene own plane) (row_point start at) update.left_y) row.left_y
   pub right : IsRight width (λ plane at. value (reads_with scene own plane) (row_point start at) update.right) row.right
 
 -- what a point of an update stores

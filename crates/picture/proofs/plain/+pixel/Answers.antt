@@ -146,9 +146,9 @@ stage-stage-requires t c =
 pub stage-after-requires : goal.stage-after-requires
 stage-after-requires t c =
     let same : c.args.updates - 1 + 1 ≡ c.args.updates = omega arith in
-    let less = less_number c.args.scene.now c.args.own c.args.updates c.points-number.result (2 ^ 64) 1 0 (omega (arith, c.points-number.ensures.few)) (omega arith) in
-    let less' = subst (λ updates. measure c.args.scene.now c.args.own updates c.points-number.result 1 < measure c.args.scene.now c.args.own c.args.updates (2 ^ 64) 0) (sym same) less in
-    (rw c.decreases at less', (c.requires.tables, (c.requires.is, sym c.in-Some.ensures.value)))
+    let less = less_number c.args.scene.now c.args.own c.args.updates c.points.result (2 ^ 64) 1 0 (omega (arith, c.points.ensures.few)) (omega arith) in
+    let less' = subst (λ updates. measure c.args.scene.now c.args.own updates c.points.result 1 < measure c.args.scene.now c.args.own c.args.updates (2 ^ 64) 0) (sym same) less in
+    (rw c.decreases at less', (c.requires.tables, record { is = c.requires.is; next = sym c.in-Some-get.ensures.value }))
 
 -- ---- after_of
 
@@ -160,40 +160,40 @@ after_of-stage-requires t c =
 pub after_of-after-requires : goal.after_of-after-requires
 after_of-after-requires t c =
     let less = less_size c.args.scene.now c.args.own (c.args.updates + 1) c.args.number 1 2 (omega arith) in
-    (rw c.decreases at less, (c.requires.tables, (sym c.in-Some.ensures, sym c.in-Some-get.ensures.value)))
+    (rw c.decreases at less, (c.requires.tables, record { is = sym c.in-Some.ensures; next = sym c.in-Some-get.ensures.value }))
 
 -- ---- after
 
 pub after-stage-requires : goal.after-stage-requires
 after-stage-requires t c =
-    let less = less_updates c.args.scene.now c.args.own c.args.updates (c.args.updates + 1) (2 ^ 64) c.args.number 0 1 (omega arith) (omega arith) (omega arith) in
-    (rw c.decreases at less, (c.requires.tables, c.requires.is))
+    let less = less_updates c.args.scene.now c.args.pass.own c.args.pass.updates (c.args.pass.updates + 1) (2 ^ 64) c.args.number 0 1 (omega arith) (omega arith) (omega arith) in
+    (rw c.decreases at less, (c.requires.tables, c.requires.pass.is))
 
 pub after-is_hit-requires : goal.after-is_hit-requires
 after-is_hit-requires t c =
-    let size = in_updates c.args.scene.now.funcs.now c.args.own c.args.updates c.args.func.now c.args.update.now c.requires.is c.requires.next in
-    let less = less_updates c.args.scene.now c.args.own 0 (c.args.updates + 1) 0 c.args.number (all_nodes c.args.scene.now.funcs.now + 7) 1 (omega arith) (omega arith) (omega arith) in
+    let size = in_updates c.args.scene.now.funcs.now c.args.pass.own c.args.pass.updates c.args.pass.func.now c.args.pass.update.now c.requires.pass.is c.requires.pass.next in
+    let less = less_updates c.args.scene.now c.args.pass.own 0 (c.args.pass.updates + 1) 0 c.args.number (all_nodes c.args.scene.now.funcs.now + 7) 1 (omega arith) (omega arith) (omega arith) in
     (rw c.decreases at less, (c.requires.tables, size))
 
 pub after-value-requires : goal.after-value-requires
 after-value-requires t c =
-    let size = in_updates c.args.scene.now.funcs.now c.args.own c.args.updates c.args.func.now c.args.update.now c.requires.is c.requires.next in
-    let less = less_number c.args.scene.now c.args.own (c.args.updates + 1) (c.args.number - 1) c.args.number (nodes c.args.update.now.right + 6) 1 (omega arith) (omega (arith, size)) in
+    let size = in_updates c.args.scene.now.funcs.now c.args.pass.own c.args.pass.updates c.args.pass.func.now c.args.pass.update.now c.requires.pass.is c.requires.pass.next in
+    let less = less_number c.args.scene.now c.args.pass.own (c.args.pass.updates + 1) (c.args.number - 1) c.args.number (nodes c.args.pass.update.now.right + 6) 1 (omega arith) (omega (arith, size)) in
     (rw c.decreases at less, (c.requires.tables, (tt, omega (arith, size))))
 
 pub after-returns-then-branch : goal.after-returns-then-branch
 after-returns-then-branch t c =
-    let reads = reads-after c.args.scene.now c.args.own c.args.func.now c.args.update.now c.args.updates (c.args.number - 1) c.requires.is c.requires.next in
-    let hit = ap (λ point. is_hit (reads_of (inputs_of c.args.scene.now) (earlier_of c.args.scene.now c.args.own)) c.args.update.now point) (sym c.at_reduction-point.ensures) ∙ sym c.in_ok-is_hit.ensures ∙ c.if-branch.true in
+    let reads = reads-after c.args.scene.now c.args.pass.own c.args.pass.func.now c.args.pass.update.now c.args.pass.updates (c.args.number - 1) c.requires.pass.is c.requires.pass.next in
+    let hit = ap (λ point. is_hit (reads_of (inputs_of c.args.scene.now) (earlier_of c.args.scene.now c.args.pass.own)) c.args.pass.update.now point) (sym c.at_reduction-point.ensures) ∙ sym c.in_ok-is_hit.ensures ∙ c.if-branch.true in
     c.in_ok-pixel-2.ensures
-    ∙ ap (λ answers. value answers c.at_reduction-point.result c.args.update.now.right) reads
-    ∙ ap (λ point. value (reads_of (inputs_of c.args.scene.now) (with_plane c.args.own (after c.args.own c.args.update.now (inputs_of c.args.scene.now) (earlier_of c.args.scene.now c.args.own) (stage c.args.own c.args.func.now (inputs_of c.args.scene.now) (earlier_of c.args.scene.now c.args.own) c.args.updates) (c.args.number - 1)) (earlier_of c.args.scene.now c.args.own))) point c.args.update.now.right) c.at_reduction-point.ensures
-    ∙ sym (after-hit c.args.own c.args.update.now (inputs_of c.args.scene.now) (earlier_of c.args.scene.now c.args.own) (stage c.args.own c.args.func.now (inputs_of c.args.scene.now) (earlier_of c.args.scene.now c.args.own) c.args.updates) c.args.number c.args.x c.args.y (omega arith) hit)
+    ∙ ap (λ answers. value answers c.at_reduction-point.result c.args.pass.update.now.right) reads
+    ∙ ap (λ point. value (reads_of (inputs_of c.args.scene.now) (with_plane c.args.pass.own (after c.args.pass.own c.args.pass.update.now (inputs_of c.args.scene.now) (earlier_of c.args.scene.now c.args.pass.own) (stage c.args.pass.own c.args.pass.func.now (inputs_of c.args.scene.now) (earlier_of c.args.scene.now c.args.pass.own) c.args.pass.updates) (c.args.number - 1)) (earlier_of c.args.scene.now c.args.pass.own))) point c.args.pass.update.now.right) c.at_reduction-point.ensures
+    ∙ sym (after-hit c.args.pass.own c.args.pass.update.now (inputs_of c.args.scene.now) (earlier_of c.args.scene.now c.args.pass.own) (stage c.args.pass.own c.args.pass.func.now (inputs_of c.args.scene.now) (earlier_of c.args.scene.now c.args.pass.own) c.args.pass.updates) c.args.number c.args.x c.args.y (omega arith) hit)
 
 pub after-after-requires : goal.after-after-requires
 after-after-requires t c =
-    let less = less_number c.args.scene.now c.args.own (c.args.updates + 1) (c.args.number - 1) c.args.number 1 1 (omega arith) (omega arith) in
-    (rw c.decreases at less, (c.requires.tables, (c.requires.is, c.requires.next)))
+    let less = less_number c.args.scene.now c.args.pass.own (c.args.pass.updates + 1) (c.args.number - 1) c.args.number 1 1 (omega arith) (omega arith) in
+    (rw c.decreases at less, (c.requires.tables, c.requires.pass))
 
 -- ---- is_hit
 
@@ -243,31 +243,32 @@ stage_of-stage-requires t c =
 
 pub run_forward-returns-clause-run : goal.run_forward-returns-clause-run
 run_forward-returns-clause-run t c =
-    let all : c.loop-number.number ≡ points c.args.update.now = omega (arith, c.points-number-end.ensures.value) in
-    slice_from_run c.args.scene.now c.args.own c.args.func.now c.args.update.now c.args.updates c.loop-number.slice c.requires.is c.requires.next
-    (subst (λ number. IsForward c.args.scene.now c.args.own c.args.updates number c.loop-number.slice) all c.loop-number.invariant.run)
+    let all : c.loop-number.number ≡ points c.args.pass.update.now = omega (arith, c.points-number-end.ensures.value) in
+    slice_from_run c.args.scene.now c.args.pass.own c.args.pass.func.now c.args.pass.update.now c.args.pass.updates c.loop-number.slice c.requires.pass.is c.requires.pass.next
+    (subst (λ number. IsForward c.args.scene.now c.args.pass.own c.args.pass.updates number c.loop-number.slice) all c.loop-number.invariant.run)
 
-pub stage-run_forward-requires : goal.stage-run_forward-requires
-stage-run_forward-requires t c =
+pub stage-over_forward-requires : goal.stage-over_forward-requires
+stage-over_forward-requires t c =
     let same : c.args.updates - 1 + 1 ≡ c.args.updates = omega arith in
-    let less = less_number c.args.scene.now c.args.own c.args.updates (2 ^ 64 - 1) (2 ^ 64) 0 0 (omega arith) (omega arith) in
-    let less' = subst (λ updates. measure c.args.scene.now c.args.own updates (2 ^ 64 - 1) 0 < measure c.args.scene.now c.args.own c.args.updates (2 ^ 64) 0) (sym same) less in
-    (rw c.decreases at less', (c.requires.tables, (c.requires.is, (sym c.in-Some.ensures.value, sym c.if-not-is_forward.ensures))))
+    let less = less_number c.args.scene.now c.args.own c.args.updates (2 ^ 64 - 1) (2 ^ 64) 1 0 (omega arith) (omega arith) in
+    let less' = subst (λ updates. measure c.args.scene.now c.args.own updates (2 ^ 64 - 1) 1 < measure c.args.scene.now c.args.own c.args.updates (2 ^ 64) 0) (sym same) less in
+    (rw c.decreases at less', (c.requires.tables, (record { is = c.requires.is; next = sym c.in-Some-get.ensures.value }, sym c.if-is_forward.ensures)))
 
-pub stage-over_slice-requires : goal.stage-over_slice-requires
-stage-over_slice-requires t c =
-    let known = rw c.in-Some-known_slice.is at (c.known_slice.ensures c.args.scene.now.funcs.now c.args.scene.now.pictures.now c.requires.tables.known) in
-    let same : c.args.updates - 1 + 1 ≡ c.args.updates = omega arith in
-    let less = less_number c.args.scene.now c.args.own c.args.updates (2 ^ 64 - 1) (2 ^ 64) 0 0 (omega arith) (omega arith) in
-    let less' = subst (λ updates. measure c.args.scene.now c.args.own updates (2 ^ 64 - 1) 0 < measure c.args.scene.now c.args.own c.args.updates (2 ^ 64) 0) (sym same) less in
-    (rw c.decreases at less', (c.requires.tables, (c.requires.is, (known.0, known.1))))
+pub over_forward-run_forward-requires : goal.over_forward-run_forward-requires
+over_forward-run_forward-requires t c =
+    let less = less_size c.args.scene.now c.args.pass.own (c.args.pass.updates + 1) (2 ^ 64 - 1) 0 1 (omega arith) in
+    (rw c.decreases at less, (c.requires.tables, (c.requires.pass, c.requires.forward)))
 
-pub stage-over_slice-requires-in-Some : goal.stage-over_slice-requires-in-Some
-stage-over_slice-requires-in-Some t c =
-    let same : c.args.updates - 1 + 1 ≡ c.args.updates = omega arith in
-    let less = less_number c.args.scene.now c.args.own c.args.updates (2 ^ 64 - 1) (2 ^ 64) 0 0 (omega arith) (omega arith) in
-    let less' = subst (λ updates. measure c.args.scene.now c.args.own updates (2 ^ 64 - 1) 0 < measure c.args.scene.now c.args.own c.args.updates (2 ^ 64) 0) (sym same) less in
-    (rw c.decreases at less', (c.requires.tables, (c.requires.is, (c.in_ok-slice-in-Some.ensures.run, c.in_ok-slice-in-Some.ensures.on))))
+pub over_forward-over_slice-requires : goal.over_forward-over_slice-requires
+over_forward-over_slice-requires t c =
+    let known = rw c.in-Some.is at (c.known_slice.ensures c.args.scene.now.funcs.now c.args.scene.now.pictures.now c.requires.tables.known) in
+    let less = less_size c.args.scene.now c.args.pass.own (c.args.pass.updates + 1) (2 ^ 64 - 1) 0 1 (omega arith) in
+    (rw c.decreases at less, (c.requires.tables, (c.requires.pass.is, (known.0, known.1))))
+
+pub over_forward-over_slice-requires-2 : goal.over_forward-over_slice-requires-2
+over_forward-over_slice-requires-2 t c =
+    let less = less_size c.args.scene.now c.args.pass.own (c.args.pass.updates + 1) (2 ^ 64 - 1) 0 1 (omega arith) in
+    (rw c.decreases at less, (c.requires.tables, (c.requires.pass.is, (c.in_ok-slice.ensures.run, c.in_ok-slice.ensures.on))))
 
 pub over_slice-stage-requires : goal.over_slice-stage-requires
 over_slice-stage-requires t c =
@@ -291,37 +292,37 @@ over_slice-returns-in_ok-pixel-in-None t c =
 
 pub run_forward-begun-requires : goal.run_forward-begun-requires
 run_forward-begun-requires t c =
-    let less = less_number c.args.scene.now c.args.own (c.args.updates + 1) (2 ^ 64 - 2) (2 ^ 64 - 1) 0 0 (omega arith) (omega arith) in
-    (rw c.decreases at less, (c.requires.tables, c.requires.is))
+    let less = less_number c.args.scene.now c.args.pass.own (c.args.pass.updates + 1) (2 ^ 64 - 2) (2 ^ 64 - 1) 0 0 (omega arith) (omega arith) in
+    (rw c.decreases at less, (c.requires.tables, c.requires.pass))
 
 pub begun-returns-then-not-slice-clause-run : goal.begun-returns-then-not-slice-clause-run
-begun-returns-then-not-slice-clause-run t c = forward_none c.args.scene.now c.args.own c.args.updates c.blank-slice.result c.blank-slice.ensures.none
+begun-returns-then-not-slice-clause-run t c = forward_none c.args.scene.now c.args.pass.own c.args.pass.updates c.blank-slice.result c.blank-slice.ensures.none
 
 pub begun-returns-clause-run : goal.begun-returns-clause-run
 begun-returns-clause-run t c =
-    forward_seeded c.args.scene.now c.args.own c.args.updates c.args.func.now c.blank-slice.result
+    forward_seeded c.args.scene.now c.args.pass.own c.args.pass.updates c.args.pass.func.now c.blank-slice.result
     (record { x = c.blank-slice.result.x; y = c.blank-slice.result.y; is_first_in_place = c.blank-slice.result.is_first_in_place; is_second_in_place = c.blank-slice.result.is_second_in_place; writes = c.set.new.self })
-    c.args.x c.args.y c.in_ok-pixel.pixel c.requires.is c.blank-slice.ensures.none c.in_ok-set.ensures c.in_ok-pixel.ensures
+    c.args.x c.args.y c.in_ok-pixel.pixel c.requires.pass.is c.blank-slice.ensures.none c.in_ok-set.ensures c.in_ok-pixel.ensures
 
 pub begun-stage-requires : goal.begun-stage-requires
 begun-stage-requires t c =
-    let less = less_updates c.args.scene.now c.args.own c.args.updates (c.args.updates + 1) (2 ^ 64) (2 ^ 64 - 2) 0 0 (omega arith) (omega arith) (omega arith) in
-    (rw c.decreases at less, (c.requires.tables, c.requires.is))
+    let less = less_updates c.args.scene.now c.args.pass.own c.args.pass.updates (c.args.pass.updates + 1) (2 ^ 64) (2 ^ 64 - 2) 0 0 (omega arith) (omega arith) (omega arith) in
+    (rw c.decreases at less, (c.requires.tables, c.requires.pass.is))
 
 pub run_forward-loop-number-preserved : goal.run_forward-loop-number-preserved
 run_forward-loop-number-preserved t c =
     let slice = c.loop-number.slice in
-    let update = c.args.update.now in
+    let update = c.args.pass.update.now in
     let scene = c.args.scene.now in
     let point : c.at_reduction-point.result ≡ at_reduction update c.loop-number.number slice.x slice.y =
     c.at_reduction-point.ensures ∙ ap (λ x. at_reduction update c.loop-number.number x c.args.y) (sym c.loop-number.invariant.x) ∙ ap (λ y. at_reduction update c.loop-number.number slice.x y) (sym c.loop-number.invariant.y) in
     record {
-      run = forward_more scene c.args.own c.args.func.now update c.args.updates c.loop-number.number slice
+      run = forward_more scene c.args.pass.own c.args.pass.func.now update c.args.pass.updates c.loop-number.number slice
           (record { x = slice.x; y = slice.y; is_first_in_place = slice.is_first_in_place; is_second_in_place = slice.is_second_in_place; writes = c.set.new.self })
-          c.in_ok-left_x.left_x c.in_ok-left_y.left_y c.in_ok-right.right c.requires.is c.requires.next c.requires.forward c.loop-number.invariant.first c.loop-number.invariant.second
-          (c.in_ok-left_x.ensures ∙ ap (λ at. value (reads_in scene c.args.own states.Earlier) at update.left_x) point)
-          (c.in_ok-left_y.ensures ∙ ap (λ at. index_value (reads_in scene c.args.own states.Earlier) at update.left_y) point)
-          (c.in_ok-right.ensures ∙ ap (λ at. value (reads_in scene c.args.own (states.After c.args.updates c.loop-number.number)) at update.right) point)
+          c.in_ok-left_x.left_x c.in_ok-left_y.left_y c.in_ok-right.right c.requires.pass.is c.requires.pass.next c.requires.forward c.loop-number.invariant.first c.loop-number.invariant.second
+          (c.in_ok-left_x.ensures ∙ ap (λ at. value (reads_in scene c.args.pass.own states.Earlier) at update.left_x) point)
+          (c.in_ok-left_y.ensures ∙ ap (λ at. index_value (reads_in scene c.args.pass.own states.Earlier) at update.left_y) point)
+          (c.in_ok-right.ensures ∙ ap (λ at. value (reads_in scene c.args.pass.own (states.After c.args.pass.updates c.loop-number.number)) at update.right) point)
           c.in_ok-set.ensures refl refl refl refl c.loop-number.invariant.run;
       x = c.loop-number.invariant.x;
       y = c.loop-number.invariant.y;
@@ -331,20 +332,20 @@ run_forward-loop-number-preserved t c =
 
 pub run_forward-value-requires : goal.run_forward-value-requires
 run_forward-value-requires t c =
-    let size = in_updates c.args.scene.now.funcs.now c.args.own c.args.updates c.args.func.now c.args.update.now c.requires.is c.requires.next in
-    let less = less_updates c.args.scene.now c.args.own 0 (c.args.updates + 1) 0 (2 ^ 64 - 1) (nodes c.args.update.now.left_x + 6) 0 (omega arith) (omega arith) (omega (arith, size)) in
+    let size = in_updates c.args.scene.now.funcs.now c.args.pass.own c.args.pass.updates c.args.pass.func.now c.args.pass.update.now c.requires.pass.is c.requires.pass.next in
+    let less = less_updates c.args.scene.now c.args.pass.own 0 (c.args.pass.updates + 1) 0 (2 ^ 64 - 1) (nodes c.args.pass.update.now.left_x + 6) 0 (omega arith) (omega arith) (omega (arith, size)) in
     (rw c.decreases at less, (c.requires.tables, (tt, omega (arith, size))))
 
 pub run_forward-index_value-requires : goal.run_forward-index_value-requires
 run_forward-index_value-requires t c =
-    let size = in_updates c.args.scene.now.funcs.now c.args.own c.args.updates c.args.func.now c.args.update.now c.requires.is c.requires.next in
-    let less = less_updates c.args.scene.now c.args.own 0 (c.args.updates + 1) 0 (2 ^ 64 - 1) (all_nodes c.args.scene.now.funcs.now + 7) 0 (omega arith) (omega arith) (omega (arith, size)) in
+    let size = in_updates c.args.scene.now.funcs.now c.args.pass.own c.args.pass.updates c.args.pass.func.now c.args.pass.update.now c.requires.pass.is c.requires.pass.next in
+    let less = less_updates c.args.scene.now c.args.pass.own 0 (c.args.pass.updates + 1) 0 (2 ^ 64 - 1) (all_nodes c.args.scene.now.funcs.now + 7) 0 (omega arith) (omega arith) (omega (arith, size)) in
     (rw c.decreases at less, (c.requires.tables, omega (arith, size)))
 
 pub run_forward-value-requires-in-loop-number : goal.run_forward-value-requires-in-loop-number
 run_forward-value-requires-in-loop-number t c =
-    let size = in_updates c.args.scene.now.funcs.now c.args.own c.args.updates c.args.func.now c.args.update.now c.requires.is c.requires.next in
-    let less = less_number c.args.scene.now c.args.own (c.args.updates + 1) c.loop-number.number (2 ^ 64 - 1) (nodes c.args.update.now.right + 6) 0 (omega (arith, c.points-number-end.ensures.few)) (omega (arith, size)) in
+    let size = in_updates c.args.scene.now.funcs.now c.args.pass.own c.args.pass.updates c.args.pass.func.now c.args.pass.update.now c.requires.pass.is c.requires.pass.next in
+    let less = less_number c.args.scene.now c.args.pass.own (c.args.pass.updates + 1) c.loop-number.number (2 ^ 64 - 1) (nodes c.args.pass.update.now.right + 6) 0 (omega (arith, c.points-number-end.ensures.few)) (omega (arith, size)) in
     (rw c.decreases at less, (c.requires.tables, (c.loop-number.invariant.run, omega (arith, size))))
 
 pub index_value-value-requires : goal.index_value-value-requires

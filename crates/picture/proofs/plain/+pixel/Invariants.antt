@@ -25,7 +25,7 @@ abbrev pub decreases-after_of : goal.decreases-after_of
 decreases-after_of l = measure l.scene.now l.own (l.updates + 1) l.number 2
 
 abbrev pub decreases-after : goal.decreases-after
-decreases-after l = measure l.scene.now l.own (l.updates + 1) l.number 1
+decreases-after l = measure l.scene.now l.pass.own (l.pass.updates + 1) l.number 1
 
 abbrev pub decreases-is_hit : goal.decreases-is_hit
 decreases-is_hit l = measure l.scene.now l.own 0 0 (all_nodes l.scene.now.funcs.now + 7)
@@ -37,22 +37,25 @@ abbrev pub decreases-stage_of : goal.decreases-stage_of
 decreases-stage_of l = measure l.scene.now l.own l.updates (2 ^ 64) 1
 
 abbrev pub decreases-run_forward : goal.decreases-run_forward
-decreases-run_forward l = measure l.scene.now l.own (l.updates + 1) (2 ^ 64 - 1) 0
+decreases-run_forward l = measure l.scene.now l.pass.own (l.pass.updates + 1) (2 ^ 64 - 1) 0
 
 abbrev pub decreases-begun : goal.decreases-begun
-decreases-begun l = measure l.scene.now l.own (l.updates + 1) (2 ^ 64 - 2) 0
+decreases-begun l = measure l.scene.now l.pass.own (l.pass.updates + 1) (2 ^ 64 - 2) 0
 
 abbrev pub decreases-index_value : goal.decreases-index_value
 decreases-index_value l = measure l.scene.now l.own 0 0 (all_nodes l.scene.now.funcs.now + 7)
 
 abbrev pub invariant-run_forward-loop-number : goal.invariant-run_forward-loop-number
 invariant-run_forward-loop-number l = record {
-  run : IsForward l.scene l.own l.updates l.number l.slice;
+  run : IsForward l.scene l.pass.own l.pass.updates l.number l.slice;
   x : l.slice.x ≡ l.x;
   y : l.slice.y ≡ l.y;
-  first : l.slice.is_first_in_place ≡ is_first_in_place l.update;
-  second : l.slice.is_second_in_place ≡ is_second_in_place l.update;
+  first : l.slice.is_first_in_place ≡ is_first_in_place l.pass.update.now;
+  second : l.slice.is_second_in_place ≡ is_second_in_place l.pass.update.now;
 }
 
 abbrev pub decreases-over_slice : goal.decreases-over_slice
 decreases-over_slice l = measure l.scene.now l.own (l.updates + 1) (2 ^ 64 - 1) 0
+
+abbrev pub decreases-over_forward : goal.decreases-over_forward
+decreases-over_forward l = measure l.scene.now l.pass.own (l.pass.updates + 1) (2 ^ 64 - 1) 1

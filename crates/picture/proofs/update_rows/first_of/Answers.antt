@@ -1,5 +1,5 @@
 use Rattle.halide_pipeline.specs.Pixel.{value}
-use Rattle.picture.specs.inner.UpdateRows.{reads_with, row_point}
+use Rattle.picture.specs.inner.Lines.{reads_with, row_point}
 use Rattle.picture.proofs.AlongUpdates.{first-right}
 use Rattle.picture.proofs.update_rows.first_of.Goals as goal
 

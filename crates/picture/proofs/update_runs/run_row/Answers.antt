@@ -2,13 +2,13 @@ use Rattle.std.proofs.Common.{◌≡◌, ◌∙◌, ℕ, ◌+◌, ◌*◌, sym, 
 use Rattle.halide_pipeline.specs.declared.environments.Environment.{Environment}
 use Rattle.halide_pipeline.specs.Pixel.{at_reduction}
 use Rattle.picture.specs.inner.Evaluation.{IsForward}
-use Rattle.picture.specs.inner.UpdateRows.{row_point}
+use Rattle.picture.specs.inner.Lines.{row_point}
 use Rattle.picture.proofs.AlongUpdates.{reduction-row}
 use Rattle.picture.proofs.update_runs.run_row.Goals as goal
 
 pub apply_row-requires-clause-points : goal.apply_row-requires-clause-points
 apply_row-requires-clause-points c at less =
-    let update = c.args.update.now in
+    let update = c.args.pass.update.now in
     let x = c.args.slice.now.x in
     let y = c.args.slice.now.y in
     let begins : c.product-first.result ≡ c.args.row * update.first.extent = c.product-first.ensures.value in
@@ -17,9 +17,9 @@ apply_row-requires-clause-points c at less =
 
 pub apply_row-requires-clause-run : goal.apply_row-requires-clause-run
 apply_row-requires-clause-run c =
-    subst (λ (n : ℕ). IsForward c.args.scene.now c.args.own c.args.updates n c.args.slice.now) (sym c.product-first.ensures.value) c.requires.run
+    subst (λ (n : ℕ). IsForward c.args.scene.now c.args.pass.own c.args.pass.updates n c.args.slice.now) (sym c.product-first.ensures.value) c.requires.run
 
 pub returns-clause-run : goal.returns-clause-run
 returns-clause-run c =
-    let whole : c.product-first.result + c.args.update.now.first.extent ≡ (c.args.row + 1) * c.args.update.now.first.extent = omega (arith, c.product-first.ensures.value) in
-    subst (λ (n : ℕ). IsForward c.args.scene.now c.args.own c.args.updates n c.apply_row.new.slice) whole c.in_ok-apply_row.ensures.run
+    let whole : c.product-first.result + c.args.pass.update.now.first.extent ≡ (c.args.row + 1) * c.args.pass.update.now.first.extent = omega (arith, c.product-first.ensures.value) in
+    subst (λ (n : ℕ). IsForward c.args.scene.now c.args.pass.own c.args.pass.updates n c.apply_row.new.slice) whole c.in_ok-apply_row.ensures.run

@@ -5,6 +5,6 @@ use Rattle.picture.proofs.update_runs.run_rows.Given as goal
 
 abbrev pub invariant-loop-row : goal.invariant-loop-row
 invariant-loop-row l = record {
-  of : IsOfUpdate l.update l.slice;
-  run : IsForward l.scene l.own l.updates (l.row * l.update.first.extent) l.slice;
+  of : IsOfUpdate l.pass.update.now l.slice;
+  run : IsForward l.scene l.pass.own l.pass.updates (l.row * l.pass.update.now.first.extent) l.slice;
 }

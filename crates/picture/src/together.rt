@@ -1,0 +1,222 @@
+//! Updates on many slices together: in a box whose columns or rows are the slices, each point of the reduction box is
+//! run on all of them before the next one is.
+
+ghost use Rattle.std.specs.Prelude.{◌≡◌, ◌+◌, ◌<◌, ◌^◌, IfOk, IfSome, true};
+ghost use Rattle.halide_pipeline.specs.Pixel as spec;
+ghost use Rattle.halide_pipeline.specs.declared.environments.Environment.{Environment as EnvironmentState};
+ghost use Rattle.picture.specs.inner.Evaluation.{stage_in, AreTables, IsAt, IsPass, IsTable};
+ghost use Rattle.picture.specs.inner.Lines.{IsLine};
+ghost use Rattle.picture.specs.inner.Together.{after_points, side_length, with_stores, IsSide, IsStoreRow};
+ghost use Rattle.picture_rows.specs.Rows.{HasLength};
+
+use crate::boxes::Bounds;
+use crate::in_place::{Stretch, is_first, is_second, stage_pixels};
+use crate::lines::{Along, Line, Own, index_row, shared_row};
+use crate::points::{at_reduction, is_forward, points};
+use crate::scenes::{Pass, Scene, Table};
+use halide_pipeline::{Expr, Update, words};
+use picture_rows::Row;
+use std::alloc::{AllocError, Global};
+
+/// What the points of a line store, and where.
+#[derive(Drop)]
+struct StoreRow {
+    x: Row,
+    y: Row,
+    value: Row,
+}
+
+/// Whether an index that may be written is the second argument.
+fn is_second_index(index: &Option<Expr>) -> bool
+    ensures { result ≡ true → (reads : spec.Reads) (point : EnvironmentState) → spec.index_value reads point index.now
+        ≡ point.second_argument }
+{
+    match index {
+        None => false,
+        Some(index) => is_second(index),
+    }
+}
+
+/// Along what the slices of an update stand side by side, where it is run on them together: those that hold for each
+/// value of one argument.
+pub(crate) fn side_of(update: &Update) -> Option<Along>
+    ensures { IfSome result (IsSide update.now) }
+{
+    if !is_forward(update) {
+        return None;
+    }
+    if is_first(&update.left_x) && !update.is_second_in_place() {
+        return Some(Along::Columns);
+    }
+    if is_second_index(&update.left_y) && !update.is_first_in_place() {
+        return Some(Along::Rows);
+    }
+    None
+}
+
+/// What the points of a line store; none where they read the own Func outside its box.
+fn store_row(scene: &Scene, pass: Pass, line: Line) -> Result<Option<StoreRow>, AllocError>
+    requires tables { AreTables scene.now }
+    requires line { IsLine line }
+    requires narrow { line.width < 2 ^ 32 }
+    ensures { IfOk result (λ found. IfSome found (IsStoreRow scene.now pass.entry line.entry)) }
+{
+    let Pass { own, update, .. } = pass;
+    let free = Line {
+        own: Own::Nothing,
+        ..line
+    };
+    let Some(x) = shared_row(scene, own, free, &update.left_x)? else {
+        return Ok(None);
+    };
+    let Some(y) = index_row(scene, own, free, &update.left_y)? else {
+        return Ok(None);
+    };
+    let Some(value) = shared_row(scene, own, line, &update.right)? else {
+        return Ok(None);
+    };
+    Ok(Some(StoreRow { x, y, value }))
+}
+
+/// Stores what the points of a line store, one after the other.
+fn store_all(row: &StoreRow, width: usize, table: &mut Table)
+    requires x { HasLength width row.now.x }
+    requires y { HasLength width row.now.y }
+    requires value { HasLength width row.now.value }
+    requires narrow { width < 2 ^ 32 }
+    ensures table { (plane : spec.Plane) → IsTable plane table.old
+        → IsTable (with_stores row.now width plane) table.new }
+    ensures bounds { IsAt table.old.left table.old.top table.old.width table.old.height table.new }
+{
+    for at in 0..width {
+        let x = row.x.value_at(at, width);
+        let y = row.y.value_at(at, width);
+        table.put(x, y, row.value.value_at(at, width));
+    }
+}
+
+/// How many slices a box has.
+fn side_length(along: Along, table: &Table) -> u32
+    ensures { result ≡ side_length along table.now }
+{
+    match along {
+        Along::Reduction => table.width,
+        Along::Columns => table.width,
+        Along::Rows => table.height,
+    }
+}
+
+/// Runs one point of an update on all slices of a box; answers whether the box has all that it reads of the own Func.
+fn run_point(
+    scene: &Scene,
+    pass: Pass,
+    along: Along,
+    number: u64,
+    table: &mut Table,
+) -> Result<bool, AllocError>
+    requires tables { AreTables scene.now }
+    requires pass { IsPass scene.now pass }
+    requires side { IsSide pass.update.now along }
+    requires table { IsTable (after_points scene.now pass number) table.old }
+    ensures table { IfOk result (λ done. done ≡ true
+        → IsTable (after_points scene.now pass.entry (number + 1)) table.new) }
+{
+    let width = side_length(along, table);
+    let line = Line {
+        start: at_reduction(pass.update, number, table.left, table.top),
+        along,
+        width: width as usize,
+        own: Own::Box(table),
+    };
+    let Some(row) = store_row(scene, pass, line)? else {
+        return Ok(false);
+    };
+    store_all(&row, width as usize, table);
+    Ok(true)
+}
+
+/// Runs an update on all slices of a box; answers whether the box has all that it reads of the own Func.
+fn run_points(
+    scene: &Scene,
+    pass: Pass,
+    along: Along,
+    table: &mut Table,
+) -> Result<bool, AllocError>
+    requires tables { AreTables scene.now }
+    requires pass { IsPass scene.now pass }
+    requires side { IsSide pass.update.now along }
+    requires table { IsTable (after_points scene.now pass 0) table.old }
+    ensures table { IfOk result (λ done. done ≡ true
+        → IsTable (after_points scene.now pass.entry (spec.points pass.entry.update.now)) table.new) }
+{
+    for number in 0..points(pass.update) {
+        if !run_point(scene, pass, along, number, table)? {
+            return Ok(false);
+        }
+    }
+    Ok(true)
+}
+
+/// The pixels of a Func in a box, when an update begins to run.
+fn box_before(scene: &Scene, pass: Pass, bounds: Bounds) -> Result<Table, AllocError>
+    requires tables { AreTables scene.now }
+    requires pass { IsPass scene.now pass }
+    ensures { IfOk result (IsTable (after_points scene.now pass.entry 0)) }
+{
+    let Bounds {
+        left,
+        top,
+        width,
+        height,
+    } = bounds;
+    let mut pixels = Vec::new(scene.alloc);
+    for row in 0..height {
+        let stretch = Stretch {
+            left,
+            y: words::add(top, row),
+            width: width as usize,
+        };
+        let row = stage_pixels(scene, pass.own, pass.func, pass.updates, stretch)?;
+        pixels.extend_from_slice(&row)?;
+    }
+    Ok(Table {
+        left,
+        top,
+        width,
+        height,
+        pixels,
+    })
+}
+
+/// No pixels.
+fn nothing(alloc: Global) -> Table
+    ensures { (plane : spec.Plane) → IsTable plane result }
+{
+    Table {
+        left: 0,
+        top: 0,
+        width: 1,
+        height: 0,
+        pixels: Vec::new(alloc),
+    }
+}
+
+/// The pixels of a Func in a box, when an update has run; none where it reads the own Func outside the box.
+pub(crate) fn run_box(
+    scene: &Scene,
+    pass: Pass,
+    along: Along,
+    bounds: Bounds,
+) -> Result<Table, AllocError>
+    requires tables { AreTables scene.now }
+    requires pass { IsPass scene.now pass }
+    requires side { IsSide pass.update.now along }
+    ensures { IfOk result (IsTable (stage_in scene.now.funcs.now scene.now.pictures.now pass.entry.own
+        (pass.entry.updates + 1))) }
+{
+    let mut table = box_before(scene, pass, bounds)?;
+    if run_points(scene, pass, along, &mut table)? {
+        return Ok(table);
+    }
+    Ok(nothing(scene.alloc))
+}
