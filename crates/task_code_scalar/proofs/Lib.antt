@@ -4,6 +4,7 @@ pub mod DeepRefusing
 pub mod Deepening
 pub mod Emission
 pub mod Evaluation
+pub mod FirstOperands
 pub mod FrameUses
 pub mod Going
 pub mod Keeping
@@ -11,6 +12,7 @@ pub mod Looping
 pub mod Copying
 pub mod CopyWords
 pub mod Numbers
+pub mod Parts
 pub mod Placing
 pub mod Quotients
 pub mod Reaching

@@ -1,4 +1,5 @@
 pub mod Code
+pub mod Depths
 pub mod Doing
 pub mod Evaluation
 pub mod Faults

@@ -6,10 +6,12 @@ ghost use Rattle.loop_ir.specs.declared.expressions.Counter.{Counter as Counts};
 ghost use Rattle.task_code_scalar.specs.declared.places.Places.{Places as AllPlaces};
 ghost use Rattle.task_code_scalar.specs.Code as spec;
 ghost use Rattle.task_code_scalar.specs.Code.{EmitsDeep, EmitsSecond, deep, frame_words, frames_of, made};
+ghost use Rattle.task_code_scalar.specs.Depths.{depth};
 ghost use Rattle.task_code_scalar.specs.Faults.{FitsFrame, FitsSecond, IsFault, LieLow};
 ghost use Rattle.task_code_scalar.specs.Words.{Emits};
 
 use crate::CodeFault;
+use crate::depths::known_depth;
 use crate::expressions::{emit_number, emit_value, place_of};
 use crate::instructions::{alu, alu_small, emit_literal, load_word, store_word};
 use crate::operations::{
@@ -67,7 +69,7 @@ fn triple_need(first: u8, second: u8, third: u8) -> u8
 }
 
 #[tactic(auto, unfolding(crate::specs::Code::made))]
-fn is_leaf(e: &Expr) -> bool
+pub(crate) fn is_leaf(e: &Expr) -> bool
     ensures { (places : AllPlaces) (scope : List Counts) → result ≡ (made places scope e.now).is_leaf }
 {
     match e {
@@ -154,51 +156,56 @@ fn emit_unspill(code: &mut Vec<u32>, frames: Option<u32>, word: u32, r: u8) -> R
 
 // ---- expressions
 
-/// Appends what leaves the value of an expression in the first slot, with the frame free from a word on.
+/// Appends what leaves the value of an expression in the first slot, with the frame free from a word on. For so many of
+/// it, its first operand and so on, the stack is known to have no room.
 #[cycle(deeply)]
-pub fn emit_deep(
+fn emit_from(
     code: &mut Vec<u32>,
     places: &Places,
     scope: &[Counter],
     e: &Expr,
     word: u32,
+    known: u32,
 ) -> Result<(), CodeFault>
-    requires { word ≤ frame_words places.now.frames }
+    requires frame { word ≤ frame_words places.now.frames }
+    requires known { known ≤ depth places.now scope.now e.now }
     ensures ok { OnOk result (EmitsDeep code.old.items code.new.items places.now.frames
         (deep places.now scope.now e.now) word) }
     ensures err { IfErr result (IsFault ⊥ (FitsFrame places.now.frames e.now word → ⊥)) }
 {
-    if need(e) <= 12 {
+    let over = known_depth(places, scope, e, known);
+    if over < 1 {
         emit_value(code, places, scope, e, 20)?;
         return Ok(());
     }
+    let within = over - 1;
     match e {
         Expr::Number(_) => Err(CodeFault::TooDeep),
         Expr::Linear(_) => Err(CodeFault::TooDeep),
         Expr::Binary(operation, a, b) => {
-            emit_deep(code, places, scope, a.get(), word)?;
+            emit_from(code, places, scope, a.get(), word, within)?;
             let second = emit_second(code, places, scope, b.get(), word)?;
             emit_operation(code, *operation, 20, second)?;
             Ok(())
         }
         Expr::Divide(a, divisor) => {
-            emit_deep(code, places, scope, a.get(), word)?;
+            emit_from(code, places, scope, a.get(), word, within)?;
             emit_divisor(code, *divisor)?;
             emit_quotient(code, 20, 21)?;
             Ok(())
         }
         Expr::Remainder(a, divisor) => {
-            emit_deep(code, places, scope, a.get(), word)?;
+            emit_from(code, places, scope, a.get(), word, within)?;
             emit_divisor(code, *divisor)?;
             emit_remainder(code, 20, 21)?;
             Ok(())
         }
         Expr::Select(c, a, b) => {
-            emit_deep(code, places, scope, c.get(), word)?;
+            emit_from(code, places, scope, c.get(), word, within)?;
             emit_spill(code, places.frames, word)?;
-            emit_deep(code, places, scope, a.get(), word + 1)?;
+            emit_from(code, places, scope, a.get(), word + 1, 0)?;
             emit_spill(code, places.frames, word + 1)?;
-            emit_deep(code, places, scope, b.get(), word + 2)?;
+            emit_from(code, places, scope, b.get(), word + 2, 0)?;
             alu_small(code, AluImmOp::Addi, 22, 20, 0)?;
             emit_unspill(code, places.frames, word + 1, 21)?;
             emit_unspill(code, places.frames, word, 20)?;
@@ -206,7 +213,7 @@ pub fn emit_deep(
             Ok(())
         }
         Expr::Load(source, x, y) => {
-            emit_deep(code, places, scope, x.get(), word)?;
+            emit_from(code, places, scope, x.get(), word, within)?;
             let second = emit_second(code, places, scope, y.get(), word)?;
             let place = place_of(places, *source);
             emit_addressed(code, &place, 20, second)?;
@@ -236,7 +243,7 @@ fn emit_second(
         return Ok(14);
     }
     emit_spill(code, places.frames, word)?;
-    emit_deep(code, places, scope, e, word + 1)?;
+    emit_from(code, places, scope, e, word + 1, 0)?;
     alu_small(code, AluImmOp::Addi, 21, 20, 0)?;
     emit_unspill(code, places.frames, word, 20)?;
     Ok(21)
@@ -252,5 +259,22 @@ fn emit_divisor(code: &mut Vec<u32>, divisor: u32) -> Result<(), CodeFault>
         return Err(CodeFault::TooDeep);
     }
     emit_number(code, 21, divisor)?;
+    Ok(())
+}
+
+/// Appends what leaves the value of an expression in the first slot, with the frame free from a word on.
+pub fn emit_deep(
+    code: &mut Vec<u32>,
+    places: &Places,
+    scope: &[Counter],
+    e: &Expr,
+    word: u32,
+) -> Result<(), CodeFault>
+    requires { word ≤ frame_words places.now.frames }
+    ensures ok { OnOk result (EmitsDeep code.old.items code.new.items places.now.frames
+        (deep places.now scope.now e.now) word) }
+    ensures err { IfErr result (IsFault ⊥ (FitsFrame places.now.frames e.now word → ⊥)) }
+{
+    emit_from(code, places, scope, e, word, 0)?;
     Ok(())
 }

@@ -1,7 +1,8 @@
 //! The machine code of expressions, stores, loops and tests, in scalar registers and the hart's frame.
 //!
 //! - [`places`]: where buffers lie in memory.
-//! - [`expressions`], [`frames`]: append what leaves an expression's value (`specs/Code.antt`).
+//! - [`expressions`], [`frames`]: append what leaves an expression's value (`specs/Code.antt`); `depths` counts for how
+//!   much of one the stack has no room.
 //! - [`loops`]: appends loops and tests around the words of their bodies.
 //! - [`operations`], [`instructions`]: append operations and single instructions, for the code around tasks too.
 //! - [`laws`]: what the code of expressions does, wherever it stands (`specs/Evaluation.antt`), where buffers lie so
@@ -11,6 +12,7 @@
 ghost use Rattle.std.specs.Prelude.{◌≡◌};
 ghost use Rattle.task_code_scalar.specs.declared.CodeFault.TheVariants as faults;
 
+mod depths;
 pub mod expressions;
 pub mod frames;
 pub mod instructions;
