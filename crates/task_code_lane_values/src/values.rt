@@ -50,19 +50,195 @@ struct Spot {
     moving: u32,
 }
 
-/// The next group, if there is one.
-fn next_slot(group: Group, k: u8) -> Result<u8, CodeFault>
+/// The next group, for an expression of which nothing is known, if there is one.
+fn above(group: Group, k: u8) -> Result<Spot, CodeFault>
     requires { k < slots group }
-    ensures { IfOk result (λ next. (next ≡ k + 1) × (k + 1 < slots group)) }
+    ensures { IfOk result (λ next. (next.k ≡ k + 1) × (k + 1 < slots group)) }
 {
     if k + 1 < group.slots() {
-        Ok(k + 1)
+        Ok(Spot {
+            k: k + 1,
+            moving: 0,
+        })
     } else {
         Err(CodeFault::TooDeep)
     }
 }
 
+/// Appends an operation's values. One operand may be the same in all iterations, in a register alone.
+#[cycle(values)]
+fn emit_results(
+    alloc: Global,
+    code: &mut Vec<u32>,
+    places: &Places,
+    scope: &[Held],
+    own: Lanes,
+    e: &Expr,
+    spot: Spot,
+) -> Result<(), CodeFault>
+    requires { spot.k < slots own.group }
+    ensures { OnOk result (MakesLanes code.old.items code.new.items places.now scope.now own spot.k e.now) }
+{
+    let Expr::Binary(operation, a, b) = e else {
+        return Err(CodeFault::TooDeep);
+    };
+    let k = spot.k;
+    let first = a.get();
+    let second = b.get();
+    let first_stays = known_steady(first, own.counter, spot.moving);
+    let moving = u32::from(first_stays);
+    if takes_second(*operation) && known_steady(second, own.counter, moving) {
+        emit_at(alloc, code, places, scope, own, first, spot)?;
+        let s = emit_steady(alloc, code, places, scope, own, second)?;
+        emit_by(code, own.group, *operation, k, s)?;
+        return Ok(());
+    }
+    if takes_first(*operation) && first_stays {
+        let beside = Spot { k, moving };
+        emit_at(alloc, code, places, scope, own, second, beside)?;
+        let s = emit_steady(alloc, code, places, scope, own, first)?;
+        emit_turned(code, own.group, *operation, k, s)?;
+        return Ok(());
+    }
+    let next = above(own.group, k)?;
+    emit_at(alloc, code, places, scope, own, first, spot)?;
+    emit_at(alloc, code, places, scope, own, second, next)?;
+    emit_two(code, own.group, *operation, k)?;
+    Ok(())
+}
+
+/// Appends quotients' values.
+#[cycle(values)]
+fn emit_quotients(
+    alloc: Global,
+    code: &mut Vec<u32>,
+    places: &Places,
+    scope: &[Held],
+    own: Lanes,
+    e: &Expr,
+    spot: Spot,
+) -> Result<(), CodeFault>
+    requires { spot.k < slots own.group }
+    ensures { OnOk result (MakesLanes code.old.items code.new.items places.now scope.now own spot.k e.now) }
+{
+    let Expr::Divide(a, divisor) = e else {
+        return Err(CodeFault::TooDeep);
+    };
+    if *divisor == 0 {
+        return Err(CodeFault::TooDeep);
+    }
+    let k = spot.k;
+    emit_at(alloc, code, places, scope, own, a.get(), spot)?;
+    if let Some(bits) = power_of_two(*divisor) {
+        emit_shifted(code, own.group, *divisor, bits, k)?;
+        return Ok(());
+    }
+    let s = emit_literal(alloc, code, scope, own, *divisor)?;
+    emit_quotient(code, own.group, *divisor, k, s)?;
+    Ok(())
+}
+
+/// Appends remainders' values.
+#[cycle(values)]
+fn emit_remainders(
+    alloc: Global,
+    code: &mut Vec<u32>,
+    places: &Places,
+    scope: &[Held],
+    own: Lanes,
+    e: &Expr,
+    spot: Spot,
+) -> Result<(), CodeFault>
+    requires { spot.k < slots own.group }
+    ensures { OnOk result (MakesLanes code.old.items code.new.items places.now scope.now own spot.k e.now) }
+{
+    let Expr::Remainder(a, divisor) = e else {
+        return Err(CodeFault::TooDeep);
+    };
+    if *divisor == 0 {
+        return Err(CodeFault::TooDeep);
+    }
+    let k = spot.k;
+    emit_at(alloc, code, places, scope, own, a.get(), spot)?;
+    if let Some(bits) = power_of_two(*divisor) {
+        let s = emit_literal(alloc, code, scope, own, *divisor - 1)?;
+        emit_masked(code, own.group, *divisor, bits, k, s)?;
+        return Ok(());
+    }
+    let s = emit_literal(alloc, code, scope, own, *divisor)?;
+    emit_remainder(code, own.group, *divisor, k, s)?;
+    Ok(())
+}
+
+/// Appends choices' values.
+#[cycle(values)]
+fn emit_choices(
+    alloc: Global,
+    code: &mut Vec<u32>,
+    places: &Places,
+    scope: &[Held],
+    own: Lanes,
+    e: &Expr,
+    spot: Spot,
+) -> Result<(), CodeFault>
+    requires { spot.k < slots own.group }
+    ensures { OnOk result (MakesLanes code.old.items code.new.items places.now scope.now own spot.k e.now) }
+{
+    let Expr::Select(condition, a, b) = e else {
+        return Err(CodeFault::TooDeep);
+    };
+    let k = spot.k;
+    let next = above(own.group, k)?;
+    let last = above(own.group, next.k)?;
+    emit_at(alloc, code, places, scope, own, condition.get(), spot)?;
+    emit_at(alloc, code, places, scope, own, a.get(), next)?;
+    emit_at(alloc, code, places, scope, own, b.get(), last)?;
+    emit_choice(code, own.group, k)?;
+    Ok(())
+}
+
+/// Appends what loads pixels: of points by sums, of a row that is the same in all iterations, or anywhere.
+#[cycle(values)]
+fn emit_pixels(
+    alloc: Global,
+    code: &mut Vec<u32>,
+    places: &Places,
+    scope: &[Held],
+    own: Lanes,
+    e: &Expr,
+    spot: Spot,
+) -> Result<(), CodeFault>
+    requires { spot.k < slots own.group }
+    ensures { OnOk result (MakesLanes code.old.items code.new.items places.now scope.now own spot.k e.now) }
+{
+    let Expr::Load(source, x, y) = e else {
+        return Err(CodeFault::TooDeep);
+    };
+    let k = spot.k;
+    let at = *source;
+    if let Some(sums) = both_sums(alloc, x.get(), y.get())? {
+        emit_point(alloc, code, places, scope, own, at, &sums.x, &sums.y, k)?;
+        return Ok(());
+    }
+    let row = y.get();
+    if is_steady(row, own.counter) {
+        if let Some(column) = dense_column(alloc, x.get(), own.counter)? {
+            emit_row(alloc, code, places, scope, own, at, &column, row, k)?;
+            return Ok(());
+        }
+        emit_at(alloc, code, places, scope, own, x.get(), spot)?;
+        emit_gather(alloc, code, places, scope, own, at, row, k)?;
+        return Ok(());
+    }
+    let next = above(own.group, k)?;
+    emit_at(alloc, code, places, scope, own, x.get(), spot)?;
+    emit_at(alloc, code, places, scope, own, row, next)?;
+    emit_scattered(alloc, code, places, scope, own, at, k)?;
+    Ok(())
+}
+
 /// The same, where something is known of it.
+#[cycle(values)]
 fn emit_at(
     alloc: Global,
     code: &mut Vec<u32>,
@@ -84,136 +260,31 @@ fn emit_at(
     let moving = first_moving(e, own.counter, spot.moving);
     let within = Spot { k, moving };
     match e {
+        Expr::Number(_) => Err(CodeFault::TooDeep),
         Expr::Linear(sum) => {
             emit_sum(alloc, code, scope, own, sum, k)?;
             Ok(())
         }
-        Expr::Binary(operation, a, b) => {
-            let first = a.get();
-            let second = b.get();
-            let first_stays = known_steady(first, own.counter, moving);
-            let second_moves = u32::from(first_stays);
-            if takes_second(*operation) && known_steady(second, own.counter, second_moves) {
-                emit_at(alloc, code, places, scope, own, first, within)?;
-                let s = emit_steady(alloc, code, places, scope, own, second)?;
-                emit_by(code, own.group, *operation, k, s)?;
-                return Ok(());
-            }
-            if takes_first(*operation) && first_stays {
-                let moving = second_moves;
-                let spot = Spot { k, moving };
-                emit_at(alloc, code, places, scope, own, second, spot)?;
-                let s = emit_steady(alloc, code, places, scope, own, first)?;
-                emit_turned(code, own.group, *operation, k, s)?;
-                return Ok(());
-            }
-            let next = next_slot(own.group, k)?;
-            emit_at(alloc, code, places, scope, own, first, within)?;
-            emit_at(
-                alloc,
-                code,
-                places,
-                scope,
-                own,
-                second,
-                Spot { k: next, moving: 0 },
-            )?;
-            emit_two(code, own.group, *operation, k)?;
+        Expr::Binary(_, _, _) => {
+            emit_results(alloc, code, places, scope, own, e, within)?;
             Ok(())
         }
-        Expr::Divide(a, divisor) => {
-            if *divisor == 0 {
-                return Err(CodeFault::TooDeep);
-            }
-            emit_at(alloc, code, places, scope, own, a.get(), within)?;
-            if let Some(bits) = power_of_two(*divisor) {
-                emit_shifted(code, own.group, *divisor, bits, k)?;
-                return Ok(());
-            }
-            let s = emit_literal(alloc, code, scope, own, *divisor)?;
-            emit_quotient(code, own.group, *divisor, k, s)?;
+        Expr::Divide(_, _) => {
+            emit_quotients(alloc, code, places, scope, own, e, within)?;
             Ok(())
         }
-        Expr::Remainder(a, divisor) => {
-            if *divisor == 0 {
-                return Err(CodeFault::TooDeep);
-            }
-            emit_at(alloc, code, places, scope, own, a.get(), within)?;
-            if let Some(bits) = power_of_two(*divisor) {
-                let s = emit_literal(alloc, code, scope, own, *divisor - 1)?;
-                emit_masked(code, own.group, *divisor, bits, k, s)?;
-                return Ok(());
-            }
-            let s = emit_literal(alloc, code, scope, own, *divisor)?;
-            emit_remainder(code, own.group, *divisor, k, s)?;
+        Expr::Remainder(_, _) => {
+            emit_remainders(alloc, code, places, scope, own, e, within)?;
             Ok(())
         }
-        Expr::Select(condition, a, b) => {
-            let next = next_slot(own.group, k)?;
-            let last = next_slot(own.group, next)?;
-            emit_at(alloc, code, places, scope, own, condition.get(), within)?;
-            emit_at(
-                alloc,
-                code,
-                places,
-                scope,
-                own,
-                a.get(),
-                Spot { k: next, moving: 0 },
-            )?;
-            emit_at(
-                alloc,
-                code,
-                places,
-                scope,
-                own,
-                b.get(),
-                Spot { k: last, moving: 0 },
-            )?;
-            emit_choice(code, own.group, k)?;
+        Expr::Select(_, _, _) => {
+            emit_choices(alloc, code, places, scope, own, e, within)?;
             Ok(())
         }
-        Expr::Load(source, x, y) => {
-            if let Some(sums) = both_sums(alloc, x.get(), y.get())? {
-                emit_point(
-                    alloc, code, places, scope, own, *source, &sums.x, &sums.y, k,
-                )?;
-                return Ok(());
-            }
-            if is_steady(y.get(), own.counter) {
-                if let Some(column) = dense_column(alloc, x.get(), own.counter)? {
-                    emit_row(
-                        alloc,
-                        code,
-                        places,
-                        scope,
-                        own,
-                        *source,
-                        &column,
-                        y.get(),
-                        k,
-                    )?;
-                    return Ok(());
-                }
-                emit_at(alloc, code, places, scope, own, x.get(), within)?;
-                emit_gather(alloc, code, places, scope, own, *source, y.get(), k)?;
-                return Ok(());
-            }
-            let next = next_slot(own.group, k)?;
-            emit_at(alloc, code, places, scope, own, x.get(), within)?;
-            emit_at(
-                alloc,
-                code,
-                places,
-                scope,
-                own,
-                y.get(),
-                Spot { k: next, moving: 0 },
-            )?;
-            emit_scattered(alloc, code, places, scope, own, *source, k)?;
+        Expr::Load(_, _, _) => {
+            emit_pixels(alloc, code, places, scope, own, e, within)?;
             Ok(())
         }
-        Expr::Number(_) => Err(CodeFault::TooDeep),
     }
 }
 
