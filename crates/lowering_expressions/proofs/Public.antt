@@ -23,37 +23,40 @@ use Rattle.lowering_expressions.specs.declared.lowering.Arguments.{Arguments}
 use Rattle.lowering_expressions.specs.Lowering.{place, placed, environment}
 use Rattle.lowering_expressions.specs.inner.Following.{Follows, algebra, stands, standing, loaded_by}
 
-linear_stands : (reads : Reads) (values : Values) (own : Linear) → stands reads values (e.Linear own) ≡ record { value = linear_value values own; points = [] }
+linear_stands : (reads : Reads) (values : Values) (made : Expr) (own : Linear) → made ≡ e.Linear own
+    → stands reads values made ≡ record { value = linear_value values own; points = [] }
 unfolding value
-linear_stands reads values own = ap (λ (n : ℕ). record { value = n; points = [] }) (at_linear ℕ (value_at reads values) own)
+linear_stands reads values made own is =
+    ap (stands reads values) is ∙ ap (λ (n : ℕ). record { value = n; points = [] }) (at_linear ℕ (value_at reads values) own)
 
-no_loads : (reads : Reads) (values : Values) (own : Linear) (test : Point → Bool) → Hold test (loads reads values (e.Linear own))
+no_loads : (reads : Reads) (values : Values) (made : Expr) (own : Linear) → made ≡ e.Linear own → (test : Point → Bool)
+    → Hold test (loads reads values made)
 unfolding seen
-no_loads reads values own test = subst (Hold test) (sym (ap (λ (s : Seen). s.points) (at_linear Seen (seen_at reads values) own))) tt
+no_loads reads values made own is test =
+    subst (Hold test) (sym (ap (loads reads values) is ∙ ap (λ (s : Seen). s.points) (at_linear Seen (seen_at reads values) own))) tt
 
-module _ (corners : List Corner) (values : Values) (reads : Reads) (own : Arguments) (a b c d : Linear) (a_is : a ≡ own.first_argument) (b_is : b ≡ own.second_argument) (c_is : c ≡ own.first_reduction) (d_is : d ≡ own.second_reduction) where
-  abbrev sum : Linear → Seen
-  sum l = record { value = linear_value values l; points = [] }
-
-  same_variables : standing reads values (e.Linear a) (e.Linear b) (e.Linear c) (e.Linear d) ≡ seen_variable (environment values own)
+module _ (corners : List Corner) (values : Values) (reads : Reads) (own : Arguments) (a b c d : Expr)
+    (a_is : a ≡ e.Linear own.first_argument) (b_is : b ≡ e.Linear own.second_argument)
+    (c_is : c ≡ e.Linear own.first_reduction) (d_is : d ≡ e.Linear own.second_reduction) where
+  same_variables : standing reads values a b c d ≡ seen_variable (environment values own)
   same_variables = fun_ext by_variable
     where
-      by_variable : (v : Variable) → standing reads values (e.Linear a) (e.Linear b) (e.Linear c) (e.Linear d) v ≡ seen_variable (environment values own) v
-      by_variable variables.FirstArgument = linear_stands reads values a ∙ ap sum a_is
-      by_variable variables.SecondArgument = linear_stands reads values b ∙ ap sum b_is
-      by_variable variables.FirstReduction = linear_stands reads values c ∙ ap sum c_is
-      by_variable variables.SecondReduction = linear_stands reads values d ∙ ap sum d_is
+      by_variable : (v : Variable) → standing reads values a b c d v ≡ seen_variable (environment values own) v
+      by_variable variables.FirstArgument = linear_stands reads values a own.first_argument a_is
+      by_variable variables.SecondArgument = linear_stands reads values b own.second_argument b_is
+      by_variable variables.FirstReduction = linear_stands reads values c own.first_reduction c_is
+      by_variable variables.SecondReduction = linear_stands reads values d own.second_reduction d_is
 
-  none_loaded : (test : Point → Bool) → Hold test (loaded_by reads values (e.Linear a) (e.Linear b) (e.Linear c) (e.Linear d))
+  none_loaded : (test : Point → Bool) → Hold test (loaded_by reads values a b c d)
   none_loaded test =
       let p : Point → Type 0 = λ point. test point ≡ true in
-      all_both p (loads reads values (e.Linear a)) (loads reads values (e.Linear b) ++ (loads reads values (e.Linear c) ++ loads reads values (e.Linear d))) (no_loads reads values a test)
-      (all_both p (loads reads values (e.Linear b)) (loads reads values (e.Linear c) ++ loads reads values (e.Linear d)) (no_loads reads values b test)
-      (all_both p (loads reads values (e.Linear c)) (loads reads values (e.Linear d)) (no_loads reads values c test) (no_loads reads values d test)))
+      all_both p (loads reads values a) (loads reads values b ++ (loads reads values c ++ loads reads values d)) (no_loads reads values a own.first_argument a_is test)
+      (all_both p (loads reads values b) (loads reads values c ++ loads reads values d) (no_loads reads values b own.second_argument b_is test)
+      (all_both p (loads reads values c) (loads reads values d) (no_loads reads values c own.first_reduction c_is test) (no_loads reads values d own.second_reduction d_is test)))
 
   module _ (is_inlined : ℕ → Bool) (funcs : List Func) (count : ℕ) (expr : definition.Expr) (made : Expr)
-      (follows : Follows corners values reads (loaded_by reads values (e.Linear a) (e.Linear b) (e.Linear c) (e.Linear d)) made
-      (inlined (algebra corners values reads) is_inlined funcs count (standing reads values (e.Linear a) (e.Linear b) (e.Linear c) (e.Linear d)) expr)) where
+      (follows : Follows corners values reads (loaded_by reads values a b c d) made
+      (inlined (algebra corners values reads) is_inlined funcs count (standing reads values a b c d) expr)) where
     pub lowered_value : value reads values made ≡ inlined (valuing (placed corners values reads)) is_inlined funcs count (variable (environment values own)) expr
     lowered_value =
         follows.same

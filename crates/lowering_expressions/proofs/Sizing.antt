@@ -204,8 +204,7 @@ all_short terms a b c d variables.SecondArgument = b
 all_short terms a b c d variables.FirstReduction = c
 all_short terms a b c d variables.SecondReduction = d
 
-pub sum_short : (own copied : Linear) → copied ≡ own → length own.terms ≤ 6 → IsGiven (size (e.Linear copied)) 1
-sum_short own copied is few =
-    let s = linear_size (e.Linear copied) copied refl in
-    let l : length copied.terms ≡ length own.terms = ap (λ (n : Linear). length n.terms) is in
-    omega (arith, s, l, few)
+pub sum_short : (made : Expr) (own : Linear) → made ≡ e.Linear own → length own.terms ≤ 6 → IsGiven (size made) 1
+sum_short made own is few =
+    let s = linear_size made own is in
+    omega (arith, s, few)

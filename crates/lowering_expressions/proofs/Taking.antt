@@ -36,6 +36,9 @@ linear_leaf made own is = ap need_of is ∙ need_linear own
 pub linear_need : (own : Linear) → need (e.Linear own) ≡ 1
 linear_need own = leaf_need (e.Linear own) (linear_leaf (e.Linear own) own refl)
 
+pub sum_need : (made : Expr) (own : Linear) → made ≡ e.Linear own → need made ≡ 1
+sum_need made own is = leaf_need made (linear_leaf made own is)
+
 -- a leaf beside a first operand
 pub beside_leaf : (o : Operation) (made a : Expr) (b : Expr) → made ≡ e.Binary o a b → need_of b ≡ leaf → need made ≡ need a
 beside_leaf o made a b is one =

@@ -8,6 +8,7 @@ ghost use Rattle.halide_pipeline.specs.Points.{Point, Seen, Hold};
 ghost use Rattle.bounds_inlining.specs.Inlining.{answer, answered, flagged, inlined, inside};
 ghost use Rattle.bounds_inlining.specs.Laws.{seen_variable};
 ghost use Rattle.bounds_inlining.specs.Values.{values as valuing, seeing};
+ghost use Rattle.loop_ir.specs.declared.expressions.Expr.TheVariants as sum;
 ghost use Rattle.loop_ir.specs.Counters.{Values};
 ghost use Rattle.loop_ir.specs.Expressions.{value, loads};
 ghost use Rattle.bounds_inlining.specs.Weights.{counting};
@@ -21,7 +22,7 @@ ghost use Rattle.lowering_expressions.specs.inner.Sizing.{AreGiven, IsGivenSecon
 ghost use Rattle.lowering_expressions.specs.inner.Taking.{AreTaken, IsSecond, call_need, term_need};
 
 use crate::calls::{Corner, load};
-use crate::parts::{binary, copy, divide, number, remainder, select};
+use crate::parts::{Pair, binary, copy, divide, number, remainder, select, two_sums};
 use bounds_inlining::inlined_func;
 use halide_pipeline::{Expr, Func, Source, Variable};
 use loop_ir::expressions as terms;
@@ -191,6 +192,52 @@ fn called(
     }
 }
 
+/// The sums that stand for the variables, as expressions that are made, lent and let go as one: side by side in one
+/// function they make its check long.
+#[derive(Drop)]
+struct Sums {
+    arguments: Pair,
+    reductions: Pair,
+}
+
+/// Copies the sums.
+fn sums_of(alloc: Global, variables: &Arguments) -> Result<Sums, AllocError>
+    ensures first_argument { IfOk result (λ sums. sums.arguments.first
+        ≡ sum.Linear variables.now.first_argument) }
+    ensures second_argument { IfOk result (λ sums. sums.arguments.second
+        ≡ sum.Linear variables.now.second_argument) }
+    ensures first_reduction { IfOk result (λ sums. sums.reductions.first
+        ≡ sum.Linear variables.now.first_reduction) }
+    ensures second_reduction { IfOk result (λ sums. sums.reductions.second
+        ≡ sum.Linear variables.now.second_reduction) }
+{
+    let arguments = two_sums(alloc, &variables.first_argument, &variables.second_argument)?;
+    let reductions = two_sums(
+        alloc,
+        &variables.first_reduction,
+        &variables.second_reduction,
+    )?;
+    Ok(Sums {
+        arguments,
+        reductions,
+    })
+}
+
+/// The sums, lent.
+fn terms_of<'a>(sums: &'a Sums) -> Terms<'a>
+    ensures first_argument { result.first_argument.now ≡ sums.now.arguments.first }
+    ensures second_argument { result.second_argument.now ≡ sums.now.arguments.second }
+    ensures first_reduction { result.first_reduction.now ≡ sums.now.reductions.first }
+    ensures second_reduction { result.second_reduction.now ≡ sums.now.reductions.second }
+{
+    Terms {
+        first_argument: &sums.arguments.first,
+        second_argument: &sums.arguments.second,
+        first_reduction: &sums.reductions.first,
+        second_reduction: &sums.reductions.second,
+    }
+}
+
 /// What a definition comes to that calls the first so many Funcs: those whose flags are set are put in place, and
 /// what it reads of inputs and of all others is loaded from their buffers, counted from their corners.
 ///
@@ -218,16 +265,8 @@ pub fn lowered(
     ensures sizes { IfOk result (λ made. AreShort corners.now → AreShortArguments variables.now
         → IsGiven (size made) (inlined counting (flagged flags.now) funcs.now count (λ v. 1) expr.now)) }
 {
-    let first_argument = terms::Expr::Linear(variables.first_argument.copy(alloc)?);
-    let second_argument = terms::Expr::Linear(variables.second_argument.copy(alloc)?);
-    let first_reduction = terms::Expr::Linear(variables.first_reduction.copy(alloc)?);
-    let second_reduction = terms::Expr::Linear(variables.second_reduction.copy(alloc)?);
-    let standing = Terms {
-        first_argument: &first_argument,
-        second_argument: &second_argument,
-        first_reduction: &first_reduction,
-        second_reduction: &second_reduction,
-    };
+    let sums = sums_of(alloc, variables)?;
+    let standing = terms_of(&sums);
     let made = lowered_in(alloc, funcs, flags, count, corners, &standing, expr)?;
     Ok(made)
 }

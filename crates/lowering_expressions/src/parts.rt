@@ -13,9 +13,29 @@ ghost use Rattle.lowering_expressions.specs.declared.calls.Corner.{Corner};
 ghost use Rattle.lowering_expressions.specs.inner.Following.{Follows, algebra};
 
 use halide_pipeline::{Operation, Source, words};
-use loop_ir::expressions::Expr;
+use loop_ir::expressions::{Expr, Linear};
 use sqlite_items::Boxed;
 use std::alloc::{AllocError, Global};
+
+/// Two expressions.
+#[derive(Drop)]
+pub(crate) struct Pair {
+    pub first: Expr,
+    pub second: Expr,
+}
+
+/// Two sums.
+pub(crate) fn two_sums(alloc: Global, first: &Linear, second: &Linear) -> Result<Pair, AllocError>
+    ensures first { IfOk result (λ made. made.first ≡ Expr.Linear first.now) }
+    ensures second { IfOk result (λ made. made.second ≡ Expr.Linear second.now) }
+{
+    let first = first.copy(alloc)?;
+    let second = second.copy(alloc)?;
+    Ok(Pair {
+        first: Expr::Linear(first),
+        second: Expr::Linear(second),
+    })
+}
 
 /// The same expression once more.
 pub(crate) fn copy(alloc: Global, own: &Expr) -> Result<Expr, AllocError>
