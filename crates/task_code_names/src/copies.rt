@@ -57,6 +57,27 @@ pub fn is_same(a: &Expr, b: &Expr) -> bool
     }
 }
 
+/// The nodes of an expression whose parts have so many.
+pub(crate) fn with_nodes(first: usize, second: usize) -> usize {
+    first.saturating_add(second).saturating_add(1)
+}
+
+/// How many nodes an expression has.
+pub(crate) fn nodes_of(e: &Expr) -> usize {
+    match e {
+        Expr::Number(_) => 1,
+        Expr::Linear(_) => 1,
+        Expr::Binary(_, a, b) => with_nodes(nodes_of(a.get()), nodes_of(b.get())),
+        Expr::Divide(a, _) => with_nodes(nodes_of(a.get()), 0),
+        Expr::Remainder(a, _) => with_nodes(nodes_of(a.get()), 0),
+        Expr::Select(c, a, b) => {
+            let others = with_nodes(nodes_of(a.get()), nodes_of(b.get()));
+            with_nodes(nodes_of(c.get()), others)
+        }
+        Expr::Load(_, x, y) => with_nodes(nodes_of(x.get()), nodes_of(y.get())),
+    }
+}
+
 /// Whether an expression loads nothing.
 pub fn is_still(e: &Expr) -> bool
     ensures { result ≡ true → IsStill e.now }

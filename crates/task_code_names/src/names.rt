@@ -5,7 +5,7 @@ ghost use Rattle.loop_ir.specs.declared.expressions.Expr.TheVariants as expressi
 ghost use Rattle.task_code_loops.specs.Beginning as beginning;
 ghost use Rattle.task_code_names.specs.Names.{IsNameOf, IsNamedExpr, IsNamedStore};
 
-use crate::copies::is_same;
+use crate::copies::{copy_of, is_same, nodes_of, with_nodes};
 use loop_ir::expressions::{Counter, Expr};
 use loop_ir::statements::Store;
 use sqlite_items::Boxed;
@@ -17,89 +17,142 @@ use task_code_loops::tests::variable;
 pub struct Named {
     pub counter: Counter,
     pub e: Expr,
+    /// How many nodes the expression has. Only parts of as many are compared with it: no two of them share a node.
+    pub nodes: usize,
 }
 
-/// The name that an expression has.
-fn name_of(names: &[Named], e: &Expr) -> Option<Counter>
+/// A name for an expression.
+///
+/// # Errors
+///
+/// Memory ran out.
+pub fn new_named(alloc: Global, counter: Counter, e: &Expr) -> Result<Named, AllocError>
+    ensures { IfOk result (λ made. (made.counter ≡ counter) × (made.e ≡ e.now)) }
+{
+    let own = copy_of(alloc, e)?;
+    Ok(Named {
+        counter,
+        e: own,
+        nodes: nodes_of(e),
+    })
+}
+
+/// What is made of an expression, and how many nodes that one has.
+#[derive(Drop)]
+struct Renamed {
+    made: Expr,
+    nodes: usize,
+}
+
+/// The same of a part.
+#[derive(Drop)]
+struct Part {
+    made: Boxed<Expr>,
+    nodes: usize,
+}
+
+/// The name that an expression of so many nodes has.
+fn name_of(names: &[Named], e: &Expr, nodes: usize) -> Option<Counter>
     ensures { IfSome result (λ counter. IsNameOf names.now e.now counter) }
 {
     match names {
         [] => None,
         [first, others @ ..] => {
-            if is_same(&first.e, e) {
+            if first.nodes == nodes && is_same(&first.e, e) {
                 Some(first.counter)
             } else {
-                name_of(others, e)
+                name_of(others, e, nodes)
             }
         }
     }
 }
 
 #[cycle(naming)]
-fn part_by_names(alloc: Global, names: &[Named], e: &Expr) -> Result<Boxed<Expr>, AllocError>
-    ensures { IfOk result (IsNamedExpr names.now e.now) }
+fn part_by_names(alloc: Global, names: &[Named], e: &Expr) -> Result<Part, AllocError>
+    ensures { IfOk result (λ part. IsNamedExpr names.now e.now part.made) }
 {
-    let made = by_names(alloc, names, e)?;
-    let boxed = Boxed::new(alloc, made)?;
-    Ok(boxed)
+    let Renamed { made, nodes } = by_names(alloc, names, e)?;
+    let made = Boxed::new(alloc, made)?;
+    Ok(Part { made, nodes })
 }
 
 /// What an expression makes of its parts with names.
 #[cycle(naming)]
-fn parts_by_names(alloc: Global, names: &[Named], e: &Expr) -> Result<Expr, AllocError>
-    ensures { IfOk result (IsNamedExpr names.now e.now) }
+fn parts_by_names(alloc: Global, names: &[Named], e: &Expr) -> Result<Renamed, AllocError>
+    ensures { IfOk result (λ whole. IsNamedExpr names.now e.now whole.made) }
 {
     match e {
-        Expr::Number(n) => Ok(Expr::Number(*n)),
+        Expr::Number(n) => Ok(Renamed {
+            made: Expr::Number(*n),
+            nodes: 1,
+        }),
         Expr::Linear(own) => {
             let sum = own.copy(alloc)?;
-            Ok(Expr::Linear(sum))
+            Ok(Renamed {
+                made: Expr::Linear(sum),
+                nodes: 1,
+            })
         }
         Expr::Binary(operation, a, b) => {
             let first = part_by_names(alloc, names, a.get())?;
             let second = part_by_names(alloc, names, b.get())?;
-            Ok(Expr::Binary(*operation, first, second))
+            let nodes = with_nodes(first.nodes, second.nodes);
+            Ok(Renamed {
+                made: Expr::Binary(*operation, first.made, second.made),
+                nodes,
+            })
         }
         Expr::Divide(a, divisor) => {
             let first = part_by_names(alloc, names, a.get())?;
-            Ok(Expr::Divide(first, *divisor))
+            Ok(Renamed {
+                made: Expr::Divide(first.made, *divisor),
+                nodes: with_nodes(first.nodes, 0),
+            })
         }
         Expr::Remainder(a, divisor) => {
             let first = part_by_names(alloc, names, a.get())?;
-            Ok(Expr::Remainder(first, *divisor))
+            Ok(Renamed {
+                made: Expr::Remainder(first.made, *divisor),
+                nodes: with_nodes(first.nodes, 0),
+            })
         }
         Expr::Select(c, a, b) => {
             let condition = part_by_names(alloc, names, c.get())?;
             let first = part_by_names(alloc, names, a.get())?;
             let second = part_by_names(alloc, names, b.get())?;
-            Ok(Expr::Select(condition, first, second))
+            let nodes = with_nodes(condition.nodes, with_nodes(first.nodes, second.nodes));
+            Ok(Renamed {
+                made: Expr::Select(condition.made, first.made, second.made),
+                nodes,
+            })
         }
         Expr::Load(source, x, y) => {
             let column = part_by_names(alloc, names, x.get())?;
             let row = part_by_names(alloc, names, y.get())?;
-            Ok(Expr::Load(*source, column, row))
+            let nodes = with_nodes(column.nodes, row.nodes);
+            Ok(Renamed {
+                made: Expr::Load(*source, column.made, row.made),
+                nodes,
+            })
         }
     }
 }
 
 /// An expression with names in place of the parts that have one.
-///
-/// # Errors
-///
-/// Memory ran out.
 #[cycle(naming)]
-pub fn by_names(alloc: Global, names: &[Named], e: &Expr) -> Result<Expr, AllocError>
-    ensures { IfOk result (IsNamedExpr names.now e.now) }
+fn by_names(alloc: Global, names: &[Named], e: &Expr) -> Result<Renamed, AllocError>
+    ensures { IfOk result (λ whole. IsNamedExpr names.now e.now whole.made) }
 {
-    match name_of(names, e) {
+    let whole = parts_by_names(alloc, names, e)?;
+    match name_of(names, e, whole.nodes) {
         Some(counter) => {
             let form = variable(alloc, counter)?;
-            Ok(Expr::Linear(form.sum))
+            Ok(Renamed {
+                made: Expr::Linear(form.sum),
+                nodes: whole.nodes,
+            })
         }
-        None => {
-            let made = parts_by_names(alloc, names, e)?;
-            Ok(made)
-        }
+        None => Ok(whole),
     }
 }
 
@@ -116,8 +169,8 @@ pub fn store_by_names(alloc: Global, names: &[Named], store: &Store) -> Result<S
     let value = by_names(alloc, names, &store.value)?;
     Ok(Store {
         func: store.func,
-        x,
-        y,
-        value,
+        x: x.made,
+        y: y.made,
+        value: value.made,
     })
 }

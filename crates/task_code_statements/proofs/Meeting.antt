@@ -79,15 +79,23 @@ pub passed-by : (counter : Counter) (names others old new : List Named) (first :
     → KeepsNames counter names old new
 passed-by counter names others old new first is keeps = subst (λ l. KeepsNames counter l old new) (sym is) (λ values v are kept. keeps values v are.1 kept)
 
-pub one-kept : (counter : Counter) (names others old mid new : List Named) (first : Named) (e : Expr) → names ≡ first ∷ others
-    → same_counter first.counter counter ≡ false → Lacks counter first.e → e ≡ first.e
-    → mid ≡ old ++ (record { counter = first.counter; e = e } ∷ []) → KeepsNames counter others mid new → KeepsNames counter names old new
-one-kept counter names others old mid new first e is other lacks same em keeps =
+-- the same expression under the same variable
+abbrev pub SameName : Named → Counter → Expr → Type 0
+SameName own counter e = (own.counter ≡ counter) × (own.e ≡ e)
+
+same-value : (own : Named) (counter : Counter) (e : Expr) (values : Values) → SameName own counter e → HasValue counter e values
+    → HasValue own.counter own.e values
+same-value own counter e values same has =
+    subst (λ n. HasValue n own.e values) (sym same.0) (subst (λ x. HasValue counter x values) (sym same.1) has)
+
+pub one-kept : (counter : Counter) (names others old mid new : List Named) (first own : Named) → names ≡ first ∷ others
+    → same_counter first.counter counter ≡ false → Lacks counter first.e → SameName own first.counter first.e
+    → mid ≡ old ++ (own ∷ []) → KeepsNames counter others mid new → KeepsNames counter names old new
+one-kept counter names others old mid new first own is other lacks same em keeps =
     subst (λ l. KeepsNames counter l old new) (sym is) (λ values v are kept.
-    let own = name-stays counter first values v other lacks are.0 in
-    let here = subst (λ x. HasValue first.counter x (with counter v values)) (sym same) own in
+    let here = same-value own first.counter first.e (with counter v values) same (name-stays counter first values v other lacks are.0) in
     keeps values v are.1 (subst (λ l. AreNames l (with counter v values)) (sym em)
-    (append-named old (record { counter = first.counter; e = e } ∷ []) (with counter v values) kept (here, tt))))
+    (append-named old (own ∷ []) (with counter v values) kept (here, tt))))
 
 pub stay-named : (counter : Counter) (names none made : List Named) → none ≡ [] → KeepsNames counter names none made → StayNamed counter names made
 stay-named counter names none made is keeps values v are =
@@ -136,10 +144,10 @@ module _ (context : Context) (counter : Counter) where
   }
 
   -- a new name
-  pub name-meets : (free : is_bounded context.bounds.items counter ≡ false) (e copied : Expr) (made : Context) (none one : List Named) → Lacks counter e
-      → copied ≡ e → none ≡ [] → one ≡ none ++ (record { counter = counter; e = copied } ∷ []) → KeepsNames counter context.names.items one made.names.items
+  pub name-meets : (free : is_bounded context.bounds.items counter ≡ false) (e : Expr) (new : Named) (made : Context) (none one : List Named) → Lacks counter e
+      → SameName new counter e → none ≡ [] → one ≡ none ++ (new ∷ []) → KeepsNames counter context.names.items one made.names.items
       → made.known.items ≡ rest → made.bounds.items ≡ context.bounds.items → MeetsName context counter e made
-  name-meets free e copied made none one lacks same e0 e1 keeps ek eb = record {
+  name-meets free e new made none one lacks same e0 e1 keeps ek eb = record {
     meets = λ values v small value_is loads_are m.
         let here : with counter v values counter ≡ v = stands-at counter v values in
         let own : HasValue counter e (with counter v values) = record {
@@ -147,8 +155,8 @@ module _ (context : Context) (counter : Counter) where
           none = λ reads. lacks.loads_are reads values v ∙ loads_are reads;
           small = subst (λ n. n < 2 ^ 32) (sym here) small;
         } in
-        let all = subst (λ l. AreNames l (with counter v values)) (sym (e1 ∙ ap (λ l. l ++ (record { counter = counter; e = copied } ∷ [])) e0))
-        (subst (λ x. HasValue counter x (with counter v values)) (sym same) own, tt) in
+        let all = subst (λ l. AreNames l (with counter v values)) (sym (e1 ∙ ap (λ l. l ++ (new ∷ [])) e0))
+        (same-value new counter e (with counter v values) same own, tt) in
         record {
           known = subst (λ k. AreKnown k (with counter v values)) (sym ek)
               (known-stays counter v rest values (without-fresh counter context.known.items) (without-known counter context.known.items values m.known));

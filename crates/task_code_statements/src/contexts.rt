@@ -11,8 +11,7 @@ use loop_ir::expressions::{Counter, Expr, Linear, Term, same_counter};
 use std::alloc::{AllocError, Global};
 use task_code_loops::bounds::Bound;
 use task_code_loops::known::Known;
-use task_code_names::copies::copy_of;
-use task_code_names::names::Named;
+use task_code_names::names::{Named, new_named};
 use task_code_scalar::CodeFault;
 
 /// Loop variables that are sums of others, numbers below which loop variables stay, and names.
@@ -149,11 +148,8 @@ fn keep_names(
                 keep_names(alloc, made, others, counter)?;
                 return Ok(());
             }
-            let e = copy_of(alloc, &first.e)?;
-            made.push(Named {
-                counter: first.counter,
-                e,
-            })?;
+            let own = new_named(alloc, first.counter, &first.e)?;
+            made.push(own)?;
             keep_names(alloc, made, others, counter)?;
             Ok(())
         }
@@ -254,9 +250,9 @@ pub fn with_name(
     if is_bounded(context.bounds.as_slice(), counter) || !lacks(e, counter) {
         return Ok(None);
     }
-    let own = copy_of(alloc, e)?;
+    let own = new_named(alloc, counter, e)?;
     let mut names = Vec::new(alloc);
-    names.push(Named { counter, e: own })?;
+    names.push(own)?;
     keep_names(alloc, &mut names, context.names.as_slice(), counter)?;
     let mut known = Vec::new(alloc);
     keep_others(alloc, &mut known, context.known.as_slice(), counter)?;

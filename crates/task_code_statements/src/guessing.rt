@@ -12,7 +12,7 @@ use sqlite_items::Boxed;
 use std::alloc::{AllocError, Global};
 use task_code_loops::bounds::Bound;
 use task_code_names::copies::{copy_of, is_same, is_still};
-use task_code_names::names::{Named, store_by_names};
+use task_code_names::names::{Named, new_named, store_by_names};
 use task_code_registers::scopes::Form;
 use task_code_scalar::CodeFault;
 use task_code_scalar::places::Places;
@@ -130,8 +130,8 @@ fn new_names(alloc: Global, all: &[Expr], named: &mut Vec<Expr>) -> Result<Vec<N
     let mut names = Vec::new(alloc);
     for own in all {
         let counter = name(named.len());
-        let e = copy_of(alloc, own)?;
-        names.push(Named { counter, e })?;
+        let new = new_named(alloc, counter, own)?;
+        names.push(new)?;
         let e = copy_of(alloc, own)?;
         named.push(e)?;
     }
