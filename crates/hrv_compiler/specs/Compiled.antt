@@ -14,6 +14,7 @@ use Rattle.bounds.specs.Boxes.{box_in, extent}
 use Rattle.bounds.specs.Verdict.{inferred}
 use Rattle.bounds_ranges.specs.Ranges.{origin}
 use Rattle.loader.specs.declared.outputs.Output.{Output}
+use Rattle.task_code_statements.specs.declared.stages.CodeStage.{CodeStage}
 
 pub record CompiledContents : Type 0 where
   pub pipeline : Pipeline
@@ -23,6 +24,8 @@ pub record CompiledContents : Type 0 where
   pub words : List ℕ
   -- where the code of each phase ends in it: the place behind its last word, from 0 (Map.antt)
   pub ends : List ℕ
+  -- which words are the code of stages inside of phases, in the order of their code
+  pub stages : List CodeStage
 
 -- The schedule was accepted for the pipeline, and the boxes were inferred for both.
 pub record IsCompiled (own : CompiledContents) : Type 0 where

@@ -31,8 +31,10 @@ use picture::{EvalError, Picture, judge};
 use schedule::Schedule;
 use std::alloc::{AllocError, Global};
 use std::marker::Model;
+use task_code_statements::stages::CodeStage;
 
-/// A pipeline under a schedule that was accepted for it, with the words of its phases and where each ends. Contracts
+/// A pipeline under a schedule that was accepted for it, with the words of its phases, where each ends, and the stages
+/// inside of phases. Contracts
 /// see a `CompiledContents` that is an `IsCompiled` (`specs/Compiled.antt`); what its words do, [`Compiled::image`]
 /// promises of the images that it makes.
 #[derive(Drop)]
@@ -42,6 +44,7 @@ pub struct Compiled {
     pub(crate) boxes: Boxes,
     pub(crate) words: Vec<u32>,
     pub(crate) ends: Vec<u32>,
+    pub(crate) stages: Vec<CodeStage>,
 }
 
 impl Model for Compiled {
@@ -54,9 +57,9 @@ impl Model for Compiled {
 
     ghost coded = { Prim.hlevel (codes, e.the_row.coded) };
 
-    ghost view = { λ c. record { pipeline = c.pipeline; schedule = c.schedule; boxes = c.boxes; words = c.words.items; ends = c.ends.items } };
+    ghost view = { λ c. record { pipeline = c.pipeline; schedule = c.schedule; boxes = c.boxes; words = c.words.items; ends = c.ends.items; stages = c.stages.items } };
 
-    ghost invariant = { λ c. IsHeld (record { pipeline = c.pipeline; schedule = c.schedule; boxes = c.boxes; words = c.words.items; ends = c.ends.items }) };
+    ghost invariant = { λ c. IsHeld (record { pipeline = c.pipeline; schedule = c.schedule; boxes = c.boxes; words = c.words.items; ends = c.ends.items; stages = c.stages.items }) };
 }
 
 /// The output's picture in a box that begins at an address.
@@ -158,7 +161,7 @@ impl Compiled {
     /// Memory ran out.
     pub fn map(&self, alloc: Global, algorithm: &str) -> Result<Vec<u8>, AllocError>
         ensures is { IfOk result (λ text. text.items ≡ map_text algorithm.now self.now.pipeline self.now.schedule
-            self.now.boxes self.now.ends) }
+            self.now.boxes self.now.ends self.now.stages) }
         ensures phases { IfOk result (λ text. ArePhases self.now) }
         ensures images { IfOk result (λ text. AreAllRight self.now) }
     {
@@ -169,6 +172,7 @@ impl Compiled {
             &self.schedule,
             &self.boxes,
             self.ends.as_slice(),
+            self.stages.as_slice(),
         )?;
         Ok(text)
     }

@@ -97,13 +97,18 @@ fn built(alloc: Global, pipeline: Pipeline, schedule: Schedule) -> Result<Compil
     ensures err { IfErr result (spec.IsFirst (spec.by_weight pipeline schedule (weight pipeline schedule))) }
 {
     let boxes = judged(alloc, &pipeline, &schedule)?;
-    let Program { words, ends } = words_of(alloc, &pipeline, &schedule, &boxes)?;
+    let Program {
+        words,
+        ends,
+        stages,
+    } = words_of(alloc, &pipeline, &schedule, &boxes)?;
     Ok(Compiled {
         pipeline,
         schedule,
         boxes,
         words,
         ends,
+        stages,
     })
 }
 

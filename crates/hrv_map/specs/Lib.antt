@@ -3,3 +3,4 @@ pub mod Lines
 pub mod Maps
 pub mod Names
 pub mod Phases
+pub mod Stages

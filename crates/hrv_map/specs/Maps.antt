@@ -7,7 +7,9 @@ use Rattle.hrv_map.specs.declared.names.Names.{Names}
 use Rattle.hrv_map.specs.declared.phases.CodePhase.{CodePhase}
 use Rattle.hrv_map.specs.Lines.{control_line, frames_line, func_lines, input_lines}
 use Rattle.hrv_map.specs.Names.{names_of}
-use Rattle.hrv_map.specs.Phases.{phase_lines, phases_from, stages_from, tasks_each}
+use Rattle.hrv_map.specs.Phases.{phases_from, stages_from, tasks_each}
+use Rattle.hrv_map.specs.Stages.{phase_lines}
+use Rattle.task_code_statements.specs.declared.stages.CodeStage.{CodeStage}
 
 -- of the first so many phases
 unfoldable pub control_lines : ℕ → List ℕ
@@ -25,10 +27,11 @@ unfoldable pub phases_of : Pipeline → Schedule → Boxes → List ℕ → List
 phases_of pipeline schedule boxes ends =
     phases_from 0 0 (stages_from schedule boxes 0 pipeline.funcs) (tasks_each pipeline schedule boxes (stages_from schedule boxes 0 pipeline.funcs)) ends
 
--- the layout and the phases
-unfoldable pub text_of : Names → Pipeline → Schedule → Boxes → List ℕ → List ℕ
-text_of names pipeline schedule boxes ends = layout_text names pipeline schedule boxes ++ phase_lines names.funcs (phases_of pipeline schedule boxes ends)
+-- the layout, the phases, and the stages inside of them
+unfoldable pub text_of : Names → Pipeline → Schedule → Boxes → List ℕ → List CodeStage → List ℕ
+text_of names pipeline schedule boxes ends stages =
+    layout_text names pipeline schedule boxes ++ phase_lines names.funcs (phases_of pipeline schedule boxes ends) stages
 
 -- The text of a pipeline under a schedule, with the names that the algorithm's text gives.
-abbrev pub map_text : List ℕ → Pipeline → Schedule → Boxes → List ℕ → List ℕ
-map_text algorithm pipeline schedule boxes ends = text_of (names_of algorithm) pipeline schedule boxes ends
+abbrev pub map_text : List ℕ → Pipeline → Schedule → Boxes → List ℕ → List CodeStage → List ℕ
+map_text algorithm pipeline schedule boxes ends stages = text_of (names_of algorithm) pipeline schedule boxes ends stages

@@ -83,7 +83,3 @@ code_text phase =
 -- `phase PHASE stage NAME tasks N code FIRST BEHIND`
 unfoldable pub phase_line : List (List ℕ) → CodePhase → List ℕ
 phase_line names phase = (codes "phase " ++ decimal phase.number ++ codes " stage ") ++ name_at names phase.stage.func ++ code_text phase
-
-unfoldable pub phase_lines : List (List ℕ) → List CodePhase → List ℕ
-phase_lines names [] = []
-phase_lines names (phase ∷ phases) = phase_line names phase ++ phase_lines names phases

@@ -5,6 +5,7 @@
 //! - [`areas`]: where the pixels of a source lie (`specs/Areas.antt`).
 //! - [`lines`]: the lines of phases, inputs, Funcs and frames (`specs/Lines.antt`).
 //! - [`phases`]: the stages that are phases, and where their code lies (`specs/Phases.antt`).
+//! - [`stages`]: the lines of stages inside of phases (`specs/Stages.antt`).
 #![tactic(auto)]
 
 pub mod areas;
@@ -12,6 +13,7 @@ mod lines;
 pub mod maps;
 pub mod names;
 pub mod phases;
+mod stages;
 
 pub use crate::maps::map_text;
 pub use crate::names::{Names, names_of};

@@ -12,6 +12,7 @@ use bounds::Boxes;
 use halide_pipeline::Pipeline;
 use schedule::Schedule;
 use std::alloc::{AllocError, Global};
+use task_code_statements::stages::CodeStage;
 
 /// Appends the line of a phase's words of control.
 fn push_control_line(alloc: Global, out: &mut Vec<u8>, phase: u64) -> Result<(), AllocError>
@@ -99,8 +100,9 @@ fn phases_of(
 }
 
 /// The text of a pipeline under a schedule that was accepted for it, with boxes that were inferred for both: where the
-/// parts of the data lie, and which words of the machine's text are the code of each phase. Names are those that the
-/// algorithm's text gives; the code of each phase ends at a word of the machine's text, by its place from 0.
+/// parts of the data lie, and which words of the machine's text are the code of each phase, and of stages inside. Names
+/// are those that the algorithm's text gives; the code of each phase ends at a word of the machine's text, by its place
+/// from 0, and stages inside are in the order of their code.
 ///
 /// # Errors
 ///
@@ -113,16 +115,17 @@ pub fn map_text(
     schedule: &Schedule,
     boxes: &Boxes,
     ends: &[u32],
+    stages: &[CodeStage],
 ) -> Result<Vec<u8>, AllocError>
     requires accepted { IsAccepted pipeline.now schedule.now }
     requires phases { boxes.now.layout.phases ≤ 4194304 }
     ensures { IfOk result (λ text. text.items ≡ spec.map_text algorithm.now pipeline.now schedule.now boxes.now
-        ends.now) }
+        ends.now stages.now) }
 {
     let names = names_of(alloc, algorithm)?;
     let phases = phases_of(alloc, pipeline, schedule, boxes, ends)?;
     let mut out = Vec::new(alloc);
     push_layout(alloc, &mut out, &names, pipeline, schedule, boxes)?;
-    push_phase_lines(alloc, &mut out, &names.funcs, phases.as_slice())?;
+    push_phase_lines(alloc, &mut out, &names.funcs, phases.as_slice(), stages)?;
     Ok(out)
 }

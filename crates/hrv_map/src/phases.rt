@@ -10,9 +10,11 @@ ghost use Rattle.bounds.specs.Boxes.{box_in};
 ghost use Rattle.bounds.specs.Tasks as counts;
 ghost use Rattle.hrv_map.specs.Lines.{newline};
 ghost use Rattle.hrv_map.specs.Phases as spec;
+ghost use Rattle.hrv_map.specs.Stages.{phase_lines};
 
 use crate::lines::box_at;
 use crate::names::name_at;
+use crate::stages::push_stage_lines;
 use bounds::Boxes;
 use bounds::tasks::tasks;
 use disassembler::push_hexadecimal;
@@ -22,6 +24,7 @@ use schedule::{Place, Schedule};
 use schedule_lines::stages::StageName;
 use sqlite_items::Items;
 use std::alloc::{AllocError, Global};
+use task_code_statements::stages::CodeStage;
 
 /// A phase, and which words of the text are its code.
 #[derive(Clone, Copy, Debug, PartialEq, Eq)]
@@ -212,7 +215,7 @@ pub(crate) fn push_phases(
 }
 
 /// Appends `.PLACE` of an update.
-fn push_update(text: &mut String, update: Option<usize>) -> Result<(), AllocError>
+pub(crate) fn push_update(text: &mut String, update: Option<usize>) -> Result<(), AllocError>
     ensures { OnOk result (string_bytes text.new ≡ string_bytes text.old ++ spec.update_text update) }
 {
     if let Some(at) = update {
@@ -222,7 +225,7 @@ fn push_update(text: &mut String, update: Option<usize>) -> Result<(), AllocErro
 }
 
 /// The address of a word of the text.
-fn address_of(place: u32) -> u64
+pub(crate) fn address_of(place: u32) -> u64
     ensures { result ≡ text_start + 4 * place }
 {
     u64::from(TEXT_START) + 4 * u64::from(place)
@@ -271,20 +274,22 @@ fn push_phase_line(
     Ok(())
 }
 
-/// The lines of phases.
-#[tactic(auto, unfolding(crate::specs::Phases::phase_lines))]
+/// The lines of phases, behind each of them those of the stages inside it.
+#[tactic(auto, unfolding(crate::specs::Stages::phase_lines))]
 pub(crate) fn push_phase_lines(
     alloc: Global,
     out: &mut Vec<u8>,
     names: &Items<Items<u8>>,
     phases: &[CodePhase],
+    stages: &[CodeStage],
 ) -> Result<(), AllocError>
-    ensures { OnOk result (out.new.items ≡ out.old.items ++ spec.phase_lines names.now phases.now) }
+    ensures { OnOk result (out.new.items ≡ out.old.items ++ phase_lines names.now phases.now stages.now) }
 {
     let [phase, others @ ..] = phases else {
         return Ok(());
     };
     push_phase_line(alloc, out, names, phase)?;
-    push_phase_lines(alloc, out, names, others)?;
+    let behind = push_stage_lines(alloc, out, names, phase, stages)?;
+    push_phase_lines(alloc, out, names, others, behind)?;
     Ok(())
 }

@@ -10,5 +10,6 @@
 pub mod laws;
 mod sizes;
 mod statements;
+mod turns;
 
 pub use crate::statements::emit;

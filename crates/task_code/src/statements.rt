@@ -13,6 +13,7 @@ ghost use Rattle.task_code.specs.Tasks.{EmitsTask};
 ghost use Rattle.task_code_scalar.specs.Words.{Emits};
 
 use crate::sizes::{at_once_size, is_laid_out, task_size};
+use crate::turns::{add_turns, turns_of};
 use halide_pipeline::Source;
 use loop_ir::expressions::Counter;
 use loop_ir::statements::{LoopKind, Phase, Stmt, Store};
@@ -25,6 +26,9 @@ use task_code_scalar::instructions::store_word;
 use task_code_scalar::loops::{append, emit_bind, emit_move, emit_turns, next_seat, with_counter};
 use task_code_scalar::operations::emit_addressed;
 use task_code_scalar::places::Places;
+use task_code_statements::stages::{
+    CodeStage, Stages, add_first, add_last, add_moved, add_second, no_stages, none_beside,
+};
 use task_code_statements::tasks;
 use task_code_statements::tasks::emit_restored;
 use task_code_vector::collecting::{emit_collected, is_one_store};
@@ -175,6 +179,7 @@ fn emit_stmt(
     places: &Places,
     scope: &[Counter],
     stmt: &Stmt,
+    stages: &mut Stages,
 ) -> Result<(), CodeFault>
     ensures ok { OnOk result (EmitsStmt code.old.items code.new.items places.now stmt.now scope.now) }
     ensures err { IfErr result (IsStmtFault places.now stmt.now scope.now) }
@@ -185,15 +190,27 @@ fn emit_stmt(
             Ok(())
         }
         Stmt::Sequence(first, second) => {
-            emit_stmt(alloc, code, places, scope, first.get())?;
-            emit_stmt(alloc, code, places, scope, second.get())?;
+            let start = code.len();
+            emit_stmt(alloc, code, places, scope, first.get(), stages)?;
+            let middle = code.len();
+            add_first(stages, first, start, middle)?;
+            emit_stmt(alloc, code, places, scope, second.get(), stages)?;
+            add_second(stages, second, middle, code.len())?;
             Ok(())
         }
         Stmt::For(counter, count, kind, body) => {
             let r = next_seat(scope)?;
             let within = with_counter(alloc, scope, *counter)?;
             let mut inner = Vec::new(alloc);
-            emit_stmt(alloc, &mut inner, places, within.as_slice(), body.get())?;
+            let mut inside = none_beside(alloc, stages);
+            emit_stmt(
+                alloc,
+                &mut inner,
+                places,
+                within.as_slice(),
+                body.get(),
+                &mut inside,
+            )?;
             let mut in_turn = Vec::new(alloc);
             let is_laid = is_laid_out(*kind);
             emit_turns(&mut in_turn, is_laid, r, *count, inner.as_slice())?;
@@ -208,14 +225,30 @@ fn emit_stmt(
                 body.get(),
                 in_turn.as_slice(),
             )?;
+            let turns = turns_of(is_laid, *count, inner.len());
+            add_turns(stages, inside.list.as_slice(), turns, code.len())?;
             Ok(())
         }
         Stmt::Bind(counter, whole, extent, body) => {
             let r = next_seat(scope)?;
             let within = with_counter(alloc, scope, *counter)?;
             let mut inner = Vec::new(alloc);
-            emit_stmt(alloc, &mut inner, places, within.as_slice(), body.get())?;
+            let mut inside = none_beside(alloc, stages);
+            emit_stmt(
+                alloc,
+                &mut inner,
+                places,
+                within.as_slice(),
+                body.get(),
+                &mut inside,
+            )?;
             emit_bind(code, scope, whole, *extent, r, inner.as_slice())?;
+            add_last(
+                &mut stages.list,
+                inside.list.as_slice(),
+                inner.len(),
+                code.len(),
+            )?;
             Ok(())
         }
     }
@@ -239,13 +272,14 @@ fn emit_task(
     places: &Places,
     ticket: u32,
     code: &mut Vec<u32>,
+    stages: &mut Stages,
 ) -> Result<(), CodeFault>
     requires { ticket + 4 < 2 ^ 32 }
     ensures ok { OnOk result (EmitsCode code.old.items code.new.items phase.now places.now ticket) }
     ensures err { IfErr result (IsCodeFault phase.now places.now ticket) }
 {
     let scope = task_scope(alloc, phase.counter)?;
-    emit_stmt(alloc, code, places, scope.as_slice(), &phase.body)?;
+    emit_stmt(alloc, code, places, scope.as_slice(), &phase.body, stages)?;
     emit_restored(code, ticket, phase.tasks)?;
     Ok(())
 }
@@ -257,6 +291,7 @@ fn emit_by_variables(
     places: &Places,
     ticket: u32,
     code: &mut Vec<u32>,
+    stages: &mut Vec<CodeStage>,
 ) -> Result<(), CodeFault>
     requires { ticket + 4 < 2 ^ 32 }
     ensures ok { OnOk result (EmitsTask code.old.items code.new.items phase.now places.now ticket) }
@@ -264,7 +299,10 @@ fn emit_by_variables(
     ensures fault { IfErr result (IsTaskFault phase.now places.now) }
 {
     let mut words = Vec::new(alloc);
-    emit_task(alloc, phase, places, ticket, &mut words)?;
+    let mut inside = no_stages(alloc, &phase.body);
+    emit_task(alloc, phase, places, ticket, &mut words, &mut inside)?;
+    let found = inside.list.as_slice();
+    add_moved(stages, found, code.len())?;
     append(code, words.as_slice())?;
     Ok(())
 }
@@ -277,17 +315,21 @@ fn emit_by_forms(
     places: &Places,
     ticket: u32,
     code: &mut Vec<u32>,
+    stages: &mut Vec<CodeStage>,
 ) -> Result<bool, AllocError>
     requires { ticket + 4 < 2 ^ 32 }
     ensures ok { IfOk result (λ found. EmitsTaskIf code.old.items code.new.items phase.now places.now ticket found) }
     ensures err { OnErr result (code.new.items ≡ code.old.items) }
 {
     let mut words = Vec::new(alloc);
-    match tasks::emit_task(alloc, phase, places, ticket, &mut words) {
+    let mut inside = Vec::new(alloc);
+    match tasks::emit_task(alloc, phase, places, ticket, &mut words, &mut inside) {
         Ok(()) => {
             if words.len() > task_size(phase) as usize {
                 return Ok(false);
             }
+            let found = inside.as_slice();
+            add_moved(stages, found, code.len())?;
             append(code, words.as_slice())?;
             Ok(true)
         }
@@ -302,7 +344,8 @@ fn emit_by_forms(
 /// It finds the task's number in x12 and the hart's in x10, and ends behind its last word, with the addresses of the
 /// ticket word and of the gate word behind it in x13 and x14, 1 in x15 and the number of tasks in x16. Wherever it
 /// stands it does each task of the phase to the buffers in memory, in turns that hang on the task alone (`DoesTask` of
-/// `specs/Tasks.antt`), and it has no more words than the phase asks for.
+/// `specs/Tasks.antt`), and it has no more words than the phase asks for. It adds which of the words are the code of
+/// stages inside the phase.
 ///
 /// # Errors
 ///
@@ -314,15 +357,16 @@ pub fn emit(
     places: &Places,
     ticket: u32,
     code: &mut Vec<u32>,
+    stages: &mut Vec<CodeStage>,
 ) -> Result<(), CodeFault>
     requires { ticket + 4 < 2 ^ 32 }
     ensures ok { OnOk result (EmitsTask code.old.items code.new.items phase.now places.now ticket) }
     ensures err { OnErr result (code.new.items ≡ code.old.items) }
     ensures fault { IfErr result (IsTaskFault phase.now places.now) }
 {
-    if emit_by_forms(alloc, phase, places, ticket, code)? {
+    if emit_by_forms(alloc, phase, places, ticket, code, stages)? {
         return Ok(());
     }
-    emit_by_variables(alloc, phase, places, ticket, code)?;
+    emit_by_variables(alloc, phase, places, ticket, code, stages)?;
     Ok(())
 }

@@ -3,6 +3,7 @@
 //!
 //! - [`contexts`]: what is known of loop variables while code runs (`specs/Contexts.antt`).
 //! - [`rewriting`]: stores by the loop variables that aren't known (`specs/Rewriting.antt`).
+//! - [`stages`]: which words are the code of stages inside a phase.
 //! - [`statements`]: appends what does a statement, with forms that registers hold (`specs/Statements.antt`).
 //! - [`tasks`]: appends what does one task of a phase (`specs/Tasks.antt`).
 #![tactic(auto)]
@@ -15,7 +16,9 @@ mod mentions;
 mod names;
 mod plain;
 pub mod rewriting;
+mod room;
 mod splits;
+pub mod stages;
 pub mod statements;
 pub mod tasks;
 mod vectorizing;

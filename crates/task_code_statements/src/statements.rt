@@ -11,11 +11,13 @@ ghost use Rattle.task_code_statements.specs.Naming.{NamesIf};
 ghost use Rattle.task_code_statements.specs.Statements.{EmitsLoop, EmitsStatement};
 
 use crate::contexts::{Context, has_term, in_loop, with_sum};
-use crate::guessing::{add_sums, ready, staying};
+use crate::guessing::{ready, staying};
 use crate::names::{Naming, emit_names};
 use crate::plain::is_plain_store;
 use crate::rewriting::store_by_others;
+use crate::room::{depth, reserve, wanted_in};
 use crate::splits::{is_cut, split_sum, without_last};
+use crate::stages::{Code, add_first, add_last, add_second, no_words_beside};
 use crate::vectorizing::{emit_vectorized, is_at_once};
 use loop_ir::expressions::{Counter, Expr, Linear};
 use loop_ir::statements::{LoopKind, Stmt, Store, Whole};
@@ -25,24 +27,14 @@ use task_code_loops::beginning::{Begun, begin_loop};
 use task_code_loops::bounds::{Bound, is_below};
 use task_code_loops::ending::end_loop;
 use task_code_loops::guards::emit_guarded;
-use task_code_loops::known::by_others;
-use task_code_loops::tests::variable;
-use task_code_loops::wanted::wanted_forms;
 use task_code_names::names::store_by_names;
-use task_code_registers::scopes::{Form, Held, free_register};
+use task_code_registers::scopes::{Form, Held};
 use task_code_scalar::CodeFault;
 use task_code_scalar::places::Places;
 use task_code_values::stores::emit_store;
 
 /// How many words a text may have.
 const MOST_WORDS: usize = 1 << 18;
-
-/// How many registers hold forms at most.
-const MOST_HELD: usize = 14;
-/// How many registers a loop has good use for: for its variable and its count, or for pointers and their ends.
-const VARIABLE_REGISTERS: usize = 2;
-
-const POINTER_REGISTERS: usize = 4;
 
 /// A loop variable that stands for a split loop, and the number below which its body is run.
 #[derive(Clone, Copy, Debug)]
@@ -105,75 +97,6 @@ pub(crate) fn mentions(scope: &[Held], counter: Counter) -> bool
             }
         }
     }
-}
-
-/// How many registers the loops of a statement ask for at once: one each, but for those that are laid out or done at
-/// once. The values of split loops are sums.
-fn depth(statement: &Stmt) -> usize {
-    match statement {
-        Stmt::Store(_) => 0,
-        Stmt::Sequence(first, second) => {
-            let one = depth(first.get());
-            let other = depth(second.get());
-            if one < other { other } else { one }
-        }
-        Stmt::For(_, count, kind, body) => {
-            let own = usize::from(!is_at_once(*kind) && !is_laid_out(*kind, *count));
-            depth(body.get()).saturating_add(own)
-        }
-        Stmt::Bind(_, _, _, body) => depth(body.get()),
-    }
-}
-
-/// How many registers are left.
-fn left(scope: &[Held]) -> usize {
-    let mut count = 0;
-    for taken in 0..MOST_HELD {
-        if free_register(scope, taken).is_some() {
-            count = taken + 1;
-        }
-    }
-    count
-}
-
-/// How many registers a loop leaves to so many loops inside: what each has good use for, as far as it has as much
-/// itself.
-fn reserve(scope: &[Held], inside: usize, with_variables: bool) -> usize {
-    let each = if with_variables {
-        VARIABLE_REGISTERS
-    } else {
-        POINTER_REGISTERS
-    };
-    let most = left(scope).saturating_sub(each);
-    let most = if most < inside { inside } else { most };
-    let wanted = inside.saturating_mul(each);
-    if wanted < most { wanted } else { most }
-}
-
-/// The forms that a loop's body wants in registers, by the loop variables that aren't known.
-fn wanted_in(
-    alloc: Global,
-    places: &Places,
-    context: &Context,
-    counter: Counter,
-    body: &Stmt,
-    named: &[Expr],
-) -> Result<Vec<Form>, AllocError> {
-    let bounds = context.bounds.as_slice();
-    let found = wanted_forms(alloc, places, bounds, body)?;
-    let mut wanted = Vec::new(alloc);
-    if context.with_variables {
-        let own = variable(alloc, counter)?;
-        wanted.push(own)?;
-    }
-    for e in named {
-        add_sums(alloc, bounds, e, &mut wanted)?;
-    }
-    for own in found.as_slice() {
-        let form = by_others(alloc, own, context.known.as_slice())?;
-        wanted.push(form)?;
-    }
-    Ok(wanted)
 }
 
 /// Appends what stands in front of a loop whose variable no held form has.
@@ -269,7 +192,7 @@ fn begin_iterations(
 #[cycle(statements)]
 fn emit_iterations(
     alloc: Global,
-    code: &mut Vec<u32>,
+    code: &mut Code,
     places: &Places,
     scope: &[Held],
     context: &Context,
@@ -277,14 +200,14 @@ fn emit_iterations(
     body: &Stmt,
 ) -> Result<(), CodeFault>
     requires { 1 ≤ own.count }
-    ensures { OnOk result (EmitsLoop code.old.items code.new.items places.now scope.now (Meets context.now)
+    ensures { OnOk result (EmitsLoop code.old.words.items code.new.words.items places.now scope.now (Meets context.now)
         own.counter own.count body.now) }
 {
     let inner = in_loop(alloc, context, own)?;
-    let begun = begin_iterations(alloc, code, places, scope, &inner, own, body)?;
-    let start = code.len();
+    let begun = begin_iterations(alloc, &mut code.words, places, scope, &inner, own, body)?;
+    let start = code.words.len();
     emit_statement(alloc, code, places, begun.inner.as_slice(), &inner, body)?;
-    end_loop(code, &begun, start)?;
+    end_loop(&mut code.words, &begun, start)?;
     Ok(())
 }
 
@@ -292,20 +215,20 @@ fn emit_iterations(
 #[cycle(statements)]
 fn emit_loop(
     alloc: Global,
-    code: &mut Vec<u32>,
+    code: &mut Code,
     places: &Places,
     scope: &[Held],
     context: &Context,
     own: Bound,
     body: &Stmt,
 ) -> Result<(), CodeFault>
-    ensures { OnOk result (EmitsLoop code.old.items code.new.items places.now scope.now (Meets context.now)
+    ensures { OnOk result (EmitsLoop code.old.words.items code.new.words.items places.now scope.now (Meets context.now)
         own.counter own.count body.now) }
 {
     if own.count == 0 {
         return Ok(());
     }
-    match emit_before(alloc, code, places, scope, context, own, body)? {
+    match emit_before(alloc, &mut code.words, places, scope, context, own, body)? {
         None => {
             emit_iterations(alloc, code, places, scope, context, own, body)?;
             Ok(())
@@ -322,21 +245,21 @@ fn emit_loop(
 #[cycle(statements)]
 fn emit_laid_out(
     alloc: Global,
-    code: &mut Vec<u32>,
+    code: &mut Code,
     places: &Places,
     scope: &[Held],
     context: &Context,
     own: Bound,
     body: &Stmt,
 ) -> Result<(), CodeFault>
-    ensures { OnOk result (EmitsLoop code.old.items code.new.items places.now scope.now (Meets context.now)
+    ensures { OnOk result (EmitsLoop code.old.words.items code.new.words.items places.now scope.now (Meets context.now)
         own.counter own.count body.now) }
 {
     if mentions(scope, own.counter) {
         return Err(CodeFault::TooDeep);
     }
     for iteration in 0..own.count {
-        if code.len() >= MOST_WORDS {
+        if code.words.len() >= MOST_WORDS {
             return Err(CodeFault::TooLong);
         }
         let number = Linear::of_number(alloc, iteration);
@@ -350,14 +273,14 @@ fn emit_laid_out(
 #[cycle(statements)]
 fn emit_serial(
     alloc: Global,
-    code: &mut Vec<u32>,
+    code: &mut Code,
     places: &Places,
     scope: &[Held],
     context: &Context,
     own: Bound,
     body: &Stmt,
 ) -> Result<(), CodeFault>
-    ensures { OnOk result (EmitsLoop code.old.items code.new.items places.now scope.now (Meets context.now)
+    ensures { OnOk result (EmitsLoop code.old.words.items code.new.words.items places.now scope.now (Meets context.now)
         own.counter own.count body.now) }
 {
     if is_cut(body, own) {
@@ -376,7 +299,7 @@ fn emit_serial(
 #[cycle(statements)]
 fn emit_parted(
     alloc: Global,
-    code: &mut Vec<u32>,
+    code: &mut Code,
     places: &Places,
     scope: &[Held],
     context: &Context,
@@ -384,7 +307,7 @@ fn emit_parted(
     body: &Stmt,
 ) -> Result<(), CodeFault>
     requires { 1 ≤ own.count }
-    ensures { OnOk result (EmitsLoop code.old.items code.new.items places.now scope.now (Meets context.now)
+    ensures { OnOk result (EmitsLoop code.old.words.items code.new.words.items places.now scope.now (Meets context.now)
         own.counter own.count body.now) }
 {
     let counter = own.counter;
@@ -403,15 +326,15 @@ fn emit_parted(
 #[cycle(statements)]
 fn emit_split(
     alloc: Global,
-    code: &mut Vec<u32>,
+    code: &mut Code,
     places: &Places,
     scope: &[Held],
     context: &Context,
     split: Split,
     body: &Stmt,
 ) -> Result<(), CodeFault>
-    ensures { OnOk result (EmitsStatement code.old.items code.new.items places.now scope.now (Meets context.now)
-        (stmts.Bind split.counter split.whole split.extent body.now)) }
+    ensures { OnOk result (EmitsStatement code.old.words.items code.new.words.items places.now scope.now
+        (Meets context.now) (stmts.Bind split.counter split.whole split.extent body.now)) }
 {
     match split_sum(alloc, context, &split.whole)? {
         None => Err(CodeFault::TooDeep),
@@ -425,9 +348,19 @@ fn emit_split(
                 emit_statement(alloc, code, places, scope, &inner, body)?;
                 return Ok(());
             }
-            let mut words = Vec::new(alloc);
-            emit_statement(alloc, &mut words, places, scope, &inner, body)?;
-            emit_guarded(alloc, code, scope, &form, split.extent, words.as_slice())?;
+            let mut made = no_words_beside(alloc, code);
+            emit_statement(alloc, &mut made, places, scope, &inner, body)?;
+            emit_guarded(
+                alloc,
+                &mut code.words,
+                scope,
+                &form,
+                split.extent,
+                made.words.as_slice(),
+            )?;
+            let found = made.stages.list.as_slice();
+            let behind = code.words.len();
+            add_last(&mut code.stages.list, found, made.words.len(), behind)?;
             Ok(())
         }
     }
@@ -442,23 +375,28 @@ fn emit_split(
 #[cycle(statements)]
 pub fn emit_statement(
     alloc: Global,
-    code: &mut Vec<u32>,
+    code: &mut Code,
     places: &Places,
     scope: &[Held],
     context: &Context,
     statement: &Stmt,
 ) -> Result<(), CodeFault>
-    ensures { OnOk result (EmitsStatement code.old.items code.new.items places.now scope.now (Meets context.now)
-        statement.now) }
+    ensures { OnOk result (EmitsStatement code.old.words.items code.new.words.items places.now scope.now
+        (Meets context.now) statement.now) }
 {
     match statement {
         Stmt::Store(store) => {
-            emit_known_store(alloc, code, places, scope, context, store)?;
+            emit_known_store(alloc, &mut code.words, places, scope, context, store)?;
             Ok(())
         }
         Stmt::Sequence(first, second) => {
+            let front = code.words.len();
             emit_statement(alloc, code, places, scope, context, first.get())?;
+            let middle = code.words.len();
+            add_first(&mut code.stages, first, front, middle)?;
             emit_statement(alloc, code, places, scope, context, second.get())?;
+            let end = code.words.len();
+            add_second(&mut code.stages, second, middle, end)?;
             Ok(())
         }
         Stmt::For(counter, count, kind, body) => {
@@ -467,7 +405,15 @@ pub fn emit_statement(
                 count: *count,
             };
             if is_at_once(*kind) {
-                emit_vectorized(alloc, code, places, scope, context, own, body.get())?;
+                emit_vectorized(
+                    alloc,
+                    &mut code.words,
+                    places,
+                    scope,
+                    context,
+                    own,
+                    body.get(),
+                )?;
                 return Ok(());
             }
             if is_laid_out(*kind, *count) {

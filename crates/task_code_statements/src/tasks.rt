@@ -7,6 +7,7 @@ ghost use Rattle.task_code_statements.specs.Tasks.{AppendsTask, Begins, StaysMet
 
 use crate::contexts::{Context, in_loop, nothing_known, with_zero};
 use crate::mentions::mentioned_variables;
+use crate::stages::{Code, CodeStage, add_moved, no_stages};
 use crate::statements::emit_statement;
 use loop_ir::expressions::{Counter, same_counter};
 use loop_ir::statements::Phase;
@@ -124,10 +125,10 @@ fn emit_words(
     places: &Places,
     ticket: u32,
     with_variables: bool,
-    code: &mut Vec<u32>,
+    code: &mut Code,
 ) -> Result<(), CodeFault>
     requires { ticket + 4 < 2 ^ 32 }
-    ensures { OnOk result (AppendsTask code.old.items code.new.items phase.now places.now ticket) }
+    ensures { OnOk result (AppendsTask code.old.words.items code.new.words.items phase.now places.now ticket) }
 {
     let begun = beginning(alloc, phase.counter, phase.tasks, with_variables)?;
     let others = mentioned_variables(alloc, &phase.body)?;
@@ -140,7 +141,7 @@ fn emit_words(
         &context,
         &phase.body,
     )?;
-    emit_restored(code, ticket, phase.tasks)?;
+    emit_restored(&mut code.words, ticket, phase.tasks)?;
     Ok(())
 }
 
@@ -151,13 +152,17 @@ fn tried_words(
     places: &Places,
     ticket: u32,
     with_variables: bool,
-) -> Result<Option<Vec<u32>>, AllocError>
+) -> Result<Option<Code>, AllocError>
     requires { ticket + 4 < 2 ^ 32 }
-    ensures { IfOk result (λ found. IfSome found (λ words. AppendsTask [] words.items phase.now places.now ticket)) }
+    ensures { IfOk result (λ found. IfSome found (λ made. AppendsTask [] made.words.items phase.now places.now
+        ticket)) }
 {
-    let mut words = Vec::new(alloc);
-    match emit_words(alloc, phase, places, ticket, with_variables, &mut words) {
-        Ok(()) => Ok(Some(words)),
+    let mut made = Code {
+        words: Vec::new(alloc),
+        stages: no_stages(alloc, &phase.body),
+    };
+    match emit_words(alloc, phase, places, ticket, with_variables, &mut made) {
+        Ok(()) => Ok(Some(made)),
         Err(CodeFault::OutOfMemory(error)) => Err(error),
         Err(CodeFault::TooLong) => Ok(None),
         Err(CodeFault::TooDeep) => Ok(None),
@@ -166,6 +171,8 @@ fn tried_words(
 
 /// Appends the code of one task of a phase, with forms in the registers that loops and expressions leave: pointers
 /// first, and where registers do not suffice for this, loop variables first.
+///
+/// It adds which of the words are the code of stages inside the phase.
 ///
 /// It finds the task's number in x12 and the hart's in x10, and ends behind its last word, with the addresses of the
 /// ticket word and of the gate word behind it in x13 and x14, 1 in x15 and the number of tasks in x16.
@@ -179,17 +186,22 @@ pub fn emit_task(
     places: &Places,
     ticket: u32,
     code: &mut Vec<u32>,
+    stages: &mut Vec<CodeStage>,
 ) -> Result<(), CodeFault>
     requires { ticket + 4 < 2 ^ 32 }
     ensures { OnOk result (AppendsTask code.old.items code.new.items phase.now places.now ticket) }
 {
-    if let Some(words) = tried_words(alloc, phase, places, ticket, false)? {
-        append(code, words.as_slice())?;
+    if let Some(made) = tried_words(alloc, phase, places, ticket, false)? {
+        let found = made.stages.list.as_slice();
+        add_moved(stages, found, code.len())?;
+        append(code, made.words.as_slice())?;
         return Ok(());
     }
     match tried_words(alloc, phase, places, ticket, true)? {
-        Some(words) => {
-            append(code, words.as_slice())?;
+        Some(made) => {
+            let found = made.stages.list.as_slice();
+            add_moved(stages, found, code.len())?;
+            append(code, made.words.as_slice())?;
             Ok(())
         }
         None => Err(CodeFault::TooDeep),

@@ -77,7 +77,7 @@ def lines_of(algorithm, schedule, says):
 
 def shown(lines):
     """A map's lines without where code lies, which no other reading says."""
-    return [line.split(" code ")[0] if line.startswith("phase ") else line for line in lines]
+    return [line.split(" code ")[0] if line.startswith("phase ") else line for line in lines if not line.startswith("code ")]
 
 
 def chosen(path, count):

@@ -64,7 +64,7 @@ pub fn push_accesses(alloc: Global, parts: &[Part], out: &mut String) -> Result<
     push_lanes(alloc, &page.bytes, out)
 }
 
-/// The map of an algorithm under a schedule, but for where the code of phases lies.
+/// The map of an algorithm under a schedule, but for where code lies.
 pub fn push_map(alloc: Global, parts: &[Part], out: &mut String) -> Result<(), Failure> {
     let (parts, devices) = devices_of(parts);
     let [algorithm, schedule] = parts else {
@@ -86,7 +86,9 @@ pub fn push_map(alloc: Global, parts: &[Part], out: &mut String) -> Result<(), F
         return Err(Failure::Malformed("the map is no text"));
     };
     for line in map.lines() {
-        writeln!(out, "{}", without_code(line))?;
+        if !line.starts_with("code ") {
+            writeln!(out, "{}", without_code(line))?;
+        }
     }
     Ok(())
 }

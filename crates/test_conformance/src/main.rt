@@ -26,7 +26,7 @@
 //! | `run` | `image`; `turns`: how many a hart makes at most | the log of one hart, in hexadecimal, and the dump |
 //! | `resume` | `image`, `log`; `turns` | the same, from where a log of one hart ends |
 //! | `compile` | `algorithm`, `schedule`, any number of `picture` | the image but for its words, one hart's picture |
-//! | `map` | `algorithm`, `schedule` | the map, but for where the code of phases lies |
+//! | `map` | `algorithm`, `schedule` | the map, but for where code lies |
 //! | `accesses` | as `compile` | how many vector loads and stores are listed, and one hart's lanes at its end |
 //! | `threads` | `image`, `harts`, `turns` | of a run by threads the lines of the harts and of the picture |
 //! | `share` | `harts`, `turns`, and those of `compile` | the same of the compiled image |

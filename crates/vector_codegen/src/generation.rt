@@ -13,6 +13,7 @@ use std::alloc::{AllocError, Global};
 use task_code::emit;
 use task_code_scalar::CodeFault;
 use task_code_scalar::places::Places;
+use task_code_statements::stages::{CodeStage, add_last};
 
 /// A program has at most so many phases: the code around a phase's tasks takes 16 words.
 const MOST_PHASES: usize = MOST_WORDS / 16;
@@ -29,7 +30,7 @@ fn ticket_of(number: u32) -> u32
     DATA_START + 8 * number
 }
 
-/// Appends the words of the phase with this number.
+/// Appends the words of the phase with this number, and the stages inside it.
 fn push_phase(
     alloc: Global,
     code: &mut Vec<u32>,
@@ -37,6 +38,7 @@ fn push_phase(
     number: u32,
     phase: &Phase,
     is_last: bool,
+    stages: &mut Vec<CodeStage>,
 ) -> Result<(), CodeFault>
     requires { number < 16384 }
     ensures emits { OnOk result (EmitsPhase code.old.items code.new.items places.now number is_last phase.now) }
@@ -48,8 +50,12 @@ fn push_phase(
     }
     let ticket = ticket_of(number);
     let mut words = Vec::new(alloc);
-    emit(alloc, phase, places, ticket, &mut words)?;
+    let mut inside = Vec::new(alloc);
+    emit(alloc, phase, places, ticket, &mut words, &mut inside)?;
     emit_phase(code, is_last, ticket, phase.tasks, words.as_slice())?;
+    // The way back to the draw is one word.
+    let behind = code.len().saturating_sub(1);
+    add_last(stages, inside.as_slice(), words.len(), behind)?;
     Ok(())
 }
 
@@ -61,7 +67,7 @@ fn push_end(ends: &mut Vec<usize>, end: usize) -> Result<(), AllocError>
     Ok(())
 }
 
-/// Appends the words of phases, the first of which has this number, and where the code of each ends.
+/// Appends the words of phases, the first of which has this number, where the code of each ends, and the stages inside.
 fn push_phases(
     alloc: Global,
     code: &mut Vec<u32>,
@@ -69,6 +75,7 @@ fn push_phases(
     places: &Places,
     number: u32,
     phases: &[Phase],
+    stages: &mut Vec<CodeStage>,
 ) -> Result<(), CodeFault>
     requires { number + length phases.now ≤ 16384 }
     ensures emits { OnOk result (EmitsPhases code.old.items code.new.items ends.old.items ends.new.items places.now
@@ -79,9 +86,17 @@ fn push_phases(
     let [phase, others @ ..] = phases else {
         return Ok(());
     };
-    push_phase(alloc, code, places, number, phase, others.is_empty())?;
+    push_phase(
+        alloc,
+        code,
+        places,
+        number,
+        phase,
+        others.is_empty(),
+        stages,
+    )?;
     push_end(ends, code.len())?;
-    push_phases(alloc, code, ends, places, number + 1, others)?;
+    push_phases(alloc, code, ends, places, number + 1, others, stages)?;
     Ok(())
 }
 
@@ -98,12 +113,14 @@ fn push_ends(narrow: &mut Vec<u32>, ends: &[usize]) -> Result<(), AllocError>
     Ok(())
 }
 
-/// The words of a program, and where the code of each phase ends in them.
+/// The words of a program, and where the code of each phase ends in them, and that of stages inside of phases stands.
 #[derive(Drop)]
 pub struct Program {
     pub words: Vec<u32>,
     /// The place behind the last word of each phase, from 0.
     pub ends: Vec<u32>,
+    /// Stages inside of phases, in the order of their code.
+    pub stages: Vec<CodeStage>,
 }
 
 /// The words of the program that phases make, where buffers lie so, and where the code of each phase ends: whichever
@@ -123,11 +140,24 @@ pub fn generate(alloc: Global, phases: &[Phase], places: &Places) -> Result<Prog
     }
     let mut code = Vec::new(alloc);
     let mut places_of_ends = Vec::new(alloc);
-    push_phases(alloc, &mut code, &mut places_of_ends, places, 0, phases)?;
+    let mut stages = Vec::new(alloc);
+    push_phases(
+        alloc,
+        &mut code,
+        &mut places_of_ends,
+        places,
+        0,
+        phases,
+        &mut stages,
+    )?;
     if code.len() > MOST_WORDS {
         return Err(CodeFault::TooLong);
     }
     let mut ends = Vec::new(alloc);
     push_ends(&mut ends, places_of_ends.as_slice())?;
-    Ok(Program { words: code, ends })
+    Ok(Program {
+        words: code,
+        ends,
+        stages,
+    })
 }

@@ -8,13 +8,13 @@ pub returns-in_ok-emit_store-in-Store-clause-ok : goal.returns-in_ok-emit_store-
 returns-in_ok-emit_store-in-Store-clause-ok t c =
     store-emitted c.args.places.now c.args.scope.now c.args.stmt.now c.in-Store.store _ _ c.in-Store.is c.in_ok-emit_store-in-Store.ensures.ok
 
-pub returns-in_ok-emit_stmt-in-Sequence-2-clause-ok : goal.returns-in_ok-emit_stmt-in-Sequence-2-clause-ok
-returns-in_ok-emit_stmt-in-Sequence-2-clause-ok t c =
+pub returns-in_ok-add_second-in-Sequence-clause-ok : goal.returns-in_ok-add_second-in-Sequence-clause-ok
+returns-in_ok-add_second-in-Sequence-clause-ok t c =
     sequence-emitted c.args.places.now c.args.scope.now c.args.stmt.now c.in-Sequence.first c.in-Sequence.second _ _ _ _ _ c.in-Sequence.is c.get.ensures c.get-in-Sequence.ensures
     c.in_ok-emit_stmt-in-Sequence.ensures.ok c.in_ok-emit_stmt-in-Sequence-2.ensures.ok
 
-pub returns-in_ok-emit_taken-in-For-clause-ok : goal.returns-in_ok-emit_taken-in-For-clause-ok
-returns-in_ok-emit_taken-in-For-clause-ok t c =
+pub returns-in_ok-add_turns-in-For-clause-ok : goal.returns-in_ok-add_turns-in-For-clause-ok
+returns-in_ok-add_turns-in-For-clause-ok t c =
     for-emitted c.args.places.now c.args.scope.now c.args.stmt.now c.in-For.body c.get-in-For-2.result.now c.in-For.counter c.in-For.count c.in_ok-r-in-For.r c.in-For.kind c.is_laid_out-is_laid.result c.as_slice-in-For.result.now
     c.new-in_turn.result.items c.emit_turns.new.code.items c.as_slice-in-For-2.result.now _ _ c.in-For.is c.get-in-For-2.ensures c.is_laid_out-is_laid.ensures c.in_ok-r-in-For.ensures.ok.0 c.in_ok-r-in-For.ensures.ok.1.1
     (inner-emitted c.args.places.now c.new-inner.result.items c.emit_stmt-in-For.new.code.items c.as_slice-in-For.result.now c.as_slice.result.now c.in_ok-within-in-For.within.items
@@ -22,8 +22,8 @@ returns-in_ok-emit_taken-in-For-clause-ok t c =
     c.new-inner.ensures.items c.as_slice-in-For.ensures.value c.as_slice.ensures.value c.in_ok-within-in-For.ensures c.get-in-For.ensures c.in_ok-emit_stmt-in-For.ensures.ok)
     c.in_ok-emit_turns-in-For.ensures.ok c.new-in_turn.ensures.items c.as_slice-in-For-2.ensures.value c.in_ok-emit_taken-in-For.ensures.ok
 
-pub returns-in_ok-emit_bind-in-Bind-clause-ok : goal.returns-in_ok-emit_bind-in-Bind-clause-ok
-returns-in_ok-emit_bind-in-Bind-clause-ok t c =
+pub returns-in_ok-add_last-in-Bind-clause-ok : goal.returns-in_ok-add_last-in-Bind-clause-ok
+returns-in_ok-add_last-in-Bind-clause-ok t c =
     bind-emitted c.args.places.now c.args.scope.now c.args.stmt.now c.in-Bind.body c.in-Bind.counter c.in-Bind.whole c.in-Bind.extent c.in_ok-r-in-Bind.r c.as_slice-in-Bind-2.result.now _ _ c.in-Bind.is
     c.in_ok-r-in-Bind.ensures.ok.0 c.in_ok-r-in-Bind.ensures.ok.1.1
     (inner-emitted c.args.places.now c.new-inner-in-Bind.result.items c.emit_stmt-in-Bind.new.code.items c.as_slice-in-Bind-2.result.now c.as_slice-in-Bind.result.now c.in_ok-within-in-Bind.within.items

@@ -19,8 +19,8 @@ emit_statement-returns-in_ok-emit_known_store-in-Store t c =
     arm c.args.places.now c.args.scope.now (Meets c.args.context.now) c.args.statement.now (s.Store c.in-Store.store) _ _ c.in-Store.is
     c.in_ok-emit_known_store-in-Store.ensures
 
-pub emit_statement-returns-in_ok-emit_statement-in-Sequence-2 : goal.emit_statement-returns-in_ok-emit_statement-in-Sequence-2
-emit_statement-returns-in_ok-emit_statement-in-Sequence-2 t c =
+pub emit_statement-returns-in_ok-add_second-in-Sequence : goal.emit_statement-returns-in_ok-add_second-in-Sequence
+emit_statement-returns-in_ok-add_second-in-Sequence t c =
     sequence-arm c.args.places.now c.args.scope.now (Meets c.args.context.now) c.args.statement.now c.in-Sequence.first c.in-Sequence.second c.get.result.now
     c.get-in-Sequence.result.now _ _ _ c.in-Sequence.is c.get.ensures c.get-in-Sequence.ensures c.in_ok-emit_statement-in-Sequence.ensures
     c.in_ok-emit_statement-in-Sequence-2.ensures
@@ -53,16 +53,16 @@ emit_loop-returns-then-own-eq0 t c = λ kind plain.
 
 pub emit_loop-returns-in_ok-emit_iterations-in-None : goal.emit_loop-returns-in_ok-emit_iterations-in-None
 emit_loop-returns-in_ok-emit_iterations-in-None t c =
-    loop-alone c.args.places.now c.args.scope.now (Meets c.args.context.now) c.args.own.counter c.args.own.count c.args.body.now c.args.code.now.items
+    loop-alone c.args.places.now c.args.scope.now (Meets c.args.context.now) c.args.own.counter c.args.own.count c.args.body.now c.args.code.now.words.items
     c.emit_before.new.code.items _
-    (none-given c.args.places.now c.args.scope.now c.args.context.now c.in_ok-emit_before.field-0 c.args.code.now.items c.emit_before.new.code.items
+    (none-given c.args.places.now c.args.scope.now c.args.context.now c.in_ok-emit_before.field-0 c.args.code.now.words.items c.emit_before.new.code.items
     c.in-None.is c.in_ok-emit_before.ensures) c.in_ok-emit_iterations-in-None.ensures
 
 pub emit_loop-returns-in_ok-emit_iterations-in-Some : goal.emit_loop-returns-in_ok-emit_iterations-in-Some
 emit_loop-returns-in_ok-emit_iterations-in-Some t c =
     loop-behind c.args.places.now c.args.scope.now c.as_slice-inner.result.now c.args.context.now c.in-Some.before c.args.own.counter c.args.own.count
-    c.args.body.now c.args.code.now.items c.emit_before.new.code.items _
-    (some-given c.args.places.now c.args.scope.now c.args.context.now c.in-Some.before c.in_ok-emit_before.field-0 c.args.code.now.items
+    c.args.body.now c.args.code.now.words.items c.emit_before.new.code.items _
+    (some-given c.args.places.now c.args.scope.now c.args.context.now c.in-Some.before c.in_ok-emit_before.field-0 c.args.code.now.words.items
     c.emit_before.new.code.items c.in-Some.is c.in_ok-emit_before.ensures) c.as_slice-inner.ensures.value c.in_ok-emit_iterations-in-Some.ensures
 
 pub emit_iterations-returns : goal.emit_iterations-returns
@@ -81,7 +81,8 @@ emit_laid_out-loop-iteration-preserved t c =
     let more : suc k ≡ k + 1 = omega arith in
     let small : k < 2 ^ 32 = omega arith in
     let so = Meets c.args.context.now in
-    subst (λ n. LaysOut c.args.code.now.items c.emit_statement.new.code.items c.args.places.now c.args.scope.now so c.args.own.counter c.args.body.now n) more
+    subst (λ n. LaysOut c.args.code.now.words.items c.emit_statement.new.code.words.items c.args.places.now c.args.scope.now so
+    c.args.own.counter c.args.body.now n) more
     (one-laid c.args.places.now c.args.scope.now so c.args.own.counter c.args.body.now k (Meets c.in_ok-inner.inner) _ _ _
     (sym c.mentions.ensures ∙ c.if-mentions.false)
     (number-enters c.args.context.now c.in_ok-inner.inner c.args.own.counter k c.of_number-number.result small c.of_number-number.ensures.value
@@ -92,7 +93,8 @@ emit_laid_out-returns t c = λ kind plain.
     let all : c.loop-iteration.iteration ≡ c.args.own.count = omega arith in
     let so = Meets c.args.context.now in
     laid-emits c.args.places.now c.args.scope.now so c.args.own.counter c.args.body.now c.args.own.count kind _ _ plain
-    (subst (λ n. LaysOut c.args.code.now.items c.loop-iteration.code.items c.args.places.now c.args.scope.now so c.args.own.counter c.args.body.now n) all
+    (subst (λ n. LaysOut c.args.code.now.words.items c.loop-iteration.code.words.items c.args.places.now c.args.scope.now so
+    c.args.own.counter c.args.body.now n) all
     c.loop-iteration.invariant)
 
 pub emit_parted-returns : goal.emit_parted-returns
@@ -110,13 +112,13 @@ emit_split-returns-then-is_below t c =
     (subst (λ b. IsBelow b (record { sum = c.in-Some.sum; per_hart = 0 }) c.args.split.extent) c.as_slice.ensures.value (c.is_below.ensures c.if-is_below.true))
     c.in_ok-emit_statement-in-Some.ensures
 
-pub emit_split-returns-in_ok-emit_guarded-in-Some : goal.emit_split-returns-in_ok-emit_guarded-in-Some
-emit_split-returns-in_ok-emit_guarded-in-Some t c =
+pub emit_split-returns-in_ok-add_last-in-Some : goal.emit_split-returns-in_ok-add_last-in-Some
+emit_split-returns-in_ok-add_last-in-Some t c =
     let form : Form = record { sum = c.in-Some.sum; per_hart = 0 } in
     guarded-emits c.args.places.now c.args.scope.now c.args.context.now c.in_ok-inner-in-Some.inner c.args.split.counter c.args.split.whole c.args.split.extent
     c.args.body.now c.in-Some.sum (sym c.mentions.ensures ∙ c.if-mentions.false)
     (found-sum c.args.context.now c.args.split.whole c.in-Some.sum _ c.in-Some.is c.in_ok-split_sum.ensures) c.in_ok-inner-in-Some.ensures _ _ _
-    (subst (λ old. EmitsStatement old c.emit_statement-in-Some.new.code.items c.args.places.now c.args.scope.now (Meets c.in_ok-inner-in-Some.inner)
-    c.args.body.now) c.new-words.ensures.items c.in_ok-emit_statement-in-Some-2.ensures)
-    (subst (λ words. GuardsWords c.args.code.now.items c.emit_guarded.new.code.items c.args.scope.now form c.args.split.extent words)
+    (subst (λ old. EmitsStatement old c.emit_statement-in-Some.new.code.words.items c.args.places.now c.args.scope.now (Meets c.in_ok-inner-in-Some.inner)
+    c.args.body.now) c.no_words_beside-made.ensures c.in_ok-emit_statement-in-Some-2.ensures)
+    (subst (λ words. GuardsWords c.args.code.now.words.items c.emit_guarded.new.code.items c.args.scope.now form c.args.split.extent words)
     c.as_slice-in-Some.ensures.value c.in_ok-emit_guarded-in-Some.ensures.ok)

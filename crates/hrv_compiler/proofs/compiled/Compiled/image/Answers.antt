@@ -25,7 +25,7 @@ image_data-requires-clause-room c =
 
 pub unwrap-requires : goal.unwrap-requires
 unwrap-requires c =
-    let own : CompiledContents = record { pipeline = c.self.inside.pipeline; schedule = c.self.inside.schedule; boxes = c.self.inside.boxes; words = c.self.inside.words.items; ends = c.self.inside.ends.items } in
+    let own : CompiledContents = record { pipeline = c.self.inside.pipeline; schedule = c.self.inside.schedule; boxes = c.self.inside.boxes; words = c.self.inside.words.items; ends = c.self.inside.ends.items; stages = c.self.inside.stages.items } in
     is_ok c.new.result (image_of own c.args.pictures.now)
     (c.new.ensures.exact
     ∙ parts_pass own c.self.invariant c.args.pictures.now (ap (λ (inputs : List Input). judged inputs c.args.pictures.now) (sym c.inputs.ensures.value) ∙ (sym c.judge.ensures ∙ c.in_default.is)) c.in_ok-data.ensures.rules c.extend_from_slice.new.self.items c.in_ok-data.data.items (Some c.output-output.result)
@@ -35,7 +35,7 @@ unwrap-requires c =
 
 pub returns-clause-is : goal.returns-clause-is
 returns-clause-is c =
-    let own : CompiledContents = record { pipeline = c.self.inside.pipeline; schedule = c.self.inside.schedule; boxes = c.self.inside.boxes; words = c.self.inside.words.items; ends = c.self.inside.ends.items } in
+    let own : CompiledContents = record { pipeline = c.self.inside.pipeline; schedule = c.self.inside.schedule; boxes = c.self.inside.boxes; words = c.self.inside.words.items; ends = c.self.inside.ends.items; stages = c.self.inside.stages.items } in
     subst (λ (own : CompiledContents). c.unwrap.result ≡ image_of own c.args.pictures.now) c.self.view_is
     (ok_is c.new.result (image_of own c.args.pictures.now) c.unwrap.result
     (c.new.ensures.exact

@@ -1,5 +1,6 @@
 use Rattle.std.proofs.Common.{◌≡◌, ◌∙◌, ℕ, List, ap, arith, subst}
 use Rattle.hrv_map.specs.Maps.{map_text}
+use Rattle.task_code_statements.specs.declared.stages.CodeStage.{CodeStage}
 use Rattle.hrv_compiler.specs.Compiled.{CompiledContents}
 use Rattle.hrv_compiler.specs.inner.Held.{IsHeld}
 use Rattle.hrv_compiler.proofs.Low.{few_phases}
@@ -15,9 +16,12 @@ map_text-requires-clause-phases c =
 
 pub returns-clause-is : goal.returns-clause-is
 returns-clause-is c =
-    subst (λ (own : CompiledContents). c.in_ok-text.text.items ≡ map_text c.args.algorithm.now own.pipeline own.schedule own.boxes own.ends) c.self.view_is
+    let own = c.self.inside in
+    subst (λ (own : CompiledContents). c.in_ok-text.text.items ≡ map_text c.args.algorithm.now own.pipeline own.schedule own.boxes own.ends own.stages)
+    c.self.view_is
     (c.in_ok-text.ensures
-    ∙ ap (λ (ends : List ℕ). map_text c.args.algorithm.now c.self.inside.pipeline c.self.inside.schedule c.self.inside.boxes ends) c.as_slice.ensures.value)
+    ∙ ap (λ (ends : List ℕ). map_text c.args.algorithm.now own.pipeline own.schedule own.boxes ends c.as_slice-2.result.now) c.as_slice.ensures.value
+    ∙ ap (λ (stages : List CodeStage). map_text c.args.algorithm.now own.pipeline own.schedule own.boxes own.ends.items stages) c.as_slice-2.ensures.value)
 
 pub returns-clause-phases : goal.returns-clause-phases
 returns-clause-phases c = are-phases c.args.self.now (subst IsHeld c.self.view_is c.self.invariant)

@@ -1,0 +1,46 @@
+-- The lines of phases, with those of the stages that are computed inside of them. This project's own.
+--
+-- Stages are given in the order of their code, each with words of the text. A line is printed of those alone whose words are inside their phase's.
+use Rattle.std.specs.Prelude.{ℕ, ◌+◌, ◌*◌, Bool, false, ◌&&◌, if◌then◌else◌, nat_le, nat_lt, List, [], ◌∷◌, ◌++◌, codes}
+use Rattle.std.specs.Fmt.{decimal}
+use Rattle.memory.specs.Addresses.{text_start}
+use Rattle.disassembler.specs.Listing.{hexadecimal_text}
+use Rattle.task_code_statements.specs.declared.stages.CodeStage.{CodeStage}
+use Rattle.hrv_map.specs.declared.phases.CodePhase.{CodePhase}
+use Rattle.hrv_map.specs.Lines.{newline}
+use Rattle.hrv_map.specs.Names.{name_at}
+use Rattle.hrv_map.specs.Phases.{phase_line, update_text}
+
+-- its words are some of the phase's
+abbrev pub is_inside : CodePhase → CodeStage → Bool
+is_inside phase own = nat_le phase.first own.first && nat_lt own.first own.behind && nat_le own.behind phase.behind
+
+-- what stands behind the name: ` FIRST BEHIND`, by the addresses of the first word and behind the last one
+unfoldable pub range_text : CodeStage → List ℕ
+range_text own =
+    update_text own.stage.update ++ codes " " ++ hexadecimal_text 8 (text_start + 4 * own.first)
+    ++ codes " " ++ hexadecimal_text 8 (text_start + 4 * own.behind) ++ newline
+
+module _ (names : List (List ℕ)) where
+  -- `code PHASE stage NAME FIRST BEHIND`
+  unfoldable pub stage_line : CodePhase → CodeStage → List ℕ
+  stage_line phase own = (codes "code " ++ decimal phase.number ++ codes " stage ") ++ name_at names own.stage.func ++ range_text own
+
+  abbrev pub line_inside : CodePhase → CodeStage → List ℕ
+  line_inside phase own = if is_inside phase own then stage_line phase own else []
+
+-- of the first ones, up to one that begins behind the phase
+unfoldable pub stage_lines : List (List ℕ) → CodePhase → List CodeStage → List ℕ
+stage_lines names phase [] = []
+stage_lines names phase (own ∷ others) = if nat_lt own.first phase.behind then line_inside names phase own ++ stage_lines names phase others else []
+
+-- that one, and those behind it
+unfoldable pub stages_behind : CodePhase → List CodeStage → List CodeStage
+stages_behind phase [] = []
+stages_behind phase (own ∷ others) = if nat_lt own.first phase.behind then stages_behind phase others else own ∷ others
+
+-- of each phase its line, and those of the stages inside
+unfoldable pub phase_lines : List (List ℕ) → List CodePhase → List CodeStage → List ℕ
+phase_lines names [] stages = []
+phase_lines names (phase ∷ phases) stages =
+    phase_line names phase ++ stage_lines names phase stages ++ phase_lines names phases (stages_behind phase stages)

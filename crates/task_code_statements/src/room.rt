@@ -1,0 +1,90 @@
+//! How many registers a loop leaves to those inside, and which forms it holds. Guesses, of which nothing is promised.
+
+use crate::contexts::Context;
+use crate::guessing::add_sums;
+use crate::statements::is_laid_out;
+use crate::vectorizing::is_at_once;
+use loop_ir::expressions::{Counter, Expr};
+use loop_ir::statements::Stmt;
+use std::alloc::{AllocError, Global};
+use task_code_loops::known::by_others;
+use task_code_loops::tests::variable;
+use task_code_loops::wanted::wanted_forms;
+use task_code_registers::scopes::{Form, Held, free_register};
+use task_code_scalar::places::Places;
+
+/// How many registers hold forms at most.
+const MOST_HELD: usize = 14;
+/// How many registers a loop has good use for: for its variable and its count, or for pointers and their ends.
+const VARIABLE_REGISTERS: usize = 2;
+
+const POINTER_REGISTERS: usize = 4;
+
+/// How many registers the loops of a statement ask for at once: one each, but for those that are laid out or done at
+/// once. The values of split loops are sums.
+pub(crate) fn depth(statement: &Stmt) -> usize {
+    match statement {
+        Stmt::Store(_) => 0,
+        Stmt::Sequence(first, second) => {
+            let one = depth(first.get());
+            let other = depth(second.get());
+            if one < other { other } else { one }
+        }
+        Stmt::For(_, count, kind, body) => {
+            let own = usize::from(!is_at_once(*kind) && !is_laid_out(*kind, *count));
+            depth(body.get()).saturating_add(own)
+        }
+        Stmt::Bind(_, _, _, body) => depth(body.get()),
+    }
+}
+
+/// How many registers are left.
+fn left(scope: &[Held]) -> usize {
+    let mut count = 0;
+    for taken in 0..MOST_HELD {
+        if free_register(scope, taken).is_some() {
+            count = taken + 1;
+        }
+    }
+    count
+}
+
+/// How many registers a loop leaves to so many loops inside: what each has good use for, as far as it has as much
+/// itself.
+pub(crate) fn reserve(scope: &[Held], inside: usize, with_variables: bool) -> usize {
+    let each = if with_variables {
+        VARIABLE_REGISTERS
+    } else {
+        POINTER_REGISTERS
+    };
+    let most = left(scope).saturating_sub(each);
+    let most = if most < inside { inside } else { most };
+    let wanted = inside.saturating_mul(each);
+    if wanted < most { wanted } else { most }
+}
+
+/// The forms that a loop's body wants in registers, by the loop variables that aren't known.
+pub(crate) fn wanted_in(
+    alloc: Global,
+    places: &Places,
+    context: &Context,
+    counter: Counter,
+    body: &Stmt,
+    named: &[Expr],
+) -> Result<Vec<Form>, AllocError> {
+    let bounds = context.bounds.as_slice();
+    let found = wanted_forms(alloc, places, bounds, body)?;
+    let mut wanted = Vec::new(alloc);
+    if context.with_variables {
+        let own = variable(alloc, counter)?;
+        wanted.push(own)?;
+    }
+    for e in named {
+        add_sums(alloc, bounds, e, &mut wanted)?;
+    }
+    for own in found.as_slice() {
+        let form = by_others(alloc, own, context.known.as_slice())?;
+        wanted.push(form)?;
+    }
+    Ok(wanted)
+}
