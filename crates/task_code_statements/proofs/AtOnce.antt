@@ -31,7 +31,7 @@ use Rattle.task_code_registers.specs.Holding.{mentions}
 use Rattle.task_code_registers.specs.Strides.{others_of}
 use Rattle.task_code_registers.proofs.Striding.{linear-with}
 use Rattle.task_code_loops.specs.declared.bounds.Bound.{Bound}
-use Rattle.task_code_loops.specs.Bounds.{AreBelow, IsBelow}
+use Rattle.task_code_loops.specs.Bounds.{AreBelow}
 use Rattle.task_code_loops.specs.Guarding.{stored_if}
 use Rattle.task_code_loops.specs.declared.known.Known.{Known}
 use Rattle.task_code_loops.specs.Known.{AreKnown}
@@ -57,12 +57,11 @@ use Rattle.task_code_statements.specs.Plain.{IsPlainStore}
 use Rattle.task_code_statements.specs.Rewriting.{IsSameStore}
 use Rattle.task_code_statements.specs.Splits.{IsSplitSum}
 use Rattle.task_code_statements.specs.Statements.{EmitsStatement}
-use Rattle.task_code_statements.specs.Vectorizing.{AreLanes, GuardsLack, IsLeft, IsLeftIf, IsParted, IsRunOf, IsStoreOf, OneMore, TestFirst, WordsBehind}
+use Rattle.task_code_statements.specs.Vectorizing.{AreLanes, GuardsLack, IsLeft, IsLeftIf, IsParted, IsRunOf, IsStoreOf, TestFirst, TestToo, WordsBehind}
 use Rattle.task_code_statements.specs.Vectorizing.{is_passed, lane_count, passes, passes_if}
 use Rattle.task_code_statements.proofs.Following.{did-is}
 use Rattle.task_code_statements.proofs.Naming.{plain-sound}
 use Rattle.task_code_statements.proofs.Plainness.{named-with}
-use Rattle.task_code_statements.proofs.Same.{form-sum}
 use Rattle.task_code_statements.proofs.Splitting.{is-below, whole-word}
 use Rattle.task_code_statements.proofs.Storing.{same-sound}
 
@@ -178,37 +177,20 @@ module _ (context within : Context) (counter : Counter) (whole : Whole) (extent 
         ∙ ap (λ t. cond t (effect reads (s.Store made.store) (at named)) None) (lack named (whole_value whole named))
         ∙ ap (λ k. cond (passes made.guards.items named) k None) (effect-left counter made.store lacks named (whole_value whole named) reads)
 
-    -- a test that always passes is none
-    pub split-of : (bounds : List Bound) → bounds ≡ context.bounds.items → IsBelow bounds (record { sum = sum; per_hart = 0 }) extent
-        → IsStoreOf context statement made
-    split-of bounds ebs below = subst (λ b. IsStoreOf context b made) statement-is (record {
-      stores = λ reads values named same meets.
-          effect_bind reads counter whole extent body values ∙ ap (λ t. cond t (effect reads body (at values)) None) (passed values named same meets)
-          ∙ inside-stores reads values named same meets;
-      sound = λ reads written loaded values named same meets guarded so.
-          inside-sound reads written loaded values named same meets (passed values named same meets) (lack named (whole_value whole named) ∙ guarded) so;
-    })
-      where
-        passed : (values named : Values) → AreNamed values named → Meets context named → nat_lt (whole_value whole values) extent ≡ true
-        passed values named same meets =
-            is-below (whole_value whole values) extent
-            (subst (λ n. n < extent) (form-sum 0 named sum ∙ is.value_is named meets ∙ is.plain values named same)
-            (subst (λ b. IsBelow b (record { sum = sum; per_hart = 0 }) extent) ebs below 0 named meets.below))
-
-    -- another one is one of the store's
-    pub split-guarded : (own : Guarded) → own.store ≡ made.store → OneMore made.guards.items (record { sum = sum; extent = extent }) own.guards.items
-        → IsStoreOf context statement own
-    split-guarded own es more = subst (λ b. IsStoreOf context b own) statement-is (record {
+    -- the loop's own test is one of the store's
+    pub split-tested : (own : Guarded) → own.store ≡ made.store
+        → TestToo context.bounds.items made.guards.items (record { sum = sum; extent = extent }) own.guards.items → IsStoreOf context statement own
+    split-tested own es more = subst (λ b. IsStoreOf context b own) statement-is (record {
       stores = λ reads values named same meets.
           let tested = nat_lt (linear_value named sum) extent in
           effect_bind reads counter whole extent body values
           ∙ ap (λ n. cond (nat_lt n extent) (effect reads body (at values)) None) (sym (is.plain values named same) ∙ whole-is named meets)
           ∙ ap (λ k. cond tested k None) (inside-stores reads values named same meets)
           ∙ one-test tested (passes made.guards.items named) (effect reads (s.Store made.store) named)
-          ∙ sym (ap (λ t. cond t (effect reads (s.Store own.store) named) None) (more named)
+          ∙ sym (ap (λ t. cond t (effect reads (s.Store own.store) named) None) (more named meets.below)
           ∙ ap (λ t. cond (cond tested (passes made.guards.items named) false) (effect reads (s.Store t) named) None) es);
       sound = λ reads written loaded values named same meets guarded so.
-          let both = both-pass (nat_lt (linear_value named sum) extent) (passes made.guards.items named) (sym (more named) ∙ guarded) in
+          let both = both-pass (nat_lt (linear_value named sum) extent) (passes made.guards.items named) (sym (more named meets.below) ∙ guarded) in
           ap (λ t. is_sound reads written loaded (s.Store t) named) es
           ∙ inside-sound reads written loaded values named same meets
           (ap (λ n. nat_lt n extent) (sym (is.plain values named same) ∙ whole-is named meets) ∙ both.0) (lack named (whole_value whole named) ∙ both.1) so;

@@ -1,6 +1,6 @@
 -- Code that gives names their values, and what stands behind it.
 use Rattle.std.proofs.Common.{◌≡◌, ℕ, ◌+◌, ◌*◌, ◌%◌, ◌^◌, ◌<◌, List, [], ◌∷◌, ◌++◌, length, length-append, Bool, true, false, refl, ap, ◌∙◌, sym, subst, arith, inl, inr}
-use Rattle.std.specs.Prelude.{◌≢◌, Option, Some, None}
+use Rattle.std.specs.Prelude.{Option, Some, None}
 use Rattle.std.specs.List.{list_all}
 use Rattle.std.proofs.lemmas.Bool.{true≢false}
 use Rattle.rv_insn.specs.declared.instructions.Insn.{Insn}
@@ -10,20 +10,19 @@ use Rattle.loop_ir.specs.declared.expressions.Expr.{Expr}
 use Rattle.loop_ir.specs.declared.statements.Stmt.{Stmt}
 use Rattle.loop_ir.specs.declared.statements.Stmt.TheVariants as s
 use Rattle.loop_ir.specs.Counters.{Values, with}
-use Rattle.loop_ir.specs.Expressions.{value, loads, linear_value}
+use Rattle.loop_ir.specs.Expressions.{value, linear_value}
 use Rattle.loop_ir.specs.Running.{run}
 use Rattle.multi_hart_logic.specs.Paths.{Path, Writes, end}
 use Rattle.multi_hart_logic.proofs.Paths.{stand-front, stand-back, end-append}
 use Rattle.task_code_scalar.specs.declared.places.Places.{Places}
-use Rattle.task_code_scalar.specs.Doing.{Setting, IsSetting, HoldsFuncs, stored_points}
-use Rattle.task_code_scalar.specs.Words.{Emits}
+use Rattle.task_code_scalar.specs.Doing.{Setting, stored_points}
 use Rattle.task_code_scalar.proofs.Spelling.{emits_then, emits-apart}
 use Rattle.task_code_registers.specs.declared.scopes.Form.{Form}
 use Rattle.task_code_registers.specs.declared.scopes.Held.{Held}
 use Rattle.task_code_registers.specs.Doing.{Did}
 use Rattle.task_code_registers.specs.Emitting.{MakesOf}
 use Rattle.task_code_registers.specs.Holding.{mentions}
-use Rattle.task_code_registers.specs.Scopes.{AreHolders, IsKept, IsLeft, form_value}
+use Rattle.task_code_registers.specs.Scopes.{IsKept, IsLeft, form_value}
 use Rattle.task_code_registers.specs.Registers.{first_value}
 use Rattle.task_code_registers.proofs.Going.{Went, went-hits, went-then, within}
 use Rattle.task_code_registers.proofs.Knowing.{knows-still, knows-zero, kept-apart}

@@ -22,7 +22,7 @@ use Rattle.task_code_loops.specs.Bounds.{IsBelow}
 use Rattle.task_code_loops.specs.Guarding.{GuardsWords, stored_if}
 use Rattle.task_code_statements.specs.declared.guards.Guard.{Guard}
 use Rattle.task_code_statements.specs.declared.guards.Parted.{Parted}
-use Rattle.task_code_statements.specs.Vectorizing.{GuardsLack, IsLeft, IsParted, OneMore, StandsBehind, TestFirst, WordsBehind, is_passed, passes, passes_if}
+use Rattle.task_code_statements.specs.Vectorizing.{GuardsLack, IsLeft, IsParted, OneMore, StandsBehind, TestFirst, TestToo, WordsBehind, is_passed, passes, passes_if}
 use Rattle.task_code_statements.proofs.Following.{did-is}
 use Rattle.task_code_statements.proofs.Same.{form-sum, first-form}
 use Rattle.task_code_statements.proofs.Splitting.{is-below}
@@ -68,6 +68,17 @@ passes-last (first ∷ others) own values =
 
 pub one-more : (guards made : List Guard) (own : Guard) → made ≡ guards ++ (own ∷ []) → OneMore guards own made
 one-more guards made own is values = ap (λ l. passes l values) is ∙ passes-last guards own values
+
+-- a test that always passes is one more too
+pub passes-so : (bounds : List Bound) (guards made : List Guard) (form : Form) (extent : ℕ) → made ≡ guards → IsBelow bounds form extent
+    → TestToo bounds guards (record { sum = form.sum; extent = extent }) made
+passes-so bounds guards made form extent is below values are =
+    let passed : nat_lt (linear_value values form.sum) extent ≡ true =
+    is-below (linear_value values form.sum) extent (subst (λ n. n < extent) (first-form values form) (below 0 values are)) in
+    ap (λ l. passes l values) is ∙ sym (ap (λ t. cond t (passes guards values) false) passed)
+
+pub tested-so : (bounds : List Bound) (guards made : List Guard) (own : Guard) → made ≡ guards ++ (own ∷ []) → TestToo bounds guards own made
+tested-so bounds guards made own is values are = one-more guards made own is values
 
 passed-with : (counter : Counter) (own : Guard) (values : Values) (v : ℕ) → has_counter counter own.sum.terms ≡ false
     → is_passed own (with counter v values) ≡ is_passed own values

@@ -1,25 +1,21 @@
 -- Sums, expressions and stores by other loop variables than the known ones.
-use Rattle.std.proofs.Common.{◌≡◌, ℕ, ◌+◌, ◌*◌, ◌%◌, ◌^◌, List, ◌∷◌, ◌++◌, [], refl, ap, ◌∙◌, sym, subst, arith}
-use Rattle.std.specs.Prelude.{◌==◌, if◌then◌else◌, Option, Some, None, IfSome}
+use Rattle.std.proofs.Common.{◌≡◌, ℕ, ◌+◌, ◌*◌, ◌%◌, ◌^◌, List, ◌++◌, ap, ◌∙◌, sym, subst, arith}
+use Rattle.std.specs.Prelude.{Option, Some, None, IfSome}
 use Rattle.halide_pipeline.specs.declared.expressions.Operation.{Operation}
-use Rattle.halide_pipeline.specs.declared.expressions.Source.{Source}
-use Rattle.halide_pipeline.specs.Pixel.{Reads}
-use Rattle.halide_pipeline.specs.Points.{Point, Seen}
 use Rattle.halide_pipeline.specs.Words as word
 use Rattle.loop_ir.specs.declared.expressions.Expr.{Expr}
 use Rattle.loop_ir.specs.declared.expressions.Expr.TheVariants as e
 use Rattle.loop_ir.specs.declared.expressions.Linear.{Linear}
 use Rattle.loop_ir.specs.Counters.{Values}
-use Rattle.loop_ir.specs.Expressions.{linear_value, value, loads, seen, seen_at}
-use Rattle.loop_ir.proofs.Folds.{at_number, at_linear}
+use Rattle.loop_ir.specs.Expressions.{linear_value, value, loads}
 use Rattle.task_code_registers.specs.declared.scopes.Form.{Form}
 use Rattle.task_code_registers.specs.Scopes.{form_value}
 use Rattle.task_code_registers.proofs.Knowing.{linear-small}
 use Rattle.task_code_loops.specs.declared.known.Known.{Known}
 use Rattle.task_code_loops.specs.Known.{AreKnown, IsRewritten}
 use Rattle.task_code_loops.specs.Sums.{IsCombined}
-use Rattle.task_code_values.proofs.Evaluating.{value_number, value_linear, value_binary, value_divide, value_remainder, value_select, value_load}
-use Rattle.task_code_values.proofs.Evaluating.{loads_binary, loads_divide, loads_remainder, loads_select, loads_load}
+use Rattle.task_code_values.proofs.Evaluating.{value_number, value_linear, value_binary}
+use Rattle.task_code_values.proofs.Evaluating.{loads_binary}
 use Rattle.task_code_names.proofs.Alike.{alike-binary, loads_number, loads_linear}
 use Rattle.task_code_statements.specs.Rewriting.{IsSameSum, IsSameExpr, IsBinary, IsLeafSum}
 

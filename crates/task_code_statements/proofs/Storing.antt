@@ -1,5 +1,5 @@
 -- A store by other loop variables than the known ones is that store.
-use Rattle.std.proofs.Common.{◌≡◌, ℕ, List, ◌++◌, Bool, length, refl, ap, ◌∙◌, sym, subst}
+use Rattle.std.proofs.Common.{◌≡◌, ℕ, List, ◌++◌, Bool, ap, ◌∙◌, sym, subst}
 use Rattle.std.specs.Prelude.{◌==◌, ◌&&◌, not}
 use Rattle.std.specs.List.{list_all}
 use Rattle.halide_pipeline.specs.Pixel.{Planes, Reads, reads_of}
@@ -20,11 +20,8 @@ use Rattle.task_code_scalar.specs.declared.places.Places.{Places}
 use Rattle.task_code_scalar.specs.Doing.{Setting, SoundIn, RunsIn, stored_points}
 use Rattle.task_code_scalar.proofs.Tracing.{hit-store}
 use Rattle.task_code_registers.specs.declared.scopes.Held.{Held}
-use Rattle.task_code_statements.specs.declared.contexts.Context.{Context}
-use Rattle.task_code_statements.specs.Contexts.{Meets}
 use Rattle.task_code_names.specs.Alike.{IsAlikeStore}
 use Rattle.task_code_statements.specs.Statements.{EmitsStatement}
-use Rattle.task_code_statements.proofs.Following.{did-is}
 
 module _ (is_so : Values → Type 0) (store made : Store) (is : IsAlikeStore is_so store made) (values : Values) (are : is_so values) where
   pub same-sound : (reads : Reads) (written : Points) (loaded : Point → Bool)

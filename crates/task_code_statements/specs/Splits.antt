@@ -1,6 +1,7 @@
 -- Values of split loops as sums. This project's own.
 use Rattle.std.specs.Prelude.{◌≡◌, ℕ}
 use Rattle.halide_pipeline.specs.Words as word
+use Rattle.loop_ir.specs.declared.expressions.Counter.{Counter}
 use Rattle.loop_ir.specs.declared.expressions.Linear.{Linear}
 use Rattle.loop_ir.specs.declared.statements.Whole.{Whole}
 use Rattle.loop_ir.specs.Counters.{Values}
@@ -9,14 +10,21 @@ use Rattle.loop_ir.specs.Running.{at_most, whole_value}
 use Rattle.task_code_loops.specs.Known.{AreKnown}
 use Rattle.task_code_runs.specs.Naming.{AreNamed}
 use Rattle.task_code_statements.specs.declared.contexts.Context.{Context}
+use Rattle.task_code_statements.specs.declared.splits.Entered.{Entered}
 use Rattle.task_code_statements.specs.declared.splits.Start.{Start}
 use Rattle.task_code_statements.specs.declared.splits.Start.TheVariants as starts
-use Rattle.task_code_statements.specs.Contexts.{Meets}
+use Rattle.task_code_statements.specs.Contexts.{Meets, MeetsSum}
 
 -- a sum has a split loop's value wherever the context holds, and that value hangs on no name
 pub record IsSplitSum (context : Context) (whole : Whole) (sum : Linear) : Type 0 where
   pub value_is : (values : Values) → Meets context values → linear_value values sum ≡ whole_value whole values
   pub plain : (values named : Values) → AreNamed values named → whole_value whole named ≡ whole_value whole values
+
+-- where a split loop's variable stands at its value, which is a form
+pub record EntersSplit (context : Context) (counter : Counter) (whole : Whole) (made : Entered) : Type 0 where
+  pub value_is : IsSplitSum context whole made.form.sum
+  pub meets : MeetsSum context counter made.form.sum made.inner
+  pub form_is : made.form ≡ record { sum = made.form.sum; per_hart = 0 }
 
 -- ---- where a run of the inner loop begins
 

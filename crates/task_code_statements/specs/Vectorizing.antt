@@ -29,9 +29,11 @@ use Rattle.task_code_runs.specs.Runs.{StoresAs, all_lanes, left_lanes}
 use Rattle.task_code_statements.specs.declared.contexts.Context.{Context}
 use Rattle.task_code_statements.specs.declared.guards.Guard.{Guard}
 use Rattle.task_code_statements.specs.declared.guards.Parted.{Parted}
+use Rattle.task_code_statements.specs.declared.guards.Tests.{Tests}
 use Rattle.task_code_statements.specs.declared.vectorizing.Guarded.{Guarded}
 use Rattle.task_code_statements.specs.declared.vectorizing.Run.{Run}
 use Rattle.task_code_statements.specs.Contexts.{Meets}
+use Rattle.task_code_statements.specs.Lacking.{StoreLacks}
 
 -- whether a sum is below its extent
 abbrev pub is_passed : Guard → Values → Bool
@@ -50,9 +52,19 @@ passes_if (Some guard) values = is_passed guard values
 abbrev pub GuardsLack : Counter → List Guard → Type 0
 GuardsLack counter guards = (values : Values) (v : ℕ) → passes guards (with counter v values) ≡ passes guards values
 
+-- so it is of a store and its tests
+pub record GuardedLacks (counter : Counter) (own : Guarded) : Type 0 where
+  pub store : StoreLacks counter own.store
+  pub guards : GuardsLack counter own.guards.items
+
 -- one more test
 abbrev pub OneMore : List Guard → Guard → List Guard → Type 0
 OneMore guards own made = (values : Values) → passes made values ≡ cond (is_passed own values) (passes guards values) false
+
+-- one more test, wherever variables are below their counts
+abbrev pub TestToo : List Bound → List Guard → Guard → List Guard → Type 0
+TestToo bounds guards own made =
+    (values : Values) → AreBelow bounds values → passes made values ≡ cond (is_passed own values) (passes guards values) false
 
 -- Where all tests pass, a statement stores what the store stores, wherever loop variables and names are as known, and is sound there only if that is;
 -- else it stores nothing.
@@ -89,6 +101,13 @@ abbrev pub TestFirst : List Bound → Counter → List Guard → Option Guard �
 TestFirst bounds counter fixed lane made =
     (values : Values) → AreBelow bounds (with counter 0 values)
     → passes made (with counter 0 values) ≡ cond (passes fixed (with counter 0 values)) (passes_if lane (with counter 0 values)) false
+
+-- what of tests is asked in front of a loop: those of its first iteration, and how many iterations pass from there on
+pub record AreTests (bounds : List Bound) (counter : Counter) (guards : List Guard) (made : Tests) : Type 0 where
+  pub parts : Parted
+  pub parted : IsParted counter guards parts
+  pub left : IsLeftIf bounds counter parts.lane made.left
+  pub first : TestFirst bounds counter parts.fixed.items parts.lane made.fixed.items
 
 -- ---- runs
 

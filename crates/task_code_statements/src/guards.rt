@@ -2,8 +2,8 @@
 //! one at most passes for the first lanes alone.
 
 ghost use Rattle.std.specs.Prelude.{◌≡◌, IfOk, None, OnOk, true};
-ghost use Rattle.task_code_statements.specs.Vectorizing.{GuardsLack, IsLeft, IsLeftIf, IsParted, OneMore, TestFirst};
-ghost use Rattle.task_code_statements.specs.Vectorizing.{WordsBehind};
+ghost use Rattle.task_code_statements.specs.Vectorizing.{AreTests, GuardsLack, IsLeft, IsLeftIf, IsParted, OneMore};
+ghost use Rattle.task_code_statements.specs.Vectorizing.{TestFirst, TestToo, WordsBehind};
 
 use crate::contexts::has_term;
 use loop_ir::expressions::{Counter, Linear};
@@ -26,7 +26,7 @@ pub struct Guard {
 
 /// Tests that hang on no lane, and the one that does, if there is one.
 #[derive(Debug, Drop)]
-pub struct Parted {
+struct Parted {
     pub fixed: Vec<Guard>,
     pub lane: Option<Guard>,
 }
@@ -48,7 +48,7 @@ pub fn guards_lack(guards: &[Guard], counter: Counter) -> bool
 }
 
 /// Adds a test to others.
-pub fn with_guard(guards: Vec<Guard>, sum: Linear, extent: u32) -> Result<Vec<Guard>, AllocError>
+fn with_guard(guards: Vec<Guard>, sum: Linear, extent: u32) -> Result<Vec<Guard>, AllocError>
     ensures { IfOk result (λ made. OneMore guards.items (record { sum = sum; extent = extent }) made.items) }
 {
     let mut made = guards;
@@ -56,12 +56,32 @@ pub fn with_guard(guards: Vec<Guard>, sum: Linear, extent: u32) -> Result<Vec<Gu
     Ok(made)
 }
 
+/// Adds a test to others, unless it is known to pass.
+pub fn add_test(
+    bounds: &[Bound],
+    guards: &mut Vec<Guard>,
+    form: Form,
+    extent: u32,
+) -> Result<(), AllocError>
+    ensures { OnOk result (TestToo bounds.now guards.old.items (record { sum = form.sum; extent = extent })
+        guards.new.items) }
+{
+    if is_below(&form, bounds, extent) {
+        return Ok(());
+    }
+    guards.push(Guard {
+        sum: form.sum,
+        extent,
+    })?;
+    Ok(())
+}
+
 /// Tests by whether they hang on a loop's lanes.
 ///
 /// # Errors
 ///
 /// Memory ran out, or more than one does.
-pub fn by_lanes(alloc: Global, guards: &[Guard], counter: Counter) -> Result<Parted, CodeFault>
+fn by_lanes(alloc: Global, guards: &[Guard], counter: Counter) -> Result<Parted, CodeFault>
     ensures { IfOk result (IsParted counter guards.now) }
 {
     match guards {
@@ -114,7 +134,7 @@ fn left_of(
 }
 
 /// How many iterations pass a test from one on, where there is one and the first one passes.
-pub fn left_if(
+fn left_if(
     alloc: Global,
     bounds: &[Bound],
     counter: Counter,
@@ -132,7 +152,7 @@ pub fn left_if(
 }
 
 /// Tests with that of the first lane, unless it is known to pass.
-pub fn with_first(
+fn with_first(
     alloc: Global,
     bounds: &[Bound],
     counter: Counter,
@@ -154,6 +174,32 @@ pub fn with_first(
             Ok(made)
         }
     }
+}
+
+/// Tests of a loop's first iteration, and how many iterations pass from there on, where not all do.
+#[derive(Drop)]
+pub struct Tests {
+    pub fixed: Vec<Guard>,
+    pub left: Option<Linear>,
+}
+
+/// What of tests is asked in front of a loop.
+///
+/// # Errors
+///
+/// Memory ran out, or more than one test hangs on the loop's lanes.
+pub fn tests_of(
+    alloc: Global,
+    bounds: &[Bound],
+    counter: Counter,
+    guards: &[Guard],
+) -> Result<Tests, CodeFault>
+    ensures { IfOk result (AreTests bounds.now counter guards.now) }
+{
+    let Parted { fixed, lane } = by_lanes(alloc, guards, counter)?;
+    let left = left_if(alloc, bounds, counter, &lane)?;
+    let fixed = with_first(alloc, bounds, counter, fixed, &lane)?;
+    Ok(Tests { fixed, left })
 }
 
 /// Appends words that are passed by where not all tests pass.

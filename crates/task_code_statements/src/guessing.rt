@@ -1,9 +1,9 @@
 //! What of a loop's body is worth a name: what stays the same in all iterations. A guess, of which nothing is promised.
 
-use crate::contexts::{Context, in_loop, with_sum};
+use crate::contexts::{Context, in_loop};
 use crate::plain::name;
 use crate::rewriting::store_by_others;
-use crate::splits::{is_cut, split_sum, without_last};
+use crate::splits::{enter_split, is_cut, without_last};
 use crate::statements::{is_laid_out, made_store};
 use crate::vectorizing::is_at_once;
 use loop_ir::expressions::{Counter, Expr, Term, same_counter};
@@ -33,7 +33,9 @@ fn ready_store(
         return made_store(alloc, places, context, store);
     }
     let made = store_by_others(alloc, store, context.known.as_slice())?;
-    store_by_names(alloc, context.names.as_slice(), &made)
+    let named = store_by_names(alloc, context.names.as_slice(), &made);
+    drop(made);
+    named
 }
 
 /// A loop whose body is ready, with names of what stays the same in its iterations.
@@ -112,14 +114,11 @@ pub fn ready(
             let made = ready_part(alloc, places, &inner, within, body.get(), named)?;
             ready_loop(alloc, context, own, *kind, made, named)
         }
-        Stmt::Bind(counter, whole, extent, body) => match split_sum(alloc, context, whole)? {
-            None => Err(CodeFault::TooDeep),
-            Some(sum) => {
-                let inner = with_sum(alloc, context, *counter, &sum)?;
-                let made = ready_part(alloc, places, &inner, with_cuts, body.get(), named)?;
-                Ok(Stmt::Bind(*counter, *whole, *extent, made))
-            }
-        },
+        Stmt::Bind(counter, whole, extent, body) => {
+            let entered = enter_split(alloc, context, *counter, whole)?;
+            let made = ready_part(alloc, places, &entered.inner, with_cuts, body.get(), named)?;
+            Ok(Stmt::Bind(*counter, *whole, *extent, made))
+        }
     }
 }
 
@@ -354,12 +353,29 @@ fn add_statement(
 
 /// The largest parts of a loop's body, as its code is made, that stay the same in all iterations of this loop and those
 /// inside, where these loops stand around it.
-///
-/// # Errors
-///
-/// Memory ran out.
-pub fn staying(alloc: Global, bounds: &[Bound], body: &Stmt) -> Result<Vec<Expr>, AllocError> {
+fn staying(alloc: Global, bounds: &[Bound], body: &Stmt) -> Result<Vec<Expr>, AllocError> {
     let mut found = Vec::new(alloc);
     add_statement(alloc, bounds, &mut found, body)?;
     Ok(found)
+}
+
+/// The largest parts of a loop's body that stay the same in all iterations of this loop and those inside.
+///
+/// # Errors
+///
+/// As of the code of the loop.
+pub fn staying_in(
+    alloc: Global,
+    places: &Places,
+    context: &Context,
+    own: Bound,
+    body: &Stmt,
+) -> Result<Vec<Expr>, CodeFault> {
+    let inner = in_loop(alloc, context, own)?;
+    let mut named = Vec::new(alloc);
+    let made = ready(alloc, places, &inner, true, body, &mut named)?;
+    let found = staying(alloc, context.bounds.as_slice(), &made);
+    drop(made);
+    let all = found?;
+    Ok(all)
 }

@@ -1,7 +1,7 @@
 //! How many registers a loop leaves to those inside, and which forms it holds. Guesses, of which nothing is promised.
 
 use crate::contexts::Context;
-use crate::guessing::add_sums;
+use crate::guessing::{add_sums, ready};
 use crate::statements::is_laid_out;
 use crate::vectorizing::is_at_once;
 use loop_ir::expressions::{Counter, Expr};
@@ -11,6 +11,7 @@ use task_code_loops::known::by_others;
 use task_code_loops::tests::variable;
 use task_code_loops::wanted::wanted_forms;
 use task_code_registers::scopes::{Form, Held, free_register};
+use task_code_scalar::CodeFault;
 use task_code_scalar::places::Places;
 
 /// How many registers hold forms at most.
@@ -63,8 +64,9 @@ pub(crate) fn reserve(scope: &[Held], inside: usize, with_variables: bool) -> us
     if wanted < most { wanted } else { most }
 }
 
-/// The forms that a loop's body wants in registers, by the loop variables that aren't known.
-pub(crate) fn wanted_in(
+/// The forms that a loop's body wants in registers where its stores are as their code is made, by the loop variables
+/// that aren't known. Some parts are named.
+fn wanted_by(
     alloc: Global,
     places: &Places,
     context: &Context,
@@ -86,5 +88,25 @@ pub(crate) fn wanted_in(
         let form = by_others(alloc, own, context.known.as_slice())?;
         wanted.push(form)?;
     }
+    Ok(wanted)
+}
+
+/// The forms that a loop's body wants in registers, by the loop variables that aren't known.
+///
+/// # Errors
+///
+/// As of the code of the body.
+pub(crate) fn wanted_in(
+    alloc: Global,
+    places: &Places,
+    context: &Context,
+    counter: Counter,
+    body: &Stmt,
+) -> Result<Vec<Form>, CodeFault> {
+    let mut named = Vec::new(alloc);
+    let made = ready(alloc, places, context, true, body, &mut named)?;
+    let found = wanted_by(alloc, places, context, counter, &made, named.as_slice());
+    drop(made);
+    let wanted = found?;
     Ok(wanted)
 }

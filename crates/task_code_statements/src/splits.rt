@@ -1,17 +1,18 @@
 //! Split loops: their values as sums.
 
 ghost use Rattle.std.specs.Prelude.{◌≡◌, ◌-◌, ◌<◌, ◌^◌, ◌≤◌, IfOk, IfSome, Some, min, true};
-ghost use Rattle.task_code_statements.specs.Splits.{AddsInner, BeginsRun, IsProduct, IsSplitSum};
+ghost use Rattle.task_code_statements.specs.Splits.{AddsInner, BeginsRun, EntersSplit, IsProduct, IsSplitSum};
 
-use crate::contexts::Context;
+use crate::contexts::{Context, with_sum};
 use crate::plain::is_name;
 use crate::rewriting::sum_by_others;
-use loop_ir::expressions::{Linear, Term, same_counter};
+use loop_ir::expressions::{Counter, Linear, Term, same_counter};
 use loop_ir::statements::{Stmt, Whole};
 use sqlite_items::Items;
 use std::alloc::{AllocError, Global};
 use task_code_loops::bounds::{Bound, is_below};
 use task_code_registers::scopes::Form;
+use task_code_scalar::CodeFault;
 
 /// Where a run of a split loop's inner loop begins.
 #[derive(Clone, Copy, Debug)]
@@ -110,11 +111,7 @@ fn sum_from(alloc: Global, whole: &Whole, start: Start) -> Result<Option<Linear>
 }
 
 /// The value of a split loop as a sum of loop variables that aren't known, where it is one.
-pub(crate) fn split_sum(
-    alloc: Global,
-    context: &Context,
-    whole: &Whole,
-) -> Result<Option<Linear>, AllocError>
+fn split_sum(alloc: Global, context: &Context, whole: &Whole) -> Result<Option<Linear>, AllocError>
     ensures { IfOk result (λ found. IfSome found (IsSplitSum context.now whole.now)) }
 {
     if is_name(whole.outer) {
@@ -129,6 +126,52 @@ pub(crate) fn split_sum(
     };
     let sum = sum_by_others(alloc, &own, context.known.as_slice())?;
     Ok(Some(sum))
+}
+
+/// What is known where a split loop's body runs, and the loop's value.
+pub(crate) struct Entered {
+    pub inner: Context,
+    pub form: Form,
+}
+
+/// Written out, so that a function that drops one has a call here for each way out.
+impl Drop for Entered {
+    fn drop(self) {
+        let Entered { inner: _, form: _ } = self;
+    }
+}
+
+impl Entered {
+    /// The value alone.
+    pub(crate) fn into_form(self) -> Form
+        ensures { result ≡ self.form }
+    {
+        let Entered { inner: _, form } = self;
+        form
+    }
+}
+
+/// Where a split loop's variable stands at its value.
+///
+/// # Errors
+///
+/// Memory ran out, the value is no sum that is known, or the loop variable stands for a loop outside too.
+pub(crate) fn enter_split(
+    alloc: Global,
+    context: &Context,
+    counter: Counter,
+    whole: &Whole,
+) -> Result<Entered, CodeFault>
+    ensures { IfOk result (EntersSplit context.now counter whole.now) }
+{
+    match split_sum(alloc, context, whole)? {
+        None => Err(CodeFault::TooDeep),
+        Some(sum) => {
+            let inner = with_sum(alloc, context, counter, &sum)?;
+            let form = Form { sum, per_hart: 0 };
+            Ok(Entered { inner, form })
+        }
+    }
 }
 
 /// A loop without its last iteration.

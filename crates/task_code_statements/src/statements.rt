@@ -5,18 +5,19 @@ ghost use Rattle.loop_ir.specs.declared.statements.Stmt.TheVariants as stmts;
 ghost use Rattle.loop_ir.specs.Rounds.{is_vectorized};
 ghost use Rattle.task_code_registers.specs.Holding as holding;
 ghost use Rattle.task_code_loops.specs.Beginning.{Begins};
+ghost use Rattle.task_code_loops.specs.Guarding.{GuardsWords};
 ghost use Rattle.task_code_statements.specs.Contexts.{Meets};
 ghost use Rattle.task_code_statements.specs.Making.{BeginsIterations, IsMadeStore};
 ghost use Rattle.task_code_statements.specs.Naming.{NamesIf};
 ghost use Rattle.task_code_statements.specs.Statements.{EmitsLoop, EmitsStatement};
 
 use crate::contexts::{Context, has_term, in_loop, with_sum};
-use crate::guessing::{ready, staying};
+use crate::guessing::staying_in;
 use crate::names::{Naming, emit_names};
 use crate::plain::is_plain_store;
 use crate::rewriting::store_by_others;
 use crate::room::{depth, reserve, wanted_in};
-use crate::splits::{is_cut, split_sum, without_last};
+use crate::splits::{enter_split, is_cut, without_last};
 use crate::stages::{Code, add_first, add_last, add_second, no_words_beside};
 use crate::vectorizing::{emit_vectorized, is_at_once};
 use loop_ir::expressions::{Counter, Expr, Linear};
@@ -56,8 +57,12 @@ pub(crate) fn made_store(
     ensures { IfOk result (IsMadeStore places.now context.now store.now) }
 {
     let made = store_by_others(alloc, store, context.known.as_slice())?;
-    let plain = unclamped_store(alloc, places, context.bounds.as_slice(), &made)?;
-    let named = store_by_names(alloc, context.names.as_slice(), &plain)?;
+    let unclamped = unclamped_store(alloc, places, context.bounds.as_slice(), &made);
+    drop(made);
+    let plain = unclamped?;
+    let renamed = store_by_names(alloc, context.names.as_slice(), &plain);
+    drop(plain);
+    let named = renamed?;
     Ok(named)
 }
 
@@ -77,7 +82,9 @@ fn emit_known_store(
         return Err(CodeFault::TooDeep);
     }
     let made = made_store(alloc, places, context, store)?;
-    emit_store(alloc, code, places, scope, &made)?;
+    let emitted = emit_store(alloc, code, places, scope, &made);
+    drop(made);
+    emitted?;
     Ok(())
 }
 
@@ -159,10 +166,7 @@ fn emit_before(
     if context.with_variables {
         return Ok(None);
     }
-    let inner = in_loop(alloc, context, own)?;
-    let mut named = Vec::new(alloc);
-    let as_made = ready(alloc, places, &inner, true, body, &mut named)?;
-    let all = staying(alloc, context.bounds.as_slice(), &as_made)?;
+    let all = staying_in(alloc, places, context, own, body)?;
     let found = emit_names(alloc, code, places, scope, context, all.as_slice())?;
     Ok(found)
 }
@@ -180,9 +184,7 @@ fn begin_iterations(
     requires { 1 ≤ own.count }
     ensures { IfOk result (BeginsIterations code.old.items code.new.items own scope.now) }
 {
-    let mut named = Vec::new(alloc);
-    let made = ready(alloc, places, inner, true, body, &mut named)?;
-    let wanted = wanted_in(alloc, places, inner, own.counter, &made, named.as_slice())?;
+    let wanted = wanted_in(alloc, places, inner, own.counter, body)?;
     let reserved = reserve(scope, depth(body), inner.with_variables);
     let begun = begin(alloc, code, scope, own, wanted.as_slice(), reserved)?;
     Ok(begun)
@@ -322,6 +324,26 @@ fn emit_parted(
     Ok(())
 }
 
+/// Appends code that was made beside, under a test on a form.
+fn emit_tested(
+    alloc: Global,
+    code: &mut Code,
+    scope: &[Held],
+    form: &Form,
+    extent: u32,
+    made: &Code,
+) -> Result<(), CodeFault>
+    ensures { OnOk result (GuardsWords code.old.words.items code.new.words.items scope.now form.now extent
+        made.now.words.items) }
+{
+    let words = made.words.as_slice();
+    emit_guarded(alloc, &mut code.words, scope, form, extent, words)?;
+    let found = made.stages.list.as_slice();
+    let behind = code.words.len();
+    add_last(&mut code.stages.list, found, words.len(), behind)?;
+    Ok(())
+}
+
 /// Appends the body of a split loop, under a test on its value where it isn't known that it passes.
 #[cycle(statements)]
 fn emit_split(
@@ -336,34 +358,18 @@ fn emit_split(
     ensures { OnOk result (EmitsStatement code.old.words.items code.new.words.items places.now scope.now
         (Meets context.now) (stmts.Bind split.counter split.whole split.extent body.now)) }
 {
-    match split_sum(alloc, context, &split.whole)? {
-        None => Err(CodeFault::TooDeep),
-        Some(sum) => {
-            if mentions(scope, split.counter) {
-                return Err(CodeFault::TooDeep);
-            }
-            let inner = with_sum(alloc, context, split.counter, &sum)?;
-            let form = Form { sum, per_hart: 0 };
-            if is_below(&form, context.bounds.as_slice(), split.extent) {
-                emit_statement(alloc, code, places, scope, &inner, body)?;
-                return Ok(());
-            }
-            let mut made = no_words_beside(alloc, code);
-            emit_statement(alloc, &mut made, places, scope, &inner, body)?;
-            emit_guarded(
-                alloc,
-                &mut code.words,
-                scope,
-                &form,
-                split.extent,
-                made.words.as_slice(),
-            )?;
-            let found = made.stages.list.as_slice();
-            let behind = code.words.len();
-            add_last(&mut code.stages.list, found, made.words.len(), behind)?;
-            Ok(())
-        }
+    if mentions(scope, split.counter) {
+        return Err(CodeFault::TooDeep);
     }
+    let entered = enter_split(alloc, context, split.counter, &split.whole)?;
+    if is_below(&entered.form, context.bounds.as_slice(), split.extent) {
+        emit_statement(alloc, code, places, scope, &entered.inner, body)?;
+        return Ok(());
+    }
+    let mut made = no_words_beside(alloc, code);
+    emit_statement(alloc, &mut made, places, scope, &entered.inner, body)?;
+    emit_tested(alloc, code, scope, &entered.form, split.extent, &made)?;
+    Ok(())
 }
 
 /// Appends the code of a statement, with forms in the registers that loops and expressions leave.

@@ -7,34 +7,50 @@ ghost use Rattle.task_code_runs.specs.Runs.{EmitsRun};
 ghost use Rattle.task_code_statements.specs.Contexts.{Meets};
 ghost use Rattle.task_code_statements.specs.Statements.{EmitsStatement};
 ghost use Rattle.task_code_statements.specs.Vectorizing as spec;
-ghost use Rattle.task_code_statements.specs.Vectorizing.{AreLanes, IsRunOf, IsStoreOf};
+ghost use Rattle.task_code_statements.specs.Vectorizing.{AreLanes, GuardedLacks, IsRunOf, IsStoreOf};
 
-use crate::contexts::{Context, in_loop, with_sum};
-use crate::guards::{
-    Guard, Parted, by_lanes, emit_behind, guards_lack, left_if, with_first, with_guard,
-};
+use crate::contexts::{Context, in_loop};
+use crate::guards::{Guard, Tests, add_test, emit_behind, guards_lack, tests_of};
 use crate::lacking::store_lacks;
 use crate::plain::is_plain_store;
 use crate::rewriting::store_by_others;
-use crate::splits::split_sum;
+use crate::splits::enter_split;
 use crate::statements::mentions;
 use loop_ir::expressions::{Counter, Linear};
 use loop_ir::statements::{LoopKind, Stmt, Store};
 use std::alloc::Global;
 use task_code_lane_values::vectorized::Lanes;
 use task_code_lanes::groups::Group;
-use task_code_loops::bounds::{Bound, is_below};
+use task_code_loops::bounds::Bound;
 use task_code_names::names::store_by_names;
-use task_code_registers::scopes::{Form, Held};
+use task_code_registers::scopes::Held;
 use task_code_runs::runs::{emit_left_run, emit_run};
 use task_code_scalar::CodeFault;
 use task_code_scalar::places::Places;
 
 /// A store, and the tests that it stands behind.
-#[derive(Debug, Drop)]
+#[derive(Debug)]
 pub struct Guarded {
     pub store: Store,
     pub guards: Vec<Guard>,
+}
+
+/// Written out, so that a function that drops one has a call here for each way out, and not what dropping trees takes.
+impl Drop for Guarded {
+    fn drop(self) {
+        let Guarded { store, guards: _ } = self;
+        drop(store);
+    }
+}
+
+impl Guarded {
+    /// The store alone.
+    fn into_store(self) -> Store
+        ensures { result ≡ self.store }
+    {
+        let Guarded { store, guards: _ } = self;
+        store
+    }
 }
 
 /// Whether a loop's iterations may be done at once.
@@ -48,52 +64,71 @@ pub fn is_at_once(kind: LoopKind) -> bool
     }
 }
 
+/// A store by the loop variables that aren't known and by names, behind no test.
+fn stored_alone(alloc: Global, context: &Context, store: &Store) -> Result<Guarded, CodeFault>
+    ensures { IfOk result (IsStoreOf context.now (stmts.Store store.now)) }
+{
+    if !is_plain_store(store) {
+        return Err(CodeFault::TooDeep);
+    }
+    let made = store_by_others(alloc, store, context.known.as_slice())?;
+    let renamed = store_by_names(alloc, context.names.as_slice(), &made);
+    drop(made);
+    let named = renamed?;
+    Ok(Guarded {
+        store: named,
+        guards: Vec::new(alloc),
+    })
+}
+
+/// Whether neither a store nor its tests have a loop variable.
+fn guarded_lacks(own: &Guarded, counter: Counter) -> bool
+    ensures { result ≡ true → GuardedLacks counter own.now }
+{
+    store_lacks(&own.store, counter) && guards_lack(own.guards.as_slice(), counter)
+}
+
 /// The store that a vectorized loop's body is, by the loop variables that aren't known.
 fn stored_by(alloc: Global, context: &Context, body: &Stmt) -> Result<Guarded, CodeFault>
     ensures { IfOk result (IsStoreOf context.now body.now) }
 {
     match body {
         Stmt::Store(store) => {
-            if !is_plain_store(store) {
+            let made = stored_alone(alloc, context, store)?;
+            Ok(made)
+        }
+        Stmt::Bind(counter, whole, extent, inside) => {
+            let entered = enter_split(alloc, context, *counter, whole)?;
+            let mut made = stored_by(alloc, &entered.inner, inside.get())?;
+            if !guarded_lacks(&made, *counter) {
                 return Err(CodeFault::TooDeep);
             }
-            let made = store_by_others(alloc, store, context.known.as_slice())?;
-            let named = store_by_names(alloc, context.names.as_slice(), &made)?;
-            Ok(Guarded {
-                store: named,
-                guards: Vec::new(alloc),
-            })
+            let form = entered.into_form();
+            add_test(context.bounds.as_slice(), &mut made.guards, form, *extent)?;
+            Ok(made)
         }
-        Stmt::Bind(counter, whole, extent, inside) => match split_sum(alloc, context, whole)? {
-            None => Err(CodeFault::TooDeep),
-            Some(sum) => {
-                let inner = with_sum(alloc, context, *counter, &sum)?;
-                let made = stored_by(alloc, &inner, inside.get())?;
-                if store_lacks(&made.store, *counter) {
-                    if guards_lack(made.guards.as_slice(), *counter) {
-                        let form = Form { sum, per_hart: 0 };
-                        if is_below(&form, context.bounds.as_slice(), *extent) {
-                            return Ok(made);
-                        }
-                        let Guarded { store, guards } = made;
-                        let guards = with_guard(guards, form.sum, *extent)?;
-                        return Ok(Guarded { store, guards });
-                    }
-                }
-                Err(CodeFault::TooDeep)
-            }
-        },
         Stmt::Sequence(_, _) => Err(CodeFault::TooDeep),
         Stmt::For(_, _, _, _) => Err(CodeFault::TooDeep),
     }
 }
 
 /// A store that the first iterations of a loop do behind tests, and how many, where not all do.
-#[derive(Debug, Drop)]
+#[derive(Debug)]
 pub struct Run {
     pub store: Store,
     pub fixed: Vec<Guard>,
     pub left: Option<Linear>,
+}
+
+impl Drop for Run {
+    fn drop(self) {
+        let Run {
+            store,
+            fixed: _,
+            left: _,
+        } = self;
+        drop(store);
+    }
 }
 
 /// What the iterations of a loop with such lanes do.
@@ -110,12 +145,14 @@ fn run_of_body(
         count: lanes.group.lanes(),
     };
     let inner = in_loop(alloc, context, own)?;
-    let Guarded { store, guards } = stored_by(alloc, &inner, body)?;
-    let Parted { fixed, lane } = by_lanes(alloc, guards.as_slice(), lanes.counter)?;
+    let made = stored_by(alloc, &inner, body)?;
     let bounds = inner.bounds.as_slice();
-    let left = left_if(alloc, bounds, lanes.counter, &lane)?;
-    let fixed = with_first(alloc, bounds, lanes.counter, fixed, &lane)?;
-    Ok(Run { store, fixed, left })
+    let Tests { fixed, left } = tests_of(alloc, bounds, own.counter, made.guards.as_slice())?;
+    Ok(Run {
+        store: made.into_store(),
+        fixed,
+        left,
+    })
 }
 
 /// A lane for each iteration of a loop whose variable no held form has.

@@ -1,6 +1,5 @@
 use Rattle.std.proofs.Common.{◌≡◌, ◌+◌, ◌^◌, ◌<◌, suc, sym, ◌∙◌, subst, arith}
 use Rattle.loop_ir.specs.declared.statements.Stmt.TheVariants as s
-use Rattle.task_code_registers.specs.declared.scopes.Form.{Form}
 use Rattle.task_code_loops.specs.Bounds.{IsBelow}
 use Rattle.task_code_loops.specs.Guarding.{GuardsWords}
 use Rattle.task_code_statements.specs.Contexts.{Meets}
@@ -9,7 +8,7 @@ use Rattle.task_code_statements.specs.Statements.{EmitsStatement}
 use Rattle.task_code_statements.proofs.Giving.{loop-alone, loop-behind, none-given, some-given}
 use Rattle.task_code_statements.proofs.Laying.{none-laid, one-laid, laid-emits, number-enters, parted-arm}
 use Rattle.task_code_statements.proofs.Nesting.{sequence-arm, none-emits, loop-arm, for-arm}
-use Rattle.task_code_statements.proofs.Splitting.{found-sum, split-emits, guarded-emits, bind-arm}
+use Rattle.task_code_statements.proofs.Splitting.{split-emits, guarded-emits, bind-arm}
 use Rattle.task_code_statements.proofs.Storing.{arm}
 use Rattle.task_code_statements.proofs.AtOnce.{vector-arm}
 use Rattle.task_code_statements.proofs.statements.+statements.Goals as goal
@@ -106,19 +105,22 @@ emit_parted-returns t c =
 
 pub emit_split-returns-then-is_below : goal.emit_split-returns-then-is_below
 emit_split-returns-then-is_below t c =
-    split-emits c.args.places.now c.args.scope.now c.args.context.now c.in_ok-inner-in-Some.inner c.args.split.counter c.args.split.whole c.args.split.extent
-    c.args.body.now c.in-Some.sum (sym c.mentions.ensures ∙ c.if-mentions.false)
-    (found-sum c.args.context.now c.args.split.whole c.in-Some.sum _ c.in-Some.is c.in_ok-split_sum.ensures) c.in_ok-inner-in-Some.ensures _ _
-    (subst (λ b. IsBelow b (record { sum = c.in-Some.sum; per_hart = 0 }) c.args.split.extent) c.as_slice.ensures.value (c.is_below.ensures c.if-is_below.true))
-    c.in_ok-emit_statement-in-Some.ensures
+    let entered = c.in_ok-entered.entered in
+    let enters = c.in_ok-entered.ensures in
+    let bounds = c.args.context.now.bounds.items in
+    split-emits c.args.places.now c.args.scope.now c.args.context.now entered.inner c.args.split.counter c.args.split.whole c.args.split.extent
+    c.args.body.now entered.form.sum (sym c.mentions.ensures ∙ c.if-mentions.false) enters.value_is enters.meets _ _
+    (subst (λ f. IsBelow bounds f c.args.split.extent) enters.form_is
+    (subst (λ b. IsBelow b entered.form c.args.split.extent) c.as_slice.ensures.value (c.is_below.ensures c.if-is_below.true)))
+    c.in_ok-emit_statement.ensures
 
-pub emit_split-returns-in_ok-add_last-in-Some : goal.emit_split-returns-in_ok-add_last-in-Some
-emit_split-returns-in_ok-add_last-in-Some t c =
-    let form : Form = record { sum = c.in-Some.sum; per_hart = 0 } in
-    guarded-emits c.args.places.now c.args.scope.now c.args.context.now c.in_ok-inner-in-Some.inner c.args.split.counter c.args.split.whole c.args.split.extent
-    c.args.body.now c.in-Some.sum (sym c.mentions.ensures ∙ c.if-mentions.false)
-    (found-sum c.args.context.now c.args.split.whole c.in-Some.sum _ c.in-Some.is c.in_ok-split_sum.ensures) c.in_ok-inner-in-Some.ensures _ _ _
-    (subst (λ old. EmitsStatement old c.emit_statement-in-Some.new.code.words.items c.args.places.now c.args.scope.now (Meets c.in_ok-inner-in-Some.inner)
-    c.args.body.now) c.no_words_beside-made.ensures c.in_ok-emit_statement-in-Some-2.ensures)
-    (subst (λ words. GuardsWords c.args.code.now.words.items c.emit_guarded.new.code.items c.args.scope.now form c.args.split.extent words)
-    c.as_slice-in-Some.ensures.value c.in_ok-emit_guarded-in-Some.ensures.ok)
+pub emit_split-returns : goal.emit_split-returns
+emit_split-returns t c =
+    let entered = c.in_ok-entered.entered in
+    let enters = c.in_ok-entered.ensures in
+    guarded-emits c.args.places.now c.args.scope.now c.args.context.now entered.inner c.args.split.counter c.args.split.whole c.args.split.extent
+    c.args.body.now entered.form.sum (sym c.mentions.ensures ∙ c.if-mentions.false) enters.value_is enters.meets _ _ _
+    (subst (λ old. EmitsStatement old c.emit_statement-2.new.code.words.items c.args.places.now c.args.scope.now (Meets entered.inner) c.args.body.now)
+    c.no_words_beside-made.ensures c.in_ok-emit_statement-2.ensures)
+    (subst (λ f. GuardsWords c.args.code.now.words.items c.emit_tested.new.code.words.items c.args.scope.now f c.args.split.extent
+    c.emit_statement-2.new.code.words.items) enters.form_is c.in_ok-emit_tested.ensures)
