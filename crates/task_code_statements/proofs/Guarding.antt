@@ -141,18 +141,18 @@ module _ (counter : Counter) (guards others : List Guard) (first own : Guard) (r
 
 -- ---- how many iterations are left
 
-pub left-is-of : (bounds : List Bound) (counter : Counter) (guard : Guard) (sum left extent : Linear) (start : Form) (stride : ℕ) → sum ≡ guard.sum
+pub left-is-of : (bounds : List Bound) (counter : Counter) (guard : Guard) (left extent : Linear) (start : Form) (stride : ℕ)
     → ((values : Values) → linear_value values extent ≡ guard.extent)
     → ((values : Values) → linear_value values left ≡ word.subtract (linear_value values extent) (linear_value values guard.sum))
     → stride ≡ strides counter guard.sum.terms % 2 ^ 32 → stride ≡ 1 → guard.extent ≤ 2 ^ 31
-    → IsAt counter 0 (record { sum = sum; per_hart = 0 }) start → IsBelow bounds start (2 ^ 31) → IsLeft bounds counter guard left
-left-is-of bounds counter guard sum left extent start stride es ex is est one small law below = record {
+    → IsAt counter 0 (record { sum = guard.sum; per_hart = 0 }) start → IsBelow bounds start (2 ^ 31) → IsLeft bounds counter guard left
+left-is-of bounds counter guard left extent start stride ex is est one small law below = record {
   value_is = λ values. is values ∙ ap (λ n. word.subtract n (linear_value values guard.sum)) (ex values);
   stride = sym est ∙ one;
   small = small;
   begins = λ values are.
       subst (λ n. n < 2 ^ 31)
-      (law.value 0 0 values ∙ form-sum 0 (with counter 0 values) sum ∙ ap (linear_value (with counter 0 values)) es)
+      (law.value 0 0 values ∙ form-sum 0 (with counter 0 values) guard.sum)
       (below 0 (with counter 0 values) are);
 }
 
@@ -164,28 +164,20 @@ no-lane bounds counter fixed made lane none is values are =
     ap (λ l. passes l (with counter 0 values)) is ∙ sym (and-true (passes fixed (with counter 0 values)))
     ∙ ap (λ o. cond (passes fixed (with counter 0 values)) (passes_if o (with counter 0 values)) false) (sym none)
 
-module _ (bounds : List Bound) (counter : Counter) (fixed made : List Guard) (lane : Option Guard) (own : Guard) (sum : Linear) (start : Form)
-    (el : lane ≡ Some own) (es : sum ≡ own.sum) (law : IsAt counter 0 (record { sum = sum; per_hart = 0 }) start) where
+module _ (bounds : List Bound) (counter : Counter) (fixed made : List Guard) (lane : Option Guard) (own : Guard) (start : Form)
+    (el : lane ≡ Some own) (law : IsAt counter 0 (record { sum = own.sum; per_hart = 0 }) start) where
   start-is : (values : Values) → form_value 0 (with counter 0 values) start ≡ linear_value (with counter 0 values) own.sum
-  start-is values = law.value 0 0 values ∙ form-sum 0 (with counter 0 values) sum ∙ ap (linear_value (with counter 0 values)) es
+  start-is values = law.value 0 0 values ∙ form-sum 0 (with counter 0 values) own.sum
 
   lane-is : (values : Values) → cond (passes fixed (with counter 0 values)) (passes_if lane (with counter 0 values)) false
       ≡ cond (passes fixed (with counter 0 values)) (is_passed own (with counter 0 values)) false
   lane-is values = ap (λ o. cond (passes fixed (with counter 0 values)) (passes_if o (with counter 0 values)) false) el
 
-  pub first-passes : made ≡ fixed → IsBelow bounds start own.extent → TestFirst bounds counter fixed lane made
-  first-passes is below values are =
-      let passed : is_passed own (with counter 0 values) ≡ true =
-      is-below (linear_value (with counter 0 values) own.sum) own.extent
-      (subst (λ n. n < own.extent) (start-is values) (below 0 (with counter 0 values) are)) in
-      ap (λ l. passes l (with counter 0 values)) is ∙ sym (and-true (passes fixed (with counter 0 values)))
-      ∙ ap (λ t. cond (passes fixed (with counter 0 values)) t false) (sym passed) ∙ sym (lane-is values)
-
-  pub first-tested : OneMore fixed (record { sum = start.sum; extent = own.extent }) made → TestFirst bounds counter fixed lane made
+  pub first-tested : TestToo bounds fixed (record { sum = start.sum; extent = own.extent }) made → TestFirst bounds counter fixed lane made
   first-tested more values are =
       let at = with counter 0 values in
       let same : linear_value at start.sum ≡ linear_value at own.sum = sym (first-form at start) ∙ start-is values in
-      more at ∙ ap (λ n. cond (nat_lt n own.extent) (passes fixed at) false) same ∙ turned (is_passed own at) (passes fixed at) ∙ sym (lane-is values)
+      more at are ∙ ap (λ n. cond (nat_lt n own.extent) (passes fixed at) false) same ∙ turned (is_passed own at) (passes fixed at) ∙ sym (lane-is values)
 
 -- ---- code behind tests
 

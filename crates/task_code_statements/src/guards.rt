@@ -2,6 +2,7 @@
 //! one at most passes for the first lanes alone.
 
 ghost use Rattle.std.specs.Prelude.{◌≡◌, IfOk, None, OnOk, true};
+ghost use Rattle.task_code_registers.specs.Holding.{IsAt};
 ghost use Rattle.task_code_statements.specs.Vectorizing.{AreTests, GuardsLack, IsLeft, IsLeftIf, IsParted, OneMore};
 ghost use Rattle.task_code_statements.specs.Vectorizing.{TestFirst, TestToo, WordsBehind};
 
@@ -108,6 +109,16 @@ fn by_lanes(alloc: Global, guards: &[Guard], counter: Counter) -> Result<Parted,
     }
 }
 
+/// A test's form in the first iteration of a loop.
+fn first_of(alloc: Global, counter: Counter, guard: &Guard) -> Result<Form, AllocError>
+    ensures { IfOk result (IsAt counter 0 (record { sum = guard.now.sum; per_hart = 0 })) }
+{
+    let sum = guard.sum.copy(alloc)?;
+    let form = Form { sum, per_hart: 0 };
+    let start = at_value(alloc, &form, counter, 0)?;
+    Ok(start)
+}
+
 /// How many iterations pass a test from one on, where the first one passes.
 fn left_of(
     alloc: Global,
@@ -118,19 +129,16 @@ fn left_of(
     ensures { IfOk result (IsLeft bounds.now counter guard.now) }
 {
     let stride = stride_of(guard.sum.terms.as_slice(), counter);
-    if stride == 1 {
-        if guard.extent <= MOST_EXTENT {
-            let sum = guard.sum.copy(alloc)?;
-            let form = Form { sum, per_hart: 0 };
-            let start = at_value(alloc, &form, counter, 0)?;
-            if is_below(&start, bounds, MOST_EXTENT) {
-                let extent = Linear::of_number(alloc, guard.extent);
-                let left = extent.minus(&guard.sum)?;
-                return Ok(left);
-            }
-        }
+    if stride != 1 || guard.extent > MOST_EXTENT {
+        return Err(CodeFault::TooDeep);
     }
-    Err(CodeFault::TooDeep)
+    let start = first_of(alloc, counter, guard)?;
+    if !is_below(&start, bounds, MOST_EXTENT) {
+        return Err(CodeFault::TooDeep);
+    }
+    let extent = Linear::of_number(alloc, guard.extent);
+    let left = extent.minus(&guard.sum)?;
+    Ok(left)
 }
 
 /// How many iterations pass a test from one on, where there is one and the first one passes.
@@ -151,27 +159,22 @@ fn left_if(
     }
 }
 
-/// Tests with that of the first lane, unless it is known to pass.
-fn with_first(
+/// Adds the test of the first lane to others, unless it is known to pass.
+fn add_first(
     alloc: Global,
     bounds: &[Bound],
     counter: Counter,
-    fixed: Vec<Guard>,
+    fixed: &mut Vec<Guard>,
     lane: &Option<Guard>,
-) -> Result<Vec<Guard>, AllocError>
-    ensures { IfOk result (λ made. TestFirst bounds.now counter fixed.items lane.now made.items) }
+) -> Result<(), AllocError>
+    ensures { OnOk result (TestFirst bounds.now counter fixed.old.items lane.now fixed.new.items) }
 {
     match lane {
-        None => Ok(fixed),
+        None => Ok(()),
         Some(own) => {
-            let sum = own.sum.copy(alloc)?;
-            let form = Form { sum, per_hart: 0 };
-            let start = at_value(alloc, &form, counter, 0)?;
-            if is_below(&start, bounds, own.extent) {
-                return Ok(fixed);
-            }
-            let made = with_guard(fixed, start.sum, own.extent)?;
-            Ok(made)
+            let start = first_of(alloc, counter, own)?;
+            add_test(bounds, fixed, start, own.extent)?;
+            Ok(())
         }
     }
 }
@@ -196,9 +199,9 @@ pub fn tests_of(
 ) -> Result<Tests, CodeFault>
     ensures { IfOk result (AreTests bounds.now counter guards.now) }
 {
-    let Parted { fixed, lane } = by_lanes(alloc, guards, counter)?;
+    let Parted { mut fixed, lane } = by_lanes(alloc, guards, counter)?;
+    add_first(alloc, bounds, counter, &mut fixed, &lane)?;
     let left = left_if(alloc, bounds, counter, &lane)?;
-    let fixed = with_first(alloc, bounds, counter, fixed, &lane)?;
     Ok(Tests { fixed, left })
 }
 

@@ -5,5 +5,5 @@ returns c = record {
   parts = c.in_ok-fixed.field-0;
   parted = c.in_ok-fixed.ensures;
   left = c.in_ok-left.ensures;
-  first = c.in_ok-fixed-2.ensures;
+  first = c.in_ok-add_first.ensures;
 }
