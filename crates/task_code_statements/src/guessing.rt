@@ -79,6 +79,22 @@ fn ready_part(
     Ok(boxed)
 }
 
+/// A loop's body whose stores are as their code is made.
+#[cycle(readying)]
+fn ready_body(
+    alloc: Global,
+    places: &Places,
+    context: &Context,
+    own: Bound,
+    with_cuts: bool,
+    body: &Stmt,
+    named: &mut Vec<Expr>,
+) -> Result<Boxed<Stmt>, CodeFault> {
+    let inner = in_loop(alloc, context, own)?;
+    let made = ready_part(alloc, places, &inner, with_cuts, body, named)?;
+    Ok(made)
+}
+
 /// A statement whose stores are as their code is made, and beside it what gets names in front of loops inside.
 ///
 /// # Errors
@@ -109,9 +125,8 @@ pub fn ready(
                 count: *count,
             };
             let own = without_cut(body.get(), own);
-            let inner = in_loop(alloc, context, own)?;
             let within = with_cuts && !is_at_once(*kind);
-            let made = ready_part(alloc, places, &inner, within, body.get(), named)?;
+            let made = ready_body(alloc, places, context, own, within, body.get(), named)?;
             ready_loop(alloc, context, own, *kind, made, named)
         }
         Stmt::Bind(counter, whole, extent, body) => {
@@ -371,11 +386,8 @@ pub fn staying_in(
     own: Bound,
     body: &Stmt,
 ) -> Result<Vec<Expr>, CodeFault> {
-    let inner = in_loop(alloc, context, own)?;
     let mut named = Vec::new(alloc);
-    let made = ready(alloc, places, &inner, true, body, &mut named)?;
-    let found = staying(alloc, context.bounds.as_slice(), &made);
-    drop(made);
-    let all = found?;
+    let made = ready_body(alloc, places, context, own, true, body, &mut named)?;
+    let all = staying(alloc, context.bounds.as_slice(), made.get())?;
     Ok(all)
 }

@@ -7,7 +7,7 @@ use crate::vectorizing::is_at_once;
 use loop_ir::expressions::{Counter, Expr};
 use loop_ir::statements::Stmt;
 use std::alloc::{AllocError, Global};
-use task_code_loops::known::by_others;
+use task_code_loops::known::{Known, by_others};
 use task_code_loops::tests::variable;
 use task_code_loops::wanted::wanted_forms;
 use task_code_registers::scopes::{Form, Held, free_register};
@@ -64,6 +64,20 @@ pub(crate) fn reserve(scope: &[Held], inside: usize, with_variables: bool) -> us
     if wanted < most { wanted } else { most }
 }
 
+/// Adds forms by other loop variables than the known ones.
+fn add_by_others(
+    alloc: Global,
+    known: &[Known],
+    forms: &[Form],
+    wanted: &mut Vec<Form>,
+) -> Result<(), AllocError> {
+    for own in forms {
+        let form = by_others(alloc, own, known)?;
+        wanted.push(form)?;
+    }
+    Ok(())
+}
+
 /// The forms that a loop's body wants in registers where its stores are as their code is made, by the loop variables
 /// that aren't known. Some parts are named.
 fn wanted_by(
@@ -75,7 +89,6 @@ fn wanted_by(
     named: &[Expr],
 ) -> Result<Vec<Form>, AllocError> {
     let bounds = context.bounds.as_slice();
-    let found = wanted_forms(alloc, places, bounds, body)?;
     let mut wanted = Vec::new(alloc);
     if context.with_variables {
         let own = variable(alloc, counter)?;
@@ -84,10 +97,13 @@ fn wanted_by(
     for e in named {
         add_sums(alloc, bounds, e, &mut wanted)?;
     }
-    for own in found.as_slice() {
-        let form = by_others(alloc, own, context.known.as_slice())?;
-        wanted.push(form)?;
-    }
+    let found = wanted_forms(alloc, places, bounds, body)?;
+    add_by_others(
+        alloc,
+        context.known.as_slice(),
+        found.as_slice(),
+        &mut wanted,
+    )?;
     Ok(wanted)
 }
 
