@@ -2,6 +2,7 @@
 use Rattle.std.proofs.Common.{◌≡◌, ◌∙◌, codes, true, false, inl, inr, true≢false, refl, sym, ap, subst, List, [], ◌∷◌, ◌≤◌, length, Option, Some, IsSome}
 use Rattle.std.specs.Prelude.{Bool, None, if◌then◌else◌, is_some, option_and_then, unwrap_or, not}
 use Rattle.std.proofs.lemmas.Bool.{le-ltb}
+use Rattle.std.proofs.lemmas.Slice.Eq.{bytes_eq-Decides}
 use Rattle.std.specs.List.{AllByRecursion}
 use Rattle.hrv_refusals.specs.Explanations.{is_explained}
 use Rattle.clap.specs.Lexer.{usize_max}
@@ -9,7 +10,7 @@ use Rattle.clap.specs.Walk.{Row, Text, rows_after, first_of}
 use Rattle.clap.specs.Simple.{subcommand_of}
 use Rattle.clap.specs.Kinds.{Kinds}
 use Rattle.clap.specs.Faults.{fault_of}
-use Rattle.hrv_command_line.specs.CommandLine.{Asked, Assembles, Blames, Compiles, Debugs, Draws, Explains, IsPlainWord, IsSpelled, IsWithinLimits, Lists, ListsAddresses, Maps, Renews, Replays, TellsVersion, asked_in, asked_of, asm_of, compile_of, debug_of, explain_of, hrv_app, if_known, map_of, named, picture_of, renew_of, replay_of, run_from, unless_fault, unmarked}
+use Rattle.hrv_command_line.specs.CommandLine.{Asked, Assembles, Blames, Compiles, Debugs, Draws, Explains, IsPlainWord, IsSpelled, IsWithinLimits, Lists, ListsAddresses, Maps, Renews, Replays, TellsVersion, asked_in, asked_of, asm_of, compile_of, debug_of, explain_of, hrv_app, if_known, is_version_flag, map_of, named as named_in_all, named_by_clap as named, picture_of, renew_of, replay_of, run_from, unless_fault, unmarked}
 use Rattle.hrv_command_line.proofs.Positionals.{ArePlain, marked, none, passes_all, plain, takes_all, unmarked-plain}
 use Rattle.hrv_command_line.proofs.Subcommands.{IsName, first_is_name, is_asm, is_blame, is_compile, is_debug, is_dis, is_explain, is_map, is_picture, is_renew, is_replay, is_run, is_version, name_free, name_given, name_passes}
 use Rattle.hrv_command_line.proofs.ReplayWords as replay
@@ -210,7 +211,7 @@ asks_version words rest e split =
       rows = rows_after version.leaf.rules [] rest;
       met = ap (subcommand_of hrv_app) split ∙ name_given version.version_command rest;
       asks = refl;
-      spelled = ap unmarked split ∙ ap (λ ws. codes "version" ∷ ws) (version.no_values (unmarked rest) all.1);
+      spelled = inl (ap unmarked split ∙ ap (λ ws. codes "version" ∷ ws) (version.no_values (unmarked rest) all.1));
       limits = tt;
     }
 
@@ -257,12 +258,26 @@ known_same (Explains family code) named is = go (is_explained family code) is
 known_same asked named is = ap (λ o. unwrap_or o named) is
 
 -- so nothing is named but what is spelled
-pub only_spelled : (words : List Text) (asked : Asked) → named words ≡ Some asked → IsSpelled words asked
+only_spelled : (words : List Text) (asked : Asked) → named words ≡ Some asked → IsSpelled words asked
 only_spelled words asked is =
     let pass = fault_of-named words (ap is_some is) in
     let found = words_ask words pass in
     let same = known_same found.asked asked (sym (ap (option_and_then if_known) (asked_named words pass found)) ∙ is) in
     subst (IsSpelled words) same found.spelled
+
+-- the one word `--version`
+the_flag : (words : List Text) → is_version_flag words ≡ true → words ≡ codes "--version" ∷ []
+the_flag [] e = absurd (true≢false (sym e))
+the_flag (word ∷ []) e = ap (λ w. w ∷ []) ((bytes_eq-Decides word (codes "--version")).0 e)
+the_flag (word ∷ next ∷ rest) e = absurd (true≢false (sym e))
+
+-- that flag too is spelled
+pub flag_or_spelled : (words : List Text) (asked : Asked) → named_in_all words ≡ Some asked → IsSpelled words asked
+flag_or_spelled words asked is = go (is_version_flag words) refl is
+  where
+    go : (b : Bool) → is_version_flag words ≡ b → (if b then Some TellsVersion else named words) ≡ Some asked → IsSpelled words asked
+    go true e is = subst (IsSpelled words) (ap (λ o. unwrap_or o asked) is) (inr (the_flag words e))
+    go false e is = only_spelled words asked is
 
 -- ---- words that name what is asked for
 

@@ -8,7 +8,7 @@ use Rattle.clap.specs.Kinds.{or_else}
 use Rattle.clap.specs.Faults.{level_fault, step_fault, turn_fault, walk_fault, word_fault}
 use Rattle.clap.specs.declared.builder.value_parser.Reading.TheVariants.{AsWritten}
 use Rattle.clap.specs.declared.parser.matches.ValueSource.TheVariants.{CommandLine}
-use Rattle.hrv_command_line.specs.CommandLine.{Asked, Blames, IsPlainWord, asked_of, blame_of, hrv_app, if_known, named, unless_fault}
+use Rattle.hrv_command_line.specs.CommandLine.{Asked, Blames, IsPlainWord, asked_of, blame_of, hrv_app, if_known, named_by_clap as named, unless_fault}
 use Rattle.hrv_command_line.proofs.HelpOnly.{held, is_idle, looks_plain, plain_met}
 use Rattle.hrv_command_line.proofs.Positionals.{at, end_fault}
 use Rattle.hrv_command_line.proofs.BlameWords.{leaf, blame_command}

@@ -3,7 +3,7 @@ use Rattle.std.proofs.Common.{◌≡◌, ◌∙◌, codes, true, refl, sym, ap, 
 use Rattle.std.specs.Prelude.{option_and_then}
 use Rattle.clap.specs.Walk.{Text}
 use Rattle.clap.specs.Simple.{subcommand_of}
-use Rattle.hrv_command_line.specs.CommandLine.{Asked, IsPlainWord, Maps, asked_of, hrv_app, if_known, map_of, named, unless_fault, unmarked}
+use Rattle.hrv_command_line.specs.CommandLine.{Asked, IsPlainWord, Maps, asked_of, hrv_app, if_known, map_of, named_by_clap as named, unless_fault, unmarked}
 use Rattle.hrv_command_line.proofs.Positionals.{ArePlain, marked, none, passes_all, plain, takes_all, unmarked-plain}
 use Rattle.hrv_command_line.proofs.Subcommands.{name_free, name_given}
 use Rattle.hrv_command_line.proofs.MapWords as map

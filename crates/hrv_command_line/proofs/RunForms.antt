@@ -13,7 +13,7 @@ use Rattle.clap.specs.Faults.{level_fault, step_fault, turn_fault, walk_fault, w
 use Rattle.clap.specs.declared.builder.value_parser.Reading.TheVariants.{AsWritten}
 use Rattle.clap.specs.declared.builder.value_parser.ValueParser.TheVariants.{Unsigned}
 use Rattle.clap.specs.declared.parser.matches.ValueSource.TheVariants.{CommandLine}
-use Rattle.hrv_command_line.specs.CommandLine.{Asked, IsPlainWord, Resumes, Runs, asked_of, hrv_app, if_known, most_harts, most_turns, named, number_or, run_of, unless_fault}
+use Rattle.hrv_command_line.specs.CommandLine.{Asked, IsPlainWord, Resumes, Runs, asked_of, hrv_app, if_known, most_harts, most_turns, named_by_clap as named, number_or, run_of, unless_fault}
 use Rattle.hrv_command_line.proofs.HelpOnly.{held, is_idle, looks_plain, plain_met}
 use Rattle.hrv_command_line.proofs.Positionals.{at, end_fault}
 use Rattle.hrv_command_line.proofs.RunWords.{leaf, run_command}

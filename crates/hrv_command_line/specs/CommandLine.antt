@@ -307,9 +307,18 @@ abbrev pub if_known : Asked → Option Asked
 if_known (Explains family code) = if is_explained family code then Some (Explains family code) else None
 if_known asked = Some asked
 
+-- what these words name to `clap`
+abbrev pub named_by_clap : List Text → Option Asked
+named_by_clap words = option_and_then if_known (asked_in words)
+
+-- the one word `--version`
+abbrev pub is_version_flag : List Text → Bool
+is_version_flag (word ∷ []) = bytes_eq word (codes "--version")
+is_version_flag _ = false
+
 -- what these words name
 abbrev pub named : List Text → Option Asked
-named words = option_and_then if_known (asked_in words)
+named words = if is_version_flag words then Some TellsVersion else named_by_clap words
 
 -- memory was refused, the error is of a kind that `clap` finds in the words, or they ask for what can't be explained
 abbrev pub IsRefusal : List Text → CommandLineFault → Type 0
@@ -337,7 +346,7 @@ IsSpelled words (Assembles source image) = unmarked words ≡ codes "asm" ∷ so
 IsSpelled words (Lists image) = unmarked words ≡ codes "dis" ∷ image ∷ []
 IsSpelled words (Explains family code) =
     (unmarked words ≡ codes "explain" ∷ family ∷ code ∷ []) ⊎ ((unmarked words ≡ codes "explain" ∷ family ∷ []) × (code ≡ []))
-IsSpelled words TellsVersion = unmarked words ≡ codes "version" ∷ []
+IsSpelled words TellsVersion = (unmarked words ≡ codes "version" ∷ []) ⊎ (words ≡ codes "--version" ∷ [])
 IsSpelled words (Renews old new) = unmarked words ≡ codes "renew" ∷ old ∷ new ∷ []
 IsSpelled words (Draws algorithm inputs) = unmarked words ≡ codes "picture" ∷ algorithm ∷ inputs
 IsSpelled words (Compiles algorithm schedule image inputs) = unmarked words ≡ codes "compile" ∷ algorithm ∷ schedule ∷ image ∷ inputs

@@ -4,8 +4,9 @@ ghost use Rattle.clap.specs.Words.{all_of, found_of, one_of, rows_of};
 ghost use Rattle.clap.specs.Walk.{texts};
 ghost use Rattle.hrv_command_line.specs.CommandLine.{IsRefusal, IsSpelled, IsWithinLimits, asked_by, asked_of, asm_of};
 ghost use Rattle.hrv_command_line.specs.CommandLine.{blame_of, compile_of, debug_of, dis_of, explain_of, if_known};
-ghost use Rattle.hrv_command_line.specs.CommandLine.{listing_of, map_of, named, number_or, picture_of, renew_of};
-ghost use Rattle.hrv_command_line.specs.CommandLine.{replay_of, run_of};
+ghost use Rattle.hrv_command_line.specs.CommandLine as spec;
+ghost use Rattle.hrv_command_line.specs.CommandLine.{listing_of, map_of, named, named_by_clap, number_or, picture_of};
+ghost use Rattle.hrv_command_line.specs.CommandLine.{renew_of, replay_of, run_of};
 
 use crate::faults::CommandLineFault;
 use crate::programs::program;
@@ -89,7 +90,7 @@ pub enum Invocation<'a> {
         family: &'a str,
         code: &'a str,
     },
-    /// `version`
+    /// `version`, or `--version`
     Version,
 }
 
@@ -103,6 +104,36 @@ pub fn command<'a>(alloc: Global, words: &'a [&'a str]) -> Result<Invocation<'a>
     ensures refused { IfErr result (IsRefusal (texts words.now)) }
     ensures memory { IfErr result (λ fault.
         IsSome (named (texts words.now)) → fault ≡ CommandLineFault.Memory) }
+{
+    if is_version_flag(words) {
+        return Ok(Invocation::Version);
+    }
+    command_by_clap(alloc, words)
+}
+
+// Whether the only word is `--version`, which `clap` would take for a refusal.
+fn is_version_flag(words: &[&str]) -> bool
+    ensures { result ≡ spec.is_version_flag (texts words.now) }
+{
+    match words {
+        [word] => *word == "--version",
+        _ => false,
+    }
+}
+
+// Reads such words by the program's command.
+fn command_by_clap<'a>(
+    alloc: Global,
+    words: &'a [&'a str],
+) -> Result<Invocation<'a>, CommandLineFault>
+    ensures named { IfOk result (λ invocation.
+        named_by_clap (texts words.now) ≡ Some (asked_by invocation)) }
+    ensures spelled { IfOk result (λ invocation.
+        IsSpelled (texts words.now) (asked_by invocation)) }
+    ensures limits { IfOk result (λ invocation. IsWithinLimits (asked_by invocation)) }
+    ensures refused { IfErr result (IsRefusal (texts words.now)) }
+    ensures memory { IfErr result (λ fault.
+        IsSome (named_by_clap (texts words.now)) → fault ≡ CommandLineFault.Memory) }
 {
     let matches = program(alloc)?.try_get_matches_from(words)?;
     let (name, given) = matches.subcommand().unwrap();

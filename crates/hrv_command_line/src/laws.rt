@@ -69,9 +69,10 @@ pub fn explain_is_named()
         → named (codes "explain" ∷ family ∷ code ∷ []) ≡ None }
 {}
 
-/// The word that asks for the program's version.
+/// The words that ask for the program's version.
 pub fn version_is_named()
-    ensures { named (codes "version" ∷ []) ≡ Some TellsVersion }
+    ensures plain { named (codes "version" ∷ []) ≡ Some TellsVersion }
+    ensures flag { named (codes "--version" ∷ []) ≡ Some TellsVersion }
 {}
 
 /// Which words name a renewal: `renew` and two names, after `--` where one begins with `-`.

@@ -242,7 +242,7 @@ fn version_command<'a>(alloc: Global) -> Command<'a>
     ensures { Makes version_app result }
 {
     Command::new(alloc, "version").about(
-        "Prints the version of the program, and the logic that it is proved in",
+        "Prints the version of the program, and the logic that it is proved in, as --version does",
     )
 }
 

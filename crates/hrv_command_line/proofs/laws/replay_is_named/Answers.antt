@@ -1,4 +1,4 @@
-use Rattle.hrv_command_line.proofs.AskedWords.{marked_replay, only_spelled, plain_replay}
+use Rattle.hrv_command_line.proofs.AskedWords.{flag_or_spelled, marked_replay, plain_replay}
 use Rattle.hrv_command_line.proofs.laws.replay_is_named.Goals as goal
 
 pub returns-clause-plain : goal.returns-clause-plain
@@ -8,4 +8,4 @@ pub returns-clause-marked : goal.returns-clause-marked
 returns-clause-marked c = marked_replay
 
 pub returns-clause-only : goal.returns-clause-only
-returns-clause-only c = only_spelled
+returns-clause-only c = flag_or_spelled

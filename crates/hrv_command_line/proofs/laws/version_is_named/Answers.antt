@@ -1,5 +1,5 @@
 use Rattle.hrv_command_line.proofs.AskedWords.{tells_version}
 use Rattle.hrv_command_line.proofs.laws.version_is_named.Goals as goal
 
-pub returns : goal.returns
-returns c = tells_version
+pub returns-clause-plain : goal.returns-clause-plain
+returns-clause-plain c = tells_version

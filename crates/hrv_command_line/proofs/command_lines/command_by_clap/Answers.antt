@@ -3,7 +3,7 @@ use Rattle.std.specs.Prelude.{is_some}
 use Rattle.clap.specs.Walk.{texts}
 use Rattle.hrv_command_line.proofs.Parses.{asked_here, kinds_of, known_named, limited_as, memory_alone, refused, refused_named, spelled_as, taken, unexplained}
 use Rattle.hrv_command_line.specs.declared.faults.CommandLineFault.TheVariants.{Unexplained}
-use Rattle.hrv_command_line.proofs.command_lines.command.Goals as goal
+use Rattle.hrv_command_line.proofs.command_lines.command_by_clap.Goals as goal
 
 pub returns-in_err-matches-clause-refused : goal.returns-in_err-matches-clause-refused
 returns-in_err-matches-clause-refused c =
