@@ -4,10 +4,10 @@
 /// A line for each family, and for each of its codes as often as it has causes, in the order in which they are judged.
 /// Below it stand, behind two blanks, what the family says, and the cause with what helps.
 #[rattlefmt::skip]
-pub static REFUSALS: [u8; 8315] = *b"\
+pub static REFUSALS: [u8; 8466] = *b"\
 file\n\
 \x20\x20cause: a file can't be read or written, or a text isn't UTF-8; here `-` is standard input or output\n\
-\x20\x20cure: look at the path, its rights, the disk\n\
+\x20\x20cure: look at the path, its rights, the disk; a word left out moves the words behind it\n\
 memory\n\
 \x20\x20cause: the system gave no memory\n\
 \x20\x20cure: a smaller picture or log, a larger machine\n\
@@ -178,13 +178,13 @@ schedule 10\n\
 \x20\x20cure: `guard`: shifted iterations write points twice\n\
 schedule 11\n\
 \x20\x20cause: a vectorized loop isn't the innermost, isn't the vi of a split by 4, 8 or 16, or is over a reduction variable\n\
-\x20\x20cure: `reorder`\n\
+\x20\x20cure: `reorder` it innermost; split by 4, 8 or 16 first; mark a loop over an argument\n\
 schedule 12\n\
 \x20\x20cause: an unrolled loop isn't the vi of a split\n\
 \x20\x20cure: split it by the count first\n\
 schedule 13\n\
 \x20\x20cause: `compute_at g v`: g or v can't have it, or a use lies outside\n\
-\x20\x20cure: a loop further out, or `compute_root`\n\
+\x20\x20cure: a loop name that g has after its splits, one further out, or `compute_root`\n\
 schedule 14\n\
 \x20\x20cause: a Func with updates, or with a line about its loops, is inlined (line 0)\n\
 \x20\x20cure: give it a compute line\n\
