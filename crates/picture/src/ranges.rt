@@ -63,7 +63,12 @@ impl Range {
             Operation::Maximum => {
                 Range::or_all(self.low.max(other.low), self.high.max(other.high))
             }
-            _ => Range { low: 0, high: 1 },
+            Operation::Less
+            | Operation::LessOrEqual
+            | Operation::Greater
+            | Operation::GreaterOrEqual
+            | Operation::Equal
+            | Operation::NotEqual => Range { low: 0, high: 1 },
         }
     }
 
