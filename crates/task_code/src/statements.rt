@@ -344,8 +344,8 @@ fn emit_by_forms(
 /// It finds the task's number in x12 and the hart's in x10, and ends behind its last word, with the addresses of the
 /// ticket word and of the gate word behind it in x13 and x14, 1 in x15 and the number of tasks in x16. Wherever it
 /// stands it does each task of the phase to the buffers in memory, in turns that hang on the task alone (`DoesTask` of
-/// `specs/Tasks.antt`), and it has no more words than the phase asks for. It adds which of the words are the code of
-/// stages inside the phase.
+/// `specs/Tasks.antt`), and it has no more words than the phase asks for. It also adds which of the words it takes for
+/// the code of stages inside the phase; no clause speaks of that.
 ///
 /// # Errors
 ///

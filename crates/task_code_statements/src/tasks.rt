@@ -172,7 +172,7 @@ fn tried_words(
 /// Appends the code of one task of a phase, with forms in the registers that loops and expressions leave: pointers
 /// first, and where registers do not suffice for this, loop variables first.
 ///
-/// It adds which of the words are the code of stages inside the phase.
+/// It also adds which of the words it takes for the code of stages inside the phase; no clause speaks of that.
 ///
 /// It finds the task's number in x12 and the hart's in x10, and ends behind its last word, with the addresses of the
 /// ticket word and of the gate word behind it in x13 and x14, 1 in x15 and the number of tasks in x16.
