@@ -380,6 +380,23 @@ pub fn load_byte_row(code: &mut Vec<u32>, d: u8, r: u8, by: u8) -> Result<(), Al
     Ok(())
 }
 
+/// Appends a load of words that lie as many bytes apart as a register holds.
+pub fn load_strided(code: &mut Vec<u32>, d: u8, r: u8, by: u8) -> Result<(), AllocError>
+    requires { (d < 32) × (r < 32) × (by < 32) }
+    ensures { OnOk result (Emits code.old.items code.new.items
+        (Vector (v.LoadElements words d r (addressings.Strided by) true) ∷ [])) }
+{
+    let insn = VectorInsn::LoadElements {
+        width: ElementWidth::Bits32,
+        vd: vector(d),
+        rs1: register(r),
+        addressing: Addressing::Strided { rs2: register(by) },
+        vm: true,
+    };
+    put_vector(code, insn)?;
+    Ok(())
+}
+
 /// Appends a load of words at the distances in the lanes, which then hold them.
 pub fn load_at(code: &mut Vec<u32>, d: u8, r: u8) -> Result<(), AllocError>
     requires { (d < 32) × (r < 32) }
@@ -408,6 +425,23 @@ pub fn store_row(code: &mut Vec<u32>, s: u8, r: u8) -> Result<(), AllocError>
         vs3: vector(s),
         rs1: register(r),
         addressing: Addressing::UnitStride,
+        vm: true,
+    };
+    put_vector(code, insn)?;
+    Ok(())
+}
+
+/// Appends a store of words that are to lie as many bytes apart as a register holds.
+pub fn store_strided(code: &mut Vec<u32>, s: u8, r: u8, by: u8) -> Result<(), AllocError>
+    requires { (s < 32) × (r < 32) × (by < 32) }
+    ensures { OnOk result (Emits code.old.items code.new.items
+        (Vector (v.StoreElements words s r (addressings.Strided by) true) ∷ [])) }
+{
+    let insn = VectorInsn::StoreElements {
+        width: ElementWidth::Bits32,
+        vs3: vector(s),
+        rs1: register(r),
+        addressing: Addressing::Strided { rs2: register(by) },
         vm: true,
     };
     put_vector(code, insn)?;
