@@ -48,8 +48,8 @@ use Rattle.task_code_lanes.specs.Groups.{registers, slots, slot}
 use Rattle.task_code_lanes.proofs.Slots.{slot-lies}
 use Rattle.task_code_lanes.proofs.Rows as rows
 use Rattle.task_code_lane_values.specs.declared.vectorized.Lanes.{Lanes}
-use Rattle.task_code_lane_values.specs.Leaving.{MakesLanes}
-use Rattle.task_code_lane_values.specs.inner.Parts.{IsSteady, LoadsAlong, LoadsFrom, MakesScalar, MakesSteady}
+use Rattle.task_code_lane_values.specs.Leaving.{MakesDistances, MakesLanes, distance}
+use Rattle.task_code_lane_values.specs.inner.Parts.{IsSteady, LoadsAlong, LoadsFrom, MakesEach, MakesScalar, MakesSteady}
 use Rattle.task_code_lane_values.specs.inner.Parts.{Nothing, AnyWord, TurnsOne, TurnsBy, TurnsTwo, MakesRowPointer}
 use Rattle.task_code_lane_values.proofs.Arms.{May, each-of, lanes-of, load-has, load-first, load-second, load-value}
 use Rattle.task_code_lane_values.proofs.Composing.{each-one, each-by, each-two, left-of, scalar-as}
@@ -212,6 +212,51 @@ offsets-bytes group k own c is = subst (λ p. TurnsOne c c group k (λ x. (x * p
       };
 })
 
+-- ---- how far points lie from the first one
+
+module _ (places : Places) (scope : List Held) (own : Lanes) (k : ℕ) (place : Place) (x y : Expr) where
+  -- distances are numbers in lanes
+  pub distances-each : (c0 c1 : List ℕ) → MakesDistances c0 c1 places scope own k place x y
+      → MakesEach c0 c1 places scope own k
+      (λ w m reads values i. AllByRecursion (Loads w places m reads) (loads reads (with own.counter i values) x)
+      × AllByRecursion (Loads w places m reads) (loads reads (with own.counter i values) y))
+      (λ reads values i. distance place (value reads (with own.counter i values) x) (value reads (with own.counter i values) y))
+  distances-each c0 c1 a = record {
+    insns = a.insns;
+    emits = a.emits;
+    does = λ w m values reads n f l are holders knows has some few may.
+        a.does w m values reads n f l are holders knows has some few (λ i lt. (may i lt).0) (λ i lt. (may i lt).1);
+  }
+
+  -- from columns and rows in lanes
+  pub distances-made : (s : ℕ) (c0 c1 c2 c3 c4 c5 c6 : List ℕ) → k + 1 < slots own.group
+      → MakesScalar c2 c3 scope own s Nothing (λ hart reads values. place.width)
+      → TurnsBy c3 c4 own.group (k + 1) s AnyWord (word.applied op.Multiply) → TurnsTwo c4 c5 own.group k (word.applied op.Add)
+      → TurnsOne c5 c6 own.group k (λ x. (x * pixel_bytes place.pixels) % 2 ^ 32)
+      → MakesLanes c0 c1 places scope own k x → MakesLanes c1 c2 places scope own (k + 1) y → MakesDistances c0 c6 places scope own k place x y
+  unfolding word.add word.multiply
+  distances-made s c0 c1 c2 c3 c4 c5 c6 next width product plus four first second =
+      let in-stack : k < slots own.group = omega (arith, next) in
+      let MayOf : Expr → World → List ℕ → Reads → Values → ℕ → Type 0 = May places scope own k in-stack in
+      let vx : Reads → Values → ℕ → ℕ = (λ reads values i. value reads (with own.counter i values) x) in
+      let vy : Reads → Values → ℕ → ℕ = (λ reads values i. value reads (with own.counter i values) y) in
+      let scaled = each-by places scope own (k + 1) next s c1 c2 c3 c4 (MayOf y) Nothing vy (λ reads values. place.width) AnyWord (word.applied op.Multiply)
+      (each-of places scope own k in-stack c1 c2 (k + 1) y second) width product (λ reads values small. tt) in
+      let numbers = each-two places scope own k in-stack c0 c1 c4 c5 (MayOf x) (λ w m reads values i. MayOf y w m reads values i × Nothing w m reads
+      values) vx
+      (λ reads values i. word.applied op.Multiply (vy reads values i) place.width) (word.applied op.Add)
+      (each-of places scope own k in-stack c0 c1 k x first) scaled plus in
+      let a = each-one places scope own k in-stack c0 c5 c6 (λ w m reads values i. MayOf x w m reads values i ×
+      (MayOf y w m reads values i × Nothing w m reads values))
+      (λ reads values i. word.applied op.Add (vx reads values i) (word.applied op.Multiply (vy reads values i) place.width)) (λ n.
+      (n * pixel_bytes place.pixels) % 2 ^ 32) numbers four in
+      record {
+        insns = a.insns;
+        emits = a.emits;
+        does = λ w m values reads n f l are holders knows has some few may-x may-y.
+            a.does w m values reads n f l are holders knows has some few (λ i lt. (may-x i lt, (may-y i lt, tt)));
+      }
+
 module _ (places : Places) (scope : List Held) (own : Lanes) (k : ℕ) (in-stack : k < slots own.group) (source : Source) (place : Place)
     (ep : place ≡ place_of places source)
   where
@@ -299,74 +344,41 @@ module _ (places : Places) (scope : List Held) (own : Lanes) (k : ℕ) (in-stack
         (sum.value_is reads (with own.counter i values) ∙ goes values i) low) p z)
 
     -- columns and rows in lanes
-    pub scattered-made : (zero : Linear) (form start : Form) (most s b : ℕ) (c2 c3 c4 c5 c6 c7 c8 : List ℕ) → k + 1 < slots own.group →
-        ((values : Values) → linear_value values zero ≡ 0)
-        → IsPoint place zero zero form → IsAt own.counter 0 form start → MakesScalar c2 c3 scope own s Nothing (λ hart reads values. place.width)
-        → TurnsBy c3 c4 own.group (k + 1) s AnyWord (word.applied op.Multiply) → TurnsTwo c4 c5 own.group k (word.applied op.Add)
-        → TurnsOne c5 c6 own.group k (λ x. (x * pixel_bytes place.pixels) % 2 ^ 32)
+    pub scattered-made : (zero : Linear) (form start : Form) (most b : ℕ) (c6 c7 c8 : List ℕ) → ((values : Values) → linear_value values zero ≡ 0)
+        → IsPoint place zero zero form → IsAt own.counter 0 form start
         → MakesHeld c6 c7 most scope address_register b (λ hart values. form_value hart values start)
         → LoadsFrom c7 c8 own.group k b place.pixels
-        → (c0 c1 : List ℕ) (x y : Expr) → Left c0 c1 k x → Left c1 c2 (k + 1) y → Left c0 c8 k (e.Load source x y)
-    unfolding word.add word.multiply
-    scattered-made zero form start most s b c2 c3 c4 c5 c6 c7 c8 next none point at width product plus four p z c0 c1 x y first second =
+        → (c0 : List ℕ) (x y : Expr) → MakesDistances c0 c6 places scope own k place x y → Left c0 c8 k (e.Load source x y)
+    scattered-made zero form start most b c6 c7 c8 none point at p z c0 x y far =
         let MayOf : Expr → World → List ℕ → Reads → Values → ℕ → Type 0 = May places scope own k in-stack in
         let pointer : ℕ → Reads → Values → ℕ = (λ hart reads values. form_value hart (with own.counter 0 values) form) in
         let vx : Reads → Values → ℕ → ℕ = (λ reads values i. value reads (with own.counter i values) x) in
         let vy : Reads → Values → ℕ → ℕ = (λ reads values i. value reads (with own.counter i values) y) in
-        let scaled = each-by places scope own (k + 1) next s c1 c2 c3 c4 (MayOf y) Nothing vy (λ reads values. place.width) AnyWord (word.applied op.Multiply)
-        (each-of places scope own k in-stack c1 c2 (k + 1) y second) width product (λ reads values small. tt) in
-        let numbers = each-two places scope own k in-stack c0 c1 c4 c5 (MayOf x) (λ w m reads values i. MayOf y w m reads values i × Nothing w m reads
-        values) vx
-        (λ reads values i. word.applied op.Multiply (vy reads values i) place.width) (word.applied op.Add)
-        (each-of places scope own k in-stack c0 c1 k x first) scaled plus in
-        let offsets = each-one places scope own k in-stack c0 c5 c6 (λ w m reads values i. MayOf x w m reads values i ×
-        (MayOf y w m reads values i × Nothing w m reads values))
-        (λ reads values i. word.applied op.Add (vx reads values i) (word.applied op.Multiply (vy reads values i) place.width)) (λ n.
-        (n * pixel_bytes place.pixels) % 2 ^ 32) numbers four in
         lanes-of places scope own k in-stack c0 c8 (e.Load source x y)
-        (λ w m reads values i. (MayOf x w m reads values i × (MayOf y w m reads values i × Nothing w m reads values)) ×
-        (Nothing w m reads values × HasPoint x y w m reads values i))
+        (λ w m reads values i. (MayOf x w m reads values i × MayOf y w m reads values i) × (Nothing w m reads values × HasPoint x y w m reads values i))
         (λ reads values i. reads source (value reads (with own.counter i values) x) (value reads (with own.counter i values) y))
         (λ w m reads values n some all i lt. (
           (
             load-first places scope own k in-stack source x y w m reads values i (all i lt),
-            (
-              load-second places scope own k in-stack source x y w m reads
-                  values i (all i lt),
-              tt,
-            ),
+            load-second places scope own k in-stack source x y w m reads
+                values i (all i lt),
           ),
           (tt, load-has places scope own k in-stack source x y w m reads values i (all i lt)),
         ))
         (λ reads values i. sym (load-value places scope own k in-stack source x y reads values i))
         (each-gathered places scope own k in-stack source place ep vx vy
-        b c0 c6 c7 c8 (λ w m reads values i. MayOf x w m reads values i × (MayOf y w m reads values i × Nothing w m reads values)) Nothing
-        (λ reads values i. ((vx reads values i + (vy reads values i * place.width) % 2 ^ 32) % 2 ^ 32 * pixel_bytes place.pixels) % 2 ^ 32) pointer
+        b c0 c6 c7 c8 (λ w m reads values i. MayOf x w m reads values i × MayOf y w m reads values i) Nothing
+        (λ reads values i. distance place (vx reads values i) (vy reads values i)) pointer
         (λ hart reads values i low.
         let zv = linear_value (with own.counter 0 values) zero in
-        let o = ((vx reads values i + (vy reads values i * place.width) % 2 ^ 32) % 2 ^ 32 * pixel_bytes place.pixels) % 2 ^ 32 in
+        let o = distance place (vx reads values i) (vy reads values i) in
         ap (λ n. (n + o) % 2 ^ 32) (point.value hart (with own.counter 0 values) ∙ ap (λ c. address place hart c zv % 2 ^ 32) (none (with own.counter 0 values))
         ∙ ap (λ r. address place hart 0 r % 2 ^ 32) (none (with own.counter 0 values)))
         ∙ number-reaches place hart (vx reads values i) (vy reads values i) low)
-        offsets (pointer-scalar scope own form start most b c6 c7 at p) z)
+        (distances-each places scope own k place x y c0 c6 far) (pointer-scalar scope own form start most b c6 c7 at p) z)
 
     -- as the emitters call them
     pub row-as : (column : Linear) (b : ℕ) (c0 c1 c2 : List ℕ) (x y : Expr) → IsSum x column → strides own.counter column.terms % 2 ^ 32 ≡ 1
         → IsSteady own.counter y
         → MakesRowPointer c0 c1 places scope own b place column y → LoadsAlong c1 c2 own.group k b place.pixels → Left c0 c2 k (e.Load source x y)
     row-as column b c0 c1 c2 x y sum one steady p z = row-made column b (strides own.counter column.terms % 2 ^ 32) c0 c1 c2 x y sum refl one steady p z
-
-pub scattered-as : (places : Places) (scope : List Held) (own : Lanes) (k : ℕ) → k + 1 < slots own.group → (source : Source) (place : Place)
-    → place ≡ place_of places source
-    → (zero : Linear) (form start : Form) (most s b : ℕ) (c2 c3 c4 c5 c6 c7 c8 : List ℕ) → ((values : Values) → linear_value values zero ≡ 0)
-    → IsPoint place zero zero form → IsAt own.counter 0 form start → MakesScalar c2 c3 scope own s Nothing (λ hart reads values. place.width)
-    → TurnsBy c3 c4 own.group (k + 1) s AnyWord (word.applied op.Multiply) → TurnsTwo c4 c5 own.group k (word.applied op.Add)
-    → TurnsOne c5 c6 own.group k (λ x. (x * pixel_bytes place.pixels) % 2 ^ 32)
-    → MakesHeld c6 c7 most scope address_register b (λ hart values. form_value hart values start) → LoadsFrom c7 c8 own.group k b place.pixels
-    → (c0 c1 : List ℕ) (x y : Expr) → MakesLanes c0 c1 places scope own k x → MakesLanes c1 c2 places scope own (k + 1) y
-    → MakesLanes c0 c8 places scope own k (e.Load source x y)
-scattered-as places scope own k next source place ep zero form start most s b c2 c3 c4 c5 c6 c7 c8 none point at width product plus four p z c0 c1 x y
-    first second =
-    let in-stack : k < slots own.group = omega (arith, next) in
-    scattered-made places scope own k in-stack source place ep zero form start most s b c2 c3 c4 c5 c6 c7 c8 next none point at width product plus four p z
-    c0 c1 x y first second

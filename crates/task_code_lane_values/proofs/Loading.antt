@@ -1,5 +1,12 @@
 -- Lanes that are pixels.
-use Rattle.std.proofs.Common.{◌≡◌, ℕ, ◌+◌, ◌*◌, ◌%◌, ◌^◌, ◌<◌, List, ◌++◌, refl, ap, ◌∙◌, sym, subst, arith}
+use Rattle.std.proofs.Common.{◌≡◌, ℕ, ◌+◌, ◌*◌, ◌%◌, ◌^◌, ◌<◌, List, ◌++◌, refl, ap, ◌∙◌, sym, subst, arith, inl, inr}
+use Rattle.halide_pipeline.specs.declared.expressions.Operation.TheVariants as op
+use Rattle.halide_pipeline.specs.Words as word
+use Rattle.task_code_scalar.specs.declared.places.Pixels.TheVariants as pixels
+use Rattle.task_code_registers.specs.Emitting.{Makes}
+use Rattle.task_code_registers.proofs.Knowing.{working-free}
+use Rattle.task_code_values.specs.Making.{IsBelow}
+use Rattle.task_code_values.proofs.Standing.{kept-below, below-apart}
 use Rattle.halide_pipeline.specs.declared.expressions.Source.{Source}
 use Rattle.halide_pipeline.specs.Pixel.{Reads}
 use Rattle.loop_ir.specs.declared.expressions.Counter.{Counter}
@@ -18,7 +25,7 @@ use Rattle.task_code_registers.specs.declared.scopes.Form.{Form}
 use Rattle.task_code_registers.specs.declared.scopes.Held.{Held}
 use Rattle.task_code_registers.specs.Holding.{IsAt}
 use Rattle.task_code_registers.specs.Points.{IsPoint}
-use Rattle.task_code_registers.specs.Registers.{address_register}
+use Rattle.task_code_registers.specs.Registers.{address_register, first_value}
 use Rattle.task_code_registers.specs.Scopes.{form_value}
 use Rattle.task_code_registers.specs.Strides.{strides, others_of}
 use Rattle.task_code_registers.proofs.Knowing.{form-small, knows-still, knows-zero}
@@ -26,7 +33,7 @@ use Rattle.task_code_registers.proofs.Striding.{linear-with}
 use Rattle.task_code_values.specs.Making.{MakesHeld}
 use Rattle.task_code_lanes.specs.Groups.{slots, slot}
 use Rattle.task_code_lane_values.specs.declared.vectorized.Lanes.{Lanes}
-use Rattle.task_code_lane_values.specs.inner.Parts.{LoadsAlong, LoadsFrom, LoadsPoint, MakesScalar, MakesEach, MakesPoint, Nothing}
+use Rattle.task_code_lane_values.specs.inner.Parts.{LoadsAlong, LoadsFrom, LoadsPoint, LoadsStrided, MakesScalar, MakesEach, MakesPoint, Nothing, NothingEach}
 use Rattle.task_code_lane_values.proofs.Composing.{each-as, kept-under, lane-below, lanes-scalar, lanes-under, scalar-held, scalar-as, under-below}
 
 -- ---- forms that go along with a loop variable
@@ -164,3 +171,59 @@ module _ (places : Places) (scope : List Held) (own : Lanes) (k : ℕ) (in-stack
       (each-dense places scope own k in-stack source place ep xs ys b c0 c1 c2 Nothing (λ hart reads values. form_value hart (with own.counter 0 values) form)
       (λ hart reads values i low. ap (λ q. (form_value hart (with own.counter 0 values) form + i * q) % 2 ^ 32) (sym is) ∙ spot-is hart i values low)
       (pointer-scalar scope own form start most b c0 c1 at p) z)
+
+  -- so many strides further
+  far : (p i : ℕ) → (p + (i * stride) % 2 ^ 32) % 2 ^ 32 ≡ (p + i * stride) % 2 ^ 32
+  far p i = let t = i * stride in let g : (p + t % 2 ^ 32) % 2 ^ 32 ≡ (p + t) % 2 ^ 32 = omega arith in g
+
+  -- words at a stride
+  pub strided-made : (most b : ℕ) (start : Form) (c0 c1 c2 c3 : List ℕ) → place.pixels ≡ pixels.Words → IsAt own.counter 0 form start
+      → Makes c0 c1 2 first_value (λ f. stride) → MakesHeld c1 c2 most scope address_register b (λ hart values. form_value hart values start)
+      → LoadsStrided c2 c3 own.group k b first_value → MakesPoint c0 c3 places scope own k source x y
+  strided-made most b start c0 c1 c2 c3 words at s p z = record {
+    insns = s.insns ++ (p.insns ++ z.insns);
+    emits = emits_then s.emits (emits_then p.emits z.emits);
+    does = λ w m values reads n f l are holders knows has some few may.
+        let first = with own.counter 0 values in
+        let xv : ℕ → ℕ = (λ i. xs reads values i) in
+        let yv : ℕ → ℕ = (λ i. ys reads values i) in
+        let i1 = s.does w m f l (knows-zero w.hart scope first f knows) in
+        let same1 : (q : ℕ) → IsBelow first_value q → i1.after q ≡ f q = (λ q h. let d = below-apart first_value first_value q (inr (refl, omega arith)) h in
+        i1.others q d.0 d.1.0 d.1.1) in
+        let k1 = knows-still w.hart scope first f i1.after (λ q h. same1 q (kept-below scope q 20 (omega arith) holders h)) knows in
+        let i2 = p.does w m w.hart first i1.after l holders (working-free scope address_register holders (inl (omega arith, omega arith))) k1 in
+        let same2 : (q : ℕ) → IsBelow first_value q → i2.after q ≡ i1.after q = (λ q h. let d = below-apart first_value address_register q (inl refl) h in
+        i2.others q d.0 d.1.0 d.1.1) in
+        let has2 = lanes-scalar w m l own.group n f i2.after (λ q h. same2 q h ∙ same1 q h) has in
+        let by : i2.after first_value ≡ stride = i2.others first_value (λ g. omega (arith, g)) (λ g. omega (arith, g)) (λ g. omega (arith, g)) ∙ i1.value in
+        let can : (i : ℕ) → i < n → LoadsAt w place m (xv i) (yv i) (reads source (xv i) (yv i)) =
+        (λ i lt. subst (λ q. LoadsAt w q m (xv i) (yv i) (reads source (xv i) (yv i))) (sym ep) (may i lt)) in
+        let u = z.does w m n i2.after xv yv (λ i. reads source (xv i) (yv i)) place l has2 words can
+        (λ i lt. ap (λ q. (q + (i * i2.after first_value) % 2 ^ 32) % 2 ^ 32) (i2.value ∙ at.value w.hart 0 values)
+        ∙ ap (λ q. (form_value w.hart first form + (i * q) % 2 ^ 32) % 2 ^ 32) by
+        ∙ far (form_value w.hart first form) i ∙ spot-is w.hart i values (can i lt).low) in
+        record {
+          after = u.after;
+          line = line-then w s.insns (p.insns ++ z.insns) f i1.after u.after m m m i1.line
+              (line-then w p.insns z.insns i1.after i2.after u.after m m m i2.line u.line);
+          value = u.value;
+          small = u.small;
+          keeps = λ q h. let below = under-below own.group k q h in u.keeps q h ∙ same2 q below ∙ same1 q below;
+        };
+  }
+
+  -- pixels at a stride
+  pub stepped-made : (most b : ℕ) (start : Form) (c0 c1 c2 c3 : List ℕ)
+      → ((all : Places) → MakesEach c0 c1 all scope own k NothingEach (λ reads values i. word.applied op.Multiply i stride)) → IsAt own.counter 0 form start
+      → MakesHeld c1 c2 most scope address_register b (λ hart values. form_value hart values start) → LoadsFrom c2 c3 own.group k b place.pixels
+      → MakesPoint c0 c3 places scope own k source x y
+  unfolding word.multiply
+  stepped-made most b start c0 c1 c2 c3 steps at p z =
+      each-as places scope own k c0 c3
+      (λ w m reads values i. NothingEach w m reads values i × (Nothing w m reads values × LoadsPoint places source own.counter x y w m reads values i))
+      (LoadsPoint places source own.counter x y)
+      (λ reads values i. reads source (xs reads values i) (ys reads values i)) (λ w m reads values n some all i lt. (tt, (tt, all i lt)))
+      (each-gathered places scope own k in-stack source place ep xs ys b c0 c1 c2 c3 NothingEach Nothing
+      (λ reads values i. word.applied op.Multiply i stride) (λ hart reads values. form_value hart (with own.counter 0 values) form)
+      (λ hart reads values i low. far (form_value hart (with own.counter 0 values) form) i ∙ spot-is hart i values low)
+      (steps places) (pointer-scalar scope own form start most b c1 c2 at p) z)

@@ -24,7 +24,7 @@ use Rattle.task_code_lanes.specs.Leaving.{HasLanes}
 use Rattle.task_code_lanes.proofs.Slots.{SlotLies, slot-lies}
 use Rattle.task_code_lanes.proofs.Rows as rows
 use Rattle.task_code_lane_values.specs.Leaving.{LeavesLanes}
-use Rattle.task_code_lane_values.specs.inner.Parts.{LoadsAlong, LoadsFrom}
+use Rattle.task_code_lane_values.specs.inner.Parts.{LoadsAlong, LoadsFrom, LoadsStrided}
 use Rattle.task_code_lane_values.proofs.Composing.{left-of}
 
 -- ---- words from a register on
@@ -76,6 +76,16 @@ words-along group k b a c0 c1 in-stack lb ea z = record {
   emits = subst (λ q. Emits c0 c1 (Vector (v.LoadElements Bits32 q b addressings.UnitStride true) ∷ [])) ea z;
   does = λ w m n f x y pixel place l has words can reach.
       words-loaded w m l group n k (slot-lies group k in-stack) place words x y pixel can f addressings.UnitStride b has lb tt reach;
+}
+
+pub words-strided : (group : Group) (k b s a : ℕ) (c0 c1 : List ℕ) → k < slots group → b < 32 → s < 32 → a ≡ slot group k → Emits c0 c1 (Vector
+    (v.LoadElements Bits32 a b (addressings.Strided s) true) ∷ [])
+    → LoadsStrided c0 c1 group k b s
+words-strided group k b s a c0 c1 in-stack lb ls ea z = record {
+  insns = Vector (v.LoadElements Bits32 (slot group k) b (addressings.Strided s) true) ∷ [];
+  emits = subst (λ q. Emits c0 c1 (Vector (v.LoadElements Bits32 q b (addressings.Strided s) true) ∷ [])) ea z;
+  does = λ w m n f x y pixel place l has words can reach.
+      words-loaded w m l group n k (slot-lies group k in-stack) place words x y pixel can f (addressings.Strided s) b has lb ls reach;
 }
 
 pub words-from : (group : Group) (k b a : ℕ) (c0 c1 : List ℕ) → k < slots group → b < 32 → a ≡ slot group k → Emits c0 c1 (Vector

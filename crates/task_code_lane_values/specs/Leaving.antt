@@ -1,5 +1,5 @@
 -- What appended code over lanes leaves: a value for each iteration of a vectorized loop, in a group of vector registers. This project's own.
-use Rattle.std.specs.Prelude.{◌≡◌, ◌⊎◌, ◌<◌, ◌≤◌, ℕ, ◌*◌, ◌^◌, List, length}
+use Rattle.std.specs.Prelude.{◌≡◌, ◌⊎◌, ◌<◌, ◌≤◌, ℕ, ◌+◌, ◌*◌, ◌%◌, ◌^◌, List, length}
 use Rattle.std.specs.List.{AllByRecursion}
 use Rattle.rv_insn.specs.declared.instructions.Insn.{Insn}
 use Rattle.halide_pipeline.specs.Pixel.{Reads}
@@ -8,7 +8,9 @@ use Rattle.loop_ir.specs.Counters.{Values, with}
 use Rattle.loop_ir.specs.Expressions.{value, loads}
 use Rattle.multi_hart_logic.specs.Alone.{World}
 use Rattle.multi_hart_logic.specs.Paths.{Line, lane, vl_number, vtype_number}
+use Rattle.task_code_scalar.specs.declared.places.Place.{Place}
 use Rattle.task_code_scalar.specs.declared.places.Places.{Places}
+use Rattle.task_code_scalar.specs.Code.{pixel_bytes}
 use Rattle.task_code_scalar.specs.Evaluation.{ArePlaces, Loads}
 use Rattle.task_code_scalar.specs.Words.{Emits}
 use Rattle.task_code_registers.specs.declared.scopes.Held.{Held}
@@ -43,3 +45,18 @@ pub record MakesLanes (old new : List ℕ) (places : Places) (scope : List Held)
       → AreHolders scope → Knows world.hart scope (with own.counter 0 values) f → HasLanes own.group count f → 1 ≤ count → count ≤ 4 * registers own.group
       → ((i : ℕ) → i < count → AllByRecursion (Loads world places memory reads) (loads reads (with own.counter i values) e))
       → LeavesLanes world memory insns f own.group k count (λ i. value reads (with own.counter i values) e)
+
+-- how many bytes behind a buffer's first pixel the point at x and y lies
+abbrev pub distance : Place → ℕ → ℕ → ℕ
+distance place x y = ((x + (y * place.width) % 2 ^ 32) % 2 ^ 32 * pixel_bytes place.pixels) % 2 ^ 32
+
+-- Appended code leaves these distances of points at two expressions, as it leaves the values of an expression.
+pub record MakesDistances (old new : List ℕ) (places : Places) (scope : List Held) (own : Lanes) (k : ℕ) (place : Place) (x y : Expr) : Type 0 where
+  pub insns : List Insn
+  pub emits : Emits old new insns
+  pub does : (world : World) (memory : List ℕ) (values : Values) (reads : Reads) (count : ℕ) (f : ℕ → ℕ) → length memory ≡ world.size → ArePlaces places
+      → AreHolders scope → Knows world.hart scope (with own.counter 0 values) f → HasLanes own.group count f → 1 ≤ count → count ≤ 4 * registers own.group
+      → ((i : ℕ) → i < count → AllByRecursion (Loads world places memory reads) (loads reads (with own.counter i values) x))
+      → ((i : ℕ) → i < count → AllByRecursion (Loads world places memory reads) (loads reads (with own.counter i values) y))
+      → LeavesLanes world memory insns f own.group k count
+      (λ i. distance place (value reads (with own.counter i values) x) (value reads (with own.counter i values) y))

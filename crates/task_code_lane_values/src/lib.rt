@@ -6,7 +6,7 @@
 //! - [`operations`]: appends what an operation makes of lanes and those of the next group, or a scalar register.
 //! - [`scalars`]: which expressions all iterations have in common; appends what leaves one, or
 //!   an address.
-//! - [`points`]: appends loads of pixels: one behind the other, in one row, or anywhere.
+//! - [`points`]: appends loads of pixels: one behind the other, at a stride, in one row, or anywhere.
 //! - [`sharing`]: appends what leaves an expression's values in the first group, with what it loads twice loaded once.
 //! - [`sums`]: appends what leaves a sum's values where it goes along with the iterations.
 //! - [`values`]: appends what leaves an expression's values in a group (`specs/Leaving.antt`).

@@ -1,17 +1,18 @@
-//! Loads of lanes from an address in a register on: one behind the other, or at distances that the lanes hold.
+//! Loads of lanes from an address in a register on: one behind the other, at a stride that a register holds, or at
+//! distances that the lanes hold.
 
 ghost use Rattle.std.specs.Prelude.{◌*◌, ◌%◌, ◌<◌, ◌^◌, OnOk};
 ghost use Rattle.task_code_scalar.specs.declared.places.Pixels.TheVariants.{Bytes as bytes, Words as words};
 ghost use Rattle.task_code_scalar.specs.Code.{pixel_bytes};
 ghost use Rattle.task_code_lanes.specs.Groups.{slots};
-ghost use Rattle.task_code_lane_values.specs.inner.Parts.{LoadsAlong, LoadsFrom, TurnsOne};
+ghost use Rattle.task_code_lane_values.specs.inner.Parts.{LoadsAlong, LoadsFrom, LoadsStrided, TurnsOne};
 
 use rv_insn::{ArithmeticVvOp, ArithmeticVxOp};
 use std::alloc::AllocError;
 use task_code_lanes::groups::{BYTE_SPARE, Group};
 use task_code_lanes::vectors::{
-    arithmetic, arithmetic_by, clear_low_bits, load_at, load_byte_row, load_row, times_eight,
-    times_four,
+    arithmetic, arithmetic_by, clear_low_bits, load_at, load_byte_row, load_row, load_strided,
+    times_eight, times_four,
 };
 use task_code_registers::numbers::emit_number;
 use task_code_registers::registers::{SCRATCH, ZERO};
@@ -59,6 +60,23 @@ pub(crate) fn emit_along(
             Ok(())
         }
     }
+}
+
+// ---- at a stride
+
+/// Appends a load of words that lie as many bytes apart as a register holds.
+pub(crate) fn emit_strided(
+    code: &mut Vec<u32>,
+    group: Group,
+    k: u8,
+    b: u8,
+    s: u8,
+) -> Result<(), AllocError>
+    requires { (k < slots group) × ((b < 32) × (s < 32)) }
+    ensures { OnOk result (LoadsStrided code.old.items code.new.items group k b s) }
+{
+    load_strided(code, group.slot(k), b, s)?;
+    Ok(())
 }
 
 // ---- at distances

@@ -6,46 +6,34 @@ ghost use Rattle.loop_ir.specs.declared.expressions.Expr.TheVariants.{Load as lo
 ghost use Rattle.task_code_registers.specs.Strides.{strides};
 ghost use Rattle.task_code_values.specs.Operands.{IsSum};
 ghost use Rattle.task_code_lanes.specs.Groups.{slots};
-ghost use Rattle.task_code_lane_values.specs.Leaving.{MakesLanes};
+ghost use Rattle.task_code_scalar.specs.declared.places.Places.{Places as AllPlaces};
+ghost use Rattle.task_code_lane_values.specs.Leaving.{MakesDistances, MakesLanes};
 ghost use Rattle.task_code_lane_values.specs.inner.Parts.{IsSteady, MakesPoint, MakesRowPointer};
 
-use crate::loads::{emit_along, emit_from, emit_offsets};
+use crate::loads::{emit_along, emit_from, emit_offsets, emit_strided};
 use crate::operations::{emit_by, emit_two};
 use crate::scalars::{emit_form_operand, emit_literal, emit_steady};
+use crate::sums::emit_steps;
 use crate::vectorized::Lanes;
 use halide_pipeline::{Operation, Source, words};
 use loop_ir::expressions::{Counter, Expr, Linear};
 use rv_insn::AluOp;
 use std::alloc::{AllocError, Global};
 use task_code_registers::holding::{at_value, stride_of};
-use task_code_registers::numbers::emit_times;
+use task_code_registers::numbers::{emit_number, emit_times};
 use task_code_registers::points::point_form;
 use task_code_registers::registers::{ADDRESS, FIRST_VALUE};
 use task_code_registers::scopes::Held;
 use task_code_scalar::CodeFault;
 use task_code_scalar::expressions::place_of;
 use task_code_scalar::instructions::alu;
-use task_code_scalar::places::{Place, Places};
+use task_code_scalar::places::{Pixels, Place, Places};
 use task_code_values::accesses::bytes_of;
 use task_code_values::expressions::sum_of;
 
 // ---- points of two sums
 
-/// Whether the pixels at two sums lie one behind the other.
-pub(crate) fn are_dense(
-    alloc: Global,
-    places: &Places,
-    own: Lanes,
-    source: Source,
-    x: &Linear,
-    y: &Linear,
-) -> Result<bool, AllocError> {
-    let place = place_of(places, source);
-    let form = point_form(alloc, &place, x, y)?;
-    Ok(stride_of(form.sum.terms.as_slice(), own.counter) == bytes_of(place.pixels))
-}
-
-/// Appends a load of the pixels at two sums, where they lie one behind the other.
+/// Appends a load of the pixels at two sums: they lie one behind the other, or at another stride.
 pub(crate) fn emit_point(
     alloc: Global,
     code: &mut Vec<u32>,
@@ -69,7 +57,20 @@ pub(crate) fn emit_point(
         emit_along(code, own.group, place.pixels, k, b)?;
         return Ok(());
     }
-    Err(CodeFault::TooDeep)
+    match place.pixels {
+        Pixels::Words => {
+            emit_number(code, FIRST_VALUE, stride)?;
+            let b = emit_form_operand(alloc, code, scope, &start)?;
+            emit_strided(code, own.group, k, b, FIRST_VALUE)?;
+            Ok(())
+        }
+        Pixels::Bytes => {
+            emit_steps(alloc, code, scope, own, stride, k)?;
+            let b = emit_form_operand(alloc, code, scope, &start)?;
+            emit_from(code, own.group, place.pixels, k, b)?;
+            Ok(())
+        }
+    }
 }
 
 // ---- points of a row that all iterations have
@@ -179,6 +180,29 @@ pub(crate) fn emit_gather(
 
 // ---- points that lie anywhere
 
+/// Appends what makes of columns in the lanes of a group and rows in those of the next one how many bytes behind a
+/// buffer's first pixel they lie.
+pub(crate) fn emit_distances(
+    alloc: Global,
+    code: &mut Vec<u32>,
+    scope: &[Held],
+    own: Lanes,
+    place: &Place,
+    k: u8,
+) -> Result<(), CodeFault>
+    requires { k + 1 < slots own.group }
+    ensures { OnOk result ((places : AllPlaces) (before middle : List ℕ) (x y : Exprs)
+        → MakesLanes before middle places scope.now own k x
+        → MakesLanes middle code.old.items places scope.now own (k + 1) y
+        → MakesDistances before code.new.items places scope.now own k place.now x y) }
+{
+    let s = emit_literal(alloc, code, scope, own, place.width)?;
+    emit_by(code, own.group, Operation::Multiply, k + 1, s)?;
+    emit_two(code, own.group, Operation::Add, k)?;
+    emit_offsets(code, own.group, place.pixels, k)?;
+    Ok(())
+}
+
 /// Appends a load of the pixels at columns in the lanes of a group and rows in those of the next one.
 pub(crate) fn emit_scattered(
     alloc: Global,
@@ -200,10 +224,7 @@ pub(crate) fn emit_scattered(
     let zero = Linear::of_number(alloc, 0);
     let form = point_form(alloc, &place, &zero, &zero)?;
     let start = at_value(alloc, &form, own.counter, 0)?;
-    let s = emit_literal(alloc, code, scope, own, place.width)?;
-    emit_by(code, own.group, Operation::Multiply, k + 1, s)?;
-    emit_two(code, own.group, Operation::Add, k)?;
-    emit_offsets(code, own.group, place.pixels, k)?;
+    emit_distances(alloc, code, scope, own, &place, k)?;
     let b = emit_form_operand(alloc, code, scope, &start)?;
     emit_from(code, own.group, place.pixels, k, b)?;
     Ok(())

@@ -21,7 +21,7 @@ use task_code_registers::scopes::{Form, Held};
 use task_code_scalar::CodeFault;
 
 /// Appends what leaves each iteration's number times a stride.
-fn emit_steps(
+pub(crate) fn emit_steps(
     alloc: Global,
     code: &mut Vec<u32>,
     scope: &[Held],

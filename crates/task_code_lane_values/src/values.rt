@@ -3,13 +3,15 @@
 ghost use Rattle.std.specs.Prelude.{◌<◌, ◌≡◌, ◌+◌, IfOk, IfSome, OnOk};
 ghost use Rattle.task_code_values.specs.Operands.{IsSum};
 ghost use Rattle.task_code_lanes.specs.Groups.{slots};
-ghost use Rattle.task_code_lane_values.specs.Leaving.{MakesLanes};
+ghost use Rattle.task_code_lane_values.specs.Leaving.{MakesDistances, MakesLanes};
 
 use crate::operations::{
     emit_by, emit_choice, emit_masked, emit_quotient, emit_remainder, emit_shifted, emit_turned,
     emit_two, takes_first, takes_second,
 };
-use crate::points::{are_dense, dense_column, emit_gather, emit_point, emit_row, emit_scattered};
+use crate::points::{
+    dense_column, emit_distances, emit_gather, emit_point, emit_row, emit_scattered,
+};
 use crate::scalars::{emit_literal, emit_steady, first_moving, is_steady, known_steady};
 use crate::sums::emit_sum;
 use crate::vectorized::Lanes;
@@ -20,7 +22,7 @@ use task_code_lanes::vectors::spread;
 use task_code_registers::numbers::power_of_two;
 use task_code_registers::scopes::Held;
 use task_code_scalar::CodeFault;
-use task_code_scalar::places::Places;
+use task_code_scalar::places::{Place, Places};
 use task_code_values::expressions::sum_of;
 
 /// The column and the row of a point, where both are sums.
@@ -306,5 +308,32 @@ pub fn emit_lanes(
     ensures { OnOk result (MakesLanes code.old.items code.new.items places.now scope.now own k e.now) }
 {
     emit_at(alloc, code, places, scope, own, e, Spot { k, moving: 0 })?;
+    Ok(())
+}
+
+/// Appends what leaves in group k of the stack how many bytes behind a buffer's first pixel each iteration's point lies,
+/// with the groups above it free.
+///
+/// # Errors
+///
+/// As of [`emit_lanes`].
+pub fn emit_point_distances(
+    alloc: Global,
+    code: &mut Vec<u32>,
+    places: &Places,
+    scope: &[Held],
+    own: Lanes,
+    place: &Place,
+    x: &Expr,
+    y: &Expr,
+    k: u8,
+) -> Result<(), CodeFault>
+    requires { k < slots own.group }
+    ensures { OnOk result (MakesDistances code.old.items code.new.items places.now scope.now own k place.now x.now y.now) }
+{
+    let next = above(own.group, k)?;
+    emit_lanes(alloc, code, places, scope, own, x, k)?;
+    emit_lanes(alloc, code, places, scope, own, y, next.k)?;
+    emit_distances(alloc, code, scope, own, place, k)?;
     Ok(())
 }

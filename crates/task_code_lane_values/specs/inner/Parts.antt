@@ -18,6 +18,7 @@ use Rattle.loop_ir.specs.Expressions.{value, loads, linear_value}
 use Rattle.multi_hart_logic.specs.Alone.{World}
 use Rattle.multi_hart_logic.specs.Paths.{lane}
 use Rattle.task_code_scalar.specs.declared.places.Pixels.{Pixels}
+use Rattle.task_code_scalar.specs.declared.places.Pixels.TheVariants.{Words}
 use Rattle.task_code_scalar.specs.declared.places.Place.{Place}
 use Rattle.task_code_scalar.specs.declared.places.Places.{Places}
 use Rattle.task_code_scalar.specs.Code.{address, pixel_bytes, place_of}
@@ -105,6 +106,15 @@ pub record LoadsAlong (old new : List ℕ) (group : Group) (k b : ℕ) (pixels :
   pub does : (world : World) (memory : List ℕ) (count : ℕ) (f x y pixel : ℕ → ℕ) (place : Place) → length memory ≡ world.size → HasLanes group count f
       → place.pixels ≡ pixels → ((i : ℕ) → i < count → LoadsAt world place memory (x i) (y i) (pixel i))
       → ((i : ℕ) → i < count → (f b + i * pixel_bytes pixels) % 2 ^ 32 ≡ address place world.hart (x i) (y i))
+      → LeavesLanes world memory insns f group k count pixel
+
+-- And words that lie as many bytes apart as register s holds.
+pub record LoadsStrided (old new : List ℕ) (group : Group) (k b s : ℕ) : Type 0 where
+  pub insns : List Insn
+  pub emits : Emits old new insns
+  pub does : (world : World) (memory : List ℕ) (count : ℕ) (f x y pixel : ℕ → ℕ) (place : Place) → length memory ≡ world.size → HasLanes group count f
+      → place.pixels ≡ Words → ((i : ℕ) → i < count → LoadsAt world place memory (x i) (y i) (pixel i))
+      → ((i : ℕ) → i < count → (f b + (i * f s) % 2 ^ 32) % 2 ^ 32 ≡ address place world.hart (x i) (y i))
       → LeavesLanes world memory insns f group k count pixel
 
 -- And at the distances from there that the lanes hold.
