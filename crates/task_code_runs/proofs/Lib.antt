@@ -1,3 +1,4 @@
+pub mod Aiming
 pub mod Counting
 pub mod Idling
 pub mod Pointing

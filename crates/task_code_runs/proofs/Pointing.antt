@@ -45,15 +45,3 @@ module _ (scope : List Held) (counter : Counter) (form start : Form) (law : IsAt
         let a = x.does w m hart (with counter 0 values) f l holders (address-free scope holders) knows in
         record { after = a.after; line = a.line; value = a.value ∙ law.value hart 0 values; others = a.others };
   }
-
--- so many iterations further, where each goes on by 4
-pub four-further : (counter : Counter) (i stride hart : ℕ) (values : Values) (form : Form) → stride ≡ strides counter form.sum.terms % 2 ^ 32 → stride ≡ 4
-    → (form_value hart (with counter 0 values) form + i * 4) % 2 ^ 32 ≡ form_value hart (with counter i values) form
-unfolding form_value
-four-further counter i stride hart values form e four =
-    let a = form.sum.number + sum_of values (others_of counter form.sum.terms) in
-    let h = hart * form.per_hart in
-    let e4 : 4 ≡ strides counter form.sum.terms % 2 ^ 32 = sym four ∙ e in
-    let g : (((a + 0 * 4) % 2 ^ 32 + h) % 2 ^ 32 + i * 4) % 2 ^ 32 ≡ ((a + i * 4) % 2 ^ 32 + h) % 2 ^ 32 = omega arith in
-    ap (λ n. ((n + h) % 2 ^ 32 + i * 4) % 2 ^ 32) (linear-with counter 0 4 values form.sum e4) ∙ g
-    ∙ sym (ap (λ n. (n + h) % 2 ^ 32) (linear-with counter i 4 values form.sum e4))

@@ -7,11 +7,11 @@ use Rattle.std.proofs.lemmas.List.Folds.{list_all-append}
 use Rattle.rv_insn.specs.declared.instructions.Insn.{Insn}
 use Rattle.rv_insn.specs.declared.instructions.Insn.TheVariants.{Vector}
 use Rattle.rv_insn.specs.declared.vector_instructions.VectorInsn.TheVariants as v
-use Rattle.rv_insn.specs.declared.vector_instructions.Addressing.TheVariants as addressings
+use Rattle.rv_insn.specs.declared.vector_instructions.Addressing.{Addressing}
 use Rattle.rv_insn.specs.declared.vector_operations.ElementWidth.TheVariants.{Bits32}
 use Rattle.halide_pipeline.specs.declared.expressions.Source.TheVariants as sources
 use Rattle.halide_pipeline.specs.Pixel.{Planes, Reads, reads_of}
-use Rattle.loop_ir.specs.declared.expressions.Linear.{Linear}
+use Rattle.loop_ir.specs.declared.expressions.Expr.{Expr}
 use Rattle.loop_ir.specs.declared.statements.LoopKind.TheVariants.{Vectorized}
 use Rattle.loop_ir.specs.declared.statements.Store.{Store}
 use Rattle.loop_ir.specs.declared.statements.Stmt.{Stmt}
@@ -51,7 +51,8 @@ use Rattle.task_code_registers.proofs.Looping.{did-went}
 use Rattle.task_code_values.specs.Operands.{IsSum}
 use Rattle.task_code_values.proofs.Pointing.{own-word}
 use Rattle.task_code_lanes.specs.declared.groups.Group.{Group}
-use Rattle.task_code_lanes.specs.Groups.{slot}
+use Rattle.task_code_lanes.specs.declared.groups.Group.TheVariants as groups
+use Rattle.task_code_lanes.specs.Groups.{slot, slots}
 use Rattle.task_code_lanes.proofs.Rows as rows
 use Rattle.task_code_lane_values.specs.declared.vectorized.Lanes.{Lanes}
 use Rattle.task_code_lane_values.specs.Leaving.{IsUnder, MakesLanes}
@@ -62,7 +63,8 @@ use Rattle.task_code_vector.proofs.Storing.{hits-at-once}
 use Rattle.task_code_runs.specs.AtOnce.{MayRun}
 use Rattle.task_code_runs.specs.Runs.{all_lanes, run_of, StoresAs, EmitsRun}
 use Rattle.task_code_runs.specs.inner.Making.{Configures, MakesPointer, StoresLanes}
-use Rattle.task_code_runs.proofs.Pointing.{address-free, four-further}
+use Rattle.task_code_lane_values.proofs.Composing.{kept-under, lanes-under, slot-under}
+use Rattle.task_code_runs.proofs.Aiming.{MakesAims}
 use Rattle.task_code_runs.proofs.Storing.{row-saved}
 
 -- ---- parts of code, one behind the other
@@ -90,29 +92,6 @@ went-of a = record {
   are_bytes = a.are_bytes;
   writes = λ func x y byte at hit of s. a.writes func x y byte at hit of s;
 }
-
--- ---- what stays
-
-kept-side : (scope : List Held) (q : ℕ) → AreHolders scope → IsKept scope q → (q < first_value) ⊎ ((q ≡ vl_number) ⊎ (q ≡ vtype_number))
-kept-side [] q holders o = inl (omega (arith, o))
-kept-side (own ∷ others) q holders (inl e) = by holders.0
-  where
-    by : IsHolder own.register → (q < first_value) ⊎ ((q ≡ vl_number) ⊎ (q ≡ vtype_number))
-    by (inl may) = let m = may-hold own.register may in let high = m.high in inl (omega (arith, e, high))
-    by (inr o) = inr (elim o [ inl a ↦ inl (e ∙ a) | inr a ↦ inr (e ∙ a) ])
-kept-side (own ∷ others) q holders (inr h) = kept-side others q holders.1.1 h
-
-pub kept-under : (group : Group) (k : ℕ) (scope : List Held) (q : ℕ) → AreHolders scope → IsKept scope q → IsUnder group k q
-kept-under group k scope q holders h =
-    let a = kept-apart scope q holders h in
-    elim (kept-side scope q holders h) [ inl b ↦ inl (b, apart (side q) a.0 a.1 (address-free scope holders q h)) | inr o ↦ inr (inl o) ]
-  where
-    side : (n : ℕ) → (n < 13) ⊎ (13 ≤ n)
-    side n = grind arith
-
-    apart : (q < 13) ⊎ (13 ≤ q) → q ≢ 13 → q ≢ 14 → q ≢ 15 → (q < scratch) ⊎ (address_register < q)
-    apart (inl l) a b c = inl l
-    apart (inr l) a b c = inr (omega (arith, l, a, b, c))
 
 -- ---- what is asked of iterations
 
@@ -158,6 +137,8 @@ module _ (own : Setting) (good : IsSetting own) (lanes_of : Lanes) (body : Stmt)
   -- what an iteration may store and load
   pub record MayStore (k : ℕ) : Type 0 where
     pub writes : own.written store.func (xs k) (ys k) ≡ true
+    pub of_x : list_all own.loaded (loads reads (at_named k) store.x) ≡ true
+    pub of_y : list_all own.loaded (loads reads (at_named k) store.y) ≡ true
     pub of_value : list_all own.loaded (loads reads (at_named k) store.value) ≡ true
 
   pub may-store : (k : ℕ) → k < n → MayStore k
@@ -172,7 +153,7 @@ module _ (own : Setting) (good : IsSetting own) (lanes_of : Lanes) (body : Stmt)
       (sym (list_all-append own.loaded (loads reads (at_named k) store.x) (loads reads (at_named k) store.y ++ loads reads (at_named k) store.value)) ∙ t.1) in
       let q = and_parts (list_all own.loaded (loads reads (at_named k) store.y)) (list_all own.loaded (loads reads (at_named k) store.value))
       (sym (list_all-append own.loaded (loads reads (at_named k) store.y) (loads reads (at_named k) store.value)) ∙ p.1) in
-      record { writes = t.0; of_value = q.1 }
+      record { writes = t.0; of_x = p.0; of_y = q.0; of_value = q.1 }
 
   abbrev effects : ℕ → Option Effect
   effects k = effect reads body (at k)
@@ -256,17 +237,15 @@ module _ (own : Setting) (good : IsSetting own) (lanes_of : Lanes) (body : Stmt)
 
 -- ---- values and a store
 
-pub row-stored : (places : Places) (scope : List Held) (lanes_of : Lanes) (store : Store) (x y : Linear) (form : Form) (place : Place) (b u stride : ℕ)
-    (c0 c1 c2 c3 : List ℕ) → IsSum store.x x → IsSum store.y y → place ≡ place_of places (sources.Func store.func) → IsPoint place x y form
-    → stride ≡ strides lanes_of.counter form.sum.terms % 2 ^ 32 → stride ≡ 4 → u ≡ slot lanes_of.group 0
-    → MakesLanes c0 c1 places scope lanes_of 0 store.value → MakesPointer c1 c2 scope lanes_of.counter b form
-    → Emits c2 c3 (Vector (v.StoreElements Bits32 u b addressings.UnitStride true) ∷ []) → StoresLanes c0 c3 places scope lanes_of store
-row-stored places scope lanes_of store x y form place b u stride c0 c1 c2 c3 ex ey ep point es four eu p t z =
-    let last_code : List Insn = Vector (v.StoreElements Bits32 (slot lanes_of.group 0) b addressings.UnitStride true) ∷ [] in
+pub stored-as : (places : Places) (scope : List Held) (lanes_of : Lanes) (store : Store) (place : Place) (b u : ℕ) (addressing : Addressing)
+    (c0 c1 c2 c3 : List ℕ) → place ≡ place_of places (sources.Func store.func) → u ≡ slot lanes_of.group 0
+    → MakesLanes c0 c1 places scope lanes_of 0 store.value → MakesAims c1 c2 places scope lanes_of store place b addressing
+    → Emits c2 c3 (Vector (v.StoreElements Bits32 u b addressing true) ∷ []) → StoresLanes c0 c3 places scope lanes_of store
+stored-as places scope lanes_of store place b u addressing c0 c1 c2 c3 ep eu p t z =
+    let last_code : List Insn = Vector (v.StoreElements Bits32 (slot lanes_of.group 0) b addressing true) ∷ [] in
     record {
       insns = p.insns ++ (t.insns ++ last_code);
-      emits = emits_then p.emits (emits_then t.emits
-          (subst (λ r. Emits c2 c3 (Vector (v.StoreElements Bits32 r b addressings.UnitStride true) ∷ [])) eu z));
+      emits = emits_then p.emits (emits_then t.emits (subst (λ r. Emits c2 c3 (Vector (v.StoreElements Bits32 r b addressing true) ∷ [])) eu z));
       does = λ own good at-places values named body n holders agrees may f memory funcs holds knows has.
           let w = own.world in
           let group = lanes_of.group in
@@ -276,35 +255,34 @@ row-stored places scope lanes_of store x y form place b u stride c0 c1 c2 c3 ex 
           let yv : ℕ → ℕ = (λ k. value reads_now (at k) store.y) in
           let pv : ℕ → ℕ = (λ k. value reads_now (at k) store.value) in
           let each = may-store own good lanes_of body store values named n agrees may funcs memory holds in
-          let loaded = λ (k : ℕ) (few : k < n). let q = each k few in
-          subst (λ ps. AllByRecursion (Loads w ps memory reads_now) (loads reads_now (at k) store.value)) at-places
-          (all-loaded own good [] (at k) funcs memory holds (loads reads_now (at k) store.value) q.of_value) in
-          let a = p.does w memory named reads_now n f holds.size (subst ArePlaces at-places good.are_places) holders knows has agrees.some agrees.few loaded in
+          let loaded = λ (e : Expr) (k : ℕ) (may-load : list_all own.loaded (loads reads_now (at k) e) ≡ true).
+          subst (λ ps. AllByRecursion (Loads w ps memory reads_now) (loads reads_now (at k) e)) at-places
+          (all-loaded own good [] (at k) funcs memory holds (loads reads_now (at k) e) may-load) in
+          let are : ArePlaces places = subst ArePlaces at-places good.are_places in
+          let a = p.does w memory named reads_now n f holds.size are holders knows has agrees.some agrees.few
+          (λ k few. let q = each k few in loaded store.value k q.of_value) in
           let kept = λ (q : ℕ) (h : IsKept scope q). a.keeps q (kept-under group 0 scope q holders h) in
           let ka = knows-still w.hart scope (at 0) f a.after kept knows in
-          let has1 = rows.lanes-kept w memory holds.size group n f a.after (a.keeps vl_number (inr (inl (inl refl)))) (a.keeps vtype_number (inr (inl (inr refl)))) has in
-          let c = t.does w memory w.hart named a.after holds.size holders ka in
-          let has2 = rows.lanes-kept w memory holds.size group n a.after c.after
-          (c.others vl_number (λ e. omega (arith, e)) (λ e. omega (arith, e)) (λ e. omega (arith, e)))
-          (c.others vtype_number (λ e. omega (arith, e)) (λ e. omega (arith, e)) (λ e. omega (arith, e))) has1 in
+          let has1 = lanes-under w memory holds.size group n 0 f a.after a.keeps has in
+          let c = t.does w memory named reads_now n a.after holds.size are holders ka has1 agrees.some agrees.few
+          (λ k few. let q = each k few in loaded store.x k q.of_x) (λ k few. let q = each k few in loaded store.y k q.of_y) in
+          let has2 = lanes-under w memory holds.size group n 1 a.after c.after c.keeps has1 in
           let here = λ (k : ℕ).
-          ap (λ ps. address (place_of ps (sources.Func store.func)) w.hart (xv k) (yv k)) at-places ∙ ap (λ pl. address pl w.hart (xv k) (yv k)) (sym ep)
-          ∙ ap (λ i. address place w.hart i (yv k)) (ex.value_is reads_now (at k)) ∙ ap (λ j. address place w.hart (linear_value (at k) x) j) (ey.value_is reads_now (at k)) in
+          ap (λ ps. address (place_of ps (sources.Func store.func)) w.hart (xv k) (yv k)) at-places ∙ ap (λ pl. address pl w.hart (xv k) (yv k)) (sym ep) in
           let where-is = λ (k : ℕ) (few : k < n).
           let q = each k few in
           let m = good.laid.stores store.func (xv k) (yv k) q.writes in
-          ap (λ i. (i + k * 4) % 2 ^ 32) c.value ∙ four-further lanes_of.counter k stride w.hart named form es four ∙ point.value w.hart (at k)
-          ∙ own-word (address place w.hart (linear_value (at k) x) (linear_value (at k) y)) (subst (λ i. i < 2 ^ 32) (here k) m.low) ∙ sym (here k) in
+          c.reaches k few (subst (λ i. i < 2 ^ 32) (here k) m.low) ∙ sym (here k) in
           let first : Does own p.insns (length p.insns) f memory (IsKept scope) funcs no_hits =
           still own (λ i. i) (λ i. end i p.insns) (length p.insns) a.after holds kept (λ i st. a.line i st) in
           let second : Does own t.insns (length t.insns) a.after memory (IsKept scope) funcs no_hits =
-          still own (λ i. i) (λ i. end i t.insns) (length t.insns) c.after holds
-          (λ q h. let u = kept-apart scope q holders h in c.others q (address-free scope holders q h) u.0 u.1) (λ i st. c.line i st) in
+          still own (λ i. i) (λ i. end i t.insns) (length t.insns) c.after holds (λ q h. c.keeps q (kept-under group 1 scope q holders h))
+          (λ i st. c.line i st) in
           let last = row-saved own good (IsKept scope) group store.func n (let e = agrees.few in let l = few-lanes group in omega (arith, e, l)) xv yv pv
-          (λ k few. let q = each k few in q.writes) a.small (are-run own good lanes_of body store values named n agrees may funcs memory holds) b c.after memory funcs t.low
-          holds has2 where-is
-          (λ k few. c.others (lane (slot group 0) k) (λ e. omega (arith, e)) (λ e. omega (arith, e)) (λ e. omega (arith, e)) ∙ a.value k few) in
-          let e = length-both p.insns t.insns (Vector (v.StoreElements Bits32 (slot group 0) b addressings.UnitStride true)) in
+          (λ k few. let q = each k few in q.writes) a.small (are-run own good lanes_of body store values named n agrees may funcs memory holds) addressing b
+          c.after memory funcs t.low t.fit holds has2 where-is
+          (λ k few. c.keeps (lane (slot group 0) k) (slot-under group 0 k n (some-slot group) agrees.few few) ∙ a.value k few) in
+          let e = length-both p.insns t.insns (Vector (v.StoreElements Bits32 (slot group 0) b addressing true)) in
           did-went (went-hits own (all-hit own good lanes_of body store values named n agrees may funcs memory holds)
           (went-is own (sym e) (laid-is own good lanes_of body store values named n agrees may funcs memory holds)
           (does-then own first (does-then own second last))));
@@ -315,6 +293,11 @@ row-stored places scope lanes_of store x y form place b u stride c0 c1 c2 c3 ex 
         let a = length-append is (js ++ (k ∷ [])) in
         let b = length-append js (k ∷ []) in
         omega (arith, a, b)
+
+    some-slot : (group : Group) → 0 < slots group
+    some-slot groups.One = omega arith
+    some-slot groups.Two = omega arith
+    some-slot groups.Four = omega arith
 
 -- ---- with lanes configured in front
 

@@ -3,7 +3,7 @@ use Rattle.std.proofs.Common.{◌≡◌, ℕ, ◌+◌, ◌*◌, ◌^◌, ◌<◌
 use Rattle.std.specs.Prelude.{Option, Some, None}
 use Rattle.rv_insn.specs.declared.instructions.Insn.TheVariants.{Vector}
 use Rattle.rv_insn.specs.declared.vector_instructions.VectorInsn.TheVariants as v
-use Rattle.rv_insn.specs.declared.vector_instructions.Addressing.TheVariants as addressings
+use Rattle.rv_insn.specs.declared.vector_instructions.Addressing.{Addressing}
 use Rattle.rv_insn.specs.declared.vector_operations.ElementWidth.TheVariants.{Bits32}
 use Rattle.lanes.specs.Words as lanes
 use Rattle.memory.specs.Access.{Word, touched}
@@ -12,7 +12,7 @@ use Rattle.loop_ir.specs.AtOnce.{Effect}
 use Rattle.multi_hart.specs.Frame.{is_in}
 use Rattle.multi_hart_logic.specs.Alone.{World}
 use Rattle.multi_hart_logic.specs.Paths.{Path, lane, vl_number}
-use Rattle.multi_hart_logic.specs.LaneMemory.{accesses_to, stored_lanes, AllWritable}
+use Rattle.multi_hart_logic.specs.LaneMemory.{accesses_to, offset_at, stored_lanes, AllWritable, OffsetsFit}
 use Rattle.multi_hart_logic.proofs.LaneStores.{stores, stores-write}
 use Rattle.task_code_scalar.specs.Layout.{func_point, address_of, IsOf}
 use Rattle.task_code_scalar.specs.Doing.{Setting, IsSetting, AreRun, HoldsFuncs}
@@ -54,21 +54,22 @@ module _ (own : Setting) (good : IsSetting own) (keeps_it : ℕ → Type 0) (gro
       (subst (λ a. IsOf w own.places a (x r) (y r) byte) (sym ef) (subst (λ a. IsOf w own.places other a (y r) byte) (sym ex)
       (subst (λ a. IsOf w own.places other i a byte) (sym ey) of)))
 
-  -- all lanes are stored one behind the other
-  pub row-saved : (b : ℕ) (f : ℕ → ℕ) (memory : List ℕ) (funcs : Planes) → b < 32 → HoldsFuncs own memory funcs → HasLanes group n f
-      → ((k : ℕ) → k < n → lanes.add 32 (f b) (k * 4) ≡ spots k) → ((k : ℕ) → k < n → f (lane (slot group 0) k) ≡ pixel k)
-      → Does own (Vector (v.StoreElements Bits32 (slot group 0) b addressings.UnitStride true) ∷ []) 1 f memory keeps_it (laid own.points pixels_at n funcs)
+  -- all lanes are stored, wherever they lie
+  pub row-saved : (addressing : Addressing) (b : ℕ) (f : ℕ → ℕ) (memory : List ℕ) (funcs : Planes) → b < 32 → OffsetsFit (registers group) addressing
+      → HoldsFuncs own memory funcs → HasLanes group n f
+      → ((k : ℕ) → k < n → lanes.add 32 (f b) (offset_at f addressing k) ≡ spots k) → ((k : ℕ) → k < n → f (lane (slot group 0) k) ≡ pixel k)
+      → Does own (Vector (v.StoreElements Bits32 (slot group 0) b addressing true) ∷ []) 1 f memory keeps_it (laid own.points pixels_at n funcs)
       (effect_hits pixels_at n)
-  row-saved b f memory funcs lb holds has where-is values =
+  row-saved addressing b f memory funcs lb fit holds has where-is values =
       let u = slot group 0 in
       let is-group = (slot-at group 0 (omega arith)).is_group in
       let count = has.count in
       let writable : AllWritable w Word (f vl_number) spots =
       subst (λ k. AllWritable w Word k spots) (sym count) (all-writable own good func n few x y pixel can small are_run) in
-      let places-are : (k : ℕ) → k < f vl_number → lanes.add 32 (f b) (k * 4) ≡ spots k = (λ k l. where-is k (omega (arith, l, count))) in
+      let places-are : (k : ℕ) → k < f vl_number → lanes.add 32 (f b) (offset_at f addressing k) ≡ spots k = (λ k l. where-is k (omega (arith, l, count))) in
       let left-is : stored_lanes memory Word (f vl_number) spots (λ k. f (lane u k)) ≡ stored_lanes memory Word n spots pixel =
       ap (λ k. stored_lanes memory Word k spots (λ k. f (lane u k))) count ∙ lanes-same memory n spots (λ k. f (lane u k)) pixel values in
-      let line = stores w f memory holds.size (registers group) has.configured addressings.UnitStride u b spots is-group lb tt places-are writable in
+      let line = stores w f memory holds.size (registers group) has.configured addressing u b spots is-group lb fit places-are writable in
       let row = row-holds own good func n few x y pixel can small n (omega arith) memory funcs holds in
       record {
         after = f;
@@ -79,6 +80,6 @@ module _ (own : Setting) (good : IsSetting own) (keeps_it : ℕ → Type 0) (gro
         elsewhere = row.elsewhere;
         are_bytes = row.are_bytes;
         writes = λ other i j byte at hit of s.
-            stores-write w f memory holds.size (registers group) has.configured addressings.UnitStride u b spots is-group lb tt places-are writable at byte
+            stores-write w f memory holds.size (registers group) has.configured addressing u b spots is-group lb fit places-are writable at byte
             s.0 (subst (λ k. is_in byte (touched (accesses_to Word k spots)) ≡ true) (sym count) (hit-row other i j byte hit of));
       }

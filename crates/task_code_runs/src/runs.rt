@@ -1,6 +1,6 @@
 //! The code of a vectorized loop of one store.
 
-ghost use Rattle.std.specs.Prelude.{OnOk, IfOk};
+ghost use Rattle.std.specs.Prelude.{OnOk};
 ghost use Rattle.task_code_values.specs.Operands.{IsSum};
 ghost use Rattle.task_code_runs.specs.Runs.{EmitsRun, all_lanes, left_lanes};
 ghost use Rattle.task_code_runs.specs.inner.Making.{StoresLanes};
@@ -8,14 +8,17 @@ ghost use Rattle.task_code_runs.specs.inner.Making.{StoresLanes};
 use crate::configuring::{are_registers, emit_all_lanes, emit_left_lanes};
 use crate::pointers::emit_pointer;
 use halide_pipeline::Source;
-use loop_ir::expressions::{Expr, Linear};
+use loop_ir::expressions::Linear;
 use loop_ir::statements::Store;
 use std::alloc::Global;
 use task_code_lane_values::sharing::emit_values;
+use task_code_lane_values::values::emit_point_distances;
 use task_code_lane_values::vectorized::Lanes;
-use task_code_lanes::vectors::store_row;
+use task_code_lanes::vectors::{store_at, store_row, store_strided};
 use task_code_registers::holding::stride_of;
+use task_code_registers::numbers::emit_number;
 use task_code_registers::points::point_form;
+use task_code_registers::registers::FIRST_VALUE;
 use task_code_registers::scopes::Held;
 use task_code_scalar::CodeFault;
 use task_code_scalar::expressions::place_of;
@@ -25,18 +28,41 @@ use task_code_values::expressions::sum_of;
 /// How far points lie apart whose words lie one behind the other.
 const WORD_BYTES: u32 = 4;
 
-/// The sum that an index is.
-fn index_sum(alloc: Global, e: &Expr) -> Result<Linear, CodeFault>
-    ensures { IfOk result (IsSum e.now) }
+/// The group of the stack for distances of points, behind that of the values that are stored there.
+const DISTANCES: u8 = 1;
+
+/// Appends what makes a store's values in all lanes, and stores them: one behind the other, or at another stride.
+fn emit_row(
+    alloc: Global,
+    code: &mut Vec<u32>,
+    places: &Places,
+    scope: &[Held],
+    own: Lanes,
+    store: &Store,
+    column: &Linear,
+    row: &Linear,
+) -> Result<(), CodeFault>
+    requires { IsSum store.now.x column.now × IsSum store.now.y row.now }
+    ensures { OnOk result (StoresLanes code.old.items code.new.items places.now scope.now own store.now) }
 {
-    match sum_of(alloc, e)? {
-        Some(own) => Ok(own),
-        None => Err(CodeFault::TooDeep),
+    let place = place_of(places, Source::Func(store.func));
+    let form = point_form(alloc, &place, column, row)?;
+    let stride = stride_of(form.sum.terms.as_slice(), own.counter);
+    if stride == WORD_BYTES {
+        emit_values(alloc, code, places, scope, own, &store.value)?;
+        let pointer = emit_pointer(alloc, code, scope, own.counter, &form)?;
+        store_row(code, own.group.slot(0), pointer)?;
+        return Ok(());
     }
+    emit_values(alloc, code, places, scope, own, &store.value)?;
+    emit_number(code, FIRST_VALUE, stride)?;
+    let pointer = emit_pointer(alloc, code, scope, own.counter, &form)?;
+    store_strided(code, own.group.slot(0), pointer, FIRST_VALUE)?;
+    Ok(())
 }
 
-/// Appends what makes a store's values in all lanes, and stores them at points that lie one behind the other.
-fn emit_row(
+/// Appends what makes a store's values in all lanes, and stores them wherever its indexes say.
+fn emit_scattered(
     alloc: Global,
     code: &mut Vec<u32>,
     places: &Places,
@@ -46,18 +72,37 @@ fn emit_row(
 ) -> Result<(), CodeFault>
     ensures { OnOk result (StoresLanes code.old.items code.new.items places.now scope.now own store.now) }
 {
-    let column = index_sum(alloc, &store.x)?;
-    let row = index_sum(alloc, &store.y)?;
     let place = place_of(places, Source::Func(store.func));
-    let form = point_form(alloc, &place, &column, &row)?;
-    let stride = stride_of(form.sum.terms.as_slice(), own.counter);
-    if stride == WORD_BYTES {
-        emit_values(alloc, code, places, scope, own, &store.value)?;
-        let pointer = emit_pointer(alloc, code, scope, own.counter, &form)?;
-        store_row(code, own.group.slot(0), pointer)?;
-        return Ok(());
+    let zero = Linear::of_number(alloc, 0);
+    let form = point_form(alloc, &place, &zero, &zero)?;
+    emit_values(alloc, code, places, scope, own, &store.value)?;
+    emit_point_distances(
+        alloc, code, places, scope, own, &place, &store.x, &store.y, DISTANCES,
+    )?;
+    let pointer = emit_pointer(alloc, code, scope, own.counter, &form)?;
+    store_at(code, own.group.slot(0), pointer, own.group.slot(DISTANCES))?;
+    Ok(())
+}
+
+/// Appends what makes a store's values in all lanes, and stores them.
+fn emit_stored(
+    alloc: Global,
+    code: &mut Vec<u32>,
+    places: &Places,
+    scope: &[Held],
+    own: Lanes,
+    store: &Store,
+) -> Result<(), CodeFault>
+    ensures { OnOk result (StoresLanes code.old.items code.new.items places.now scope.now own store.now) }
+{
+    if let Some(column) = sum_of(alloc, &store.x)? {
+        if let Some(row) = sum_of(alloc, &store.y)? {
+            emit_row(alloc, code, places, scope, own, store, &column, &row)?;
+            return Ok(());
+        }
     }
-    Err(CodeFault::TooDeep)
+    emit_scattered(alloc, code, places, scope, own, store)?;
+    Ok(())
 }
 
 /// Appends the code of a vectorized loop that does a store in each of its iterations: all at once.
@@ -80,7 +125,7 @@ pub fn emit_run(
         return Err(CodeFault::TooDeep);
     }
     emit_all_lanes(code, scope, own)?;
-    emit_row(alloc, code, places, scope, own, store)?;
+    emit_stored(alloc, code, places, scope, own, store)?;
     Ok(())
 }
 
@@ -106,6 +151,6 @@ pub fn emit_left_run(
         return Err(CodeFault::TooDeep);
     }
     emit_left_lanes(alloc, code, scope, own, left)?;
-    emit_row(alloc, code, places, scope, own, store)?;
+    emit_stored(alloc, code, places, scope, own, store)?;
     Ok(())
 }

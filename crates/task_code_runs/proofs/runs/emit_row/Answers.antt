@@ -1,11 +1,23 @@
 use Rattle.std.proofs.Common.{◌∙◌, ap, ◌%◌, ◌^◌}
 use Rattle.task_code_registers.specs.Strides.{strides}
-use Rattle.task_code_runs.proofs.Running.{row-stored}
+use Rattle.task_code_runs.proofs.Aiming.{dense-aims, strided-aims}
+use Rattle.task_code_runs.proofs.Running.{stored-as}
 use Rattle.task_code_runs.proofs.runs.emit_row.Goals as goal
 
 pub returns-then-stride-eq-WORD_BYTES : goal.returns-then-stride-eq-WORD_BYTES
 returns-then-stride-eq-WORD_BYTES c =
-    row-stored c.args.places.now c.args.scope.now c.args.own c.args.store.now c.in_ok-column.column c.in_ok-row.row c.in_ok-form.form c.place_of-place.result
-    c.in_ok-pointer.pointer c.slot.result c.stride_of-stride.result _ _ _ _ c.in_ok-column.ensures c.in_ok-row.ensures c.place_of-place.ensures
-    c.in_ok-form.ensures (c.stride_of-stride.ensures ∙ ap (λ ts. strides c.args.own.counter ts % 2 ^ 32) c.as_slice.ensures) c.if-stride-eq-WORD_BYTES.true
-    c.slot.ensures.0 c.in_ok-emit_values.ensures c.in_ok-pointer.ensures c.in_ok-store_row.ensures
+    stored-as c.args.places.now c.args.scope.now c.args.own c.args.store.now c.place_of-place.result c.in_ok-pointer.pointer c.slot.result _ _ _ _ _
+    c.place_of-place.ensures c.slot.ensures.0 c.in_ok-emit_values.ensures
+    (dense-aims c.args.places.now c.args.scope.now c.args.own c.args.store.now c.args.column.now c.args.row.now c.in_ok-form.form
+    c.place_of-place.result c.requires.0 c.requires.1 c.in_ok-form.ensures c.stride_of-stride.result
+    (c.stride_of-stride.ensures ∙ ap (λ ts. strides c.args.own.counter ts % 2 ^ 32) c.as_slice.ensures) c.in_ok-pointer.pointer _ _
+    c.if-stride-eq-WORD_BYTES.true c.in_ok-pointer.ensures) c.in_ok-store_row.ensures
+
+pub returns : goal.returns
+returns c =
+    stored-as c.args.places.now c.args.scope.now c.args.own c.args.store.now c.place_of-place.result c.in_ok-pointer-2.pointer c.slot-2.result _ _ _ _ _
+    c.place_of-place.ensures c.slot-2.ensures.0 c.in_ok-emit_values-2.ensures
+    (strided-aims c.args.places.now c.args.scope.now c.args.own c.args.store.now c.args.column.now c.args.row.now c.in_ok-form.form
+    c.place_of-place.result c.requires.0 c.requires.1 c.in_ok-form.ensures c.stride_of-stride.result
+    (c.stride_of-stride.ensures ∙ ap (λ ts. strides c.args.own.counter ts % 2 ^ 32) c.as_slice.ensures) c.in_ok-pointer-2.pointer _ _ _
+    c.in_ok-emit_number.ensures c.in_ok-pointer-2.ensures) c.in_ok-store_strided.ensures

@@ -5,4 +5,4 @@ use Rattle.task_code_runs.proofs.runs.emit_run.Goals as goal
 pub returns : goal.returns
 returns c =
     run-emitted c.args.places.now c.args.scope.now c.args.own (λ values. all_lanes c.args.own) c.args.store.now _ _ _ c.in_ok-emit_all_lanes.ensures
-    c.in_ok-emit_row.ensures
+    c.in_ok-emit_stored.ensures
