@@ -43,6 +43,17 @@ pub fn push_compilation(alloc: Global, parts: &[Part], out: &mut String) -> Resu
     push_left(alloc, &page.bytes, out)
 }
 
+/// The vector loads and stores of compiled images.
+const ACCESSES: [&str; 7] = [
+    "vle8.v",
+    "vle32.v",
+    "vlse32.v",
+    "vluxei32.v",
+    "vse32.v",
+    "vsse32.v",
+    "vsuxei32.v",
+];
+
 /// How many lines of a compiled image's listing are vector loads and stores, of each kind, and how the lanes of one
 /// hart are configured once it has finished.
 pub fn push_accesses(alloc: Global, parts: &[Part], out: &mut String) -> Result<(), Failure> {
@@ -56,11 +67,9 @@ pub fn push_accesses(alloc: Global, parts: &[Part], out: &mut String) -> Result<
     let Ok(listing) = str::from_utf8(&lines) else {
         return Err(Failure::Malformed("the listing is no text"));
     };
-    push_count(listing, "vle8.v", out)?;
-    push_count(listing, "vle32.v", out)?;
-    push_count(listing, "vluxei32.v", out)?;
-    push_count(listing, "vse32.v", out)?;
-    push_count(listing, "vsuxei32.v", out)?;
+    for mnemonic in ACCESSES {
+        push_count(listing, mnemonic, out)?;
+    }
     push_lanes(alloc, &page.bytes, out)
 }
 
