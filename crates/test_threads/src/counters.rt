@@ -15,8 +15,8 @@ use shared_machine::{
 use std::marker::Brand;
 use std::process::Abort;
 use std::sync::Wait;
-use std::sync::atomic::AtomicBool;
 use std::sync::atomic::Ordering::SeqCst;
+use std::sync::atomic::{AtomicBool, AtomicU64};
 use std::test::Fail;
 use std::thread::{Threads, yield_now};
 use turn_log::TurnLog;
@@ -186,6 +186,78 @@ fn harts_run_at_once(rt: HostRuntime) -> Result<(), Fail> {
             batched,
             &both,
         )?;
+    }
+    Ok(())
+}
+
+/// A gate that keeps what it is asked and told: of each hart the last number, and whether one came out of its turn.
+#[derive(Drop)]
+struct Notes {
+    /// How many turns are made under a lock at most.
+    most: u64,
+    asked: [AtomicU64; 2],
+    told: [AtomicU64; 2],
+    is_wrong: AtomicBool,
+}
+
+impl Notes {
+    fn new(most: u64) -> Notes {
+        Notes {
+            most,
+            asked: [AtomicU64::new(0), AtomicU64::new(0)],
+            told: [AtomicU64::new(0), AtomicU64::new(0)],
+            is_wrong: AtomicBool::new(false),
+        }
+    }
+}
+
+impl Gate for Notes {
+    ghost use Rattle.std.specs.Prelude.{false};
+
+    ghost OPEN = { false };
+
+    const OPEN: bool = false;
+
+    /// It is asked about the turn behind the last one that it was told of.
+    fn before(&self, hart: usize, number: u64) -> bool {
+        if hart < 2 {
+            if number != self.told[hart].load(SeqCst).wrapping_add(1) {
+                self.is_wrong.store(true, SeqCst);
+            }
+            self.asked[hart].store(number, SeqCst);
+        }
+        true
+    }
+
+    /// It is told of the turn that it was asked about, or of the last one under the same lock.
+    fn after(&self, hart: usize, number: u64) {
+        if hart < 2 {
+            if number.wrapping_sub(self.asked[hart].load(SeqCst)) >= self.most {
+                self.is_wrong.store(true, SeqCst);
+            }
+            self.told[hart].store(number, SeqCst);
+        }
+    }
+}
+
+/// A gate is asked before the turns of each hart and told behind them: turn by turn, or by what is made under a lock.
+#[test]
+fn gates_are_asked_and_told(rt: HostRuntime) -> Result<(), Fail> {
+    for (batched, most) in [(false, 1), (true, 64)] {
+        let image = read_image(rt.alloc(), &COUNTER)?;
+        let notes = Notes::new(most);
+        drive_counter::<Brand, Brand, Notes, HostRuntime>(
+            &rt,
+            image,
+            Blanks::new(),
+            batched,
+            &notes,
+        )?;
+        assert!(rt; !notes.is_wrong.load(SeqCst));
+        for hart in 0..2 {
+            assert_eq!(rt; notes.asked[hart].load(SeqCst), 5);
+            assert_eq!(rt; notes.told[hart].load(SeqCst), 5);
+        }
     }
     Ok(())
 }

@@ -1,10 +1,13 @@
 //! Tests of machines that threads share, as no file of cases can ask.
 //!
 //! - [`boards`]: numbers and a stop on a board.
-//! - [`counters`]: a program of two harts that is driven, stopped, held, and run on from a log.
+//! - [`counters`]: a program of two harts that is driven, stopped, held, and run on from a log; what gates are asked.
+//! - [`strips`]: a compiled blur, of whose harts one is abandoned.
 #![tactic(auto)]
 
 #[cfg(test)]
 mod boards;
 #[cfg(test)]
 mod counters;
+#[cfg(test)]
+mod strips;
