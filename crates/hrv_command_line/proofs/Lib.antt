@@ -9,6 +9,7 @@ mod ExplainWords
 mod HelpOnly
 mod MapAsked
 mod MapWords
+mod NamedWords
 mod Parses
 mod PictureWords
 mod Positionals

@@ -1,4 +1,4 @@
-use Rattle.hrv_command_line.proofs.AskedWords.{explains_alone, explains_both, explains_no_other}
+use Rattle.hrv_command_line.proofs.NamedWords.{explains_alone, explains_both, explains_no_other}
 use Rattle.hrv_command_line.proofs.laws.explain_is_named.Goals as goal
 
 pub returns-clause-both : goal.returns-clause-both

@@ -1,4 +1,5 @@
-use Rattle.hrv_command_line.proofs.AskedWords.{flag_or_spelled, marked_replay, plain_replay}
+use Rattle.hrv_command_line.proofs.AskedWords.{flag_or_spelled}
+use Rattle.hrv_command_line.proofs.NamedWords.{marked_replay, plain_replay}
 use Rattle.hrv_command_line.proofs.laws.replay_is_named.Goals as goal
 
 pub returns-clause-plain : goal.returns-clause-plain
