@@ -37,7 +37,6 @@ use task_code_statements::stages::CodeStage;
 /// inside of phases. Contracts
 /// see a `CompiledContents` that is an `IsCompiled` (`specs/Compiled.antt`); what its words do, [`Compiled::image`]
 /// promises of the images that it makes.
-#[derive(Drop)]
 pub struct Compiled {
     pub(crate) pipeline: Pipeline,
     pub(crate) schedule: Schedule,
@@ -60,6 +59,23 @@ impl Model for Compiled {
     ghost view = { λ c. record { pipeline = c.pipeline; schedule = c.schedule; boxes = c.boxes; words = c.words.items; ends = c.ends.items; stages = c.stages.items } };
 
     ghost invariant = { λ c. IsHeld (record { pipeline = c.pipeline; schedule = c.schedule; boxes = c.boxes; words = c.words.items; ends = c.ends.items; stages = c.stages.items }) };
+}
+
+/// Written out, so that a function that drops one has a call here for each way out, and not what dropping trees takes.
+impl Drop for Compiled {
+    fn drop(self) {
+        let Compiled {
+            pipeline,
+            schedule,
+            boxes,
+            words: _,
+            ends: _,
+            stages: _,
+        } = self;
+        drop(pipeline);
+        drop(schedule);
+        drop(boxes);
+    }
 }
 
 /// The output's picture in a box that begins at an address.
