@@ -96,7 +96,7 @@ module _ (places : Places) (scope : List Held) (lanes_of : Lanes) (store : Store
   dense-aims b c1 c2 four t = record {
     insns = t.insns;
     emits = t.emits;
-    low = t.low;
+    low = t.source.0;
     fit = tt;
     does = λ w m values reads n f l are holders knows has some few mx my.
         let c = t.does w m w.hart values f l holders knows in
@@ -116,7 +116,7 @@ module _ (places : Places) (scope : List Held) (lanes_of : Lanes) (store : Store
   strided-aims b c1 c2 c3 s t = record {
     insns = s.insns ++ t.insns;
     emits = emits_then s.emits t.emits;
-    low = t.low;
+    low = t.source.0;
     fit = omega arith;
     does = λ w m values reads n f l are holders knows has some few mx my.
         let first = with lanes_of.counter 0 values in
@@ -156,7 +156,7 @@ pub scattered-aims : (places : Places) (scope : List Held) (lanes_of : Lanes) (s
 scattered-aims places scope lanes_of store zero form place b u c1 c2 c3 in-stack none point eu d t = record {
   insns = d.insns ++ t.insns;
   emits = emits_then d.emits t.emits;
-  low = t.low;
+  low = t.source.0;
   fit = let lies = slot-lies lanes_of.group 1 in-stack in subst (IsGroup (registers lanes_of.group)) (sym eu) lies.is_group;
   does = λ w m values reads n f l are holders knows has some few mx my.
       let group = lanes_of.group in

@@ -1,5 +1,6 @@
 pub mod Aiming
 pub mod Counting
+pub mod Fronts
 pub mod Idling
 pub mod Pointing
 pub mod Running

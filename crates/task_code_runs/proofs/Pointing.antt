@@ -28,7 +28,7 @@ module _ (scope : List Held) (counter : Counter) (form start : Form) (law : IsAt
         insns = x.insns;
         emits = x.emits;
         some = let m = may-hold s near.may in m.low;
-        low = x.source.0;
+        source = x.source;
         does = λ w m hart values f l holders knows.
             let a = x.does w m hart (with counter 0 values) f l holders (address-free scope holders) knows in
             record { after = a.after; line = a.line; value = a.value ∙ law.value hart 0 values; others = a.others };
@@ -40,7 +40,7 @@ module _ (scope : List Held) (counter : Counter) (form start : Form) (law : IsAt
     insns = x.insns;
     emits = x.emits;
     some = omega arith;
-    low = omega arith;
+    source = (omega arith, (λ e. omega (arith, e), λ e. omega (arith, e)));
     does = λ w m hart values f l holders knows.
         let a = x.does w m hart (with counter 0 values) f l holders (address-free scope holders) knows in
         record { after = a.after; line = a.line; value = a.value ∙ law.value hart 0 values; others = a.others };

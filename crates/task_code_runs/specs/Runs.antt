@@ -1,9 +1,11 @@
 -- What appended code does of a vectorized loop, whatever its instructions are: all iterations at once. This project's own.
-use Rattle.std.specs.Prelude.{◌≡◌, ◌<◌, ◌≤◌, ℕ, ◌*◌, min, true, List, length, None}
+use Rattle.std.specs.Prelude.{◌≡◌, ◌<◌, ◌≤◌, ℕ, ◌*◌, min, true, List, [], ◌∷◌, length, None}
 use Rattle.rv_insn.specs.declared.instructions.Insn.{Insn}
 use Rattle.halide_pipeline.specs.Pixel.{Planes, Reads}
 use Rattle.halide_pipeline.specs.Points.{Point}
+use Rattle.halide_pipeline.specs.Words as word
 use Rattle.std.specs.Prelude.{Bool}
+use Rattle.loop_ir.specs.declared.expressions.Counter.{Counter}
 use Rattle.loop_ir.specs.declared.expressions.Linear.{Linear}
 use Rattle.loop_ir.specs.declared.statements.LoopKind.TheVariants.{Vectorized}
 use Rattle.loop_ir.specs.declared.statements.Stmt.{Stmt}
@@ -29,9 +31,16 @@ use Rattle.task_code_runs.specs.AtOnce.{MayRun}
 abbrev pub all_lanes : Lanes → ℕ
 all_lanes own = 4 * registers own.group
 
--- as many of them as a sum says in the first one
-abbrev pub left_lanes : Lanes → Linear → Values → ℕ
-left_lanes own left values = min (linear_value (with own.counter 0 values) left) (all_lanes own)
+-- the least of sums in the first one, as numbers with a sign
+abbrev pub least_left : Counter → Linear → List Linear → Values → ℕ
+least_left counter first [] values = linear_value (with counter 0 values) first
+least_left counter first (next ∷ others) values =
+    word.minimum (least_left counter next others values) (linear_value (with counter 0 values) first)
+
+-- as many of them as the least of the sums says in the first one, or all where there is no sum
+abbrev pub left_lanes : Lanes → List Linear → Values → ℕ
+left_lanes own [] values = all_lanes own
+left_lanes own (first ∷ others) values = min (least_left own.counter first others values) (all_lanes own)
 
 -- the vectorized loop of so many
 abbrev pub run_of : Lanes → Stmt → Stmt

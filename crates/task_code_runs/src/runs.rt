@@ -2,10 +2,10 @@
 
 ghost use Rattle.std.specs.Prelude.{OnOk};
 ghost use Rattle.task_code_values.specs.Operands.{IsSum};
-ghost use Rattle.task_code_runs.specs.Runs.{EmitsRun, all_lanes, left_lanes};
+ghost use Rattle.task_code_runs.specs.Runs.{EmitsRun, left_lanes};
 ghost use Rattle.task_code_runs.specs.inner.Making.{StoresLanes};
 
-use crate::configuring::{are_registers, emit_all_lanes, emit_left_lanes};
+use crate::configuring::{are_registers, emit_left_lanes};
 use crate::pointers::emit_pointer;
 use halide_pipeline::Source;
 use loop_ir::expressions::Linear;
@@ -105,7 +105,8 @@ fn emit_stored(
     Ok(())
 }
 
-/// Appends the code of a vectorized loop that does a store in each of its iterations: all at once.
+/// Appends the code of a vectorized loop that does a store in as many of its first iterations as the least of the sums
+/// says in the first one, or in each where there is no sum: all at once.
 ///
 /// # Errors
 ///
@@ -116,32 +117,7 @@ pub fn emit_run(
     places: &Places,
     scope: &[Held],
     own: Lanes,
-    store: &Store,
-) -> Result<(), CodeFault>
-    ensures { OnOk result (EmitsRun code.old.items code.new.items places.now scope.now own
-        (λ values. all_lanes own) store.now) }
-{
-    if !are_registers(scope) {
-        return Err(CodeFault::TooDeep);
-    }
-    emit_all_lanes(code, scope, own)?;
-    emit_stored(alloc, code, places, scope, own, store)?;
-    Ok(())
-}
-
-/// Appends the code of a vectorized loop that does a store in as many of its first iterations as a sum says in the
-/// first one, or in each: all at once.
-///
-/// # Errors
-///
-/// As of [`emit_run`].
-pub fn emit_left_run(
-    alloc: Global,
-    code: &mut Vec<u32>,
-    places: &Places,
-    scope: &[Held],
-    own: Lanes,
-    left: &Linear,
+    left: &[Linear],
     store: &Store,
 ) -> Result<(), CodeFault>
     ensures { OnOk result (EmitsRun code.old.items code.new.items places.now scope.now own

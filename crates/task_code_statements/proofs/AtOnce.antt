@@ -1,6 +1,6 @@
 -- A vectorized loop whose body is a single store, behind the values of split loops.
-use Rattle.std.proofs.Common.{◌≡◌, ℕ, ◌+◌, ◌*◌, ◌<◌, ◌≤◌, List, [], ◌++◌, length, Bool, true, false, refl, ap, ◌∙◌, sym, subst, arith, cond}
-use Rattle.std.specs.Prelude.{◌-◌, ◌&&◌, if◌then◌else◌, nat_lt, Option, Some, None}
+use Rattle.std.proofs.Common.{◌≡◌, ℕ, ◌+◌, ◌*◌, ◌<◌, ◌≤◌, List, [], ◌∷◌, ◌++◌, length, Bool, true, false, refl, ap, ◌∙◌, sym, subst, arith, cond}
+use Rattle.std.specs.Prelude.{◌%◌, ◌^◌, ◌-◌, ◌&&◌, if◌then◌else◌, min, nat_lt, Option, Some, None}
 use Rattle.std.proofs.lemmas.Bool.{true≢false}
 use Rattle.std.proofs.lemmas.Bool.Decides.{nat_tests}
 use Rattle.std.specs.List.{list_all}
@@ -41,7 +41,7 @@ use Rattle.task_code_lanes.specs.declared.groups.Group.TheVariants as groups
 use Rattle.task_code_lanes.specs.Groups.{registers}
 use Rattle.task_code_lane_values.specs.declared.vectorized.Lanes.{Lanes}
 use Rattle.task_code_runs.specs.Naming.{AreNamed}
-use Rattle.task_code_runs.specs.Runs.{EmitsRun, StoresAs, all_lanes, left_lanes, run_of}
+use Rattle.task_code_runs.specs.Runs.{EmitsRun, StoresAs, all_lanes, least_left, left_lanes, run_of}
 use Rattle.task_code_runs.proofs.Idling.{none-hit, none-run}
 use Rattle.task_code_names.specs.declared.names.Named.{Named}
 use Rattle.task_code_names.specs.Names.{AreNames, IsNamedStore}
@@ -57,8 +57,8 @@ use Rattle.task_code_statements.specs.Plain.{IsPlainStore}
 use Rattle.task_code_statements.specs.Rewriting.{IsSameStore}
 use Rattle.task_code_statements.specs.Splits.{IsSplitSum}
 use Rattle.task_code_statements.specs.Statements.{EmitsStatement}
-use Rattle.task_code_statements.specs.Vectorizing.{AreLanes, GuardsLack, IsLeft, IsLeftIf, IsParted, IsRunOf, IsStoreOf, TestFirst, TestToo, WordsBehind}
-use Rattle.task_code_statements.specs.Vectorizing.{is_passed, lane_count, passes, passes_if}
+use Rattle.task_code_statements.specs.Vectorizing.{AreLanes, AreLeft, GuardsLack, IsLeft, IsParted, IsRunOf, IsStoreOf, TestFirst, TestToo, WordsBehind}
+use Rattle.task_code_statements.specs.Vectorizing.{is_passed, passes}
 use Rattle.task_code_statements.proofs.Following.{did-is}
 use Rattle.task_code_statements.proofs.Naming.{plain-sound}
 use Rattle.task_code_statements.proofs.Plainness.{named-with}
@@ -217,9 +217,49 @@ below-so a b t = grind (arith, nat_tests)
 not-below : (a b : ℕ) → nat_lt a b ≡ false → b ≤ a
 not-below a b t = grind (arith, nat_tests)
 
-still-fails : (fixed : Bool) (a b c : ℕ) → a ≤ b → cond fixed (nat_lt a c) false ≡ false → cond fixed (nat_lt b c) false ≡ false
-still-fails false a b c l fails = refl
-still-fails true a b c l fails = let e = not-below a c fails in is-past b c (omega (arith, l, e))
+still-fails : (a b c : ℕ) → a ≤ b → nat_lt a c ≡ false → nat_lt b c ≡ false
+still-fails a b c l fails = let e = not-below a c fails in is-past b c (omega (arith, l, e))
+
+none-passes : (a : Bool) → cond a false false ≡ false
+none-passes true = refl
+none-passes false = refl
+
+same-less : (a b more : ℕ) → nat_lt a b ≡ nat_lt (a + more) (b + more)
+same-less a b more = go (nat_lt a b) refl
+  where
+    go : (t : Bool) → nat_lt a b ≡ t → t ≡ nat_lt (a + more) (b + more)
+    go true is = let low = below-so a b is in sym (is-below (a + more) (b + more) (omega (arith, low)))
+    go false is = let high = not-below a b is in sym (is-past (a + more) (b + more) (omega (arith, high)))
+
+-- below two numbers is below the lesser
+least-of-two : (i one two : ℕ) → one < 2 ^ 31 → two < 2 ^ 31 → cond (nat_lt i two) (nat_lt i one) false ≡ nat_lt i (word.minimum one two)
+unfolding word.less
+least-of-two i one two small-one small-two = go (word.less two one) refl
+  where
+    less-is : (t : Bool) → word.less two one ≡ t → nat_lt two one ≡ t
+    less-is t is =
+        let one-is : (one + 2 ^ 31) % 2 ^ 32 ≡ one + 2 ^ 31 = omega (arith, small-one) in
+        let two-is : (two + 2 ^ 31) % 2 ^ 32 ≡ two + 2 ^ 31 = omega (arith, small-two) in
+        same-less two one (2 ^ 31) ∙ sym (ap (λ n. nat_lt n ((one + 2 ^ 31) % 2 ^ 32)) two-is ∙ ap (λ n. nat_lt (two + 2 ^ 31) n) one-is) ∙ is
+
+    both : (t : Bool) → nat_lt i two ≡ t → two < one → cond t (nat_lt i one) false ≡ t
+    both true is less = let low = below-so i two is in is-below i one (omega (arith, low, less))
+    both false is less = refl
+
+    other : (t : Bool) → nat_lt i one ≡ t → one ≤ two → cond (nat_lt i two) t false ≡ t
+    other true is less = let low = below-so i one is in ap (λ b. cond b true false) (is-below i two (omega (arith, low, less)))
+    other false is less = none-passes (nat_lt i two)
+
+    go : (t : Bool) → word.less two one ≡ t → cond (nat_lt i two) (nat_lt i one) false ≡ nat_lt i (if t then two else one)
+    go true is = both (nat_lt i two) refl (below-so two one (less-is true is))
+    go false is = other (nat_lt i one) refl (not-below two one (less-is false is))
+
+lesser-of-two : (one two : ℕ) (P : ℕ → Type 0) → P one → P two → P (word.minimum one two)
+lesser-of-two one two P p q = go (word.less two one)
+  where
+    go : (t : Bool) → P (if t then two else one)
+    go true = q
+    go false = p
 
 and-true : (a : Bool) → cond a true false ≡ a
 and-true true = refl
@@ -245,10 +285,10 @@ module _ (context inner : Context) (counter : Counter) (count : ℕ) (group : Gr
   within i few = loop.meets named i (omega (arith, few, ec)) meets
 
   -- tests in an iteration, by those of the first one
-  tests-are : (i : ℕ) → passes made.guards.items (lane_at i) ≡ cond (passes parts.fixed.items (lane_at 0)) (passes_if parts.lane (lane_at i)) false
+  tests-are : (i : ℕ) → passes made.guards.items (lane_at i) ≡ cond (passes parts.fixed.items (lane_at 0)) (passes parts.hanging.items (lane_at i)) false
   tests-are i =
       parted.passes_is (lane_at i)
-      ∙ ap (λ t. cond t (passes_if parts.lane (lane_at i)) false) (parted.lack named i ∙ sym (parted.lack named 0))
+      ∙ ap (λ t. cond t (passes parts.hanging.items (lane_at i)) false) (parted.lack named i ∙ sym (parted.lack named 0))
 
   stops : (i : ℕ) → passes made.guards.items (lane_at i) ≡ false → i < 4 * registers group → (reads : Reads) → effect reads body (body_at i) ≡ None
   stops i stopped few reads =
@@ -259,153 +299,177 @@ module _ (context inner : Context) (counter : Counter) (count : ℕ) (group : Gr
   goes i passed few reads =
       of.stores reads (body_at i) (lane_at i) (same-at i) (within i few) ∙ ap (λ t. cond t (effect reads (s.Store made.store) (lane_at i)) None) passed
 
-  -- where no test hangs on lanes, all iterations store or none does
-  module _ (none : parts.lane ≡ None) where
-    all-as : (i : ℕ) → passes made.guards.items (lane_at i) ≡ passes parts.fixed.items (lane_at 0)
-    all-as i =
-        tests-are i ∙ ap (λ o. cond (passes parts.fixed.items (lane_at 0)) (passes_if o (lane_at i)) false) none
-        ∙ and-true (passes parts.fixed.items (lane_at 0))
-
-    pub stored-all : passes parts.fixed.items (lane_at 0) ≡ true → StoresAs lanes body made.store values named (all_lanes lanes)
-    stored-all passed = record {
-      some = some-lanes group;
-      few = omega arith;
-      stores = λ reads i few. goes i (all-as i ∙ passed) few reads;
-      sound = λ reads written loaded i few so. of.sound reads written loaded (body_at i) (lane_at i) (same-at i) (within i few) (all-as i ∙ passed) so;
-      none = λ reads i high few. absurd (omega (arith, high, few));
-    }
-
-    pub stored-none : passes parts.fixed.items (lane_at 0) ≡ false → (reads : Reads) (i : ℕ) → i < 4 * registers group
-        → effect reads body (body_at i) ≡ None
-    stored-none stopped reads i few = stops i (all-as i ∙ stopped) few reads
-
-  -- where one does, the first iterations store, or none does
-  module _ (guard : Guard) (left : Linear) (bounds : List Bound) (eg : parts.lane ≡ Some guard) (ebs : bounds ≡ inner.bounds.items)
-      (is : IsLeft bounds counter guard left) where
-    abbrev sum_at : ℕ → ℕ
-    sum_at i = linear_value (lane_at i) guard.sum
-
-    pub below-at : AreBelow bounds (lane_at 0)
+  module _ (bounds : List Bound) (ebs : bounds ≡ inner.bounds.items) where
+    below-at : AreBelow bounds (lane_at 0)
     below-at = subst (λ b. AreBelow b (lane_at 0)) (sym ebs) (let m = within 0 (some-lanes group) in m.below)
 
-    further : (i : ℕ) → i < 16 → sum_at i ≡ sum_at 0 + i
-    further i few =
-        let a = guard.sum.number + sum_of named (others_of counter guard.sum.terms) in
+    abbrev sum_at : Guard → ℕ → ℕ
+    sum_at guard i = linear_value (lane_at i) guard.sum
+
+    -- a test further on
+    further : (guard : Guard) (left : Linear) → IsLeft bounds counter guard left → (i : ℕ) → i < 16 → sum_at guard i ≡ sum_at guard 0 + i
+    further guard left is i few =
         let e0 = linear-with counter 0 1 named guard.sum (sym is.stride) in
         let ei = linear-with counter i 1 named guard.sum (sym is.stride) in
         let low = is.begins named below-at in
         omega (arith, e0, ei, low, few)
 
-    tested : (i : ℕ) → passes made.guards.items (lane_at i) ≡ cond (passes parts.fixed.items (lane_at 0)) (nat_lt (sum_at i) guard.extent) false
-    tested i = tests-are i ∙ ap (λ o. cond (passes parts.fixed.items (lane_at 0)) (passes_if o (lane_at i)) false) eg
+    -- which iterations pass tests
+    record Counts (guards : List Guard) (n : ℕ) : Type 0 where
+      some : 1 ≤ n
+      small : n < 2 ^ 31
+      passes_are : (i : ℕ) → i < 16 → passes guards (lane_at i) ≡ nat_lt i n
 
-    module _ (fixed : passes parts.fixed.items (lane_at 0) ≡ true) (begins : sum_at 0 < guard.extent) where
-      left-is : linear_value (lane_at 0) left ≡ guard.extent - sum_at 0
-      unfolding word.subtract
-      left-is =
-          let small = is.small in
-          let low = begins in
-          let g : word.subtract guard.extent (sum_at 0) ≡ guard.extent - sum_at 0 = omega (arith, small, low) in
-          is.value_is (lane_at 0) ∙ g
+    counts-one : (guard : Guard) (left : Linear) → IsLeft bounds counter guard left → is_passed guard (lane_at 0) ≡ true
+        → Counts (guard ∷ []) (linear_value (lane_at 0) left)
+    unfolding word.subtract
+    counts-one guard left is passed =
+        let begins = below-so (sum_at guard 0) guard.extent passed in
+        let small = is.small in
+        let value : linear_value (lane_at 0) left ≡ guard.extent - sum_at guard 0 =
+        is.value_is (lane_at 0) ∙ (let g : word.subtract guard.extent (sum_at guard 0) ≡ guard.extent - sum_at guard 0 = omega (arith, small, begins) in g) in
+        record {
+          some = omega (arith, value, begins);
+          small = omega (arith, value, small);
+          passes_are = λ i few.
+              let step = further guard left is i few in
+              and-true (is_passed guard (lane_at i)) ∙ as-left i guard.extent (sum_at guard 0) (sum_at guard i) (linear_value (lane_at 0) left) step begins value;
+        }
+      where
+        as-left : (i extent first here count : ℕ) → here ≡ first + i → first < extent → count ≡ extent - first → nat_lt here extent ≡ nat_lt i count
+        as-left i extent first here count eh low ec = go (nat_lt i count) refl
+          where
+            go : (t : Bool) → nat_lt i count ≡ t → nat_lt here extent ≡ t
+            go true is = let less = below-so i count is in is-below here extent (omega (arith, eh, low, ec, less))
+            go false is = let more = not-below i count is in is-past here extent (omega (arith, eh, low, ec, more))
 
-      as-tested : (i : ℕ) → passes made.guards.items (lane_at i) ≡ nat_lt (sum_at i) guard.extent
-      as-tested i = tested i ∙ ap (λ t. cond t (nat_lt (sum_at i) guard.extent) false) fixed
+    counts-more : (guard : Guard) (guards : List Guard) (one n : ℕ) → Counts (guard ∷ []) one → Counts guards n
+        → Counts (guard ∷ guards) (word.minimum n one)
+    counts-more guard guards one n first rest = record {
+      some = lesser-of-two n one (λ n. 1 ≤ n) rest.some first.some;
+      small = lesser-of-two n one (λ n. n < 2 ^ 31) rest.small first.small;
+      passes_are = λ i few.
+          ap (λ t. cond t (passes guards (lane_at i)) false) (sym (and-true (is_passed guard (lane_at i))) ∙ first.passes_are i few)
+          ∙ ap (λ t. cond (nat_lt i one) t false) (rest.passes_are i few) ∙ least-of-two i n one rest.small first.small;
+    }
 
-      passed : (i : ℕ) → i < left_lanes lanes left named → passes made.guards.items (lane_at i) ≡ true
-      passed i less =
-          let e = left-is in
-          let room = few-lanes group in
-          let step = further i (omega (arith, less, room)) in
-          as-tested i ∙ is-below (sum_at i) guard.extent (omega (arith, step, less, e))
+    -- which pass all tests, where the first one does
+    counts : (guard : Guard) (guards : List Guard) (own : Linear) (left : List Linear) → AreLeft bounds counter (guard ∷ guards) (own ∷ left)
+        → passes (guard ∷ guards) (lane_at 0) ≡ true → Counts (guard ∷ guards) (least_left counter own left named)
+    counts guard [] own [] are passed = counts-one guard own are.0 (both-pass (is_passed guard (lane_at 0)) true passed).0
+    counts guard [] own (next ∷ left) are passed = absurd are.1
+    counts guard (more ∷ guards) own [] are passed = absurd are.1
+    counts guard (more ∷ guards) own (next ∷ left) are passed =
+        let both = both-pass (is_passed guard (lane_at 0)) (passes (more ∷ guards) (lane_at 0)) passed in
+        counts-more guard (more ∷ guards) (linear_value (lane_at 0) own) (least_left counter next left named) (counts-one guard own are.0 both.0)
+        (counts more guards next left are.1 both.1)
 
-      stopped : (i : ℕ) → left_lanes lanes left named ≤ i → i < 4 * registers group → passes made.guards.items (lane_at i) ≡ false
-      stopped i high few =
-          let e = left-is in
-          let room = few-lanes group in
-          let step = further i (omega (arith, few, room)) in
-          as-tested i ∙ is-past (sum_at i) guard.extent (omega (arith, step, high, few, e))
+    -- as many iterations as lanes
+    record Stores (guards : List Guard) (n : ℕ) : Type 0 where
+      some : 1 ≤ n
+      few : n ≤ all_lanes lanes
+      passed : (i : ℕ) → i < n → passes guards (lane_at i) ≡ true
+      stopped : (i : ℕ) → n ≤ i → i < 4 * registers group → passes guards (lane_at i) ≡ false
 
-      pub stored-left : StoresAs lanes body made.store values named (left_lanes lanes left named)
-      stored-left =
-          let e = left-is in
-          let low = begins in
-          let some = some-lanes group in
+    all-or-least : (guards : List Guard) (left : List Linear) → AreLeft bounds counter guards left → passes guards (lane_at 0) ≡ true
+        → Stores guards (left_lanes lanes left named)
+    all-or-least [] [] are passed = record {
+      some = some-lanes group;
+      few = omega arith;
+      passed = λ i less. refl;
+      stopped = λ i high few. absurd (omega (arith, high, few));
+    }
+    all-or-least [] (own ∷ left) are passed = absurd are
+    all-or-least (guard ∷ guards) [] are passed = absurd are
+    all-or-least (guard ∷ guards) (own ∷ left) are passed =
+        let c = counts guard guards own left are passed in
+        let n = least_left counter own left named in
+        let some = c.some in
+        let lanes-some = some-lanes group in
+        let room = few-lanes group in
+        record {
+          some = omega (arith, some, lanes-some);
+          few = omega arith;
+          passed = λ i less. c.passes_are i (omega (arith, less, room)) ∙ is-below i n (omega (arith, less));
+          stopped = λ i high few. c.passes_are i (omega (arith, few, room)) ∙ is-past i n (omega (arith, high, few));
+        }
+
+    -- what fails in the first iteration fails in all
+    fails-on : (guards : List Guard) (left : List Linear) → AreLeft bounds counter guards left → passes guards (lane_at 0) ≡ false
+        → (i : ℕ) → i < 16 → passes guards (lane_at i) ≡ false
+    fails-on [] left are failed i few = absurd (true≢false failed)
+    fails-on (guard ∷ guards) [] are failed i few = absurd are
+    fails-on (guard ∷ guards) (own ∷ left) are failed i few =
+        go (is_passed guard (lane_at 0)) refl failed (λ rest. fails-on guards left are.1 rest i few)
+      where
+        go : (t : Bool) → is_passed guard (lane_at 0) ≡ t → cond t (passes guards (lane_at 0)) false ≡ false
+            → (passes guards (lane_at 0) ≡ false → passes guards (lane_at i) ≡ false)
+            → cond (is_passed guard (lane_at i)) (passes guards (lane_at i)) false ≡ false
+        go true is rest on = ap (λ b. cond (is_passed guard (lane_at i)) b false) (on rest) ∙ none-passes (is_passed guard (lane_at i))
+        go false is rest on =
+            let step = further guard own are.0 i few in
+            ap (λ b. cond b (passes guards (lane_at i)) false)
+            (still-fails (sum_at guard 0) (sum_at guard i) guard.extent (omega (arith, step)) is)
+
+    module _ (left : List Linear) (are : AreLeft bounds counter parts.hanging.items left) where
+      -- where the first iteration passes, as many store as are left
+      pub stored-left : passes parts.fixed.items (lane_at 0) ≡ true → passes parts.hanging.items (lane_at 0) ≡ true
+          → StoresAs lanes body made.store values named (left_lanes lanes left named)
+      stored-left fixed passed =
+          let x = all-or-least parts.hanging.items left are passed in
+          let most = x.few in
+          let same-tests : (i : ℕ) → passes made.guards.items (lane_at i) ≡ passes parts.hanging.items (lane_at i) =
+          λ i. tests-are i ∙ ap (λ t. cond t (passes parts.hanging.items (lane_at i)) false) fixed in
           record {
-            some = omega (arith, e, low, some);
-            few = omega arith;
-            stores = λ reads i few. goes i (passed i few) (omega (arith, few)) reads;
-            sound = λ reads written loaded i few so. of.sound reads written loaded (body_at i) (lane_at i) (same-at i) (within i (omega (arith, few))) (passed i few) so;
-            none = λ reads i high few. stops i (stopped i high few) few reads;
+            some = x.some;
+            few = x.few;
+            stores = λ reads i few. goes i (same-tests i ∙ x.passed i few) (omega (arith, few, most)) reads;
+            sound = λ reads written loaded i few so.
+                of.sound reads written loaded (body_at i) (lane_at i) (same-at i) (within i (omega (arith, few, most))) (same-tests i ∙ x.passed i few) so;
+            none = λ reads i high few. stops i (same-tests i ∙ x.stopped i high few) few reads;
           }
 
-    -- it fails from the first one on
-    pub stored-no : cond (passes parts.fixed.items (lane_at 0)) (nat_lt (sum_at 0) guard.extent) false ≡ false
-        → (reads : Reads) (i : ℕ) → i < 4 * registers group → effect reads body (body_at i) ≡ None
-    stored-no fails reads i few =
-        let room = few-lanes group in
-        let step = further i (omega (arith, few, room)) in
-        stops i (tested i ∙ still-fails (passes parts.fixed.items (lane_at 0)) (sum_at 0) (sum_at i) guard.extent (omega (arith, step)) fails) few reads
+      -- else none does
+      pub stored-none : cond (passes parts.fixed.items (lane_at 0)) (passes parts.hanging.items (lane_at 0)) false ≡ false
+          → (reads : Reads) (i : ℕ) → i < 4 * registers group → effect reads body (body_at i) ≡ None
+      stored-none fails reads i few =
+          let room = few-lanes group in
+          stops i (tests-are i ∙ go (passes parts.fixed.items (lane_at 0)) fails (omega (arith, few, room))) few reads
+        where
+          go : (t : Bool) → cond t (passes parts.hanging.items (lane_at 0)) false ≡ false → i < 16
+              → cond t (passes parts.hanging.items (lane_at i)) false ≡ false
+          go true failed low = fails-on parts.hanging.items left are failed i low
+          go false failed low = refl
 
 -- ---- runs
 
 pub run-is : (context inner : Context) (lanes : Lanes) (count : ℕ) (body : Stmt) (made : Guarded) (parts : Parted) (run : Run) (bounds : List Bound)
     → count ≡ all_lanes lanes → MeetsLoop context lanes.counter count inner → IsStoreOf inner body made → bounds ≡ inner.bounds.items
-    → IsParted lanes.counter made.guards.items parts → IsLeftIf bounds lanes.counter parts.lane run.left
-    → TestFirst bounds lanes.counter parts.fixed.items parts.lane run.fixed.items → run.store ≡ made.store → IsRunOf context lanes body run
-run-is context inner lanes count body made parts run bounds ec loop of ebs parted is first es = record {
+    → IsParted lanes.counter made.guards.items parts → AreLeft bounds lanes.counter parts.hanging.items run.left.items
+    → TestFirst bounds lanes.counter parts.fixed.items parts.hanging.items run.fixed.items → run.store ≡ made.store → IsRunOf context lanes body run
+run-is context inner lanes count body made parts run bounds ec loop of ebs parted are first es = record {
   does = λ values named same meets passed.
-      subst (λ t. StoresAs lanes body t values named (lane_count lanes run.left named)) (sym es)
-      (does parts.lane run.left refl refl is values named same meets passed);
-  none = λ values named same meets failed. none parts.lane run.left refl refl is values named same meets failed;
+      let both = both-pass (passes parts.fixed.items (with lanes.counter 0 named)) (passes parts.hanging.items (with lanes.counter 0 named))
+      (sym (tests named meets) ∙ passed) in
+      subst (λ t. StoresAs lanes body t values named (left_lanes lanes run.left.items named)) (sym es)
+      (stored-left context inner lanes.counter count lanes.group body made parts ec loop of parted values named same meets bounds ebs run.left.items are both.0
+      both.1);
+  none = λ values named same meets failed reads i few.
+      stored-none context inner lanes.counter count lanes.group body made parts ec loop of parted values named same meets bounds ebs run.left.items are
+      (sym (tests named meets) ∙ failed) reads i few;
 }
   where
     tests : (named : Values) → Meets context named → passes run.fixed.items (with lanes.counter 0 named)
-        ≡ cond (passes parts.fixed.items (with lanes.counter 0 named)) (passes_if parts.lane (with lanes.counter 0 named)) false
+        ≡ cond (passes parts.fixed.items (with lanes.counter 0 named)) (passes parts.hanging.items (with lanes.counter 0 named)) false
     tests named meets =
         first named (subst (λ b. AreBelow b (with lanes.counter 0 named)) (sym ebs)
         (let m = loop.meets named 0 (let l = some-lanes lanes.group in omega (arith, l, ec)) meets in m.below))
-
-    does : (lane : Option Guard) (left : Option Linear) → parts.lane ≡ lane → run.left ≡ left → IsLeftIf bounds lanes.counter lane left
-        → (values named : Values) → AreNamed values named → Meets context named → passes run.fixed.items (with lanes.counter 0 named) ≡ true
-        → StoresAs lanes body made.store values named (lane_count lanes left named)
-    does None None el er k values named same meets passed =
-        stored-all context inner lanes.counter count lanes.group body made parts ec loop of parted values named same meets el
-        (and-both el (tests named meets) passed).0
-      where
-        and-both : parts.lane ≡ None → passes run.fixed.items (with lanes.counter 0 named)
-            ≡ cond (passes parts.fixed.items (with lanes.counter 0 named)) (passes_if parts.lane (with lanes.counter 0 named)) false
-            → passes run.fixed.items (with lanes.counter 0 named) ≡ true
-            → (passes parts.fixed.items (with lanes.counter 0 named) ≡ true) × (passes_if parts.lane (with lanes.counter 0 named) ≡ true)
-        and-both e t p = both-pass (passes parts.fixed.items (with lanes.counter 0 named)) (passes_if parts.lane (with lanes.counter 0 named)) (sym t ∙ p)
-    does None (Some sum) el er k values named same meets passed = absurd k
-    does (Some guard) None el er k values named same meets passed = absurd k
-    does (Some guard) (Some sum) el er k values named same meets passed =
-        let both = both-pass (passes parts.fixed.items (with lanes.counter 0 named)) (is_passed guard (with lanes.counter 0 named))
-        (sym (tests named meets ∙ ap (λ o. cond (passes parts.fixed.items (with lanes.counter 0 named)) (passes_if o (with lanes.counter 0 named)) false) el)
-        ∙ passed) in
-        stored-left context inner lanes.counter count lanes.group body made parts ec loop of parted values named same meets guard sum bounds el ebs k both.0
-        (below-so (linear_value (with lanes.counter 0 named) guard.sum) guard.extent both.1)
-
-    none : (lane : Option Guard) (left : Option Linear) → parts.lane ≡ lane → run.left ≡ left → IsLeftIf bounds lanes.counter lane left
-        → (values named : Values) → AreNamed values named → Meets context named → passes run.fixed.items (with lanes.counter 0 named) ≡ false
-        → (reads : Reads) (i : ℕ) → i < all_lanes lanes → effect reads body (with lanes.counter i values) ≡ None
-    none None None el er k values named same meets failed reads i few =
-        stored-none context inner lanes.counter count lanes.group body made parts ec loop of parted values named same meets el
-        (sym (and-true (passes parts.fixed.items (with lanes.counter 0 named)))
-        ∙ sym (ap (λ o. cond (passes parts.fixed.items (with lanes.counter 0 named)) (passes_if o (with lanes.counter 0 named)) false) el)
-        ∙ sym (tests named meets) ∙ failed) reads i few
-    none None (Some sum) el er k values named same meets failed reads i few = absurd k
-    none (Some guard) None el er k values named same meets failed reads i few = absurd k
-    none (Some guard) (Some sum) el er k values named same meets failed reads i few =
-        stored-no context inner lanes.counter count lanes.group body made parts ec loop of parted values named same meets guard sum bounds el ebs k
-        (sym (ap (λ o. cond (passes parts.fixed.items (with lanes.counter 0 named)) (passes_if o (with lanes.counter 0 named)) false) el)
-        ∙ sym (tests named meets) ∙ failed) reads i few
 
 -- ---- code
 
 pub vector-emits : (places : Places) (scope : List Held) (context : Context) (own : Bound) (lanes : Lanes) (body : Stmt) (made : Run)
     (c0 c1 none words : List ℕ) → none ≡ [] → AreLanes scope own lanes → IsRunOf context lanes body made
-    → EmitsRun none words places scope lanes (lane_count lanes made.left) made.store → WordsBehind c0 c1 scope made.fixed.items words
+    → EmitsRun none words places scope lanes (left_lanes lanes made.left.items) made.store → WordsBehind c0 c1 scope made.fixed.items words
     → EmitsStatement c0 c1 places scope (Meets context) (s.For own.counter own.count Vectorized body)
 vector-emits places scope context own lanes body made c0 c1 none words en are is x tests =
     let g = tests x.insns (subst (λ c. Emits c words x.insns) en x.emits) in
@@ -443,11 +507,13 @@ vector-emits places scope context own lanes body made c0 c1 none words en are is
 
 -- as the emitters call it
 pub vector-behind : (places : Places) (scope : List Held) (context : Context) (own : Bound) (lanes : Lanes) (body : Stmt) (made : Run)
-    (c0 c1 none words : List ℕ) (fixed : List Guard) (seen : List ℕ) → none ≡ [] → AreLanes scope own lanes → IsRunOf context lanes body made
-    → EmitsRun none words places scope lanes (lane_count lanes made.left) made.store → fixed ≡ made.fixed.items → seen ≡ words
+    (c0 c1 none words : List ℕ) (fixed : List Guard) (left : List Linear) (seen : List ℕ) → none ≡ [] → AreLanes scope own lanes
+    → IsRunOf context lanes body made → EmitsRun none words places scope lanes (left_lanes lanes left) made.store → left ≡ made.left.items
+    → fixed ≡ made.fixed.items → seen ≡ words
     → WordsBehind c0 c1 scope fixed seen → EmitsStatement c0 c1 places scope (Meets context) (s.For own.counter own.count Vectorized body)
-vector-behind places scope context own lanes body made c0 c1 none words fixed seen en are is x ef es tests =
-    vector-emits places scope context own lanes body made c0 c1 none words en are is x
+vector-behind places scope context own lanes body made c0 c1 none words fixed left seen en are is x el ef es tests =
+    vector-emits places scope context own lanes body made c0 c1 none words en are is
+    (subst (λ l. EmitsRun none words places scope lanes (left_lanes lanes l) made.store) el x)
     (subst (λ l. WordsBehind c0 c1 scope l words) ef (subst (λ l. WordsBehind c0 c1 scope fixed l) es tests))
 
 pub vector-arm : (places : Places) (scope : List Held) (context : Context) (own : Stmt) (counter : Counter) (count : ℕ) (kind : LoopKind) (body x : Stmt)
@@ -456,9 +522,3 @@ pub vector-arm : (places : Places) (scope : List Held) (context : Context) (own 
 vector-arm places scope context own counter count kind body x c0 c1 is ex ek made =
     subst (λ y. EmitsStatement c0 c1 places scope (Meets context) y)
     (sym (is ∙ ap (λ k. s.For counter count k body) ek ∙ ap (s.For counter count Vectorized) (sym ex))) made
-
--- ---- how many lanes
-
-pub counted : (places : Places) (scope : List Held) (lanes : Lanes) (left known : Option Linear) (store : Store) (c0 c1 : List ℕ) → left ≡ known
-    → EmitsRun c0 c1 places scope lanes (lane_count lanes known) store → EmitsRun c0 c1 places scope lanes (lane_count lanes left) store
-counted places scope lanes left known store c0 c1 is x = subst (λ l. EmitsRun c0 c1 places scope lanes (lane_count lanes l) store) (sym is) x

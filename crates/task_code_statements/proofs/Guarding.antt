@@ -1,7 +1,8 @@
 -- Tests that a vectorized loop's store stands behind.
 use Rattle.std.proofs.Common.{◌≡◌, ℕ, ◌+◌, ◌<◌, ◌≤◌, ◌%◌, ◌^◌, List, [], ◌∷◌, ◌++◌, ◌-◌, length, get_or, take, drop, Bool, true, false, refl, ap, ◌∙◌, sym, subst, arith, cond}
-use Rattle.std.specs.Prelude.{if◌then◌else◌, nat_lt, Option, Some, None}
+use Rattle.std.specs.Prelude.{if◌then◌else◌, nat_lt}
 use Rattle.std.proofs.lemmas.Bool.{true≢false}
+use Rattle.std.proofs.lemmas.List.{append-nil, append_assoc}
 use Rattle.halide_pipeline.specs.Pixel.{Planes}
 use Rattle.halide_pipeline.specs.Words as word
 use Rattle.loop_ir.specs.declared.expressions.Counter.{Counter}
@@ -15,21 +16,17 @@ use Rattle.task_code_registers.specs.declared.scopes.Held.{Held}
 use Rattle.task_code_registers.specs.Holding.{IsAt}
 use Rattle.task_code_registers.specs.Scopes.{form_value}
 use Rattle.task_code_registers.specs.Strides.{has_counter, strides}
-use Rattle.task_code_registers.proofs.Knowing.{others-are}
 use Rattle.task_code_registers.proofs.Striding.{linear-steady}
 use Rattle.task_code_loops.specs.declared.bounds.Bound.{Bound}
 use Rattle.task_code_loops.specs.Bounds.{IsBelow}
 use Rattle.task_code_loops.specs.Guarding.{GuardsWords, stored_if}
+use Rattle.task_code_runs.proofs.Fronts.{cons-of}
 use Rattle.task_code_statements.specs.declared.guards.Guard.{Guard}
 use Rattle.task_code_statements.specs.declared.guards.Parted.{Parted}
-use Rattle.task_code_statements.specs.Vectorizing.{GuardsLack, IsLeft, IsParted, OneMore, StandsBehind, TestFirst, TestToo, WordsBehind, is_passed, passes, passes_if}
+use Rattle.task_code_statements.specs.Vectorizing.{AddsLeft, GuardsLack, IsLeft, IsParted, OneMore, StandsBehind, TestFirst, TestToo, WordsBehind, is_passed, passes}
 use Rattle.task_code_statements.proofs.Following.{did-is}
 use Rattle.task_code_statements.proofs.Same.{form-sum, first-form}
 use Rattle.task_code_statements.proofs.Splitting.{is-below}
-
--- the first of a list and the others
-pub cons-of : {A : Type 0} (l : List A) (first : A) → 1 ≤ length l → first ≡ get_or l 0 first → l ≡ first ∷ take (length l - 1) (drop 1 l)
-cons-of l first some is = others-are l first some ∙ ap (λ x. x ∷ take (length l - 1) (drop 1 l)) (sym is)
 
 -- ---- both of two tests
 
@@ -47,17 +44,12 @@ and-true : (a : Bool) → cond a true false ≡ a
 and-true true = refl
 and-true false = refl
 
-turned : (a b : Bool) → cond a b false ≡ cond b a false
-turned true true = refl
-turned true false = refl
-turned false true = refl
-turned false false = refl
+gathered : (a b c : Bool) → cond (cond a b false) c false ≡ cond b (cond a c false) false
+gathered true b c = refl
+gathered false true c = refl
+gathered false false c = refl
 
 -- ---- lists of tests
-
-pub none-there : {A : Type 0} (l : List A) → length l < 1 → l ≡ []
-none-there [] less = refl
-none-there (first ∷ others) less = absurd (omega (arith, less))
 
 passes-last : (guards : List Guard) (own : Guard) (values : Values)
     → passes (guards ++ (own ∷ [])) values ≡ cond (is_passed own values) (passes guards values) false
@@ -95,43 +87,44 @@ first-lacks counter guards others first is none rest = subst (GuardsLack counter
 
 -- ---- by lanes
 
-pub none-parted : (counter : Counter) (guards : List Guard) (made : Parted) → guards ≡ [] → made.fixed.items ≡ [] → made.lane ≡ None
+pub none-parted : (counter : Counter) (guards : List Guard) (made : Parted) → guards ≡ [] → made.fixed.items ≡ [] → made.hanging.items ≡ []
     → IsParted counter guards made
-none-parted counter guards made is fixed lane = record {
+none-parted counter guards made is fixed hanging = record {
   passes_is = λ values.
-      ap (λ l. passes l values) is ∙ sym (ap (λ l. cond (passes l values) (passes_if made.lane values) false) fixed
-      ∙ ap (λ o. passes_if o values) lane);
+      ap (λ l. passes l values) is ∙ sym (ap (λ l. cond (passes l values) (passes made.hanging.items values) false) fixed
+      ∙ ap (λ l. passes l values) hanging);
   lack = none-lack counter made.fixed.items fixed;
 }
 
 module _ (counter : Counter) (guards others : List Guard) (first own : Guard) (rest made : Parted) (is : guards ≡ first ∷ others) (eo : own ≡ first)
     (parted : IsParted counter others rest) where
   first-and : (values : Values)
-      → passes guards values ≡ cond (is_passed own values) (cond (passes rest.fixed.items values) (passes_if rest.lane values) false) false
+      → passes guards values ≡ cond (is_passed own values) (cond (passes rest.fixed.items values) (passes rest.hanging.items values) false) false
   first-and values =
       ap (λ l. passes l values) is ∙ ap (λ t. cond (is_passed first values) t false) (parted.passes_is values)
-      ∙ ap (λ g. cond (is_passed g values) (cond (passes rest.fixed.items values) (passes_if rest.lane values) false) false) (sym eo)
+      ∙ ap (λ g. cond (is_passed g values) (cond (passes rest.fixed.items values) (passes rest.hanging.items values) false) false) (sym eo)
 
   -- the test hangs on lanes
-  pub lane-parted : made.fixed.items ≡ rest.fixed.items → rest.lane ≡ None → made.lane ≡ Some own → IsParted counter guards made
-  lane-parted fixed none lane = record {
+  pub lane-parted : made.fixed.items ≡ rest.fixed.items → OneMore rest.hanging.items own made.hanging.items → IsParted counter guards made
+  lane-parted fixed more = record {
     passes_is = λ values.
+        let a = is_passed own values in
         let b = passes rest.fixed.items values in
-        first-and values ∙ ap (λ o. cond (is_passed own values) (cond b (passes_if o values) false) false) none
-        ∙ ap (λ t. cond (is_passed own values) t false) (and-true b) ∙ turned (is_passed own values) b
-        ∙ sym (ap (λ l. cond (passes l values) (passes_if made.lane values) false) fixed ∙ ap (λ o. cond b (passes_if o values) false) lane);
+        first-and values ∙ swapped a b (passes rest.hanging.items values)
+        ∙ sym (ap (λ l. cond (passes l values) (passes made.hanging.items values) false) fixed ∙ ap (λ t. cond b t false) (more values));
     lack = subst (GuardsLack counter) (sym fixed) parted.lack;
   }
 
   -- or not
-  pub fixed-parted : has_counter counter first.sum.terms ≡ false → OneMore rest.fixed.items own made.fixed.items → made.lane ≡ rest.lane
-      → IsParted counter guards made
-  fixed-parted none more lane = record {
+  pub fixed-parted : has_counter counter first.sum.terms ≡ false → OneMore rest.fixed.items own made.fixed.items
+      → made.hanging.items ≡ rest.hanging.items → IsParted counter guards made
+  fixed-parted none more hanging = record {
     passes_is = λ values.
         let a = is_passed own values in
         let b = passes rest.fixed.items values in
-        first-and values ∙ regrouped a b (passes_if rest.lane values)
-        ∙ sym (ap (λ t. cond t (passes_if made.lane values) false) (more values) ∙ ap (λ o. cond (cond a b false) (passes_if o values) false) lane);
+        first-and values ∙ regrouped a b (passes rest.hanging.items values)
+        ∙ sym (ap (λ t. cond t (passes made.hanging.items values) false) (more values)
+        ∙ ap (λ l. cond (cond a b false) (passes l values) false) hanging);
     lack = λ values v.
         more (with counter v values)
         ∙ ap (λ t. cond t (passes rest.fixed.items (with counter v values)) false)
@@ -144,40 +137,49 @@ module _ (counter : Counter) (guards others : List Guard) (first own : Guard) (r
 pub left-is-of : (bounds : List Bound) (counter : Counter) (guard : Guard) (left extent : Linear) (start : Form) (stride : ℕ)
     → ((values : Values) → linear_value values extent ≡ guard.extent)
     → ((values : Values) → linear_value values left ≡ word.subtract (linear_value values extent) (linear_value values guard.sum))
-    → stride ≡ strides counter guard.sum.terms % 2 ^ 32 → stride ≡ 1 → guard.extent ≤ 2 ^ 31
-    → IsAt counter 0 (record { sum = guard.sum; per_hart = 0 }) start → IsBelow bounds start (2 ^ 31) → IsLeft bounds counter guard left
+    → stride ≡ strides counter guard.sum.terms % 2 ^ 32 → stride ≡ 1 → guard.extent ≤ 2147483647
+    → IsAt counter 0 (record { sum = guard.sum; per_hart = 0 }) start → IsBelow bounds start 2147483647 → IsLeft bounds counter guard left
 left-is-of bounds counter guard left extent start stride ex is est one small law below = record {
   value_is = λ values. is values ∙ ap (λ n. word.subtract n (linear_value values guard.sum)) (ex values);
   stride = sym est ∙ one;
-  small = small;
+  small = omega (arith, small);
   begins = λ values are.
       subst (λ n. n < 2 ^ 31)
       (law.value 0 0 values ∙ form-sum 0 (with counter 0 values) guard.sum)
-      (below 0 (with counter 0 values) are);
+      (let less = below 0 (with counter 0 values) are in omega (arith, less));
 }
+
+pub left-none : (bounds : List Bound) (counter : Counter) (guards : List Guard) (left : List Linear) → guards ≡ [] → AddsLeft bounds counter guards left left
+left-none bounds counter guards left is = subst (λ g. AddsLeft bounds counter g left left) (sym is) ([], sym (append-nil left), tt)
+
+pub left-more : (bounds : List Bound) (counter : Counter) (guards others : List Guard) (first : Guard) (own : Linear) (old pushed new : List Linear)
+    → guards ≡ first ∷ others → IsLeft bounds counter first own → pushed ≡ old ++ (own ∷ []) → AddsLeft bounds counter others pushed new
+    → AddsLeft bounds counter guards old new
+left-more bounds counter guards others first own old pushed new is one ep rest = subst (λ g. AddsLeft bounds counter g old new) (sym is) (
+  own ∷ rest.0,
+  rest.1 ∙ ap (λ l. l ++ rest.0) ep ∙ append_assoc old (own ∷ []) rest.0,
+  (one, rest.2),
+)
 
 -- ---- the first iteration
 
-pub no-lane : (bounds : List Bound) (counter : Counter) (fixed made : List Guard) (lane : Option Guard) → lane ≡ None → made ≡ fixed
-    → TestFirst bounds counter fixed lane made
-no-lane bounds counter fixed made lane none is values are =
-    ap (λ l. passes l (with counter 0 values)) is ∙ sym (and-true (passes fixed (with counter 0 values)))
-    ∙ ap (λ o. cond (passes fixed (with counter 0 values)) (passes_if o (with counter 0 values)) false) (sym none)
+pub first-none : (bounds : List Bound) (counter : Counter) (fixed hanging : List Guard) → hanging ≡ [] → TestFirst bounds counter fixed hanging fixed
+first-none bounds counter fixed hanging is values are =
+    let at = with counter 0 values in
+    sym (and-true (passes fixed at)) ∙ sym (ap (λ l. cond (passes fixed at) (passes l at) false) is)
 
-module _ (bounds : List Bound) (counter : Counter) (fixed made : List Guard) (lane : Option Guard) (own : Guard) (start : Form)
-    (el : lane ≡ Some own) (law : IsAt counter 0 (record { sum = own.sum; per_hart = 0 }) start) where
-  start-is : (values : Values) → form_value 0 (with counter 0 values) start ≡ linear_value (with counter 0 values) own.sum
-  start-is values = law.value 0 0 values ∙ form-sum 0 (with counter 0 values) own.sum
-
-  lane-is : (values : Values) → cond (passes fixed (with counter 0 values)) (passes_if lane (with counter 0 values)) false
-      ≡ cond (passes fixed (with counter 0 values)) (is_passed own (with counter 0 values)) false
-  lane-is values = ap (λ o. cond (passes fixed (with counter 0 values)) (passes_if o (with counter 0 values)) false) el
-
-  pub first-tested : TestToo bounds fixed (record { sum = start.sum; extent = own.extent }) made → TestFirst bounds counter fixed lane made
-  first-tested more values are =
-      let at = with counter 0 values in
-      let same : linear_value at start.sum ≡ linear_value at own.sum = sym (first-form at start) ∙ start-is values in
-      more at are ∙ ap (λ n. cond (nat_lt n own.extent) (passes fixed at) false) same ∙ turned (is_passed own at) (passes fixed at) ∙ sym (lane-is values)
+pub first-more : (bounds : List Bound) (counter : Counter) (fixed made new hanging others : List Guard) (first : Guard) (start : Form)
+    → hanging ≡ first ∷ others → IsAt counter 0 (record { sum = first.sum; per_hart = 0 }) start
+    → TestToo bounds fixed (record { sum = start.sum; extent = first.extent }) made → TestFirst bounds counter made others new
+    → TestFirst bounds counter fixed hanging new
+first-more bounds counter fixed made new hanging others first start is law one rest values are =
+    let at = with counter 0 values in
+    let same : linear_value at start.sum ≡ linear_value at first.sum =
+    sym (first-form at start) ∙ law.value 0 0 values ∙ form-sum 0 at first.sum in
+    rest values are
+    ∙ ap (λ t. cond t (passes others at) false) (one at are ∙ ap (λ n. cond (nat_lt n first.extent) (passes fixed at) false) same)
+    ∙ gathered (is_passed first at) (passes fixed at) (passes others at)
+    ∙ sym (ap (λ l. cond (passes fixed at) (passes l at) false) is)
 
 -- ---- code behind tests
 

@@ -1,5 +1,5 @@
 -- Bodies of vectorized loops as single stores, behind tests or not. This project's own.
-use Rattle.std.specs.Prelude.{◌≡◌, ◌<◌, ◌≤◌, ℕ, ◌%◌, ◌^◌, true, false, Bool, nat_lt, cond, if◌then◌else◌, List, [], ◌∷◌, Option, Some, None}
+use Rattle.std.specs.Prelude.{◌≡◌, ◌<◌, ◌≤◌, ℕ, ◌%◌, ◌^◌, true, false, Bool, nat_lt, cond, if◌then◌else◌, List, [], ◌∷◌, ◌++◌, None}
 use Rattle.rv_insn.specs.declared.instructions.Insn.{Insn}
 use Rattle.halide_pipeline.specs.Pixel.{Planes, Reads}
 use Rattle.halide_pipeline.specs.Points.{Point}
@@ -39,14 +39,10 @@ use Rattle.task_code_statements.specs.Lacking.{StoreLacks}
 abbrev pub is_passed : Guard → Values → Bool
 is_passed guard values = nat_lt (linear_value values guard.sum) guard.extent
 
--- whether all are, and whether one is, where there is one
+-- whether all are
 abbrev pub passes : List Guard → Values → Bool
 passes [] values = true
 passes (guard ∷ others) values = cond (is_passed guard values) (passes others values) false
-
-abbrev pub passes_if : Option Guard → Values → Bool
-passes_if None values = true
-passes_if (Some guard) values = is_passed guard values
 
 -- tests say the same wherever a variable stands
 abbrev pub GuardsLack : Counter → List Guard → Type 0
@@ -77,37 +73,41 @@ pub record IsStoreOf (context : Context) (body : Stmt) (made : Guarded) : Type 0
 
 -- ---- tests of lanes
 
--- Of tests some hang on no lane, and one at most does.
+-- Of tests some hang on no lane, and the others may.
 pub record IsParted (counter : Counter) (guards : List Guard) (made : Parted) : Type 0 where
-  pub passes_is : (values : Values) → passes guards values ≡ cond (passes made.fixed.items values) (passes_if made.lane values) false
+  pub passes_is : (values : Values) → passes guards values ≡ cond (passes made.fixed.items values) (passes made.hanging.items values) false
   pub lack : GuardsLack counter made.fixed.items
 
 -- A sum says how many iterations of a loop pass a test from one on, where the first one does: all before some number.
 pub record IsLeft (bounds : List Bound) (counter : Counter) (guard : Guard) (left : Linear) : Type 0 where
   pub value_is : (values : Values) → linear_value values left ≡ word.subtract guard.extent (linear_value values guard.sum)
   pub stride : strides counter guard.sum.terms % 2 ^ 32 ≡ 1
-  pub small : guard.extent ≤ 2 ^ 31
+  pub small : guard.extent < 2 ^ 31
   pub begins : (values : Values) → AreBelow bounds (with counter 0 values) → linear_value (with counter 0 values) guard.sum < 2 ^ 31
 
--- so it is where there is a test
-abbrev pub IsLeftIf : List Bound → Counter → Option Guard → Option Linear → Type 0
-IsLeftIf bounds counter None None = Unit {0}
-IsLeftIf bounds counter None (Some left) = ⊥
-IsLeftIf bounds counter (Some guard) None = ⊥
-IsLeftIf bounds counter (Some guard) (Some left) = IsLeft bounds counter guard left
+-- so it is of each test
+abbrev pub AreLeft : List Bound → Counter → List Guard → List Linear → Type 0
+AreLeft bounds counter [] [] = Unit {0}
+AreLeft bounds counter [] (own ∷ left) = ⊥
+AreLeft bounds counter (guard ∷ guards) [] = ⊥
+AreLeft bounds counter (guard ∷ guards) (own ∷ left) = IsLeft bounds counter guard own × AreLeft bounds counter guards left
 
--- tests with that of the first iteration
-abbrev pub TestFirst : List Bound → Counter → List Guard → Option Guard → List Guard → Type 0
-TestFirst bounds counter fixed lane made =
+-- such sums behind others
+abbrev pub AddsLeft : List Bound → Counter → List Guard → List Linear → List Linear → Type 0
+AddsLeft bounds counter guards old new = (left : List Linear) × (new ≡ old ++ left) × AreLeft bounds counter guards left
+
+-- tests with those of the first iteration
+abbrev pub TestFirst : List Bound → Counter → List Guard → List Guard → List Guard → Type 0
+TestFirst bounds counter fixed hanging made =
     (values : Values) → AreBelow bounds (with counter 0 values)
-    → passes made (with counter 0 values) ≡ cond (passes fixed (with counter 0 values)) (passes_if lane (with counter 0 values)) false
+    → passes made (with counter 0 values) ≡ cond (passes fixed (with counter 0 values)) (passes hanging (with counter 0 values)) false
 
 -- what of tests is asked in front of a loop: those of its first iteration, and how many iterations pass from there on
 pub record AreTests (bounds : List Bound) (counter : Counter) (guards : List Guard) (made : Tests) : Type 0 where
   pub parts : Parted
   pub parted : IsParted counter guards parts
-  pub left : IsLeftIf bounds counter parts.lane made.left
-  pub first : TestFirst bounds counter parts.fixed.items parts.lane made.fixed.items
+  pub left : AreLeft bounds counter parts.hanging.items made.left.items
+  pub first : TestFirst bounds counter parts.fixed.items parts.hanging.items made.fixed.items
 
 -- ---- runs
 
@@ -117,15 +117,10 @@ pub record AreLanes (scope : List Held) (own : Bound) (lanes : Lanes) : Type 0 w
   pub count_is : own.count ≡ all_lanes lanes
   pub steady : mentions own.counter scope ≡ false
 
--- as many lanes as iterations store
-abbrev pub lane_count : Lanes → Option Linear → Values → ℕ
-lane_count own None values = all_lanes own
-lane_count own (Some left) values = left_lanes own left values
-
 -- Where all tests pass in the first iteration, a body does a run's store in as many iterations; else it stores nothing.
 pub record IsRunOf (context : Context) (lanes : Lanes) (body : Stmt) (made : Run) : Type 0 where
   pub does : (values named : Values) → AreNamed values named → Meets context named → passes made.fixed.items (with lanes.counter 0 named) ≡ true
-      → StoresAs lanes body made.store values named (lane_count lanes made.left named)
+      → StoresAs lanes body made.store values named (left_lanes lanes made.left.items named)
   pub none : (values named : Values) → AreNamed values named → Meets context named → passes made.fixed.items (with lanes.counter 0 named) ≡ false
       → (reads : Reads) (i : ℕ) → i < all_lanes lanes → effect reads body (with lanes.counter i values) ≡ None
 

@@ -1,9 +1,9 @@
 //! Tests that a vectorized loop's store stands behind: those that hang on no lane pass for all lanes or for none, and
-//! one at most passes for the first lanes alone.
+//! the others for the first lanes alone.
 
-ghost use Rattle.std.specs.Prelude.{◌≡◌, IfOk, None, OnOk, true};
+ghost use Rattle.std.specs.Prelude.{◌≡◌, IfOk, OnOk, true, [], ◌∷◌, ◌++◌};
 ghost use Rattle.task_code_registers.specs.Holding.{IsAt};
-ghost use Rattle.task_code_statements.specs.Vectorizing.{AreTests, GuardsLack, IsLeft, IsLeftIf, IsParted, OneMore};
+ghost use Rattle.task_code_statements.specs.Vectorizing.{AddsLeft, AreTests, GuardsLack, IsLeft, IsParted, OneMore};
 ghost use Rattle.task_code_statements.specs.Vectorizing.{TestFirst, TestToo, WordsBehind};
 
 use crate::contexts::has_term;
@@ -15,8 +15,8 @@ use task_code_registers::holding::{at_value, stride_of};
 use task_code_registers::scopes::{Form, Held};
 use task_code_scalar::{CodeFault, append};
 
-/// The largest extent for which no sum of a run turns over 2^32.
-const MOST_EXTENT: u32 = 1 << 31;
+/// The largest extent that leaves no negative number. No sum that begins below it turns over 2^32 in a run.
+const MOST_EXTENT: u32 = (1 << 31) - 1;
 
 /// A sum that has to be below an extent.
 #[derive(Debug, Drop)]
@@ -25,11 +25,11 @@ pub struct Guard {
     pub extent: u32,
 }
 
-/// Tests that hang on no lane, and the one that does, if there is one.
+/// Tests that hang on no lane, and those that do.
 #[derive(Debug, Drop)]
 struct Parted {
     pub fixed: Vec<Guard>,
-    pub lane: Option<Guard>,
+    pub hanging: Vec<Guard>,
 }
 
 /// Whether no test's sum has a term of a loop variable.
@@ -78,33 +78,24 @@ pub fn add_test(
 }
 
 /// Tests by whether they hang on a loop's lanes.
-///
-/// # Errors
-///
-/// Memory ran out, or more than one does.
-fn by_lanes(alloc: Global, guards: &[Guard], counter: Counter) -> Result<Parted, CodeFault>
+fn by_lanes(alloc: Global, guards: &[Guard], counter: Counter) -> Result<Parted, AllocError>
     ensures { IfOk result (IsParted counter guards.now) }
 {
     match guards {
         [] => Ok(Parted {
             fixed: Vec::new(alloc),
-            lane: None,
+            hanging: Vec::new(alloc),
         }),
         [first, others @ ..] => {
-            let Parted { fixed, lane } = by_lanes(alloc, others, counter)?;
+            let Parted { fixed, hanging } = by_lanes(alloc, others, counter)?;
             let sum = first.sum.copy(alloc)?;
             let extent = first.extent;
             if has_term(first.sum.terms.as_slice(), counter) {
-                return match lane {
-                    None => Ok(Parted {
-                        fixed,
-                        lane: Some(Guard { sum, extent }),
-                    }),
-                    Some(_) => Err(CodeFault::TooDeep),
-                };
+                let hanging = with_guard(hanging, sum, extent)?;
+                return Ok(Parted { fixed, hanging });
             }
             let fixed = with_guard(fixed, sum, extent)?;
-            Ok(Parted { fixed, lane })
+            Ok(Parted { fixed, hanging })
         }
     }
 }
@@ -141,56 +132,69 @@ fn left_of(
     Ok(left)
 }
 
-/// How many iterations pass a test from one on, where there is one and the first one passes.
-fn left_if(
-    alloc: Global,
-    bounds: &[Bound],
-    counter: Counter,
-    guard: &Option<Guard>,
-) -> Result<Option<Linear>, CodeFault>
-    ensures { IfOk result (IsLeftIf bounds.now counter guard.now) }
+/// Adds a sum to others.
+fn push_sum(sums: &mut Vec<Linear>, sum: Linear) -> Result<(), AllocError>
+    ensures { OnOk result (sums.new.items ≡ sums.old.items ++ (sum ∷ [])) }
 {
-    match guard {
-        None => Ok(None),
-        Some(own) => {
-            let left = left_of(alloc, bounds, counter, own)?;
-            Ok(Some(left))
-        }
-    }
+    sums.push(sum)?;
+    Ok(())
 }
 
-/// Adds the test of the first lane to others, unless it is known to pass.
-fn add_first(
+/// Adds how many iterations pass each test from one on, where the first one passes it.
+fn add_left(
     alloc: Global,
     bounds: &[Bound],
     counter: Counter,
-    fixed: &mut Vec<Guard>,
-    lane: &Option<Guard>,
-) -> Result<(), AllocError>
-    ensures { OnOk result (TestFirst bounds.now counter fixed.old.items lane.now fixed.new.items) }
+    left: &mut Vec<Linear>,
+    guards: &[Guard],
+) -> Result<(), CodeFault>
+    ensures { OnOk result (AddsLeft bounds.now counter guards.now left.old.items left.new.items) }
 {
-    match lane {
-        None => Ok(()),
-        Some(own) => {
-            let start = first_of(alloc, counter, own)?;
-            add_test(bounds, fixed, start, own.extent)?;
+    match guards {
+        [] => Ok(()),
+        [first, others @ ..] => {
+            let own = left_of(alloc, bounds, counter, first)?;
+            push_sum(left, own)?;
+            add_left(alloc, bounds, counter, left, others)?;
             Ok(())
         }
     }
 }
 
-/// Tests of a loop's first iteration, and how many iterations pass from there on, where not all do.
+/// Adds the tests of the first lane to others, but those that are known to pass.
+fn add_tests_at_start(
+    alloc: Global,
+    bounds: &[Bound],
+    counter: Counter,
+    fixed: &mut Vec<Guard>,
+    hanging: &[Guard],
+) -> Result<(), AllocError>
+    ensures { OnOk result (TestFirst bounds.now counter fixed.old.items hanging.now fixed.new.items) }
+{
+    match hanging {
+        [] => Ok(()),
+        [first, others @ ..] => {
+            let start = first_of(alloc, counter, first)?;
+            add_test(bounds, fixed, start, first.extent)?;
+            add_tests_at_start(alloc, bounds, counter, fixed, others)?;
+            Ok(())
+        }
+    }
+}
+
+/// Tests of a loop's first iteration, and how many iterations pass from there on, by each test that hangs on lanes.
 #[derive(Drop)]
 pub struct Tests {
     pub fixed: Vec<Guard>,
-    pub left: Option<Linear>,
+    pub left: Vec<Linear>,
 }
 
 /// What of tests is asked in front of a loop.
 ///
 /// # Errors
 ///
-/// Memory ran out, or more than one test hangs on the loop's lanes.
+/// Memory ran out, or the sum of a test that hangs on the loop's lanes doesn't grow by 1 an iteration, or may be so large
+/// that it turns over.
 pub fn tests_of(
     alloc: Global,
     bounds: &[Bound],
@@ -199,9 +203,10 @@ pub fn tests_of(
 ) -> Result<Tests, CodeFault>
     ensures { IfOk result (AreTests bounds.now counter guards.now) }
 {
-    let Parted { mut fixed, lane } = by_lanes(alloc, guards, counter)?;
-    add_first(alloc, bounds, counter, &mut fixed, &lane)?;
-    let left = left_if(alloc, bounds, counter, &lane)?;
+    let Parted { mut fixed, hanging } = by_lanes(alloc, guards, counter)?;
+    add_tests_at_start(alloc, bounds, counter, &mut fixed, hanging.as_slice())?;
+    let mut left = Vec::new(alloc);
+    add_left(alloc, bounds, counter, &mut left, hanging.as_slice())?;
     Ok(Tests { fixed, left })
 }
 

@@ -3,10 +3,8 @@
 ghost use Rattle.std.specs.Prelude.{◌≡◌, IfOk, OnOk, true};
 ghost use Rattle.loop_ir.specs.declared.statements.LoopKind.TheVariants.{Vectorized as vectorized};
 ghost use Rattle.loop_ir.specs.declared.statements.Stmt.TheVariants as stmts;
-ghost use Rattle.task_code_runs.specs.Runs.{EmitsRun};
 ghost use Rattle.task_code_statements.specs.Contexts.{Meets};
 ghost use Rattle.task_code_statements.specs.Statements.{EmitsStatement};
-ghost use Rattle.task_code_statements.specs.Vectorizing as spec;
 ghost use Rattle.task_code_statements.specs.Vectorizing.{AreLanes, GuardedLacks, IsRunOf, IsStoreOf};
 
 use crate::contexts::{Context, in_loop};
@@ -24,7 +22,7 @@ use task_code_lanes::groups::Group;
 use task_code_loops::bounds::Bound;
 use task_code_names::names::store_by_names;
 use task_code_registers::scopes::Held;
-use task_code_runs::runs::{emit_left_run, emit_run};
+use task_code_runs::runs::emit_run;
 use task_code_scalar::CodeFault;
 use task_code_scalar::places::Places;
 
@@ -112,12 +110,12 @@ fn stored_by(alloc: Global, context: &Context, body: &Stmt) -> Result<Guarded, C
     }
 }
 
-/// A store that the first iterations of a loop do behind tests, and how many, where not all do.
+/// A store that the first iterations of a loop do behind tests, and what says how many.
 #[derive(Debug)]
 pub struct Run {
     pub store: Store,
     pub fixed: Vec<Guard>,
-    pub left: Option<Linear>,
+    pub left: Vec<Linear>,
 }
 
 impl Drop for Run {
@@ -171,36 +169,12 @@ fn lanes_for(scope: &[Held], own: Bound) -> Result<Lanes, CodeFault>
     }
 }
 
-/// Appends the code of a run.
-fn emit_counted(
-    alloc: Global,
-    code: &mut Vec<u32>,
-    places: &Places,
-    scope: &[Held],
-    lanes: Lanes,
-    run: &Run,
-) -> Result<(), CodeFault>
-    ensures { OnOk result (EmitsRun code.old.items code.new.items places.now scope.now lanes
-        (spec.lane_count lanes run.now.left) run.now.store) }
-{
-    match &run.left {
-        None => {
-            emit_run(alloc, code, places, scope, lanes, &run.store)?;
-            Ok(())
-        }
-        Some(left) => {
-            emit_left_run(alloc, code, places, scope, lanes, left, &run.store)?;
-            Ok(())
-        }
-    }
-}
-
 /// Appends a vectorized loop.
 ///
 /// # Errors
 ///
-/// Memory ran out, the body is no single store, more than one of its tests hang on the lane, or groups and registers do
-/// not suffice for this way of making code.
+/// Memory ran out, the body is no single store, the sum of a test doesn't grow by 1 an iteration or may turn over, or
+/// groups and registers do not suffice for this way of making code.
 pub fn emit_vectorized(
     alloc: Global,
     code: &mut Vec<u32>,
@@ -216,7 +190,8 @@ pub fn emit_vectorized(
     let lanes = lanes_for(scope, own)?;
     let found = run_of_body(alloc, context, lanes, body)?;
     let mut words = Vec::new(alloc);
-    emit_counted(alloc, &mut words, places, scope, lanes, &found)?;
+    let left = found.left.as_slice();
+    emit_run(alloc, &mut words, places, scope, lanes, left, &found.store)?;
     emit_behind(alloc, code, scope, found.fixed.as_slice(), words.as_slice())?;
     Ok(())
 }

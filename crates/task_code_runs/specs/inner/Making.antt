@@ -3,6 +3,7 @@ use Rattle.std.specs.Prelude.{◌≡◌, ◌≢◌, ◌<◌, ◌≤◌, ℕ, ◌
 use Rattle.rv_insn.specs.declared.instructions.Insn.{Insn}
 use Rattle.halide_pipeline.specs.Pixel.{Planes}
 use Rattle.loop_ir.specs.declared.expressions.Counter.{Counter}
+use Rattle.loop_ir.specs.declared.expressions.Linear.{Linear}
 use Rattle.loop_ir.specs.declared.statements.Stmt.{Stmt}
 use Rattle.loop_ir.specs.declared.statements.Store.{Store}
 use Rattle.loop_ir.specs.Counters.{Values, with}
@@ -15,14 +16,14 @@ use Rattle.task_code_scalar.specs.Words.{Emits}
 use Rattle.task_code_registers.specs.declared.scopes.Form.{Form}
 use Rattle.task_code_registers.specs.declared.scopes.Held.{Held}
 use Rattle.task_code_registers.specs.Doing.{Did}
-use Rattle.task_code_registers.specs.Registers.{scratch, second_scratch, address_register, may_hold}
+use Rattle.task_code_registers.specs.Registers.{scratch, second_scratch, address_register, first_value, may_hold, IsSource}
 use Rattle.task_code_registers.specs.Scopes.{Knows, AreHolders, IsKept, form_value}
 use Rattle.task_code_lanes.specs.declared.groups.Group.{Group}
 use Rattle.task_code_lanes.specs.declared.groups.Group.TheVariants as groups
 use Rattle.task_code_lanes.specs.Leaving.{HasLanes}
 use Rattle.task_code_lane_values.specs.declared.vectorized.Lanes.{Lanes}
 use Rattle.task_code_runs.specs.AtOnce.{MayRun}
-use Rattle.task_code_runs.specs.Runs.{StoresAs, run_of}
+use Rattle.task_code_runs.specs.Runs.{StoresAs, least_left, run_of}
 
 abbrev pub group_lanes : Group → ℕ
 group_lanes groups.One = 4
@@ -36,7 +37,7 @@ are_registers (own ∷ others) = may_hold own.register && are_registers others
 
 -- ---- how many lanes
 
--- straight code that configures so many lanes; of registers the scratch registers and that of addresses may change
+-- straight code that configures so many lanes; registers that the scope doesn't keep may change
 pub record Configured (world : World) (memory : List ℕ) (insns : List Insn) (scope : List Held) (f : ℕ → ℕ) (group : Group) (count : ℕ) : Type 0 where
   pub after : ℕ → ℕ
   pub line : Line world insns f memory after memory
@@ -64,9 +65,25 @@ pub record MakesPointer (old new : List ℕ) (scope : List Held) (counter : Coun
   pub insns : List Insn
   pub emits : Emits old new insns
   pub some : 1 ≤ b
-  pub low : b < 32
+  pub source : IsSource b
   pub does : (world : World) (memory : List ℕ) (hart : ℕ) (values : Values) (f : ℕ → ℕ) → length memory ≡ world.size → AreHolders scope
       → Knows hart scope (with counter 0 values) f → Points world memory insns f b (form_value hart (with counter 0 values) form)
+
+-- ---- the least of sums
+
+-- straight code that leaves v where values are made; that register, the scratch registers and that of addresses may change
+pub record Least (world : World) (memory : List ℕ) (insns : List Insn) (f : ℕ → ℕ) (v : ℕ) : Type 0 where
+  pub after : ℕ → ℕ
+  pub line : Line world insns f memory after memory
+  pub value : after first_value ≡ v
+  pub others : (q : ℕ) → q ≢ first_value → q ≢ address_register → q ≢ scratch → q ≢ second_scratch → after q ≡ f q
+
+-- appended code leaves the least of sums in the first iteration there
+pub record MakesLeast (old new : List ℕ) (scope : List Held) (counter : Counter) (first : Linear) (others : List Linear) : Type 0 where
+  pub insns : List Insn
+  pub emits : Emits old new insns
+  pub does : (world : World) (memory : List ℕ) (values : Values) (f : ℕ → ℕ) → length memory ≡ world.size → AreHolders scope
+      → Knows world.hart scope (with counter 0 values) f → Least world memory insns f (least_left counter first others values)
 
 -- ---- values and a store
 

@@ -1,8 +1,8 @@
-use Rattle.task_code_runs.specs.Runs.{all_lanes}
+use Rattle.task_code_runs.specs.Runs.{left_lanes}
 use Rattle.task_code_runs.proofs.Running.{run-emitted}
 use Rattle.task_code_runs.proofs.runs.emit_run.Goals as goal
 
 pub returns : goal.returns
 returns c =
-    run-emitted c.args.places.now c.args.scope.now c.args.own (λ values. all_lanes c.args.own) c.args.store.now _ _ _ c.in_ok-emit_all_lanes.ensures
-    c.in_ok-emit_stored.ensures
+    run-emitted c.args.places.now c.args.scope.now c.args.own (left_lanes c.args.own c.args.left.now) c.args.store.now _ _ _
+    c.in_ok-emit_left_lanes.ensures c.in_ok-emit_stored.ensures

@@ -1,7 +1,8 @@
 use Rattle.std.proofs.Common.{◌∙◌, ap, sym, refl}
 use Rattle.task_code_registers.specs.Strides.{has_counter}
 use Rattle.task_code_statements.specs.declared.guards.Guard.{Guard}
-use Rattle.task_code_statements.proofs.Guarding.{cons-of, fixed-parted}
+use Rattle.task_code_runs.proofs.Fronts.{cons-of}
+use Rattle.task_code_statements.proofs.Guarding.{fixed-parted}
 use Rattle.task_code_statements.proofs.guards.+by_lanes.Goals as goal
 
 pub returns-in_ok-fixed-in-len1-up-2 : goal.returns-in_ok-fixed-in-len1-up-2

@@ -1,4 +1,5 @@
-use Rattle.task_code_statements.proofs.Guarding.{behind-more, behind-none, none-there}
+use Rattle.task_code_runs.proofs.Fronts.{none-there}
+use Rattle.task_code_statements.proofs.Guarding.{behind-more, behind-none}
 use Rattle.task_code_statements.proofs.guards.+emit_behind.Goals as goal
 
 pub returns-in_ok-append-in-empty : goal.returns-in_ok-append-in-empty
