@@ -1,6 +1,7 @@
 mod Telling
 pub mod Compilations
 pub mod Drawings
+pub mod ImageFronts
 pub mod LastTold
 pub mod MarkRows
 pub mod Numbers

@@ -43,7 +43,7 @@ pub record IsTalk (lines_ended : Type 0) (inputs : (List ℕ × List ℕ) × Lis
 
 -- ---- talks that broke off
 
--- The files gave all that they had, and what the sink took begins the talk on the bytes that the lines gave.
+-- The files gave their bytes, and what the sink took begins the talk on the bytes that the lines gave.
 pub record BeganTalk (files_gave : List ℕ × List ℕ → Type 0) (lines_gave : List ℕ → Type 0) (lines_ended : Type 0) (took : List ℕ → Type 0) : Type 0 where
   pub files : List ℕ × List ℕ
   pub session : SessionState
@@ -51,7 +51,7 @@ pub record BeganTalk (files_gave : List ℕ × List ℕ → Type 0) (lines_gave 
   pub opens : session_of files.0 files.1 ≡ Ok session
   pub begun : BrokenTalk session lines_gave lines_ended took
 
--- The files gave all that they had, and the talk waits for more lines: those that ended are answered, and none ended the talk.
+-- The files gave their bytes, and the talk waits for more lines: those that ended are answered, and none ended the talk.
 pub record AwaitsLines (files_gave : List ℕ × List ℕ → Type 0) (lines_gave took : List ℕ → Type 0) : Type 0 where
   pub files : List ℕ × List ℕ
   pub session : SessionState

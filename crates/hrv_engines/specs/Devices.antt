@@ -1,13 +1,16 @@
 -- What a call did with its devices, where what they give and take is a fact of their states and bytes.
 -- This project's own.
-use Rattle.std.specs.Prelude.{◌≡◌, ◌⊎◌, ℕ, ◌<◌, List, length, slice_get, Some}
+use Rattle.std.specs.Prelude.{◌≡◌, ◌⊎◌, ℕ, ◌+◌, ◌*◌, ◌<◌, List, length, slice_get, Some}
 use Rattle.std.specs.Str.{IsUtf8}
+use Rattle.memory.specs.Addresses.{most_bytes, most_words}
+use Rattle.loader.specs.Spelling.{header_length}
+use Rattle.loader.specs.declared.formats.Format.TheVariants.{Hrv2}
 
 -- what a call did with sources
 pub record Sources (I : Type 0) : Type 1 where
-  -- they gave these inputs, all that they had
+  -- they gave these inputs, all that they had, or of an image more than any has
   pub gave : I → Type 0
-  -- one with this path failed, and those before it gave all that they had
+  -- one with this path failed, and those before it gave their inputs
   pub failed : List ℕ → Type 0
   -- none failed
   pub well : Type 0
@@ -34,6 +37,26 @@ bytes_of place failures gave ended before after = record {
   well = failures after ≡ failures before;
   untouched = after ≡ before;
 }
+
+-- a source that gave all that it had, or more than so many bytes of it
+abbrev pub front_of : (most : ℕ) {S : Type 0} (place : S → List ℕ) (failures : S → ℕ) (gave : S → List ℕ → S → Type 0) (ended : S → Type 0) (before after : S)
+    → Sources (List ℕ)
+front_of most place failures gave ended before after = record {
+  gave = λ bytes. gave before bytes after × (ended after ⊎ most < length bytes);
+  failed = λ path. (path ≡ place before) × (failures before < failures after);
+  well = failures after ≡ failures before;
+  untouched = after ≡ before;
+}
+
+-- an image that loads has at most so many bytes
+abbrev pub most_image_bytes : ℕ
+most_image_bytes = header_length Hrv2 + 4 * most_words + most_bytes
+
+-- A source of an image, which needn't be read further than it takes to refuse it: the law `long_images_are_refused_by_their_front` says that more
+-- bytes than an image has are no image, and that whatever stands behind them, the fault is the same.
+abbrev pub image_bytes_of : {S : Type 0} (place : S → List ℕ) (failures : S → ℕ) (gave : S → List ℕ → S → Type 0) (ended : S → Type 0) (before after : S)
+    → Sources (List ℕ)
+image_bytes_of = front_of most_image_bytes
 
 -- a source that isn't read to its end
 abbrev pub pieces_of : {S : Type 0} (place : S → List ℕ) (failures : S → ℕ) (gave : S → List ℕ → S → Type 0) (before after : S) → Sources (List ℕ)
@@ -93,7 +116,7 @@ texts_of place failures gave ended before after = record {
   untouched = after ≡ before;
 }
 
--- sources that are read one after the other: the second ones are untouched unless the first ones gave all that they had
+-- sources that are read one after the other: the second ones are untouched unless the first ones gave their inputs
 abbrev pub both : {I J : Type 0} → Sources I → Sources J → Sources (I × J)
 both {I} first second = record {
   gave = λ inputs. first.gave inputs.0 × second.gave inputs.1;

@@ -5,10 +5,11 @@
 
 ghost use Rattle.std.specs.Prelude.{◌≡◌, ℕ, ◌+◌, ◌<◌, ◌≤◌, ◌^◌, List, [], ◌++◌, length, take, OnOk, OnErr, IfOk};
 ghost use Rattle.std.specs.String.{string_bytes};
-ghost use Rattle.hrv_engines.specs.Devices.{bytes_of, sink_of, text_of};
+ghost use Rattle.hrv_engines.specs.Devices.{bytes_of, front_of, image_bytes_of, most_image_bytes, sink_of, text_of};
 ghost use Rattle.hrv_engines.specs.Engine.{Reads, Writes, WritesEach};
 
 use crate::faults::Fault;
+use memory::{MOST_BYTES, MOST_WORDS};
 use std::alloc::Global;
 use std::io;
 
@@ -99,16 +100,19 @@ pub trait Sink {
     ghost took_more: { (s t u : Self) (xs ys : List ℕ) → took s xs t → took t ys u → took s (xs ++ ys) u };
 }
 
-/// Reads all that a source has left. What was read stands in memory once.
-pub fn read_all<S: Source>(alloc: Global, source: &mut S) -> Result<Vec<u8>, Fault>
+/// Reads what a source has left, or more than so many bytes of it, but no more than one more piece. What was read
+/// stands in memory once.
+fn read_past<S: Source>(alloc: Global, source: &mut S, most: usize) -> Result<Vec<u8>, Fault>
     requires { S.failed source.old + 1 < 2 ^ 64 }
-    ensures { Reads (λ bytes. bytes.items) (bytes_of S.place S.failed S.gave S.ended source.old source.new) result }
+    ensures reads { Reads (λ bytes. bytes.items)
+        (front_of most S.place S.failed S.gave S.ended source.old source.new) result }
+    ensures few { IfOk result (λ bytes. length bytes.items ≤ most + 65536) }
 {
     // Made before the first read, so that a read that fails needs no memory.
     let path = String::from_str(alloc, source.path())?;
     let mut all = Vec::new(alloc);
     let mut buffer = [0; CHUNK];
-    loop {
+    while all.len() <= most {
         let Ok(count) = source.read(&mut buffer) else {
             return Err(Fault::File(path));
         };
@@ -117,6 +121,26 @@ pub fn read_all<S: Source>(alloc: Global, source: &mut S) -> Result<Vec<u8>, Fau
         }
         all.extend_from_slice(&buffer[..count])?;
     }
+    Ok(all)
+}
+
+/// Reads all that a source has left.
+pub fn read_all<S: Source>(alloc: Global, source: &mut S) -> Result<Vec<u8>, Fault>
+    requires { S.failed source.old + 1 < 2 ^ 64 }
+    ensures { Reads (λ bytes. bytes.items) (bytes_of S.place S.failed S.gave S.ended source.old source.new) result }
+{
+    read_past(alloc, source, usize::MAX)
+}
+
+/// Reads all that a source has left, or more of it than any image has, which is enough to refuse it, but no more than
+/// one more piece.
+pub fn read_image_bytes<S: Source>(alloc: Global, source: &mut S) -> Result<Vec<u8>, Fault>
+    requires { S.failed source.old + 1 < 2 ^ 64 }
+    ensures reads { Reads (λ bytes. bytes.items)
+        (image_bytes_of S.place S.failed S.gave S.ended source.old source.new) result }
+    ensures few { IfOk result (λ bytes. length bytes.items ≤ most_image_bytes + 65536) }
+{
+    read_past(alloc, source, MOST_IMAGE_BYTES)
 }
 
 /// Reads all that a source has left, as a text.
@@ -134,6 +158,9 @@ pub fn read_text<S: Source>(alloc: Global, source: &mut S) -> Result<String, Fau
 
 /// How many bytes are read at a time.
 pub const CHUNK: usize = 65_536;
+
+/// How many bytes an image that loads has at most: those of the longer header, of all words and of all data.
+pub const MOST_IMAGE_BYTES: usize = 36 + 4 * MOST_WORDS + MOST_BYTES;
 
 /// Writes all the bytes, and makes them whole.
 pub fn write_all<S: Sink>(alloc: Global, sink: &mut S, bytes: &[u8]) -> Result<(), Fault>

@@ -1,11 +1,11 @@
 //! Listing the words of an image.
 
 ghost use Rattle.std.specs.Prelude.{◌+◌, ◌<◌, ◌^◌};
-ghost use Rattle.hrv_engines.specs.Devices.{bytes_of, sink_of};
+ghost use Rattle.hrv_engines.specs.Devices.{image_bytes_of, sink_of};
 ghost use Rattle.hrv_engines.specs.Dis.{IsAddressedListing, IsListing, IsRefusedImage};
 ghost use Rattle.hrv_engines.specs.Engine.{Judges, Performs};
 
-use crate::devices::{Sink, Source, read_all, write_all};
+use crate::devices::{Sink, Source, read_image_bytes, write_all};
 use crate::faults::Fault;
 use disassembler::{write_addressed_lines, write_lines};
 use loader::read_image;
@@ -17,10 +17,10 @@ pub fn dis_bytes<I: Source, O: Sink>(alloc: Global, image: &mut I, out: &mut O) 
     requires image { I.failed image.old + 1 < 2 ^ 64 }
     requires out { O.failed out.old + 1 < 2 ^ 64 }
     ensures { Performs IsListing IsRefusedImage
-        (bytes_of I.place I.failed I.gave I.ended image.old image.new)
+        (image_bytes_of I.place I.failed I.gave I.ended image.old image.new)
         (sink_of O.place O.failed O.took out.old out.new) result }
 {
-    let image_bytes = read_all(alloc, image)?;
+    let image_bytes = read_image_bytes(alloc, image)?;
     let lines = listing_of(alloc, image_bytes)?;
     write_all(alloc, out, &lines)
 }
@@ -45,10 +45,10 @@ pub fn dis_addresses_bytes<I: Source, O: Sink>(
     requires image { I.failed image.old + 1 < 2 ^ 64 }
     requires out { O.failed out.old + 1 < 2 ^ 64 }
     ensures { Performs IsAddressedListing IsRefusedImage
-        (bytes_of I.place I.failed I.gave I.ended image.old image.new)
+        (image_bytes_of I.place I.failed I.gave I.ended image.old image.new)
         (sink_of O.place O.failed O.took out.old out.new) result }
 {
-    let image_bytes = read_all(alloc, image)?;
+    let image_bytes = read_image_bytes(alloc, image)?;
     let lines = addressed_listing_of(alloc, image_bytes)?;
     write_all(alloc, out, &lines)
 }

@@ -20,6 +20,7 @@
 //! - [`explain`]: a refusal is explained; [`explain_bytes`], and the version is told; [`version_bytes`].
 //! - [`devices`]: what is read from and written to ([`Source`], [`Sink`]).
 //! - [`faults`]: why an engine gives no answer ([`Fault`]).
+//! - [`laws`]: that a front of more bytes than an image has decides its fault.
 //!
 //! The other modules are theirs alone: what a line of a talk commands and what is answered to it, and the text of a
 //! dump and of its picture.
@@ -38,6 +39,7 @@ pub mod drawing;
 mod dumps;
 pub mod explain;
 pub mod faults;
+pub mod laws;
 pub mod mapping;
 mod pictures;
 pub mod questions;

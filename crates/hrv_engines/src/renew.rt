@@ -1,12 +1,12 @@
 //! Storing an image anew, in the second format.
 
 ghost use Rattle.std.specs.Prelude.{◌+◌, ◌<◌, ◌^◌};
-ghost use Rattle.hrv_engines.specs.Devices.{bytes_of, sink_of};
+ghost use Rattle.hrv_engines.specs.Devices.{image_bytes_of, sink_of};
 ghost use Rattle.hrv_engines.specs.Dis.{IsRefusedImage};
 ghost use Rattle.hrv_engines.specs.Engine.{Judges, Performs};
 ghost use Rattle.hrv_engines.specs.Renew.{IsRenewal};
 
-use crate::devices::{Sink, Source, read_all, write_all};
+use crate::devices::{Sink, Source, read_image_bytes, write_all};
 use crate::faults::Fault;
 use loader::{read_image, store};
 use std::alloc::Global;
@@ -21,10 +21,10 @@ pub fn renew_bytes<I: Source, O: Sink>(
     requires image { I.failed image.old + 1 < 2 ^ 64 }
     requires renewed { O.failed renewed.old + 1 < 2 ^ 64 }
     ensures { Performs IsRenewal IsRefusedImage
-        (bytes_of I.place I.failed I.gave I.ended image.old image.new)
+        (image_bytes_of I.place I.failed I.gave I.ended image.old image.new)
         (sink_of O.place O.failed O.took renewed.old renewed.new) result }
 {
-    let image_bytes = read_all(alloc, image)?;
+    let image_bytes = read_image_bytes(alloc, image)?;
     let renewed_bytes = renewal_of(alloc, image_bytes)?;
     write_all(alloc, renewed, &renewed_bytes)
 }

@@ -3,12 +3,12 @@
 ghost use Rattle.std.specs.Prelude.{◌≡◌, ℕ, ◌+◌, ◌<◌, ◌≤◌, ◌^◌, List, Ok, IfOk, IfErr};
 ghost use Rattle.std.specs.String.{string_bytes};
 ghost use Rattle.loader.specs.Spelling.{image_of};
-ghost use Rattle.hrv_engines.specs.Devices.{both, bytes_of, sink_of};
+ghost use Rattle.hrv_engines.specs.Devices.{both, bytes_of, image_bytes_of, sink_of};
 ghost use Rattle.hrv_engines.specs.Dis.{IsRefusedImage};
 ghost use Rattle.hrv_engines.specs.Replay.{IsRefusedReplay};
 ghost use Rattle.hrv_engines.specs.Run.{IsResumedRun, IsRun, IsRunFrom, IsWant, Runs, Unrun, WritesBoth};
 
-use crate::devices::{Sink, Source, read_all, write_each};
+use crate::devices::{Sink, Source, read_all, read_image_bytes, write_each};
 use crate::dumps::dump;
 use crate::faults::Fault;
 use loader::{Image, read_image};
@@ -35,11 +35,11 @@ pub fn run_bytes<I: Source, L: Sink, O: Sink, R: Threads + Wait + Sync>(
     requires log { L.failed log.old + 1 < 2 ^ 64 }
     requires out { O.failed out.old + 1 < 2 ^ 64 }
     ensures { Runs (IsRun harts limit) IsRefusedImage
-        (bytes_of I.place I.failed I.gave I.ended image.old image.new)
+        (image_bytes_of I.place I.failed I.gave I.ended image.old image.new)
         (sink_of L.place L.failed L.took log.old log.new)
         (sink_of O.place O.failed O.took out.old out.new) result }
 {
-    let image_bytes = read_all(alloc, image)?;
+    let image_bytes = read_image_bytes(alloc, image)?;
     let (log_bytes, text) = run_image(rt, alloc, image_bytes, harts, limit)?;
     write_both(alloc, log, out, &log_bytes, text.as_bytes())
 }
@@ -61,12 +61,12 @@ pub fn resume_bytes<I: Source, P: Source, L: Sink, O: Sink, R: Threads + Wait + 
     requires log { L.failed log.old + 1 < 2 ^ 64 }
     requires out { O.failed out.old + 1 < 2 ^ 64 }
     ensures { Runs (IsResumedRun limit) IsRefusedReplay
-        (both (bytes_of I.place I.failed I.gave I.ended image.old image.new) (bytes_of P.place P.failed P.gave P.ended
-        old.old old.new))
+        (both (image_bytes_of I.place I.failed I.gave I.ended image.old image.new)
+        (bytes_of P.place P.failed P.gave P.ended old.old old.new))
         (sink_of L.place L.failed L.took log.old log.new)
         (sink_of O.place O.failed O.took out.old out.new) result }
 {
-    let image_bytes = read_all(alloc, image)?;
+    let image_bytes = read_image_bytes(alloc, image)?;
     let old_bytes = read_all(alloc, old)?;
     let (log_bytes, text) = resume_image(rt, alloc, image_bytes, old_bytes, limit)?;
     write_both(alloc, log, out, &log_bytes, text.as_bytes())

@@ -1,5 +1,5 @@
 //! Devices in memory, for tests: a [`Tape`] that is read from and a [`Page`] that is written to. Each gives or takes a
-//! few bytes at a time, and fails where a test wants it.
+//! few bytes at a time, and fails where a test wants it. A test reads an image that is too long.
 #![tactic(auto)]
 
 ghost use Rattle.std.specs.Prelude.{◌≡◌, ◌≤◌, ◌<◌, ◌++◌, [], length, IfOk};
@@ -7,6 +7,8 @@ ghost use Rattle.std.specs.Prelude.{◌≡◌, ◌≤◌, ◌<◌, ◌++◌, [],
 use hrv_engines::{Fault, Sink, Source};
 use std::alloc::{AllocError, Global};
 use std::io;
+
+mod long_images;
 
 /// Bytes that are read a few at a time. The read of a number fails, where there is one.
 #[derive(Drop)]
