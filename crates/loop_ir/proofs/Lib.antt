@@ -10,6 +10,7 @@ pub mod Stored
 pub mod Sums
 pub mod Traces
 pub mod Trees
+pub mod Bound
 pub mod Turns
 pub mod Rounds
 pub mod Runs

@@ -1,9 +1,11 @@
 -- What counters stand at.
 -- This project's own.
-use Rattle.std.specs.Prelude.{ℕ, ◌==◌, ◌&&◌, Bool, if◌then◌else◌, List, [], ◌∷◌}
+use Rattle.std.specs.Prelude.{ℕ, ◌==◌, ◌&&◌, Bool, if◌then◌else◌}
 use Rattle.schedule_lines.specs.Loops.{same_id}
 use Rattle.loop_ir.specs.declared.expressions.Counter.{Counter}
-use Rattle.loop_ir.specs.declared.running.Standing.{Standing}
+use Rattle.loop_ir.specs.declared.running.Bindings.{Bindings, fold-Bindings}
+use Rattle.loop_ir.specs.declared.running.Bindings.TheOpen.{Bindings-F}
+use Rattle.loop_ir.specs.declared.running.Bindings.TheOpen as layer
 
 abbrev pub same_counter : Counter → Counter → Bool
 same_counter a b = a.func == b.func && same_id a.id b.id
@@ -20,6 +22,9 @@ abbrev pub with : Counter → ℕ → Values → Values
 with own value values counter = if same_counter counter own then value else values counter
 
 -- the latest stands first
-abbrev pub values_of : List Standing → Values
-values_of [] = no_values
-values_of (latest ∷ others) = with latest.counter latest.value (values_of others)
+abbrev pub values_at : Bindings-F Values → Values
+values_at layer.Empty = no_values
+values_at (layer.Bound counter value outer) = with counter value outer.now
+
+unfoldable pub values_of : Bindings → Values
+values_of bindings = fold-Bindings Values values_at bindings

@@ -4,7 +4,7 @@
 -- This project's own.
 use Rattle.std.specs.Prelude.{◌≡◌, ℕ, zero, suc, nat_lt, Bool, true, ◌&&◌, if◌then◌else◌, List, ◌++◌}
 use Rattle.std.specs.List.{list_all}
-use Rattle.halide_pipeline.specs.Pixel.{Planes, Reads, reads_of}
+use Rattle.halide_pipeline.specs.Pixel.{Reads}
 use Rattle.halide_pipeline.specs.Points.{Point}
 use Rattle.loop_ir.specs.declared.statements.Store.{Store}
 use Rattle.loop_ir.specs.declared.statements.Stmt.{Stmt, fold-Stmt}
@@ -13,7 +13,7 @@ use Rattle.loop_ir.specs.declared.statements.Stmt.TheOpen as layer
 use Rattle.loop_ir.specs.Buffers.{Points}
 use Rattle.loop_ir.specs.Counters.{Values, with}
 use Rattle.loop_ir.specs.Expressions.{value, loads}
-use Rattle.loop_ir.specs.Running.{whole_value, run}
+use Rattle.loop_ir.specs.Running.{whole_value}
 
 -- Each of the turns 0 to n - 1 passes.
 unfoldable pub every : ℕ → (ℕ → Bool) → Bool
@@ -44,14 +44,6 @@ is_sound reads written loaded statement = fold-Stmt (Values → Bool) (is_sound_
 abbrev pub IsSound : (Reads → Type 0) → Points → (Point → Bool) → Stmt → Values → Type 0
 IsSound IsWanted written loaded statement values = (reads : Reads) → IsWanted reads → is_sound reads written loaded statement values ≡ true
 
--- ---- laws
-
--- Two buffers have each point that may be written.
+-- Buffers have each point that may be written.
 abbrev pub Have : Points → Points → Type 0
 Have written points = (func x y : ℕ) → written func x y ≡ true → points func x y ≡ true
-
--- A sound statement does the same whatever buffers say of points that it doesn't write.
-abbrev pub SoundStatementsWriteWhatIsThere : Type 0
-SoundStatementsWriteWhatIsThere = (points other written : Points) (loaded : Point → Bool) (inputs : Planes) → Have written points → Have written other
-    → (statement : Stmt) (values : Values) → ((funcs : Planes) → is_sound (reads_of inputs funcs) written loaded statement values ≡ true)
-    → (funcs : Planes) → run points inputs statement values funcs ≡ run other inputs statement values funcs

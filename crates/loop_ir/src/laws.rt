@@ -4,7 +4,6 @@ ghost use Rattle.loop_ir.specs.AtOnce.{RoundsAtOnceDoWhatTurnsDo};
 ghost use Rattle.loop_ir.specs.Expressions.{SeesValues, ValuesDependOnLoads};
 ghost use Rattle.loop_ir.specs.Rounds.{RoundsTouchWhatIsSound};
 ghost use Rattle.loop_ir.specs.Runs.{OthersStoreInNoRun, RunsMissWhatIsSound};
-ghost use Rattle.loop_ir.specs.Soundness.{SoundStatementsWriteWhatIsThere};
 ghost use Rattle.loop_ir.specs.Stores.{OtherPointsStay, StoredStaysStored, TracesFollowRuns};
 
 /// The value that is seen beside what an expression loads is the expression's.
@@ -15,11 +14,6 @@ pub fn values_are_seen()
 /// Reads that agree at the points that an expression loads give it one value.
 pub fn values_depend_on_loads()
     ensures { ValuesDependOnLoads }
-{}
-
-/// A sound statement does the same whatever is said of points that it doesn't write.
-pub fn sound_statements_write_what_is_there()
-    ensures { SoundStatementsWriteWhatIsThere }
 {}
 
 /// What the test of a stored point takes buffers to hold is what the run leaves.

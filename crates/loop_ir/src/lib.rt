@@ -3,13 +3,14 @@
 //! - [`expressions`]: expressions over the values of loops and what buffers hold (`specs/Expressions.antt`).
 //! - [`statements`]: stores, loops and tests; a phase is a statement that is run once for each of its tasks. How many
 //!   counters stand around a store: `specs/Depths.antt`; how many registers expressions need: `specs/Needs.antt`; how
-//!   many words of code a statement may ask for: `specs/Sizes.antt`.
+//!   many words of code a statement may ask for: `specs/Sizes.antt`. Whether one writes and loads only points that are
+//!   there: `specs/Soundness.antt`; whether the rounds of vectorized loops may be done at once: `specs/Rounds.antt`.
 //! - [`buffers`]: pixels of inputs and Funcs (`specs/Buffers.antt`).
-//! - [`running`]: **what a statement and a phase do to the buffers** (`specs/Running.antt`).
+//! - [`running`]: **what a statement and a phase do to the buffers** (`specs/Running.antt`). Running one takes no
+//!   memory.
 //! - [`linear`]: sums of counters times strides, and what is made of them.
-//! - [`laws`]: what an expression loads decides its value, sound statements only write points that are there
-//!   (`specs/Soundness.antt`), and a point stays where nothing is stored at it (`specs/Stores.antt`). Whether the
-//!   rounds of vectorized loops may be done at once: `specs/Rounds.antt`.
+//! - [`laws`]: what an expression loads decides its value, and a point stays where nothing is stored at it
+//!   (`specs/Stores.antt`).
 #![tactic(auto)]
 
 pub mod buffers;

@@ -1,6 +1,6 @@
 //! What statements do.
 
-ghost use Rattle.std.specs.Prelude.{◌≡◌, ◌%◌, ◌^◌, ◌∷◌, IfOk, OnOk, drop};
+ghost use Rattle.std.specs.Prelude.{◌≡◌, ◌%◌, ◌^◌};
 ghost use Rattle.halide_pipeline.specs.Pixel.{reads_of};
 ghost use Rattle.loop_ir.specs.Buffers.{planes, points_of, put};
 ghost use Rattle.loop_ir.specs.Counters.{values_of};
@@ -11,26 +11,26 @@ use crate::buffers::Buffer;
 use crate::expressions::{Counter, Expr, Linear, Term, same_counter};
 use crate::statements::{Phase, Stmt, Store, Whole};
 use halide_pipeline::{Source, words};
-use std::alloc::{AllocError, Global};
 
-/// A counter and the value that it stands at.
-#[derive(Clone, Copy, Debug, PartialEq, Eq)]
-pub struct Standing {
-    pub counter: Counter,
-    pub value: u32,
+/// Which values counters have, of which the latest stands first. It stands on the call stack, and takes no memory.
+#[derive(Clone, Copy)]
+pub enum Bindings<'a> {
+    Empty,
+    Bound(Counter, u32, &'a Bindings<'a>),
 }
 
-/// The value of a counter among these, of which the latest stands first; 0 where none is it.
-fn standing_of(standings: &[Standing], counter: Counter) -> u32
-    ensures { result ≡ values_of standings.now counter }
+/// The value of a counter; 0 where none is bound to it.
+#[tactic(auto, unfolding(crate::specs::Counters::values_of))]
+fn bound_value(bindings: &Bindings, counter: Counter) -> u32
+    ensures { result ≡ values_of bindings.now counter }
 {
-    match standings {
-        [] => 0,
-        [latest, others @ ..] => {
-            if same_counter(counter, latest.counter) {
-                latest.value
+    match bindings {
+        Bindings::Empty => 0,
+        Bindings::Bound(latest, value, outer) => {
+            if same_counter(counter, *latest) {
+                *value
             } else {
-                standing_of(others, counter)
+                bound_value(outer, counter)
             }
         }
     }
@@ -47,57 +47,57 @@ fn pixel_of(buffers: &[Buffer], place: usize, x: u32, y: u32) -> u32
 }
 
 /// The sum of terms, modulo 2^32.
-fn sum_of(terms: &[Term], standings: &[Standing]) -> u32
-    ensures { result ≡ expression.sum_of (values_of standings.now) terms.now % 2 ^ 32 }
+fn sum_of(terms: &[Term], bindings: &Bindings) -> u32
+    ensures { result ≡ expression.sum_of (values_of bindings.now) terms.now % 2 ^ 32 }
 {
     match terms {
         [] => 0,
         [first, others @ ..] => {
-            let product = words::multiply(standing_of(standings, first.counter), first.stride);
-            words::add(product, sum_of(others, standings))
+            let product = words::multiply(bound_value(bindings, first.counter), first.stride);
+            words::add(product, sum_of(others, bindings))
         }
     }
 }
 
 /// The value of a linear expression.
 #[tactic(auto, unfolding(crate::specs::Expressions::linear_value))]
-fn linear_value(own: &Linear, standings: &[Standing]) -> u32
-    ensures { result ≡ expression.linear_value (values_of standings.now) own.now }
+fn linear_value(own: &Linear, bindings: &Bindings) -> u32
+    ensures { result ≡ expression.linear_value (values_of bindings.now) own.now }
 {
-    words::add(own.number, sum_of(own.terms.as_slice(), standings))
+    words::add(own.number, sum_of(own.terms.as_slice(), bindings))
 }
 
 /// The value of an expression.
 #[tactic(auto, unfolding(crate::specs::Expressions::value))]
-fn evaluate(expr: &Expr, inputs: &[Buffer], funcs: &[Buffer], standings: &[Standing]) -> u32
-    ensures { result ≡ expression.value (reads_of (planes inputs.now) (planes funcs.now)) (values_of standings.now)
+fn evaluate(expr: &Expr, inputs: &[Buffer], funcs: &[Buffer], bindings: &Bindings) -> u32
+    ensures { result ≡ expression.value (reads_of (planes inputs.now) (planes funcs.now)) (values_of bindings.now)
         expr.now }
 {
     match expr {
         Expr::Number(number) => *number,
-        Expr::Linear(own) => linear_value(own, standings),
+        Expr::Linear(own) => linear_value(own, bindings),
         Expr::Binary(operation, a, b) => {
-            let a = evaluate(a.get(), inputs, funcs, standings);
-            operation.apply(a, evaluate(b.get(), inputs, funcs, standings))
+            let a = evaluate(a.get(), inputs, funcs, bindings);
+            operation.apply(a, evaluate(b.get(), inputs, funcs, bindings))
         }
         Expr::Divide(a, divisor) => words::divide(
-            evaluate(a.get(), inputs, funcs, standings),
+            evaluate(a.get(), inputs, funcs, bindings),
             *divisor,
         ),
         Expr::Remainder(a, divisor) => words::remainder(
-            evaluate(a.get(), inputs, funcs, standings),
+            evaluate(a.get(), inputs, funcs, bindings),
             *divisor,
         ),
         Expr::Select(c, a, b) => {
-            if evaluate(c.get(), inputs, funcs, standings) == 0 {
-                evaluate(b.get(), inputs, funcs, standings)
+            if evaluate(c.get(), inputs, funcs, bindings) == 0 {
+                evaluate(b.get(), inputs, funcs, bindings)
             } else {
-                evaluate(a.get(), inputs, funcs, standings)
+                evaluate(a.get(), inputs, funcs, bindings)
             }
         }
         Expr::Load(source, x, y) => {
-            let x = evaluate(x.get(), inputs, funcs, standings);
-            let y = evaluate(y.get(), inputs, funcs, standings);
+            let x = evaluate(x.get(), inputs, funcs, bindings);
+            let y = evaluate(y.get(), inputs, funcs, bindings);
             match source {
                 Source::Input(place) => pixel_of(inputs, *place, x, y),
                 Source::Func(place) => pixel_of(funcs, *place, x, y),
@@ -117,135 +117,82 @@ fn write(buffers: &mut [Buffer], place: usize, x: u32, y: u32, pixel: u32)
 }
 
 /// Makes a store.
-fn execute_store(store: &Store, inputs: &[Buffer], standings: &[Standing], funcs: &mut [Buffer])
+fn execute_store(store: &Store, inputs: &[Buffer], bindings: &Bindings, funcs: &mut [Buffer])
     ensures points { points_of funcs.new ≡ points_of funcs.old }
     ensures after { planes funcs.new
         ≡ spec.stored (points_of funcs.old) (reads_of (planes inputs.now) (planes funcs.old)) store.now
-        (values_of standings.now) (planes funcs.old) }
+        (values_of bindings.now) (planes funcs.old) }
 {
-    let x = evaluate(&store.x, inputs, funcs, standings);
-    let y = evaluate(&store.y, inputs, funcs, standings);
-    let pixel = evaluate(&store.value, inputs, funcs, standings);
+    let x = evaluate(&store.x, inputs, funcs, bindings);
+    let y = evaluate(&store.y, inputs, funcs, bindings);
+    let pixel = evaluate(&store.value, inputs, funcs, bindings);
     write(funcs, store.func, x, y, pixel);
 }
 
 /// The value of a split loop.
-fn whole_value(whole: &Whole, standings: &[Standing]) -> u32
-    ensures { result ≡ spec.whole_value whole.now (values_of standings.now) }
+fn whole_value(whole: &Whole, bindings: &Bindings) -> u32
+    ensures { result ≡ spec.whole_value whole.now (values_of bindings.now) }
 {
-    let begin = words::multiply(standing_of(standings, whole.outer), whole.factor);
+    let begin = words::multiply(bound_value(bindings, whole.outer), whole.factor);
     let begin = match whole.last {
         Some(last) => begin.min(last),
         None => begin,
     };
-    words::add(begin, standing_of(standings, whole.inner))
-}
-
-/// Puts a counter at a value.
-fn enter(standings: &mut Vec<Standing>, counter: Counter, value: u32) -> Result<(), AllocError>
-    ensures { OnOk result (standings.new.items ≡ record { counter = counter; value = value } ∷ standings.old.items) }
-{
-    standings.insert(0, Standing { counter, value })?;
-    Ok(())
-}
-
-/// Forgets the counter that was put at a value last, if there is one.
-fn leave(standings: &mut Vec<Standing>)
-    ensures { standings.new.items ≡ drop 1 standings.old.items }
-{
-    if !standings.is_empty() {
-        let _last = standings.remove(0);
-    }
+    words::add(begin, bound_value(bindings, whole.inner))
 }
 
 /// Runs a statement.
 #[tactic(auto, unfolding(crate::specs::Running::run))]
-fn execute(
-    stmt: &Stmt,
-    inputs: &[Buffer],
-    standings: &mut Vec<Standing>,
-    funcs: &mut [Buffer],
-) -> Result<(), AllocError>
-    ensures standings { OnOk result (standings.new.items ≡ standings.old.items) }
+fn execute(stmt: &Stmt, inputs: &[Buffer], bindings: &Bindings, funcs: &mut [Buffer])
     ensures points { points_of funcs.new ≡ points_of funcs.old }
-    ensures after { OnOk result (planes funcs.new ≡ spec.run (points_of funcs.old) (planes inputs.now) stmt.now
-        (values_of standings.old.items) (planes funcs.old)) }
+    ensures after { planes funcs.new ≡ spec.run (points_of funcs.old) (planes inputs.now) stmt.now (values_of
+        bindings.now) (planes funcs.old) }
 {
     match stmt {
-        Stmt::Store(store) => {
-            execute_store(store, inputs, standings.as_slice(), funcs);
-            Ok(())
-        }
+        Stmt::Store(store) => execute_store(store, inputs, bindings, funcs),
         Stmt::Sequence(first, second) => {
-            execute(first.get(), inputs, standings, funcs)?;
-            execute(second.get(), inputs, standings, funcs)?;
-            Ok(())
+            execute(first.get(), inputs, bindings, funcs);
+            execute(second.get(), inputs, bindings, funcs);
         }
         Stmt::For(counter, count, _, body) => {
             for turn in 0..*count {
-                enter(standings, *counter, turn)?;
-                execute(body.get(), inputs, standings, funcs)?;
-                leave(standings);
+                let inside = Bindings::Bound(*counter, turn, &*bindings);
+                execute(body.get(), inputs, &inside, funcs);
             }
-            Ok(())
         }
         Stmt::Bind(counter, whole, extent, body) => {
-            let value = whole_value(whole, standings.as_slice());
+            let value = whole_value(whole, bindings);
             if value < *extent {
-                enter(standings, *counter, value)?;
-                execute(body.get(), inputs, standings, funcs)?;
-                leave(standings);
+                let inside = Bindings::Bound(*counter, value, &*bindings);
+                execute(body.get(), inputs, &inside, funcs);
             }
-            Ok(())
         }
     }
 }
 
-/// What counters stand at before a task.
-fn task_standings(
-    alloc: Global,
-    counter: Option<Counter>,
-    task: u32,
-) -> Result<Vec<Standing>, AllocError>
-    ensures { IfOk result (λ made. values_of made.items ≡ spec.task_values counter task) }
+/// Runs a task of a phase, which has a number below their count.
+pub fn run_task(phase: &Phase, task: u32, inputs: &[Buffer], funcs: &mut [Buffer])
+    ensures points { points_of funcs.new ≡ points_of funcs.old }
+    ensures after { planes funcs.new ≡ spec.run_task (points_of funcs.old) (planes inputs.now) phase.now task (planes
+        funcs.old) }
 {
-    let mut standings = Vec::new(alloc);
-    if let Some(own) = counter {
-        enter(&mut standings, own, task)?;
+    let outside = Bindings::Empty;
+    match phase.counter {
+        Some(counter) => {
+            let bindings = Bindings::Bound(counter, task, &outside);
+            execute(&phase.body, inputs, &bindings, funcs);
+        }
+        None => execute(&phase.body, inputs, &outside, funcs),
     }
-    Ok(standings)
 }
 
-/// Runs a task of a phase, which has a number below their count. Where memory runs out, a part of it was run.
-pub fn run_task(
-    alloc: Global,
-    phase: &Phase,
-    task: u32,
-    inputs: &[Buffer],
-    funcs: &mut [Buffer],
-) -> Result<(), AllocError>
+/// Runs all tasks of a phase, in rising order.
+pub fn run_phase(phase: &Phase, inputs: &[Buffer], funcs: &mut [Buffer])
     ensures points { points_of funcs.new ≡ points_of funcs.old }
-    ensures after { OnOk result (planes funcs.new ≡ spec.run_task (points_of funcs.old) (planes inputs.now) phase.now
-        task (planes funcs.old)) }
-{
-    let mut standings = task_standings(alloc, phase.counter, task)?;
-    execute(&phase.body, inputs, &mut standings, funcs)?;
-    Ok(())
-}
-
-/// Runs all tasks of a phase, in rising order. Where memory runs out, some of them were run.
-pub fn run_phase(
-    alloc: Global,
-    phase: &Phase,
-    inputs: &[Buffer],
-    funcs: &mut [Buffer],
-) -> Result<(), AllocError>
-    ensures points { points_of funcs.new ≡ points_of funcs.old }
-    ensures after { OnOk result (planes funcs.new ≡ spec.run_phase (points_of funcs.old) (planes inputs.now) phase.now
-        (planes funcs.old)) }
+    ensures after { planes funcs.new ≡ spec.run_phase (points_of funcs.old) (planes inputs.now) phase.now (planes
+        funcs.old) }
 {
     for task in 0..phase.tasks {
-        run_task(alloc, phase, task, inputs, funcs)?;
+        run_task(phase, task, inputs, funcs);
     }
-    Ok(())
 }

@@ -154,7 +154,7 @@ fn do_phase(
     for place in 0..phase.tasks {
         let task = order.task(place, phase.tasks);
         spoil(alloc, boxes, phase, task, funcs)?;
-        run_task(alloc, phase, task, inputs, funcs)?;
+        run_task(phase, task, inputs, funcs);
     }
     Ok(())
 }

@@ -9,7 +9,7 @@ use Rattle.loop_ir.proofs.running.linear_value.Goals as goal
 pub returns : goal.returns
 unfolding linear_value
 returns c =
-    let values = values_of c.args.standings.now in
+    let values = values_of c.args.bindings.now in
     c.add.ensures
     ∙ ap (λ (k : ℕ). word.add c.args.own.now.number k) (c.sum_of.ensures ∙ ap (λ (ts : List Term). sum_of values ts % 2 ^ 32) c.as_slice.ensures)
     ∙ number_more c.args.own.now.number (sum_of values c.args.own.now.terms)
