@@ -8,7 +8,7 @@ ghost use Rattle.bounds.specs.Asks as spec;
 
 use crate::boxes::{NO_LOOPS, SourceBox};
 use bounds_ranges::bases::no_base;
-use bounds_ranges::expressions::{Asked, OwnCalls, Variables, ranged, ranged_update};
+use bounds_ranges::expressions::{Asked, OwnCalls, Scope, Variables, ranged, ranged_update};
 use bounds_ranges::ranges::{Ends, LEAST, Lasts, ORIGIN, Range, fit, literal};
 use halide_pipeline::{Expr, Func, Input, Reduction, Source, Update};
 use std::alloc::AllocError;
@@ -112,18 +112,15 @@ fn ask_left(
 {
     let variables = update_variables(view, update);
     let own = own_calls(place, update);
-    let range = ranged_update(
-        &view.lasts,
+    let scope = Scope {
+        lasts: &view.lasts,
         inputs,
         funcs,
         flags,
-        place,
-        &own,
-        true,
-        &variables,
-        index,
-        asked,
-    )?;
+        count: place,
+        variables: &variables,
+    };
+    let range = ranged_update(&scope, &own, true, index, asked)?;
     Ok(range)
 }
 
@@ -177,18 +174,15 @@ fn ask_right(
 {
     let variables = update_variables(view, update);
     let own = own_calls(place, update);
-    ranged_update(
-        &view.lasts,
+    let scope = Scope {
+        lasts: &view.lasts,
         inputs,
         funcs,
         flags,
-        place + 1,
-        &own,
-        false,
-        &variables,
-        &update.right,
-        asked,
-    )?;
+        count: place + 1,
+        variables: &variables,
+    };
+    ranged_update(&scope, &own, false, &update.right, asked)?;
     Ok(())
 }
 
@@ -279,16 +273,15 @@ pub fn ask_func(
     ensures reads { OnOk result (AreFitReads view.now.lasts asked.new.items) }
 {
     let variables = pure_variables(view);
-    ranged(
-        &view.lasts,
+    let scope = Scope {
+        lasts: &view.lasts,
         inputs,
         funcs,
         flags,
-        place,
-        &variables,
-        &func.pure,
-        asked,
-    )?;
+        count: place,
+        variables: &variables,
+    };
+    ranged(&scope, &func.pure, asked)?;
     ask_updates(
         inputs,
         funcs,

@@ -30,6 +30,19 @@ pub struct Variables {
     pub second_reduction: Range,
 }
 
+/// The scope of an expression: the loops around it, what it may call, and its variables.
+#[derive(Clone, Copy)]
+pub struct Scope<'a> {
+    pub lasts: &'a Lasts,
+    pub inputs: &'a [Input],
+    pub funcs: &'a [Func],
+    /// Which Funcs are inlined.
+    pub flags: &'a [bool],
+    /// How many Funcs may be called, the first ones.
+    pub count: usize,
+    pub variables: &'a Variables,
+}
+
 /// Which calls in an update are of its own Func, and which arguments its left side has in place.
 #[derive(Clone, Copy, Debug)]
 pub struct OwnCalls {
@@ -77,153 +90,54 @@ fn variable(variables: &Variables, variable: Variable) -> Range
     }
 }
 
-/// The range of an expression that calls the first so many Funcs, of which the flagged ones are inlined. The ranges
-/// of the points that it reads are appended, those of an argument of an inlined Func once.
+/// The range of an expression with its inlined Funcs put in place. The ranges of the points that it reads are appended,
+/// those of an argument of an inlined Func once.
 #[cycle(ranged)]
 #[tactic(auto, unfolding(bounds_inlining::specs::Inlining::through, crate::specs::Expressions::ranging))]
-pub fn ranged(
-    lasts: &Lasts,
-    inputs: &[Input],
-    funcs: &[Func],
-    flags: &[bool],
-    count: usize,
-    variables: &Variables,
-    expr: &Expr,
-    asked: &mut Vec<Asked>,
-) -> Result<Range, AllocError>
-    requires variables { spec.AreFit lasts.now variables.now }
-    requires reads { spec.AreFitReads lasts.now asked.old.items }
+pub fn ranged(scope: &Scope<'_>, expr: &Expr, asked: &mut Vec<Asked>) -> Result<Range, AllocError>
+    requires variables { spec.AreFit scope.now.lasts.now scope.now.variables.now }
+    requires reads { spec.AreFitReads scope.now.lasts.now asked.old.items }
     ensures range { IfOk result (λ r. r
-        ≡ (spec.walked lasts.now inputs.now flags.now funcs.now count variables.now expr.now).range) }
+        ≡ (spec.walked scope.now.lasts.now scope.now.inputs.now scope.now.flags.now scope.now.funcs.now
+        scope.now.count scope.now.variables.now expr.now).range) }
     ensures asked { OnOk result (asked.new.items ≡ asked.old.items
-        ++ (spec.walked lasts.now inputs.now flags.now funcs.now count variables.now expr.now).asked) }
-    ensures fits { IfOk result (λ r. IsFit lasts.now r) }
-    ensures reads { OnOk result (spec.AreFitReads lasts.now asked.new.items) }
+        ++ (spec.walked scope.now.lasts.now scope.now.inputs.now scope.now.flags.now scope.now.funcs.now
+        scope.now.count scope.now.variables.now expr.now).asked) }
+    ensures fits { IfOk result (λ r. IsFit scope.now.lasts.now r) }
+    ensures reads { OnOk result (spec.AreFitReads scope.now.lasts.now asked.new.items) }
 {
     match expr {
-        Expr::Number(number) => Ok(literal(lasts, *number)),
-        Expr::Variable(own) => Ok(variable(variables, *own)),
+        Expr::Number(number) => Ok(literal(scope.lasts, *number)),
+        Expr::Variable(own) => Ok(variable(scope.variables, *own)),
         Expr::Binary(operation, a, b) => {
-            let a = ranged(
-                lasts,
-                inputs,
-                funcs,
-                flags,
-                count,
-                variables,
-                a.get(),
-                asked,
-            )?;
-            let b = ranged(
-                lasts,
-                inputs,
-                funcs,
-                flags,
-                count,
-                variables,
-                b.get(),
-                asked,
-            )?;
-            Ok(operated(lasts, *operation, &a, &b))
+            let a = ranged(scope, a.get(), asked)?;
+            let b = ranged(scope, b.get(), asked)?;
+            Ok(operated(scope.lasts, *operation, &a, &b))
         }
         Expr::Divide(a, divisor) => {
-            let a = ranged(
-                lasts,
-                inputs,
-                funcs,
-                flags,
-                count,
-                variables,
-                a.get(),
-                asked,
-            )?;
-            Ok(divided(lasts, &a, *divisor))
+            let a = ranged(scope, a.get(), asked)?;
+            Ok(divided(scope.lasts, &a, *divisor))
         }
         Expr::Remainder(a, divisor) => {
-            ranged(
-                lasts,
-                inputs,
-                funcs,
-                flags,
-                count,
-                variables,
-                a.get(),
-                asked,
-            )?;
-            Ok(remainders(lasts, *divisor))
+            ranged(scope, a.get(), asked)?;
+            Ok(remainders(scope.lasts, *divisor))
         }
         Expr::Select(c, a, b) => {
-            ranged(
-                lasts,
-                inputs,
-                funcs,
-                flags,
-                count,
-                variables,
-                c.get(),
-                asked,
-            )?;
-            let a = ranged(
-                lasts,
-                inputs,
-                funcs,
-                flags,
-                count,
-                variables,
-                a.get(),
-                asked,
-            )?;
-            let b = ranged(
-                lasts,
-                inputs,
-                funcs,
-                flags,
-                count,
-                variables,
-                b.get(),
-                asked,
-            )?;
-            Ok(hull(lasts, &a, &b))
+            ranged(scope, c.get(), asked)?;
+            let a = ranged(scope, a.get(), asked)?;
+            let b = ranged(scope, b.get(), asked)?;
+            Ok(hull(scope.lasts, &a, &b))
         }
         Expr::Call1(source, x) => {
-            let x = ranged(
-                lasts,
-                inputs,
-                funcs,
-                flags,
-                count,
-                variables,
-                x.get(),
-                asked,
-            )?;
-            let y = literal(lasts, 0);
-            let range = answered(lasts, inputs, funcs, flags, count, *source, x, y, asked)?;
+            let x = ranged(scope, x.get(), asked)?;
+            let y = literal(scope.lasts, 0);
+            let range = answered(scope, *source, x, y, asked)?;
             Ok(range)
         }
         Expr::Call2(source, x, y) => {
-            let x = ranged(
-                lasts,
-                inputs,
-                funcs,
-                flags,
-                count,
-                variables,
-                x.get(),
-                asked,
-            )?;
-            let second = ranged(
-                lasts,
-                inputs,
-                funcs,
-                flags,
-                count,
-                variables,
-                y.get(),
-                asked,
-            )?;
-            let range = answered(
-                lasts, inputs, funcs, flags, count, *source, x, second, asked,
-            )?;
+            let x = ranged(scope, x.get(), asked)?;
+            let second = ranged(scope, y.get(), asked)?;
+            let range = answered(scope, *source, x, second, asked)?;
             Ok(range)
         }
     }
@@ -254,46 +168,47 @@ fn ask(
 /// The range of a call, whose indexes have these ranges.
 #[cycle(ranged)]
 fn answered(
-    lasts: &Lasts,
-    inputs: &[Input],
-    funcs: &[Func],
-    flags: &[bool],
-    count: usize,
+    scope: &Scope<'_>,
     source: Source,
     x: Range,
     y: Range,
     asked: &mut Vec<Asked>,
 ) -> Result<Range, AllocError>
-    requires first { IsFit lasts.now x }
-    requires second { IsFit lasts.now y }
-    requires reads { spec.AreFitReads lasts.now asked.old.items }
+    requires first { IsFit scope.now.lasts.now x }
+    requires second { IsFit scope.now.lasts.now y }
+    requires reads { spec.AreFitReads scope.now.lasts.now asked.old.items }
     ensures range { IfOk result (λ r. r
-        ≡ (walking.answer_of lasts.now inputs.now flags.now funcs.now count source x y).range) }
+        ≡ (walking.answer_of scope.now.lasts.now scope.now.inputs.now scope.now.flags.now scope.now.funcs.now
+        scope.now.count source x y).range) }
     ensures asked { OnOk result (asked.new.items ≡ asked.old.items
-        ++ (walking.answer_of lasts.now inputs.now flags.now funcs.now count source x y).asked) }
-    ensures fits { IfOk result (λ r. IsFit lasts.now r) }
-    ensures reads { OnOk result (spec.AreFitReads lasts.now asked.new.items) }
+        ++ (walking.answer_of scope.now.lasts.now scope.now.inputs.now scope.now.flags.now scope.now.funcs.now
+        scope.now.count source x y).asked) }
+    ensures fits { IfOk result (λ r. IsFit scope.now.lasts.now r) }
+    ensures reads { OnOk result (spec.AreFitReads scope.now.lasts.now asked.new.items) }
 {
     let Source::Func(place) = source else {
-        let range = ask(lasts, inputs, source, x, y, asked)?;
+        let range = ask(scope.lasts, scope.inputs, source, x, y, asked)?;
         return Ok(range);
     };
-    match inlined_func(funcs, flags, count, place) {
+    match inlined_func(scope.funcs, scope.flags, scope.count, place) {
         None => {
-            let range = ask(lasts, inputs, source, x, y, asked)?;
+            let range = ask(scope.lasts, scope.inputs, source, x, y, asked)?;
             Ok(range)
         }
         Some(func) => {
-            let zero = literal(lasts, 0);
+            let zero = literal(scope.lasts, 0);
             let variables = Variables {
                 first_argument: x,
                 second_argument: y,
                 first_reduction: zero,
                 second_reduction: zero,
             };
-            let range = ranged(
-                lasts, inputs, funcs, flags, place, &variables, &func.pure, asked,
-            )?;
+            let inside = Scope {
+                count: place,
+                variables: &variables,
+                ..*scope
+            };
+            let range = ranged(&inside, &func.pure, asked)?;
             Ok(range)
         }
     }
@@ -336,173 +251,58 @@ fn is_anywhere(own: &OwnCalls, anywhere: bool, source: Source, in_place: bool) -
 /// that doesn't stand in place.
 #[tactic(auto, unfolding(crate::specs::Expressions::ranged_update, crate::specs::Expressions::ranging))]
 pub fn ranged_update(
-    lasts: &Lasts,
-    inputs: &[Input],
-    funcs: &[Func],
-    flags: &[bool],
-    count: usize,
+    scope: &Scope<'_>,
     own: &OwnCalls,
     anywhere: bool,
-    variables: &Variables,
     expr: &Expr,
     asked: &mut Vec<Asked>,
 ) -> Result<Range, AllocError>
-    requires variables { spec.AreFit lasts.now variables.now }
-    requires reads { spec.AreFitReads lasts.now asked.old.items }
+    requires variables { spec.AreFit scope.now.lasts.now scope.now.variables.now }
+    requires reads { spec.AreFitReads scope.now.lasts.now asked.old.items }
     ensures range { IfOk result (λ r. r
-        ≡ (spec.walked_update lasts.now inputs.now flags.now funcs.now count own.now anywhere variables.now
-        expr.now).range) }
+        ≡ (spec.walked_update scope.now.lasts.now scope.now.inputs.now scope.now.flags.now scope.now.funcs.now
+        scope.now.count own.now anywhere scope.now.variables.now expr.now).range) }
     ensures asked { OnOk result (asked.new.items ≡ asked.old.items
-        ++ (spec.walked_update lasts.now inputs.now flags.now funcs.now count own.now anywhere variables.now
-        expr.now).asked) }
-    ensures fits { IfOk result (λ r. IsFit lasts.now r) }
-    ensures reads { OnOk result (spec.AreFitReads lasts.now asked.new.items) }
+        ++ (spec.walked_update scope.now.lasts.now scope.now.inputs.now scope.now.flags.now scope.now.funcs.now
+        scope.now.count own.now anywhere scope.now.variables.now expr.now).asked) }
+    ensures fits { IfOk result (λ r. IsFit scope.now.lasts.now r) }
+    ensures reads { OnOk result (spec.AreFitReads scope.now.lasts.now asked.new.items) }
 {
     match expr {
-        Expr::Number(number) => Ok(literal(lasts, *number)),
-        Expr::Variable(v) => Ok(update_variable(lasts, variables, anywhere, *v)),
+        Expr::Number(number) => Ok(literal(scope.lasts, *number)),
+        Expr::Variable(v) => Ok(update_variable(scope.lasts, scope.variables, anywhere, *v)),
         Expr::Binary(operation, a, b) => {
-            let a = ranged_update(
-                lasts,
-                inputs,
-                funcs,
-                flags,
-                count,
-                own,
-                anywhere,
-                variables,
-                a.get(),
-                asked,
-            )?;
-            let b = ranged_update(
-                lasts,
-                inputs,
-                funcs,
-                flags,
-                count,
-                own,
-                anywhere,
-                variables,
-                b.get(),
-                asked,
-            )?;
-            Ok(operated(lasts, *operation, &a, &b))
+            let a = ranged_update(scope, own, anywhere, a.get(), asked)?;
+            let b = ranged_update(scope, own, anywhere, b.get(), asked)?;
+            Ok(operated(scope.lasts, *operation, &a, &b))
         }
         Expr::Divide(a, divisor) => {
-            let a = ranged_update(
-                lasts,
-                inputs,
-                funcs,
-                flags,
-                count,
-                own,
-                anywhere,
-                variables,
-                a.get(),
-                asked,
-            )?;
-            Ok(divided(lasts, &a, *divisor))
+            let a = ranged_update(scope, own, anywhere, a.get(), asked)?;
+            Ok(divided(scope.lasts, &a, *divisor))
         }
         Expr::Remainder(a, divisor) => {
-            ranged_update(
-                lasts,
-                inputs,
-                funcs,
-                flags,
-                count,
-                own,
-                anywhere,
-                variables,
-                a.get(),
-                asked,
-            )?;
-            Ok(remainders(lasts, *divisor))
+            ranged_update(scope, own, anywhere, a.get(), asked)?;
+            Ok(remainders(scope.lasts, *divisor))
         }
         Expr::Select(c, a, b) => {
-            ranged_update(
-                lasts,
-                inputs,
-                funcs,
-                flags,
-                count,
-                own,
-                anywhere,
-                variables,
-                c.get(),
-                asked,
-            )?;
-            let a = ranged_update(
-                lasts,
-                inputs,
-                funcs,
-                flags,
-                count,
-                own,
-                anywhere,
-                variables,
-                a.get(),
-                asked,
-            )?;
-            let b = ranged_update(
-                lasts,
-                inputs,
-                funcs,
-                flags,
-                count,
-                own,
-                anywhere,
-                variables,
-                b.get(),
-                asked,
-            )?;
-            Ok(hull(lasts, &a, &b))
+            ranged_update(scope, own, anywhere, c.get(), asked)?;
+            let a = ranged_update(scope, own, anywhere, a.get(), asked)?;
+            let b = ranged_update(scope, own, anywhere, b.get(), asked)?;
+            Ok(hull(scope.lasts, &a, &b))
         }
         Expr::Call1(source, x) => {
             let first = is_anywhere(own, anywhere, *source, own.first_in_place);
-            let x = ranged_update(
-                lasts,
-                inputs,
-                funcs,
-                flags,
-                count,
-                own,
-                first,
-                variables,
-                x.get(),
-                asked,
-            )?;
-            let y = literal(lasts, 0);
-            let range = answered(lasts, inputs, funcs, flags, count, *source, x, y, asked)?;
+            let x = ranged_update(scope, own, first, x.get(), asked)?;
+            let y = literal(scope.lasts, 0);
+            let range = answered(scope, *source, x, y, asked)?;
             Ok(range)
         }
         Expr::Call2(source, x, y) => {
             let first = is_anywhere(own, anywhere, *source, own.first_in_place);
             let second = is_anywhere(own, anywhere, *source, own.second_in_place);
-            let x = ranged_update(
-                lasts,
-                inputs,
-                funcs,
-                flags,
-                count,
-                own,
-                first,
-                variables,
-                x.get(),
-                asked,
-            )?;
-            let y = ranged_update(
-                lasts,
-                inputs,
-                funcs,
-                flags,
-                count,
-                own,
-                second,
-                variables,
-                y.get(),
-                asked,
-            )?;
-            let range = answered(lasts, inputs, funcs, flags, count, *source, x, y, asked)?;
+            let x = ranged_update(scope, own, first, x.get(), asked)?;
+            let y = ranged_update(scope, own, second, y.get(), asked)?;
+            let range = answered(scope, *source, x, y, asked)?;
             Ok(range)
         }
     }
