@@ -5,30 +5,28 @@ use Rattle.std.proofs.lemmas.Bool.{cases_lt, cases_eq, lt-ltb}
 use Rattle.std.proofs.lemmas.Option.{slice_get_past}
 use Rattle.halide_pipeline.specs.declared.definitions.Func.{Func}
 use Rattle.halide_pipeline.specs.declared.expressions.Expr.{Expr}
-use Rattle.halide_pipeline.specs.declared.expressions.Expr.TheOpen.{Expr-F}
 use Rattle.halide_pipeline.specs.declared.expressions.Expr.TheOpen as layer
 use Rattle.halide_pipeline.specs.declared.expressions.Variable.{Variable}
 use Rattle.halide_pipeline.specs.declared.expressions.Variable.TheVariants as variables
 use Rattle.halide_pipeline.specs.Expressions.{uses}
-use Rattle.halide_pipeline.specs.Levels.{Both, left_of, right_of}
 use Rattle.bounds_inlining.specs.declared.counts.CountCall.{CountCall}
 use Rattle.bounds_inlining.specs.declared.counts.Sum.{Sum}
 use Rattle.bounds_inlining.specs.Inlining.{arguments, through, inside, inlined, made_in, made_of, func_in, flagged}
 use Rattle.bounds_inlining.specs.Weights.{counting, dropped}
 use Rattle.bounds_inlining.specs.inner.Summing.{Same, sum_at, count_call, call_of, call_at, counted, SameCall, Counts, made_at}
-use Rattle.bounds_inlining.proofs.Through.{Answers, arguments_related, through_related}
+use Rattle.bounds_inlining.proofs.Through.{Answers, RelatesAllLevels, arguments_related, through_related}
 use Rattle.bounds_inlining.proofs.Steps.{inside_is, inside_past}
 
-levels : (y : Expr-F (Both Same)) → Same (counting.level (left_of Same y)) (counting.level (right_of Same y))
+levels : RelatesAllLevels Same counting counting
 unfolding counting
-levels (layer.Number n) = refl
-levels (layer.Variable v) = refl
-levels (layer.Binary op a b) = omega (arith, a.is, b.is)
-levels (layer.Divide a n) = omega (arith, a.is)
-levels (layer.Remainder a n) = omega (arith, a.is)
-levels (layer.Select c a b) = omega (arith, c.is, a.is, b.is)
-levels (layer.Call1 s a) = omega (arith, a.is)
-levels (layer.Call2 s a b) = omega (arith, a.is, b.is)
+levels (layer.Number n) _ = refl
+levels (layer.Variable v) is = cc
+levels (layer.Binary op a b) _ = omega (arith, a.is, b.is)
+levels (layer.Divide a n) _ = omega (arith, a.is)
+levels (layer.Remainder a n) _ = omega (arith, a.is)
+levels (layer.Select c a b) _ = omega (arith, c.is, a.is, b.is)
+levels (layer.Call1 s a) _ = omega (arith, a.is)
+levels (layer.Call2 s a b) _ = omega (arith, a.is, b.is)
 
 answers_of : (f g : Option (ℕ → Option ℕ → ℕ)) → SameCall f g → Answers Same f g
 answers_of None None same = tt

@@ -8,3 +8,4 @@ pub mod Capping
 pub mod Counting
 pub mod Needing
 pub mod Passing
+pub mod Trees

@@ -1,22 +1,20 @@
 -- A value through inlined Funcs depends on the points seen alone.
 use Rattle.std.proofs.Common.{◌≡◌, ℕ, Option, None, Some, ◌++◌, refl, ◌∙◌}
-use Rattle.halide_pipeline.specs.declared.expressions.Expr.TheOpen.{Expr-F}
 use Rattle.halide_pipeline.specs.Pixel.{Reads, variable, at_point}
-use Rattle.halide_pipeline.specs.Levels.{Both, left_of, right_of}
 use Rattle.halide_pipeline.specs.Points.{Seen, Agree, AgreeAt}
 use Rattle.halide_pipeline.proofs.Seeing.{SameValue, same_at, Matches, matches_at, all_parts}
 use Rattle.bounds_inlining.specs.Inlining.{none, second_of, arguments}
 use Rattle.bounds_inlining.specs.Values.{values, seeing, unread, second_points}
 use Rattle.bounds_inlining.specs.Laws.{RelatesSeconds, RelatesArguments, RelatesCalls, seen_variable, InlinedValuesDependOnReads, SeesInlinedValues}
-use Rattle.bounds_inlining.proofs.Through.{RelatesMade, arguments_related, through_related, made_related, inlined_related}
+use Rattle.bounds_inlining.proofs.Through.{RelatesAllLevels, RelatesMade, arguments_related, through_related, made_related, inlined_related}
 
 module _ (reads other : Reads) where
   abbrev Equals : Seen → ℕ → Type 0
   Equals = SameValue reads (at_point 0 0)
 
-  equal_levels : (y : Expr-F (Both Equals)) → Equals ((seeing reads).level (left_of Equals y)) ((values reads).level (right_of Equals y))
+  equal_levels : RelatesAllLevels Equals (seeing reads) (values reads)
   unfolding seeing values
-  equal_levels y = same_at reads (at_point 0 0) y
+  equal_levels y _ = same_at reads (at_point 0 0) y
 
   equal_arguments : RelatesArguments Equals (seeing reads) (values reads)
   unfolding seeing values
@@ -29,9 +27,9 @@ module _ (reads other : Reads) where
   abbrev Meets : Seen → ℕ → Type 0
   Meets = Matches reads (at_point 0 0) other
 
-  levels : (y : Expr-F (Both Meets)) → Meets ((seeing reads).level (left_of Meets y)) ((values other).level (right_of Meets y))
+  levels : RelatesAllLevels Meets (seeing reads) (values other)
   unfolding seeing values
-  levels y = matches_at reads (at_point 0 0) other y
+  levels y _ = matches_at reads (at_point 0 0) other y
 
   second_value : (y : Option Seen) (u : Option ℕ) → RelatesSeconds Meets y u → Agree reads other (second_points y)
       → second_of (none (values other)) u ≡ (second_of (none (seeing reads)) y).value

@@ -1,5 +1,5 @@
 -- What two algebras make of an expression through inlined Funcs is related if it is at each level and each call.
-use Rattle.std.proofs.Common.{ℕ, zero, suc, Bool, true, false, List, Option, None, Some}
+use Rattle.std.proofs.Common.{◌≡◌, ℕ, zero, suc, Bool, true, false, List, Option, None, Some, refl}
 use Rattle.std.specs.Prelude.{◌==◌, ◌&&◌, cond, slice_get}
 use Rattle.halide_pipeline.specs.declared.definitions.Func.{Func}
 use Rattle.halide_pipeline.specs.declared.expressions.Expr.{Expr}
@@ -14,7 +14,15 @@ use Rattle.halide_pipeline.proofs.Folds.{folds_related}
 use Rattle.bounds_inlining.specs.Inlining.{Algebra, Inside, none, second_of, arguments, answer, answered, through, through_at, made_of, inside, made_in, inlined}
 use Rattle.bounds_inlining.specs.Laws.{RelatesSeconds, RelatesArguments, RelatesCalls}
 
+abbrev pub is_no_variable : {A : Type 0} → Expr-F A → Bool
+is_no_variable (layer.Variable v) = false
+is_no_variable _ = true
+
 module _ {A B : Type 0} (R : A → B → Type 0) where
+  -- At each level that isn't a variable, two algebras make related things of related things.
+  abbrev pub RelatesAllLevels : Algebra A → Algebra B → Type 0
+  RelatesAllLevels p q = (y : Expr-F (Both R)) → is_no_variable y ≡ true → R (p.level (left_of R y)) (q.level (right_of R y))
+
   -- what answers calls on both sides
   abbrev pub Answers : Option (A → Option A → A) → Option (B → Option B → B) → Type 0
   Answers None None = Unit {0}
@@ -41,7 +49,7 @@ module _ {A B : Type 0} (R : A → B → Type 0) where
   seconds_related n (Some y) m None rn ry = absurd ry
   seconds_related n (Some y) m (Some z) rn ry = ry
 
-  module _ (p : Algebra A) (q : Algebra B) (levels : (y : Expr-F (Both R)) → R (p.level (left_of R y)) (q.level (right_of R y))) where
+  module _ (p : Algebra A) (q : Algebra B) (levels : RelatesAllLevels p q) where
     abbrev pub AnswersAll : Inside A → Inside B → Type 0
     AnswersAll left right = (place : ℕ) → Answers (left place) (right place)
 
@@ -52,14 +60,14 @@ module _ {A B : Type 0} (R : A → B → Type 0) where
 
       module _ (va : Variable → A) (vb : Variable → B) (vars : (v : Variable) → R (va v) (vb v)) where
         through_levels : (y : Expr-F (Both R)) → R (through_at p left va (left_of R y)) (through_at q right vb (right_of R y))
-        through_levels (layer.Number n) = levels (layer.Number n)
+        through_levels (layer.Number n) = levels (layer.Number n) refl
         through_levels (layer.Variable v) = vars v
-        through_levels (layer.Binary op a b) = levels (layer.Binary op a b)
-        through_levels (layer.Divide a n) = levels (layer.Divide a n)
-        through_levels (layer.Remainder a n) = levels (layer.Remainder a n)
-        through_levels (layer.Select t a b) = levels (layer.Select t a b)
-        through_levels (layer.Call1 s a) = answered_related (answer left s) (answer right s) (source_answers s) _ a.left None _ a.right None (levels (layer.Call1 s a)) a.is tt
-        through_levels (layer.Call2 s a b) = answered_related (answer left s) (answer right s) (source_answers s) _ a.left (Some b.left) _ a.right (Some b.right) (levels (layer.Call2 s a b)) a.is b.is
+        through_levels (layer.Binary op a b) = levels (layer.Binary op a b) refl
+        through_levels (layer.Divide a n) = levels (layer.Divide a n) refl
+        through_levels (layer.Remainder a n) = levels (layer.Remainder a n) refl
+        through_levels (layer.Select t a b) = levels (layer.Select t a b) refl
+        through_levels (layer.Call1 s a) = answered_related (answer left s) (answer right s) (source_answers s) _ a.left None _ a.right None (levels (layer.Call1 s a) refl) a.is tt
+        through_levels (layer.Call2 s a b) = answered_related (answer left s) (answer right s) (source_answers s) _ a.left (Some b.left) _ a.right (Some b.right) (levels (layer.Call2 s a b) refl) a.is b.is
 
         pub through_related : (e : Expr) → R (through p left va e) (through q right vb e)
         unfolding through
@@ -72,7 +80,7 @@ module _ {A B : Type 0} (R : A → B → Type 0) where
     -- so it is if arguments and calls are
     pub made_related : RelatesArguments R p q → RelatesCalls R p q → RelatesMade
     made_related args calls left right answers func = λ x y z u rx ry.
-        let rn = levels (layer.Number 0) in
+        let rn = levels (layer.Number 0) refl in
         calls func _ x y _ z u
         (through_related left right answers (arguments (none p) (p.argument x) (p.argument (second_of (none p) y))) (arguments (none q) (q.argument z) (q.argument (second_of (none q) u)))
         (arguments_related (none p) (p.argument x) (p.argument (second_of (none p) y)) (none q) (q.argument z) (q.argument (second_of (none q) u)) rn

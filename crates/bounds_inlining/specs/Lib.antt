@@ -4,3 +4,4 @@ pub mod Weights
 pub mod Laws
 pub mod Passing
 pub mod inner
+pub mod Trees

@@ -3,6 +3,7 @@
 ghost use Rattle.std.specs.Prelude.{◌≡◌, Bool, true};
 ghost use Rattle.bounds_inlining.specs.Passing.{ComputedPointsAreTested, SeenPointsPass, SeenPointsPassInUpdates};
 ghost use Rattle.bounds_inlining.specs.Passing.{PassingIsClosed};
+ghost use Rattle.bounds_inlining.specs.Trees.{CountsAreOfTrees, NeedsAreOfTrees, TreesCallNoInlined, TreesHaveValues};
 ghost use Rattle.bounds_inlining.specs.Laws.{FoldsAreRelated, InliningKeepsValues, InliningKeepsUpdates};
 ghost use Rattle.bounds_inlining.specs.Laws.{InlinedValuesDependOnReads, SeesInlinedValues};
 
@@ -51,4 +52,17 @@ pub fn seen_points_pass_in_updates()
 /// Where a point of an inlined Func passes, all that its pixel reads itself does.
 pub fn passing_is_closed()
     ensures { PassingIsClosed }
+{}
+
+/// Nodes are counted, and registers needed, as in the tree with inlined Funcs put in place; an argument that isn't used
+/// counts beside it, and needs nothing.
+pub fn weights_are_of_trees()
+    ensures counts { CountsAreOfTrees }
+    ensures needs { NeedsAreOfTrees }
+{}
+
+/// The tree with inlined Funcs put in place has the value through them, and calls none of them.
+pub fn trees_are_put_in()
+    ensures values { TreesHaveValues }
+    ensures calls { TreesCallNoInlined }
 {}

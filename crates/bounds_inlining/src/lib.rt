@@ -4,8 +4,9 @@
 //!   and `specs/Weights.antt` have its instances: values, points read, nodes and need.
 //! - [`counts`], [`needs`]: an expression's nodes and need, in time that is linear in the texts of the Funcs.
 //! - [`funcs`]: which Funcs are inlined.
-//! - [`laws`]: what inlining keeps (`specs/Laws.antt`), and that what is read in the text is seen through inlined Funcs
-//!   (`specs/Passing.antt`).
+//! - [`laws`]: what inlining keeps (`specs/Laws.antt`), that what is read in the text is seen through inlined Funcs
+//!   (`specs/Passing.antt`), and that values, nodes and need are those of the tree with inlined Funcs put in place
+//!   (`specs/Trees.antt`).
 #![tactic(auto)]
 
 pub mod counts;
