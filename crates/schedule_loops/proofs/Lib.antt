@@ -24,3 +24,4 @@ pub mod Turns
 pub mod TurnsFound
 pub mod Wholes
 pub mod Written
+pub mod FaultLines

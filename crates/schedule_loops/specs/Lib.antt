@@ -7,3 +7,4 @@ pub mod Sizes
 pub mod Stages
 pub mod Visits
 pub mod inner
+pub mod FaultLines

@@ -7,6 +7,7 @@ ghost use Rattle.schedule_loops.specs.Reach.{reach, has_uneven};
 ghost use Rattle.schedule_loops.specs.Rows as row;
 ghost use Rattle.schedule_loops.specs.Sizes.{size};
 ghost use Rattle.schedule_loops.specs.Visits.{visits};
+ghost use Rattle.schedule_loops.specs.FaultLines.{NowhereLinesAreLeast, RuleLinesAreLeast, VerdictsNameLeastLines};
 
 use halide_pipeline::Variable;
 use schedule_lines::{LoopId, Tail};
@@ -103,4 +104,12 @@ pub fn worked_sizes()
     ensures reach { reach row.split_twice.extents row.split_twice.splits Variable.FirstArgument row.all_loops ≡ 15 }
     ensures uneven { has_uneven row.split_twice.splits Variable.FirstArgument row.all_loops ≡ true }
     ensures even { has_uneven row.split_twice.splits Variable.FirstArgument row.inner_loops ≡ false }
+{}
+
+/// The line of a fault of marked loops, or of where Funcs are computed, is the least of all lines that break the rule,
+/// and no rule that is judged before it is broken.
+pub fn fault_lines_are_least()
+    ensures rules { RuleLinesAreLeast }
+    ensures nowhere { NowhereLinesAreLeast }
+    ensures verdicts { VerdictsNameLeastLines }
 {}
